@@ -1,0 +1,13 @@
+//! Laws of the definitions that the contracts cite. The functions do nothing: their contracts are what is proved.
+ghost use Rattle.std.specs.Prelude.{◌≡◌, List, ℕ};
+ghost use Rattle.lc_census.specs.Reads.{GivesBytes, at_end, at_failure, AnyRoom};
+
+use crate::source::Source;
+
+/// Reads of a slice up to its end give the slice's bytes, however they are cut, and none of them fails.
+pub fn a_slice_gives_its_bytes()
+    ensures whole { (old new : _) (bytes : List ℕ)
+        → GivesBytes ⟦<&'static [u8] as Source>⟧.may_give AnyRoom old bytes at_end new → bytes ≡ old.now }
+    ensures no_failure { (old new : _) (bytes : List ℕ)
+        → GivesBytes ⟦<&'static [u8] as Source>⟧.may_give AnyRoom old bytes at_failure new → ⊥ }
+{}
