@@ -1,2 +1,10 @@
+mod Bits
+mod Blank
+mod Counts
 pub mod Exact
+mod OneCutting
+mod Rest
 pub mod Runs
+mod Small
+mod Tells
+mod Words

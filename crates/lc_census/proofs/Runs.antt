@@ -1,5 +1,5 @@
 -- Runs of reads, one after another.
-use Rattle.std.proofs.Common.{◌≢◌, ℕ, List, [], ◌∷◌, ◌++◌, refl, sym, subst}
+use Rattle.std.proofs.Common.{◌≢◌, ℕ, zero, suc, ◌<◌, ◌≤◌, List, [], ◌∷◌, ◌++◌, length, take, arith, refl, sym, subst}
 use Rattle.lc_census.specs.Reads.{Answer, gave, Stop, at_neither, MayRead, Stops, Reads}
 
 module _ {S : Type 0} (may_give : S → ℕ → Answer → S → Type 0) (IsRoom : ℕ → Type 0) where
@@ -22,3 +22,9 @@ module _ {S : Type 0} (may_give : S → ℕ → Answer → S → Type 0) (IsRoom
   reads_stop [] stop old middle new same next = let P : S → Type 0 = λ s. Stops may_give IsRoom s stop new in subst P (sym same) next
   reads_stop (piece ∷ pieces) stop old middle new reads next =
       (reads.0, reads.1, reads.2, reads_stop pieces stop reads.0 middle new reads.3 next)
+
+-- the first n of some bytes are some
+pub take_some : (n : ℕ) (xs : List ℕ) → 0 < n → n ≤ length xs → take n xs ≢ []
+take_some zero xs some fits e = let no : ⊥ = omega arith in no
+take_some (suc n) [] some fits e = let no : ⊥ = omega arith in no
+take_some (suc n) (x ∷ xs) some fits e = cc

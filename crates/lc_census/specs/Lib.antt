@@ -1,2 +1,9 @@
+pub mod Bytes
+pub mod Census
+pub mod Counting
+pub mod Cutting
+pub mod Fed
+pub mod Lanes
 pub mod Reads
+pub mod Scan
 pub mod StdReads

@@ -1,8 +1,14 @@
 //! Laws of the definitions that the contracts cite. The functions do nothing: their contracts are what is proved.
 ghost use Rattle.std.specs.Prelude.{◌≡◌, List, ℕ};
+ghost use Rattle.lc_census.specs.Cutting.{HasOneCutting};
 ghost use Rattle.lc_census.specs.Reads.{GivesBytes, at_end, at_failure, AnyRoom};
 
 use crate::source::Source;
+
+/// Bytes are cut into lines in exactly one way.
+pub fn bytes_have_one_cutting()
+    ensures { (bytes : List ℕ) → HasOneCutting bytes }
+{}
 
 /// Reads of a slice up to its end give the slice's bytes, however they are cut, and none of them fails.
 pub fn a_slice_gives_its_bytes()

@@ -1,10 +1,30 @@
 //! Counts lines, blank lines, bytes and line endings of any reader's bytes, in whatever pieces they come.
+//!
+//! - `source`, `std_source`: where bytes come from, and what the reads of a call gave
+//! - `totals`: what a census says
+//! - `census`: the census of bytes that are fed piece by piece
+//! - `counting`: the census of all that a reader gives
+//! - `scan`, `plain`, `lanes`: the two bodies of the census, a byte at a time and by vectors, under one contract; they
+//!   are public for benchmarks alone
+//! - `laws`: what is true of the definitions that the contracts cite
 #![tactic(auto)]
 
+mod census;
+mod counting;
+mod lanes;
 mod laws;
+mod plain;
+mod scan;
 mod source;
 mod std_source;
+mod totals;
 
-pub use laws::a_slice_gives_its_bytes;
+pub use census::Census;
+pub use counting::{BUFFER_LEN, CensusFault, MOST_TURNS, count, count_in, count_within};
+pub use lanes::scan_lanes;
+pub use laws::{a_slice_gives_its_bytes, bytes_have_one_cutting};
+pub use plain::scan_plain;
+pub use scan::Scan;
 pub use source::{Failed, Source};
 pub use std_source::StdSource;
+pub use totals::{Count, Eol};

@@ -1,0 +1,79 @@
+-- The words of one block tell where a line was blank so far.
+use Rattle.std.proofs.Common.{◌≡◌, ℕ, zero, suc, ◌+◌, ◌%◌, ◌^◌, ◌<◌, Bool, true, false, ◌&&◌, ◌||◌, List, get_or, refl, ap, ap₂, ◌∙◌, arith}
+use lib.Bits.{bit_and, bit_or, bit_xor}
+use mir.Val.{bool_byte}
+use Rattle.lc_census.specs.Lanes.{test, xor, Bits, Marks, cr_before, blank_before}
+use Rattle.lc_census.specs.Bytes.{is_cr, is_end, is_space}
+use Rattle.lc_census.proofs.Bits.Test.{test-and, test-or, test-xor, shl, test-shl_one, test-shl_low, test-byte_zero, test-byte_suc, test-mod}
+use Rattle.lc_census.proofs.Bits.Adder.{carry, test-add, most}
+
+or-false : (b : Bool) → (b || false) ≡ b
+or-false true = refl
+or-false false = refl
+
+-- a shift by one, with a bit from the block before
+pub shifted : (x : ℕ) (c : Bool) (p : ℕ → Bool) → Bits x p → (i : ℕ) → suc i < 64 → test (bit_or (shl 1 x) (bool_byte c)) (suc i) ≡ p i
+shifted x c p h i lt =
+    test-or (shl 1 x) _ (suc i) ∙ ap₂ (λ a b. a || b) (test-shl_one i x lt) (test-byte_suc c i (omega arith)) ∙ or-false _ ∙ h i (omega arith)
+
+pub shifted-zero : (x : ℕ) (c : Bool) → test (bit_or (shl 1 x) (bool_byte c)) 0 ≡ c
+shifted-zero x c = test-or (shl 1 x) _ 0 ∙ ap₂ (λ a b. a || b) (test-shl_low 1 0 x (omega arith) (omega arith)) (test-byte_zero c)
+
+-- the carry into a place
+carried : (st sp c : Bool) → most (st && sp) sp c ≡ (sp && (st || c))
+carried true true true = refl
+carried true true false = refl
+carried true false true = refl
+carried true false false = refl
+carried false true true = refl
+carried false true false = refl
+carried false false true = refl
+carried false false false = refl
+
+next : (e b sp : Bool) → (e || (sp && b)) ≡ (e || (b && sp))
+next true b sp = refl
+next false true true = refl
+next false true false = refl
+next false false true = refl
+next false false false = refl
+
+undone : (a b c : Bool) → xor (xor (xor (xor a b) c) a) b ≡ c
+undone true true true = refl
+undone true true false = refl
+undone true false true = refl
+undone true false false = refl
+undone false true true = refl
+undone false true false = refl
+undone false false true = refl
+undone false false false = refl
+
+module _ (v : List ℕ) (c : Bool) (ends space : ℕ)
+    (hends : Marks ends is_end v) (hspace : Marks space is_space v) where
+  abbrev starts : ℕ
+  starts = bit_or (shl 1 ends) (bool_byte c)
+
+  abbrev lone : ℕ
+  lone = bit_and starts space
+
+  along : (i : ℕ) → i < 64 → (test starts i || carry lone space i) ≡ blank_before c v i
+  unfolding blank_before carry
+  along zero h = ap (λ b. b || false) (shifted-zero ends c) ∙ or-false c
+  along (suc i) h =
+      ap₂ (λ a b. a || b) (shifted ends c _ hends i h)
+      (ap (λ b. most b (test space i) (carry lone space i)) (test-and starts space i) ∙ carried (test starts i) (test space i) (carry lone space i)
+      ∙ ap₂ (λ a b. a && b) (hspace i (omega arith)) (along i (omega arith)))
+      ∙ next (is_end (get_or v i 0)) (blank_before c v i) (is_space (get_or v i 0))
+
+  pub blank_bits : Bits (bit_or starts (bit_xor (bit_xor ((lone + space) % 2 ^ 64) lone) space)) (blank_before c v)
+  blank_bits i h =
+      test-or starts _ i
+      ∙ ap (λ b. test starts i || b)
+      (test-xor _ space i
+      ∙ ap (λ b. xor b (test space i)) (test-xor _ lone i ∙ ap (λ b. xor b (test lone i)) (test-mod (lone + space) i h ∙ test-add lone space i))
+      ∙ undone (test lone i) (test space i) (carry lone space i))
+      ∙ along i h
+
+pub cr_bits : (v : List ℕ) (c : Bool) (cr : ℕ) → Marks cr is_cr v → Bits (bit_or (shl 1 cr) (bool_byte c)) (cr_before c v)
+unfolding cr_before
+cr_bits v c cr h zero lt = shifted-zero cr c
+cr_bits v c cr h (suc i) lt = shifted cr c _ h i lt

@@ -1,0 +1,140 @@
+-- The one way to cut bytes into lines, from the last byte to the first.
+use Rattle.std.proofs.Common.{◌≡◌, ℕ, Bool, true, false, ◌||◌, ◌⊎◌, inl, inr, List, [], ◌∷◌, ◌++◌, refl, sym, ap, subst, ◌∙◌, eqb-true}
+use Rattle.std.specs.List.{list_any}
+use Rattle.std.proofs.lemmas.Bool.{cases_Bool}
+use Rattle.lc_census.specs.Bytes.{is_lf, is_cr}
+use Rattle.lc_census.specs.Cutting.{End, lf, cr_lf, cr, Line, Cutting, HasNoEnd, bytes_of, joined, starts_with_lf, AreLines, IsCutting, HasOneCutting}
+use Rattle.lc_census.specs.Bytes.{is_end}
+
+abbrev pub line : List ℕ → End → Line
+line t e = record { text = t; end = e }
+
+abbrev pub cutting : List Line → List ℕ → Cutting
+cutting ls r = record { lines = ls; rest = r }
+
+-- a CR before these lines: the end of an empty line, or joined to an LF that stands alone
+abbrev pub with_cr : Bool → List Line → List Line
+with_cr true [] = []
+with_cr true (l ∷ ls) = line [] cr_lf ∷ ls
+with_cr false ls = line [] cr ∷ ls
+
+-- a byte of a text before this cutting
+abbrev pub with_text : ℕ → List Line → List ℕ → Cutting
+with_text x [] r = cutting [] (x ∷ r)
+with_text x (l ∷ ls) r = cutting (line (x ∷ l.text) l.end ∷ ls) r
+
+abbrev pub by_byte : Bool → Bool → ℕ → Cutting → Cutting
+by_byte true c x d = cutting (line [] lf ∷ d.lines) d.rest
+by_byte false true x d = cutting (with_cr (starts_with_lf d.lines) d.lines) d.rest
+by_byte false false x d = with_text x d.lines d.rest
+
+abbrev pub before : ℕ → Cutting → Cutting
+before x d = by_byte (is_lf x) (is_cr x) x d
+
+abbrev pub cut : List ℕ → Cutting
+cut [] = cutting [] []
+cut (x ∷ xs) = before x (cut xs)
+
+-- a byte is LF, CR or neither
+pub by_kind : (P : ℕ → Type 0) → P 10 → P 13 → ((x : ℕ) → is_lf x ≡ false → is_cr x ≡ false → P x) → (x : ℕ) → P x
+by_kind P p q r x = at_lf (cases_Bool (is_lf x)) (cases_Bool (is_cr x))
+  where
+    at_lf : (is_lf x ≡ true) ⊎ (is_lf x ≡ false) → (is_cr x ≡ true) ⊎ (is_cr x ≡ false) → P x
+    at_lf (inl e) c = subst P (sym (eqb-true x 10 e)) p
+    at_lf (inr e) (inl f) = subst P (sym (eqb-true x 13 f)) q
+    at_lf (inr e) (inr f) = r x e f
+
+pub before-text : (x : ℕ) (d : Cutting) → is_lf x ≡ false → is_cr x ≡ false → before x d ≡ with_text x d.lines d.rest
+before-text x d e f = ap (λ b. by_byte b (is_cr x) x d) e ∙ ap (λ b. by_byte false b x d) f
+
+end_false : (x : ℕ) → is_lf x ≡ false → is_cr x ≡ false → is_end x ≡ false
+end_false x e f = ap (λ b. b || is_cr x) e ∙ f
+
+or_false : (a b : Bool) → a ≡ false → b ≡ false → (a || b) ≡ false
+or_false a b p q = ap (λ c. c || b) p ∙ q
+
+pub or_left : (a b : Bool) → (a || b) ≡ false → a ≡ false
+or_left true b h = h
+or_left false b h = refl
+
+pub or_right : (a b : Bool) → (a || b) ≡ false → b ≡ false
+or_right true b h = absurd (cc)
+or_right false b h = h
+
+-- a cutting stays one with a byte before it
+text_is : (x : ℕ) (xs : List ℕ) → is_end x ≡ false → (ls : List Line) (r : List ℕ) → IsCutting xs (cutting ls r) → IsCutting (x ∷ xs) (with_text x ls r)
+text_is x xs n [] r h = record { lines = tt; rest = or_false (is_end x) (list_any is_end r) n h.rest; whole = ap (λ t. x ∷ t) h.whole }
+text_is x xs n (l ∷ ls) r h = record {
+  lines = (or_false (is_end x) (list_any is_end l.text) n h.lines.0, h.lines.1, h.lines.2);
+  rest = h.rest;
+  whole = ap (λ t. x ∷ t) h.whole;
+}
+
+cr_is : (xs : List ℕ) (ls : List Line) (r : List ℕ) → IsCutting xs (cutting ls r) → IsCutting (13 ∷ xs) (cutting (with_cr (starts_with_lf ls) ls) r)
+cr_is xs [] r h = record { lines = (refl, refl, tt); rest = h.rest; whole = ap (λ t. 13 ∷ t) h.whole }
+cr_is xs (l ∷ ls) r h = go l.text l.end h
+  where
+    go : (t : List ℕ) (e : End) → IsCutting xs (cutting (line t e ∷ ls) r) → IsCutting (13 ∷ xs) (cutting (with_cr (starts_with_lf (line t e ∷ ls)) (line t e ∷ ls)) r)
+    go [] lf k = record { lines = (refl, refl, k.lines.2); rest = k.rest; whole = ap (λ t. 13 ∷ t) k.whole }
+    go [] cr_lf k = record { lines = (refl, refl, k.lines); rest = k.rest; whole = ap (λ t. 13 ∷ t) k.whole }
+    go [] cr k = record { lines = (refl, refl, k.lines); rest = k.rest; whole = ap (λ t. 13 ∷ t) k.whole }
+    go (y ∷ t) e k = record { lines = (refl, refl, k.lines); rest = k.rest; whole = ap (λ t. 13 ∷ t) k.whole }
+
+before_is : (xs : List ℕ) (d : Cutting) → IsCutting xs d → (x : ℕ) → IsCutting (x ∷ xs) (before x d)
+before_is xs d h = by_kind (λ x. IsCutting (x ∷ xs) (before x d))
+    (record { lines = (refl, refl, h.lines); rest = h.rest; whole = ap (λ t. 10 ∷ t) h.whole })
+    (cr_is xs d.lines d.rest h)
+    (λ x e f. subst (IsCutting (x ∷ xs)) (sym (before-text x d e f)) (text_is x xs (end_false x e f) d.lines d.rest h))
+
+pub cut_is : (bytes : List ℕ) → IsCutting bytes (cut bytes)
+cut_is [] = record { lines = tt; rest = refl; whole = refl }
+cut_is (x ∷ xs) = before_is xs (cut xs) (cut_is xs) x
+
+-- each cutting is that one
+head_is : (x y : ℕ) (xs ys : List ℕ) → (x ∷ xs) ≡ (y ∷ ys) → x ≡ y
+head_is x y xs ys e = cc
+
+tail_is : (x y : ℕ) (xs ys : List ℕ) → (x ∷ xs) ≡ (y ∷ ys) → xs ≡ ys
+tail_is x y xs ys e = cc
+
+not_empty : (t : List ℕ) (e : End) (r : List ℕ) → (t ++ (bytes_of e ++ r)) ≡ [] → ⊥
+not_empty [] lf r h = cc
+not_empty [] cr_lf r h = cc
+not_empty [] cr r h = cc
+not_empty (y ∷ t) e r h = cc
+
+cr_alone : (ls : List Line) (r : List ℕ) → starts_with_lf ls ≡ false → cutting (line [] cr ∷ ls) r ≡ before 13 (cutting ls r)
+cr_alone ls r h = ap (λ b. cutting (with_cr b ls) r) (sym h)
+
+text_before : (x y : ℕ) (d : Cutting) → y ≡ x → is_end y ≡ false → with_text y d.lines d.rest ≡ before x d
+text_before x y d e n =
+    sym (before-text y d (or_left (is_lf y) (is_cr y) n) (or_right (is_lf y) (is_cr y) n)) ∙ ap (λ z. before z d) e
+
+-- each cutting of these bytes is the one that `cut` gives
+abbrev pub OnlyCut : List ℕ → Type 0
+OnlyCut xs = (ls : List Line) (r : List ℕ) → AreLines ls → HasNoEnd r → joined ls r ≡ xs → cutting ls r ≡ cut xs
+
+only_line : (x : ℕ) (xs : List ℕ) → OnlyCut xs → (t : List ℕ) (end : End) (ls : List Line) (r : List ℕ) → AreLines (line t end ∷ ls) → HasNoEnd r → joined (line t end ∷ ls) r ≡ (x ∷ xs)
+    → cutting (line t end ∷ ls) r ≡ before x (cut xs)
+only_line x xs here [] lf ls r a n e =
+    ap (before 10) (here ls r a.2 n (tail_is 10 x _ xs e)) ∙ ap (λ z. before z (cut xs)) (head_is 10 x _ xs e)
+only_line x xs here [] cr ls r a n e =
+    cr_alone ls r a.1 ∙ ap (before 13) (here ls r a.2 n (tail_is 13 x _ xs e)) ∙ ap (λ z. before z (cut xs)) (head_is 13 x _ xs e)
+only_line x xs here [] cr_lf ls r a n e =
+    ap (before 13) (here (line [] lf ∷ ls) r (refl, refl, a.2) n (tail_is 13 x _ xs e)) ∙ ap (λ z. before z (cut xs)) (head_is 13 x _ xs e)
+only_line x xs here (y ∷ t) end ls r a n e =
+    text_before x y (cutting (line t end ∷ ls) r) (head_is y x _ xs e) (or_left (is_end y) (list_any is_end t) a.0)
+    ∙ ap (before x) (here (line t end ∷ ls) r (or_right (is_end y) (list_any is_end t) a.0, a.1, a.2) n (tail_is y x _ xs e))
+
+only : (bytes : List ℕ) → OnlyCut bytes
+only [] [] [] a n e = refl
+only [] [] (y ∷ r) a n e = absurd (cc)
+only [] (l ∷ ls) r a n e = absurd (not_empty l.text l.end (joined ls r) e)
+only (x ∷ xs) [] [] a n e = absurd (cc)
+only (x ∷ xs) [] (y ∷ r) a n e =
+    text_before x y (cutting [] r) (head_is y x r xs e) (or_left (is_end y) (list_any is_end r) n)
+    ∙ ap (before x) (only xs [] r tt (or_right (is_end y) (list_any is_end r) n) (tail_is y x r xs e))
+only (x ∷ xs) (l ∷ ls) r a n e = only_line x xs (only xs) l.text l.end ls r a n e
+
+pub one_cutting : (bytes : List ℕ) → HasOneCutting bytes
+one_cutting bytes = (cut bytes, cut_is bytes, λ d h. only bytes d.lines d.rest h.lines h.rest h.whole)

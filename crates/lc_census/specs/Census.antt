@@ -1,0 +1,51 @@
+-- The census of bytes, by how they are cut into lines.
+use Rattle.std.specs.Prelude.{◌≡◌, ℕ, ◌+◌, Bool, true, false, not, ◌&&◌, List, length, count_by}
+use Rattle.std.specs.List.{list_any, list_all}
+use Rattle.lc_census.specs.Bytes.{is_space, is_nul, one_if}
+use Rattle.lc_census.specs.Cutting.{End, lf, cr_lf, cr, Line, Cutting, is_empty, same_end, IsCutting}
+use Rattle.lc_census.specs.declared.totals.Count.{Count}
+use Rattle.lc_census.specs.declared.totals.Eol.{Eol}
+use Rattle.lc_census.specs.declared.totals.Eol.TheVariants.{NoEnd, Lf, CrLf, Cr, Mixed, Nul}
+
+-- only spaces and tabs, or nothing
+abbrev pub is_blank_text : List ℕ → Bool
+is_blank_text text = list_all is_space text
+
+-- the lines, and one more where a rest stands after the last end
+abbrev pub lines_of : Cutting → ℕ
+lines_of cutting = length cutting.lines + one_if (not (is_empty cutting.rest))
+
+-- those of them that are blank
+abbrev pub blank_of : Cutting → ℕ
+blank_of cutting =
+    count_by (λ line. is_blank_text line.text) cutting.lines
+    + one_if (not (is_empty cutting.rest) && is_blank_text cutting.rest)
+
+-- some line ends so
+abbrev pub has_end : End → List Line → Bool
+has_end end lines = list_any (λ line. same_end end line.end) lines
+
+-- the class, by whether there is a NUL, an end LF, an end CR LF and an end CR
+abbrev pub class_of : Bool → Bool → Bool → Bool → Eol
+class_of true _ _ _ = Nul
+class_of false false false false = NoEnd
+class_of false true false false = Lf
+class_of false false true false = CrLf
+class_of false false false true = Cr
+class_of false _ _ _ = Mixed
+
+abbrev pub eol_of : List ℕ → List Line → Eol
+eol_of bytes lines =
+    class_of (list_any is_nul bytes) (has_end lf lines) (has_end cr_lf lines) (has_end cr lines)
+
+abbrev pub count_of : List ℕ → Cutting → Count
+count_of bytes cutting = record {
+  lines = lines_of cutting;
+  blank = blank_of cutting;
+  bytes = length bytes;
+  eol = eol_of bytes cutting.lines;
+}
+
+-- the count is the census of the bytes, by the cutting that they have
+abbrev pub IsCensus : List ℕ → Count → Type 0
+IsCensus bytes count = (cutting : Cutting) × IsCutting bytes cutting × (count ≡ count_of bytes cutting)

@@ -1,0 +1,22 @@
+-- What a count of a reader's bytes answers, by the reads that it made.
+use Rattle.std.specs.Prelude.{◌≡◌, ℕ, ◌≤◌, List, Result, Ok, Err}
+use Rattle.std.specs.List.{concat}
+use Rattle.lc_census.specs.declared.totals.Count.{Count}
+use Rattle.lc_census.specs.declared.counting.CensusFault.{CensusFault}
+use Rattle.lc_census.specs.declared.counting.CensusFault.TheVariants.{Read, Endless, Memory}
+use Rattle.lc_census.specs.Census.{IsCensus}
+use Rattle.lc_census.specs.Reads.{Answer, RoomOf, at_end, at_failure, at_neither, Reads, read_count}
+
+-- in at most so many reads, each into a buffer of this length: the last of them met the end, and the count is the census
+-- of what they gave; the last of them failed; all of them were made and none met the end or failed; none was made
+abbrev pub Counts : {S : Type 0} → (S → ℕ → Answer → S → Type 0) → ℕ → ℕ → S → Result Count CensusFault → S → Type 0
+Counts may_give room turns old (Ok count) new =
+    (pieces : List (List ℕ)) × Reads may_give (RoomOf room) old pieces at_end new
+    × (read_count pieces at_end ≤ turns) × IsCensus (concat pieces) count
+Counts may_give room turns old (Err Read) new =
+    (pieces : List (List ℕ)) × Reads may_give (RoomOf room) old pieces at_failure new
+    × (read_count pieces at_failure ≤ turns)
+Counts may_give room turns old (Err Endless) new =
+    (pieces : List (List ℕ)) × Reads may_give (RoomOf room) old pieces at_neither new
+    × (read_count pieces at_neither ≡ turns)
+Counts may_give room turns old (Err Memory) new = old ≡ new

@@ -1,0 +1,87 @@
+//! The census of what a reader gives.
+ghost use Rattle.std.specs.Prelude.{◌≡◌, ◌≢◌, ◌<◌, ◌≤◌, length, vec_len, IfOk};
+ghost use Rattle.lc_census.specs.Counting.{Counts};
+
+use crate::census::Census;
+use crate::source::Source;
+use crate::totals::Count;
+use std::alloc::{AllocError, Global};
+
+/// Why there is no count. The reader has then given what it gave.
+#[derive(Clone, Copy, Debug, Drop, PartialEq, Eq)]
+pub enum CensusFault {
+    /// A read failed, whatever the kind of its error. It was the last.
+    Read,
+    /// All turns are used, and none of the reads met the end.
+    Endless,
+    /// There is no memory for the buffer. No read was made.
+    Memory,
+}
+
+/// The length in bytes of the buffer of `count` and `count_within`, and the greatest that `count_in` takes.
+pub const BUFFER_LEN: usize = 65_536;
+
+/// The turns of `count`, and the most that `count_within` and `count_in` take: 2^32.
+pub const MOST_TURNS: u64 = 4_294_967_296;
+
+/// Counts what the reader gives up to its end, in at most `turns` reads into the caller's buffer.
+///
+/// A worker lends one buffer for all its files. It takes no memory, so the fault is never `Memory`.
+pub fn count_in<S: Source>(
+    buffer: &mut [u8],
+    reader: &mut S,
+    turns: u64,
+) -> Result<Count, CensusFault>
+    requires some { 0 < length buffer.old }
+    requires room { length buffer.old ≤ BUFFER_LEN }
+    requires turns { turns ≤ MOST_TURNS }
+    ensures counts { Counts S.may_give (length buffer.old) turns reader.old result reader.new }
+    ensures no_memory { result ≢ Err CensusFault.Memory }
+{
+    let mut census = Census::new();
+    for turn in 0..turns {
+        let Ok(taken) = reader.read(buffer) else {
+            return Err(CensusFault::Read);
+        };
+        if taken == 0 {
+            return Ok(census.finish());
+        }
+        census.feed(&buffer[..taken]);
+    }
+    Err(CensusFault::Endless)
+}
+
+/// Counts what the reader gives up to its end, in at most `turns` reads of up to 65,536 bytes.
+///
+/// The buffer is taken from memory before the first read.
+pub fn count_within<S: Source>(
+    alloc: Global,
+    reader: &mut S,
+    turns: u64,
+) -> Result<Count, CensusFault>
+    requires { turns ≤ MOST_TURNS }
+    ensures { Counts S.may_give BUFFER_LEN turns reader.old result reader.new }
+{
+    let Ok(mut buffer) = new_buffer(alloc) else {
+        return Err(CensusFault::Memory);
+    };
+    count_in(&mut buffer, reader, turns)
+}
+
+/// Counts what the reader gives up to its end, in at most 2^32 reads of up to 65,536 bytes.
+///
+/// ```
+/// let mut reader = b"one\n\ntwo".as_slice();
+/// let count = count(rt.alloc(), &mut reader); // 3 lines, 1 blank, 8 bytes, `Eol::Lf`
+/// ```
+pub fn count<S: Source>(alloc: Global, reader: &mut S) -> Result<Count, CensusFault>
+    ensures { Counts S.may_give BUFFER_LEN MOST_TURNS reader.old result reader.new }
+{
+    count_within(alloc, reader, MOST_TURNS)
+}
+
+fn new_buffer(alloc: Global) -> Result<Vec<u8>, AllocError>
+    ensures { IfOk result (λ buffer. vec_len buffer ≡ BUFFER_LEN) }
+{
+    Ok(vec![in alloc; 0u8; BUFFER_LEN]?)
+}

@@ -1,0 +1,93 @@
+//! The scan by vectors of 64 bytes, whose lanes are the bits of words.
+ghost use Rattle.std.specs.Prelude.{◌≡◌, ◌≤◌, ◌==◌, length};
+ghost use Rattle.std.specs.Int.RustNames.{count_ones};
+ghost use Rattle.lc_census.specs.Bytes.{is_end, is_space, is_cr};
+ghost use Rattle.lc_census.specs.Scan.{after_all, HasRoom};
+ghost use Rattle.lc_census.specs.Lanes.{Bits, Marks, blank_before, cr_before};
+
+use crate::plain::scan_plain;
+use crate::scan::Scan;
+use std::simd::prelude::*;
+
+#[inline(always)]
+fn equal_to(v: u8x64, byte: u8) -> u64
+    ensures { Marks result (λ x. x == byte) v }
+{
+    v.simd_eq(u8x64::splat(byte)).to_bitmask()
+}
+
+#[inline(always)]
+fn spaces(v: u8x64) -> u64
+    ensures { Marks result is_space v }
+{
+    equal_to(v, b' ') | equal_to(v, b'\t')
+}
+
+// The bytes before which the line so far is blank, where `first` says it of byte 0: those after an end, and those that
+// only spaces part from one. An end or the block's start carries through the spaces after it as the sum's carry does.
+#[inline(always)]
+fn blank_befores(first: bool, v: u8x64, ends: u64, space: u64) -> u64
+    requires ends { Marks ends is_end v }
+    requires space { Marks space is_space v }
+    ensures { Bits result (blank_before first v) }
+{
+    let starts = (ends << 1) | first as u64;
+    let lone = starts & space;
+    starts | (lone.wrapping_add(space) ^ lone ^ space)
+}
+
+// The bytes right after a CR, where `first` says it of byte 0.
+#[inline(always)]
+fn cr_befores(first: bool, v: u8x64, cr: u64) -> u64
+    requires { Marks cr is_cr v }
+    ensures { Bits result (cr_before first v) }
+{
+    (cr << 1) | first as u64
+}
+
+#[inline(always)]
+fn ones(x: u64) -> u64
+    ensures value { result ≡ count_ones x }
+    ensures bound { result ≤ 64 }
+{
+    u64::from(x.count_ones())
+}
+
+#[inline(always)]
+fn scan_block(scan: Scan, v: u8x64) -> Scan
+    requires { HasRoom scan 64 }
+    ensures { result ≡ after_all scan v }
+{
+    let lf = equal_to(v, b'\n');
+    let cr = equal_to(v, b'\r');
+    let space = spaces(v);
+    let nul = equal_to(v, 0);
+    let ends = lf | cr;
+    let before = cr_befores(scan.after_cr, v, cr);
+    let blank = blank_befores(scan.is_blank, v, ends, space);
+    let crlf = lf & before;
+    let blanks = blank & (cr | (lf ^ crlf));
+    Scan {
+        lf: scan.lf + ones(lf),
+        cr: scan.cr + ones(cr),
+        crlf: scan.crlf + ones(crlf),
+        blank: scan.blank + ones(blanks),
+        nul: scan.nul + ones(nul),
+        after_cr: cr >> 63 == 1,
+        is_blank: (ends | (blank & space)) >> 63 == 1,
+    }
+}
+
+/// The scan after these bytes, 64 at a time, and the last few one at a time.
+pub fn scan_lanes(scan: Scan, bytes: &[u8]) -> Scan
+    requires { HasRoom scan (length bytes.now) }
+    ensures { result ≡ after_all scan bytes.now }
+{
+    let mut so_far = scan;
+    let mut at = 0;
+    while 64 <= bytes.len() - at {
+        so_far = scan_block(so_far, u8x64::from_slice(&bytes[at..]));
+        at += 64;
+    }
+    scan_plain(so_far, &bytes[at..])
+}

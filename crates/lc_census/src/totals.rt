@@ -1,0 +1,33 @@
+//! What a census says of some bytes.
+
+/// How lines end.
+#[derive(Clone, Copy, Debug, Drop, PartialEq, Eq)]
+pub enum Eol {
+    /// There is no line end.
+    NoEnd,
+    /// Each line ends with LF.
+    Lf,
+    /// Each line ends with CR LF.
+    CrLf,
+    /// Each line ends with a CR that no LF follows.
+    Cr,
+    /// Lines end in different ways.
+    Mixed,
+    /// A NUL byte occurs, whatever the line ends are.
+    Nul,
+}
+
+/// The census of some bytes.
+///
+/// A line ends at LF, at CR LF, or at a CR that no LF follows; bytes after the last end are one more line.
+#[derive(Clone, Copy, Debug, Drop, PartialEq, Eq)]
+pub struct Count {
+    /// The lines.
+    pub lines: u64,
+    /// Those lines that hold only spaces and tabs, or nothing.
+    pub blank: u64,
+    /// The bytes, line ends included.
+    pub bytes: u64,
+    /// How the lines end.
+    pub eol: Eol,
+}
