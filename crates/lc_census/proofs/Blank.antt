@@ -1,5 +1,5 @@
 -- The words of one block tell where a line was blank so far.
-use Rattle.std.proofs.Common.{◌≡◌, ℕ, zero, suc, ◌+◌, ◌%◌, ◌^◌, ◌<◌, Bool, true, false, ◌&&◌, ◌||◌, List, get_or, refl, ap, ap₂, ◌∙◌, arith}
+use Rattle.std.proofs.Common.{◌≡◌, ℕ, zero, suc, ◌+◌, ◌%◌, ◌^◌, ◌<◌, Bool, true, false, ◌&&◌, ◌||◌, List, get_or, refl, sym, ap, ap₂, ◌∙◌, arith}
 use lib.Bits.{bit_and, bit_or, bit_xor}
 use mir.Val.{bool_byte}
 use Rattle.lc_census.specs.Lanes.{test, xor, Bits, Marks, cr_before, blank_before}
@@ -77,3 +77,18 @@ pub cr_bits : (v : List ℕ) (c : Bool) (cr : ℕ) → Marks cr is_cr v → Bits
 unfolding cr_before
 cr_bits v c cr h zero lt = shifted-zero cr c
 cr_bits v c cr h (suc i) lt = shifted cr c _ h i lt
+
+test-zero : (i : ℕ) → i < 64 → test 0 i ≡ false
+test-zero zero h = test-byte_zero false
+test-zero (suc i) h = test-byte_suc false i (omega arith)
+
+both_false : (a b : Bool) → (a || b) ≡ false → (a ≡ false) × (b ≡ false)
+both_false true b h = absurd (cc)
+both_false false b h = (refl, h)
+
+-- where no byte passes one test or another, none passes either
+pub none_marked : (x : ℕ) (p q : ℕ → Bool) (v : List ℕ) → Marks x (λ y. p y || q y) v → x ≡ 0 → Marks 0 p v × Marks 0 q v
+none_marked x p q v marks none = ((λ i h. test-zero i h ∙ sym (each i h).0), (λ i h. test-zero i h ∙ sym (each i h).1))
+  where
+    each : (i : ℕ) → i < 64 → (p (get_or v i 0) ≡ false) × (q (get_or v i 0) ≡ false)
+    each i h = both_false (p (get_or v i 0)) (q (get_or v i 0)) (sym (marks i h) ∙ ap (λ n. test n i) none ∙ test-zero i h)

@@ -1,7 +1,7 @@
 //! The scan by vectors of 64 bytes, whose lanes are the bits of words.
-ghost use Rattle.std.specs.Prelude.{◌≡◌, ◌≤◌, ◌==◌, length};
+ghost use Rattle.std.specs.Prelude.{◌≡◌, ◌≤◌, ◌||◌, ◌==◌, length};
 ghost use Rattle.std.specs.Int.RustNames.{count_ones};
-ghost use Rattle.lc_census.specs.Bytes.{is_end, is_space, is_cr};
+ghost use Rattle.lc_census.specs.Bytes.{is_lf, is_cr, is_end, is_space, is_nul};
 ghost use Rattle.lc_census.specs.Scan.{after_all, HasRoom};
 ghost use Rattle.lc_census.specs.Lanes.{Bits, Marks, blank_before, cr_before};
 
@@ -17,10 +17,10 @@ fn equal_to(v: u8x64, byte: u8) -> u64
 }
 
 #[inline(always)]
-fn spaces(v: u8x64) -> u64
-    ensures { Marks result is_space v }
+fn equal_to_either(v: u8x64, one: u8, other: u8) -> u64
+    ensures { Marks result (λ x. x == one || x == other) v }
 {
-    equal_to(v, b' ') | equal_to(v, b'\t')
+    (v.simd_eq(u8x64::splat(one)) | v.simd_eq(u8x64::splat(other))).to_bitmask()
 }
 
 // The bytes before which the line so far is blank, where `first` says it of byte 0: those after an end, and those that
@@ -53,19 +53,20 @@ fn ones(x: u64) -> u64
     u64::from(x.count_ones())
 }
 
+// The scan of a block, by its bytes that are LF, CR, a space or a tab, and NUL. `v` is for the contract alone.
 #[inline(always)]
-fn scan_block(scan: Scan, v: u8x64) -> Scan
-    requires { HasRoom scan 64 }
+fn scan_marks(scan: Scan, v: u8x64, lf: u64, cr: u64, space: u64, nul: u64) -> Scan
+    requires room { HasRoom scan 64 }
+    requires lf { Marks lf is_lf v }
+    requires cr { Marks cr is_cr v }
+    requires space { Marks space is_space v }
+    requires nul { Marks nul is_nul v }
+    requires long { length v ≡ 64 }
     ensures { result ≡ after_all scan v }
 {
-    let lf = equal_to(v, b'\n');
-    let cr = equal_to(v, b'\r');
-    let space = spaces(v);
-    let nul = equal_to(v, 0);
     let ends = lf | cr;
-    let before = cr_befores(scan.after_cr, v, cr);
     let blank = blank_befores(scan.is_blank, v, ends, space);
-    let crlf = lf & before;
+    let crlf = lf & cr_befores(scan.after_cr, v, cr);
     let blanks = blank & (cr | (lf ^ crlf));
     Scan {
         lf: scan.lf + ones(lf),
@@ -75,6 +76,21 @@ fn scan_block(scan: Scan, v: u8x64) -> Scan
         nul: scan.nul + ones(nul),
         after_cr: cr >> 63 == 1,
         is_blank: (ends | (blank & space)) >> 63 == 1,
+    }
+}
+
+// Most blocks of a text have no CR and no NUL, and are spared the work for them.
+#[inline(always)]
+fn scan_block(scan: Scan, v: u8x64) -> Scan
+    requires { HasRoom scan 64 }
+    ensures { result ≡ after_all scan v }
+{
+    let lf = equal_to(v, b'\n');
+    let space = equal_to_either(v, b' ', b'\t');
+    if equal_to_either(v, b'\r', 0) == 0 {
+        scan_marks(scan, v, lf, 0, space, 0)
+    } else {
+        scan_marks(scan, v, lf, equal_to(v, b'\r'), space, equal_to(v, 0))
     }
 }
 
