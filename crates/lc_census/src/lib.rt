@@ -28,3 +28,6 @@ pub use scan::Scan;
 pub use source::{Failed, Source};
 pub use std_source::StdSource;
 pub use totals::{Count, Eol};
+
+#[cfg(test)]
+mod tests;

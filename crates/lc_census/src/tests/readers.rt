@@ -1,0 +1,171 @@
+use crate::{
+    BUFFER_LEN, CensusFault, Count, Eol, Failed, Source, StdSource, count, count_in, count_within,
+};
+use std::alloc::AllocError;
+use std::io::{Error, ErrorKind, Read, Result as IoResult};
+use std::test::Fail;
+
+fn count_of(lines: u64, blank: u64, bytes: u64, eol: Eol) -> Count {
+    Count {
+        lines,
+        blank,
+        bytes,
+        eol,
+    }
+}
+
+/// What comes when the bytes are given.
+#[derive(Clone, Copy, Drop, PartialEq, Eq)]
+enum Last {
+    End,
+    /// A failure at one read. The reads after it meet the end.
+    Failure,
+    /// A byte `x` at each read, for ever.
+    More,
+}
+
+/// Gives its bytes, one a read.
+#[derive(Drop)]
+struct ByteByByte<'a> {
+    left: &'a [u8],
+    last: Last,
+    reads: u64,
+    longest: usize,
+}
+
+impl<'a> ByteByByte<'a> {
+    fn new(bytes: &'a [u8], last: Last) -> Self {
+        ByteByByte {
+            left: bytes,
+            last,
+            reads: 0,
+            longest: 0,
+        }
+    }
+}
+
+impl Source for ByteByByte<'_> {
+    ghost may_give = { λ _ _ _ _. Unit {0} };
+
+    fn read(&mut self, buffer: &mut [u8]) -> Result<usize, Failed> {
+        self.reads = self.reads.saturating_add(1);
+        self.longest = self.longest.max(buffer.len());
+        if buffer.is_empty() {
+            return Ok(0);
+        }
+        if let [first, rest @ ..] = self.left {
+            buffer[0] = *first;
+            self.left = rest;
+            return Ok(1);
+        }
+        match self.last {
+            Last::End => Ok(0),
+            Last::Failure => {
+                self.last = Last::End;
+                Err(Failed)
+            }
+            Last::More => {
+                buffer[0] = b'x';
+                Ok(1)
+            }
+        }
+    }
+}
+
+// The answer, but that want of memory is passed up, after which no read was made.
+fn answered(
+    outcome: Result<Count, CensusFault>,
+    reads: u64,
+) -> Result<Result<Count, CensusFault>, AllocError> {
+    match outcome {
+        Err(CensusFault::Memory) if reads == 0 => Err(AllocError),
+        other => Ok(other),
+    }
+}
+
+#[test]
+fn reads_up_to_the_end_within_its_turns(rt: HostRuntime) -> Result<(), Fail> {
+    let ab = Ok(count_of(1, 0, 2, Eol::NoEnd));
+    for (turns, want, reads) in [
+        (4, ab, 3),
+        (3, ab, 3),
+        (2, Err(CensusFault::Endless), 2),
+        (0, Err(CensusFault::Endless), 0),
+    ] {
+        let mut reader = ByteByByte::new(b"ab", Last::End);
+        let found = count_within(rt.alloc(), &mut reader, turns);
+        assert_eq!(&rt; answered(found, reader.reads)?, want, "{turns} turns");
+        assert_eq!(&rt; reader.reads, reads, "{turns} turns");
+        assert!(&rt; turns == 0 || reader.longest == BUFFER_LEN);
+    }
+    Ok(())
+}
+
+#[test]
+fn an_endless_reader_is_read_1000_times(rt: HostRuntime) -> Result<(), Fail> {
+    let mut reader = ByteByByte::new(b"a\r", Last::More);
+    let found = count_within(rt.alloc(), &mut reader, 1_000);
+    assert_eq!(&rt; answered(found, reader.reads)?, Err(CensusFault::Endless));
+    assert_eq!(&rt; reader.reads, 1_000);
+    Ok(())
+}
+
+#[test]
+fn a_failed_read_is_the_last(rt: HostRuntime) {
+    for (name, bytes, reads) in [
+        ("at once", b"".as_slice(), 1),
+        ("in mid-stream", b"a\nb".as_slice(), 4),
+        ("after a CR", b"a\r".as_slice(), 3),
+    ] {
+        let mut buffer = [0u8; 16];
+        let mut reader = ByteByByte::new(bytes, Last::Failure);
+        assert_eq!(&rt;
+            count_in(&mut buffer, &mut reader, 1_000),
+            Err(CensusFault::Read),
+            "{name}"
+        );
+        assert_eq!(&rt; reader.reads, reads, "{name}");
+        let again = count_in(&mut buffer, &mut reader, 1_000);
+        assert_eq!(&rt; again, Ok(count_of(0, 0, 0, Eol::NoEnd)), "{name}");
+    }
+}
+
+#[test]
+fn counts_a_slice_and_a_reader_of_std(rt: HostRuntime) -> Result<(), Fail> {
+    let want = Ok(count_of(2, 0, 5, Eol::Mixed));
+    let mut slice = b"a\r\nb\n".as_slice();
+    assert_eq!(&rt; answered(count(rt.alloc(), &mut slice), 0)?, want);
+    assert_eq!(&rt; slice, b"".as_slice());
+    let mut reader = StdSource(b"a\r\nb\n".as_slice());
+    assert_eq!(&rt; answered(count(rt.alloc(), &mut reader), 0)?, want);
+    assert_eq!(&rt; reader.0, b"".as_slice());
+    Ok(())
+}
+
+/// Is interrupted at its first read, as a system call may be. A second would meet the end.
+#[derive(Drop)]
+struct Interrupted {
+    reads: u64,
+}
+
+impl Read for Interrupted {
+    fn read(&mut self, _buffer: &mut [u8]) -> IoResult<usize> {
+        self.reads = self.reads.saturating_add(1);
+        if self.reads == 1 {
+            Err(Error::from(ErrorKind::Interrupted))
+        } else {
+            Ok(0)
+        }
+    }
+}
+
+#[test]
+fn an_interrupted_read_is_not_tried_again(rt: HostRuntime) {
+    let mut buffer = [0u8; 16];
+    let mut reader = StdSource(Interrupted { reads: 0 });
+    assert_eq!(&rt;
+        count_in(&mut buffer, &mut reader, 1_000),
+        Err(CensusFault::Read)
+    );
+    assert_eq!(&rt; reader.0.reads, 1);
+}
