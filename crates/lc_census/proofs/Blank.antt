@@ -2,14 +2,12 @@
 use Rattle.std.proofs.Common.{◌≡◌, ℕ, zero, suc, ◌+◌, ◌%◌, ◌^◌, ◌<◌, Bool, true, false, ◌&&◌, ◌||◌, List, get_or, refl, sym, ap, ap₂, ◌∙◌, arith}
 use lib.Bits.{bit_and, bit_or, bit_xor}
 use mir.Val.{bool_byte}
+use Rattle.std.proofs.Math.Bool.{or-false}
+use Rattle.lc_census.proofs.Bools.{or_left, or_right}
 use Rattle.lc_census.specs.Lanes.{test, xor, Bits, Marks, cr_before, blank_before}
 use Rattle.lc_census.specs.Bytes.{is_cr, is_end, is_space}
 use Rattle.lc_census.proofs.Bits.Test.{test-and, test-or, test-xor, shl, test-shl_one, test-shl_low, test-byte_zero, test-byte_suc, test-mod}
 use Rattle.lc_census.proofs.Bits.Adder.{carry, test-add, most}
-
-or-false : (b : Bool) → (b || false) ≡ b
-or-false true = refl
-or-false false = refl
 
 -- a shift by one, with a bit from the block before
 pub shifted : (x : ℕ) (c : Bool) (p : ℕ → Bool) → Bits x p → (i : ℕ) → suc i < 64 → test (bit_or (shl 1 x) (bool_byte c)) (suc i) ≡ p i
@@ -82,13 +80,12 @@ test-zero : (i : ℕ) → i < 64 → test 0 i ≡ false
 test-zero zero h = test-byte_zero false
 test-zero (suc i) h = test-byte_suc false i (omega arith)
 
-both_false : (a b : Bool) → (a || b) ≡ false → (a ≡ false) × (b ≡ false)
-both_false true b h = absurd (cc)
-both_false false b h = (refl, h)
-
 -- where no byte passes one test or another, none passes either
 pub none_marked : (x : ℕ) (p q : ℕ → Bool) (v : List ℕ) → Marks x (λ y. p y || q y) v → x ≡ 0 → Marks 0 p v × Marks 0 q v
-none_marked x p q v marks none = ((λ i h. test-zero i h ∙ sym (each i h).0), (λ i h. test-zero i h ∙ sym (each i h).1))
+none_marked x p q v marks none = (
+  (λ i h. test-zero i h ∙ sym (or_left (p (get_or v i 0)) (q (get_or v i 0)) (neither i h))),
+  (λ i h. test-zero i h ∙ sym (or_right (p (get_or v i 0)) (q (get_or v i 0)) (neither i h))),
+)
   where
-    each : (i : ℕ) → i < 64 → (p (get_or v i 0) ≡ false) × (q (get_or v i 0) ≡ false)
-    each i h = both_false (p (get_or v i 0)) (q (get_or v i 0)) (sym (marks i h) ∙ ap (λ n. test n i) none ∙ test-zero i h)
+    neither : (i : ℕ) → i < 64 → (p (get_or v i 0) || q (get_or v i 0)) ≡ false
+    neither i h = sym (marks i h) ∙ ap (λ n. test n i) none ∙ test-zero i h

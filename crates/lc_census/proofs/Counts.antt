@@ -1,5 +1,5 @@
--- Counts of set bits, and the machine's fields over a list.
-use Rattle.std.proofs.Common.{◌≡◌, ℕ, zero, suc, ◌+◌, ◌/◌, ◌%◌, ◌^◌, ◌<◌, Bool, not, ◌&&◌, ◌||◌, ◌==◌, List, [], ◌∷◌, ◌++◌, length, get_or, refl, sym, ap, ap₂, ◌∙◌, arith, mod-lt, zero-lt-suc, add-zero, pow-suc}
+-- Counts of set bits, and the scan's fields over a list.
+use Rattle.std.proofs.Common.{add_assoc, ◌≡◌, ℕ, zero, suc, ◌+◌, ◌/◌, ◌%◌, ◌^◌, ◌<◌, Bool, not, ◌&&◌, ◌||◌, ◌==◌, List, [], ◌∷◌, ◌++◌, length, get_or, refl, sym, ap, ap₂, ◌∙◌, arith, mod-lt, zero-lt-suc, add-zero, pow-suc}
 use Rattle.std.specs.Int.RustNames.{count_ones}
 use Rattle.std.proofs.lemmas.Nat.Bits.{bit_at_lowest, bit_at-suc}
 use lib.Count.{ones_step, ones-le}
@@ -8,9 +8,6 @@ use Rattle.lc_census.specs.Lanes.{test, cr_before, blank_before, still_blank, co
 use Rattle.lc_census.specs.Bytes.{is_lf, is_cr, one_if, is_nul}
 use Rattle.lc_census.specs.Scan.{after, after_all}
 use Rattle.lc_census.proofs.Bits.Test.{bit_cases}
-
-assoc : (a b c : ℕ) → a + b + c ≡ a + (b + c)
-assoc a b c = omega arith
 
 pub ones_bits : (k x : ℕ) (p : ℕ → Bool) → x < 2 ^ k → ((i : ℕ) → i < k → test x i ≡ p i) → count_ones x ≡ count_first p k
 unfolding test
@@ -43,21 +40,21 @@ blank_at a b v i = blank_before b v i && (is_cr (get_or v i 0) || (is_lf (get_or
 
 pub lf_all : (s : Scan) (v : List ℕ) → (after_all s v).lf ≡ s.lf + count_first (λ i. is_lf (get_or v i 0)) (length v)
 lf_all s [] = sym (add-zero s.lf)
-lf_all s (x ∷ v) = lf_all (after s x) v ∙ assoc s.lf (one_if (is_lf x)) (count_first (λ i. is_lf (get_or v i 0)) (length v))
+lf_all s (x ∷ v) = lf_all (after s x) v ∙ add_assoc s.lf (one_if (is_lf x)) (count_first (λ i. is_lf (get_or v i 0)) (length v))
 
 pub cr_all : (s : Scan) (v : List ℕ) → (after_all s v).cr ≡ s.cr + count_first (λ i. is_cr (get_or v i 0)) (length v)
 cr_all s [] = sym (add-zero s.cr)
-cr_all s (x ∷ v) = cr_all (after s x) v ∙ assoc s.cr (one_if (is_cr x)) (count_first (λ i. is_cr (get_or v i 0)) (length v))
+cr_all s (x ∷ v) = cr_all (after s x) v ∙ add_assoc s.cr (one_if (is_cr x)) (count_first (λ i. is_cr (get_or v i 0)) (length v))
 
 pub nul_all : (s : Scan) (v : List ℕ) → (after_all s v).nul ≡ s.nul + count_first (λ i. is_nul (get_or v i 0)) (length v)
 nul_all s [] = sym (add-zero s.nul)
-nul_all s (x ∷ v) = nul_all (after s x) v ∙ assoc s.nul (one_if (is_nul x)) (count_first (λ i. is_nul (get_or v i 0)) (length v))
+nul_all s (x ∷ v) = nul_all (after s x) v ∙ add_assoc s.nul (one_if (is_nul x)) (count_first (λ i. is_nul (get_or v i 0)) (length v))
 
 pub crlf_all : (s : Scan) (v : List ℕ) → (after_all s v).crlf ≡ s.crlf + count_first (crlf_at s.after_cr v) (length v)
 unfolding cr_before
 crlf_all s [] = sym (add-zero s.crlf)
 crlf_all s (x ∷ v) =
-    crlf_all (after s x) v ∙ assoc s.crlf (one_if (is_lf x && s.after_cr)) (count_first (crlf_at (is_cr x) v) (length v))
+    crlf_all (after s x) v ∙ add_assoc s.crlf (one_if (is_lf x && s.after_cr)) (count_first (crlf_at (is_cr x) v) (length v))
     ∙ ap (λ n. s.crlf + (one_if (is_lf x && s.after_cr) + n)) (count_same (length v) (crlf_at (is_cr x) v) (λ i. crlf_at s.after_cr (x ∷ v) (suc i)) (λ i. ap (λ b. is_lf (get_or v i 0) && b) (sym (cr_shift s.after_cr x v i))))
 
 pub blank_all : (s : Scan) (v : List ℕ) → (after_all s v).blank ≡ s.blank + count_first (blank_at s.after_cr s.is_blank v) (length v)
@@ -66,7 +63,7 @@ blank_all s [] = sym (add-zero s.blank)
 blank_all s (x ∷ v) =
     let first = one_if (s.is_blank && (is_cr x || (is_lf x && not s.after_cr))) in
     let b = still_blank s.is_blank x in
-    blank_all (after s x) v ∙ assoc s.blank first (count_first (blank_at (is_cr x) b v) (length v))
+    blank_all (after s x) v ∙ add_assoc s.blank first (count_first (blank_at (is_cr x) b v) (length v))
     ∙ ap (λ n. s.blank + (first + n)) (count_same (length v) (blank_at (is_cr x) b v) (λ i. blank_at s.after_cr s.is_blank (x ∷ v) (suc i))
     (λ i. ap₂ (λ p q. p && (is_cr (get_or v i 0) || (is_lf (get_or v i 0) && not q))) (sym (blank_shift s.is_blank x v i)) (sym (cr_shift s.after_cr x v i))))
 

@@ -1,5 +1,6 @@
 mod Bits
 mod Blank
+mod Bools
 mod Counts
 pub mod Exact
 mod OneCutting

@@ -3,6 +3,7 @@ use Rattle.std.proofs.Common.{◌≡◌, ℕ, Bool, true, false, ◌||◌, ◌�
 use Rattle.std.specs.List.{list_any}
 use Rattle.std.proofs.lemmas.Bool.{cases_Bool}
 use Rattle.lc_census.specs.Bytes.{is_lf, is_cr}
+use Rattle.lc_census.proofs.Bools.{or_left, or_right}
 use Rattle.lc_census.specs.Cutting.{End, lf, cr_lf, cr, Line, Cutting, HasNoEnd, bytes_of, joined, starts_with_lf, AreLines, IsCutting, HasOneCutting}
 use Rattle.lc_census.specs.Bytes.{is_end}
 
@@ -52,14 +53,6 @@ end_false x e f = ap (λ b. b || is_cr x) e ∙ f
 
 or_false : (a b : Bool) → a ≡ false → b ≡ false → (a || b) ≡ false
 or_false a b p q = ap (λ c. c || b) p ∙ q
-
-pub or_left : (a b : Bool) → (a || b) ≡ false → a ≡ false
-or_left true b h = h
-or_left false b h = refl
-
-pub or_right : (a b : Bool) → (a || b) ≡ false → b ≡ false
-or_right true b h = absurd (cc)
-or_right false b h = h
 
 -- a cutting stays one with a byte before it
 text_is : (x : ℕ) (xs : List ℕ) → is_end x ≡ false → (ls : List Line) (r : List ℕ) → IsCutting xs (cutting ls r) → IsCutting (x ∷ xs) (with_text x ls r)

@@ -1,4 +1,4 @@
--- One block by its words is the machine over its bytes.
+-- One block by its words is the scan of its bytes.
 use Rattle.std.proofs.Common.{◌≡◌, ℕ, ◌+◌, ◌/◌, ◌^◌, ◌<◌, Bool, true, false, not, ◌&&◌, ◌||◌, ◌==◌, List, length, get_or, refl, sym, ap, ap₂, ◌∙◌, arith}
 use Rattle.std.specs.Int.RustNames.{count_ones}
 use lib.Bits.{bit_and, bit_or, bit_xor, and_le_l, or_lt}

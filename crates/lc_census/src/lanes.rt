@@ -53,44 +53,42 @@ fn ones(x: u64) -> u64
     u64::from(x.count_ones())
 }
 
-// The scan of a block, by its bytes that are LF, CR, a space or a tab, and NUL. `v` is for the contract alone.
+// Goes on over a block, by its bytes that are LF, CR, a space or a tab, and NUL. `v` is for the contract alone.
 #[inline(always)]
-fn scan_marks(scan: Scan, v: u8x64, lf: u64, cr: u64, space: u64, nul: u64) -> Scan
-    requires room { HasRoom scan 64 }
+fn scan_marks(scan: &mut Scan, v: u8x64, lf: u64, cr: u64, space: u64, nul: u64)
+    requires room { HasRoom scan.old 64 }
     requires lf { Marks lf is_lf v }
     requires cr { Marks cr is_cr v }
     requires space { Marks space is_space v }
     requires nul { Marks nul is_nul v }
     requires long { length v ≡ 64 }
-    ensures { result ≡ after_all scan v }
+    ensures { scan.new ≡ after_all scan.old v }
 {
     let ends = lf | cr;
     let blank = blank_befores(scan.is_blank, v, ends, space);
     let crlf = lf & cr_befores(scan.after_cr, v, cr);
     let blanks = blank & (cr | (lf ^ crlf));
-    Scan {
-        lf: scan.lf + ones(lf),
-        cr: scan.cr + ones(cr),
-        crlf: scan.crlf + ones(crlf),
-        blank: scan.blank + ones(blanks),
-        nul: scan.nul + ones(nul),
-        after_cr: cr >> 63 == 1,
-        is_blank: (ends | (blank & space)) >> 63 == 1,
-    }
+    scan.lf += ones(lf);
+    scan.cr += ones(cr);
+    scan.crlf += ones(crlf);
+    scan.blank += ones(blanks);
+    scan.nul += ones(nul);
+    scan.after_cr = cr >> 63 == 1;
+    scan.is_blank = (ends | (blank & space)) >> 63 == 1;
 }
 
-// Most blocks of a text have no CR and no NUL, and are spared the work for them.
+// Goes on over a block. Most blocks of a text have no CR and no NUL, and are spared the work for them.
 #[inline(always)]
-fn scan_block(scan: Scan, v: u8x64) -> Scan
-    requires { HasRoom scan 64 }
-    ensures { result ≡ after_all scan v }
+fn scan_block(scan: &mut Scan, v: u8x64)
+    requires { HasRoom scan.old 64 }
+    ensures { scan.new ≡ after_all scan.old v }
 {
     let lf = equal_to(v, b'\n');
     let space = equal_to_either(v, b' ', b'\t');
     if equal_to_either(v, b'\r', 0) == 0 {
-        scan_marks(scan, v, lf, 0, space, 0)
+        scan_marks(scan, v, lf, 0, space, 0);
     } else {
-        scan_marks(scan, v, lf, equal_to(v, b'\r'), space, equal_to(v, 0))
+        scan_marks(scan, v, lf, equal_to(v, b'\r'), space, equal_to(v, 0));
     }
 }
 
@@ -102,7 +100,7 @@ pub fn scan_lanes(scan: Scan, bytes: &[u8]) -> Scan
     let mut so_far = scan;
     let mut at = 0;
     while 64 <= bytes.len() - at {
-        so_far = scan_block(so_far, u8x64::from_slice(&bytes[at..]));
+        scan_block(&mut so_far, u8x64::from_slice(&bytes[at..]));
         at += 64;
     }
     scan_plain(so_far, &bytes[at..])

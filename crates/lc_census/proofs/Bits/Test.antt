@@ -1,7 +1,7 @@
 -- One bit of a word as a Bool, through each operation.
-use Rattle.std.proofs.Common.{◌≡◌, ℕ, zero, suc, ◌+◌, ◌-◌, ◌*◌, ◌/◌, ◌%◌, ◌^◌, ◌<◌, min, max, Bool, true, false, not, ◌&&◌, ◌||◌, ◌==◌, List, get_or, cond, T, ◌⊎◌, inl, inr, refl, sym, ap, ◌∙◌, subst, arith, w64, mod-lt, zero-lt-suc, le_of_suc-le-suc, not-suc-le-zero, mul_assoc}
+use Rattle.std.proofs.Common.{◌≡◌, ℕ, zero, suc, ◌+◌, ◌-◌, ◌*◌, ◌/◌, ◌%◌, ◌^◌, ◌<◌, min, max, Bool, true, false, not, ◌&&◌, ◌||◌, ◌==◌, List, get_or, cond, T, ◌⊎◌, inl, inr, refl, sym, ap, ◌∙◌, subst, arith, mod-lt, zero-lt-suc, le_of_suc-le-suc, not-suc-le-zero, mul_assoc}
 use Rattle.std.specs.Int.{bit_at}
-use Rattle.std.proofs.lemmas.Nat.Bits.{bit_at_and, bit_at_or, bit_at_xor, bit_at_not}
+use Rattle.std.proofs.lemmas.Nat.Bits.{bit_at_and, bit_at_or, bit_at_xor}
 use Rattle.std.proofs.lemmas.Simd.{bit_mask_l}
 use Rattle.std.proofs.lemmas.Bool.{cases_order}
 use lib.Bits.{bit_and, bit_or, bit_xor, shifted_even}
@@ -33,13 +33,6 @@ test-or a b i = ap (λ n. n == 1) (bit_at_or a b i) ∙ two_bits (λ x y. (max x
 pub test-xor : (a b i : ℕ) → test (bit_xor a b) i ≡ xor (test a i) (test b i)
 unfolding test
 test-xor a b i = ap (λ n. n == 1) (bit_at_xor a b i) ∙ two_bits (λ x y. ((x + y) % 2 == 1) ≡ xor (x == 1) (y == 1)) refl refl refl refl a b i
-
-abbrev pub flip : ℕ → ℕ
-flip a = 2 ^ 64 - 1 - a
-
-pub test-flip : (a i : ℕ) → a < 2 ^ 64 → i < 64 → test (flip a) i ≡ not (test a i)
-unfolding test
-test-flip a i ha hi = ap (λ n. n == 1) (bit_at_not w64 a i ha hi) ∙ bit_cases (λ x. ((1 - x) == 1) ≡ not (x == 1)) refl refl (bit_at a i) (bit_lt a i)
 
 pub test-mod : (n i : ℕ) → i < 64 → test (n % 2 ^ 64) i ≡ test n i
 unfolding test
@@ -104,10 +97,6 @@ same_is true false h = absurd h
 same_is false true h = absurd h
 
 -- a Bool as a word
-pub byte_lt : (c : Bool) → bool_byte c < 2 ^ 64
-byte_lt true = omega arith
-byte_lt false = omega arith
-
 pub test-byte_zero : (c : Bool) → test (bool_byte c) 0 ≡ c
 unfolding test
 test-byte_zero true = refl
@@ -117,14 +106,6 @@ pub test-byte_suc : (c : Bool) (i : ℕ) → i < 64 → test (bool_byte c) (suc 
 unfolding test
 test-byte_suc true i h = same_is _ _ (upto_sound (λ j. same (test 1 (suc j)) false) 64 tt i h)
 test-byte_suc false i h = same_is _ _ (upto_sound (λ j. same (test 0 (suc j)) false) 64 tt i h)
-
-abbrev pub spread : Bool → ℕ
-spread c = (0 + (2 ^ 64 - bool_byte c)) % 2 ^ 64
-
-pub test-spread : (c : Bool) (i : ℕ) → i < 64 → test (spread c) i ≡ c
-unfolding test
-test-spread true i h = same_is _ _ (upto_sound (λ j. same (test (spread true) j) true) 64 tt i h)
-test-spread false i h = same_is _ _ (upto_sound (λ j. same (test (spread false) j) false) 64 tt i h)
 
 pub top_bit : (x : ℕ) → x < 2 ^ 64 → (x / 2 ^ 63 == 1) ≡ test x 63
 unfolding test

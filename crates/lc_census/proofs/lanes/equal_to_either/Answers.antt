@@ -1,4 +1,4 @@
-use Rattle.std.proofs.Common.{◌≡◌, ℕ, eqb, cond, Bool, true, false, ◌||◌, List, [], ◌∷◌, map, length, refl, sym, ap, ap₂, ◌∙◌, arith}
+use Rattle.std.proofs.Common.{◌≡◌, ℕ, eqb, cond, Bool, true, false, ◌||◌, List, [], ◌∷◌, map, refl, ap, ap₂, ◌∙◌, arith}
 use Rattle.std.proofs.lemmas.Simd.{zip2_splat}
 use Rattle.std.proofs.lemmas.List.{get_or-map}
 use lib.Bits.{bit_or}

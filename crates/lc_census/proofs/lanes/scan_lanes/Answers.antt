@@ -13,7 +13,7 @@ loop-at-preserved c =
     let block = chunk at 64 xs in
     let long : length block ≡ 64 = length-chunk at 64 xs (omega (arith, c.loop-at-test.true, c.loop-at.invariant.within)) in
     let split : length xs - at ≡ length block + (length xs - (at + 64)) = omega (arith, long, c.loop-at-test.true) in
-    let scanned = c.scan_block-so_far.ensures in
+    let scanned = c.scan_block.ensures in
     record {
       within = omega (arith, c.loop-at-test.true, c.loop-at.invariant.within);
       told =

@@ -1,0 +1,122 @@
+-- The scan counts the ends of the cutting.
+use Rattle.std.proofs.Common.{add_assoc, ◌≡◌, ℕ, ◌+◌, Bool, true, false, ◌&&◌, List, [], ◌∷◌, refl, sym, ap, ap₂, ◌∙◌, arith, zero-add}
+use Rattle.lc_census.specs.declared.scan.Scan.{Scan}
+use Rattle.lc_census.specs.Bytes.{is_lf, is_cr, one_if}
+use Rattle.lc_census.specs.Scan.{after, after_all}
+use Rattle.lc_census.specs.Cutting.{End, lf, cr_lf, cr, Line, Cutting, starts_with_lf, same_end}
+use Rattle.lc_census.specs.Bytes.{is_lf, is_cr, one_if}
+use Rattle.lc_census.proofs.OneCutting.{line, cut, before, with_cr, with_text, before-text, by_kind}
+use Rattle.std.proofs.Math.Bool.{and-true}
+
+-- how many pass, from the front
+abbrev pub passing : {X : Type 0} → (X → Bool) → List X → ℕ
+passing p [] = 0
+passing p (x ∷ xs) = one_if (p x) + passing p xs
+
+abbrev pub ends_of : End → List Line → ℕ
+ends_of end ls = passing (λ l. same_end end l.end) ls
+
+-- how many lines end with an LF, and with a CR or a CR and an LF
+abbrev pub lf_ends : List Line → ℕ
+lf_ends ls = ends_of lf ls + ends_of cr_lf ls
+
+abbrev pub cr_ends : List Line → ℕ
+cr_ends ls = ends_of cr ls + ends_of cr_lf ls
+
+-- a text before a cutting changes no end
+text_ends : (end : End) (x : ℕ) (ls : List Line) (r : List ℕ) → ends_of end (with_text x ls r).lines ≡ ends_of end ls
+text_ends end x [] r = refl
+text_ends end x (l ∷ ls) r = refl
+
+swap_three : (a b c : ℕ) → a + (b + c) ≡ b + (a + c)
+swap_three a b c = omega arith
+
+move : (a b c : ℕ) → a + b + c ≡ a + c + b
+move a b c = omega arith
+
+-- CR before lines
+cr_lf_ends : (ls : List Line) → lf_ends (with_cr (starts_with_lf ls) ls) ≡ lf_ends ls
+cr_lf_ends [] = refl
+cr_lf_ends (l ∷ ls) = go l.text l.end
+  where
+    go : (t : List ℕ) (e : End) → lf_ends (with_cr (starts_with_lf (line t e ∷ ls)) (line t e ∷ ls)) ≡ lf_ends (line t e ∷ ls)
+    go [] lf = omega arith
+    go [] cr_lf = omega arith
+    go [] cr = omega arith
+    go (y ∷ t) e = omega arith
+
+cr_cr_ends : (ls : List Line) → cr_ends (with_cr (starts_with_lf ls) ls) ≡ 1 + cr_ends ls
+cr_cr_ends [] = refl
+cr_cr_ends (l ∷ ls) = go l.text l.end
+  where
+    go : (t : List ℕ) (e : End) → cr_ends (with_cr (starts_with_lf (line t e ∷ ls)) (line t e ∷ ls)) ≡ 1 + cr_ends (line t e ∷ ls)
+    go [] lf = omega arith
+    go [] cr_lf = omega arith
+    go [] cr = omega arith
+    go (y ∷ t) e = omega arith
+
+cr_crlf_ends : (ls : List Line) → ends_of cr_lf (with_cr (starts_with_lf ls) ls) ≡ ends_of cr_lf ls + one_if (starts_with_lf ls)
+cr_crlf_ends [] = refl
+cr_crlf_ends (l ∷ ls) = go l.text l.end
+  where
+    go : (t : List ℕ) (e : End) → ends_of cr_lf (with_cr (starts_with_lf (line t e ∷ ls)) (line t e ∷ ls)) ≡ ends_of cr_lf (line t e ∷ ls) + one_if (starts_with_lf (line t e ∷ ls))
+    go [] lf = omega arith
+    go [] cr_lf = omega arith
+    go [] cr = omega arith
+    go (y ∷ t) e = omega arith
+
+-- LF
+lf_step : (d : Cutting) (x : ℕ) → lf_ends (before x d).lines ≡ one_if (is_lf x) + lf_ends d.lines
+lf_step d = by_kind (λ x. lf_ends (before x d).lines ≡ one_if (is_lf x) + lf_ends d.lines)
+    (omega arith)
+    (cr_lf_ends d.lines ∙ omega arith)
+    (λ x e f. ap (λ c. lf_ends c.lines) (before-text x d e f) ∙ ap₂ (λ a b. a + b) (text_ends lf x d.lines d.rest) (text_ends cr_lf x d.lines d.rest) ∙ sym (zero-add _) ∙ ap (λ b. one_if b + lf_ends d.lines) (sym e))
+
+pub lf_run : (s : Scan) (xs : List ℕ) → (after_all s xs).lf ≡ s.lf + lf_ends (cut xs).lines
+lf_run s [] = omega arith
+lf_run s (x ∷ xs) = lf_run (after s x) xs ∙ add_assoc s.lf (one_if (is_lf x)) (lf_ends (cut xs).lines) ∙ ap (λ n. s.lf + n) (sym (lf_step (cut xs) x))
+
+-- CR
+cr_step : (d : Cutting) (x : ℕ) → cr_ends (before x d).lines ≡ one_if (is_cr x) + cr_ends d.lines
+cr_step d = by_kind (λ x. cr_ends (before x d).lines ≡ one_if (is_cr x) + cr_ends d.lines)
+    (omega arith)
+    (cr_cr_ends d.lines)
+    (λ x e f. ap (λ c. cr_ends c.lines) (before-text x d e f) ∙ ap₂ (λ a b. a + b) (text_ends cr x d.lines d.rest) (text_ends cr_lf x d.lines d.rest) ∙ sym (zero-add _) ∙ ap (λ b. one_if b + cr_ends d.lines) (sym f))
+
+pub cr_run : (s : Scan) (xs : List ℕ) → (after_all s xs).cr ≡ s.cr + cr_ends (cut xs).lines
+cr_run s [] = omega arith
+cr_run s (x ∷ xs) = cr_run (after s x) xs ∙ add_assoc s.cr (one_if (is_cr x)) (cr_ends (cut xs).lines) ∙ ap (λ n. s.cr + n) (sym (cr_step (cut xs) x))
+
+-- CR LF: an LF that stands alone at the front, where a CR stood before it, is one more
+abbrev pub crlf_ends : Bool → List Line → ℕ
+crlf_ends a ls = ends_of cr_lf ls + one_if (a && starts_with_lf ls)
+
+text_starts : (x : ℕ) (ls : List Line) (r : List ℕ) → starts_with_lf (with_text x ls r).lines ≡ false
+text_starts x [] r = refl
+text_starts x (l ∷ ls) r = refl
+
+cr_starts : (ls : List Line) → starts_with_lf (with_cr (starts_with_lf ls) ls) ≡ false
+cr_starts [] = refl
+cr_starts (l ∷ ls) = go (starts_with_lf (l ∷ ls))
+  where
+    go : (b : Bool) → starts_with_lf (with_cr b (l ∷ ls)) ≡ false
+    go true = refl
+    go false = refl
+
+and_false : (a b : Bool) → b ≡ false → one_if (a && b) ≡ 0
+and_false true b e = ap one_if e
+and_false false b e = refl
+
+crlf_step : (d : Cutting) (a : Bool) (x : ℕ) → crlf_ends a (before x d).lines ≡ one_if (is_lf x && a) + crlf_ends (is_cr x) d.lines
+crlf_step d a = by_kind (λ x. crlf_ends a (before x d).lines ≡ one_if (is_lf x && a) + crlf_ends (is_cr x) d.lines)
+    (omega (arith, ap one_if (and-true a)))
+    (omega (arith, cr_crlf_ends d.lines, and_false a (starts_with_lf (with_cr (starts_with_lf d.lines) d.lines)) (cr_starts d.lines)))
+    (λ x e f. ap (λ c. crlf_ends a c.lines) (before-text x d e f)
+    ∙ ap₂ (λ p q. p + q) (text_ends cr_lf x d.lines d.rest) (and_false a (starts_with_lf (with_text x d.lines d.rest).lines) (text_starts x d.lines d.rest))
+    ∙ sym (zero-add _) ∙ ap₂ (λ p q. one_if (p && a) + crlf_ends q d.lines) (sym e) (sym f))
+
+pub crlf_run : (s : Scan) (xs : List ℕ) → (after_all s xs).crlf ≡ s.crlf + crlf_ends s.after_cr (cut xs).lines
+crlf_run s [] = omega (arith, and_false s.after_cr false refl)
+crlf_run s (x ∷ xs) =
+    crlf_run (after s x) xs ∙ add_assoc s.crlf (one_if (is_lf x && s.after_cr)) (crlf_ends (is_cr x) (cut xs).lines)
+    ∙ ap (λ n. s.crlf + n) (sym (crlf_step (cut xs) s.after_cr x))
