@@ -57,8 +57,8 @@ impl Census {
     {
         self.scan = scan_lanes(self.scan, piece);
         self.bytes += piece.len() as u64;
-        if !piece.is_empty() {
-            self.has_rest = !ends_line(piece[piece.len() - 1]);
+        if let [.., last] = piece {
+            self.has_rest = !ends_line(*last);
         }
     }
 

@@ -27,6 +27,12 @@ pub const MOST_TURNS: u64 = 4_294_967_296;
 /// Counts what the reader gives up to its end, in at most `turns` reads into the caller's buffer.
 ///
 /// A worker lends one buffer for all its files. It takes no memory, so the fault is never `Memory`.
+///
+/// ```
+/// let mut buffer = vec![in alloc; 0u8; BUFFER_LEN]?;
+/// let mut reader = StdSource(fs::open(rt, "notes.txt")?);
+/// let count = count_in(&mut buffer, &mut reader, MOST_TURNS);
+/// ```
 pub fn count_in<S: Source>(
     buffer: &mut [u8],
     reader: &mut S,
@@ -39,7 +45,7 @@ pub fn count_in<S: Source>(
     ensures no_memory { result ≢ Err CensusFault.Memory }
 {
     let mut census = Census::new();
-    for turn in 0..turns {
+    for _turn in 0..turns {
         let Ok(taken) = reader.read(buffer) else {
             return Err(CensusFault::Read);
         };
@@ -54,6 +60,11 @@ pub fn count_in<S: Source>(
 /// Counts what the reader gives up to its end, in at most `turns` reads of up to 65,536 bytes.
 ///
 /// The buffer is taken from memory before the first read.
+///
+/// ```
+/// let mut reader = b"ab".as_slice();
+/// let count = count_within(rt.alloc(), &mut reader, 1); // `Endless`: the end would be met by the second read
+/// ```
 pub fn count_within<S: Source>(
     alloc: Global,
     reader: &mut S,

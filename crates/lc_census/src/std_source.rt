@@ -8,6 +8,11 @@ use std::io::Read;
 ///
 /// Each `read` is one `read` of the reader, and every error of it is a failure, whatever its kind: nothing is tried
 /// again. Where it is known which bytes the reader has left, as of a slice, those are what it gives.
+///
+/// ```
+/// let mut reader = StdSource(fs::open(rt, "notes.txt")?);
+/// let count = count(rt.alloc(), &mut reader);
+/// ```
 #[derive(Drop)]
 pub struct StdSource<R>(pub R);
 

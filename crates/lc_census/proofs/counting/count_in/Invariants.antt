@@ -7,4 +7,4 @@ use Rattle.lc_census.proofs.counting.count_in.Given as goal
 abbrev pub invariant-loop-turn : goal.invariant-loop-turn
 invariant-loop-turn g l =
     (pieces : List (List ℕ)) × Reads g.S.Source.may_give (RoomOf (length l.initial.buffer)) l.initial.reader pieces at_neither l.reader
-    × (length pieces ≡ l.turn) × LeadTo (concat pieces) l.census × (l.census.bytes ≤ l.turn * 65536)
+    × (length pieces ≡ l._turn) × LeadTo (concat pieces) l.census × (l.census.bytes ≤ l._turn * 65536)

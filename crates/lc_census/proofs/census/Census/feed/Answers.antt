@@ -1,5 +1,4 @@
 use Rattle.std.proofs.Common.{◌+◌, ◌<◌, ◌≤◌, ◌^◌, length, false, not, sym, ap, ◌∙◌, length-append, arith}
-use Rattle.std.proofs.lemmas.Bool.{eqb-false}
 use Rattle.lc_census.specs.Scan.{start, after_all}
 use Rattle.lc_census.specs.Fed.{rest_after}
 use Rattle.lc_census.proofs.Counts.{after_all-append}
@@ -7,18 +6,19 @@ use Rattle.lc_census.proofs.Rest.{rest_after-append, rest_after_last}
 use Rattle.lc_census.proofs.Small.{small_all}
 use Rattle.lc_census.proofs.census.Census.feed.Goals as goal
 
-pub invariant_of-self : goal.invariant_of-self
-invariant_of-self c =
+pub invariant_of-self-in-len1-up : goal.invariant_of-self-in-len1-up
+invariant_of-self-in-len1-up c =
     let few : c.self.inside.bytes + length c.args.piece.now ≤ 2 ^ 48 = omega (arith, c.requires, ap (λ s. s.bytes) c.self.view_is) in
     rw c.scan_lanes-self-inside.ensures (small_all c.self.inside.scan c.self.inside.bytes c.args.piece.now c.self.invariant few)
 
-pub returns-then-not-is_empty-clause-goes_on : goal.returns-then-not-is_empty-clause-goes_on
-returns-then-not-is_empty-clause-goes_on c before h =
+pub returns-in-len1-up-clause-goes_on : goal.returns-in-len1-up-clause-goes_on
+returns-in-len1-up-clause-goes_on c before h =
     let piece = c.args.piece.now in
     let kept = c.self.view_is ∙ h in
-    let some : 0 < length piece = omega (arith, eqb-false (length piece) 0 (sym c.if-not-is_empty.ensures)) in
+    let some : 0 < length piece = omega (arith, c.in-len1-up.len_at_least) in
+    let rest = rest_after-append false before piece ∙ rest_after_last (rest_after false before) piece some in
     λ t. record {
       scan = (c.scan_lanes-self-inside.ensures ∙ ap (λ s. after_all s.scan piece) kept ∙ sym (after_all-append start before piece)) t;
       bytes = (ap (λ s. s.bytes + length piece) kept ∙ sym (length-append before piece)) t;
-      has_rest = (ap not c.ends_line.ensures ∙ sym (rest_after-append false before piece ∙ rest_after_last (rest_after false before) piece some)) t;
+      has_rest = (ap not c.ends_line.ensures ∙ sym rest) t;
     }
