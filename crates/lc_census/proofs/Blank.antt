@@ -10,9 +10,11 @@ use Rattle.lc_census.proofs.Bits.Test.{test-and, test-or, test-xor, shl, test-sh
 use Rattle.lc_census.proofs.Bits.Adder.{carry, test-add, most}
 
 -- a shift by one, with a bit from the block before
-pub shifted : (x : ℕ) (c : Bool) (p : ℕ → Bool) → Bits x p → (i : ℕ) → suc i < 64 → test (bit_or (shl 1 x) (bool_byte c)) (suc i) ≡ p i
+pub shifted : (x : ℕ) (c : Bool) (p : ℕ → Bool) → Bits x p → (i : ℕ) → suc i < 64
+    → test (bit_or (shl 1 x) (bool_byte c)) (suc i) ≡ p i
 shifted x c p h i lt =
-    test-or (shl 1 x) _ (suc i) ∙ ap₂ (λ a b. a || b) (test-shl_one i x lt) (test-byte_suc c i (omega arith)) ∙ or-false _ ∙ h i (omega arith)
+    test-or (shl 1 x) _ (suc i) ∙ ap₂ (λ a b. a || b) (test-shl_one i x lt) (test-byte_suc c i (omega arith)) ∙ or-false _
+    ∙ h i (omega arith)
 
 pub shifted-zero : (x : ℕ) (c : Bool) → test (bit_or (shl 1 x) (bool_byte c)) 0 ≡ c
 shifted-zero x c = test-or (shl 1 x) _ 0 ∙ ap₂ (λ a b. a || b) (test-shl_low 1 0 x (omega arith) (omega arith)) (test-byte_zero c)

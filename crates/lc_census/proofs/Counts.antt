@@ -48,7 +48,8 @@ cr_all s (x ∷ v) = cr_all (after s x) v ∙ add_assoc s.cr (one_if (is_cr x)) 
 
 pub nul_all : (s : Scan) (v : List ℕ) → (after_all s v).nul ≡ s.nul + count_first (λ i. is_nul (get_or v i 0)) (length v)
 nul_all s [] = sym (add-zero s.nul)
-nul_all s (x ∷ v) = nul_all (after s x) v ∙ add_assoc s.nul (one_if (is_nul x)) (count_first (λ i. is_nul (get_or v i 0)) (length v))
+nul_all s (x ∷ v) = nul_all (after s x) v
+    ∙ add_assoc s.nul (one_if (is_nul x)) (count_first (λ i. is_nul (get_or v i 0)) (length v))
 
 pub crlf_all : (s : Scan) (v : List ℕ) → (after_all s v).crlf ≡ s.crlf + count_first (crlf_at s.after_cr v) (length v)
 unfolding cr_before
@@ -57,7 +58,8 @@ crlf_all s (x ∷ v) =
     crlf_all (after s x) v ∙ add_assoc s.crlf (one_if (is_lf x && s.after_cr)) (count_first (crlf_at (is_cr x) v) (length v))
     ∙ ap (λ n. s.crlf + (one_if (is_lf x && s.after_cr) + n)) (count_same (length v) (crlf_at (is_cr x) v) (λ i. crlf_at s.after_cr (x ∷ v) (suc i)) (λ i. ap (λ b. is_lf (get_or v i 0) && b) (sym (cr_shift s.after_cr x v i))))
 
-pub blank_all : (s : Scan) (v : List ℕ) → (after_all s v).blank ≡ s.blank + count_first (blank_at s.after_cr s.is_blank v) (length v)
+pub blank_all : (s : Scan) (v : List ℕ)
+    → (after_all s v).blank ≡ s.blank + count_first (blank_at s.after_cr s.is_blank v) (length v)
 unfolding cr_before blank_before
 blank_all s [] = sym (add-zero s.blank)
 blank_all s (x ∷ v) =
@@ -81,5 +83,6 @@ pub after_all-append : (s : Scan) (xs ys : List ℕ) → after_all s (xs ++ ys) 
 after_all-append s [] ys = refl
 after_all-append s (x ∷ xs) ys = after_all-append (after s x) xs ys
 
-pub state_same : (a b : Scan) → a.lf ≡ b.lf → a.cr ≡ b.cr → a.crlf ≡ b.crlf → a.blank ≡ b.blank → a.nul ≡ b.nul → a.after_cr ≡ b.after_cr → a.is_blank ≡ b.is_blank → a ≡ b
+pub state_same : (a b : Scan) → a.lf ≡ b.lf → a.cr ≡ b.cr → a.crlf ≡ b.crlf → a.blank ≡ b.blank → a.nul ≡ b.nul
+    → a.after_cr ≡ b.after_cr → a.is_blank ≡ b.is_blank → a ≡ b
 state_same a b p q r s n u w = λ t. record { lf = p t; cr = q t; crlf = r t; blank = s t; nul = n t; after_cr = u t; is_blank = w t }

@@ -55,7 +55,8 @@ or_false : (a b : Bool) → a ≡ false → b ≡ false → (a || b) ≡ false
 or_false a b p q = ap (λ c. c || b) p ∙ q
 
 -- a cutting stays one with a byte before it
-text_is : (x : ℕ) (xs : List ℕ) → is_end x ≡ false → (ls : List Line) (r : List ℕ) → IsCutting xs (cutting ls r) → IsCutting (x ∷ xs) (with_text x ls r)
+text_is : (x : ℕ) (xs : List ℕ) → is_end x ≡ false → (ls : List Line) (r : List ℕ) → IsCutting xs (cutting ls r)
+    → IsCutting (x ∷ xs) (with_text x ls r)
 text_is x xs n [] r h = record { lines = tt; rest = or_false (is_end x) (list_any is_end r) n h.rest; whole = ap (λ t. x ∷ t) h.whole }
 text_is x xs n (l ∷ ls) r h = record {
   lines = (or_false (is_end x) (list_any is_end l.text) n h.lines.0, h.lines.1, h.lines.2);
@@ -63,11 +64,13 @@ text_is x xs n (l ∷ ls) r h = record {
   whole = ap (λ t. x ∷ t) h.whole;
 }
 
-cr_is : (xs : List ℕ) (ls : List Line) (r : List ℕ) → IsCutting xs (cutting ls r) → IsCutting (13 ∷ xs) (cutting (with_cr (starts_with_lf ls) ls) r)
+cr_is : (xs : List ℕ) (ls : List Line) (r : List ℕ) → IsCutting xs (cutting ls r)
+    → IsCutting (13 ∷ xs) (cutting (with_cr (starts_with_lf ls) ls) r)
 cr_is xs [] r h = record { lines = (refl, refl, tt); rest = h.rest; whole = ap (λ t. 13 ∷ t) h.whole }
 cr_is xs (l ∷ ls) r h = go l.text l.end h
   where
-    go : (t : List ℕ) (e : End) → IsCutting xs (cutting (line t e ∷ ls) r) → IsCutting (13 ∷ xs) (cutting (with_cr (starts_with_lf (line t e ∷ ls)) (line t e ∷ ls)) r)
+    go : (t : List ℕ) (e : End) → IsCutting xs (cutting (line t e ∷ ls) r)
+        → IsCutting (13 ∷ xs) (cutting (with_cr (starts_with_lf (line t e ∷ ls)) (line t e ∷ ls)) r)
     go [] lf k = record { lines = (refl, refl, k.lines.2); rest = k.rest; whole = ap (λ t. 13 ∷ t) k.whole }
     go [] cr_lf k = record { lines = (refl, refl, k.lines); rest = k.rest; whole = ap (λ t. 13 ∷ t) k.whole }
     go [] cr k = record { lines = (refl, refl, k.lines); rest = k.rest; whole = ap (λ t. 13 ∷ t) k.whole }
@@ -107,14 +110,16 @@ text_before x y d e n =
 abbrev pub OnlyCut : List ℕ → Type 0
 OnlyCut xs = (ls : List Line) (r : List ℕ) → AreLines ls → HasNoEnd r → joined ls r ≡ xs → cutting ls r ≡ cut xs
 
-only_line : (x : ℕ) (xs : List ℕ) → OnlyCut xs → (t : List ℕ) (end : End) (ls : List Line) (r : List ℕ) → AreLines (line t end ∷ ls) → HasNoEnd r → joined (line t end ∷ ls) r ≡ (x ∷ xs)
+only_line : (x : ℕ) (xs : List ℕ) → OnlyCut xs → (t : List ℕ) (end : End) (ls : List Line) (r : List ℕ)
+    → AreLines (line t end ∷ ls) → HasNoEnd r → joined (line t end ∷ ls) r ≡ (x ∷ xs)
     → cutting (line t end ∷ ls) r ≡ before x (cut xs)
 only_line x xs here [] lf ls r a n e =
     ap (before 10) (here ls r a.2 n (tail_is 10 x _ xs e)) ∙ ap (λ z. before z (cut xs)) (head_is 10 x _ xs e)
 only_line x xs here [] cr ls r a n e =
     cr_alone ls r a.1 ∙ ap (before 13) (here ls r a.2 n (tail_is 13 x _ xs e)) ∙ ap (λ z. before z (cut xs)) (head_is 13 x _ xs e)
 only_line x xs here [] cr_lf ls r a n e =
-    ap (before 13) (here (line [] lf ∷ ls) r (refl, refl, a.2) n (tail_is 13 x _ xs e)) ∙ ap (λ z. before z (cut xs)) (head_is 13 x _ xs e)
+    ap (before 13) (here (line [] lf ∷ ls) r (refl, refl, a.2) n (tail_is 13 x _ xs e))
+    ∙ ap (λ z. before z (cut xs)) (head_is 13 x _ xs e)
 only_line x xs here (y ∷ t) end ls r a n e =
     text_before x y (cutting (line t end ∷ ls) r) (head_is y x _ xs e) (or_left (is_end y) (list_any is_end t) a.0)
     ∙ ap (before x) (here (line t end ∷ ls) r (or_right (is_end y) (list_any is_end t) a.0, a.1, a.2) n (tail_is y x _ xs e))

@@ -4,20 +4,23 @@ use Rattle.lc_census.specs.Reads.{Answer, gave, Stop, at_neither, MayRead, Stops
 
 module _ {S : Type 0} (may_give : S → ℕ → Answer → S → Type 0) (IsRoom : ℕ → Type 0) where
   -- reads that went on, and then these reads
-  pub reads_then : (pieces more : List (List ℕ)) (stop : Stop) (old middle new : S) → Reads may_give IsRoom old pieces at_neither middle → Reads may_give IsRoom middle more stop new
+  pub reads_then : (pieces more : List (List ℕ)) (stop : Stop) (old middle new : S)
+      → Reads may_give IsRoom old pieces at_neither middle → Reads may_give IsRoom middle more stop new
       → Reads may_give IsRoom old (pieces ++ more) stop new
   reads_then [] more stop old middle new same next = let P : S → Type 0 = λ s. Reads may_give IsRoom s more stop new in subst P (sym same) next
   reads_then (piece ∷ pieces) more stop old middle new reads next =
       (reads.0, reads.1, reads.2, reads_then pieces more stop reads.0 middle new reads.3 next)
 
   -- reads that went on, and then one more piece
-  pub reads_more : (pieces : List (List ℕ)) (piece : List ℕ) (old middle new : S) → Reads may_give IsRoom old pieces at_neither middle → piece ≢ [] → MayRead may_give IsRoom middle (gave piece) new
+  pub reads_more : (pieces : List (List ℕ)) (piece : List ℕ) (old middle new : S)
+      → Reads may_give IsRoom old pieces at_neither middle → piece ≢ [] → MayRead may_give IsRoom middle (gave piece) new
       → Reads may_give IsRoom old (pieces ++ piece ∷ []) at_neither new
   reads_more pieces piece old middle new reads some read =
       reads_then pieces (piece ∷ []) at_neither old middle new reads (new, some, read, refl)
 
   -- reads that went on, and then stopped so
-  pub reads_stop : (pieces : List (List ℕ)) (stop : Stop) (old middle new : S) → Reads may_give IsRoom old pieces at_neither middle → Stops may_give IsRoom middle stop new
+  pub reads_stop : (pieces : List (List ℕ)) (stop : Stop) (old middle new : S)
+      → Reads may_give IsRoom old pieces at_neither middle → Stops may_give IsRoom middle stop new
       → Reads may_give IsRoom old pieces stop new
   reads_stop [] stop old middle new same next = let P : S → Type 0 = λ s. Stops may_give IsRoom s stop new in subst P (sym same) next
   reads_stop (piece ∷ pieces) stop old middle new reads next =

@@ -54,7 +54,8 @@ each_end : (ls : List Line) → length ls ≡ ends_of lf ls + (ends_of cr_lf ls 
 each_end [] = refl
 each_end (l ∷ ls) = go l.end (each_end ls)
   where
-    go : (e : End) → length ls ≡ ends_of lf ls + (ends_of cr_lf ls + ends_of cr ls) → suc (length ls) ≡ (one_if (same_end lf e) + ends_of lf ls) + ((one_if (same_end cr_lf e) + ends_of cr_lf ls) + (one_if (same_end cr e) + ends_of cr ls))
+    go : (e : End) → length ls ≡ ends_of lf ls + (ends_of cr_lf ls + ends_of cr ls)
+        → suc (length ls) ≡ (one_if (same_end lf e) + ends_of lf ls) + ((one_if (same_end cr_lf e) + ends_of cr_lf ls) + (one_if (same_end cr e) + ends_of cr ls))
     go lf here = omega arith
     go cr_lf here = omega arith
     go cr here = omega arith
@@ -93,7 +94,8 @@ module _ (xs : List ℕ) where
   blank_is = rest_run start xs ∙ true_blank (cut xs).lines (cut xs).rest
 
   blanks_are : (after_all start xs).blank ≡ count_by (λ l. is_blank_text l.text) (cut xs).lines
-  blanks_are = blank_run start xs ∙ zero-add _ ∙ blank_whole (cut xs).lines ∙ passing_is (λ l. is_blank_text l.text) (cut xs).lines
+  blanks_are = blank_run start xs ∙ zero-add _ ∙ blank_whole (cut xs).lines
+      ∙ passing_is (λ l. is_blank_text l.text) (cut xs).lines
 
   nul_is : some (after_all start xs).nul ≡ list_any is_nul xs
   nul_is = ap some (nul_run start xs ∙ zero-add _) ∙ any_is is_nul xs

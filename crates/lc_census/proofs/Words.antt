@@ -63,7 +63,8 @@ module _ (s : Scan) (v : List ℕ) (long : length v ≡ 64) (lf cr space nul bef
       (test-and blank space 63 ∙ ap₂ (λ a b. a && b) (hblank 63 (omega arith)) (hspace 63 (omega arith)))
       ∙ ap (blank_before s.is_blank v) (sym long)
 
-  pub block_is : (r : Scan) → r.lf ≡ s.lf + count_ones lf → r.cr ≡ s.cr + count_ones cr → r.crlf ≡ s.crlf + count_ones crlf → r.blank ≡ s.blank + count_ones blanks → r.nul ≡ s.nul + count_ones nul
+  pub block_is : (r : Scan) → r.lf ≡ s.lf + count_ones lf → r.cr ≡ s.cr + count_ones cr → r.crlf ≡ s.crlf + count_ones crlf
+      → r.blank ≡ s.blank + count_ones blanks → r.nul ≡ s.nul + count_ones nul
       → r.after_cr ≡ (cr / 2 ^ 63 == 1) → r.is_blank ≡ (last / 2 ^ 63 == 1) → r ≡ after_all s v
   block_is r a b c d e f g =
       state_same r (after_all s v)

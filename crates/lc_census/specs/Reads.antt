@@ -25,7 +25,7 @@ AnyRoom room = Unit {0}
 abbrev pub RoomOf : ℕ → ℕ → Type 0
 RoomOf size room = room ≡ size
 
--- may_give says which answers a read may give: the reader before, the length of the buffer, the answer, the reader after
+-- may_give says which answers a read may give, by the reader before, the buffer's length, the answer, the reader after
 module _ {S : Type 0} (may_give : S → ℕ → Answer → S → Type 0) (IsRoom : ℕ → Type 0) where
   -- one read, into a buffer that is not empty
   abbrev pub MayRead : S → Answer → S → Type 0

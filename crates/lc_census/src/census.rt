@@ -11,7 +11,8 @@ use std::marker::Model;
 
 /// The census of the bytes that it was fed so far.
 ///
-/// The bytes may be cut into pieces anywhere, also between a CR and its LF, and a piece may be empty. It takes no memory.
+/// The bytes may be cut into pieces anywhere, also between a CR and its LF, and a piece may be empty. No memory is
+/// taken.
 ///
 /// ```
 /// let mut census = Census::new();

@@ -10,7 +10,7 @@ use std::time::{Duration, Instant};
 use std::{env, fs, io};
 
 /// How often a body scans the file.
-const PASSES: u8 = 15;
+const PASSES: u8 = 31;
 
 fn scan_timed(rt: &HostRuntime, is_plain: bool, bytes: &[u8]) -> io::Result<(Duration, Scan)> {
     let start = Instant::now(rt)?;

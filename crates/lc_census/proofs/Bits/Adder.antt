@@ -41,4 +41,5 @@ add-shr a b (suc i) =
 
 pub test-add : (a b i : ℕ) → test (a + b) i ≡ xor (xor (test a i) (test b i)) (carry a b i)
 unfolding test
-test-add a b i = ap (λ n. n == 1) (ap (λ n. n % 2) (add-shr a b i) ∙ lows (a / 2 ^ i) (b / 2 ^ i) (bool_byte (carry a b i))) ∙ sum_bit (carry a b i) a b i
+test-add a b i = ap (λ n. n == 1) (ap (λ n. n % 2) (add-shr a b i) ∙ lows (a / 2 ^ i) (b / 2 ^ i) (bool_byte (carry a b i)))
+    ∙ sum_bit (carry a b i) a b i

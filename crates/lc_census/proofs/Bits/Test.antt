@@ -24,15 +24,18 @@ two_bits P p q r s a b i =
 
 pub test-and : (a b i : ℕ) → test (bit_and a b) i ≡ (test a i && test b i)
 unfolding test
-test-and a b i = ap (λ n. n == 1) (bit_at_and a b i) ∙ two_bits (λ x y. (min x y == 1) ≡ ((x == 1) && (y == 1))) refl refl refl refl a b i
+test-and a b i = ap (λ n. n == 1) (bit_at_and a b i)
+    ∙ two_bits (λ x y. (min x y == 1) ≡ ((x == 1) && (y == 1))) refl refl refl refl a b i
 
 pub test-or : (a b i : ℕ) → test (bit_or a b) i ≡ (test a i || test b i)
 unfolding test
-test-or a b i = ap (λ n. n == 1) (bit_at_or a b i) ∙ two_bits (λ x y. (max x y == 1) ≡ ((x == 1) || (y == 1))) refl refl refl refl a b i
+test-or a b i = ap (λ n. n == 1) (bit_at_or a b i)
+    ∙ two_bits (λ x y. (max x y == 1) ≡ ((x == 1) || (y == 1))) refl refl refl refl a b i
 
 pub test-xor : (a b i : ℕ) → test (bit_xor a b) i ≡ xor (test a i) (test b i)
 unfolding test
-test-xor a b i = ap (λ n. n == 1) (bit_at_xor a b i) ∙ two_bits (λ x y. ((x + y) % 2 == 1) ≡ xor (x == 1) (y == 1)) refl refl refl refl a b i
+test-xor a b i = ap (λ n. n == 1) (bit_at_xor a b i)
+    ∙ two_bits (λ x y. ((x + y) % 2 == 1) ≡ xor (x == 1) (y == 1)) refl refl refl refl a b i
 
 pub test-mod : (n i : ℕ) → i < 64 → test (n % 2 ^ 64) i ≡ test n i
 unfolding test
@@ -46,7 +49,8 @@ shl k y = y * 2 ^ k % 2 ^ 64
 
 pub test-shl_high : (k j y : ℕ) → k + j < 64 → test (shl k y) (k + j) ≡ test y j
 unfolding test
-test-shl_high k j y h = test-mod (y * 2 ^ k) (k + j) h ∙ ap (λ x. x % 2 == 1) (sym (shr-shr (y * 2 ^ k) k j) ∙ ap (λ x. x / 2 ^ j) (shl-shr y k))
+test-shl_high k j y h = test-mod (y * 2 ^ k) (k + j) h
+    ∙ ap (λ x. x % 2 == 1) (sym (shr-shr (y * 2 ^ k) k j) ∙ ap (λ x. x / 2 ^ j) (shl-shr y k))
 
 pub test-shl_low : (k i y : ℕ) → i < k → i < 64 → test (shl k y) i ≡ false
 unfolding test
@@ -54,7 +58,8 @@ test-shl_low k i y lt h =
     let m = k - i - 1 in
     let e : suc m + i ≡ k = omega arith in
     let moved : y * 2 ^ (suc m + i) / 2 ^ i ≡ y * 2 ^ suc m = ap (λ x. x / 2 ^ i) (ap (λ x. y * x) (pow-add 2 (suc m) i) ∙ sym (mul_assoc y (2 ^ suc m) (2 ^ i))) ∙ shl-shr (y * 2 ^ suc m) i in
-    test-mod (y * 2 ^ k) i h ∙ ap (λ x. x == 1) (subst (λ w. bit_at (y * 2 ^ w) i ≡ 0) e (ap (λ x. x % 2) moved ∙ shifted_even y m))
+    test-mod (y * 2 ^ k) i h
+    ∙ ap (λ x. x == 1) (subst (λ w. bit_at (y * 2 ^ w) i ≡ 0) e (ap (λ x. x % 2) moved ∙ shifted_even y m))
 
 pub test-shl_one : (j y : ℕ) → suc j < 64 → test (shl 1 y) (suc j) ≡ test y j
 test-shl_one j y h =

@@ -32,7 +32,8 @@ blank_cr a b (l ∷ ls) = go a b l.text l.end
     rest : ℕ
     rest = passing (λ m. is_blank_text m.text) ls
 
-    go : (a b : Bool) (t : List ℕ) (e : End) → blank_ends a b (with_cr (starts_with_lf (line t e ∷ ls)) (line t e ∷ ls)) ≡ one_if b + blank_ends true true (line t e ∷ ls)
+    go : (a b : Bool) (t : List ℕ) (e : End)
+        → blank_ends a b (with_cr (starts_with_lf (line t e ∷ ls)) (line t e ∷ ls)) ≡ one_if b + blank_ends true true (line t e ∷ ls)
     go true true [] lf = omega arith
     go true true [] cr_lf = omega arith
     go true true [] cr = omega arith
@@ -56,13 +57,15 @@ blank_lf a b ls = head a b ∙ ap (λ n. one_if (b && not a) + n) (sym (blank_wh
     rest : ℕ
     rest = passing (λ m. is_blank_text m.text) ls
 
-    head : (a b : Bool) → one_if ((b && true) && not (a && true)) + passing (λ m. is_blank_text m.text) ls ≡ one_if (b && not a) + passing (λ m. is_blank_text m.text) ls
+    head : (a b : Bool)
+        → one_if ((b && true) && not (a && true)) + passing (λ m. is_blank_text m.text) ls ≡ one_if (b && not a) + passing (λ m. is_blank_text m.text) ls
     head true true = refl
     head true false = refl
     head false true = refl
     head false false = refl
 
-blank_text : (a b : Bool) (x : ℕ) (ls : List Line) (r : List ℕ) → blank_ends a b (with_text x ls r).lines ≡ blank_ends false (b && is_space x) ls
+blank_text : (a b : Bool) (x : ℕ) (ls : List Line) (r : List ℕ)
+    → blank_ends a b (with_text x ls r).lines ≡ blank_ends false (b && is_space x) ls
 blank_text a b x [] r = refl
 blank_text a b x (l ∷ ls) r = ap (λ v. one_if v + passing (λ m. is_blank_text m.text) ls) (go a b (is_space x) (is_blank_text l.text))
   where
@@ -79,7 +82,8 @@ blank_text a b x (l ∷ ls) r = ap (λ v. one_if v + passing (λ m. is_blank_tex
 abbrev pub ended_blank : Bool → Bool → ℕ → ℕ
 ended_blank a b x = one_if (b && (is_cr x || (is_lf x && not a)))
 
-blank_step : (d : Cutting) (a b : Bool) (x : ℕ) → blank_ends a b (before x d).lines ≡ ended_blank a b x + blank_ends (is_cr x) (is_end x || (b && is_space x)) d.lines
+blank_step : (d : Cutting) (a b : Bool) (x : ℕ)
+    → blank_ends a b (before x d).lines ≡ ended_blank a b x + blank_ends (is_cr x) (is_end x || (b && is_space x)) d.lines
 blank_step d a b = by_kind (λ x. blank_ends a b (before x d).lines ≡ ended_blank a b x + blank_ends (is_cr x) (is_end x || (b && is_space x)) d.lines)
     (blank_lf a b d.lines)
     (blank_cr a b d.lines ∙ ap (λ v. one_if v + blank_ends true true d.lines) (sym (and-true b)))
@@ -89,7 +93,8 @@ blank_step d a b = by_kind (λ x. blank_ends a b (before x d).lines ≡ ended_bl
     none true = refl
     none false = refl
 
-    plain : (x : ℕ) (l c : Bool) → l ≡ false → c ≡ false → blank_ends false (b && is_space x) d.lines ≡ one_if (b && (c || (l && not a))) + blank_ends c ((l || c) || (b && is_space x)) d.lines
+    plain : (x : ℕ) (l c : Bool) → l ≡ false → c ≡ false
+        → blank_ends false (b && is_space x) d.lines ≡ one_if (b && (c || (l && not a))) + blank_ends c ((l || c) || (b && is_space x)) d.lines
     plain x true c e f = absurd (cc)
     plain x false true e f = absurd (cc)
     plain x false false e f = omega (arith, none b)
@@ -97,5 +102,6 @@ blank_step d a b = by_kind (λ x. blank_ends a b (before x d).lines ≡ ended_bl
 pub blank_run : (s : Scan) (xs : List ℕ) → (after_all s xs).blank ≡ s.blank + blank_ends s.after_cr s.is_blank (cut xs).lines
 blank_run s [] = omega arith
 blank_run s (x ∷ xs) =
-    blank_run (after s x) xs ∙ add_assoc s.blank (ended_blank s.after_cr s.is_blank x) (blank_ends (is_cr x) (is_end x || (s.is_blank && is_space x)) (cut xs).lines)
+    blank_run (after s x) xs
+    ∙ add_assoc s.blank (ended_blank s.after_cr s.is_blank x) (blank_ends (is_cr x) (is_end x || (s.is_blank && is_space x)) (cut xs).lines)
     ∙ ap (λ n. s.blank + n) (sym (blank_step (cut xs) s.after_cr s.is_blank x))

@@ -59,7 +59,8 @@ cr_crlf_ends : (ls : List Line) → ends_of cr_lf (with_cr (starts_with_lf ls) l
 cr_crlf_ends [] = refl
 cr_crlf_ends (l ∷ ls) = go l.text l.end
   where
-    go : (t : List ℕ) (e : End) → ends_of cr_lf (with_cr (starts_with_lf (line t e ∷ ls)) (line t e ∷ ls)) ≡ ends_of cr_lf (line t e ∷ ls) + one_if (starts_with_lf (line t e ∷ ls))
+    go : (t : List ℕ) (e : End)
+        → ends_of cr_lf (with_cr (starts_with_lf (line t e ∷ ls)) (line t e ∷ ls)) ≡ ends_of cr_lf (line t e ∷ ls) + one_if (starts_with_lf (line t e ∷ ls))
     go [] lf = omega arith
     go [] cr_lf = omega arith
     go [] cr = omega arith
@@ -74,7 +75,8 @@ lf_step d = by_kind (λ x. lf_ends (before x d).lines ≡ one_if (is_lf x) + lf_
 
 pub lf_run : (s : Scan) (xs : List ℕ) → (after_all s xs).lf ≡ s.lf + lf_ends (cut xs).lines
 lf_run s [] = omega arith
-lf_run s (x ∷ xs) = lf_run (after s x) xs ∙ add_assoc s.lf (one_if (is_lf x)) (lf_ends (cut xs).lines) ∙ ap (λ n. s.lf + n) (sym (lf_step (cut xs) x))
+lf_run s (x ∷ xs) = lf_run (after s x) xs ∙ add_assoc s.lf (one_if (is_lf x)) (lf_ends (cut xs).lines)
+    ∙ ap (λ n. s.lf + n) (sym (lf_step (cut xs) x))
 
 -- CR
 cr_step : (d : Cutting) (x : ℕ) → cr_ends (before x d).lines ≡ one_if (is_cr x) + cr_ends d.lines
@@ -85,7 +87,8 @@ cr_step d = by_kind (λ x. cr_ends (before x d).lines ≡ one_if (is_cr x) + cr_
 
 pub cr_run : (s : Scan) (xs : List ℕ) → (after_all s xs).cr ≡ s.cr + cr_ends (cut xs).lines
 cr_run s [] = omega arith
-cr_run s (x ∷ xs) = cr_run (after s x) xs ∙ add_assoc s.cr (one_if (is_cr x)) (cr_ends (cut xs).lines) ∙ ap (λ n. s.cr + n) (sym (cr_step (cut xs) x))
+cr_run s (x ∷ xs) = cr_run (after s x) xs ∙ add_assoc s.cr (one_if (is_cr x)) (cr_ends (cut xs).lines)
+    ∙ ap (λ n. s.cr + n) (sym (cr_step (cut xs) x))
 
 -- CR LF: an LF that stands alone at the front, where a CR stood before it, is one more
 abbrev pub crlf_ends : Bool → List Line → ℕ
@@ -107,7 +110,8 @@ and_false : (a b : Bool) → b ≡ false → one_if (a && b) ≡ 0
 and_false true b e = ap one_if e
 and_false false b e = refl
 
-crlf_step : (d : Cutting) (a : Bool) (x : ℕ) → crlf_ends a (before x d).lines ≡ one_if (is_lf x && a) + crlf_ends (is_cr x) d.lines
+crlf_step : (d : Cutting) (a : Bool) (x : ℕ)
+    → crlf_ends a (before x d).lines ≡ one_if (is_lf x && a) + crlf_ends (is_cr x) d.lines
 crlf_step d a = by_kind (λ x. crlf_ends a (before x d).lines ≡ one_if (is_lf x && a) + crlf_ends (is_cr x) d.lines)
     (omega (arith, ap one_if (and-true a)))
     (omega (arith, cr_crlf_ends d.lines, and_false a (starts_with_lf (with_cr (starts_with_lf d.lines) d.lines)) (cr_starts d.lines)))

@@ -31,11 +31,13 @@ goes_cr b (l ∷ ls) r = go (starts_with_lf (l ∷ ls))
     go true = refl
     go false = refl
 
-goes_text : (b : Bool) (x : ℕ) (ls : List Line) (r : List ℕ) → rest_goes_on b (with_text x ls r).lines (with_text x ls r).rest ≡ rest_goes_on true ls r
+goes_text : (b : Bool) (x : ℕ) (ls : List Line) (r : List ℕ)
+    → rest_goes_on b (with_text x ls r).lines (with_text x ls r).rest ≡ rest_goes_on true ls r
 goes_text b x [] r = or-true b
 goes_text b x (l ∷ ls) r = refl
 
-goes_step : (d : Cutting) (b : Bool) (x : ℕ) → rest_goes_on b (before x d).lines (before x d).rest ≡ rest_goes_on (not (is_end x)) d.lines d.rest
+goes_step : (d : Cutting) (b : Bool) (x : ℕ)
+    → rest_goes_on b (before x d).lines (before x d).rest ≡ rest_goes_on (not (is_end x)) d.lines d.rest
 goes_step d b = by_kind (λ x. rest_goes_on b (before x d).lines (before x d).rest ≡ rest_goes_on (not (is_end x)) d.lines d.rest)
     (goes_after_end b d.lines d.lines (line [] lf) d.rest)
     (goes_cr b d.lines d.rest)
@@ -58,7 +60,8 @@ rest_cr b (l ∷ ls) r = go (starts_with_lf (l ∷ ls))
     go true = refl
     go false = refl
 
-rest_text : (b : Bool) (x : ℕ) (ls : List Line) (r : List ℕ) → rest_blank b (with_text x ls r).lines (with_text x ls r).rest ≡ rest_blank (b && is_space x) ls r
+rest_text : (b : Bool) (x : ℕ) (ls : List Line) (r : List ℕ)
+    → rest_blank b (with_text x ls r).lines (with_text x ls r).rest ≡ rest_blank (b && is_space x) ls r
 rest_text b x [] r = go b (is_space x) (is_blank_text r)
   where
     go : (b p q : Bool) → (b && (p && q)) ≡ ((b && p) && q)
@@ -66,7 +69,8 @@ rest_text b x [] r = go b (is_space x) (is_blank_text r)
     go false p q = refl
 rest_text b x (l ∷ ls) r = refl
 
-rest_step : (d : Cutting) (b : Bool) (x : ℕ) → rest_blank b (before x d).lines (before x d).rest ≡ rest_blank (is_end x || (b && is_space x)) d.lines d.rest
+rest_step : (d : Cutting) (b : Bool) (x : ℕ)
+    → rest_blank b (before x d).lines (before x d).rest ≡ rest_blank (is_end x || (b && is_space x)) d.lines d.rest
 rest_step d b = by_kind (λ x. rest_blank b (before x d).lines (before x d).rest ≡ rest_blank (is_end x || (b && is_space x)) d.lines d.rest)
     (blank_after_end b d.lines d.lines (line [] lf) d.rest)
     (rest_cr b d.lines d.rest)

@@ -8,7 +8,8 @@ use Rattle.lc_census.proofs.Runs.{reads_more, reads_stop, take_some}
 use Rattle.lc_census.proofs.counting.count_in.Goals as goal
 
 -- a read into the whole buffer
-read_of : {S : Type 0} (may_give : S → ℕ → Answer → S → Type 0) (room size : ℕ) (old new : S) (answer : Answer) → room ≡ size → 0 < size → may_give old room answer new
+read_of : {S : Type 0} (may_give : S → ℕ → Answer → S → Type 0) (room size : ℕ) (old new : S) (answer : Answer) → room ≡ size
+    → 0 < size → may_give old room answer new
     → MayRead may_give (RoomOf size) old answer new
 read_of may_give room size old new answer e some given = (size, some, refl, subst (λ n. may_give old n answer new) e given)
 

@@ -8,4 +8,5 @@ use Rattle.lc_census.proofs.lanes.equal_to.Goals as goal
 pub returns : goal.returns
 returns c i h =
     let p = λ (x : ℕ). eqb x c.args.byte in
-    ap (λ n. test n i) (bitmask_splat w8 eqb c.args.v 64 c.args.byte c.fits-v.0 (omega arith)) ∙ test-mask_l (map p c.args.v) i ∙ get_or-map p c.args.v i 0 false (omega (arith, c.fits-v.0))
+    ap (λ n. test n i) (bitmask_splat w8 eqb c.args.v 64 c.args.byte c.fits-v.0 (omega arith)) ∙ test-mask_l (map p c.args.v) i
+    ∙ get_or-map p c.args.v i 0 false (omega (arith, c.fits-v.0))

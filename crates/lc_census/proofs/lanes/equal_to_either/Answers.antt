@@ -17,7 +17,8 @@ top_either true false = refl
 top_either false true = refl
 top_either false false = refl
 
-either_lanes : (v : List ℕ) (a b : ℕ) → map (top 7) (zip2 bit_or (map (λ x. hit x a) v) (map (λ x. hit x b) v)) ≡ map (λ x. eqb x a || eqb x b) v
+either_lanes : (v : List ℕ) (a b : ℕ)
+    → map (top 7) (zip2 bit_or (map (λ x. hit x a) v) (map (λ x. hit x b) v)) ≡ map (λ x. eqb x a || eqb x b) v
 either_lanes [] a b = refl
 either_lanes (x ∷ v) a b = ap₂ (λ h t. h ∷ t) (top_either (eqb x a) (eqb x b)) (either_lanes v a b)
 
@@ -29,4 +30,5 @@ returns c i h =
     let long = c.fits-v.0 in
     let p = λ (x : ℕ). eqb x a || eqb x b in
     let lanes = ap (map (top 7)) (ap₂ (zip2 bit_or) (zip2_splat hit v 64 a long) (zip2_splat hit v 64 b long)) ∙ either_lanes v a b in
-    test-mod _ i h ∙ ap (λ ms. test (mask_l ms) i) lanes ∙ test-mask_l (map p v) i ∙ get_or-map p v i 0 false (omega (arith, long))
+    test-mod _ i h ∙ ap (λ ms. test (mask_l ms) i) lanes ∙ test-mask_l (map p v) i
+    ∙ get_or-map p v i 0 false (omega (arith, long))
