@@ -1,0 +1,63 @@
+-- What holds of some rest of a list.
+use Rattle.std.proofs.Common.{◌≡◌, ◌⊎◌, List, [], ◌∷◌, ◌++◌, inl, inr, refl, sym, ◌∙◌, subst, ap, append_assoc}
+
+abbrev pub After : {X : Type 0} → (List X → Type 0) → List X → Type 0
+After {X} P xs = (a b : List X) × (xs ≡ a ++ b) × P b
+
+module _ {X : Type 0} (P : List X → Type 0) where
+  pub after_none : (xs : List X) → P xs → After P xs
+  after_none xs h = ([], xs, refl, h)
+
+  pub after_more : (x : X) (xs : List X) → After P xs → After P (x ∷ xs)
+  after_more x xs h = (x ∷ h.0, h.1, ap (λ (l : List X). x ∷ l) h.2, h.3)
+
+  from_empty : (a b : List X) → [] ≡ a ++ b → P b → P []
+  from_empty [] [] e f = f
+  from_empty [] (x ∷ b) e f = cc
+  from_empty (x ∷ a) b e f = cc
+
+  pub after_empty : After P [] → P []
+  after_empty h = from_empty h.0 h.1 h.2 h.3
+
+  from_cut : (x : X) (xs a b : List X) → x ∷ xs ≡ a ++ b → P b → P (x ∷ xs) ⊎ After P xs
+  from_cut x xs [] b e f = inl (subst P (sym e) f)
+  from_cut x xs (y ∷ a) b e f = inr (a, b, (cc), f)
+
+  pub after_cut : (x : X) (xs : List X) → After P (x ∷ xs) → P (x ∷ xs) ⊎ After P xs
+  after_cut x xs h = from_cut x xs h.0 h.1 h.2 h.3
+
+  -- after one element or more
+  abbrev pub Later : List X → Type 0
+  Later [] = ⊥
+  Later (x ∷ xs) = After P xs
+
+  pub later_after : (xs : List X) → Later xs → After P xs
+  later_after [] h = absurd h
+  later_after (x ∷ xs) h = after_more x xs h
+
+  pub after_split : (xs : List X) → After P xs → P xs ⊎ Later xs
+  after_split [] h = inl (after_empty h)
+  after_split (x ∷ xs) h = after_cut x xs h
+
+  pub after_join : (xs : List X) → P xs ⊎ Later xs → After P xs
+  after_join xs (inl f) = after_none xs f
+  after_join xs (inr g) = later_after xs g
+
+  pub after_after : (xs : List X) → After (After P) xs → After P xs
+  after_after xs h = (h.0 ++ h.3.0, h.3.1, h.2 ∙ ap (λ (l : List X). h.0 ++ l) h.3.2 ∙ sym (append_assoc h.0 h.3.0 h.3.1), h.3.3)
+
+-- where P needs a first element and Q holds of what follows it
+module _ {X : Type 0} (P Q : List X → Type 0) (never : P [] → ⊥) (step : (x : X) (xs : List X) → P (x ∷ xs) → Q xs) where
+  drop_rest : (a b xs : List X) → xs ≡ a ++ b → P b → After Q xs
+  drop_rest a [] xs e f = absurd (never f)
+  drop_rest a (y ∷ ys) xs e f = (a ++ (y ∷ []), ys, e ∙ sym (append_assoc a (y ∷ []) ys), step y ys f)
+
+  drop_from : (x : X) (xs a b : List X) → x ∷ xs ≡ a ++ b → P b → After Q xs
+  drop_from x xs [] [] e f = cc
+  drop_from x xs [] (y ∷ ys) e f =
+      let same : xs ≡ ys = cc in
+      subst (λ (l : List X). After Q l) (sym same) (after_none Q ys (step y ys f))
+  drop_from x xs (z ∷ a) b e f = drop_rest a b xs (cc) f
+
+  pub after_drop : (x : X) (xs : List X) → After P (x ∷ xs) → After Q xs
+  after_drop x xs h = drop_from x xs h.0 h.1 h.2 h.3

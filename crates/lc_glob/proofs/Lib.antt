@@ -1,0 +1,14 @@
+pub mod Fitting
+pub mod Stepping
+pub mod Naming
+pub mod After
+pub mod Spelling
+pub mod Cost
+pub mod Striding
+pub mod Rows
+pub mod Items
+pub mod Parts
+pub mod Fronts
+pub mod Bounds
+pub mod Matching
+pub mod Ends

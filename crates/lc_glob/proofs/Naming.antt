@@ -1,0 +1,72 @@
+-- The first name of a path, by the place of its first slash.
+use Rattle.std.proofs.Common.{length-drop, ◌≡◌, ◌↔◌, ◌<◌, ◌+◌, ◌-◌, ℕ, Bool, true, false, IsTrue, nat_eq, List, [], ◌∷◌, ◌++◌, length, take, drop, get_or, refl, sym, ◌∙◌, ap, subst, Option, Some, None, arith, suc, zero}
+use Rattle.std.specs.List.{onto_first, position_or_len, All}
+use Rattle.std.specs.Borrow.{Bor}
+use Rattle.std.proofs.lemmas.List.Splits.{slice_split_none, slice_split_first, slice_split-cons_yes, slice_split-cons_no, length-slice_split}
+use Rattle.std.proofs.lemmas.List.Sums.{position_or_len_is}
+use Rattle.std.proofs.lemmas.List.{take_rest, take-append-drop, drop_more, get_or-drop}
+use Rattle.memchr.specs.Find.{IsFirstByte, IsLastByte, is_byte}
+use Rattle.lc_glob.specs.Path.{segments_of}
+use Rattle.lc_glob.specs.Names.{names_of}
+
+never_true : (t : Bool) → (t ≡ true → ⊥) → t ≡ false
+never_true true h = absurd (h refl)
+never_true false h = refl
+
+pub some_segment : (bytes : List ℕ) → segments_of bytes ≡ [] → ⊥
+some_segment bytes e =
+    let h = length-slice_split (λ (b : ℕ). nat_eq b 47) bytes in
+    let z : length (segments_of bytes) ≡ 0 = ap length e in omega (arith, h, z)
+
+pub none_left : (rest : Option (Bor (List ℕ))) → rest ≡ None → IsTrue true ↔ (names_of rest ≡ [])
+none_left rest e = (λ h. ap names_of e, λ h. refl)
+
+pub some_left : (rest : Option (Bor (List ℕ))) (bytes : Bor (List ℕ)) → rest ≡ Some bytes → IsTrue false ↔ (names_of rest ≡ [])
+some_left rest bytes e = (λ h. cc, λ h. absurd (some_segment bytes.now (sym (ap names_of e) ∙ h)))
+
+same_read : (xs : List ℕ) (k d : ℕ) → k < length xs → get_or xs k d ≡ get_or xs k 0
+same_read [] k d h = absurd (omega arith)
+same_read (x ∷ xs) zero d h = refl
+same_read (x ∷ xs) (suc k) d h = same_read xs k d (omega arith)
+
+pub no_slash : (bytes : List ℕ) → IsFirstByte (is_byte 47) bytes None → segments_of bytes ≡ bytes ∷ []
+no_slash bytes h = slice_split_none (λ (b : ℕ). nat_eq b 47) bytes (λ k d l. never_true _ (λ t. h k (omega arith) l (subst (λ (x : ℕ). nat_eq x 47 ≡ true) (same_read bytes k d l) t)))
+
+pub at_slash : (bytes : List ℕ) (i : ℕ) → IsFirstByte (is_byte 47) bytes (Some i) → segments_of bytes ≡ take i bytes ∷ segments_of (take (length bytes - (i + 1)) (drop (i + 1) bytes))
+at_slash bytes i h =
+    let p = λ (b : ℕ). nat_eq b 47 in
+    let below : i < length bytes = h.0.high in
+    let at : position_or_len p bytes ≡ i = position_or_len_is p bytes i 0 (omega arith) (λ k l. never_true _ (h.0.before k (omega arith) l)) (λ _. h.1) in
+    let first = slice_split_first p bytes 0 (subst (λ (n : ℕ). n < length bytes) (sym at) below) in
+    rw take_rest (subst (λ (n : ℕ). segments_of bytes ≡ take n bytes ∷ segments_of (drop (n + 1) bytes)) at first)
+
+onto_end : (x : ℕ) (parts : List (List ℕ)) (ys : List ℕ) → (parts ≡ [] → ⊥) → onto_first x (parts ++ ys ∷ []) ≡ onto_first x parts ++ ys ∷ []
+onto_end x [] ys some = absurd (some refl)
+onto_end x (p ∷ parts) ys some = refl
+
+-- the last part begins after the last slash
+split_end : (xs : List ℕ) (y : ℕ) (ys : List ℕ) → nat_eq y 47 ≡ true → All (λ b. nat_eq b 47 ≡ false) ys → segments_of (xs ++ y ∷ ys) ≡ segments_of xs ++ ys ∷ []
+split_end [] y ys e none = slice_split-cons_yes (λ (b : ℕ). nat_eq b 47) y ys e ∙ ap (λ (l : List (List ℕ)). [] ∷ l) (slice_split_none (λ (b : ℕ). nat_eq b 47) ys none)
+split_end (x ∷ xs) y ys e none = at (nat_eq x 47) refl (split_end xs y ys e none)
+  where
+    at : (t : Bool) → nat_eq x 47 ≡ t → segments_of (xs ++ y ∷ ys) ≡ segments_of xs ++ ys ∷ [] → segments_of (x ∷ xs ++ y ∷ ys) ≡ segments_of (x ∷ xs) ++ ys ∷ []
+    at true s before =
+        slice_split-cons_yes (λ (b : ℕ). nat_eq b 47) x (xs ++ y ∷ ys) s ∙ ap (λ (l : List (List ℕ)). [] ∷ l) before
+        ∙ ap (λ (l : List (List ℕ)). l ++ ys ∷ []) (sym (slice_split-cons_yes (λ (b : ℕ). nat_eq b 47) x xs s))
+    at false s before =
+        slice_split-cons_no (λ (b : ℕ). nat_eq b 47) x (xs ++ y ∷ ys) s ∙ ap (onto_first x) before
+        ∙ onto_end x (segments_of xs) ys (some_segment xs)
+        ∙ ap (λ (l : List (List ℕ)). l ++ ys ∷ []) (sym (slice_split-cons_no (λ (b : ℕ). nat_eq b 47) x xs s))
+
+pub no_last_slash : (bytes : List ℕ) → IsLastByte (is_byte 47) bytes None → segments_of bytes ≡ bytes ∷ []
+no_last_slash bytes h = no_slash bytes h
+
+pub at_last_slash : (bytes : List ℕ) (i : ℕ) → IsLastByte (is_byte 47) bytes (Some i) → segments_of bytes ≡ segments_of (take i bytes) ++ take (length bytes - (i + 1)) (drop (i + 1) bytes) ∷ []
+at_last_slash bytes i h =
+    let below : i < length bytes = h.0.high in
+    let cut : take i bytes ++ get_or bytes i 0 ∷ drop (i + 1) bytes ≡ bytes = ap (λ (l : List ℕ). take i bytes ++ l) (sym (drop_more bytes i 0 below)) ∙ take-append-drop i bytes in
+    let none : All (λ (b : ℕ). nat_eq b 47 ≡ false) (drop (i + 1) bytes) =
+    λ k d l.
+    let inside : i + 1 + k < length bytes = omega (arith, length-drop (i + 1) bytes) in
+    never_true _ (λ t. h.0.after (i + 1 + k) (omega arith) inside (subst (λ (x : ℕ). nat_eq x 47 ≡ true) (get_or-drop (i + 1) bytes k d ∙ same_read bytes (i + 1 + k) d inside) t)) in
+    rw take_rest (sym (ap segments_of cut) ∙ split_end (take i bytes) (get_or bytes i 0) (drop (i + 1) bytes) h.1 none)

@@ -1,0 +1,15 @@
+pub mod Bytes
+pub mod Units
+pub mod Fits
+pub mod Patterns
+pub mod Path
+pub mod Matches
+pub mod IsMatch
+pub mod Brackets
+pub mod Reading
+pub mod Views
+pub mod Tokens
+pub mod Names
+pub mod BracketSteps
+pub mod Steps
+pub mod Strides

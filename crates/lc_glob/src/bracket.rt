@@ -1,0 +1,201 @@
+// What stands between brackets, read from its bytes.
+
+ghost use Rattle.std.specs.Prelude.{◌≡◌, ◌<◌, ◌≤◌, ◌+◌, length, [], ◌∷◌, MatchOption, IfOk, IfSome, Some, None, true, not, ◌&&◌, ◌==◌};
+ghost use Rattle.std.specs.List.{position_or_len};
+ghost use Rattle.lc_glob.specs.Bytes.{opening, closing};
+ghost use Rattle.lc_glob.specs.Brackets.{element, range_from, class_of, item, plain_item, colon_item, items, bracket};
+ghost use Rattle.lc_glob.specs.BracketSteps.{IsNoClass, IsDeadClass, IsClassItem, PushesItem};
+ghost use Rattle.lc_glob.specs.Units.{set};
+
+use crate::byte_set::ByteSet;
+use memchr::memchr;
+use std::alloc::{AllocError, Global};
+
+/// An element that begins with the byte `b`, and how many of the bytes after it are taken.
+fn element_at(b: u8, rest: &[u8]) -> Option<(u8, usize)>
+    ensures is { result ≡ element b rest.now }
+    ensures within { IfSome result (λ r. (r.1 ≤ length rest.now) × (r.1 ≤ 1)) }
+{
+    if b != b'\\' {
+        return Some((b, 0));
+    }
+    let (c, _) = rest.split_first()?;
+    Some((*c, 1))
+}
+
+/// The element `x`, after which `taken` bytes are used, and perhaps a range from it.
+fn range_at(x: u8, taken: usize, rest: &[u8]) -> Option<((u8, u8), usize)>
+    requires { taken ≤ 1 }
+    ensures is { MatchOption result (range_from x taken rest.now ≡ None) (λ r. range_from x taken rest.now ≡ Some (r.0 ∷ [], r.1)) }
+    ensures within { IfSome result (λ r. (r.1 ≤ taken + length rest.now) × (r.1 ≤ 4)) }
+{
+    let Some((d, after)) = rest.split_first() else {
+        return Some(((x, x), taken));
+    };
+    let Some((c, others)) = after.split_first() else {
+        return Some(((x, x), taken));
+    };
+    if *d != b'-' || *c == b']' {
+        return Some(((x, x), taken));
+    }
+    let (y, more) = element_at(*c, others)?;
+    Some(((x, x.max(y)), taken + 2 + more))
+}
+
+/// The ranges of a class.
+fn class_at(name: &[u8]) -> Option<&'static [(u8, u8)]>
+    ensures { MatchOption result (class_of name.now ≡ None) (λ r. class_of name.now ≡ Some r.now) }
+{
+    if name == b"alpha".as_slice() {
+        Some(&[(65, 90), (97, 122)])
+    } else if name == b"lower".as_slice() {
+        Some(&[(97, 122)])
+    } else if name == b"upper".as_slice() {
+        Some(&[(65, 90)])
+    } else if name == b"digit".as_slice() {
+        Some(&[(48, 57)])
+    } else if name == b"xdigit".as_slice() {
+        Some(&[(48, 57), (65, 70), (97, 102)])
+    } else if name == b"alnum".as_slice() {
+        Some(&[(48, 57), (65, 90), (97, 122)])
+    } else if name == b"blank".as_slice() {
+        Some(&[(32, 32), (9, 9)])
+    } else if name == b"space".as_slice() {
+        Some(&[(32, 32), (9, 13)])
+    } else if name == b"cntrl".as_slice() {
+        Some(&[(0, 31), (127, 127)])
+    } else if name == b"graph".as_slice() {
+        Some(&[(33, 126)])
+    } else if name == b"print".as_slice() {
+        Some(&[(32, 126)])
+    } else if name == b"punct".as_slice() {
+        Some(&[(33, 47), (58, 64), (91, 96), (123, 126)])
+    } else {
+        None
+    }
+}
+
+/// The ranges of a class item whose `[:` is followed by `rest`, where `place` is that of its first close.
+/// The outer `None` says that the bracket is dead, the inner one that `[` is an ordinary byte.
+fn class_item_at(rest: &[u8], place: usize) -> Option<Option<(&'static [(u8, u8)], usize)>>
+    requires { place < length rest.now }
+    ensures is { MatchOption result (IsDeadClass rest.now place) (λ o. MatchOption o (IsNoClass rest.now place) (λ r. IsClassItem rest.now place r.0.now r.1)) }
+    ensures within { IfSome result (λ o. IfSome o (λ r. r.1 ≤ length rest.now + 1)) }
+{
+    if place == 0 || rest[place - 1] != b':' {
+        return Some(None);
+    }
+    let ranges = class_at(&rest[..place - 1])?;
+    Some(Some((ranges, place + 2)))
+}
+
+/// Pushes the range of an item that is an element or a range, and says how many bytes after `b` it takes.
+fn push_plain(b: u8, rest: &[u8], ranges: &mut Vec<(u8, u8)>) -> Result<Option<usize>, AllocError>
+    ensures is { IfOk result (λ r. PushesItem (plain_item b rest.now) ranges.old.items ranges.new.items r) }
+    ensures within { IfOk result (λ r. IfSome r (λ k. k ≤ length rest.now)) }
+{
+    let Some((x, used)) = element_at(b, rest) else {
+        return Ok(None);
+    };
+    let Some((range, taken)) = range_at(x, used, &rest[used..]) else {
+        return Ok(None);
+    };
+    ranges.push(range)?;
+    Ok(Some(taken))
+}
+
+/// The place of the first close, or the length.
+fn first_close(bytes: &[u8]) -> usize
+    ensures is { result ≡ position_or_len (λ d. d == closing) bytes.now }
+    ensures within { result ≤ length bytes.now }
+{
+    match memchr(b']', bytes) {
+        None => bytes.len(),
+        Some(place) => place,
+    }
+}
+
+/// Pushes the ranges of an item `[:`, which `rest` begins after the bracket, and says how many bytes of it are taken.
+fn push_colon(
+    rest: &[u8],
+    after: &[u8],
+    ranges: &mut Vec<(u8, u8)>,
+) -> Result<Option<usize>, AllocError>
+    requires { length after.now + 1 ≡ length rest.now }
+    ensures is { IfOk result (λ r. PushesItem (colon_item (position_or_len (λ d. d == closing) after.now) after.now (plain_item opening rest.now)) ranges.old.items ranges.new.items r) }
+    ensures within { IfOk result (λ r. IfSome r (λ k. k ≤ length rest.now)) }
+{
+    let place = first_close(after);
+    if place == after.len() {
+        return Ok(None);
+    }
+    let Some(found) = class_item_at(after, place) else {
+        return Ok(None);
+    };
+    let Some((class, taken)) = found else {
+        return push_plain(b'[', rest, ranges);
+    };
+    ranges.extend_from_slice(class)?;
+    Ok(Some(taken))
+}
+
+fn push_item(b: u8, rest: &[u8], ranges: &mut Vec<(u8, u8)>) -> Result<Option<usize>, AllocError>
+    ensures is { IfOk result (λ r. PushesItem (item b rest.now) ranges.old.items ranges.new.items r) }
+    ensures within { IfOk result (λ r. IfSome r (λ k. k ≤ length rest.now)) }
+{
+    let Some((c, after)) = rest.split_first() else {
+        return push_plain(b, rest, ranges);
+    };
+    if b == b'[' && *c == b':' {
+        push_colon(rest, after, ranges)
+    } else {
+        push_plain(b, rest, ranges)
+    }
+}
+
+fn closes(b: u8, first: bool) -> bool
+    ensures { result ≡ (b == closing && not first) }
+{
+    b == b']' && !first
+}
+
+/// Reads the items up to the close: their ranges, and the number of bytes taken, the close too.
+fn read_items(alloc: Global, bytes: &[u8]) -> Result<Option<(Vec<(u8, u8)>, usize)>, AllocError>
+    ensures is { IfOk result (λ r. MatchOption r (items true 0 bytes.now ≡ None) (λ p. items true 0 bytes.now ≡ Some (p.0.items, p.1))) }
+    ensures within { IfOk result (λ r. IfSome r (λ p. p.1 ≤ length bytes.now)) }
+{
+    let mut ranges = Vec::new(alloc);
+    let mut left = bytes;
+    let mut first = true;
+    'items: loop {
+        let Some((b, rest)) = left.split_first() else {
+            return Ok(None);
+        };
+        if closes(*b, first) {
+            return Ok(Some((ranges, bytes.len() - rest.len())));
+        }
+        let Some(taken) = push_item(*b, rest, &mut ranges)? else {
+            return Ok(None);
+        };
+        left = &rest[taken..];
+        first = false;
+    }
+}
+
+/// The set whose bracket opened before these bytes, and how many of them are taken.
+pub(crate) fn read_bracket(
+    alloc: Global,
+    bytes: &[u8],
+) -> Result<Option<(ByteSet, usize)>, AllocError>
+    ensures is { IfOk result (λ r. MatchOption r (bracket bytes.now ≡ None) (λ p. bracket bytes.now ≡ Some (set p.0.negated p.0.ranges.items, p.1))) }
+    ensures within { IfOk result (λ r. IfSome r (λ p. p.1 ≤ length bytes.now)) }
+{
+    let Some((b, rest)) = bytes.split_first() else {
+        return Ok(None);
+    };
+    let negated = *b == b'!' || *b == b'^';
+    let Some((ranges, taken)) = read_items(alloc, if negated { rest } else { bytes })? else {
+        return Ok(None);
+    };
+    Ok(Some((ByteSet { negated, ranges }, taken + usize::from(negated))))
+}

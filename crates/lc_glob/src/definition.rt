@@ -1,0 +1,58 @@
+// The definitions of a match as programs: each cut and each run is tried in turn.
+//
+// The depth of their calls grows with pattern and path, and their time with the number of cuts, so only tests run them,
+// to compare the steppers with.
+
+ghost use Rattle.std.specs.Prelude.{◌↔◌, IsTrue, map};
+ghost use Rattle.lc_glob.specs.Fits.{Fits};
+ghost use Rattle.lc_glob.specs.Matches.{Spells};
+ghost use Rattle.lc_glob.specs.Names.{names_left};
+ghost use Rattle.lc_glob.specs.Views.{unit_of, segment_of};
+
+use crate::name::{Name, Tests};
+use crate::names::Names;
+use crate::piece::Piece;
+use crate::segment::Segment;
+
+/// Whether the pieces fit the name, by trying each cut.
+pub(crate) fn fits(pieces: &[Piece], name: &[u8]) -> bool
+    ensures { IsTrue result ↔ Fits (map unit_of pieces.now) name.now }
+{
+    let Some((piece, rest)) = pieces.split_first() else {
+        return name.is_empty();
+    };
+    let Some((b, others)) = name.split_first() else {
+        return piece.is_star() && fits(rest, name);
+    };
+    if piece.is_star() {
+        fits(rest, name) || fits(pieces, others)
+    } else {
+        piece.takes(*b) && fits(rest, others)
+    }
+}
+
+/// Whether the segments spell the names, by trying each run of names for each double star.
+pub(crate) fn spells(segments: &[Segment], path: Names) -> bool
+    ensures { IsTrue result ↔ Spells (map segment_of segments.now) (names_left path.entry) }
+{
+    let Some((segment, rest)) = segments.split_first() else {
+        return path.is_over();
+    };
+    let Some((name, others)) = path.split_first() else {
+        return match segment {
+            Segment::Plain(_) => false,
+            Segment::DoubleStar => !rest.is_empty() && spells(rest, path),
+        };
+    };
+    match segment {
+        Segment::Plain(pieces) => {
+            crate::fit::fits_stepping(pieces, name, &mut Tests::none()) && spells(rest, others)
+        }
+        Segment::DoubleStar => {
+            if rest.is_empty() || spells(rest, path) {
+                return true;
+            }
+            spells(segments, others)
+        }
+    }
+}

@@ -1,0 +1,67 @@
+// One segment of a path, whose bytes are seen only through a test that is counted.
+
+ghost use Rattle.std.specs.Prelude.{◌≡◌, ◌↔◌, ◌<◌, ◌+◌, ◌^◌, ◌-◌, min, IsTrue, length, slice_index, drop};
+ghost use Rattle.lc_glob.specs.Units.{takes};
+ghost use Rattle.lc_glob.specs.Views.{unit_of};
+
+use crate::piece::Piece;
+
+/// How many bytes were tested. The number stops at the greatest `u64`.
+#[derive(Debug, Drop)]
+pub(crate) struct Tests {
+    made: u64,
+}
+
+impl Tests {
+    pub(crate) fn none() -> Self
+        ensures { result.made ≡ 0 }
+    {
+        Tests { made: 0 }
+    }
+
+    pub(crate) fn made(&self) -> u64
+        ensures { result ≡ self.now.made }
+    {
+        self.made
+    }
+}
+
+/// A segment of a path, or what is left of one. Only `front_is_taken` looks at its bytes.
+#[derive(Clone, Copy, Debug)]
+pub(crate) struct Name<'a> {
+    bytes: &'a [u8],
+}
+
+impl<'a> Name<'a> {
+    pub(crate) fn new(bytes: &'a [u8]) -> Self
+        ensures { result.bytes.now ≡ bytes.now }
+    {
+        Name { bytes }
+    }
+
+    pub(crate) fn is_empty(self) -> bool
+        ensures { IsTrue result ↔ (length self.entry.bytes.now ≡ 0) }
+    {
+        self.bytes.is_empty()
+    }
+
+    /// The name without its first byte.
+    pub(crate) fn rest(self) -> Self
+        requires { 0 < length self.bytes.now }
+        ensures { result.bytes.now ≡ drop 1 self.entry.bytes.now }
+    {
+        Name {
+            bytes: &self.bytes[1..],
+        }
+    }
+
+    /// The byte test: whether a piece that is no star stands for the first byte.
+    pub(crate) fn front_is_taken(self, piece: &Piece, tests: &mut Tests) -> bool
+        requires { 0 < length self.bytes.now }
+        ensures taken { result ≡ takes (unit_of piece.now) (slice_index self.entry.bytes.now 0) }
+        ensures counted { tests.new.made ≡ min (tests.old.made + 1) (2 ^ 64 - 1) }
+    {
+        tests.made = tests.made.saturating_add(1);
+        piece.takes(self.bytes[0])
+    }
+}

@@ -1,0 +1,1 @@
+// Worked examples, and what no contract says.
