@@ -1,5 +1,5 @@
 -- What holds of some rest of a list.
-use Rattle.std.proofs.Common.{◌≡◌, ◌⊎◌, List, [], ◌∷◌, ◌++◌, inl, inr, refl, sym, ◌∙◌, subst, ap, append_assoc}
+use Rattle.std.proofs.Common.{◌≡◌, ◌↔◌, ◌⊎◌, List, [], ◌∷◌, ◌++◌, inl, inr, refl, sym, ◌∙◌, subst, ap, append_assoc}
 
 abbrev pub After : {X : Type 0} → (List X → Type 0) → List X → Type 0
 After {X} P xs = (a b : List X) × (xs ≡ a ++ b) × P b
@@ -45,6 +45,24 @@ module _ {X : Type 0} (P : List X → Type 0) where
 
   pub after_after : (xs : List X) → After (After P) xs → After P xs
   after_after xs h = (h.0 ++ h.3.0, h.3.1, h.2 ∙ ap (λ (l : List X). h.0 ++ l) h.3.2 ∙ sym (append_assoc h.0 h.3.0 h.3.1), h.3.3)
+
+-- a list with a last element, cut in two: the cut comes after it, or before it
+cut_end : {X : Type 0} (a c b : List X) (n : X) → a ++ n ∷ [] ≡ c ++ b → (b ≡ []) ⊎ ((d : List X) × (b ≡ d ++ n ∷ []) × (a ≡ c ++ d))
+cut_end a [] b n e = inr (a, sym e, refl)
+cut_end [] (z ∷ []) b n e = inl (cc)
+cut_end [] (z ∷ y ∷ c) b n e = cc
+cut_end (x ∷ a) (z ∷ c) b n e =
+    elim (cut_end a c b n (cc)) [
+      | inl none ↦ inl none
+      | inr h ↦ inr (h.0, h.1, (cc))
+    ]
+
+-- what holds of a rest that keeps the last element, where P needs one and holds before it just where Q does
+pub after_end : {X : Type 0} (P Q : List X → Type 0) (n : X) → (P [] → ⊥) → ((b : List X) → P (b ++ n ∷ []) ↔ Q b) → (a : List X) → After P (a ++ n ∷ []) ↔ After Q a
+after_end {X = X} P Q n never same a = (
+  λ h. elim (cut_end a h.0 h.1 n h.2) [ inl none ↦ absurd (never (subst P none h.3)) | inr d ↦ (h.0, d.0, d.2, (same d.0).0 (subst P d.1 h.3)) ],
+  λ h. (h.0, h.1 ++ n ∷ [], ap (λ (l : List X). l ++ n ∷ []) h.2 ∙ append_assoc h.0 h.1 (n ∷ []), (same h.1).1 h.3),
+)
 
 -- where P needs a first element and Q holds of what follows it
 module _ {X : Type 0} (P Q : List X → Type 0) (never : P [] → ⊥) (step : (x : X) (xs : List X) → P (x ∷ xs) → Q xs) where

@@ -12,3 +12,4 @@ pub mod Fronts
 pub mod Bounds
 pub mod Matching
 pub mod Ends
+pub mod Leading

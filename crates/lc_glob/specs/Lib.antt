@@ -13,3 +13,5 @@ pub mod Names
 pub mod BracketSteps
 pub mod Steps
 pub mod Strides
+pub mod Leads
+pub mod Endings

@@ -5,16 +5,14 @@
 
 ghost use Rattle.std.specs.Prelude.{◌↔◌, IsTrue, map};
 ghost use Rattle.lc_glob.specs.Fits.{Fits};
-ghost use Rattle.lc_glob.specs.Matches.{Spells};
-ghost use Rattle.lc_glob.specs.Names.{names_left};
+ghost use Rattle.lc_glob.specs.Matches.{Spells, FitsLast};
+ghost use Rattle.lc_glob.specs.Names.{bytes_of};
 ghost use Rattle.lc_glob.specs.Views.{unit_of, segment_of};
 
-use crate::name::{Name, Tests};
-use crate::names::Names;
 use crate::piece::Piece;
 use crate::segment::Segment;
 
-/// Whether the pieces fit the name, by trying each cut.
+/// Whether the pieces fit the name, by trying each cut for each star.
 pub(crate) fn fits(pieces: &[Piece], name: &[u8]) -> bool
     ensures { IsTrue result ↔ Fits (map unit_of pieces.now) name.now }
 {
@@ -32,24 +30,22 @@ pub(crate) fn fits(pieces: &[Piece], name: &[u8]) -> bool
 }
 
 /// Whether the segments spell the names, by trying each run of names for each double star.
-pub(crate) fn spells(segments: &[Segment], path: Names) -> bool
-    ensures { IsTrue result ↔ Spells (map segment_of segments.now) (names_left path.entry) }
+pub(crate) fn spells(segments: &[Segment], names: &[&[u8]]) -> bool
+    ensures { IsTrue result ↔ Spells (map segment_of segments.now) (map bytes_of names.now) }
 {
     let Some((segment, rest)) = segments.split_first() else {
-        return path.is_over();
+        return names.is_empty();
     };
-    let Some((name, others)) = path.split_first() else {
+    let Some((name, others)) = names.split_first() else {
         return match segment {
             Segment::Plain(_) => false,
-            Segment::DoubleStar => !rest.is_empty() && spells(rest, path),
+            Segment::DoubleStar => !rest.is_empty() && spells(rest, names),
         };
     };
     match segment {
-        Segment::Plain(pieces) => {
-            crate::fit::fits_stepping(pieces, name, &mut Tests::none()) && spells(rest, others)
-        }
+        Segment::Plain(pieces) => fits(pieces, name) && spells(rest, others),
         Segment::DoubleStar => {
-            if rest.is_empty() || spells(rest, path) {
+            if rest.is_empty() || spells(rest, names) {
                 return true;
             }
             spells(segments, others)

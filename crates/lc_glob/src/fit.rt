@@ -1,12 +1,34 @@
 // Whether a segment's units fit a name, with one place to go back to.
 
-ghost use Rattle.std.specs.Prelude.{◌≡◌, ◌↔◌, ◌≤◌, ◌+◌, ◌*◌, IsTrue, map, length};
+ghost use Rattle.std.specs.Prelude.{◌≡◌, ◌↔◌, ◌≤◌, ◌+◌, ◌*◌, IsTrue, IsFalse, map, length};
 ghost use Rattle.lc_glob.specs.Fits.{Fits};
 ghost use Rattle.lc_glob.specs.Views.{unit_of};
 ghost use Rattle.lc_glob.specs.Steps.{StepIs};
 
 use crate::name::{Name, Tests};
 use crate::piece::Piece;
+
+/// Whether the pieces fit the name.
+pub(crate) fn fits(pieces: &[Piece], name: Name, tests: &mut Tests) -> bool
+    ensures fits { IsTrue result ↔ Fits (map unit_of pieces.now) name.entry.bytes.now }
+    ensures cost { tests.new.made ≤ tests.old.made + (length pieces.now + 1) * (length name.entry.bytes.now + 1) }
+{
+    may_end(pieces, name, tests) && fits_stepping(pieces, name, tests)
+}
+
+/// An early look: whether the last piece lets the pieces fit the name. Most names that don't fit end here.
+fn may_end(pieces: &[Piece], name: Name, tests: &mut Tests) -> bool
+    ensures may { IsFalse result → Fits (map unit_of pieces.now) name.entry.bytes.now → ⊥ }
+    ensures cost { tests.new.made ≤ tests.old.made + 1 }
+{
+    let Some((last, _)) = pieces.split_last() else {
+        return true;
+    };
+    if last.is_star() {
+        return true;
+    }
+    !name.is_empty() && name.back_is_taken(last, tests)
+}
 
 /// What the front of the pieces does with the front of the name.
 enum Step<'p, 'n> {
@@ -49,7 +71,7 @@ struct Back<'p, 'n> {
 }
 
 /// Whether the pieces fit the name, with one place to go back to.
-pub(crate) fn fits_stepping(pieces: &[Piece], name: Name, tests: &mut Tests) -> bool
+fn fits_stepping(pieces: &[Piece], name: Name, tests: &mut Tests) -> bool
     ensures fits { IsTrue result ↔ Fits (map unit_of pieces.now) name.entry.bytes.now }
     ensures cost { tests.new.made ≤ tests.old.made + (length name.entry.bytes.now * (length pieces.now + 1) + length pieces.now) }
 {

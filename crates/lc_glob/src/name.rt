@@ -26,7 +26,7 @@ impl Tests {
     }
 }
 
-/// A segment of a path, or what is left of one. Only `front_is_taken` looks at its bytes.
+/// A segment of a path, or what is left of one. Only the two byte tests, which are counted, look at its bytes.
 #[derive(Clone, Copy, Debug)]
 pub(crate) struct Name<'a> {
     bytes: &'a [u8],
@@ -55,7 +55,17 @@ impl<'a> Name<'a> {
         }
     }
 
-    /// The byte test: whether a piece that is no star stands for the first byte.
+    /// A byte test: whether a piece that is no star stands for the last byte.
+    pub(crate) fn back_is_taken(self, piece: &Piece, tests: &mut Tests) -> bool
+        requires { 0 < length self.bytes.now }
+        ensures taken { result ≡ takes (unit_of piece.now) (slice_index self.entry.bytes.now (length self.entry.bytes.now - 1)) }
+        ensures counted { tests.new.made ≡ min (tests.old.made + 1) (2 ^ 64 - 1) }
+    {
+        tests.made = tests.made.saturating_add(1);
+        piece.takes(self.bytes[self.bytes.len() - 1])
+    }
+
+    /// A byte test: whether a piece that is no star stands for the first byte.
     pub(crate) fn front_is_taken(self, piece: &Piece, tests: &mut Tests) -> bool
         requires { 0 < length self.bytes.now }
         ensures taken { result ≡ takes (unit_of piece.now) (slice_index self.entry.bytes.now 0) }

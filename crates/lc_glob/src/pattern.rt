@@ -2,19 +2,16 @@
 
 ghost use Rattle.std.specs.Prelude.{◌≡◌, ◌↔◌, ◌≤◌, ◌+◌, ◌*◌, IsTrue, length, List, ℕ, IfOk, map};
 ghost use Rattle.lc_glob.specs.IsMatch.{is_match, IsMatchDecides};
-ghost use Rattle.lc_glob.specs.Matches.{Matches, FitsLast};
-ghost use Rattle.lc_glob.specs.Names.{names_left};
+ghost use Rattle.lc_glob.specs.Matches.{Matches};
 ghost use Rattle.lc_glob.specs.Path.{segments_of};
 ghost use Rattle.lc_glob.specs.Reading.{pattern_of};
 ghost use Rattle.lc_glob.specs.Strides.{weights, sizes};
-ghost use Rattle.lc_glob.specs.Views.{segment_of};
 
-use crate::fit::fits_stepping;
 use crate::name::Tests;
 use crate::names::Names;
 use crate::reading::read_pattern;
 use crate::segment::Segment;
-use crate::spell::spells_stepping;
+use crate::spell::{fits_last, spells};
 use std::alloc::{AllocError, Global};
 use std::marker::Model;
 
@@ -94,32 +91,12 @@ impl Pattern {
         }
         let mut tests = Tests::none();
         let found = if self.is_anchored {
-            spells_stepping(&self.segments, Names::of(path), &mut tests)
+            spells(&self.segments, Names::of(path), &mut tests)
         } else {
             fits_last(&self.segments, Names::of(path), &mut tests)
         };
         (found, tests.made())
     }
-}
-
-/// Whether the one segment fits the last of the names.
-fn fits_last(segments: &[Segment], names: Names, tests: &mut Tests) -> bool
-    ensures fits { IsTrue result ↔ FitsLast (map segment_of segments.now) (names_left names.entry) }
-    ensures cost { tests.new.made ≤ tests.old.made + weights (map segment_of segments.now) * sizes (names_left names.entry) }
-{
-    let Some((segment, rest)) = segments.split_first() else {
-        return false;
-    };
-    let Segment::Plain(pieces) = segment else {
-        return false;
-    };
-    if !rest.is_empty() {
-        return false;
-    }
-    let Some((_, name)) = names.split_last() else {
-        return false;
-    };
-    fits_stepping(pieces, name, tests)
 }
 
 /// The law that the test that computes, `is_match`, tells exactly what the relation `Matches` says.

@@ -1,21 +1,123 @@
-// Whether a pattern's segments spell a path's, with one place to go back to.
+// Whether a pattern's segments spell a path's.
+//
+// What stands after the last double star is compared from the end of the path, so that it costs no more than the
+// pattern is long. Only what stands before it is looked for, from the front, with one place to go back to: the last
+// double star that was passed, since the shortest run that serves one serves all before it.
 
-ghost use Rattle.std.specs.Prelude.{◌↔◌, ◌≤◌, ◌+◌, ◌*◌, IsTrue, map};
-ghost use Rattle.lc_glob.specs.Matches.{Spells};
+ghost use Rattle.std.specs.Prelude.{◌≡◌, ◌↔◌, ◌≤◌, ◌+◌, ◌*◌, IsTrue, map};
+ghost use Rattle.lc_glob.specs.Matches.{Spells, FitsLast};
+ghost use Rattle.lc_glob.specs.Leads.{Leads, ends_double};
 ghost use Rattle.lc_glob.specs.Names.{names_left};
+ghost use Rattle.lc_glob.specs.Endings.{EndingIs, cost_after};
 ghost use Rattle.lc_glob.specs.Strides.{StrideIs, front_cost, weights, sizes};
 ghost use Rattle.lc_glob.specs.Views.{segment_of};
 
-use crate::fit::fits_stepping;
+use crate::fit::fits;
 use crate::name::Tests;
 use crate::names::Names;
 use crate::segment::Segment;
+
+/// Whether the one segment fits the last of the names.
+pub(crate) fn fits_last(segments: &[Segment], names: Names, tests: &mut Tests) -> bool
+    ensures fits { IsTrue result ↔ FitsLast (map segment_of segments.now) (names_left names.entry) }
+    ensures cost { tests.new.made ≤ tests.old.made + weights (map segment_of segments.now) * sizes (names_left names.entry) }
+{
+    let Some((segment, rest)) = segments.split_first() else {
+        return false;
+    };
+    let Segment::Plain(pieces) = segment else {
+        return false;
+    };
+    if !rest.is_empty() {
+        return false;
+    }
+    let Some((_, name)) = names.split_last() else {
+        return false;
+    };
+    fits(pieces, name, tests)
+}
+
+/// Whether the segments spell the names.
+pub(crate) fn spells(segments: &[Segment], path: Names, tests: &mut Tests) -> bool
+    ensures spells { IsTrue result ↔ Spells (map segment_of segments.now) (names_left path.entry) }
+    ensures cost { tests.new.made ≤ tests.old.made + weights (map segment_of segments.now) * sizes (names_left path.entry) }
+{
+    if !ends_in_double_star(segments) {
+        return leads_from_end(segments, path, tests);
+    }
+    // That double star gives at least one name, which may as well be the last.
+    let Some((above, _)) = path.split_last() else {
+        return false;
+    };
+    leads_from_front(segments, above, tests)
+}
+
+fn ends_in_double_star(segments: &[Segment]) -> bool
+    ensures { result ≡ ends_double (map segment_of segments.now) }
+{
+    let Some((last, _)) = segments.split_last() else {
+        return false;
+    };
+    matches!(last, Segment::DoubleStar)
+}
+
+/// What the last of the segments does with the last of the names.
+enum Ending<'p, 'n> {
+    Double,
+    Taken(&'p [Segment], Names<'n>),
+    Arrived,
+    Blocked,
+}
+
+fn ending_at<'p, 'n>(here: &'p [Segment], left: Names<'n>, tests: &mut Tests) -> Ending<'p, 'n>
+    ensures is { EndingIs result (map segment_of here.now) (names_left left.entry) }
+    ensures cost { tests.new.made + cost_after result (weights (map segment_of here.now) * sizes (names_left left.entry)) ≤ tests.old.made + weights (map segment_of here.now) * sizes (names_left left.entry) }
+{
+    let Some((segment, rest)) = here.split_last() else {
+        return if left.is_over() {
+            Ending::Arrived
+        } else {
+            Ending::Blocked
+        };
+    };
+    let Segment::Plain(pieces) = segment else {
+        return Ending::Double;
+    };
+    let Some((others, name)) = left.split_last() else {
+        return Ending::Blocked;
+    };
+    if fits(pieces, name, tests) {
+        Ending::Taken(rest, others)
+    } else {
+        Ending::Blocked
+    }
+}
+
+/// Whether the segments lead to the end of the names, from the last of both on.
+fn leads_from_end(segments: &[Segment], path: Names, tests: &mut Tests) -> bool
+    ensures leads { IsTrue result ↔ Leads (map segment_of segments.now) (names_left path.entry) }
+    ensures cost { tests.new.made ≤ tests.old.made + weights (map segment_of segments.now) * sizes (names_left path.entry) }
+{
+    let mut here = segments;
+    let mut left = path;
+    'endings: loop {
+        match ending_at(here, left, tests) {
+            Ending::Double => return leads_from_front(here, left, tests),
+            Ending::Taken(rest, others) => {
+                here = rest;
+                left = others;
+            }
+            Ending::Arrived => return true,
+            Ending::Blocked => return false,
+        }
+    }
+}
 
 /// What the front of the segments does with the names.
 enum Stride<'p, 'n> {
     Across(&'p [Segment]),
     LastDouble,
-    TakenName(&'p [Segment], Names<'n>),
+    Taken(&'p [Segment], Names<'n>),
     Arrived,
     Blocked,
 }
@@ -41,8 +143,8 @@ fn stride_at<'p, 'n>(here: &'p [Segment], left: Names<'n>, tests: &mut Tests) ->
     let Some((name, others)) = left.split_first() else {
         return Stride::Blocked;
     };
-    if fits_stepping(pieces, name, tests) {
-        Stride::TakenName(rest, others)
+    if fits(pieces, name, tests) {
+        Stride::Taken(rest, others)
     } else {
         Stride::Blocked
     }
@@ -55,9 +157,9 @@ struct BackPath<'p, 'n> {
     path: Names<'n>,
 }
 
-/// Whether the segments spell the names, with one place to go back to at each level.
-pub(crate) fn spells_stepping(segments: &[Segment], path: Names, tests: &mut Tests) -> bool
-    ensures spells { IsTrue result ↔ Spells (map segment_of segments.now) (names_left path.entry) }
+/// Whether the segments lead to the end of the names, from the first of both on.
+fn leads_from_front(segments: &[Segment], path: Names, tests: &mut Tests) -> bool
+    ensures leads { IsTrue result ↔ Leads (map segment_of segments.now) (names_left path.entry) }
     ensures cost { tests.new.made ≤ tests.old.made + weights (map segment_of segments.now) * sizes (names_left path.entry) }
 {
     let mut here = segments;
@@ -72,8 +174,8 @@ pub(crate) fn spells_stepping(segments: &[Segment], path: Names, tests: &mut Tes
                 });
                 here = rest;
             }
-            Stride::LastDouble => return !left.is_over(),
-            Stride::TakenName(rest, others) => {
+            Stride::LastDouble => return true,
+            Stride::Taken(rest, others) => {
                 here = rest;
                 left = others;
             }

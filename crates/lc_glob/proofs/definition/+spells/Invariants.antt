@@ -1,6 +1,5 @@
 use Rattle.std.proofs.Common.{◌+◌, length}
-use Rattle.lc_glob.specs.Names.{names_left}
 use Rattle.lc_glob.proofs.definition.+spells.Given as goal
 
 abbrev pub decreases-spells : goal.decreases-spells
-decreases-spells l = length l.segments.now + length (names_left l.path)
+decreases-spells l = length l.segments.now + length l.names.now

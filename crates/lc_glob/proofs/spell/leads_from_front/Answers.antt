@@ -4,7 +4,7 @@ use Rattle.lc_glob.specs.Views.{segment_of}
 use Rattle.lc_glob.specs.Names.{names_left}
 use Rattle.lc_glob.proofs.Cost.{full_parts, across_cost, name_cost, name_reserve, block_cost, end_cost}
 use Rattle.lc_glob.proofs.Striding.{at_double, at_name, at_block, at_last, covers_name, shorter}
-use Rattle.lc_glob.proofs.spell.spells_stepping.Goals as goal
+use Rattle.lc_glob.proofs.spell.leads_from_front.Goals as goal
 
 pub strides-init : goal.strides-init
 strides-init c = record {
@@ -21,22 +21,22 @@ pub strides-preserved-in-Across : goal.strides-preserved-in-Across
 strides-preserved-in-Across c =
     let inv = c.strides.invariant in
     let is = c.in-Across.ensures.is in
-    let len = shorter _ _ _ is.0 in
+    let len = shorter _ _ _ is in
     let within : length c.in-Across.rest.now ≤ length c.args.segments.now = omega (arith, len) in
     record {
-      same = at_double _ _ _ _ _ is.0 (λ e. is.1 (sym (length-map _ _) ∙ e)) inv.covers inv.same;
+      same = at_double _ _ _ _ _ is inv.covers inv.same;
       covers = λ f. f;
       here_within = within;
       double_within = within;
       left_within = omega arith;
       within_reserve = omega arith;
-      cost = across_cost _ _ _ _ _ _ _ is.0 c.in-Across.ensures.cost inv.within_reserve inv.cost;
+      cost = across_cost _ _ _ _ _ _ _ is c.in-Across.ensures.cost inv.within_reserve inv.cost;
     }
 
-pub strides-preserved-in-TakenName : goal.strides-preserved-in-TakenName
-strides-preserved-in-TakenName c =
+pub strides-preserved-in-Taken : goal.strides-preserved-in-Taken
+strides-preserved-in-Taken c =
     let inv = c.strides.invariant in
-    let is = c.in-TakenName.ensures.is in
+    let is = c.in-Taken.ensures.is in
     let len = shorter _ _ _ is.2 in
     let left_len = ap length is.3 in
     record {
@@ -46,7 +46,7 @@ strides-preserved-in-TakenName c =
       double_within = inv.double_within;
       left_within = omega (arith, left_len);
       within_reserve = name_reserve _ _ _ _ _ _ _ is.2 is.3 inv.within_reserve;
-      cost = name_cost _ _ _ _ _ _ _ _ _ _ is.2 is.3 c.in-TakenName.ensures.cost inv.cost;
+      cost = name_cost _ _ _ _ _ _ _ _ _ _ is.2 is.3 c.in-Taken.ensures.cost inv.cost;
     }
 
 pub strides-preserved : goal.strides-preserved
@@ -66,8 +66,8 @@ strides-preserved c =
       cost = block_cost _ _ _ _ _ _ _ _ _ first c.in-Blocked.ensures.cost cost;
     }
 
-pub returns-in-LastDouble-clause-spells : goal.returns-in-LastDouble-clause-spells
-returns-in-LastDouble-clause-spells c = at_last _ _ _ _ _ c.in-LastDouble.ensures.is c.strides.invariant.covers c.strides.invariant.same c.is_over.ensures
+pub returns-in-LastDouble-clause-leads : goal.returns-in-LastDouble-clause-leads
+returns-in-LastDouble-clause-leads c = at_last _ _ _ _ c.in-LastDouble.ensures.is c.strides.invariant.same
 
 pub returns-in-LastDouble-clause-cost : goal.returns-in-LastDouble-clause-cost
 returns-in-LastDouble-clause-cost c = end_cost _ (map segment_of c.args.segments.now) _ (names_left c.args.path) _ _ _ _ c.in-LastDouble.ensures.cost c.strides.invariant.cost

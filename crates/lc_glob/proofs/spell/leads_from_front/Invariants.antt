@@ -1,14 +1,14 @@
 use Rattle.std.proofs.Common.{◌↔◌, ◌⊎◌, map, ◌+◌, ◌*◌, ◌≤◌, length}
-use Rattle.lc_glob.specs.Matches.{Spells}
+use Rattle.lc_glob.specs.Leads.{Leads}
 use Rattle.lc_glob.specs.Views.{segment_of}
 use Rattle.lc_glob.specs.Names.{names_left}
 use Rattle.lc_glob.proofs.Cost.{straight, again, full}
 use Rattle.lc_glob.proofs.Striding.{LaterOf, Covers, span, IsWithin, reserve}
-use Rattle.lc_glob.proofs.spell.spells_stepping.Given as goal
+use Rattle.lc_glob.proofs.spell.leads_from_front.Given as goal
 
 abbrev pub invariant-strides : goal.invariant-strides
 invariant-strides l = record {
-  same : Spells (map segment_of l.segments) (names_left l.path) ↔ (Spells (map segment_of l.here) (names_left l.left) ⊎ LaterOf l.double);
+  same : Leads (map segment_of l.segments) (names_left l.path) ↔ (Leads (map segment_of l.here) (names_left l.left) ⊎ LaterOf l.double);
   covers : Covers l.double (map segment_of l.here) (names_left l.left);
   here_within : length l.here ≤ length l.segments;
   double_within : IsWithin l.double (length l.segments);

@@ -1,0 +1,104 @@
+-- How segments spell names from their end, and lead to it.
+use Rattle.std.proofs.Common.{◌≡◌, ◌↔◌, IsTrue, ℕ, Bool, true, false, List, [], ◌∷◌, ◌++◌, refl, sym, ◌∙◌, subst, ap, length, arith}
+use Rattle.std.proofs.lemmas.List.{append-nil}
+use Rattle.std.proofs.lemmas.Bool.{false≢true}
+use Rattle.lc_glob.specs.Units.{GlobUnit}
+use Rattle.lc_glob.specs.Fits.{Fits}
+use Rattle.lc_glob.specs.Patterns.{GlobSegment, plain, double_star}
+use Rattle.lc_glob.specs.Matches.{Spells}
+use Rattle.lc_glob.specs.Leads.{Leads, ends_double}
+use Rattle.lc_glob.proofs.After.{After, after_empty, after_end}
+
+-- segments whose last is no double star
+pub spells_leads : (s : List GlobSegment) (path : List (List ℕ)) → ends_double s ≡ false → Spells s path ↔ Leads s path
+spells_leads [] [] e = (λ h. h, λ h. h)
+spells_leads [] (n ∷ ns) e = (λ h. h, λ h. h)
+spells_leads (plain us ∷ []) [] e = (λ h. h, λ h. h)
+spells_leads (plain us ∷ []) (n ∷ []) e = (λ h. h, λ h. h)
+spells_leads (plain us ∷ []) (n ∷ m ∷ ns) e = (λ h. h, λ h. h)
+spells_leads (double_star ∷ []) path e = cc
+spells_leads (plain us ∷ t ∷ r) [] e = (λ h. h, λ h. h)
+spells_leads (plain us ∷ t ∷ r) (n ∷ ns) e = let rest = spells_leads (t ∷ r) ns e in (λ h. (h.0, rest.0 h.1), λ h. (h.0, rest.1 h.1))
+spells_leads (double_star ∷ t ∷ r) path e = (
+  λ h. (h.0, h.1, h.2, (spells_leads (t ∷ r) h.1 e).0 h.3),
+  λ h. (h.0, h.1, h.2, (spells_leads (t ∷ r) h.1 e).1 h.3),
+)
+
+-- segments whose last is a double star
+pub double_none : (s : List GlobSegment) → ends_double s ≡ true → Spells s [] → ⊥
+double_none [] e h = cc
+double_none (plain us ∷ []) e h = h
+double_none (double_star ∷ []) e h = h
+double_none (plain us ∷ t ∷ r) e h = h
+double_none (double_star ∷ t ∷ r) e h = double_none (t ∷ r) e (after_empty (Spells (t ∷ r)) h)
+
+double_one : (path : List (List ℕ)) (n : List ℕ) → Spells (double_star ∷ []) (path ++ n ∷ [])
+double_one [] n = tt
+double_one (x ∷ path) n = tt
+
+-- they give the last name to that double star
+pub double_end : (s : List GlobSegment) (above : List (List ℕ)) (n : List ℕ) → ends_double s ≡ true → Spells s (above ++ n ∷ []) ↔ Leads s above
+double_end [] above n e = cc
+double_end (plain us ∷ []) above n e = cc
+double_end (double_star ∷ []) above n e = (λ h. (above, [], sym (append-nil above), tt), λ h. double_one above n)
+double_end (plain us ∷ t ∷ r) [] n e = (λ h. absurd (double_none (t ∷ r) e h.1), λ h. absurd h)
+double_end (plain us ∷ t ∷ r) (x ∷ above) n e = let rest = double_end (t ∷ r) above n e in (λ h. (h.0, rest.0 h.1), λ h. (h.0, rest.1 h.1))
+double_end (double_star ∷ t ∷ r) above n e =
+    after_end (Spells (t ∷ r)) (Leads (t ∷ r)) n (double_none (t ∷ r) e) (λ b. double_end (t ∷ r) b n e) above
+
+-- what tells whether the segments spell the names, by their last
+pub none_spelled : (s : List GlobSegment) (path : List (List ℕ)) → true ≡ ends_double s → path ≡ [] → IsTrue false ↔ Spells s path
+none_spelled s path e q = (λ h. absurd (false≢true h), λ h. absurd (double_none s (sym e) (subst (Spells s) q h)))
+
+pub above_spelled : (T : Type 0) (s : List GlobSegment) (path above : List (List ℕ)) (n : List ℕ) → true ≡ ends_double s → path ≡ above ++ n ∷ [] → T ↔ Leads s above → T ↔ Spells s path
+above_spelled T s path above n e q t =
+    let same = double_end s above n (sym e) in
+    (λ h. subst (Spells s) (sym q) (same.1 (t.0 h)), λ h. t.1 (same.0 (subst (Spells s) q h)))
+
+pub all_spelled : (T : Type 0) (s : List GlobSegment) (path : List (List ℕ)) → false ≡ ends_double s → T ↔ Leads s path → T ↔ Spells s path
+all_spelled T s path e t = let same = spells_leads s path (sym e) in (λ h. same.1 (t.0 h), λ h. t.1 (same.0 h))
+
+-- a plain segment that is last needs a name
+pub plain_none : (r : List GlobSegment) (us : List GlobUnit) → Leads (r ++ plain us ∷ []) [] → ⊥
+plain_none [] us h = h
+plain_none (plain vs ∷ r) us h = h
+plain_none (double_star ∷ r) us h = plain_none r us (after_empty (Leads (r ++ plain us ∷ [])) h)
+
+beyond : (path : List (List ℕ)) (n : List ℕ) → Leads [] (path ++ n ∷ []) → ⊥
+beyond [] n h = h
+beyond (x ∷ path) n h = h
+
+-- and it fits the last of them
+pub plain_end : (r : List GlobSegment) (us : List GlobUnit) (above : List (List ℕ)) (n : List ℕ) → Leads (r ++ plain us ∷ []) (above ++ n ∷ []) ↔ (Leads r above × Fits us n)
+plain_end [] us [] n = (λ h. (tt, h.0), λ h. (h.1, tt))
+plain_end [] us (x ∷ above) n = (λ h. absurd (beyond above n h.1), λ h. absurd h.0)
+plain_end (plain vs ∷ r) us [] n = (λ h. absurd (plain_none r us h.1), λ h. absurd h.0)
+plain_end (plain vs ∷ r) us (x ∷ above) n =
+    let rest = plain_end r us above n in (
+      λ h. let both = rest.0 h.1 in ((h.0, both.0), both.1),
+      λ h. (h.0.0, rest.1 (h.0.1, h.1)),
+    )
+plain_end (double_star ∷ r) us above n =
+    let end = after_end (Leads (r ++ plain us ∷ [])) (λ b. Leads r b × Fits us n) n (plain_none r us) (λ b. plain_end r us b n) above in (
+      λ h. let found = end.0 h in ((found.0, found.1, found.2, found.3.0), found.3.1),
+      λ h. end.1 (h.0.0, h.0.1, h.0.2, (h.0.3, h.1)),
+    )
+
+-- the same of lists that are equal to such ones
+pub when_end : (s r : List GlobSegment) (us : List GlobUnit) (path above : List (List ℕ)) (n : List ℕ) → s ≡ r ++ plain us ∷ [] → path ≡ above ++ n ∷ [] → Leads s path ↔ (Leads r above × Fits us n)
+when_end s r us path above n e q =
+    subst (λ (l : List (List ℕ)). Leads s l ↔ (Leads r above × Fits us n)) (sym q)
+    (subst (λ (l : List GlobSegment). Leads l (above ++ n ∷ []) ↔ (Leads r above × Fits us n)) (sym e) (plain_end r us above n))
+
+pub when_none : (s r : List GlobSegment) (us : List GlobUnit) (path : List (List ℕ)) → s ≡ r ++ plain us ∷ [] → path ≡ [] → Leads s path → ⊥
+when_none s r us path e q h = plain_none r us (subst (Leads (r ++ plain us ∷ [])) q (subst (λ (l : List GlobSegment). Leads l path) e h))
+
+pub over_end : (s : List GlobSegment) (path : List (List ℕ)) → s ≡ [] → path ≡ [] → Leads s path
+over_end s path e q = subst (Leads s) (sym q) (subst (λ (l : List GlobSegment). Leads l []) (sym e) tt)
+
+not_over : (path : List (List ℕ)) → (path ≡ [] → ⊥) → Leads [] path → ⊥
+not_over [] some h = some refl
+not_over (n ∷ ns) some h = h
+
+pub over_blocked : (s : List GlobSegment) (path : List (List ℕ)) → s ≡ [] → (path ≡ [] → ⊥) → Leads s path → ⊥
+over_blocked s path e some h = not_over path some (subst (λ (l : List GlobSegment). Leads l path) e h)
