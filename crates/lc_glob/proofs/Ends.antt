@@ -2,7 +2,6 @@
 use Rattle.std.proofs.Common.{refl, sym, Bool, true, false, ◌≡◌, ◌≤◌, ◌+◌, ◌*◌, ℕ, List, [], ◌∷◌, ◌++◌, length, map, Vec, ap, ◌∙◌, arith}
 use Rattle.lc_glob.specs.Units.{GlobUnit}
 use Rattle.lc_glob.specs.Patterns.{GlobSegment, plain, double_star}
-use Rattle.lc_glob.specs.Leads.{ends_double}
 use Rattle.std.proofs.lemmas.List.{map-append, length-map}
 use Rattle.lc_glob.specs.Views.{unit_of, segment_of}
 use Rattle.lc_glob.specs.declared.piece.Piece.{Piece}
@@ -51,23 +50,13 @@ pub end_segment : (all rest : List Segment) (s : Segment) (pieces : Vec Piece Gl
 end_segment all rest s pieces shown e is same =
     ap (map segment_of) e ∙ map-append segment_of rest (s ∷ []) ∙ ap (λ (t : Segment). map segment_of rest ++ segment_of t ∷ []) is ∙ ap (λ (l : List Piece). map segment_of rest ++ plain (map unit_of l) ∷ []) (sym same)
 
-is_double : GlobSegment → Bool
-is_double (plain us) = false
-is_double double_star = true
+pub end_double : (all rest : List Segment) (s : Segment) → all ≡ rest ++ s ∷ [] → s ≡ DoubleStar → map segment_of all ≡ map segment_of rest ++ double_star ∷ []
+end_double all rest s e is = ap (map segment_of) e ∙ map-append segment_of rest (s ∷ []) ∙ ap (λ (t : Segment). map segment_of rest ++ segment_of t ∷ []) is
 
-ends_at : (r : List GlobSegment) (s : GlobSegment) → ends_double (r ++ s ∷ []) ≡ is_double s
-unfolding is_double
-ends_at [] (plain us) = refl
-ends_at [] double_star = refl
-ends_at (t ∷ []) s = ends_at [] s
-ends_at (t ∷ u ∷ r) s = ends_at (u ∷ r) s
+-- the last segment at the last name, and then what is before it at the names above
+pub spell_cost : (s r : List GlobSegment) (path above : List (List ℕ)) (pieces : List Piece) (name : List ℕ) (t m t' : ℕ) → s ≡ r ++ plain (map unit_of pieces) ∷ [] → path ≡ above ++ name ∷ [] → m ≤ t + (length pieces + 1) * (length name + 1) → t' ≤ m + weights r * sizes above → t' ≤ t + weights s * sizes path
+spell_cost s r path above pieces name t m t' e q paid more = omega (arith, end_cost s r path above pieces name t m e q paid)
 
-pub ends_with : (all rest : List Segment) (s : Segment) → all ≡ rest ++ s ∷ [] → s ≡ DoubleStar → true ≡ ends_double (map segment_of all)
-unfolding is_double
-ends_with all rest s e is =
-    sym (ap (λ (l : List Segment). ends_double (map segment_of l)) e ∙ ap ends_double (map-append segment_of rest (s ∷ [])) ∙ ends_at (map segment_of rest) (segment_of s) ∙ ap (λ (t : Segment). is_double (segment_of t)) is)
-
-pub ends_without : (all rest : List Segment) (s : Segment) (pieces : Vec Piece Global) → all ≡ rest ++ s ∷ [] → s ≡ Plain pieces → false ≡ ends_double (map segment_of all)
-unfolding is_double
-ends_without all rest s pieces e is =
-    sym (ap (λ (l : List Segment). ends_double (map segment_of l)) e ∙ ap ends_double (map-append segment_of rest (s ∷ [])) ∙ ends_at (map segment_of rest) (segment_of s) ∙ ap (λ (t : Segment). is_double (segment_of t)) is)
+pub no_segment : (all : List Segment) → length all ≡ 0 → map segment_of all ≡ []
+no_segment [] e = refl
+no_segment (s ∷ all) e = absurd (omega arith)

@@ -6,11 +6,28 @@ use Rattle.lc_glob.specs.Units.{GlobUnit}
 use Rattle.lc_glob.specs.Fits.{Fits}
 use Rattle.lc_glob.specs.Patterns.{GlobSegment, plain, double_star}
 use Rattle.lc_glob.specs.Matches.{Spells}
-use Rattle.lc_glob.specs.Leads.{Leads, ends_double}
+use Rattle.lc_glob.specs.Leads.{Leads}
 use Rattle.lc_glob.proofs.After.{After, after_empty, after_end}
 
+-- whether the last segment is a double star
+abbrev ends_double : List GlobSegment → Bool
+ends_double [] = false
+ends_double (plain us ∷ []) = false
+ends_double (double_star ∷ []) = true
+ends_double (s ∷ t ∷ r) = ends_double (t ∷ r)
+
+abbrev is_double : GlobSegment → Bool
+is_double (plain us) = false
+is_double double_star = true
+
+ends_at : (r : List GlobSegment) (s : GlobSegment) → ends_double (r ++ s ∷ []) ≡ is_double s
+ends_at [] (plain us) = refl
+ends_at [] double_star = refl
+ends_at (t ∷ []) s = ends_at [] s
+ends_at (t ∷ u ∷ r) s = ends_at (u ∷ r) s
+
 -- segments whose last is no double star
-pub spells_leads : (s : List GlobSegment) (path : List (List ℕ)) → ends_double s ≡ false → Spells s path ↔ Leads s path
+spells_leads : (s : List GlobSegment) (path : List (List ℕ)) → ends_double s ≡ false → Spells s path ↔ Leads s path
 spells_leads [] [] e = (λ h. h, λ h. h)
 spells_leads [] (n ∷ ns) e = (λ h. h, λ h. h)
 spells_leads (plain us ∷ []) [] e = (λ h. h, λ h. h)
@@ -25,7 +42,7 @@ spells_leads (double_star ∷ t ∷ r) path e = (
 )
 
 -- segments whose last is a double star
-pub double_none : (s : List GlobSegment) → ends_double s ≡ true → Spells s [] → ⊥
+double_none : (s : List GlobSegment) → ends_double s ≡ true → Spells s [] → ⊥
 double_none [] e h = cc
 double_none (plain us ∷ []) e h = h
 double_none (double_star ∷ []) e h = h
@@ -37,7 +54,7 @@ double_one [] n = tt
 double_one (x ∷ path) n = tt
 
 -- they give the last name to that double star
-pub double_end : (s : List GlobSegment) (above : List (List ℕ)) (n : List ℕ) → ends_double s ≡ true → Spells s (above ++ n ∷ []) ↔ Leads s above
+double_end : (s : List GlobSegment) (above : List (List ℕ)) (n : List ℕ) → ends_double s ≡ true → Spells s (above ++ n ∷ []) ↔ Leads s above
 double_end [] above n e = cc
 double_end (plain us ∷ []) above n e = cc
 double_end (double_star ∷ []) above n e = (λ h. (above, [], sym (append-nil above), tt), λ h. double_one above n)
@@ -45,18 +62,6 @@ double_end (plain us ∷ t ∷ r) [] n e = (λ h. absurd (double_none (t ∷ r) 
 double_end (plain us ∷ t ∷ r) (x ∷ above) n e = let rest = double_end (t ∷ r) above n e in (λ h. (h.0, rest.0 h.1), λ h. (h.0, rest.1 h.1))
 double_end (double_star ∷ t ∷ r) above n e =
     after_end (Spells (t ∷ r)) (Leads (t ∷ r)) n (double_none (t ∷ r) e) (λ b. double_end (t ∷ r) b n e) above
-
--- what tells whether the segments spell the names, by their last
-pub none_spelled : (s : List GlobSegment) (path : List (List ℕ)) → true ≡ ends_double s → path ≡ [] → IsTrue false ↔ Spells s path
-none_spelled s path e q = (λ h. absurd (false≢true h), λ h. absurd (double_none s (sym e) (subst (Spells s) q h)))
-
-pub above_spelled : (T : Type 0) (s : List GlobSegment) (path above : List (List ℕ)) (n : List ℕ) → true ≡ ends_double s → path ≡ above ++ n ∷ [] → T ↔ Leads s above → T ↔ Spells s path
-above_spelled T s path above n e q t =
-    let same = double_end s above n (sym e) in
-    (λ h. subst (Spells s) (sym q) (same.1 (t.0 h)), λ h. t.1 (same.0 (subst (Spells s) q h)))
-
-pub all_spelled : (T : Type 0) (s : List GlobSegment) (path : List (List ℕ)) → false ≡ ends_double s → T ↔ Leads s path → T ↔ Spells s path
-all_spelled T s path e t = let same = spells_leads s path (sym e) in (λ h. same.1 (t.0 h), λ h. t.1 (same.0 h))
 
 -- a plain segment that is last needs a name
 pub plain_none : (r : List GlobSegment) (us : List GlobUnit) → Leads (r ++ plain us ∷ []) [] → ⊥
@@ -102,3 +107,24 @@ not_over (n ∷ ns) some h = h
 
 pub over_blocked : (s : List GlobSegment) (path : List (List ℕ)) → s ≡ [] → (path ≡ [] → ⊥) → Leads s path → ⊥
 over_blocked s path e some h = not_over path some (subst (λ (l : List GlobSegment). Leads l path) e h)
+
+-- what tells whether the segments spell the names, by the last of both
+not_spelled : (above : List (List ℕ)) (n : List ℕ) → Spells [] (above ++ n ∷ []) → ⊥
+not_spelled [] n h = h
+not_spelled (x ∷ above) n h = h
+
+pub none_spelled : (s : List GlobSegment) (path above : List (List ℕ)) (n : List ℕ) → s ≡ [] → path ≡ above ++ n ∷ [] → IsTrue false ↔ Spells s path
+none_spelled s path above n e q =
+    (λ h. absurd (false≢true h), λ h. absurd (not_spelled above n (subst (λ (l : List GlobSegment). Spells l (above ++ n ∷ [])) e (subst (Spells s) q h))))
+
+pub double_spelled : (T : Type 0) (s r : List GlobSegment) (path above : List (List ℕ)) (n : List ℕ) → s ≡ r ++ double_star ∷ [] → path ≡ above ++ n ∷ [] → T ↔ Leads s above → T ↔ Spells s path
+double_spelled T s r path above n e q t =
+    let last : ends_double s ≡ true = ap ends_double e ∙ ends_at r double_star in
+    let same = double_end s above n last in
+    (λ h. subst (Spells s) (sym q) (same.1 (t.0 h)), λ h. t.1 (same.0 (subst (Spells s) q h)))
+
+pub plain_spelled : (s r : List GlobSegment) (us : List GlobUnit) (path above : List (List ℕ)) (n : List ℕ) → s ≡ r ++ plain us ∷ [] → path ≡ above ++ n ∷ [] → Spells s path ↔ (Leads r above × Fits us n)
+plain_spelled s r us path above n e q =
+    let first = spells_leads s path (ap ends_double e ∙ ends_at r (plain us)) in
+    let then = when_end s r us path above n e q in
+    (λ h. then.0 (first.0 h), λ h. first.1 (then.1 h))

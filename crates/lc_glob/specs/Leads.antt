@@ -1,5 +1,5 @@
 -- What is left to spell once the end of the path is taken.
-use Rattle.std.specs.Prelude.{ℕ, ◌≡◌, Bool, true, false, List, [], ◌∷◌, ◌++◌}
+use Rattle.std.specs.Prelude.{ℕ, ◌≡◌, List, [], ◌∷◌, ◌++◌}
 use Rattle.lc_glob.specs.Fits.{Fits}
 use Rattle.lc_glob.specs.Patterns.{GlobSegment, plain, double_star}
 
@@ -10,10 +10,3 @@ Leads [] (n ∷ ns) = ⊥
 Leads (plain us ∷ r) [] = ⊥
 Leads (plain us ∷ r) (n ∷ ns) = Fits us n × Leads r ns
 Leads (double_star ∷ r) path = (a b : List (List ℕ)) × (path ≡ a ++ b) × Leads r b
-
--- whether the last segment is a double star
-abbrev pub ends_double : List GlobSegment → Bool
-ends_double [] = false
-ends_double (plain us ∷ []) = false
-ends_double (double_star ∷ []) = true
-ends_double (s ∷ t ∷ r) = ends_double (t ∷ r)

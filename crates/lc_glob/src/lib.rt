@@ -6,6 +6,7 @@
 
 mod bracket;
 mod byte_set;
+mod candidate;
 mod definition;
 mod fit;
 mod name;
@@ -18,4 +19,5 @@ mod spell;
 #[cfg(test)]
 mod tests;
 
+pub use candidate::Candidate;
 pub use pattern::{Pattern, is_match_decides};

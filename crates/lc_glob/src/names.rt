@@ -14,12 +14,7 @@ pub(crate) struct Names<'a> {
 }
 
 impl<'a> Names<'a> {
-    pub(crate) fn of(path: &'a [u8]) -> Self
-        ensures { names_left result ≡ segments_of path.now }
-    {
-        Names { rest: Some(path) }
-    }
-
+    /// Whether none is left.
     pub(crate) fn is_over(self) -> bool
         ensures { IsTrue result ↔ (names_left self.entry ≡ []) }
     {
@@ -50,14 +45,21 @@ impl<'a> Names<'a> {
         ensures { MatchOption result (names_left self.entry ≡ []) (λ p. names_left self.entry ≡ names_left p.0 ++ p.1.bytes.now ∷ []) }
     {
         let bytes = self.rest?;
-        match memrchr(b'/', bytes) {
-            None => Some((Names { rest: None }, Name::new(bytes))),
-            Some(i) => Some((
-                Names {
-                    rest: Some(&bytes[..i]),
-                },
-                Name::new(&bytes[i + 1..]),
-            )),
-        }
+        Some(split_end(bytes))
+    }
+}
+
+/// The names of a path above the last, and the last, which each path has.
+pub(crate) fn split_end<'a>(path: &'a [u8]) -> (Names<'a>, Name<'a>)
+    ensures { segments_of path.now ≡ names_left result.0 ++ result.1.bytes.now ∷ [] }
+{
+    match memrchr(b'/', path) {
+        None => (Names { rest: None }, Name::new(path)),
+        Some(i) => (
+            Names {
+                rest: Some(&path[..i]),
+            },
+            Name::new(&path[i + 1..]),
+        ),
     }
 }

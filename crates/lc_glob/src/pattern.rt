@@ -7,8 +7,8 @@ ghost use Rattle.lc_glob.specs.Path.{segments_of};
 ghost use Rattle.lc_glob.specs.Reading.{pattern_of};
 ghost use Rattle.lc_glob.specs.Strides.{weights, sizes};
 
+use crate::candidate::Candidate;
 use crate::name::Tests;
-use crate::names::Names;
 use crate::reading::read_pattern;
 use crate::segment::Segment;
 use crate::spell::{fits_last, spells};
@@ -69,8 +69,15 @@ impl Pattern {
         ensures meaning { IsTrue result ↔ Matches self.now path.now is_dir }
         ensures computed { result ≡ is_match self.now path.now is_dir }
     {
-        let (found, _) = self.matched(path, is_dir);
-        found
+        self.matches_candidate(&Candidate::new(path), is_dir)
+    }
+
+    /// Whether the pattern matches the path.
+    pub fn matches_candidate(&self, path: &Candidate, is_dir: bool) -> bool
+        ensures meaning { IsTrue result ↔ Matches self.now path.now is_dir }
+        ensures computed { result ≡ is_match self.now path.now is_dir }
+    {
+        self.matched(path, is_dir, &mut Tests::none())
     }
 
     /// Whether the pattern matches the path, and how many bytes were tested.
@@ -79,23 +86,22 @@ impl Pattern {
         ensures computed { result.0 ≡ is_match self.now path.now is_dir }
         ensures bound { (bytes : List ℕ) → self.now ≡ pattern_of bytes → result.1 ≤ (length bytes + 1) * (length path.now + 1) }
     {
-        self.matched(path, is_dir)
+        let mut tests = Tests::none();
+        let found = self.matched(&Candidate::new(path), is_dir, &mut tests);
+        (found, tests.made())
     }
 
-    fn matched(&self, path: &[u8], is_dir: bool) -> (bool, u64)
-        ensures meaning { IsTrue result.0 ↔ Matches self.now path.now is_dir }
-        ensures cost { result.1 ≤ weights self.now.segments * sizes (segments_of path.now) }
+    fn matched(&self, path: &Candidate, is_dir: bool, tests: &mut Tests) -> bool
+        ensures meaning { IsTrue result ↔ Matches self.now path.now is_dir }
+        ensures cost { tests.new.made ≤ tests.old.made + weights self.now.segments * sizes (segments_of path.now) }
     {
         if self.is_dead || self.is_dir_only && !is_dir {
-            return (false, 0);
-        }
-        let mut tests = Tests::none();
-        let found = if self.is_anchored {
-            spells(&self.segments, Names::of(path), &mut tests)
+            false
+        } else if self.is_anchored {
+            spells(&self.segments, path, tests)
         } else {
-            fits_last(&self.segments, Names::of(path), &mut tests)
-        };
-        (found, tests.made())
+            fits_last(&self.segments, path, tests)
+        }
     }
 }
 

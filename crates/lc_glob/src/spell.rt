@@ -6,21 +6,23 @@
 
 ghost use Rattle.std.specs.Prelude.{◌≡◌, ◌↔◌, ◌≤◌, ◌+◌, ◌*◌, IsTrue, map};
 ghost use Rattle.lc_glob.specs.Matches.{Spells, FitsLast};
-ghost use Rattle.lc_glob.specs.Leads.{Leads, ends_double};
+ghost use Rattle.lc_glob.specs.Leads.{Leads};
 ghost use Rattle.lc_glob.specs.Names.{names_left};
+ghost use Rattle.lc_glob.specs.Path.{segments_of};
 ghost use Rattle.lc_glob.specs.Endings.{EndingIs, cost_after};
 ghost use Rattle.lc_glob.specs.Strides.{StrideIs, front_cost, weights, sizes};
 ghost use Rattle.lc_glob.specs.Views.{segment_of};
 
+use crate::candidate::Candidate;
 use crate::fit::fits;
 use crate::name::Tests;
 use crate::names::Names;
 use crate::segment::Segment;
 
-/// Whether the one segment fits the last of the names.
-pub(crate) fn fits_last(segments: &[Segment], names: Names, tests: &mut Tests) -> bool
-    ensures fits { IsTrue result ↔ FitsLast (map segment_of segments.now) (names_left names.entry) }
-    ensures cost { tests.new.made ≤ tests.old.made + weights (map segment_of segments.now) * sizes (names_left names.entry) }
+/// Whether the one segment fits the last of the path's.
+pub(crate) fn fits_last(segments: &[Segment], path: &Candidate, tests: &mut Tests) -> bool
+    ensures fits { IsTrue result ↔ FitsLast (map segment_of segments.now) (segments_of path.now) }
+    ensures cost { tests.new.made ≤ tests.old.made + weights (map segment_of segments.now) * sizes (segments_of path.now) }
 {
     let Some((segment, rest)) = segments.split_first() else {
         return false;
@@ -28,37 +30,23 @@ pub(crate) fn fits_last(segments: &[Segment], names: Names, tests: &mut Tests) -
     let Segment::Plain(pieces) = segment else {
         return false;
     };
-    if !rest.is_empty() {
-        return false;
-    }
-    let Some((_, name)) = names.split_last() else {
-        return false;
-    };
-    fits(pieces, name, tests)
+    rest.is_empty() && fits(pieces, path.name, tests)
 }
 
-/// Whether the segments spell the names.
-pub(crate) fn spells(segments: &[Segment], path: Names, tests: &mut Tests) -> bool
-    ensures spells { IsTrue result ↔ Spells (map segment_of segments.now) (names_left path.entry) }
-    ensures cost { tests.new.made ≤ tests.old.made + weights (map segment_of segments.now) * sizes (names_left path.entry) }
+/// Whether the segments spell the path's.
+pub(crate) fn spells(segments: &[Segment], path: &Candidate, tests: &mut Tests) -> bool
+    ensures spells { IsTrue result ↔ Spells (map segment_of segments.now) (segments_of path.now) }
+    ensures cost { tests.new.made ≤ tests.old.made + weights (map segment_of segments.now) * sizes (segments_of path.now) }
 {
-    if !ends_in_double_star(segments) {
-        return leads_from_end(segments, path, tests);
-    }
-    // That double star gives at least one name, which may as well be the last.
-    let Some((above, _)) = path.split_last() else {
+    let (above, name) = (path.above, path.name);
+    let Some((last, front)) = segments.split_last() else {
         return false;
     };
-    leads_from_front(segments, above, tests)
-}
-
-fn ends_in_double_star(segments: &[Segment]) -> bool
-    ensures { result ≡ ends_double (map segment_of segments.now) }
-{
-    let Some((last, _)) = segments.split_last() else {
-        return false;
+    let Segment::Plain(pieces) = last else {
+        // This double star gives at least one name, which may as well be the last.
+        return leads_from_front(segments, above, tests);
     };
-    matches!(last, Segment::DoubleStar)
+    fits(pieces, name, tests) && leads_from_end(front, above, tests)
 }
 
 /// What the last of the segments does with the last of the names.

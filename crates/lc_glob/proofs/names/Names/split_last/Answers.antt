@@ -1,10 +1,6 @@
 use Rattle.std.proofs.Common.{ap, ◌∙◌}
 use Rattle.lc_glob.specs.Names.{names_of}
-use Rattle.lc_glob.proofs.Naming.{no_last_slash, at_last_slash}
 use Rattle.lc_glob.proofs.names.Names.split_last.Goals as goal
 
-pub returns-in-None : goal.returns-in-None
-returns-in-None c = rw c.new.ensures (ap names_of c.in_ok-bytes.was ∙ no_last_slash _ c.in-None.ensures)
-
-pub returns-in-Some : goal.returns-in-Some
-returns-in-Some c = rw c.new-in-Some.ensures (ap names_of c.in_ok-bytes.was ∙ at_last_slash _ _ c.in-Some.ensures)
+pub returns : goal.returns
+returns c = ap names_of c.in_ok-bytes.was ∙ c.split_end.ensures
