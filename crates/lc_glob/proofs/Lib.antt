@@ -13,3 +13,4 @@ pub mod Bounds
 pub mod Matching
 pub mod Ends
 pub mod Leading
+pub mod Masks

@@ -15,3 +15,4 @@ pub mod Steps
 pub mod Strides
 pub mod Leads
 pub mod Endings
+pub mod Words

@@ -197,5 +197,5 @@ pub(crate) fn read_bracket(
     let Some((ranges, taken)) = read_items(alloc, if negated { rest } else { bytes })? else {
         return Ok(None);
     };
-    Ok(Some((ByteSet { negated, ranges }, taken + usize::from(negated))))
+    Ok(Some((ByteSet::new(negated, ranges), taken + usize::from(negated))))
 }

@@ -1,0 +1,13 @@
+use Rattle.std.proofs.Common.{◌≡◌, ◌≤◌, ◌+◌, ◌-◌}
+use Rattle.lc_glob.specs.Units.{in_ranges}
+use Rattle.lc_glob.specs.Words.{word_of}
+use Rattle.lc_glob.proofs.byte_set.word_at.Given as goal
+
+abbrev pub invariant-bits : goal.invariant-bits
+invariant-bits l = record {
+  word : l.word ≡ word_of (in_ranges l.ranges) (l.low + l.left) (64 - l.left);
+  within : l.left ≤ 64;
+}
+
+abbrev pub decreases-bits : goal.decreases-bits
+decreases-bits l = l.left
