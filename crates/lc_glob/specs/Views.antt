@@ -13,7 +13,7 @@ abbrev pub unit_of : Piece → GlobUnit
 unit_of (Byte c) = byte c
 unit_of Any = any
 unit_of Star = star
-unit_of (Set s) = set s.negated s.ranges.items
+unit_of (Set s) = set s.value.negated s.value.ranges.items
 
 -- the units of a list of pieces
 abbrev pub part_of : Vec Piece Global → List GlobUnit

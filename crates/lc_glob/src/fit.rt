@@ -9,6 +9,7 @@ use crate::name::{Name, Tests};
 use crate::piece::Piece;
 
 /// Whether the pieces fit the name.
+#[inline]
 pub(crate) fn fits(pieces: &[Piece], name: Name, tests: &mut Tests) -> bool
     ensures fits { IsTrue result ↔ Fits (map unit_of pieces.now) name.entry.bytes.now }
     ensures cost { tests.new.made ≤ tests.old.made + (length pieces.now + 1) * (length name.entry.bytes.now + 1) }
@@ -17,6 +18,7 @@ pub(crate) fn fits(pieces: &[Piece], name: Name, tests: &mut Tests) -> bool
 }
 
 /// An early look: whether the last piece lets the pieces fit the name. Most names that don't fit end here.
+#[inline]
 fn may_end(pieces: &[Piece], name: Name, tests: &mut Tests) -> bool
     ensures may { IsFalse result → Fits (map unit_of pieces.now) name.entry.bytes.now → ⊥ }
     ensures cost { tests.new.made ≤ tests.old.made + 1 }
@@ -71,6 +73,7 @@ struct Back<'p, 'n> {
 }
 
 /// Whether the pieces fit the name, with one place to go back to.
+#[inline(never)]
 fn fits_stepping(pieces: &[Piece], name: Name, tests: &mut Tests) -> bool
     ensures fits { IsTrue result ↔ Fits (map unit_of pieces.now) name.entry.bytes.now }
     ensures cost { tests.new.made ≤ tests.old.made + (length name.entry.bytes.now * (length pieces.now + 1) + length pieces.now) }

@@ -16,7 +16,7 @@ pub(crate) enum Piece {
     /// `*`: any bytes, but no slash.
     Star,
     /// A bracket: one byte of a set.
-    Set(ByteSet),
+    Set(Box<ByteSet>),
 }
 
 impl Piece {

@@ -44,6 +44,7 @@ fn read_token(alloc: Global, b: u8, rest: &[u8]) -> Result<Option<(Token, usize)
         let Some((found, taken)) = read_bracket(alloc, rest)? else {
             return Ok(None);
         };
+        let found = Box::new(alloc, found)?;
         return Ok(Some((Token::One(Piece::Set(found)), taken)));
     }
     Ok(Some((
