@@ -5,7 +5,6 @@ pub mod After
 pub mod Spelling
 pub mod Cost
 pub mod Striding
-pub mod Rows
 pub mod Items
 pub mod Parts
 pub mod Fronts

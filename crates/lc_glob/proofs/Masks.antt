@@ -78,8 +78,8 @@ pub has_bit : (ranges : List (ℕ × ℕ)) (words : List ℕ) (b : ℕ) → word
 has_bit ranges words b is fits =
     let there : get_or words (b / 64) 0 ≡ word_of (in_ranges ranges) (64 * (b / 64)) 64 = ap (λ (l : List ℕ). get_or l (b / 64) 0) is ∙ word_there ranges (b / 64) (omega arith) in
     let at : bit_and (get_or words (b / 64) 0 / 2 ^ (b % 64)) 1 ≡ bit (in_ranges ranges b) =
-          shr_and_one (get_or words (b / 64) 0) (b % 64) ∙ ap (λ (n : ℕ). bit_at n (b % 64)) there ∙ word_bit (in_ranges ranges) (b % 64) (64 * (b / 64)) 64 (mod-lt b (omega arith))
-          ∙ ap (λ (n : ℕ). bit (in_ranges ranges n)) (div-add-mod b 64) in
+    shr_and_one (get_or words (b / 64) 0) (b % 64) ∙ ap (λ (n : ℕ). bit_at n (b % 64)) there ∙ word_bit (in_ranges ranges) (b % 64) (64 * (b / 64)) 64 (mod-lt b (omega arith))
+    ∙ ap (λ (n : ℕ). bit (in_ranges ranges n)) (div-add-mod b 64) in
     ap (λ (n : ℕ). nat_eq n 1) at ∙ bit_true (in_ranges ranges b)
 
 -- a set's answer, for a byte that is no slash

@@ -1,15 +1,14 @@
 -- What the steps through a bracket find.
 use Rattle.std.specs.Prelude.{ℕ, ◌≡◌, ◌+◌, ◌-◌, true, false, List, ◌++◌, take, Option, Some, None}
 use Rattle.lc_glob.specs.Brackets.{class_of, is_class}
+use Rattle.lc_glob.specs.declared.bracket.Colon.{Colon}
+use Rattle.lc_glob.specs.declared.bracket.Colon.TheVariants.{Class, Unknown, Ordinary}
 
-abbrev pub IsNoClass : List ℕ → ℕ → Type 0
-IsNoClass rest p = is_class rest p ≡ false
-
-abbrev pub IsDeadClass : List ℕ → ℕ → Type 0
-IsDeadClass rest p = (is_class rest p ≡ true) × (class_of (take (p - 1) rest) ≡ None)
-
-abbrev pub IsClassItem : List ℕ → ℕ → List (ℕ × ℕ) → ℕ → Type 0
-IsClassItem rest p ranges taken = (is_class rest p ≡ true) × (class_of (take (p - 1) rest) ≡ Some ranges) × (taken ≡ p + 2)
+-- what begins with a `[:`, whose first close is at p of what follows it: a class, an unknown class, or none
+abbrev pub ColonIs : Colon → List ℕ → ℕ → Type 0
+ColonIs (Class ranges taken) rest p = (is_class rest p ≡ true) × (class_of (take (p - 1) rest) ≡ Some ranges.now) × (taken ≡ p + 2)
+ColonIs Unknown rest p = (is_class rest p ≡ true) × (class_of (take (p - 1) rest) ≡ None)
+ColonIs Ordinary rest p = is_class rest p ≡ false
 
 -- what is pushed for an item that was found, and how many bytes it takes
 abbrev pub PushesItem : Option (List (ℕ × ℕ) × ℕ) → List (ℕ × ℕ) → List (ℕ × ℕ) → Option ℕ → Type 0

@@ -9,7 +9,7 @@ abbrev pub named : Bool → List (ℕ × ℕ) → Option (List (ℕ × ℕ)) →
 named true ranges others = Some ranges
 named false ranges others = others
 
--- the bytes of a class, in ASCII
+-- the bytes of a class, in ASCII, where the upper letters are 65 to 90, the lower 97 to 122 and the digits 48 to 57
 abbrev pub class_of : List ℕ → Option (List (ℕ × ℕ))
 class_of name =
     named (bytes_eq name (codes "alpha")) ((65, 90) ∷ (97, 122) ∷ [])

@@ -4,7 +4,7 @@ ghost use Rattle.std.specs.Prelude.{◌≡◌, ◌<◌, ◌≤◌, ◌+◌, leng
 ghost use Rattle.std.specs.List.{position_or_len};
 ghost use Rattle.lc_glob.specs.Bytes.{opening, closing};
 ghost use Rattle.lc_glob.specs.Brackets.{element, range_from, class_of, item, plain_item, colon_item, items, bracket};
-ghost use Rattle.lc_glob.specs.BracketSteps.{IsNoClass, IsDeadClass, IsClassItem, PushesItem};
+ghost use Rattle.lc_glob.specs.BracketSteps.{ColonIs, PushesItem};
 ghost use Rattle.lc_glob.specs.Units.{set};
 
 use crate::byte_set::ByteSet;
@@ -42,51 +42,61 @@ fn range_at(x: u8, taken: usize, rest: &[u8]) -> Option<((u8, u8), usize)>
     Some(((x, x.max(y)), taken + 2 + more))
 }
 
-/// The ranges of a class.
+/// The ranges of a class, in ASCII.
 fn class_at(name: &[u8]) -> Option<&'static [(u8, u8)]>
     ensures { MatchOption result (class_of name.now ≡ None) (λ r. class_of name.now ≡ Some r.now) }
 {
     if name == b"alpha".as_slice() {
-        Some(&[(65, 90), (97, 122)])
+        Some(&[(b'A', b'Z'), (b'a', b'z')])
     } else if name == b"lower".as_slice() {
-        Some(&[(97, 122)])
+        Some(&[(b'a', b'z')])
     } else if name == b"upper".as_slice() {
-        Some(&[(65, 90)])
+        Some(&[(b'A', b'Z')])
     } else if name == b"digit".as_slice() {
-        Some(&[(48, 57)])
+        Some(&[(b'0', b'9')])
     } else if name == b"xdigit".as_slice() {
-        Some(&[(48, 57), (65, 70), (97, 102)])
+        Some(&[(b'0', b'9'), (b'A', b'F'), (b'a', b'f')])
     } else if name == b"alnum".as_slice() {
-        Some(&[(48, 57), (65, 90), (97, 122)])
+        Some(&[(b'0', b'9'), (b'A', b'Z'), (b'a', b'z')])
     } else if name == b"blank".as_slice() {
-        Some(&[(32, 32), (9, 9)])
+        Some(&[(b' ', b' '), (b'\t', b'\t')])
     } else if name == b"space".as_slice() {
-        Some(&[(32, 32), (9, 13)])
+        Some(&[(b' ', b' '), (b'\t', b'\r')])
     } else if name == b"cntrl".as_slice() {
         Some(&[(0, 31), (127, 127)])
     } else if name == b"graph".as_slice() {
-        Some(&[(33, 126)])
+        Some(&[(b'!', b'~')])
     } else if name == b"print".as_slice() {
-        Some(&[(32, 126)])
+        Some(&[(b' ', b'~')])
     } else if name == b"punct".as_slice() {
-        Some(&[(33, 47), (58, 64), (91, 96), (123, 126)])
+        Some(&[(b'!', b'/'), (b':', b'@'), (b'[', b'`'), (b'{', b'~')])
     } else {
         None
     }
 }
 
-/// The ranges of a class item whose `[:` is followed by `rest`, where `place` is that of its first close.
-/// The outer `None` says that the bracket is dead, the inner one that `[` is an ordinary byte.
-fn class_item_at(rest: &[u8], place: usize) -> Option<Option<(&'static [(u8, u8)], usize)>>
+/// What begins with a `[:`.
+enum Colon {
+    /// A class: its ranges, and how many bytes it takes after the `[`.
+    Class(&'static [(u8, u8)], usize),
+    /// A name that no class has, so the pattern is dead.
+    Unknown,
+    /// No class, so the `[` is an ordinary byte.
+    Ordinary,
+}
+
+/// What begins with the `[:` that `rest` follows, whose first close is at `place`.
+fn colon_at(rest: &[u8], place: usize) -> Colon
     requires { place < length rest.now }
-    ensures is { MatchOption result (IsDeadClass rest.now place) (λ o. MatchOption o (IsNoClass rest.now place) (λ r. IsClassItem rest.now place r.0.now r.1)) }
-    ensures within { IfSome result (λ o. IfSome o (λ r. r.1 ≤ length rest.now + 1)) }
+    ensures { ColonIs result rest.now place }
 {
     if place == 0 || rest[place - 1] != b':' {
-        return Some(None);
+        return Colon::Ordinary;
     }
-    let ranges = class_at(&rest[..place - 1])?;
-    Some(Some((ranges, place + 2)))
+    let Some(ranges) = class_at(&rest[..place - 1]) else {
+        return Colon::Unknown;
+    };
+    Colon::Class(ranges, place + 2)
 }
 
 /// Pushes the range of an item that is an element or a range, and says how many bytes after `b` it takes.
@@ -129,16 +139,18 @@ fn push_colon(
     if place == after.len() {
         return Ok(None);
     }
-    let Some(found) = class_item_at(after, place) else {
-        return Ok(None);
-    };
-    let Some((class, taken)) = found else {
-        return push_plain(b'[', rest, ranges);
-    };
-    ranges.extend_from_slice(class)?;
-    Ok(Some(taken))
+    match colon_at(after, place) {
+        Colon::Class(class, taken) => {
+            ranges.extend_from_slice(class)?;
+            Ok(Some(taken))
+        }
+        Colon::Unknown => Ok(None),
+        Colon::Ordinary => push_plain(b'[', rest, ranges),
+    }
 }
 
+/// Pushes the ranges of the item that begins with `b`, and says how many bytes after it are taken; `None` where it makes
+/// the pattern dead.
 fn push_item(b: u8, rest: &[u8], ranges: &mut Vec<(u8, u8)>) -> Result<Option<usize>, AllocError>
     ensures is { IfOk result (λ r. PushesItem (item b rest.now) ranges.old.items ranges.new.items r) }
     ensures within { IfOk result (λ r. IfSome r (λ k. k ≤ length rest.now)) }
@@ -153,6 +165,7 @@ fn push_item(b: u8, rest: &[u8], ranges: &mut Vec<(u8, u8)>) -> Result<Option<us
     }
 }
 
+/// Whether the byte is the close, which the first item can't be.
 fn closes(b: u8, first: bool) -> bool
     ensures { result ≡ (b == closing && not first) }
 {

@@ -1,4 +1,5 @@
-// Whether a segment's units fit a name, with one place to go back to.
+// Whether a segment's units fit a name, with one place to go back to: the last star that was passed, since the fewest
+// bytes that serve one star serve all before it.
 
 ghost use Rattle.std.specs.Prelude.{◌≡◌, ◌↔◌, ◌≤◌, ◌+◌, ◌*◌, IsTrue, IsFalse, map, length};
 ghost use Rattle.lc_glob.specs.Fits.{Fits};
@@ -34,12 +35,17 @@ fn may_end(pieces: &[Piece], name: Name, tests: &mut Tests) -> bool
 
 /// What the front of the pieces does with the front of the name.
 enum Step<'p, 'n> {
+    /// It is a star, and these pieces are after it.
     Star(&'p [Piece]),
+    /// It stands for the first byte, and these are after them.
     Taken(&'p [Piece], Name<'n>),
+    /// There are neither pieces nor bytes.
     Fitted,
+    /// The pieces don't fit the name from here.
     Stuck,
 }
 
+/// One step from the front, with one byte test at most.
 fn look_at<'p, 'n>(here: &'p [Piece], left: Name<'n>, tests: &mut Tests) -> Step<'p, 'n>
     ensures is { StepIs result (map unit_of here.now) left.entry.bytes.now }
     ensures cost { tests.new.made ≤ tests.old.made + 1 }

@@ -1,7 +1,24 @@
 //! Patterns of ignore files, read and matched as gitignore(5), PATTERN FORMAT, says.
 //!
-//! `Pattern::read` reads the bytes of one pattern, and `Pattern::matches` asks it about a path. Everything is bytes: a
-//! pattern and a path need not be text, letter case counts, and a byte is a character.
+//! `Pattern::read` reads the bytes of one pattern, and `Pattern::matches` asks it about a path. Everything is bytes:
+//! neither need be text, letter case counts, and a byte is a character.
+//!
+//! | In a pattern | Stands for |
+//! |---|---|
+//! | `*` | any bytes but a slash, none included |
+//! | `?` | one byte but a slash |
+//! | `[a-z]`, `[!a-z]`, `[[:digit:]]` | one byte of the set, or one that is neither in it nor a slash |
+//! | `\` and a byte | that byte |
+//! | `/` | the end of a segment; the last one asks for a directory, and any other anchors the pattern |
+//! | `**` between separators | any run of segments, and as the last segment one or more |
+//!
+//! A pattern that can't be read so is dead: it ends in a single backslash, has a bracket without its close or with an
+//! unknown class, or an empty segment. A dead pattern matches nothing.
+//!
+//! What a line of an ignore file has around its pattern, as negation, comments and trailing spaces, is no part of it.
+//!
+//! Reading takes memory, and matching none. For a pattern of `p` bytes and a path of `q` a match tests at most
+//! `(p + 1) * (q + 1)` bytes of the path.
 #![tactic(auto)]
 
 mod bracket;

@@ -19,6 +19,12 @@ impl Tests {
         Tests { made: 0 }
     }
 
+    fn add_one(&mut self)
+        ensures { self.new.made ≡ min (self.old.made + 1) (2 ^ 64 - 1) }
+    {
+        self.made = self.made.saturating_add(1);
+    }
+
     pub(crate) fn made(&self) -> u64
         ensures { result ≡ self.now.made }
     {
@@ -61,7 +67,7 @@ impl<'a> Name<'a> {
         ensures taken { result ≡ takes (unit_of piece.now) (slice_index self.entry.bytes.now (length self.entry.bytes.now - 1)) }
         ensures counted { tests.new.made ≡ min (tests.old.made + 1) (2 ^ 64 - 1) }
     {
-        tests.made = tests.made.saturating_add(1);
+        tests.add_one();
         piece.takes(self.bytes[self.bytes.len() - 1])
     }
 
@@ -71,7 +77,7 @@ impl<'a> Name<'a> {
         ensures taken { result ≡ takes (unit_of piece.now) (slice_index self.entry.bytes.now 0) }
         ensures counted { tests.new.made ≡ min (tests.old.made + 1) (2 ^ 64 - 1) }
     {
-        tests.made = tests.made.saturating_add(1);
+        tests.add_one();
         piece.takes(self.bytes[0])
     }
 }

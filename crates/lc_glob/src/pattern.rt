@@ -15,7 +15,13 @@ use crate::spell::{fits_last, spells};
 use std::alloc::{AllocError, Global};
 use std::marker::Model;
 
-/// A pattern that was read.
+/// A pattern that was read: gitignore(5), PATTERN FORMAT.
+///
+/// ```
+/// let pattern = Pattern::read(alloc, b"/build/**/*.o")?;
+/// assert!(rt; pattern.matches(b"build/x86/main.o", false));
+/// assert!(rt; !pattern.matches(b"src/build/main.o", false));
+/// ```
 #[derive(Debug, Drop)]
 pub struct Pattern {
     pub(crate) is_dead: bool,
@@ -37,27 +43,35 @@ impl Model for Pattern {
 
 impl Pattern {
     /// Reads bytes as a pattern. Any bytes are one, perhaps a dead one.
+    ///
+    /// The bytes are the pattern alone, without the `!` of a negated line and without its trailing spaces. The one error
+    /// is want of memory.
+    ///
+    /// ```
+    /// let pattern = Pattern::read(alloc, b"*.[oa]")?;
+    /// ```
     pub fn read(alloc: Global, bytes: &[u8]) -> Result<Pattern, AllocError>
         ensures { IfOk result (λ pattern. pattern ≡ pattern_of bytes.now) }
     {
         read_pattern(alloc, bytes)
     }
 
-    /// Whether the pattern matches nothing.
+    /// Whether the bytes could not be read, so that the pattern matches nothing, as `[a` and `a//b`.
     pub fn is_dead(&self) -> bool
         ensures { result ≡ self.now.is_dead }
     {
         self.is_dead
     }
 
-    /// Whether the pattern matches directories only. A dead pattern answers false.
+    /// Whether the pattern matches directories only, as `build/`. A dead pattern answers false.
     pub fn is_dir_only(&self) -> bool
         ensures { result ≡ self.now.is_dir_only }
     {
         self.is_dir_only
     }
 
-    /// Whether the pattern matches only from the directory of its file on. A dead pattern answers false.
+    /// Whether the pattern is matched with a whole path, as `/a` and `a/b`, and not with a path's last segment alone, as
+    /// `a`. A dead pattern answers false.
     pub fn is_anchored(&self) -> bool
         ensures { result ≡ self.now.is_anchored }
     {
@@ -65,6 +79,13 @@ impl Pattern {
     }
 
     /// Whether the pattern matches the path.
+    ///
+    /// The path is relative to the directory of the pattern's file: segments cut by single slashes, and no slash at its
+    /// ends. `is_dir` says whether it is a directory. A directory that matches says nothing of what is below it.
+    ///
+    /// ```
+    /// assert!(rt; Pattern::read(alloc, b"frotz/")?.matches(b"a/frotz", true));
+    /// ```
     pub fn matches(&self, path: &[u8], is_dir: bool) -> bool
         ensures meaning { IsTrue result ↔ Matches self.now path.now is_dir }
         ensures computed { result ≡ is_match self.now path.now is_dir }
@@ -72,7 +93,12 @@ impl Pattern {
         self.matches_candidate(&Candidate::new(path), is_dir)
     }
 
-    /// Whether the pattern matches the path.
+    /// The same for a path that is asked about several patterns.
+    ///
+    /// ```
+    /// let path = Candidate::new(b"src/main.o");
+    /// assert!(rt; Pattern::read(alloc, b"*.o")?.matches_candidate(&path, false));
+    /// ```
     pub fn matches_candidate(&self, path: &Candidate, is_dir: bool) -> bool
         ensures meaning { IsTrue result ↔ Matches self.now path.now is_dir }
         ensures computed { result ≡ is_match self.now path.now is_dir }
@@ -80,7 +106,13 @@ impl Pattern {
         self.matched(path, is_dir, &mut Tests::none())
     }
 
-    /// Whether the pattern matches the path, and how many bytes were tested.
+    /// The same, and how many times a literal, a `?` or a bracket was compared with one byte of the path. The number stops
+    /// at the greatest `u64`.
+    ///
+    /// ```
+    /// let (found, tests) = Pattern::read(alloc, b"*.o")?.matches_counted(b"main.c", false);
+    /// assert!(rt; !found && tests == 1);
+    /// ```
     pub fn matches_counted(&self, path: &[u8], is_dir: bool) -> (bool, u64)
         ensures meaning { IsTrue result.0 ↔ Matches self.now path.now is_dir }
         ensures computed { result.0 ≡ is_match self.now path.now is_dir }
@@ -105,7 +137,8 @@ impl Pattern {
     }
 }
 
-/// The law that the test that computes, `is_match`, tells exactly what the relation `Matches` says.
+/// The law that the two definitions of a match agree: `is_match`, a test that computes, is true exactly where the relation
+/// `Matches` holds. It does nothing when it runs.
 pub fn is_match_decides()
     ensures { IsMatchDecides }
 {}

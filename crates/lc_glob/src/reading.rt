@@ -1,4 +1,4 @@
-// Bytes read as a pattern.
+// Bytes read as a pattern: their tokens, the parts that separators cut, and what those make.
 
 ghost use Rattle.std.specs.Prelude.{◌≡◌, ◌≤◌, length, MatchOption, IfOk, IfSome, Some, None, map};
 ghost use Rattle.lc_glob.specs.Patterns.{dead};
@@ -13,12 +13,14 @@ use crate::segment::Segment;
 use std::alloc::{AllocError, Global};
 use std::mem;
 
+/// What the bytes are read as, one after the other.
 #[derive(Debug, Drop)]
 enum Token {
     Separator,
     One(Piece),
 }
 
+/// A byte that means itself: a slash separates, quoted or not.
 fn literal_token(b: u8) -> Token
     ensures { token_of result ≡ literal b }
 {
@@ -97,6 +99,7 @@ fn segments_from(
     Ok(segments)
 }
 
+/// Whether a part is two stars and nothing else.
 fn is_double(part: &[Piece]) -> bool
     ensures { result ≡ is_double_star (map unit_of part.now) }
 {
@@ -106,6 +109,7 @@ fn is_double(part: &[Piece]) -> bool
     }
 }
 
+/// In an anchored pattern two stars alone are a double star.
 fn segment_from_part(anchored: bool, part: Vec<Piece>) -> Segment
     ensures { segment_of result ≡ segment_from anchored (part_of part) }
 {
@@ -116,6 +120,7 @@ fn segment_from_part(anchored: bool, part: Vec<Piece>) -> Segment
     }
 }
 
+/// Whether the last token is a separator.
 fn ends_in_empty(parts: &[Vec<Piece>]) -> bool
     ensures { result ≡ ends_empty (map part_of parts.now) }
 {
@@ -134,6 +139,7 @@ fn is_empty_part(part: &[Piece]) -> bool
     }
 }
 
+/// Whether the first token is a separator.
 fn begins_with_empty(parts: &[Vec<Piece>]) -> bool
     ensures { result ≡ begins_empty (map part_of parts.now) }
 {
@@ -143,6 +149,7 @@ fn begins_with_empty(parts: &[Vec<Piece>]) -> bool
     !rest.is_empty() && first.is_empty()
 }
 
+/// Whether a part is empty, which makes the pattern dead.
 fn has_empty(parts: &[Vec<Piece>]) -> bool
     ensures { result ≡ some_empty (map part_of parts.now) }
 {
@@ -167,6 +174,7 @@ pub(crate) fn read_pattern(alloc: Global, bytes: &[u8]) -> Result<Pattern, Alloc
     read_front(alloc, parts, false)
 }
 
+/// The parts without the last, so without the separator before it.
 fn without_last_part(parts: Vec<Vec<Piece>>) -> Vec<Vec<Piece>>
     ensures { map part_of result.items ≡ without_last (map part_of parts.items) }
 {

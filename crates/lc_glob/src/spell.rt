@@ -51,12 +51,17 @@ pub(crate) fn spells(segments: &[Segment], path: &Candidate, tests: &mut Tests) 
 
 /// What the last of the segments does with the last of the names.
 enum Ending<'p, 'n> {
+    /// It is a double star.
     Double,
+    /// It fits it, and these are before them.
     Taken(&'p [Segment], Names<'n>),
+    /// There are neither segments nor names.
     Arrived,
+    /// The segments don't lead to the end of the names.
     Blocked,
 }
 
+/// One step from the end.
 fn ending_at<'p, 'n>(here: &'p [Segment], left: Names<'n>, tests: &mut Tests) -> Ending<'p, 'n>
     ensures is { EndingIs result (map segment_of here.now) (names_left left.entry) }
     ensures cost { tests.new.made + cost_after result (weights (map segment_of here.now) * sizes (names_left left.entry)) ≤ tests.old.made + weights (map segment_of here.now) * sizes (names_left left.entry) }
@@ -103,13 +108,19 @@ fn leads_from_end(segments: &[Segment], path: Names, tests: &mut Tests) -> bool
 
 /// What the front of the segments does with the names.
 enum Stride<'p, 'n> {
+    /// It is a double star, and these segments are after it.
     Across(&'p [Segment]),
+    /// It is a double star, and no segment is after it.
     LastDouble,
+    /// It fits the first name, and these are after them.
     Taken(&'p [Segment], Names<'n>),
+    /// There are neither segments nor names.
     Arrived,
+    /// The segments don't lead to the end of the names from here.
     Blocked,
 }
 
+/// One step from the front.
 fn stride_at<'p, 'n>(here: &'p [Segment], left: Names<'n>, tests: &mut Tests) -> Stride<'p, 'n>
     ensures is { StrideIs result (map segment_of here.now) (names_left left.entry) }
     ensures cost { tests.new.made ≤ tests.old.made + front_cost (map segment_of here.now) (names_left left.entry) }

@@ -2,8 +2,9 @@ use Rattle.std.proofs.Common.{◌<◌, arith, length}
 use Rattle.lc_glob.proofs.Items.{colon_class, pair_taken}
 use Rattle.lc_glob.proofs.bracket.push_colon.Goals as goal
 
-pub returns-clause-is : goal.returns-clause-is
-returns-clause-is c =
-    let is = rw c.in-Some-found.is at c.in-Some.ensures.is in
+pub returns-in_ok-extend_from_slice-in-Class-clause-is :
+    goal.returns-in_ok-extend_from_slice-in-Class-clause-is
+returns-in_ok-extend_from_slice-in-Class-clause-is c =
+    let is = c.in-Class.ensures in
     let below : c.first_close-place.result < length c.args.after.now = omega (arith, c.first_close-place.ensures.within) in
-    (c.in-Some-found.class.now, pair_taken _ _ _ _ (colon_class _ _ _ _ _ c.first_close-place.ensures.is below is.0 is.1) is.2, c.in_ok-extend_from_slice.ensures.items)
+    (c.in-Class.class.now, pair_taken _ _ _ _ (colon_class _ _ _ _ _ c.first_close-place.ensures.is below is.0 is.1) is.2, c.in_ok-extend_from_slice-in-Class.ensures.items)
