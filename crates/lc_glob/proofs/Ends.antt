@@ -1,5 +1,5 @@
 -- The sizes of what stands before the last of a list, and of that last.
-use Rattle.std.proofs.Common.{refl, sym, Bool, true, false, ◌≡◌, ◌≤◌, ◌+◌, ◌*◌, ℕ, List, [], ◌∷◌, ◌++◌, length, map, Vec, ap, ◌∙◌, arith}
+use Rattle.std.proofs.Common.{refl, sym, ◌≡◌, ◌≤◌, ◌+◌, ◌*◌, ℕ, List, [], ◌∷◌, ◌++◌, length, map, Vec, ap, ◌∙◌, arith}
 use Rattle.lc_glob.specs.Units.{GlobUnit}
 use Rattle.lc_glob.specs.Patterns.{GlobSegment, plain, double_star}
 use Rattle.std.proofs.lemmas.List.{map-append, length-map}

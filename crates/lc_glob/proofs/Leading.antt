@@ -1,5 +1,5 @@
 -- How segments spell names from their end, and lead to it.
-use Rattle.std.proofs.Common.{◌≡◌, ◌↔◌, IsTrue, ℕ, Bool, true, false, List, [], ◌∷◌, ◌++◌, refl, sym, ◌∙◌, subst, ap, length, arith}
+use Rattle.std.proofs.Common.{◌≡◌, ◌↔◌, IsTrue, ℕ, Bool, true, false, List, [], ◌∷◌, ◌++◌, refl, sym, ◌∙◌, subst, ap}
 use Rattle.std.proofs.lemmas.List.{append-nil}
 use Rattle.std.proofs.lemmas.Bool.{false≢true}
 use Rattle.lc_glob.specs.Units.{GlobUnit}
@@ -7,7 +7,7 @@ use Rattle.lc_glob.specs.Fits.{Fits}
 use Rattle.lc_glob.specs.Patterns.{GlobSegment, plain, double_star}
 use Rattle.lc_glob.specs.Matches.{Spells}
 use Rattle.lc_glob.specs.Leads.{Leads}
-use Rattle.lc_glob.proofs.After.{After, after_empty, after_end}
+use Rattle.lc_glob.proofs.After.{after_empty, after_end}
 
 -- whether the last segment is a double star
 abbrev ends_double : List GlobSegment → Bool

@@ -1,7 +1,6 @@
 -- Trying a double star's runs from the shortest on, with one place to go back to.
-use Rattle.std.proofs.Common.{not, ◌≡◌, ◌↔◌, ◌⊎◌, ◌≤◌, ◌+◌, IsTrue, map, ℕ, Bool, true, false, List, [], ◌∷◌, inl, inr, refl, sym, subst, ap, length, Option, Some, None, arith}
+use Rattle.std.proofs.Common.{◌≡◌, ◌↔◌, ◌⊎◌, ◌≤◌, ◌+◌, IsTrue, map, ℕ, true, List, [], ◌∷◌, inl, inr, refl, sym, subst, ap, length, Option, Some, None, arith}
 use Rattle.std.proofs.lemmas.List.{length-map, append-nil}
-use Rattle.std.proofs.lemmas.Bool.{both_ways, not-true}
 use Rattle.lc_glob.specs.Units.{GlobUnit}
 use Rattle.lc_glob.specs.Fits.{Fits}
 use Rattle.lc_glob.specs.Patterns.{GlobSegment, plain, double_star}
@@ -10,7 +9,7 @@ use Rattle.lc_glob.specs.Views.{segment_of}
 use Rattle.lc_glob.specs.Names.{names_left}
 use Rattle.lc_glob.specs.declared.segment.Segment.{Segment}
 use Rattle.lc_glob.specs.declared.spell.BackPath.{BackPath}
-use Rattle.lc_glob.proofs.After.{After, Later, after_empty, later_after, after_split, after_join, after_after, after_drop}
+use Rattle.lc_glob.proofs.After.{After, Later, later_after, after_split, after_join, after_after, after_drop}
 use Rattle.lc_glob.proofs.Cost.{again}
 
 -- what is still to be tried where the segments here don't spell the names that are left

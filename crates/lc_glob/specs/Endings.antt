@@ -2,7 +2,7 @@
 use Rattle.std.specs.Prelude.{ℕ, ◌*◌, ◌≡◌, List, [], ◌∷◌, ◌++◌, map}
 use Rattle.lc_glob.specs.Units.{GlobUnit}
 use Rattle.lc_glob.specs.Fits.{Fits}
-use Rattle.lc_glob.specs.Patterns.{GlobSegment, plain, double_star}
+use Rattle.lc_glob.specs.Patterns.{GlobSegment, plain}
 use Rattle.lc_glob.specs.Leads.{Leads}
 use Rattle.lc_glob.specs.Views.{segment_of}
 use Rattle.lc_glob.specs.Names.{names_left}

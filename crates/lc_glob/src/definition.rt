@@ -5,7 +5,7 @@
 
 ghost use Rattle.std.specs.Prelude.{◌↔◌, IsTrue, map};
 ghost use Rattle.lc_glob.specs.Fits.{Fits};
-ghost use Rattle.lc_glob.specs.Matches.{Spells, FitsLast};
+ghost use Rattle.lc_glob.specs.Matches.{Spells};
 ghost use Rattle.lc_glob.specs.Names.{bytes_of};
 ghost use Rattle.lc_glob.specs.Views.{unit_of, segment_of};
 

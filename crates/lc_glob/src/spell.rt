@@ -4,7 +4,7 @@
 // pattern is long. Only what stands before it is looked for, from the front, with one place to go back to: the last
 // double star that was passed, since the shortest run that serves one serves all before it.
 
-ghost use Rattle.std.specs.Prelude.{◌≡◌, ◌↔◌, ◌≤◌, ◌+◌, ◌*◌, IsTrue, map};
+ghost use Rattle.std.specs.Prelude.{◌↔◌, ◌≤◌, ◌+◌, ◌*◌, IsTrue, map};
 ghost use Rattle.lc_glob.specs.Matches.{Spells, FitsLast};
 ghost use Rattle.lc_glob.specs.Leads.{Leads};
 ghost use Rattle.lc_glob.specs.Names.{names_left};

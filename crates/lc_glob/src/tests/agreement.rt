@@ -20,16 +20,11 @@ fn letter(digit: usize) -> u8 {
     if digit % 2 == 0 { b'a' } else { b'b' }
 }
 
-/// Whether both give one answer for each name of up to four letters.
+/// Whether both give one answer for each name of up to three letters.
 fn agree_on_names(pieces: &[Piece]) -> bool {
-    for code in 0..16 {
-        let letters = [
-            letter(code),
-            letter(code / 2),
-            letter(code / 4),
-            letter(code / 8),
-        ];
-        for len in 0..=4 {
+    for code in 0..8 {
+        let letters = [letter(code), letter(code / 2), letter(code / 4)];
+        for len in 0..=3 {
             let name = &letters[..len];
             if fits(pieces, Name::new(name), &mut Tests::none()) != definition::fits(pieces, name) {
                 return false;
@@ -57,14 +52,9 @@ fn agree_on_paths(pattern: &Pattern) -> bool {
 
 #[test]
 fn fitting_agrees_with_its_definition(rt: HostRuntime) -> Result<(), Fail> {
-    for code in 0..256 {
-        let pieces = [
-            piece(code),
-            piece(code / 4),
-            piece(code / 16),
-            piece(code / 64),
-        ];
-        for len in 0..=4 {
+    for code in 0..64 {
+        let pieces = [piece(code), piece(code / 4), piece(code / 16)];
+        for len in 0..=3 {
             assert!(rt; agree_on_names(&pieces[..len]));
         }
     }

@@ -1,5 +1,4 @@
-use Rattle.std.proofs.Common.{inl, inr, map, ap, ◌≤◌, arith, length, sym, ◌∙◌}
-use Rattle.std.proofs.lemmas.List.{length-map}
+use Rattle.std.proofs.Common.{inl, inr, map, ap, ◌≤◌, arith, length}
 use Rattle.lc_glob.specs.Views.{segment_of}
 use Rattle.lc_glob.specs.Names.{names_left}
 use Rattle.lc_glob.proofs.Cost.{full_parts, across_cost, name_cost, name_reserve, block_cost, end_cost}
