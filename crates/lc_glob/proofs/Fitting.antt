@@ -5,32 +5,11 @@ use Rattle.lc_glob.specs.Views.{unit_of}
 use Rattle.lc_glob.specs.declared.piece.Piece.{Piece}
 use Rattle.lc_glob.specs.Units.{GlobUnit, byte, any, star, set, takes, is_star}
 use Rattle.lc_glob.specs.Fits.{Fits}
-
--- a star stands for nothing, or for one byte more
-pub star_none : (us : List GlobUnit) (name : List ℕ) → Fits us name → Fits (star ∷ us) name
-star_none us name h = ([], name, refl, h)
-
-pub star_more : (us : List GlobUnit) (b : ℕ) (bs : List ℕ) → Fits (star ∷ us) bs → Fits (star ∷ us) (b ∷ bs)
-star_more us b bs h = (b ∷ h.0, h.1, ap (λ (l : List ℕ). b ∷ l) h.2, h.3)
-
-from_empty : (us : List GlobUnit) (a b : List ℕ) → [] ≡ a ++ b → Fits us b → Fits us []
-from_empty us [] [] e f = f
-from_empty us [] (x ∷ b) e f = cc
-from_empty us (x ∷ a) b e f = cc
-
-pub star_empty : (us : List GlobUnit) → Fits (star ∷ us) [] → Fits us []
-star_empty us h = from_empty us h.0 h.1 h.2 h.3
-
-from_cut : (us : List GlobUnit) (x : ℕ) (xs a b : List ℕ) → x ∷ xs ≡ a ++ b → Fits us b → Fits us (x ∷ xs) ⊎ Fits (star ∷ us) xs
-from_cut us x xs [] b e f = inl (subst (λ (l : List ℕ). Fits us l) (sym e) f)
-from_cut us x xs (y ∷ a) b e f = inr (a, b, (cc), f)
-
-pub star_cut : (us : List GlobUnit) (x : ℕ) (xs : List ℕ) → Fits (star ∷ us) (x ∷ xs) → Fits us (x ∷ xs) ⊎ Fits (star ∷ us) xs
-star_cut us x xs h = from_cut us x xs h.0 h.1 h.2 h.3
+use Rattle.lc_glob.proofs.After.{after_none, after_more, after_empty, after_cut}
 
 -- by the first unit and the first byte
 pub fits_star_empty : (u : GlobUnit) (us : List GlobUnit) → is_star u ≡ true → Fits (u ∷ us) [] ↔ Fits us []
-fits_star_empty star us e = (star_empty us, star_none us [])
+fits_star_empty star us e = (after_empty (Fits us), after_none (Fits us) [])
 fits_star_empty (byte c) us e = cc
 fits_star_empty any us e = cc
 fits_star_empty (set n rs) us e = cc
@@ -42,7 +21,7 @@ fits_one_empty any us e h = h
 fits_one_empty (set n rs) us e h = h
 
 pub fits_star : (u : GlobUnit) (us : List GlobUnit) (x : ℕ) (xs : List ℕ) → is_star u ≡ true → Fits (u ∷ us) (x ∷ xs) ↔ (Fits us (x ∷ xs) ⊎ Fits (u ∷ us) xs)
-fits_star star us x xs e = (star_cut us x xs, λ w. elim w [ inl f ↦ star_none us (x ∷ xs) f | inr f ↦ star_more us x xs f ])
+fits_star star us x xs e = (after_cut (Fits us) x xs, λ w. elim w [ inl f ↦ after_none (Fits us) (x ∷ xs) f | inr f ↦ after_more (Fits us) x xs f ])
 fits_star (byte c) us x xs e = cc
 fits_star any us x xs e = cc
 fits_star (set n rs) us x xs e = cc
