@@ -8,10 +8,6 @@ use Rattle.lc_glob.specs.Path.{segments_of}
 use Rattle.lc_glob.specs.Reading.{Token, separator, one, token, put, put_on, parts, pattern_of, pattern_from, segment_from, is_double_star, without_last, without_first, begins_empty, ends_empty, some_empty}
 use Rattle.lc_glob.specs.Patterns.{dead}
 
-onto_more : (b : ℕ) (s : List (List ℕ)) → sizes (onto_first b s) ≤ suc (sizes s) + 1
-onto_more b [] = omega arith
-onto_more b (n ∷ ns) = omega arith
-
 onto_size : (b : ℕ) (s : List (List ℕ)) (k : ℕ) → sizes s ≤ suc k → 1 ≤ sizes s → sizes (onto_first b s) ≤ suc (suc k)
 onto_size b [] k h l = absurd (omega arith)
 onto_size b (n ∷ ns) k h l = omega arith

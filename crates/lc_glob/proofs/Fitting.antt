@@ -32,11 +32,6 @@ fits_one (byte c) us x xs e = (λ h. h, λ h. h)
 fits_one any us x xs e = (λ h. h, λ h. h)
 fits_one (set n rs) us x xs e = (λ h. h, λ h. h)
 
--- the same of lists that are equal to such ones
-pub when_empty : (units us : List GlobUnit) (u : GlobUnit) (name : List ℕ) → units ≡ u ∷ us → name ≡ [] → is_star u ≡ true → Fits units name ↔ Fits us name
-when_empty units us u name e n s =
-    subst (λ (l : List ℕ). Fits units l ↔ Fits us l) (sym n) (subst (λ (l : List GlobUnit). Fits l [] ↔ Fits us []) (sym e) (fits_star_empty u us s))
-
 pub when_star : (units us : List GlobUnit) (u : GlobUnit) (name : List ℕ) (x : ℕ) (xs : List ℕ) → units ≡ u ∷ us → name ≡ x ∷ xs → is_star u ≡ true → Fits units name ↔ (Fits us name ⊎ Fits units xs)
 when_star units us u name x xs e n s =
     subst (λ (l : List ℕ). Fits units l ↔ (Fits us l ⊎ Fits units xs)) (sym n) (subst (λ (l : List GlobUnit). Fits l (x ∷ xs) ↔ (Fits us (x ∷ xs) ⊎ Fits l xs)) (sym e) (fits_star u us x xs s))

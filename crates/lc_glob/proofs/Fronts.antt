@@ -23,9 +23,6 @@ ends_of all [] last r e some is = absurd (some refl)
 ends_of all (p ∷ ps) last r e some is =
     is ∙ sym (ap (λ (l : List (Vec Piece Global)). ends_empty (map part_of l)) e ∙ ap ends_empty (map-append part_of (p ∷ ps) (last ∷ [])) ∙ ends_last (map part_of (p ∷ ps)) (part_of last))
 
-pub last_part_off : (all rest : List (Vec Piece Global)) (last : Vec Piece Global) → all ≡ rest ++ last ∷ [] → map part_of rest ≡ without_last (map part_of all)
-last_part_off all rest last e = sym (ap (λ (l : List (Vec Piece Global)). without_last (map part_of l)) e ∙ ap without_last (map-append part_of rest (last ∷ [])) ∙ last_off (map part_of rest) (part_of last))
-
 kept_off : (all : List (Vec Piece Global)) → map part_of (take (length all - 1) all) ≡ without_last (map part_of all)
 kept_off [] = refl
 kept_off (p ∷ []) = refl

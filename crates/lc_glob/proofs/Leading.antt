@@ -98,16 +98,6 @@ when_end s r us path above n e q =
 pub when_none : (s r : List GlobSegment) (us : List GlobUnit) (path : List (List ℕ)) → s ≡ r ++ plain us ∷ [] → path ≡ [] → Leads s path → ⊥
 when_none s r us path e q h = plain_none r us (subst (Leads (r ++ plain us ∷ [])) q (subst (λ (l : List GlobSegment). Leads l path) e h))
 
-pub over_end : (s : List GlobSegment) (path : List (List ℕ)) → s ≡ [] → path ≡ [] → Leads s path
-over_end s path e q = subst (Leads s) (sym q) (subst (λ (l : List GlobSegment). Leads l []) (sym e) tt)
-
-not_over : (path : List (List ℕ)) → (path ≡ [] → ⊥) → Leads [] path → ⊥
-not_over [] some h = some refl
-not_over (n ∷ ns) some h = h
-
-pub over_blocked : (s : List GlobSegment) (path : List (List ℕ)) → s ≡ [] → (path ≡ [] → ⊥) → Leads s path → ⊥
-over_blocked s path e some h = not_over path some (subst (λ (l : List GlobSegment). Leads l path) e h)
-
 -- what tells whether the segments spell the names, by the last of both
 not_spelled : (above : List (List ℕ)) (n : List ℕ) → Spells [] (above ++ n ∷ []) → ⊥
 not_spelled [] n h = h
