@@ -1,0 +1,5 @@
+pub mod FirstByte
+pub mod Cuts
+pub mod LineEnds
+pub mod LastRule
+pub mod Matching

@@ -1,0 +1,38 @@
+//! Why a file of rules is refused.
+
+ghost use Rattle.std.specs.Prelude.{◌≡◌};
+ghost use Rattle.lc_rules.specs.declared.faults.RuleFault.TheVariants.{Memory};
+
+use std::alloc::AllocError;
+use std::error::Error;
+use std::fmt;
+
+/// The most bytes of an ignore file or an attribute file.
+pub const MAX_RULE_BYTES: usize = 1_048_576;
+
+/// Why an ignore file or an attribute file was not read.
+#[derive(Clone, Copy, Debug, PartialEq, Eq, Hash)]
+pub enum RuleFault {
+    /// It has over `MAX_RULE_BYTES` bytes. Its length is tested before memory is taken.
+    TooLong,
+    Memory,
+}
+
+impl fmt::Display for RuleFault {
+    fn fmt<W: fmt::Write>(&self, f: &mut fmt::Formatter<W>) -> fmt::Result {
+        f.write_str(match self {
+            RuleFault::TooLong => "the rules are too long",
+            RuleFault::Memory => "out of memory",
+        })
+    }
+}
+
+impl Error for RuleFault {}
+
+impl From<AllocError> for RuleFault {
+    ghost from_gives = { λ _ fault. fault ≡ Memory };
+
+    fn from(_refused: AllocError) -> RuleFault {
+        RuleFault::Memory
+    }
+}

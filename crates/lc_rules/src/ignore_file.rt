@@ -1,0 +1,93 @@
+//! Ignore files.
+
+ghost use Rattle.std.specs.Prelude.{◌≡◌, ◌↔◌, ◌<◌, [], length, map, IfOk, IsTrue};
+ghost use Rattle.lc_rules.specs.IgnoreRules.{rules_of};
+ghost use Rattle.lc_rules.specs.RuleView.{rule_view};
+ghost use Rattle.lc_rules.specs.Verdicts.{at_depth, verdict_of};
+ghost use Rattle.lc_rules.specs.declared.faults.TheConstants.{MAX_RULE_BYTES};
+
+use crate::faults::{MAX_RULE_BYTES, RuleFault};
+use crate::ignore_line::{Rule, read_rule};
+use crate::lines::Lines;
+use crate::paths::pattern_matches;
+use crate::verdicts::Verdict;
+use std::alloc::{AllocError, Global};
+use std::marker::Model;
+
+/// An ignore file, as a `.gitignore`: its rules in the order of its lines.
+#[derive(Debug, Drop)]
+pub struct IgnoreFile {
+    rules: Vec<Rule>,
+}
+
+impl Model for IgnoreFile {
+    ghost use Rattle.std.specs.Prelude.{List, map};
+    ghost use Rattle.lc_rules.specs.IgnoreRules.{IgnoreRule};
+    ghost use Rattle.lc_rules.specs.RuleView.{rule_view};
+
+    ghost Value = { List IgnoreRule };
+
+    ghost view = { λ f. map rule_view f.rules.items };
+}
+
+impl IgnoreFile {
+    /// Reads the bytes of a file. Any bytes are an ignore file, if there are not over `MAX_RULE_BYTES` of them.
+    pub fn read(alloc: Global, bytes: &[u8]) -> Result<IgnoreFile, RuleFault>
+        ensures ok { IfOk result (λ file. file ≡ rules_of bytes.now) }
+        ensures too_long { (result ≡ Err RuleFault.TooLong) ↔ (MAX_RULE_BYTES < length bytes.now) }
+    {
+        if bytes.len() > MAX_RULE_BYTES {
+            return Err(RuleFault::TooLong);
+        }
+        let rules = read_rules(alloc, bytes)?;
+        Ok(IgnoreFile { rules })
+    }
+
+    /// The number of rules, those with a dead pattern included.
+    pub fn len(&self) -> usize
+        ensures { result ≡ length self.now }
+    {
+        self.rules.len()
+    }
+
+    pub fn is_empty(&self) -> bool
+        ensures { IsTrue result ↔ (self.now ≡ []) }
+    {
+        self.rules.is_empty()
+    }
+
+    /// What the file alone says of a path below its directory.
+    pub fn verdict(&self, path: &[u8], is_dir: bool) -> Verdict
+        ensures { result ≡ verdict_of (at_depth 0 self.now) path.now is_dir }
+    {
+        last_verdict(&self.rules, path, is_dir)
+    }
+}
+
+fn read_rules(alloc: Global, bytes: &[u8]) -> Result<Vec<Rule>, AllocError>
+    ensures { IfOk result (λ rules. map rule_view rules.items ≡ rules_of bytes.now) }
+{
+    let mut rules = Vec::new(alloc);
+    let mut left = Lines::of(bytes);
+    'lines: while let Some((line, others)) = left.split_first() {
+        if let Some(rule) = read_rule(alloc, line)? {
+            rules.push(rule)?;
+        }
+        left = others;
+    }
+    Ok(rules)
+}
+
+/// What the last of the rules that matches a path says, from the newest to the oldest.
+fn last_verdict(rules: &[Rule], path: &[u8], is_dir: bool) -> Verdict
+    ensures { result ≡ verdict_of (at_depth 0 (map rule_view rules.now)) path.now is_dir }
+{
+    let mut left = rules;
+    'rules: while let Some((rule, older)) = left.split_last() {
+        if pattern_matches(&rule.pattern, path, is_dir) {
+            return rule.verdict();
+        }
+        left = older;
+    }
+    Verdict::NoRule
+}

@@ -1,0 +1,49 @@
+//! The lines of a file of rules.
+
+ghost use Rattle.std.specs.Prelude.{◌≡◌, MatchOption, List, ℕ, ◌∷◌, []};
+ghost use Rattle.lc_rules.specs.RuleLines.{without_mark, lines_of};
+ghost use Rattle.lc_rules.specs.LinesLeft.{lines_left};
+
+use memchr::memchr;
+
+/// The lines that are left.
+#[derive(Clone, Copy)]
+pub(crate) struct Lines<'a> {
+    rest: Option<&'a [u8]>,
+}
+
+impl<'a> Lines<'a> {
+    /// The lines of a file, without its byte order mark.
+    pub(crate) fn of(bytes: &'a [u8]) -> Self
+        ensures { lines_left result ≡ lines_of bytes.now }
+    {
+        Lines {
+            rest: Some(without_mark(bytes)),
+        }
+    }
+
+    /// The first line, and the others.
+    pub(crate) fn split_first(self) -> Option<(&'a [u8], Lines<'a>)>
+        ensures { MatchOption result (lines_left self.entry ≡ []) (λ p. lines_left self.entry ≡ p.0.now ∷ lines_left p.1) }
+    {
+        let bytes = self.rest?;
+        match memchr(b'\n', bytes) {
+            None => Some((bytes, Lines { rest: None })),
+            Some(i) => Some((
+                &bytes[..i],
+                Lines {
+                    rest: Some(&bytes[i + 1..]),
+                },
+            )),
+        }
+    }
+}
+
+fn without_mark<'a>(bytes: &'a [u8]) -> &'a [u8]
+    ensures { result.now ≡ without_mark bytes.now }
+{
+    match bytes {
+        [0xEF, 0xBB, 0xBF, rest @ ..] => rest,
+        _ => bytes,
+    }
+}

@@ -1,0 +1,4 @@
+//! What the rules of files say of paths: values from outside, and that each call can succeed.
+
+mod chains;
+mod ignore;
