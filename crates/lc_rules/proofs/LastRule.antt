@@ -2,7 +2,7 @@
 use Rattle.std.proofs.Common.{◌≡◌, ℕ, Bool, true, false, cond, List, [], ◌∷◌, ◌++◌, map, filter, refl, sym, ◌∙◌, ap, append_assoc}
 use Rattle.std.proofs.lemmas.List.{append-nil, map-append}
 use Rattle.std.proofs.lemmas.List.Elements.{filter-append}
-use Rattle.lc_rules.specs.IsMatch.{is_match}
+use Rattle.lc_glob.specs.IsMatch.{is_match}
 use Rattle.lc_rules.specs.IgnoreRules.{IgnoreRule}
 use Rattle.lc_rules.specs.RuleView.{rule_view}
 use Rattle.lc_rules.specs.Verdicts.{below, rule_matches, verdict_by, by_last, verdict_of, at_depth, joined}

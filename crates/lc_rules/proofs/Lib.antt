@@ -2,4 +2,3 @@ pub mod FirstByte
 pub mod Cuts
 pub mod LineEnds
 pub mod LastRule
-pub mod Matching

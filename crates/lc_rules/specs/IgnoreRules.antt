@@ -1,8 +1,10 @@
--- The rules of an ignore file: gitignore(5), "Pattern format".
-use Rattle.std.specs.Prelude.{ℕ, nat_eq, Bool, true, false, cond, List, [], ◌∷◌, Option, Some, None}
+-- The rules of an ignore file: gitignore(5), PATTERN FORMAT.
+use Rattle.std.specs.Prelude.{ℕ, Bool, true, false, ◌==◌, if◌then◌else◌, List, [], ◌∷◌, Option, Some, None}
 use Rattle.std.specs.List.{filter_map}
-use Rattle.lc_glob.specs.Segments.{GlobPattern}
-use Rattle.lc_glob.specs.Reading.{pattern}
+use Rattle.lc_glob.specs.Bytes.{backslash, exclamation_mark}
+use Rattle.lc_glob.specs.Patterns.{GlobPattern}
+use Rattle.lc_glob.specs.Reading.{pattern_of}
+use Rattle.lc_rules.specs.Bytes.{carriage_return, space, hash}
 use Rattle.lc_rules.specs.RuleLines.{lines_of}
 
 -- a rule: whether it includes again what an earlier rule ignored, and its pattern, perhaps a dead one
@@ -13,32 +15,34 @@ pub record IgnoreRule : Type 0 where
 -- a line without one carriage return at its end
 abbrev pub without_return : List ℕ → List ℕ
 without_return [] = []
-without_return (b ∷ []) = cond (nat_eq b 13) [] (b ∷ [])
+without_return (b ∷ []) = if b == carriage_return then [] else b ∷ []
 without_return (b ∷ c ∷ cs) = b ∷ without_return (c ∷ cs)
 
 -- a single byte before what is kept of the units after it: a space is dropped where nothing after it is kept
 abbrev pub byte_before : ℕ → List ℕ → List ℕ
-byte_before b [] = cond (nat_eq b 32) [] (b ∷ [])
+byte_before b [] = if b == space then [] else b ∷ []
 byte_before b (c ∷ cs) = b ∷ c ∷ cs
 
--- a line without its trailing spaces. It is read in units, a backslash (92) with the byte after it or one byte; the
--- longest run of units at its end that are single spaces is dropped, so a quoted space stays
+-- a line without its trailing spaces. It is read in units, a backslash with the byte after it or one byte; the longest
+-- run of units at its end that are single spaces is dropped, so that a quoted space stays
 abbrev pub without_spaces : List ℕ → List ℕ
 without_spaces [] = []
 without_spaces (b ∷ []) = byte_before b []
-without_spaces (b ∷ c ∷ cs) = cond (nat_eq b 92) (b ∷ c ∷ without_spaces cs) (byte_before b (without_spaces (c ∷ cs)))
+without_spaces (b ∷ c ∷ cs) =
+    if b == backslash then b ∷ c ∷ without_spaces cs else byte_before b (without_spaces (c ∷ cs))
 
 abbrev pub plain_rule : List ℕ → IgnoreRule
-plain_rule bytes = record { is_negated = false; pattern = pattern bytes }
+plain_rule bytes = record { is_negated = false; pattern = pattern_of bytes }
 
 abbrev pub negated_rule : List ℕ → IgnoreRule
-negated_rule bytes = record { is_negated = true; pattern = pattern bytes }
+negated_rule bytes = record { is_negated = true; pattern = pattern_of bytes }
 
--- the rule of a line without its trailing spaces: none of an empty line and of a comment, which begins with a hash
--- (35); an exclamation mark (33) negates the pattern after it
+-- the rule of a line without its trailing spaces: none of an empty line and of a comment, which begins with a hash; an
+-- exclamation mark negates the pattern after it
 abbrev pub rule_from : List ℕ → Option IgnoreRule
 rule_from [] = None
-rule_from (b ∷ bs) = cond (nat_eq b 35) None (Some (cond (nat_eq b 33) (negated_rule bs) (plain_rule (b ∷ bs))))
+rule_from (b ∷ bs) =
+    if b == hash then None else Some (if b == exclamation_mark then negated_rule bs else plain_rule (b ∷ bs))
 
 -- the rule that a line gives
 abbrev pub rule_of_line : List ℕ → Option IgnoreRule

@@ -1,7 +1,6 @@
 -- What the code's rule stands for.
-use Rattle.lc_glob.specs.PatternView.{pattern_of}
 use Rattle.lc_rules.specs.IgnoreRules.{IgnoreRule}
 use Rattle.lc_rules.specs.declared.ignore_line.Rule.{Rule}
 
 abbrev pub rule_view : Rule → IgnoreRule
-rule_view r = record { is_negated = r.is_negated; pattern = pattern_of r.pattern }
+rule_view r = record { is_negated = r.is_negated; pattern = r.pattern }

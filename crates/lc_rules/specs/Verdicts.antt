@@ -1,14 +1,14 @@
--- What the rules of a chain's files say of a path: gitignore(5), "Description" on precedence.
-use Rattle.std.specs.Prelude.{ℕ, zero, suc, Bool, cond, nat_eq, List, [], ◌∷◌, ◌++◌, map, filter}
+-- What the rules of a chain's files say of a path: gitignore(5), DESCRIPTION, on the order of precedence.
+use Rattle.std.specs.Prelude.{ℕ, zero, suc, Bool, ◌==◌, if◌then◌else◌, List, [], ◌∷◌, ◌++◌, map, filter}
 use Rattle.std.specs.List.{after_first}
-use Rattle.lc_rules.specs.IsMatch.{is_match}
+use Rattle.lc_glob.specs.Bytes.{slash}
+use Rattle.lc_glob.specs.IsMatch.{is_match}
 use Rattle.lc_rules.specs.IgnoreRules.{IgnoreRule}
 use Rattle.lc_rules.specs.declared.verdicts.Verdict.{Verdict}
 use Rattle.lc_rules.specs.declared.verdicts.Verdict.TheVariants.{Ignored, Included, NoRule}
 
--- 47 is a slash
 abbrev pub is_slash : ℕ → Bool
-is_slash b = nat_eq b 47
+is_slash b = b == slash
 
 -- a path without its first segments, as a file in the directory at this depth sees it
 abbrev pub below : ℕ → List ℕ → List ℕ
@@ -20,7 +20,7 @@ abbrev pub rule_matches : List ℕ → Bool → (ℕ × IgnoreRule) → Bool
 rule_matches path is_dir rule = is_match rule.1.pattern (below rule.0 path) is_dir
 
 abbrev pub verdict_by : IgnoreRule → Verdict
-verdict_by rule = cond rule.is_negated Included Ignored
+verdict_by rule = if rule.is_negated then Included else Ignored
 
 -- the last of these rules decides
 abbrev pub by_last : List (ℕ × IgnoreRule) → Verdict

@@ -9,7 +9,6 @@ ghost use Rattle.lc_rules.specs.declared.faults.TheConstants.{MAX_RULE_BYTES};
 use crate::faults::{MAX_RULE_BYTES, RuleFault};
 use crate::ignore_line::{Rule, read_rule};
 use crate::lines::Lines;
-use crate::paths::pattern_matches;
 use crate::verdicts::Verdict;
 use std::alloc::{AllocError, Global};
 use std::marker::Model;
@@ -84,7 +83,7 @@ fn last_verdict(rules: &[Rule], path: &[u8], is_dir: bool) -> Verdict
 {
     let mut left = rules;
     'rules: while let Some((rule, older)) = left.split_last() {
-        if pattern_matches(&rule.pattern, path, is_dir) {
+        if rule.pattern.matches(path, is_dir) {
             return rule.verdict();
         }
         left = older;

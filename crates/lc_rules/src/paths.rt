@@ -2,11 +2,8 @@
 
 ghost use Rattle.std.specs.Prelude.{◌≡◌};
 ghost use Rattle.std.specs.List.{after_first};
-ghost use Rattle.lc_glob.specs.PatternView.{pattern_of};
-ghost use Rattle.lc_rules.specs.IsMatch.{is_match};
 ghost use Rattle.lc_rules.specs.Verdicts.{is_slash, below};
 
-use lc_glob::Pattern;
 use memchr::memchr;
 
 fn after_slash<'a>(path: &'a [u8]) -> &'a [u8]
@@ -29,10 +26,4 @@ pub(crate) fn below<'a>(path: &'a [u8], depth: u32) -> &'a [u8]
         left -= 1;
     }
     rest
-}
-
-pub(crate) fn pattern_matches(pattern: &Pattern, path: &[u8], is_dir: bool) -> bool
-    ensures { result ≡ is_match (pattern_of pattern.now) path.now is_dir }
-{
-    pattern.matches(path, is_dir)
 }

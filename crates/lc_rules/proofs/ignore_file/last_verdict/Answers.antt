@@ -2,9 +2,9 @@ use Rattle.std.proofs.Common.{◌∙◌, sym}
 use Rattle.lc_rules.proofs.LastRule.{rule_decides, rule_passes}
 use Rattle.lc_rules.proofs.ignore_file.last_verdict.Goals as goal
 
-pub returns-then-pattern_matches : goal.returns-then-pattern_matches
-returns-then-pattern_matches c =
-    c.verdict.ensures ∙ sym (c.rules.invariant ∙ rule_decides _ _ _ _ _ c.in-Some.ensures.cases.0 (sym c.pattern_matches.ensures ∙ c.if-pattern_matches.true))
+pub returns-then-matches : goal.returns-then-matches
+returns-then-matches c =
+    c.verdict.ensures ∙ sym (c.rules.invariant ∙ rule_decides _ _ _ _ _ c.in-Some.ensures.cases.0 (sym c.matches.ensures.computed ∙ c.if-matches.true))
 
 pub rules-preserved : goal.rules-preserved
-rules-preserved c = c.rules.invariant ∙ rule_passes _ _ _ _ _ c.in-Some.ensures.cases.0 (sym c.pattern_matches.ensures ∙ c.if-pattern_matches.false)
+rules-preserved c = c.rules.invariant ∙ rule_passes _ _ _ _ _ c.in-Some.ensures.cases.0 (sym c.matches.ensures.computed ∙ c.if-matches.false)
