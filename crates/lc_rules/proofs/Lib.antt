@@ -2,3 +2,12 @@ pub mod FirstByte
 pub mod Cuts
 pub mod LineEnds
 pub mod LastRule
+pub mod WordCuts
+pub mod AttrReading
+pub mod DecisionLaws
+pub mod OneName
+pub mod Moving
+pub mod ReadingOrder
+pub mod LastMacro
+pub mod NameKeys
+pub mod NamedLines

@@ -5,3 +5,15 @@ pub mod IgnoreRules
 pub mod RuleView
 pub mod Verdicts
 pub mod Chains
+pub mod Attributes
+pub mod AttrWords
+pub mod AttrQuotes
+pub mod AttrLines
+pub mod Decision
+pub mod AttrStates
+pub mod AttrViews
+pub mod ReadLines
+pub mod MacroPlaces
+pub mod LineNames
+pub mod KnownMacros
+pub mod Deciding

@@ -3,17 +3,34 @@
 //! The formats are those of gitignore(5) and gitattributes(5); `docs/RULES.md` has each rule with an example.
 #![tactic(auto)]
 
+mod assignment;
+mod attr_chain;
+mod attr_file;
+mod attr_line;
+mod attr_quotes;
+mod attr_words;
+mod deciding;
+mod decision;
 mod faults;
 mod ignore_chain;
 mod ignore_file;
 mod ignore_line;
+mod line_table;
 mod lines;
+mod macro_table;
+mod macros;
 mod paths;
+mod states;
 mod verdicts;
+mod wanted;
 
+pub use attr_chain::AttrChain;
+pub use attr_file::AttrFile;
+pub use decision::decides_by_equations;
 pub use faults::{MAX_RULE_BYTES, RuleFault};
 pub use ignore_chain::Chain;
 pub use ignore_file::IgnoreFile;
+pub use states::{State, TextState};
 pub use verdicts::Verdict;
 
 #[cfg(test)]

@@ -1,0 +1,9 @@
+use Rattle.std.proofs.Common.{◌≡◌, ◌≤◌, length}
+use Rattle.lc_rules.specs.AttrLines.{trimmed}
+use Rattle.lc_rules.proofs.attr_words.trimmed.Given as goal
+
+abbrev pub invariant-bytes : goal.invariant-bytes
+invariant-bytes l = record { same : trimmed l.line ≡ trimmed l.left; shorter : length l.left ≤ length l.line }
+
+abbrev pub decreases-bytes : goal.decreases-bytes
+decreases-bytes l = length l.left

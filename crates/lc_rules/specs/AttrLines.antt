@@ -1,0 +1,100 @@
+-- The lines of an attribute file: gitattributes(5), DESCRIPTION and DEFINING MACRO ATTRIBUTES.
+use Rattle.std.specs.Prelude.{ℕ, Bool, false, ◌==◌, ◌&&◌, if◌then◌else◌, List, [], ◌∷◌, Option, Some, None}
+use Rattle.std.specs.List.{filter_map}
+use Rattle.lc_glob.specs.Bytes.{exclamation_mark}
+use Rattle.lc_glob.specs.Patterns.{GlobPattern}
+use Rattle.lc_glob.specs.Reading.{pattern_of}
+use Rattle.lc_rules.specs.Bytes.{hash, quotation_mark}
+use Rattle.lc_rules.specs.RuleLines.{lines_of}
+use Rattle.lc_rules.specs.Attributes.{Assign, Macro}
+use Rattle.lc_rules.specs.AttrWords.{is_white, is_some_word, words, is_name, assigns}
+use Rattle.lc_rules.specs.AttrQuotes.{unquoted}
+
+-- a line with a pattern: what it says of the paths that the pattern matches
+pub record AttrLine : Type 0 where
+  pub pattern : GlobPattern
+  pub assigns : List Assign
+
+-- what a line gives
+pub data Given : Type 0 where
+  macro_line : Macro → Given
+  pattern_line : AttrLine → Given
+
+abbrev pub as_macro : List ℕ → Option (List Assign) → Option Given
+as_macro name None = None
+as_macro name (Some body) = if is_name name then Some (macro_line (name, body)) else None
+
+abbrev pub as_pattern : List ℕ → Option (List Assign) → Option Given
+as_pattern bytes None = None
+as_pattern bytes (Some a) = Some (pattern_line (record { pattern = pattern_of bytes; assigns = a }))
+
+abbrev pub is_negated : List ℕ → Bool
+is_negated [] = false
+is_negated (b ∷ bs) = b == exclamation_mark
+
+-- a line with a pattern and some words; one whose pattern begins with an exclamation mark gives nothing
+abbrev pub by_pattern : List ℕ → Option (List Assign) → Option Given
+by_pattern bytes a = if is_negated bytes then None else as_pattern bytes a
+
+-- what follows `[attr]` in a first word that is longer
+abbrev pub macro_word : List ℕ → Option (List ℕ)
+macro_word (a ∷ b ∷ c ∷ d ∷ e ∷ f ∷ rest) =
+    if a == 91 && b == 97 && c == 116 && d == 116 && e == 114 && f == 93 && is_some_word rest then Some rest else None
+macro_word w = None
+
+-- a macro line gives something in a top-level file alone
+abbrev pub by_macro : Bool → Option (List ℕ) → List ℕ → Option (List Assign) → Option Given
+by_macro top None word a = by_pattern word a
+by_macro top (Some name) word a = if top then as_macro name a else None
+
+-- a line that is not quoted
+abbrev pub by_words : Bool → List (List ℕ) → Option Given
+by_words top [] = None
+by_words top (w ∷ ws) = by_macro top (macro_word w) w (assigns ws)
+
+-- a line whose pattern is quoted; the words follow the closing quotation mark, with white space before them or not
+abbrev pub by_quote : Option (List ℕ × List ℕ) → Option Given
+by_quote None = None
+by_quote (Some r) = by_pattern r.0 (assigns (words r.1))
+
+-- a line without the white space at its start; that at its end stands in no word
+abbrev pub trimmed : List ℕ → List ℕ
+trimmed [] = []
+trimmed (b ∷ bs) = if is_white b then trimmed bs else b ∷ bs
+
+abbrev pub given_by : Bool → List ℕ → Option Given
+given_by top [] = None
+given_by top (b ∷ bs) =
+    if b == hash then None
+    else if b == quotation_mark then by_quote (unquoted 0 bs)
+    else by_words top (words (b ∷ bs))
+
+-- what some lines give
+abbrev pub given_lines : Bool → List (List ℕ) → List Given
+given_lines top ls = filter_map (λ l. given_by top (trimmed l)) ls
+
+-- what the lines of a file give, in order; `top` says whether the file is top-level
+abbrev pub attribute_lines_of : Bool → List ℕ → List Given
+attribute_lines_of top bytes = given_lines top (lines_of bytes)
+
+abbrev pub macro_in : Given → Option Macro
+macro_in (macro_line m) = Some m
+macro_in (pattern_line l) = None
+
+abbrev pub line_in : Given → Option AttrLine
+line_in (macro_line m) = None
+line_in (pattern_line l) = Some l
+
+-- an attribute file: whether it is top-level, its macros and its lines with a pattern, both in order
+pub record AttributeFile : Type 0 where
+  pub is_top : Bool
+  pub macros : List Macro
+  pub lines : List AttrLine
+
+-- the attribute file that some bytes are
+abbrev pub attribute_file_of : Bool → List ℕ → AttributeFile
+attribute_file_of top bytes = record {
+  is_top = top;
+  macros = filter_map macro_in (attribute_lines_of top bytes);
+  lines = filter_map line_in (attribute_lines_of top bytes);
+}

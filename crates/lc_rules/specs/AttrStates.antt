@@ -1,0 +1,53 @@
+-- What a chain of attribute files says of a path: gitattributes(5), DESCRIPTION, on the order of precedence.
+use Rattle.std.specs.Prelude.{ℕ, Bool, if◌then◌else◌, List, [], ◌∷◌, ◌++◌, reverse, unwrap_or, codes}
+use Rattle.std.specs.Str.{bytes_eq}
+use Rattle.lc_glob.specs.IsMatch.{is_match}
+use Rattle.lc_rules.specs.Attributes.{AttrState, set, unset, value, unspecified, Assign, Macro}
+use Rattle.lc_rules.specs.AttrLines.{AttrLine, AttributeFile}
+use Rattle.lc_rules.specs.Decision.{decided, decide}
+use Rattle.lc_rules.specs.Verdicts.{below}
+use Rattle.lc_rules.specs.declared.states.TextState.{TextState}
+use Rattle.lc_rules.specs.declared.states.TextState.TheVariants.{Set, Unset, Auto, Other, Unspecified}
+
+-- the macro that is built in
+abbrev pub binary : Macro
+binary = (codes "binary", (codes "diff", unset) ∷ (codes "merge", unset) ∷ (codes "text", unset) ∷ [])
+
+-- the files of a chain from the top down, each with its depth
+abbrev pub AttributeFiles : Type 0
+AttributeFiles = List (ℕ × AttributeFile)
+
+abbrev pub top_macros : AttributeFiles → List Macro
+top_macros [] = []
+top_macros (f ∷ fs) = if f.1.is_top then f.1.macros else []
+
+-- the macros: `binary` as built in, then those of the top file
+abbrev pub macros_of : AttributeFiles → List Macro
+macros_of files = binary ∷ top_macros files
+
+-- the assignments of a line, from right to left, where it matches
+abbrev pub by_line : AttrLine → List ℕ → Bool → List Assign
+by_line l path is_dir = if is_match l.pattern path is_dir then reverse l.assigns else []
+
+-- those of some lines, from the last to the first
+abbrev pub by_lines : List AttrLine → List ℕ → Bool → List Assign
+by_lines [] path is_dir = []
+by_lines (l ∷ ls) path is_dir = by_lines ls path is_dir ++ by_line l path is_dir
+
+-- the assignments of all lines that match, highest precedence first: those of the file nearest to the path before those
+-- of a farther one
+abbrev pub assignments_of : AttributeFiles → List ℕ → Bool → List Assign
+assignments_of [] path is_dir = []
+assignments_of (f ∷ fs) path is_dir = assignments_of fs path is_dir ++ by_lines f.1.lines (below f.0 path) is_dir
+
+-- what an attribute is for a path: what the decision of all names has for its name
+abbrev pub state_of : AttributeFiles → List ℕ → Bool → List ℕ → AttrState
+state_of files path is_dir name =
+    unwrap_or (decided (decide (macros_of files) (assignments_of files path is_dir) []) name) unspecified
+
+-- the attribute `text`, by its state
+abbrev pub as_text : AttrState → TextState
+as_text set = Set
+as_text unset = Unset
+as_text (value v) = if bytes_eq v (codes "auto") then Auto else Other
+as_text unspecified = Unspecified

@@ -1,0 +1,55 @@
+-- The words of an attribute line: gitattributes(5), DESCRIPTION.
+use Rattle.std.specs.Prelude.{ℕ, Bool, true, false, not, ◌==◌, ◌&&◌, ◌||◌, nat_lt, nat_le, if◌then◌else◌, List, [], ◌∷◌, length, filter, Option, Some, None}
+use Rattle.std.specs.List.{slice_split, list_all, before_first, after_first, position_or_len}
+use Rattle.lc_glob.specs.Bytes.{exclamation_mark, hyphen}
+use Rattle.lc_rules.specs.Bytes.{space, tab, carriage_return, equals_sign}
+use Rattle.lc_rules.specs.Attributes.{AttrState, set, unset, value, unspecified, Assign}
+
+abbrev pub is_white : ℕ → Bool
+is_white b = b == space || b == tab || b == carriage_return
+
+abbrev pub is_some_word : List ℕ → Bool
+is_some_word word = nat_lt 0 (length word)
+
+-- the words between white space
+abbrev pub words : List ℕ → List (List ℕ)
+words bytes = filter is_some_word (slice_split is_white bytes)
+
+-- ASCII letters and digits, and `-`, `.` and `_`
+abbrev pub is_name_byte : ℕ → Bool
+is_name_byte b = nat_le 65 b && nat_le b 90 || nat_le 97 b && nat_le b 122 || nat_le 48 b && nat_le b 57 || b == 45 || b == 46 || b == 95
+
+-- the names of attributes and macros: one or more such bytes, of which a hyphen isn't the first
+abbrev pub is_name : List ℕ → Bool
+is_name [] = false
+is_name (b ∷ bs) = not (b == hyphen) && list_all is_name_byte (b ∷ bs)
+
+abbrev pub named : List ℕ → AttrState → Option Assign
+named name state = if is_name name then Some (name, state) else None
+
+abbrev pub is_equals : ℕ → Bool
+is_equals b = b == equals_sign
+
+-- `name=value`, whose value is all that follows the first equals sign, or `name`
+abbrev pub plain_assign : List ℕ → Option Assign
+plain_assign w =
+    if nat_lt (position_or_len is_equals w) (length w) then named (before_first is_equals w) (value (after_first is_equals w))
+    else named w set
+
+-- the assignment of a word: `-name` unsets, `!name` makes unspecified, and a value after either has no effect
+abbrev pub assign : List ℕ → Option Assign
+assign [] = None
+assign (b ∷ bs) =
+    if b == hyphen then named (before_first is_equals bs) unset
+    else if b == exclamation_mark then named (before_first is_equals bs) unspecified
+    else plain_assign (b ∷ bs)
+
+abbrev pub both : Option Assign → Option (List Assign) → Option (List Assign)
+both None others = None
+both (Some a) None = None
+both (Some a) (Some others) = Some (a ∷ others)
+
+-- the assignments of all words, in order; none where one word is no assignment
+abbrev pub assigns : List (List ℕ) → Option (List Assign)
+assigns [] = Some []
+assigns (w ∷ ws) = both (assign w) (assigns ws)

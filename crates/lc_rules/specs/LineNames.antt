@@ -1,0 +1,26 @@
+-- The names that lines assign.
+use Rattle.std.specs.Prelude.{◌≡◌, ℕ, Bool, true, List, Vec}
+use Rattle.std.specs.List.{list_any}
+use Rattle.std.specs.Str.{bytes_eq}
+use Rattle.std.specs.Ordering.{nat_cmp}
+use Rattle.std.specs.Cmp.Lexicographic.{slice_cmp}
+use Rattle.std.specs.BTreeSet as tree
+use Rattle.std.specs.BTreeSet.{BTreeSet}
+use Rattle.std.specs.Global.{Global}
+use Rattle.lc_rules.specs.Attributes.{Assign}
+use Rattle.lc_rules.specs.AttrLines.{AttrLine}
+
+abbrev pub assigns_name : List Assign → List ℕ → Bool
+assigns_name assigns name = list_any (λ a. bytes_eq a.0 name) assigns
+
+-- whether some line assigns a name
+abbrev pub lines_name : List AttrLine → List ℕ → Bool
+lines_name lines name = list_any (λ l. assigns_name l.assigns name) lines
+
+-- whether a set of names has one
+abbrev pub has_name : BTreeSet (Vec ℕ Global) → List ℕ → Bool
+has_name names name = tree.contains_by (λ k. slice_cmp nat_cmp name k.items) names
+
+-- the set has all names that the lines assign
+abbrev pub HasNames : List AttrLine → BTreeSet (Vec ℕ Global) → Type 0
+HasNames lines names = (name : List ℕ) → lines_name lines name ≡ true → has_name names name ≡ true

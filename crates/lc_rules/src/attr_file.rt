@@ -1,0 +1,84 @@
+//! Attribute files.
+
+ghost use Rattle.std.specs.Prelude.{◌≡◌, ◌↔◌, ◌<◌, length, IfOk};
+ghost use Rattle.lc_rules.specs.AttrLines.{attribute_file_of};
+ghost use Rattle.lc_rules.specs.declared.faults.TheConstants.{MAX_RULE_BYTES};
+
+use crate::attr_line::{Read, read_line};
+use crate::faults::{MAX_RULE_BYTES, RuleFault};
+use crate::line_table::LineTable;
+use crate::lines::Lines;
+use crate::macro_table::MacroTable;
+use std::alloc::{AllocError, Global};
+use std::marker::Model;
+
+/// An attribute file, as a `.gitattributes`: its macros and its lines with a pattern, each in the order of the file.
+#[derive(Debug, Drop)]
+pub struct AttrFile {
+    is_top: bool,
+    macros: MacroTable,
+    lines: LineTable,
+}
+
+impl Model for AttrFile {
+    ghost use Rattle.lc_rules.specs.AttrLines.{AttributeFile};
+
+    ghost Value = { AttributeFile };
+
+    ghost view = { λ f. record { is_top = f.is_top; macros = f.macros; lines = f.lines } };
+}
+
+impl AttrFile {
+    /// Reads the bytes of a file. Any bytes are an attribute file, if there are not over `MAX_RULE_BYTES` of them. Only
+    /// the file of the tree's top directory, which `top` says it is, defines macros.
+    pub fn read(alloc: Global, bytes: &[u8], top: bool) -> Result<AttrFile, RuleFault>
+        ensures ok { IfOk result (λ file. file ≡ attribute_file_of top bytes.now) }
+        ensures too_long { (result ≡ Err RuleFault.TooLong) ↔ (MAX_RULE_BYTES < length bytes.now) }
+    {
+        if bytes.len() > MAX_RULE_BYTES {
+            return Err(RuleFault::TooLong);
+        }
+        let file = read_file(alloc, bytes, top)?;
+        Ok(file)
+    }
+
+    /// Whether the file was read as that of the tree's top directory.
+    pub fn is_top(&self) -> bool
+        ensures { result ≡ self.now.is_top }
+    {
+        self.is_top
+    }
+
+    pub(crate) fn macros(&self) -> &MacroTable
+        ensures { result.now ≡ self.now.macros }
+    {
+        &self.macros
+    }
+
+    pub(crate) fn lines(&self) -> &LineTable
+        ensures { result.now ≡ self.now.lines }
+    {
+        &self.lines
+    }
+}
+
+fn read_file(alloc: Global, bytes: &[u8], top: bool) -> Result<AttrFile, AllocError>
+    ensures { IfOk result (λ file. file ≡ attribute_file_of top bytes.now) }
+{
+    let mut macros = MacroTable::new(alloc);
+    let mut lines = LineTable::new(alloc);
+    let mut left = Lines::of(bytes);
+    'lines: while let Some((line, others)) = left.split_first() {
+        match read_line(alloc, top, line)? {
+            None => {}
+            Some(Read::Macro(found)) => macros.push(found)?,
+            Some(Read::Line(found)) => lines.push(found)?,
+        }
+        left = others;
+    }
+    Ok(AttrFile {
+        is_top: top,
+        macros,
+        lines,
+    })
+}

@@ -1,0 +1,106 @@
+//! The lines of an attribute file that have a pattern.
+
+ghost use Rattle.std.specs.Prelude.{◌≡◌, ◌∷◌, [], ◌++◌, true, false, ℕ, List, length, map, is_some, IfOk, OnOk};
+ghost use Rattle.std.specs.List.{list_any};
+ghost use Rattle.lc_rules.specs.AttrViews.{assign_of, line_of};
+ghost use Rattle.lc_rules.specs.Decision.{macro_of};
+ghost use Rattle.lc_rules.specs.KnownMacros.{known_macros, macros_for, matters};
+ghost use Rattle.lc_rules.specs.LineNames.{assigns_name, lines_name, has_name};
+
+use crate::assignment::{Assignment, Line, copied};
+use crate::macros::Macros;
+use crate::wanted::Wanted;
+use std::alloc::{AllocError, Global};
+use std::collections::BTreeSet;
+use std::marker::Model;
+
+/// Lines in their order, and the names that they assign, so that a file that can't decide an attribute is skipped whole.
+#[derive(Debug, Drop)]
+pub(crate) struct LineTable {
+    lines: Vec<Line>,
+    names: BTreeSet<Vec<u8>>,
+}
+
+impl Model for LineTable {
+    ghost use Rattle.std.specs.Prelude.{List, map};
+    ghost use Rattle.lc_rules.specs.AttrLines.{AttrLine};
+    ghost use Rattle.lc_rules.specs.AttrViews.{line_of};
+    ghost use Rattle.lc_rules.specs.LineNames.{HasNames};
+
+    ghost Value = { List AttrLine };
+
+    ghost view = { λ t. map line_of t.lines.items };
+
+    ghost invariant = { λ t. HasNames (map line_of t.lines.items) t.names };
+}
+
+impl LineTable {
+    pub(crate) fn new(alloc: Global) -> LineTable
+        ensures { result ≡ [] }
+    {
+        LineTable {
+            lines: Vec::new(alloc),
+            names: BTreeSet::new(alloc),
+        }
+    }
+
+    pub(crate) fn push(&mut self, line: Line) -> Result<(), AllocError>
+        ensures { OnOk result (self.new ≡ self.old ++ line_of line ∷ []) }
+    {
+        self.lines.reserve(1)?;
+        add_names(&mut self.names, line.assignments.as_slice())?;
+        self.lines.push_reserved(line);
+        Ok(())
+    }
+
+    pub(crate) fn as_slice(&self) -> &[Line]
+        ensures { map line_of result.now ≡ self.now }
+    {
+        self.lines.as_slice()
+    }
+
+    /// Whether some line may decide the attribute, by its name or by a macro.
+    pub(crate) fn can_decide(&self, wanted: Wanted) -> bool
+        ensures { result ≡ false → list_any (λ l. list_any (λ a. matters (macros_for wanted.entry) wanted.entry.name.now a.0) l.assigns) self.now ≡ false }
+    {
+        self.may_name(wanted.name) || self.may_name_some(wanted.macros)
+    }
+
+    fn may_name(&self, name: &[u8]) -> bool
+        ensures { result ≡ false → lines_name self.now name.now ≡ false }
+    {
+        self.names.contains(name)
+    }
+
+    /// Whether some line may name a macro. It is not looked for where there are more macros than names.
+    fn may_name_some(&self, macros: Macros) -> bool
+        ensures { result ≡ false → (name : List ℕ) → is_some (macro_of (known_macros macros.entry) name) ≡ true → lines_name self.now name ≡ false }
+    {
+        if self.may_name(b"binary") {
+            return true;
+        }
+        let defined = macros.as_slice();
+        if defined.len() > self.names.len() {
+            return true;
+        }
+        for found in defined {
+            if self.may_name(found.name.as_slice()) {
+                return true;
+            }
+        }
+        false
+    }
+}
+
+/// Adds the names of assignments to a set of names.
+fn add_names(names: &mut BTreeSet<Vec<u8>>, assignments: &[Assignment]) -> Result<(), AllocError>
+    ensures keeps { (name : List ℕ) → has_name names.old name ≡ true → has_name names.new name ≡ true }
+    ensures adds { OnOk result ((name : List ℕ) → assigns_name (map assign_of assignments.now) name ≡ true → has_name names.new name ≡ true) }
+{
+    for assignment in assignments {
+        if !names.contains(assignment.name.as_slice()) {
+            names.insert(copied(&assignment.name)?)?;
+        }
+    }
+    Ok(())
+}

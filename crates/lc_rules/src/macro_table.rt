@@ -1,0 +1,68 @@
+//! The macros of a top-level attribute file.
+
+ghost use Rattle.std.specs.Prelude.{◌≡◌, ◌∷◌, [], ◌++◌, length, map, OnOk, MatchOption, Some, None};
+ghost use Rattle.lc_rules.specs.AttrViews.{assign_of, macro_view};
+ghost use Rattle.lc_rules.specs.Decision.{macro_of};
+
+use crate::assignment::{Assignment, Macro, copied};
+use std::alloc::{AllocError, Global};
+use std::collections::BTreeMap;
+use std::marker::Model;
+
+/// Macros in the order of their lines, and of each name the place of its last macro, so that a file of many macros is
+/// searched in the logarithm of their number.
+#[derive(Debug, Drop)]
+pub(crate) struct MacroTable {
+    defined: Vec<Macro>,
+    places: BTreeMap<Vec<u8>, usize>,
+}
+
+impl Model for MacroTable {
+    ghost use Rattle.std.specs.Prelude.{List, map};
+    ghost use Rattle.lc_rules.specs.Attributes.{Macro as AttrMacro};
+    ghost use Rattle.lc_rules.specs.AttrViews.{macro_view};
+    ghost use Rattle.lc_rules.specs.MacroPlaces.{HasPlaces};
+
+    ghost Value = { List AttrMacro };
+
+    ghost view = { λ t. map macro_view t.defined.items };
+
+    ghost invariant = { λ t. HasPlaces (map macro_view t.defined.items) t.places };
+}
+
+impl MacroTable {
+    pub(crate) fn new(alloc: Global) -> MacroTable
+        ensures { result ≡ [] }
+    {
+        MacroTable {
+            defined: Vec::new(alloc),
+            places: BTreeMap::new(alloc),
+        }
+    }
+
+    pub(crate) fn push(&mut self, added: Macro) -> Result<(), AllocError>
+        ensures { OnOk result (self.new ≡ self.old ++ macro_view added ∷ []) }
+    {
+        let name = copied(&added.name)?;
+        self.defined.reserve(1)?;
+        self.places.insert(name, self.defined.len())?;
+        self.defined.push_reserved(added);
+        Ok(())
+    }
+
+    /// What the last macro of this name stands for.
+    pub(crate) fn find(&self, name: &[u8]) -> Option<&[Assignment]>
+        ensures { MatchOption result (macro_of self.now name.now ≡ None) (λ body. macro_of self.now name.now ≡ Some (map assign_of body.now)) }
+    {
+        match self.places.get(name) {
+            None => None,
+            Some(place) => Some(self.defined[*place].assignments.as_slice()),
+        }
+    }
+
+    pub(crate) fn as_slice(&self) -> &[Macro]
+        ensures { map macro_view result.now ≡ self.now }
+    {
+        self.defined.as_slice()
+    }
+}
