@@ -1,6 +1,6 @@
 -- The first line of a file and the first segment of a path, by the place of the byte that ends it.
 use Rattle.std.proofs.Common.{◌≡◌, ◌<◌, ◌+◌, ◌-◌, ℕ, zero, suc, nat_eq, true, List, get_or, refl, [], ◌∷◌, length, take, drop, sym, ◌∙◌, ap, subst, Some, None, arith}
-use Rattle.std.specs.List.{slice_split, position_or_len, after_first}
+use Rattle.std.specs.List.{slice_split, after_first}
 use Rattle.std.proofs.lemmas.List.Splits.{slice_split_none, slice_split_first}
 use Rattle.std.proofs.lemmas.List.{take_rest, drop_all}
 use Rattle.std.proofs.lemmas.Bool.{false_from_ne_true}

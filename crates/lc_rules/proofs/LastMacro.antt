@@ -1,9 +1,9 @@
 -- The last macro of a name, and its place.
-use Rattle.std.proofs.Common.{◌≡◌, ◌<◌, ℕ, zero, suc, Bool, true, false, cond, List, [], ◌∷◌, ◌++◌, map, length, take, get_or, Option, Some, None, is_some, refl, sym, ◌∙◌, ap, arith, ◌+◌, add-one}
+use Rattle.std.proofs.Common.{◌≡◌, ◌<◌, ℕ, zero, suc, Bool, true, false, cond, List, [], ◌∷◌, ◌++◌, map, length, take, get_or, Option, Some, None, refl, sym, ◌∙◌, ap, arith, ◌+◌, add-one}
 use Rattle.std.proofs.Math.Seq.{take-suc}
 use Rattle.std.proofs.lemmas.List.{map-append, length-map}
 use Rattle.std.specs.Str.{bytes_eq}
-use Rattle.lc_rules.specs.Attributes.{Assign, Macro}
+use Rattle.lc_rules.specs.Attributes.{Macro}
 use Rattle.lc_rules.specs.Decision.{macro_of, later}
 use Rattle.lc_rules.specs.AttrViews.{assign_of, macro_view}
 use Rattle.lc_rules.specs.MacroPlaces.{place_behind, last_place}

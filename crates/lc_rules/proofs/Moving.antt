@@ -1,11 +1,11 @@
 -- What reading assignments does to the search for one name.
-use Rattle.std.proofs.Common.{◌≡◌, ◌≤◌, ◌+◌, ℕ, Bool, true, false, cond, List, [], ◌∷◌, ◌++◌, map, length, reverse, Option, Some, None, is_some, unwrap_or, ◌||◌, refl, sym, ◌∙◌, ap, subst, arith, length-append, append_assoc}
+use Rattle.std.proofs.Common.{◌≡◌, ◌≤◌, ◌+◌, ℕ, Bool, true, false, List, [], ◌∷◌, ◌++◌, length, reverse, Option, Some, None, is_some, unwrap_or, refl, sym, ◌∙◌, ap, subst, arith, length-append, append_assoc}
 use Rattle.std.proofs.lemmas.Bool.{or_parts}
 use Rattle.std.specs.Str.{bytes_eq}
 use Rattle.std.specs.List.{list_any}
 use Rattle.std.proofs.lemmas.List.{append-nil}
 use Rattle.lc_rules.specs.Attributes.{AttrState, set, unset, value, unspecified, Assign, Macro}
-use Rattle.lc_rules.specs.Decision.{decided, has, macro_of, expansion, unread}
+use Rattle.lc_rules.specs.Decision.{macro_of, expansion, unread}
 use Rattle.lc_rules.specs.Deciding.{marked, is_marked, answer, Moves, to_read, stacked}
 use Rattle.lc_rules.specs.KnownMacros.{expanded, matters}
 use Rattle.lc_rules.specs.AttrViews.{seen_state}
@@ -36,10 +36,10 @@ pub moves_macro : (ms : List Macro) (w : List ℕ) (n : List ℕ) (s : AttrState
 moves_macro ms w n s todo left ns after body p o q b e f = (
   f w ∙ mark_other n ns w o p,
   λ rest. answer_macro ms w (n, s) (todo ++ rest) ns o p q
-    ∙ ap (λ x. answer ms w (x ++ (todo ++ rest)) (n ∷ ns)) (expansion_is ms n s body b)
-    ∙ ap (λ x. answer ms w x (n ∷ ns)) (sym (append_assoc (expanded body s) todo rest))
-    ∙ ap (λ x. answer ms w (x ++ rest) (n ∷ ns)) (sym e)
-    ∙ sym (answer_same ms w (left ++ rest) after (n ∷ ns) f (mark_other n ns w o p)),
+      ∙ ap (λ x. answer ms w (x ++ (todo ++ rest)) (n ∷ ns)) (expansion_is ms n s body b)
+      ∙ ap (λ x. answer ms w x (n ∷ ns)) (sym (append_assoc (expanded body s) todo rest))
+      ∙ ap (λ x. answer ms w (x ++ rest) (n ∷ ns)) (sym e)
+      ∙ sym (answer_same ms w (left ++ rest) after (n ∷ ns) f (mark_other n ns w o p)),
 )
 
 macro_less : (ms : List Macro) (n : List ℕ) (s : AttrState) (ns : List (List ℕ)) (body : List Assign) → is_marked ns n ≡ false → macro_of ms n ≡ Some body → length (expanded body s) + unread ms (marked (n ∷ ns)) ≤ unread ms (marked ns)
@@ -78,7 +78,7 @@ as_found ms w todo c d left o found f h = subst (λ (x : Option AttrState). Move
 pub moves_part : (ms : List Macro) (w : List ℕ) (whole part rest todo : List Assign) (c d e : List (List ℕ)) (found : Option AttrState) → Moves ms w whole c None todo d → todo ≡ part ++ rest → Moves ms w part d found [] e → Moves ms w whole c found rest e
 moves_part ms w whole part rest todo c d e found h q k =
     moves_then ms w whole todo rest c d e found h
-      (subst (λ (l : List Assign). Moves ms w l d found rest e) (sym q) (moves_more ms w part [] rest d e found k))
+    (subst (λ (l : List Assign). Moves ms w l d found rest e) (sym q) (moves_more ms w part [] rest d e found k))
 
 -- the answer once all is read
 pub moves_answer : (ms : List Macro) (w : List ℕ) (todo : List Assign) (after : List (List ℕ)) (found : Option AttrState) → Moves ms w todo [] found [] after → answer ms w todo [] ≡ found
@@ -93,8 +93,8 @@ pub state_is : (shown files : AttributeFiles) (ms : List Macro) (w path : List �
 state_is shown files ms w path is_dir names after found e f g h =
     ap (λ l. state_of l path is_dir w) (sym e)
     ∙ ap (λ o. unwrap_or o unspecified) (moves_answer (macros_of files) w (assignments_of files path is_dir) after found
-        (subst (λ (m : List Macro). Moves m w (assignments_of files path is_dir) [] found [] after) f
-          (subst (λ (n : List (List ℕ)). Moves ms w (assignments_of files path is_dir) n found [] after) g h)))
+    (subst (λ (m : List Macro). Moves m w (assignments_of files path is_dir) [] found [] after) f
+    (subst (λ (n : List (List ℕ)). Moves ms w (assignments_of files path is_dir) n found [] after) g h)))
 
 -- assignments none of which matters are passed over
 none_some : {A : Type 0} (o : Option A) → is_some o ≡ false → o ≡ None
@@ -106,5 +106,5 @@ moves_past ms w [] ns p h = moves_none ms w [] ns p
 moves_past ms w (a ∷ r) ns p h =
     let here : matters ms w a.0 ≡ false = (or_parts (matters ms w a.0) (list_any (λ a. matters ms w a.0) r) h).0 in
     moves_then ms w (a ∷ r) r [] ns ns ns None
-      (moves_plain ms w a r ns p ((or_parts (bytes_eq a.0 w) (is_some (macro_of ms a.0)) here).0) (none_some (macro_of ms a.0) ((or_parts (bytes_eq a.0 w) (is_some (macro_of ms a.0)) here).1)))
-      (moves_past ms w r ns p ((or_parts (matters ms w a.0) (list_any (λ a. matters ms w a.0) r) h).1))
+    (moves_plain ms w a r ns p ((or_parts (bytes_eq a.0 w) (is_some (macro_of ms a.0)) here).0) (none_some (macro_of ms a.0) ((or_parts (bytes_eq a.0 w) (is_some (macro_of ms a.0)) here).1)))
+    (moves_past ms w r ns p ((or_parts (matters ms w a.0) (list_any (λ a. matters ms w a.0) r) h).1))

@@ -1,5 +1,5 @@
 -- Maps and sets whose keys are names, by the names' bytes.
-use Rattle.std.proofs.Common.{◌≡◌, ℕ, Bool, true, false, cond, ◌||◌, List, [], ◌∷◌, map, Option, Some, is_some, Vec, refl, sym, ◌∙◌, ap}
+use Rattle.std.proofs.Common.{◌≡◌, ℕ, Bool, true, false, cond, ◌||◌, List, [], ◌∷◌, map, Some, is_some, Vec, refl, sym, ◌∙◌, ap}
 use Rattle.std.specs.List.{list_any}
 use Rattle.std.specs.Str.{bytes_eq}
 use Rattle.std.specs.Borrow.{Bor}
@@ -54,14 +54,14 @@ module _ {K : Type 0} (eq : K → K → Bool) (test : K → Bool) where
 pub place_in-insert : (key : Vec ℕ Global) (v : ℕ) (old new : BTreeMap (Vec ℕ Global) ℕ) → tree.Updates (λ x y. slice_cmp nat_cmp x.items y.items) old new key (Some v) → (n : List ℕ) → place_in new n ≡ cond (bytes_eq key.items n) (Some v) (place_in old n)
 place_in-insert key v old new h n =
     by_name (place_in old) (place_in new) key.items (Some v) h.1
-      (λ m e. other_entries _ _ _ _ h.3 _ (λ x y. (eq_by_cmp_equiv nat_list_cmp_total).congr m x.items y.items) (λ k. names_apart key.items m k.items e))
-      n (bytes_eq key.items n) refl
+    (λ m e. other_entries _ _ _ _ h.3 _ (λ x y. (eq_by_cmp_equiv nat_list_cmp_total).congr m x.items y.items) (λ k. names_apart key.items m k.items e))
+    n (bytes_eq key.items n) refl
 
 pub has_name-insert : (key : Vec ℕ Global) (old new : BTreeSet (Vec ℕ Global)) → bag.Updates (λ x y. slice_cmp nat_cmp x.items y.items) old new key true → (n : List ℕ) → has_name new n ≡ cond (bytes_eq key.items n) true (has_name old n)
 has_name-insert key old new h n =
     by_name (has_name old) (has_name new) key.items true h.1
-      (λ m e. other_keys _ _ _ _ h.3 _ (λ x y. (eq_by_cmp_equiv nat_list_cmp_total).congr m x.items y.items) (λ k. names_apart key.items m k.items e))
-      n (bytes_eq key.items n) refl
+    (λ m e. other_keys _ _ _ _ h.3 _ (λ x y. (eq_by_cmp_equiv nat_list_cmp_total).congr m x.items y.items) (λ k. names_apart key.items m k.items e))
+    n (bytes_eq key.items n) refl
 
 -- an inserted name is there, and the others stay
 pub inserted : (key : Vec ℕ Global) (name : List ℕ) (old new : BTreeSet (Vec ℕ Global)) → key.items ≡ name → bag.Updates (λ x y. slice_cmp nat_cmp x.items y.items) old new key true → (n : List ℕ) → bytes_eq name n ≡ true → has_name new n ≡ true

@@ -53,8 +53,8 @@ pub names_more : (assigns : List Assignment) (i : ℕ) (a : Assignment) (old new
     → (n : List ℕ) → assigns_name (map assign_of (take (i + 1) assigns)) n ≡ true → has_name new n ≡ true
 names_more assigns i a old new l is had keeps adds n h =
     let more : map assign_of (take (i + 1) assigns) ≡ map assign_of (take i assigns) ++ (assign_of a ∷ []) =
-      ap (λ k. map assign_of (take k assigns)) (add-one i) ∙ ap (map assign_of) (take-suc assigns i a l)
-      ∙ map-append assign_of (take i assigns) (get_or assigns i a ∷ []) ∙ ap (λ b. map assign_of (take i assigns) ++ (assign_of b ∷ [])) (sym is) in
+    ap (λ k. map assign_of (take k assigns)) (add-one i) ∙ ap (map assign_of) (take-suc assigns i a l)
+    ∙ map-append assign_of (take i assigns) (get_or assigns i a ∷ []) ∙ ap (λ b. map assign_of (take i assigns) ++ (assign_of b ∷ [])) (sym is) in
     elim (assigns_name-append (map assign_of (take i assigns)) (assign_of a) n (ap (λ x. assigns_name x n) (sym more) ∙ h)) [
       | inl e ↦ keeps n (had n e)
       | inr e ↦ adds n e

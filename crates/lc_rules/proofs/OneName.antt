@@ -1,10 +1,10 @@
 -- What is decided for one name needs to know of the decided macros alone.
-use Rattle.std.proofs.Common.{◌≡◌, ℕ, zero, suc, ◌+◌, length, Bool, true, false, cond, List, [], ◌∷◌, ◌++◌, reverse, Option, Some, None, is_some, unwrap_or, refl, sym, ◌∙◌, ap, subst, append_assoc}
+use Rattle.std.proofs.Common.{◌≡◌, ℕ, zero, suc, ◌+◌, length, Bool, true, false, cond, List, [], ◌∷◌, ◌++◌, reverse, Option, Some, None, is_some, unwrap_or, refl, sym, ◌∙◌, ap, subst}
 use Rattle.std.specs.Str.{bytes_eq}
 use Rattle.lc_rules.specs.Attributes.{AttrState, set, unset, value, unspecified, Assign, Macro}
 use Rattle.lc_rules.specs.Decision.{decided, has, macro_of, expansion, decide_within, decide, unread}
 use Rattle.lc_rules.specs.Deciding.{marked, is_marked, answer}
-use Rattle.lc_rules.proofs.DecisionLaws.{same_bytes, bytes_self, decide_none, decide_skip, decide_take, more_steps, more_steps_after}
+use Rattle.lc_rules.proofs.DecisionLaws.{same_bytes, decide_none, decide_skip, decide_take, more_steps, more_steps_after}
 
 -- what is decided stays
 keep_first : (a : Assign) (d : List Assign) (w : List ℕ) (s : AttrState) (b : Bool) → bytes_eq a.0 w ≡ b → has d a.0 ≡ false → decided d w ≡ Some s → cond b (Some a.1) (decided d w) ≡ Some s
@@ -101,7 +101,7 @@ next_other ms w k f a r d e true o p h = next_macro ms w k f a r d e (has d a.0)
 next_other ms w k f a r d e false o p h =
     let x : expansion ms a ≡ [] = no_expansion ms a p in
     subst (λ (l : List Assign). decided (cond (has d a.0) (decide_within ms k r d) (decide_within ms k (l ++ r) (a ∷ d))) w ≡ decided (cond (has e a.0) (decide_within ms k r e) (decide_within ms k (l ++ r) (a ∷ e))) w)
-      (sym x) (next_plain ms w k f a r d e (has d a.0) (has e a.0) o x p h)
+    (sym x) (next_plain ms w k f a r d e (has d a.0) (has e a.0) o x p h)
 
 next_alike : (ms : List Macro) (w : List ℕ) (k : ℕ) → Agree ms w k → (a : Assign) (r d e : List Assign) (o : Bool) → bytes_eq a.0 w ≡ o → Alike ms w d e → decided (Next ms k a r d (has d a.0)) w ≡ decided (Next ms k a r e (has e a.0)) w
 next_alike ms w k f a r d e true o h = next_wanted ms w k a r d (has d a.0) refl o h.left ∙ sym (next_wanted ms w k a r e (has e a.0) refl o h.right)

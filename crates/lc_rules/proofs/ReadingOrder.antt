@@ -50,8 +50,8 @@ lines_none test [] path is_dir h = refl
 lines_none test (l ∷ ls) path is_dir h =
     list_any-append test (by_lines ls path is_dir) (by_line l path is_dir)
     ∙ or_from (list_any test (by_lines ls path is_dir)) (list_any test (by_line l path is_dir))
-        (lines_none test ls path is_dir ((or_parts (list_any test l.assigns) (list_any (λ l. list_any test l.assigns) ls) h).1))
-        (line_none test l path is_dir ((or_parts (list_any test l.assigns) (list_any (λ l. list_any test l.assigns) ls) h).0))
+    (lines_none test ls path is_dir ((or_parts (list_any test l.assigns) (list_any (λ l. list_any test l.assigns) ls) h).1))
+    (line_none test l path is_dir ((or_parts (list_any test l.assigns) (list_any (λ l. list_any test l.assigns) ls) h).0))
 
 pub list_any-map : {A B : Type 0} (test : B → Bool) (f : A → B) (xs : List A) → list_any test (map f xs) ≡ list_any (λ x. test (f x)) xs
 list_any-map test f [] = refl

@@ -1,6 +1,6 @@
 -- The first word of a line.
-use Rattle.std.proofs.Common.{◌≡◌, ◌≤◌, ◌<◌, ◌+◌, ◌-◌, ℕ, zero, suc, Bool, true, false, cond, not, List, [], ◌∷◌, ◌++◌, length, take, drop, filter, refl, sym, ◌∙◌, ap, subst, arith, nat_lt, lt-ltb}
-use Rattle.std.specs.List.{slice_split, onto_first, position_or_len, prefix_len}
+use Rattle.std.proofs.Common.{◌≡◌, ◌<◌, ◌+◌, ◌-◌, ℕ, suc, Bool, true, false, cond, not, List, [], ◌∷◌, length, take, drop, filter, refl, sym, ◌∙◌, ap, arith, lt-ltb}
+use Rattle.std.specs.List.{slice_split, onto_first, position_or_len}
 use Rattle.std.proofs.lemmas.List.{take_rest}
 use Rattle.lc_rules.specs.AttrLines.{trimmed}
 use Rattle.lc_rules.specs.AttrWords.{is_white, is_some_word, words}

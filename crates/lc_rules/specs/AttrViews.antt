@@ -1,8 +1,7 @@
 -- What the code's values of attribute files stand for.
-use Rattle.std.specs.Prelude.{ℕ, List, [], ◌∷◌, ◌++◌, map, reverse, Option, Some, None}
+use Rattle.std.specs.Prelude.{map, Option, Some, None}
 use Rattle.lc_rules.specs.Attributes.{AttrState, set, unset, value, unspecified, Assign, Macro}
 use Rattle.lc_rules.specs.AttrLines.{AttrLine}
-use Rattle.lc_rules.specs.AttrStates.{binary}
 use Rattle.lc_rules.specs.declared.states.State.{State}
 use Rattle.lc_rules.specs.declared.states.State.TheVariants.{Set, Unset, Value, Unspecified}
 use Rattle.lc_rules.specs.declared.assignment.Assigned.{Assigned}

@@ -1,5 +1,5 @@
 -- How far the code has decided one attribute.
-use Rattle.std.specs.Prelude.{◌≡◌, ℕ, ◌+◌, Bool, false, List, [], ◌∷◌, ◌++◌, length, map, reverse, Option, Some, None, MatchOption}
+use Rattle.std.specs.Prelude.{◌≡◌, ℕ, ◌+◌, Bool, false, List, [], ◌∷◌, ◌++◌, length, map, reverse, Option, Some, MatchOption}
 use Rattle.std.specs.Borrow.{Bor}
 use Rattle.std.specs.BTreeSet.{BTreeSet}
 use Rattle.lc_rules.specs.Attributes.{AttrState, set, Assign, Macro}
@@ -23,8 +23,8 @@ answer ms wanted todo ns = decided (decide ms todo (marked ns)) wanted
 abbrev pub Moves : List Macro → List ℕ → List Assign → List (List ℕ) → Option AttrState → List Assign → List (List ℕ) → Type 0
 Moves ms wanted todo before found left after =
     MatchOption found
-      ((is_marked after wanted ≡ false) × ((rest : List Assign) → answer ms wanted (todo ++ rest) before ≡ answer ms wanted (left ++ rest) after))
-      (λ s. (rest : List Assign) → answer ms wanted (todo ++ rest) before ≡ Some s)
+    ((is_marked after wanted ≡ false) × ((rest : List Assign) → answer ms wanted (todo ++ rest) before ≡ answer ms wanted (left ++ rest) after))
+    (λ s. (rest : List Assign) → answer ms wanted (todo ++ rest) before ≡ Some s)
 
 -- how many assignments may still be read
 abbrev pub to_read : List Macro → List Assign → List (List ℕ) → ℕ

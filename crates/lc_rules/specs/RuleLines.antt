@@ -1,5 +1,5 @@
 -- The lines of an ignore file or an attribute file.
-use Rattle.std.specs.Prelude.{ℕ, Bool, ◌==◌, ◌&&◌, if◌then◌else◌, List, [], ◌∷◌}
+use Rattle.std.specs.Prelude.{ℕ, Bool, ◌==◌, ◌&&◌, if◌then◌else◌, List, ◌∷◌}
 use Rattle.std.specs.List.{slice_split}
 use Rattle.lc_rules.specs.Bytes.{line_feed}
 

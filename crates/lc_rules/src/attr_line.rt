@@ -41,11 +41,7 @@ fn is_negated(pattern: &[u8]) -> bool
     *first == b'!'
 }
 
-fn read_pattern_line(
-    alloc: Global,
-    pattern: &[u8],
-    rest: &[u8],
-) -> Result<Option<Read>, AllocError>
+fn read_pattern_line(alloc: Global, pattern: &[u8], rest: &[u8]) -> Result<Option<Read>, AllocError>
     ensures { IfOk result (λ r. seen_line r ≡ by_pattern pattern.now (assigns (words rest.now))) }
 {
     if is_negated(pattern) {
@@ -67,11 +63,7 @@ fn macro_word<'a>(word: &'a [u8]) -> Option<&'a [u8]>
 {
     match word {
         [b'[', b'a', b't', b't', b'r', b']', rest @ ..] => {
-            if rest.is_empty() {
-                None
-            } else {
-                Some(rest)
-            }
+            if rest.is_empty() { None } else { Some(rest) }
         }
         _ => None,
     }

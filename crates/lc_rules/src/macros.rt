@@ -70,10 +70,7 @@ impl<'a> Body<'a> {
     }
 }
 
-fn stack_all<'a>(
-    assignments: &'a [Assignment],
-    words: &mut Vec<Word<'a>>,
-) -> Result<(), AllocError>
+fn stack_all<'a>(assignments: &'a [Assignment], words: &mut Vec<Word<'a>>) -> Result<(), AllocError>
     ensures { IfOk result (λ _. map word_of words.new.items ≡ map word_of words.old.items ++ map assign_of assignments.now) }
 {
     for assignment in assignments {

@@ -1,4 +1,5 @@
 //! What the rules of files say of paths: values from outside, and that each call can succeed.
 
+mod attributes;
 mod chains;
 mod ignore;

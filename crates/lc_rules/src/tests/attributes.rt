@@ -55,7 +55,12 @@ fn words(rt: HostRuntime) -> Result<(), Fail> {
         (b"*.c -a=b", b"a.c", b"a", State::Unset),
         (b"*.c !a=b", b"a.c", b"a", State::Unspecified),
         (b"*.c", b"a.c", b"a", State::Unspecified),
-        (b" \t*.c\ttext  eol=lf\r\n", b"a.c", b"eol", State::Value(b"lf")),
+        (
+            b" \t*.c\ttext  eol=lf\r\n",
+            b"a.c",
+            b"eol",
+            State::Value(b"lf"),
+        ),
         (b"*.c a:b text", b"a.c", b"text", State::Unspecified),
         (b"*.c text --b", b"a.c", b"text", State::Unspecified),
         (b"*.c text =b", b"a.c", b"text", State::Unspecified),
@@ -88,7 +93,12 @@ fn quoted_patterns(rt: HostRuntime) -> Result<(), Fail> {
         (b"\"a b\"text", b"a b", b"text", State::Set),
         (b"\"\\101\" -text", b"A", b"text", State::Unset),
         (b"\"\\t\" text", b"\t", b"text", State::Set),
-        (b"\"\\a\\b\\f\\v\\r\\n\" text", b"\x07\x08\x0C\x0B\r\n", b"text", State::Set),
+        (
+            b"\"\\a\\b\\f\\v\\r\\n\" text",
+            b"\x07\x08\x0C\x0B\r\n",
+            b"text",
+            State::Set,
+        ),
         (b"\"\\\"\" text", b"\"", b"text", State::Set),
         (b"\"a text", b"\"a", b"text", State::Unspecified),
         (b"\"\\x\" text", b"x", b"text", State::Unspecified),
@@ -105,15 +115,45 @@ fn macros(rt: HostRuntime) -> Result<(), Fail> {
         (b"*.a binary", b"x.a", b"text", State::Unset),
         (b"*.a binary", b"x.a", b"binary", State::Set),
         (b"*.a binary\n*.a -binary", b"x.a", b"binary", State::Unset),
-        (b"*.a binary\n*.a -binary", b"x.a", b"text", State::Unspecified),
+        (
+            b"*.a binary\n*.a -binary",
+            b"x.a",
+            b"text",
+            State::Unspecified,
+        ),
         (b"*.a binary=1", b"x.a", b"text", State::Unspecified),
-        (b"[attr]one two\n[attr]two one x\n*.q one", b"y.q", b"one", State::Set),
-        (b"[attr]one two\n[attr]two one x\n*.q one", b"y.q", b"two", State::Set),
-        (b"[attr]one two\n[attr]two one x\n*.q one", b"y.q", b"x", State::Set),
+        (
+            b"[attr]one two\n[attr]two one x\n*.q one",
+            b"y.q",
+            b"one",
+            State::Set,
+        ),
+        (
+            b"[attr]one two\n[attr]two one x\n*.q one",
+            b"y.q",
+            b"two",
+            State::Set,
+        ),
+        (
+            b"[attr]one two\n[attr]two one x\n*.q one",
+            b"y.q",
+            b"x",
+            State::Set,
+        ),
         (b"[attr]m m a\n*.q m", b"y.q", b"a", State::Set),
         (b"[attr]binary x\n*.m binary", b"a.m", b"x", State::Set),
-        (b"[attr]binary x\n*.m binary", b"a.m", b"text", State::Unspecified),
-        (b"*.q m\n[attr]m a\n[attr]m b", b"y.q", b"a", State::Unspecified),
+        (
+            b"[attr]binary x\n*.m binary",
+            b"a.m",
+            b"text",
+            State::Unspecified,
+        ),
+        (
+            b"*.q m\n[attr]m a\n[attr]m b",
+            b"y.q",
+            b"a",
+            State::Unspecified,
+        ),
         (b"[attr] a\n*.q m", b"t", b"a", State::Set),
         (b"[attr]-m a\n*.q a", b"y.q", b"a", State::Set),
     ];
@@ -168,7 +208,10 @@ fn manual_example_states(rt: HostRuntime) -> Result<(), Fail> {
         (b"merge".as_slice(), State::Value(b"filfre")),
         (b"frotz".as_slice(), State::Unspecified),
     ] {
-        assert!(rt; is_same(chain.state(alloc, b"t/abc", false, name)?, state), "{name:?}");
+        assert!(rt;
+            is_same(chain.state(alloc, b"t/abc", false, name)?, state),
+            "{name:?}"
+        );
     }
     assert!(rt; chain.text(alloc, b"t/abc")? == TextState::Unspecified);
     Ok(())
@@ -191,7 +234,12 @@ fn macros_of_the_top_file_alone(rt: HostRuntime) -> Result<(), Fail> {
 #[test]
 fn at_most_a_mebibyte(rt: HostRuntime) -> Result<(), Fail> {
     let bytes = vec![in rt.alloc(); b'a'; MAX_RULE_BYTES + 1]?;
-    assert!(rt; matches!(AttrFile::read(rt.alloc(), &bytes, true), Err(RuleFault::TooLong)));
+    assert!(rt;
+        matches!(
+            AttrFile::read(rt.alloc(), &bytes, true),
+            Err(RuleFault::TooLong)
+        )
+    );
     assert!(rt; read(rt.alloc(), &bytes[1..], true)?.is_top());
     assert!(rt; !read(rt.alloc(), b"a", false)?.is_top());
     Ok(())

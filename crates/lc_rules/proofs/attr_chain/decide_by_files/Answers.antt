@@ -1,5 +1,5 @@
 use Rattle.std.specs.Prelude.{IfNone}
-use Rattle.std.proofs.Common.{subst, Option, ◌≡◌, List, [], None, Some, ap}
+use Rattle.std.proofs.Common.{subst, Option, ◌≡◌, [], None, Some, ap}
 use Rattle.lc_rules.specs.Verdicts.{below}
 use Rattle.lc_rules.specs.AttrViews.{shown_state, seen_state}
 use Rattle.lc_rules.specs.AttrStates.{by_lines, assignments_of}
@@ -19,8 +19,8 @@ returns-in-Some-2-clause-moves c =
     let middle = names_in c.files.deciding.decided in
     let end = names_in c.decide.new.deciding.decided in
     moves_part ms wanted _ part rest _ _ middle end (Some (shown_state c.in-Some-2.state)) c.files.invariant.moves
-      (files_last _ _ _ _ _ c.in-Some.ensures.cases.0)
-      (as_found ms wanted part middle end [] _ (Some (shown_state c.in-Some-2.state)) (ap seen_state c.in-Some-2.is) c.in_ok-state.ensures.moves)
+    (files_last _ _ _ _ _ c.in-Some.ensures.cases.0)
+    (as_found ms wanted part middle end [] _ (Some (shown_state c.in-Some-2.state)) (ap seen_state c.in-Some-2.is) c.in_ok-state.ensures.moves)
 
 pub files-preserved : goal.files-preserved
 files-preserved c =
@@ -32,7 +32,7 @@ files-preserved c =
     let end = names_in c.decide.new.deciding.decided in
     record {
       moves = moves_part ms wanted _ part rest _ _ middle end None c.files.invariant.moves
-        (files_last _ _ _ _ _ c.in-Some.ensures.cases.0)
-        (as_found ms wanted part middle end [] _ None (ap seen_state c.in_default-2.is) c.in_ok-state.ensures.moves);
+          (files_last _ _ _ _ _ c.in-Some.ensures.cases.0)
+          (as_found ms wanted part middle end [] _ None (ap seen_state c.in_default-2.is) c.in_ok-state.ensures.moves);
       empty = subst (λ (o : Option State). IfNone o (c.decide.new.deciding.pending.items ≡ [])) c.in_default-2.is c.in_ok-state.ensures.empty;
     }

@@ -1,4 +1,4 @@
-use Rattle.std.proofs.Common.{◌∙◌, sym, ap, arith}
+use Rattle.std.proofs.Common.{◌∙◌, sym, arith}
 use Rattle.lc_rules.proofs.AttrReading.{text_plain, text_escape}
 use Rattle.lc_rules.proofs.attr_quotes.unquoted.Goals as goal
 

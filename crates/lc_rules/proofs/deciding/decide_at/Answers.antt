@@ -23,21 +23,21 @@ returns-then-contains-clause-moves c =
     let names = names_in c.args.deciding.now.decided in
     let todo = stacked c.args.deciding.now.pending.items in
     moves_seen (macros_for c.args.wanted) c.args.wanted.name.now (word_of c.args.word) todo names c.requires
-      (names_in-contains c.args.deciding.now.decided c.args.word.name.now ∙ sym c.contains.ensures ∙ c.if-contains.true)
+    (names_in-contains c.args.deciding.now.decided c.args.word.name.now ∙ sym c.contains.ensures ∙ c.if-contains.true)
 
 pub returns-clause-moves : goal.returns-clause-moves
 returns-clause-moves c =
     let names = names_in c.args.deciding.now.decided in
     let todo = stacked c.args.deciding.now.pending.items in
     moves_macro (macros_for c.args.wanted) c.args.wanted.name.now c.args.word.name.now (shown_state c.args.word.state) todo (stacked c.expand.new.pending.items) names (names_in c.insert.new.self) (body_of c.in-Some.body)
-      c.requires (sym c.eq.ensures ∙ c.if-eq.false)
-      (names_in-contains c.args.deciding.now.decided c.args.word.name.now ∙ sym c.contains.ensures ∙ c.if-contains.false)
-      c.in-Some.ensures c.in_ok-expand.ensures (names_in-insert c.args.word.name c.args.deciding.now.decided c.insert.new.self c.in_ok-insert.ensures.updates)
+    c.requires (sym c.eq.ensures ∙ c.if-eq.false)
+    (names_in-contains c.args.deciding.now.decided c.args.word.name.now ∙ sym c.contains.ensures ∙ c.if-contains.false)
+    c.in-Some.ensures c.in_ok-expand.ensures (names_in-insert c.args.word.name c.args.deciding.now.decided c.insert.new.self c.in_ok-insert.ensures.updates)
 
 pub returns-clause-smaller : goal.returns-clause-smaller
 returns-clause-smaller c =
     let names = names_in c.args.deciding.now.decided in
     let todo = stacked c.args.deciding.now.pending.items in
     macro_to_read (macros_for c.args.wanted) c.args.word.name.now (shown_state c.args.word.state) todo (stacked c.expand.new.pending.items) names (names_in c.insert.new.self) (body_of c.in-Some.body)
-      (names_in-contains c.args.deciding.now.decided c.args.word.name.now ∙ sym c.contains.ensures ∙ c.if-contains.false)
-      c.in-Some.ensures c.in_ok-expand.ensures (names_in-insert c.args.word.name c.args.deciding.now.decided c.insert.new.self c.in_ok-insert.ensures.updates)
+    (names_in-contains c.args.deciding.now.decided c.args.word.name.now ∙ sym c.contains.ensures ∙ c.if-contains.false)
+    c.in-Some.ensures c.in_ok-expand.ensures (names_in-insert c.args.word.name c.args.deciding.now.decided c.insert.new.self c.in_ok-insert.ensures.updates)

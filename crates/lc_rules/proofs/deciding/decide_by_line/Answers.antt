@@ -1,4 +1,4 @@
-use Rattle.std.proofs.Common.{◌∙◌, sym, ap, List}
+use Rattle.std.proofs.Common.{◌∙◌, sym, ap}
 use Rattle.std.specs.List.{list_any}
 use Rattle.lc_rules.specs.AttrViews.{assign_of, line_of}
 use Rattle.lc_rules.specs.AttrStates.{by_line}
@@ -14,6 +14,6 @@ returns-then-not-matters_in-clause-moves c =
     let ms = macros_for c.args.wanted in
     let wanted = c.args.wanted.name.now in
     moves_past ms wanted (by_line (line_of c.args.line.now) c.args.path.now c.args.is_dir) (names_in c.args.deciding.now.decided) c.requires.open
-      (line_none (λ a. matters ms wanted a.0) (line_of c.args.line.now) c.args.path.now c.args.is_dir
-        (list_any-map (λ a. matters ms wanted a.0) assign_of c.args.line.now.assignments.items
-        ∙ ap (list_any (λ (a : Assignment). matters ms wanted (assign_of a).0)) (sym c.as_slice.ensures.value) ∙ sym c.matters_in.ensures ∙ c.if-not-matters_in.true))
+    (line_none (λ a. matters ms wanted a.0) (line_of c.args.line.now) c.args.path.now c.args.is_dir
+    (list_any-map (λ a. matters ms wanted a.0) assign_of c.args.line.now.assignments.items
+    ∙ ap (list_any (λ (a : Assignment). matters ms wanted (assign_of a).0)) (sym c.as_slice.ensures.value) ∙ sym c.matters_in.ensures ∙ c.if-not-matters_in.true))

@@ -1,4 +1,4 @@
-use Rattle.std.proofs.Common.{◌≡◌, None, List, [], map, length}
+use Rattle.std.proofs.Common.{◌≡◌, None, [], map, length}
 use Rattle.lc_rules.specs.Deciding.{Moves, names_in}
 use Rattle.lc_rules.specs.AttrViews.{line_of}
 use Rattle.lc_rules.specs.AttrStates.{by_lines}

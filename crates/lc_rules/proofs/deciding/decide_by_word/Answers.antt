@@ -1,4 +1,4 @@
-use Rattle.std.proofs.Common.{◌∙◌, sym, ap, List, ℕ, [], ◌∷◌, None, Some}
+use Rattle.std.proofs.Common.{ap, [], ◌∷◌, None, Some}
 use Rattle.lc_rules.specs.AttrViews.{shown_state, word_of, seen_state}
 use Rattle.lc_rules.specs.Deciding.{stacked, names_in}
 use Rattle.lc_rules.specs.KnownMacros.{macros_for}

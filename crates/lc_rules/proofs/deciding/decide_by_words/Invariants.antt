@@ -1,4 +1,4 @@
-use Rattle.std.proofs.Common.{◌≡◌, None, List, [], map, reverse, length}
+use Rattle.std.proofs.Common.{◌≡◌, None, [], map, reverse, length}
 use Rattle.lc_rules.specs.Deciding.{Moves, names_in}
 use Rattle.lc_rules.specs.AttrViews.{assign_of}
 use Rattle.lc_rules.specs.KnownMacros.{macros_for}

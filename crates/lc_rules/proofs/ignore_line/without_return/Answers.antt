@@ -1,4 +1,4 @@
-use Rattle.std.proofs.Common.{◌∙◌, ap, sym, ◌∷◌, [], cond, ◌++◌, List, ℕ}
+use Rattle.std.proofs.Common.{◌∙◌, ap, sym, ◌∷◌, [], cond, ◌++◌}
 use Rattle.lc_rules.specs.IgnoreRules.{without_return}
 use Rattle.lc_rules.proofs.LineEnds.{return_last, eq_true, ne_false}
 use Rattle.lc_rules.proofs.ignore_line.without_return.Goals as goal

@@ -1,4 +1,4 @@
-use Rattle.std.proofs.Common.{◌≡◌, ◌<◌, ◌≤◌, length, ℕ, ◌+◌, ◌∷◌, [], List, arith, get_or, drop, nat_eq, true, false}
+use Rattle.std.proofs.Common.{arith}
 use Rattle.lc_rules.specs.IgnoreRules.{without_spaces}
 use Rattle.lc_rules.proofs.LineEnds.{after_start, kept_quoted, kept_space, kept_other, eq_true, ne_false, no_quote, lone_quote, IsOne}
 use Rattle.lc_rules.proofs.ignore_line.without_spaces.Goals as goal

@@ -1,4 +1,4 @@
-use Rattle.std.proofs.Common.{◌∙◌, sym}
+use Rattle.std.proofs.Common.{sym}
 use Rattle.lc_rules.proofs.Cuts.{after_no_slash, after_slash}
 use Rattle.lc_rules.proofs.paths.after_slash.Goals as goal
 

@@ -1,4 +1,4 @@
-use Rattle.std.proofs.Common.{◌≡◌, ◌∙◌, sym, ap, List, [], None, Some}
+use Rattle.std.proofs.Common.{sym, ap, [], None, Some}
 use Rattle.lc_rules.specs.AttrViews.{shown_state, seen_state}
 use Rattle.lc_rules.specs.AttrStates.{assignments_of}
 use Rattle.lc_rules.specs.Deciding.{names_in}
@@ -13,8 +13,8 @@ returns-in-Some c =
     let wanted = c.args.name.now in
     let found = Some (shown_state c.in-Some.state) in
     sym (state_is c.args.self.now files ms wanted c.args.path.now c.args.is_dir (names_in c.new-deciding.result.decided) (names_in c.decide_by_files.new.deciding.decided) found
-      c.files-files.ensures c.macros_of.ensures c.new-deciding.ensures.decided
-      (as_found ms wanted (assignments_of files c.args.path.now c.args.is_dir) _ _ [] _ found (ap seen_state c.in-Some.is) c.in_ok-state.ensures.moves))
+    c.files-files.ensures c.macros_of.ensures c.new-deciding.ensures.decided
+    (as_found ms wanted (assignments_of files c.args.path.now c.args.is_dir) _ _ [] _ found (ap seen_state c.in-Some.is) c.in_ok-state.ensures.moves))
 
 pub returns : goal.returns
 returns c =
@@ -22,5 +22,5 @@ returns c =
     let ms = known_macros c.macros_of.result in
     let wanted = c.args.name.now in
     sym (state_is c.args.self.now files ms wanted c.args.path.now c.args.is_dir (names_in c.new-deciding.result.decided) (names_in c.decide_by_files.new.deciding.decided) None
-      c.files-files.ensures c.macros_of.ensures c.new-deciding.ensures.decided
-      (as_found ms wanted (assignments_of files c.args.path.now c.args.is_dir) _ _ [] _ None (ap seen_state c.in-None.is) c.in_ok-state.ensures.moves))
+    c.files-files.ensures c.macros_of.ensures c.new-deciding.ensures.decided
+    (as_found ms wanted (assignments_of files c.args.path.now c.args.is_dir) _ _ [] _ None (ap seen_state c.in-None.is) c.in_ok-state.ensures.moves))

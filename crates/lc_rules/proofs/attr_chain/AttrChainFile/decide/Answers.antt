@@ -1,4 +1,4 @@
-use Rattle.std.proofs.Common.{refl, ◌∙◌, sym, ap, false, [], List, ℕ, Option}
+use Rattle.std.proofs.Common.{refl, ◌∙◌, sym, ap, false, [], ℕ}
 use Rattle.std.specs.List.{list_any}
 use Rattle.lc_rules.specs.Attributes.{Assign}
 use Rattle.lc_rules.specs.AttrLines.{AttrLine, AttributeFile}
@@ -17,5 +17,5 @@ returns-then-not-can_decide-clause-moves c =
     let wanted = c.args.wanted.name.now in
     let same = c.lines-lines.ensures ∙ ap (λ (f : AttributeFile). f.lines) c.deref.ensures ∙ ap (λ (f : ℕ × AttributeFile). f.1.lines) (sym (sym c.self.view_is ∙ ap (λ o. (c.self.inside.depth, shown (record { is_top = false; macros = []; lines = [] }) o)) c.in-Some.is)) in
     moves_past ms wanted (by_lines c.args.self.now.1.lines (below c.args.self.now.0 c.args.path.now) c.args.is_dir) (names_in c.args.deciding.now.decided) c.requires.open
-      (lines_none (λ a. matters ms wanted a.0) c.args.self.now.1.lines (below c.args.self.now.0 c.args.path.now) c.args.is_dir
-        (ap (list_any (λ (l : AttrLine). list_any (λ (a : Assign). matters ms wanted a.0) l.assigns)) (sym same) ∙ c.if-not-can_decide.ensures refl))
+    (lines_none (λ a. matters ms wanted a.0) c.args.self.now.1.lines (below c.args.self.now.0 c.args.path.now) c.args.is_dir
+    (ap (list_any (λ (l : AttrLine). list_any (λ (a : Assign). matters ms wanted a.0) l.assigns)) (sym same) ∙ c.if-not-can_decide.ensures refl))

@@ -1,4 +1,4 @@
-use Rattle.std.proofs.Common.{◌∙◌, sym, ap, ◌≡◌, List, [], ◌∷◌, ℕ, Option}
+use Rattle.std.proofs.Common.{◌∙◌, sym, ap, List, [], ◌∷◌, ℕ}
 use Rattle.std.specs.Arc.{arc_value}
 use Rattle.lc_rules.specs.Verdicts.{verdict_of, at_depth, joined}
 use Rattle.lc_rules.specs.IgnoreRules.{IgnoreRule}

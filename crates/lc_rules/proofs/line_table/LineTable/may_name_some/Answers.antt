@@ -1,7 +1,4 @@
-use Rattle.std.proofs.Common.{refl, ◌≡◌, ◌∙◌, sym, ap, subst, ℕ, List, ◌∷◌, [], ◌++◌, map, take, true, is_some, get_or, add-one}
-use Rattle.std.proofs.Math.Seq.{take-suc}
-use Rattle.std.proofs.lemmas.List.{map-append}
-use Rattle.lc_rules.specs.Attributes.{Macro}
+use Rattle.std.proofs.Common.{refl, ◌∙◌, sym, ap, map, take, is_some}
 use Rattle.lc_rules.specs.AttrViews.{macro_view}
 use Rattle.lc_rules.specs.Decision.{macro_of}
 use Rattle.lc_rules.specs.LineNames.{lines_name}
@@ -13,5 +10,5 @@ pub loop-found-preserved : goal.loop-found-preserved
 loop-found-preserved c = λ n e.
     let more = macros-more c.as_slice-defined.result.now c.loop-found.found-index c.found-item.result c.loop-found-test.true c.found-item.is in
     no_macro_more c.args.self.now (map macro_view (take c.loop-found.found-index c.as_slice-defined.result.now)) (macro_view c.found-item.result) n c.loop-found.invariant
-      (ap (lines_name c.args.self.now) (sym c.as_slice.ensures.value) ∙ c.if-may_name-2.ensures refl)
-      (ap (λ l. is_some (macro_of l n)) (sym more) ∙ e)
+    (ap (lines_name c.args.self.now) (sym c.as_slice.ensures.value) ∙ c.if-may_name-2.ensures refl)
+    (ap (λ l. is_some (macro_of l n)) (sym more) ∙ e)

@@ -1,8 +1,6 @@
-use Rattle.std.proofs.Common.{◌≡◌, ◌∙◌, sym, ap, cond, ℕ, List, [], ◌∷◌, ◌++◌, map, Some, rules}
+use Rattle.std.proofs.Common.{◌∙◌, ap, cond, [], ◌∷◌, ◌++◌, Some, rules}
 use Rattle.std.specs.Str.{bytes_eq}
-use Rattle.lc_rules.specs.AttrViews.{macro_view}
-use Rattle.lc_rules.specs.MacroPlaces.{last_place, place_in}
-use Rattle.lc_rules.specs.declared.assignment.Macro.{Macro}
+use Rattle.lc_rules.specs.MacroPlaces.{place_in}
 use Rattle.lc_rules.proofs.LastMacro.{has_places-push}
 use Rattle.lc_rules.proofs.NameKeys.{place_in-insert}
 use Rattle.lc_rules.proofs.macro_table.MacroTable.push.Goals as goal
@@ -13,5 +11,5 @@ invariant_of-self-2 c = λ n.
     ∙ ap (λ name. cond (bytes_eq name n) (Some c.len.result) (place_in c.self.inside.places n)) c.in_ok-name.ensures
     ∙ ap (cond (bytes_eq c.args.added.name.items n) (Some c.len.result)) (c.self.invariant n)
     ∙ has_places-push c.self.inside.defined.items c.push_reserved.new.self.items c.args.added c.len.result n
-      (c.push_reserved.ensures.items ∙ ap (λ l. l ++ (c.args.added ∷ [])) c.in_ok-reserve.ensures.items)
-      (search rules)
+    (c.push_reserved.ensures.items ∙ ap (λ l. l ++ (c.args.added ∷ [])) c.in_ok-reserve.ensures.items)
+    (search rules)
