@@ -4,7 +4,7 @@ use Rattle.std.proofs.lemmas.List.{length-reverse}
 use Rattle.std.proofs.lemmas.Slice.Eq.{bytes_eq-Decides}
 use Rattle.std.specs.Str.{bytes_eq}
 use Rattle.lc_rules.specs.Attributes.{AttrState, set, unset, value, unspecified, Assign, Macro}
-use Rattle.lc_rules.specs.Decision.{decided, has, later, macro_of, expansion, decide_within, unread, decide, DecidesByEquations}
+use Rattle.lc_rules.specs.Decision.{decided, has, later, macro_of, expansion, decide_within, unread, decide, IsDecision, DecidesByEquations}
 
 pub same_bytes : (m n : List ℕ) → bytes_eq m n ≡ true → m ≡ n
 same_bytes m n e = (bytes_eq-Decides m n).0 e
@@ -107,8 +107,21 @@ decide_take ms a r d e =
     ∙ ap (λ b. cond b (decide_within ms (length r + unread ms d) r d) (decide_within ms (length r + unread ms d) (expansion ms a ++ r) (a ∷ d))) e
     ∙ enough ms (length r + unread ms d) (length (expansion ms a ++ r) + unread ms (a ∷ d)) (expansion ms a ++ r) (a ∷ d) (omega arith) (omega arith)
 
+-- what keeps the equations is the decision
+only_step : (ms : List Macro) (other : List Assign → List Assign → List Assign) → IsDecision ms other → (k : ℕ) → ((todo d : List Assign) → length todo + unread ms d ≤ k → other todo d ≡ decide ms todo d) → (a : Assign) (r d : List Assign) (b : Bool) → has d a.0 ≡ b → suc (length r) + unread ms d ≤ suc k → other (a ∷ r) d ≡ decide ms (a ∷ r) d
+only_step ms other h k more a r d true e p = h.skip a r d e ∙ more r d (omega arith) ∙ sym (decide_skip ms a r d e)
+only_step ms other h k more a r d false e p =
+    let less : length (expansion ms a) + unread ms (a ∷ d) ≤ unread ms d = expansion_less ms a d e in
+    let long : length (expansion ms a ++ r) ≡ length (expansion ms a) + length r = length-append (expansion ms a) r in
+    h.take a r d e ∙ more (expansion ms a ++ r) (a ∷ d) (omega arith) ∙ sym (decide_take ms a r d e)
+
+only_decision : (ms : List Macro) (other : List Assign → List Assign → List Assign) → IsDecision ms other → (k : ℕ) (todo d : List Assign) → length todo + unread ms d ≤ k → other todo d ≡ decide ms todo d
+only_decision ms other h k [] d p = h.none d ∙ sym (decide_none ms d)
+only_decision ms other h zero (a ∷ r) d p = absurd (omega arith)
+only_decision ms other h (suc k) (a ∷ r) d p = only_step ms other h k (only_decision ms other h k) a r d (has d a.0) refl (omega arith)
+
 pub keeps_equations : DecidesByEquations
-keeps_equations ms = record { none = decide_none ms; skip = decide_skip ms; take = decide_take ms }
+keeps_equations ms = (record { none = decide_none ms; skip = decide_skip ms; take = decide_take ms }, λ other h todo d. only_decision ms other h (length todo + unread ms d) todo d (omega arith))
 
 -- more steps than are needed
 pub more_steps : (ms : List Macro) (todo d : List Assign) (x : ℕ) → decide ms todo d ≡ decide_within ms (length todo + unread ms d + x) todo d

@@ -20,14 +20,17 @@ pub data Given : Type 0 where
   macro_line : Macro → Given
   pattern_line : AttrLine → Given
 
+-- a macro with some assignments, where all words are and the name is one
 abbrev pub as_macro : List ℕ → Option (List Assign) → Option Given
 as_macro name None = None
 as_macro name (Some body) = if is_name name then Some (macro_line (name, body)) else None
 
+-- a pattern with some assignments, where all words are
 abbrev pub as_pattern : List ℕ → Option (List Assign) → Option Given
 as_pattern bytes None = None
 as_pattern bytes (Some a) = Some (pattern_line (record { pattern = pattern_of bytes; assigns = a }))
 
+-- a pattern that begins with an exclamation mark
 abbrev pub is_negated : List ℕ → Bool
 is_negated [] = false
 is_negated (b ∷ bs) = b == exclamation_mark
@@ -36,7 +39,7 @@ is_negated (b ∷ bs) = b == exclamation_mark
 abbrev pub by_pattern : List ℕ → Option (List Assign) → Option Given
 by_pattern bytes a = if is_negated bytes then None else as_pattern bytes a
 
--- what follows `[attr]` in a first word that is longer
+-- what follows `[attr]`, the bytes 91 97 116 116 114 93, in a first word that is longer
 abbrev pub macro_word : List ℕ → Option (List ℕ)
 macro_word (a ∷ b ∷ c ∷ d ∷ e ∷ f ∷ rest) =
     if a == 91 && b == 97 && c == 116 && d == 116 && e == 114 && f == 93 && is_some_word rest then Some rest else None
@@ -62,6 +65,7 @@ abbrev pub trimmed : List ℕ → List ℕ
 trimmed [] = []
 trimmed (b ∷ bs) = if is_white b then trimmed bs else b ∷ bs
 
+-- what a line gives: none of an empty one and of a comment
 abbrev pub given_by : Bool → List ℕ → Option Given
 given_by top [] = None
 given_by top (b ∷ bs) =
@@ -77,6 +81,7 @@ given_lines top ls = filter_map (λ l. given_by top (trimmed l)) ls
 abbrev pub attribute_lines_of : Bool → List ℕ → List Given
 attribute_lines_of top bytes = given_lines top (lines_of bytes)
 
+-- the macro of a line, or its pattern with what it says
 abbrev pub macro_in : Given → Option Macro
 macro_in (macro_line m) = Some m
 macro_in (pattern_line l) = None

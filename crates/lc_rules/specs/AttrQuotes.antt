@@ -24,10 +24,12 @@ escape (c ∷ cs) =
     else if c == quotation_mark then Some (quotation_mark, 1)
     else octal (c ∷ cs)
 
+-- a byte before the rest of a text
 abbrev pub put_byte : ℕ → Option (List ℕ × List ℕ) → Option (List ℕ × List ℕ)
 put_byte b None = None
 put_byte b (Some r) = Some (b ∷ r.0, r.1)
 
+-- the byte of an escape before what follows the escape
 abbrev pub put_escape : Option (ℕ × ℕ) → (ℕ → Option (List ℕ × List ℕ)) → Option (List ℕ × List ℕ)
 put_escape None next = None
 put_escape (Some e) next = put_byte e.0 (next e.1)

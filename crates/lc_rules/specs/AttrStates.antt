@@ -17,6 +17,7 @@ binary = (codes "binary", (codes "diff", unset) ∷ (codes "merge", unset) ∷ (
 abbrev pub AttributeFiles : Type 0
 AttributeFiles = List (ℕ × AttributeFile)
 
+-- the macros that the first file defines, where it is top-level
 abbrev pub top_macros : AttributeFiles → List Macro
 top_macros [] = []
 top_macros (f ∷ fs) = if f.1.is_top then f.1.macros else []

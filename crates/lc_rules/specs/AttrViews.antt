@@ -18,12 +18,14 @@ shown_state Unset = unset
 shown_state (Value v) = value v.now
 shown_state Unspecified = unspecified
 
+-- the state that an assignment gives
 abbrev pub assigned_state : Assigned → AttrState
 assigned_state AssignedSet = set
 assigned_state AssignedUnset = unset
 assigned_state (AssignedValue v) = value v.items
 assigned_state AssignedUnspecified = unspecified
 
+-- an assignment, one that is lent, a macro, and a line with a pattern
 abbrev pub assign_of : Assignment → Assign
 assign_of a = (a.name.items, assigned_state a.state)
 

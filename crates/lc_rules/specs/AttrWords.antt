@@ -5,9 +5,11 @@ use Rattle.lc_glob.specs.Bytes.{exclamation_mark, hyphen}
 use Rattle.lc_rules.specs.Bytes.{space, tab, carriage_return, equals_sign}
 use Rattle.lc_rules.specs.Attributes.{AttrState, set, unset, value, unspecified, Assign}
 
+-- white space
 abbrev pub is_white : ℕ → Bool
 is_white b = b == space || b == tab || b == carriage_return
 
+-- a piece between white space that isn't empty
 abbrev pub is_some_word : List ℕ → Bool
 is_some_word word = nat_lt 0 (length word)
 
@@ -24,9 +26,11 @@ abbrev pub is_name : List ℕ → Bool
 is_name [] = false
 is_name (b ∷ bs) = not (b == hyphen) && list_all is_name_byte (b ∷ bs)
 
+-- an assignment, if the name is one
 abbrev pub named : List ℕ → AttrState → Option Assign
 named name state = if is_name name then Some (name, state) else None
 
+-- what ends the name of an assignment
 abbrev pub is_equals : ℕ → Bool
 is_equals b = b == equals_sign
 
@@ -44,6 +48,7 @@ assign (b ∷ bs) =
     else if b == exclamation_mark then named (before_first is_equals bs) unspecified
     else plain_assign (b ∷ bs)
 
+-- an assignment before others, where all are
 abbrev pub both : Option Assign → Option (List Assign) → Option (List Assign)
 both None others = None
 both (Some a) None = None

@@ -12,6 +12,7 @@ abbrev pub marked : List (List ℕ) → List Assign
 marked [] = []
 marked (n ∷ ns) = (n, set) ∷ marked ns
 
+-- whether a name is among these
 abbrev pub is_marked : List (List ℕ) → List ℕ → Bool
 is_marked ns n = has (marked ns) n
 

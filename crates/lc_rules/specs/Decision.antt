@@ -8,9 +8,11 @@ abbrev pub decided : List Assign → List ℕ → Option AttrState
 decided [] name = None
 decided (a ∷ d) name = if bytes_eq a.0 name then Some a.1 else decided d name
 
+-- whether a name is decided
 abbrev pub has : List Assign → List ℕ → Bool
 has d name = is_some (decided d name)
 
+-- what later definitions have, or else an earlier one
 abbrev pub later : Option (List Assign) → Option (List Assign) → Option (List Assign)
 later None first = first
 later (Some body) first = Some body
@@ -27,8 +29,9 @@ expansion ms (name, unset) = []
 expansion ms (name, value v) = []
 expansion ms (name, unspecified) = []
 
--- The decision: `d` after the assignments of a list, from the highest precedence to the lowest. Its three equations,
--- which determine it, are these; that `decide` below keeps them is the law of the function `decides_by_equations`.
+-- The decision: what is decided after the assignments of a list, from the highest precedence to the lowest, where `d`
+-- is decided before. These three equations say what it is: the law of the function `decides_by_equations` is that
+-- `decide` below keeps them, and that nothing else does.
 pub record IsDecision (ms : List Macro) (decide : List Assign → List Assign → List Assign) : Type 0 where
   -- nothing is left to be read
   pub none : (d : List Assign) → decide [] d ≡ d
@@ -49,9 +52,13 @@ abbrev pub unread : List Macro → List Assign → ℕ
 unread [] d = 0
 unread (m ∷ ms) d = (if has d m.0 then 0 else suc (length m.1)) + unread ms d
 
+-- the decision of all names
 unfoldable pub decide : List Macro → List Assign → List Assign → List Assign
 decide ms todo d = decide_within ms (length todo + unread ms d) todo d
 
--- the decision keeps its equations, whichever macros there are
+-- whichever macros there are, the decision keeps its equations, and what else keeps them is the same
 abbrev pub DecidesByEquations : Type 0
-DecidesByEquations = (ms : List Macro) → IsDecision ms (decide ms)
+DecidesByEquations =
+    (ms : List Macro)
+    → IsDecision ms (decide ms)
+    × ((other : List Assign → List Assign → List Assign) → IsDecision ms other → (todo d : List Assign) → other todo d ≡ decide ms todo d)

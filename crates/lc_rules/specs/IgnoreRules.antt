@@ -31,6 +31,7 @@ without_spaces (b ∷ []) = byte_before b []
 without_spaces (b ∷ c ∷ cs) =
     if b == backslash then b ∷ c ∷ without_spaces cs else byte_before b (without_spaces (c ∷ cs))
 
+-- a rule that ignores, and one that includes again
 abbrev pub plain_rule : List ℕ → IgnoreRule
 plain_rule bytes = record { is_negated = false; pattern = pattern_of bytes }
 

@@ -11,13 +11,16 @@ use Rattle.lc_rules.specs.declared.macros.Body.{Body}
 use Rattle.lc_rules.specs.declared.macros.Body.TheVariants.{Defined, Binary}
 use Rattle.lc_rules.specs.declared.wanted.Wanted.{Wanted}
 
+-- the macros of a table that may be there
 abbrev pub defined_in : Option (Bor (List Macro)) → List Macro
 defined_in None = []
 defined_in (Some table) = table.now
 
+-- `binary` and those of the table
 abbrev pub known_macros : Macros → List Macro
 known_macros m = binary ∷ defined_in m.defined
 
+-- the assignments of a macro
 abbrev pub body_of : Body → List Assign
 body_of (Defined assignments) = map assign_of assignments.now
 body_of Binary = binary.1
@@ -33,5 +36,6 @@ expanded body unspecified = []
 abbrev pub matters : List Macro → List ℕ → List ℕ → Bool
 matters ms wanted name = bytes_eq name wanted || is_some (macro_of ms name)
 
+-- the macros that may lead to the attribute
 abbrev pub macros_for : Wanted → List Macro
 macros_for w = known_macros w.macros

@@ -10,6 +10,7 @@ use Rattle.std.specs.Global.{Global}
 use Rattle.lc_rules.specs.Attributes.{Assign}
 use Rattle.lc_rules.specs.AttrLines.{AttrLine}
 
+-- whether some assignment is of a name
 abbrev pub assigns_name : List Assign → List ℕ → Bool
 assigns_name assigns name = list_any (λ a. bytes_eq a.0 name) assigns
 

@@ -8,6 +8,7 @@ abbrev pub without_mark : List ℕ → List ℕ
 without_mark (a ∷ b ∷ c ∷ rest) = if a == 0xEF && b == 0xBB && c == 0xBF then rest else a ∷ b ∷ c ∷ rest
 without_mark bytes = bytes
 
+-- what ends a line
 abbrev pub is_feed : ℕ → Bool
 is_feed b = b == line_feed
 

@@ -7,6 +7,7 @@ use Rattle.lc_rules.specs.IgnoreRules.{IgnoreRule}
 use Rattle.lc_rules.specs.declared.verdicts.Verdict.{Verdict}
 use Rattle.lc_rules.specs.declared.verdicts.Verdict.TheVariants.{Ignored, Included, NoRule}
 
+-- what ends a segment of a path
 abbrev pub is_slash : ℕ → Bool
 is_slash b = b == slash
 
@@ -19,6 +20,7 @@ below (suc depth) path = below depth (after_first is_slash path)
 abbrev pub rule_matches : List ℕ → Bool → (ℕ × IgnoreRule) → Bool
 rule_matches path is_dir rule = is_match rule.1.pattern (below rule.0 path) is_dir
 
+-- what a rule says where it matches
 abbrev pub verdict_by : IgnoreRule → Verdict
 verdict_by rule = if rule.is_negated then Included else Ignored
 
