@@ -1,0 +1,78 @@
+-- What a close answers, of a stored history and the passes.
+use Rattle.std.proofs.Common.{◌≡◌, ◌≢◌, ℕ, zero, suc, List, [], ◌∷◌, map, length, slice_get, Some, refl, sym, ◌∙◌, ap, subst}
+use Rattle.std.proofs.lemmas.List.{length-map}
+use Rattle.lc_board.specs.Part.{part}
+use Rattle.lc_board.specs.Bare.{bare, BareEvent}
+use Rattle.lc_board.specs.State.{Status, Open, Claimed, status}
+use Rattle.lc_board.specs.LegalHistory.{IsLegal, IsOver}
+use Rattle.lc_board.specs.PlainBoard.{Board, IsAfter}
+use Rattle.lc_board.specs.PlainCalls.{IsLeftLeast, NoneLeft, cell_of}
+use Rattle.lc_board.specs.Pass.{Pass}
+use Rattle.lc_board.specs.Numbers.{HasNumbers}
+use Rattle.lc_board.specs.RecordedCalls.{IsReady, locked_promises}
+use Rattle.lc_board.specs.declared.plain.cell.Cell.{Cell}
+use Rattle.lc_board.specs.ClosedBoard.{Settled, Unfinished, Differs, IsUnended}
+use Rattle.lc_board.specs.declared.event.Event.{Event}
+use Rattle.lc_board.specs.declared.answers.Ended.{Ended}
+use Rattle.lc_board.proofs.PlainSteps.{has_numbers, rows_placed, rows_shown, left_status, gone_status}
+use Rattle.lc_board.proofs.BareHistories.{part_bare}
+use Rattle.lc_board.proofs.Weaving.{settled}
+
+get_map : {X Y : Type 0} (f : X → Y) (xs : List X) (i : ℕ) (y : Y) → slice_get (map f xs) i ≡ Some y → (x : X) × (slice_get xs i ≡ Some x) × (f x ≡ y)
+get_map f [] i y h = absurd (cc h)
+get_map f (x ∷ xs) zero y h = (x, refl, cc h)
+get_map f (x ∷ xs) (suc i) y h = get_map f xs i y h
+
+map_get : {X Y : Type 0} (f : X → Y) (xs : List X) (i : ℕ) (x : X) → slice_get xs i ≡ Some x → slice_get (map f xs) i ≡ Some (f x)
+map_get f [] i x h = absurd (cc h)
+map_get f (y ∷ xs) zero x h = let e : y ≡ x = cc h in ap (λ z. Some (f z)) e
+map_get f (y ∷ xs) (suc i) x h = map_get f xs i x h
+
+unended : (s : Status) → ¬ IsUnended s → (s ≢ Open) × ((w : ℕ) → s ≢ Claimed w)
+unended s n = (λ e. n (subst IsUnended (sym e) tt), λ w e. n (subst IsUnended (sym e) tt))
+
+module _ {J R : Type 0} where
+  pub legal_at : (c n : ℕ) (root : J) (h : List (Event J R)) (b : Board J R) → IsAfter root h b → b.capacity ≡ c → length b.held ≡ n → IsLegal c n h
+  legal_at c n root h b a same crew = subst (λ k. IsLegal c k h) crew (subst (λ k. IsLegal k (length b.held) h) same a.legal)
+
+  pub unfinished : (c n k : ℕ) (views : List (Pass J R)) (root : J) (h : List (Event J R)) (b : Board J R) → IsAfter root h b → b.capacity ≡ c → length b.held ≡ n → IsLeftLeast b k → Unfinished c n k locked_promises views
+  unfinished c n k views root h b a same crew least = record {
+    history = h;
+    legal = legal_at c n root h b a same crew;
+    left = left_status root h b k a least.0;
+    least = λ m less. gone_status root h b m a (least.1 m less);
+    parts = λ no. absurd (cc no);
+  }
+
+  pub over_when : (root : J) (h : List (Event J R)) (b : Board J R) → IsAfter root h b → NoneLeft b → IsOver h
+  over_when root h b a none k = unended (status h k) (gone_status root h b k a (none k))
+
+  pub differs : {P : Type 0} (view : P → Pass J R) (c n w : ℕ) (ps : List P) (p : P) (root : J) (h : List (Event J R)) (es : List BareEvent) (b : Board J R) → IsAfter root h b → b.capacity ≡ c → length b.held ≡ n
+      → map bare h ≡ es → NoneLeft b → slice_get ps w ≡ Some p → ¬ (part w es ≡ map bare (view p).mine) → Differs c n w (map view ps)
+  differs view c n w ps p root h es b a same crew is none at other = record {
+    history = h;
+    legal = legal_at c n root h b a same crew;
+    over = over_when root h b a none;
+    pass = view p;
+    its = map_get view ps w p at;
+    differs = λ x. other (ap (λ (xs : List BareEvent). part w xs) (sym is) ∙ (part_bare w h ∙ x));
+  }
+
+  numbers_of_rows : (root : J) (h : List (Event J R)) (b : Board J R) (rows : List (Ended R)) → IsAfter root h b → map cell_of rows ≡ b.cells → HasNumbers (length rows) h
+  numbers_of_rows root h b rows a cells =
+      let len : length b.cells ≡ length rows = ap (λ (cs : List (Cell J R)). length cs) (sym cells) ∙ length-map rows cell_of in
+      subst (λ m. HasNumbers m h) len (has_numbers root h b a)
+
+  pub settled_all : {P : Type 0} (view : P → Pass J R) (c n : ℕ) (root : J) (ps : List P) (first : J) (h : List (Event J R)) (es : List BareEvent) (b : Board J R) (rows : List (Ended R)) → IsAfter first h b → b.capacity ≡ c → length b.held ≡ n
+      → map bare h ≡ es → map cell_of rows ≡ b.cells → length ps ≡ n → ((w : ℕ) (p : P) → slice_get ps w ≡ Some p → part w es ≡ map bare (view p).mine) → Settled c n root locked_promises (map view ps) rows
+  settled_all view c n root ps first h es b rows a same crew is cells len each =
+      settled c n root (map view ps) h es rows (legal_at c n first h b a same crew) (rows_placed first h b rows a cells).0 (numbers_of_rows first h b rows a cells) (rows_shown first h b rows a cells) is
+      (length-map ps view ∙ len)
+      (λ w v at. let there = get_map view ps w v at in subst (λ (u : Pass J R). part w es ≡ map bare u.mine) there.2 (each w there.0 there.1))
+
+  pub ready : {P : Type 0} (view : P → Pass J R) (ps : List P) (b : Board J R) (es : List BareEvent) → NoneLeft b
+      → ((w : ℕ) (p : P) → slice_get ps w ≡ Some p → part w es ≡ map bare (view p).mine) → IsReady (record { board = b; history = es }) (map view ps)
+  ready view ps b es none each = record {
+    none_left = none;
+    agrees = λ w v at. let there = get_map view ps w v at in subst (λ (u : Pass J R). part w es ≡ map bare u.mine) there.2 (each w there.0 there.1);
+  }

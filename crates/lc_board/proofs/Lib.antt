@@ -1,0 +1,9 @@
+pub mod Places
+pub mod NewestFirst
+pub mod PlainSteps
+pub mod PlainSound
+pub mod PlainReplies
+pub mod BareHistories
+pub mod RecordedSteps
+pub mod Weaving
+pub mod Closing

@@ -1,0 +1,82 @@
+-- What closing a shared board answers, of its passes.
+use Rattle.std.specs.Prelude.{◌≡◌, ◌≢◌, ℕ, ◌<◌, Bool, true, false, Option, Some, None, List, map, length, slice_get}
+use Rattle.lc_board.specs.State.{Status, Absent, Open, Claimed, Returned, Faulted, status}
+use Rattle.lc_board.specs.Part.{part}
+use Rattle.lc_board.specs.Bare.{bare}
+use Rattle.lc_board.specs.LegalHistory.{IsLegal, IsOver}
+use Rattle.lc_board.specs.Numbers.{HasNumbers}
+use Rattle.lc_board.specs.RowsInPlace.{InPlace}
+use Rattle.lc_board.specs.Pass.{Pass}
+use Rattle.lc_board.specs.declared.event.Event.{Event}
+use Rattle.lc_board.specs.declared.answers.Ended.{Ended}
+use Rattle.lc_board.specs.declared.answers.Ended.TheVariants as ended
+use Rattle.lc_board.specs.declared.answers.CloseFault.{CloseFault}
+use Rattle.lc_board.specs.declared.answers.CloseFault.TheVariants as close
+
+-- the row at a number is Returned or Faulted as its status says, and an absent number has none
+abbrev pub Shows : {R : Type 0} → Status → Option (Ended R) → Type 0
+Shows s None = s ≡ Absent
+Shows s (Some (ended.Returned r)) = s ≡ Returned
+Shows s (Some (ended.Faulted r)) = s ≡ Faulted
+
+-- open or claimed
+abbrev pub IsUnended : Status → Type 0
+IsUnended Absent = ⊥
+IsUnended Open = Unit {0}
+IsUnended (Claimed w) = Unit {0}
+IsUnended Returned = ⊥
+IsUnended Faulted = ⊥
+
+-- what a board type promises of its close:
+-- `keeps`, that the rows are in place; `compares`, that it has a history of its own, which it compares with the passes;
+-- `fills`, that a post is answered Full only where all numbers are used
+pub record Promises : Type 0 where
+  pub keeps : Bool
+  pub compares : Bool
+  pub fills : Bool
+
+module _ {J R : Type 0} where
+  -- the history's part of each worker is what its pass tells
+  abbrev pub HasParts : List (Event J R) → List (Pass J R) → Type 0
+  HasParts h passes = (w : ℕ) (p : Pass J R) → slice_get passes w ≡ Some p → part w h ≡ p.mine
+
+  -- one legal history that is over has the passes' events as its parts; its numbers have one row each
+  pub record Settled (capacity workers : ℕ) (root : J) (promises : Promises) (passes : List (Pass J R)) (rows : List (Ended R)) : Type 0 where
+    pub history : List (Event J R)
+    pub legal : IsLegal capacity workers history
+    pub over : IsOver history
+    pub parts : HasParts history passes
+    pub numbers : HasNumbers (length rows) history
+    pub shown : (k : ℕ) → Shows (status history k) (slice_get rows k)
+    pub in_place : promises.keeps ≡ true → InPlace root history rows
+    pub all_used : promises.fills ≡ true → (w : ℕ) (p : Pass J R) → slice_get passes w ≡ Some p → p.full ≡ true → length rows ≡ capacity
+
+  -- a legal history leaves this number open or claimed, and none below it; where nothing is compared its parts are what the passes tell
+  pub record Unfinished (capacity workers n : ℕ) (promises : Promises) (passes : List (Pass J R)) : Type 0 where
+    pub history : List (Event J R)
+    pub legal : IsLegal capacity workers history
+    pub left : IsUnended (status history n)
+    pub least : (k : ℕ) → k < n → ¬ IsUnended (status history k)
+    pub parts : promises.compares ≡ false → HasParts history passes
+
+  -- a legal history that is over has of this worker something else than its pass tells
+  pub record Differs (capacity workers w : ℕ) (passes : List (Pass J R)) : Type 0 where
+    pub history : List (Event J R)
+    pub legal : IsLegal capacity workers history
+    pub over : IsOver history
+    pub pass : Pass J R
+    pub its : slice_get passes w ≡ Some pass
+    pub differs : map bare (part w history) ≢ map bare pass.mine
+
+  -- one legal history that is over has the passes' events as its parts
+  pub record Finished (capacity workers : ℕ) (passes : List (Pass J R)) : Type 0 where
+    pub history : List (Event J R)
+    pub legal : IsLegal capacity workers history
+    pub over : IsOver history
+    pub parts : HasParts history passes
+
+  -- why a board is not closed
+  abbrev pub RefusesClose : ℕ → ℕ → Promises → List (Pass J R) → CloseFault → Type 0
+  RefusesClose capacity workers promises passes (close.Unfinished n) = Unfinished capacity workers n promises passes
+  RefusesClose capacity workers promises passes (close.Mismatch w) = (promises.compares ≡ true) × Differs capacity workers w passes
+  RefusesClose capacity workers promises passes close.Memory = promises.compares ≡ false → Finished capacity workers passes

@@ -1,0 +1,23 @@
+-- What the events of one worker say of its present claim.
+use Rattle.std.specs.Prelude.{ℕ, ◌+◌, List, [], ◌∷◌, Option, Some, None}
+use Rattle.lc_board.specs.declared.event.Event.{Event}
+use Rattle.lc_board.specs.declared.event.Event.TheVariants.{Post, Claim, Return, Fault, Over}
+
+module _ {J R : Type 0} where
+  -- the number that is claimed and not ended
+  abbrev pub holding : List (Event J R) → Option ℕ
+  holding [] = None
+  holding (Post w p i j ∷ m) = holding m
+  holding (Claim w i j ∷ m) = Some i
+  holding (Return w i r ∷ m) = None
+  holding (Fault w i r ∷ m) = None
+  holding (Over w ∷ m) = holding m
+
+  -- how much was posted since that claim
+  abbrev pub posted : List (Event J R) → ℕ
+  posted [] = 0
+  posted (Post w p i j ∷ m) = posted m + 1
+  posted (Claim w i j ∷ m) = 0
+  posted (Return w i r ∷ m) = 0
+  posted (Fault w i r ∷ m) = 0
+  posted (Over w ∷ m) = posted m

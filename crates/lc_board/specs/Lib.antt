@@ -1,0 +1,17 @@
+pub mod State
+pub mod Part
+pub mod Bare
+pub mod LegalHistory
+pub mod Holding
+pub mod RowsInPlace
+pub mod Numbers
+pub mod NewestFirst
+pub mod Pass
+pub mod ClosedBoard
+pub mod PlainBoard
+pub mod PlainCalls
+pub mod PlainFields
+pub mod Notes
+pub mod ComparedPass
+pub mod RecordedBoard
+pub mod RecordedCalls

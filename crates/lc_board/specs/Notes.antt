@@ -1,0 +1,19 @@
+-- What a pass of the locked board has stored, as contracts see it.
+use Rattle.std.specs.Prelude.{List, map}
+use Rattle.std.specs.declared.snapshot.Snapshot.{Snapshot}
+use Rattle.lc_board.specs.NewestFirst.{newest_first}
+use Rattle.lc_board.specs.declared.event.Event.{Event}
+use Rattle.lc_board.specs.declared.event.Event.TheVariants.{Post, Claim, Return, Fault, Over}
+
+module _ {J R : Type 0} where
+  -- the event whose job or row the snapshot remembers
+  abbrev pub valued : Event (Snapshot J) (Snapshot R) → Event J R
+  valued (Post w p i j) = Post w p i j.value
+  valued (Claim w i j) = Claim w i j.value
+  valued (Return w i r) = Return w i r.value
+  valued (Fault w i r) = Fault w i r.value
+  valued (Over w) = Over w
+
+  -- the events of a pass, newest first
+  abbrev pub mine_of : List (Event (Snapshot J) (Snapshot R)) → List (Event J R)
+  mine_of notes = map valued (newest_first notes)

@@ -1,0 +1,67 @@
+-- What contracts see of the board of one thread, and which histories it is the state of.
+use Rattle.std.specs.Prelude.{◌≡◌, ℕ, List, [], ◌∷◌, length, slice_get, slice_index_or, replicate, Option, Some, None}
+use Rattle.lc_board.specs.State.{Status, Absent, Open, Claimed, Returned, Faulted, status}
+use Rattle.lc_board.specs.LegalHistory.{posts_under, IsLegal}
+use Rattle.lc_board.specs.RowsInPlace.{job_posted, job_got, row_given}
+use Rattle.lc_board.specs.declared.event.Event.{Event}
+use Rattle.lc_board.specs.declared.plain.cell.Cell.{Cell}
+use Rattle.lc_board.specs.declared.plain.cell.Cell.TheVariants.{Waiting, Held, Done}
+use Rattle.lc_board.specs.declared.answers.Ended.{Ended}
+use Rattle.lc_board.specs.declared.answers.Ended.TheVariants as ended
+
+-- the board: for each worker the number that it has claimed, and for each number its cell
+pub record Board (J R : Type 0) : Type 0 where
+  pub capacity : ℕ
+  pub held : List (Option ℕ)
+  pub cells : List (Cell J R)
+
+abbrev pub status_ended : {R : Type 0} → Ended R → Status
+status_ended (ended.Returned r) = Returned
+status_ended (ended.Faulted r) = Faulted
+
+module _ {J R : Type 0} where
+  abbrev pub workers : Board J R → ℕ
+  workers b = length b.held
+
+  -- the number that a worker has claimed
+  abbrev pub held_by : Board J R → ℕ → Option ℕ
+  held_by b w = slice_index_or b.held w None
+
+  abbrev pub cell_at : Board J R → ℕ → Option (Cell J R)
+  cell_at b k = slice_get b.cells k
+
+  abbrev pub posts_in : Option (Cell J R) → ℕ
+  posts_in None = 0
+  posts_in (Some (Waiting j)) = 0
+  posts_in (Some (Held w n)) = n
+  posts_in (Some (Done e)) = 0
+
+  abbrev pub posts_at : Board J R → Option ℕ → ℕ
+  posts_at b None = 0
+  posts_at b (Some i) = posts_in (cell_at b i)
+
+  -- how much a worker has posted under its present claim
+  abbrev pub posts_by : Board J R → ℕ → ℕ
+  posts_by b w = posts_at b (held_by b w)
+
+  -- the cell of a number is what the history made of it
+  abbrev pub Fits : J → List (Event J R) → ℕ → Option (Cell J R) → Type 0
+  Fits root h k None = (status h k ≡ Absent) × (posts_under k h ≡ []) × (row_given h k ≡ None)
+  Fits root h k (Some (Waiting j)) = (status h k ≡ Open) × (posts_under k h ≡ []) × (row_given h k ≡ None) × (job_posted root h k ≡ Some j)
+  Fits root h k (Some (Held w n)) = (status h k ≡ Claimed w) × (length (posts_under k h) ≡ n) × (row_given h k ≡ None) × (job_got h k ≡ job_posted root h k)
+  Fits root h k (Some (Done e)) = (status h k ≡ status_ended e) × (row_given h k ≡ Some e) × (job_got h k ≡ job_posted root h k)
+
+  -- the board is the state after the history
+  pub record IsAfter (root : J) (h : List (Event J R)) (b : Board J R) : Type 0 where
+    pub legal : IsLegal b.capacity (workers b) h
+    pub fits : (k : ℕ) → Fits root h k (cell_at b k)
+
+  -- one event more: whatever the history was, it goes on with this event
+  pub record Adds (old : Board J R) (e : Event J R) (new : Board J R) : Type 0 where
+    pub capacity : new.capacity ≡ old.capacity
+    pub workers : length new.held ≡ length old.held
+    pub goes_on : (root : J) (h : List (Event J R)) → IsAfter root h old → IsAfter root (e ∷ h) new
+
+  -- the board before the first event
+  abbrev pub first_board : ℕ → ℕ → J → Board J R
+  first_board capacity workers root = record { capacity = capacity; held = replicate workers None; cells = Waiting root ∷ [] }

@@ -1,0 +1,73 @@
+-- What the calls of the board of one thread answer.
+use Rattle.std.specs.Prelude.{◌≡◌, ℕ, ◌<◌, length, slice_set, Option, Some, None, Result, Ok, Err, IfSome}
+use Rattle.lc_board.specs.PlainBoard.{Board, held_by, cell_at, Adds}
+use Rattle.lc_board.specs.declared.event.Event.TheVariants as event
+use Rattle.lc_board.specs.declared.plain.cell.Cell.{Cell}
+use Rattle.lc_board.specs.declared.plain.cell.Cell.TheVariants.{Waiting, Held, Done}
+use Rattle.lc_board.specs.declared.answers.Ended.{Ended}
+use Rattle.lc_board.specs.declared.answers.Claim.{Claim}
+use Rattle.lc_board.specs.declared.answers.Claim.TheVariants as answer
+use Rattle.lc_board.specs.declared.answers.CloseFault.{CloseFault}
+use Rattle.lc_board.specs.declared.answers.CloseFault.TheVariants as close
+use Rattle.lc_board.specs.declared.answers.PostFault.{PostFault}
+use Rattle.lc_board.specs.declared.answers.PostFault.TheVariants as refusal
+
+abbrev pub cell_of : {J R : Type 0} → Ended R → Cell J R
+cell_of e = Done e
+
+module _ {J R : Type 0} where
+  abbrev pub IsOpen : Option (Cell J R) → Type 0
+  IsOpen None = ⊥
+  IsOpen (Some (Waiting j)) = Unit {0}
+  IsOpen (Some (Held w n)) = ⊥
+  IsOpen (Some (Done e)) = ⊥
+
+  abbrev pub IsHeld : Option (Cell J R) → Type 0
+  IsHeld None = ⊥
+  IsHeld (Some (Waiting j)) = ⊥
+  IsHeld (Some (Held w n)) = Unit {0}
+  IsHeld (Some (Done e)) = ⊥
+
+  -- neither returned nor faulted
+  abbrev pub IsLeft : Option (Cell J R) → Type 0
+  IsLeft None = ⊥
+  IsLeft (Some (Waiting j)) = Unit {0}
+  IsLeft (Some (Held w n)) = Unit {0}
+  IsLeft (Some (Done e)) = ⊥
+
+  abbrev pub NoneOpen : Board J R → Type 0
+  NoneOpen b = (k : ℕ) → ¬ IsOpen (cell_at b k)
+
+  abbrev pub NoneHeld : Board J R → Type 0
+  NoneHeld b = (k : ℕ) → ¬ IsHeld (cell_at b k)
+
+  abbrev pub NoneLeft : Board J R → Type 0
+  NoneLeft b = (k : ℕ) → ¬ IsLeft (cell_at b k)
+
+  -- the least open number, with its job
+  pub record IsLeastOpen (b : Board J R) (i : ℕ) (j : J) : Type 0 where
+    pub here : cell_at b i ≡ Some (Waiting j)
+    pub least : (k : ℕ) → k < i → ¬ IsOpen (cell_at b k)
+
+  -- the least number that is neither returned nor faulted
+  abbrev pub IsLeftLeast : Board J R → ℕ → Type 0
+  IsLeftLeast b n = IsLeft (cell_at b n) × ((k : ℕ) → k < n → ¬ IsLeft (cell_at b k))
+
+  -- what a claim of a worker answers: the least open number, or Later where some are claimed, or Over
+  abbrev pub AnswersClaim : ℕ → Board J R → Claim J → Board J R → Type 0
+  AnswersClaim w old (answer.Got i j) new = IsLeastOpen old i j × Adds old (event.Claim w i j) new × (new.held ≡ slice_set old.held w (Some i))
+  AnswersClaim w old answer.Later new = NoneOpen old × ((k : ℕ) × IsHeld (cell_at old k)) × (new ≡ old)
+  AnswersClaim w old answer.Over new = NoneOpen old × NoneHeld old × Adds old (event.Over w) new × (new ≡ old)
+  AnswersClaim w old answer.Memory new = ⊥
+
+  -- what a post of a worker answers: the least unused number; where it is refused the job comes back and nothing changes
+  abbrev pub AnswersPost : ℕ → Board J R → J → Result ℕ (PostFault J) → Board J R → Type 0
+  AnswersPost w old j (Ok i) new = (i ≡ length old.cells) × IfSome (held_by old w) (λ p. Adds old (event.Post w p i j) new) × (new.held ≡ old.held)
+  AnswersPost w old j (Err (refusal.Full k)) new = (k ≡ j) × (length old.cells ≡ old.capacity) × (new ≡ old)
+  AnswersPost w old j (Err (refusal.Memory k)) new = (k ≡ j) × (length old.cells < old.capacity) × (new ≡ old)
+
+  -- why the rows are refused
+  abbrev pub RefusesRows : Board J R → CloseFault → Type 0
+  RefusesRows b (close.Unfinished n) = IsLeftLeast b n
+  RefusesRows b (close.Mismatch w) = ⊥
+  RefusesRows b close.Memory = NoneLeft b

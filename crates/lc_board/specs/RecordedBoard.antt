@@ -1,0 +1,34 @@
+-- What contracts see of the board under the lock, and what its fields keep.
+use Rattle.std.specs.Prelude.{◌≡◌, ℕ, ◌+◌, ◌≤◌, List, [], ◌∷◌, map, length, Option, Some, None}
+use Rattle.lc_board.specs.Bare.{BareEvent, bare}
+use Rattle.lc_board.specs.Numbers.{HasNumbers}
+use Rattle.lc_board.specs.NewestFirst.{newest_first}
+use Rattle.lc_board.specs.PlainBoard.{Board, workers, IsAfter}
+use Rattle.lc_board.specs.declared.event.Event.{Event}
+use Rattle.lc_board.specs.declared.limits.TheConstants.{MOST_WORKERS}
+
+-- the board, and its history, newest first, without jobs and rows
+pub record Record (J R : Type 0) : Type 0 where
+  pub board : Board J R
+  pub history : List BareEvent
+
+-- how many claims are held
+abbrev pub held_count : List (Option ℕ) → ℕ
+held_count [] = 0
+held_count (None ∷ hs) = held_count hs
+held_count (Some i ∷ hs) = held_count hs + 1
+
+module _ {J R : Type 0} where
+  -- the board is the state after a legal history, which is the stored one but for the jobs and rows; its numbers have no gap
+  pub record IsRecorded (board : Board J R) (stored : List BareEvent) : Type 0 where
+    pub root : J
+    pub events : List (Event J R)
+    pub after : IsAfter root events board
+    pub stored_is : map bare events ≡ stored
+    pub numbers : HasNumbers (length board.cells) events
+
+  -- and there is room for the end of each claim that is held
+  pub record KeepsRoom (board : Board J R) (events : List BareEvent) (len room : ℕ) : Type 0 where
+    pub recorded : IsRecorded board (newest_first events)
+    pub ends_fit : len + held_count board.held ≤ room
+    pub crew : workers board ≤ MOST_WORKERS

@@ -1,0 +1,64 @@
+-- What the calls of the board under the lock answer.
+use Rattle.std.specs.Prelude.{◌≡◌, ℕ, ◌<◌, Bool, true, false, List, ◌∷◌, map, Some, None, Result, Ok, Err, slice_get}
+use Rattle.lc_board.specs.Part.{part}
+use Rattle.lc_board.specs.Bare.{bare}
+use Rattle.lc_board.specs.PlainBoard.{Board, workers, held_by, posts_by, Adds}
+use Rattle.lc_board.specs.PlainCalls.{AnswersClaim, AnswersPost, NoneLeft}
+use Rattle.lc_board.specs.Pass.{Pass}
+use Rattle.lc_board.specs.ClosedBoard.{Promises}
+use Rattle.lc_board.specs.RecordedBoard.{Record}
+use Rattle.lc_board.specs.declared.event.Event.{Event}
+use Rattle.lc_board.specs.declared.event.Event.TheVariants as event
+use Rattle.lc_board.specs.declared.answers.Claim.{Claim}
+use Rattle.lc_board.specs.declared.answers.Claim.TheVariants as answer
+use Rattle.lc_board.specs.declared.answers.PostFault.{PostFault}
+use Rattle.lc_board.specs.declared.answers.PostFault.TheVariants as refusal
+
+-- closing a locked board compares its history with the passes, and promises no more
+abbrev pub locked_promises : Promises
+locked_promises = record { keeps = false; compares = true; fills = false }
+
+module _ {J R : Type 0} where
+  -- the board goes on with the event, and the history has it
+  pub record Records (old : Record J R) (e : Event J R) (new : Record J R) : Type 0 where
+    pub adds : Adds old.board e new.board
+    pub history : new.history ≡ bare e ∷ old.history
+
+  -- a worker of the board that has claimed nothing
+  abbrev pub MayClaim : ℕ → Board J R → Type 0
+  MayClaim w b = (w < workers b) × (held_by b w ≡ None)
+
+  -- a worker of the board that has claimed this number
+  abbrev pub Holds : ℕ → ℕ → Board J R → Type 0
+  Holds w p b = (w < workers b) × (held_by b w ≡ Some p)
+
+  -- a claim answers as the board of one thread does, where the worker may claim; else Later. Later and Memory change nothing
+  abbrev pub RecordsClaim : ℕ → Record J R → Claim J → Record J R → Type 0
+  RecordsClaim w old (answer.Got i j) new = AnswersClaim w old.board (answer.Got i j) new.board × Records old (event.Claim w i j) new
+  RecordsClaim w old answer.Later new = (new ≡ old) × (MayClaim w old.board → AnswersClaim w old.board answer.Later old.board)
+  RecordsClaim w old answer.Over new = AnswersClaim w old.board answer.Over new.board × Records old (event.Over w) new
+  RecordsClaim w old answer.Memory new = (new ≡ old) × MayClaim w old.board
+
+  -- a post answers as the board of one thread does, where the worker has claimed the parent; else Full. A refusal changes nothing
+  abbrev pub RecordsPost : ℕ → ℕ → Record J R → J → Result ℕ (PostFault J) → Record J R → Type 0
+  RecordsPost w p old j (Ok i) new = AnswersPost w old.board j (Ok i) new.board × Records old (event.Post w p i j) new
+  RecordsPost w p old j (Err (refusal.Full k)) new = (k ≡ j) × (new ≡ old) × (Holds w p old.board → AnswersPost w old.board j (Err (refusal.Full k)) old.board)
+  RecordsPost w p old j (Err (refusal.Memory k)) new = (k ≡ j) × (new ≡ old) × Holds w p old.board
+
+  -- a claim is ended exactly where the worker may end it; else nothing changes
+  abbrev pub RecordsEnd : Type 0 → Record J R → Event J R → Bool → Record J R → Type 0
+  RecordsEnd may old e true new = Records old e new
+  RecordsEnd may old e false new = (new ≡ old) × ¬ may
+
+  -- a worker that has claimed the number and has posted nothing under it
+  abbrev pub MayFault : ℕ → ℕ → Board J R → Type 0
+  MayFault w p b = Holds w p b × (posts_by b w ≡ 0)
+
+  -- memory for the rows is asked for last: nothing is left, and the history agrees with each pass
+  pub record IsReady (r : Record J R) (passes : List (Pass J R)) : Type 0 where
+    pub none_left : NoneLeft r.board
+    pub agrees : (w : ℕ) (p : Pass J R) → slice_get passes w ≡ Some p → part w r.history ≡ map bare p.mine
+
+  -- a close answers Memory only so, or where the board is of another size than it is closed as
+  abbrev pub RefusesMemory : Record J R → ℕ → ℕ → List (Pass J R) → Type 0
+  RefusesMemory r capacity crew passes = r.board.capacity ≡ capacity → workers r.board ≡ crew → IsReady r passes

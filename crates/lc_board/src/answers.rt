@@ -1,0 +1,47 @@
+//! What the calls of a board answer.
+
+/// What a claim answers.
+#[derive(Drop)]
+pub enum Claim<J> {
+    /// The number that was claimed, with its job.
+    Got(u32, J),
+    /// Nothing was open, but another worker may still post: ask again.
+    Later,
+    /// No number is open or claimed, so nothing will be.
+    Over,
+    /// There was no memory to claim with: nothing changed.
+    Memory,
+}
+
+/// Why a job was not posted. It comes back.
+#[derive(Drop)]
+pub enum PostFault<J> {
+    /// All numbers of the board are used.
+    Full(J),
+    /// There was no memory for one more: nothing changed.
+    Memory(J),
+}
+
+/// Why a board was not closed. They are tested in this order.
+#[derive(Drop)]
+pub enum CloseFault {
+    /// The least number that is neither returned nor faulted.
+    Unfinished(u32),
+    /// A worker of whose events the board and the pass tell different things.
+    Mismatch(u32),
+    /// There was no memory for the rows.
+    Memory,
+}
+
+/// The row by which a number ended.
+#[derive(Drop)]
+pub enum Ended<R> {
+    Returned(R),
+    Faulted(R),
+}
+
+/// What a closed board leaves: the row of each number, at its place.
+#[derive(Drop)]
+pub struct Closed<R> {
+    pub rows: Vec<Ended<R>>,
+}

@@ -1,0 +1,19 @@
+//! The board that workers share: numbered directories, each open, claimed by a worker, or ended by a row.
+//!
+//! Number 0 is the root's. Who has claimed a number may post further ones under it, each with a job, and ends the claim by a row. A
+//! board is over once no number is open or claimed, and then gives the row of each number.
+#![tactic(auto)]
+
+mod answers;
+mod event;
+pub mod limits;
+pub mod locked;
+pub mod plain;
+pub mod shared;
+
+pub use answers::{Claim, CloseFault, Closed, Ended, PostFault};
+pub use event::{BareEvent, Event};
+pub use locked::Locked;
+pub use locked::pass::LockedPass;
+pub use plain::Plain;
+pub use shared::{Shared, Token};

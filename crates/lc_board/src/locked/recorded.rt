@@ -1,0 +1,170 @@
+//! What lies under the lock: a board of one thread beside the history of its events.
+ghost use Rattle.std.specs.Prelude.{◌≡◌, ℕ, ◌≤◌, [], IfOk, IfErr, map, length};
+ghost use Rattle.lc_board.specs.PlainBoard.{first_board};
+ghost use Rattle.lc_board.specs.RecordedCalls.{Holds, MayFault, RecordsClaim, RecordsPost, RecordsEnd, RefusesMemory, locked_promises};
+ghost use Rattle.lc_board.specs.ClosedBoard.{Settled, RefusesClose};
+ghost use Rattle.lc_board.specs.declared.event.Event.TheVariants.{Return, Fault};
+
+use crate::answers::{Claim, CloseFault, Closed, PostFault};
+use crate::event::{BareEvent, Event};
+use crate::limits::{MOST_NUMBERS, MOST_WORKERS};
+use crate::locked::compare::first_mismatch;
+use crate::locked::pass::LockedPass;
+use crate::plain::Plain;
+use crate::shared::Token;
+use std::alloc::{AllocError, Global};
+use std::marker::Model;
+
+/// A board with its history. Contracts see the board, and the history newest first.
+#[derive(Drop)]
+pub struct Recorded<J, R> {
+    plain: Plain<J, R>,
+    history: Vec<BareEvent>,
+}
+
+impl<J, R> Model for Recorded<J, R> {
+    ghost use Rattle.std.specs.Prelude.{vec_len, vec_capacity};
+    ghost use Rattle.lc_board.specs.NewestFirst.{newest_first};
+    ghost use Rattle.lc_board.specs.RecordedBoard.{Record, KeepsRoom};
+
+    ghost Value = { Record J R };
+
+    ghost view = { λ l. record { board = l.plain; history = newest_first l.history.items } };
+
+    ghost invariant = { λ l. KeepsRoom l.plain l.history.items (vec_len l.history) (vec_capacity l.history) };
+}
+
+impl<J: Drop, R: Drop> Recorded<J, R> {
+    /// The board before the first event.
+    pub fn start(
+        alloc: Global,
+        capacity: u32,
+        workers: u32,
+        root: J,
+    ) -> Result<Recorded<J, R>, AllocError>
+        requires capacity { (1 ≤ capacity) × (capacity ≤ MOST_NUMBERS) }
+        requires workers { (1 ≤ workers) × (workers ≤ MOST_WORKERS) }
+        ensures { IfOk result (λ r. (r.board ≡ first_board capacity workers root) × (r.history ≡ [])) }
+    {
+        let plain = Plain::start(alloc, capacity, workers, root)?;
+        Ok(Recorded {
+            plain,
+            history: Vec::new(alloc),
+        })
+    }
+
+    /// Claims for a worker. First it makes room for this event, and for the end of each claim.
+    pub fn claim(&mut self, worker: u32) -> Claim<J>
+        ensures { RecordsClaim worker self.old result self.new }
+    {
+        let crew = self.plain.workers();
+        if worker >= crew || self.plain.held_by(worker).is_some() {
+            return Claim::Later;
+        }
+        if self.history.reserve(crew as usize + 2).is_err() {
+            return Claim::Memory;
+        }
+        let answer = self.plain.claim(worker);
+        match &answer {
+            Claim::Got(number, _) => self.history.push_reserved(Event::Claim {
+                worker,
+                number: *number,
+                job: (),
+            }),
+            Claim::Over => self.history.push_reserved(Event::Over { worker }),
+            Claim::Later => {}
+            Claim::Memory => {}
+        }
+        answer
+    }
+
+    /// Posts under the claim that the worker has of the parent, and keeps the room for the ends.
+    pub fn post(&mut self, worker: u32, parent: u32, job: J) -> Result<u32, PostFault<J>>
+        ensures { RecordsPost worker parent self.old job result self.new }
+    {
+        let crew = self.plain.workers();
+        if worker >= crew || self.plain.held_by(worker) != Some(parent) {
+            return Err(PostFault::Full(job));
+        }
+        if self.history.reserve(crew as usize + 1).is_err() {
+            return Err(PostFault::Memory(job));
+        }
+        match self.plain.post(worker, job) {
+            Ok(number) => {
+                self.history.push_reserved(Event::Post {
+                    worker,
+                    parent,
+                    number,
+                    job: (),
+                });
+                Ok(number)
+            }
+            Err(fault) => Err(fault),
+        }
+    }
+
+    /// Ends the claim of the number by a row; false where the worker has not claimed it.
+    pub fn give(&mut self, worker: u32, number: u32, row: R) -> bool
+        ensures { RecordsEnd (Holds worker number self.old.board) self.old (Return worker number row) result self.new }
+    {
+        if worker >= self.plain.workers() || self.plain.held_by(worker) != Some(number) {
+            return false;
+        }
+        self.plain.give(worker, row);
+        self.history.push_reserved(Event::Return {
+            worker,
+            number,
+            row: (),
+        });
+        true
+    }
+
+    /// Ends the claim of the number by the row of a fault; false where the worker has not claimed it or has posted under it.
+    pub fn fault(&mut self, worker: u32, number: u32, row: R) -> bool
+        ensures { RecordsEnd (MayFault worker number self.old.board) self.old (Fault worker number row) result self.new }
+    {
+        if worker >= self.plain.workers() || self.plain.held_by(worker) != Some(number) {
+            return false;
+        }
+        if self.plain.posts_by(worker) != 0 {
+            return false;
+        }
+        self.plain.fault(worker, row);
+        self.history.push_reserved(Event::Fault {
+            worker,
+            number,
+            row: (),
+        });
+        true
+    }
+
+    /// The rows, where each number has ended and the history agrees with each pass.
+    pub fn close(
+        self,
+        alloc: Global,
+        capacity: u32,
+        workers: u32,
+        passes: &[LockedPass<J, R>],
+    ) -> Result<Closed<R>, CloseFault>
+        requires workers { workers ≤ MOST_WORKERS }
+        requires all { length passes.now ≡ workers }
+        ensures settled { IfOk result (λ c. (root : J) → Settled capacity workers root locked_promises (map ⟦<LockedPass<J, R> as Token<J, R>>⟧.view passes.now) c.rows.items) }
+        ensures fault { IfErr result (RefusesClose capacity workers locked_promises (map ⟦<LockedPass<J, R> as Token<J, R>>⟧.view passes.now)) }
+        ensures memory { result ≡ Err CloseFault.Memory → RefusesMemory self capacity workers (map ⟦<LockedPass<J, R> as Token<J, R>>⟧.view passes.now) }
+    {
+        let Recorded { plain, history } = self;
+        if plain.capacity() != capacity || plain.workers() != workers {
+            return Err(CloseFault::Memory);
+        }
+        if let Some(number) = plain.first_left() {
+            return Err(CloseFault::Unfinished(number));
+        }
+        if let Some(worker) = first_mismatch(history.as_slice(), passes) {
+            return Err(CloseFault::Mismatch(worker));
+        }
+        match plain.into_rows(alloc) {
+            Ok(closed) => Ok(closed),
+            Err(fault) => Err(fault),
+        }
+    }
+}

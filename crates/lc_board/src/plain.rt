@@ -1,0 +1,210 @@
+//! The board of one thread. A call names the worker for whom it acts.
+ghost use Rattle.std.specs.Prelude.{◌≡◌, ◌≢◌, ℕ, ◌<◌, ◌≤◌, ◌^◌, [], None, IfOk, IfErr, IfSome, IfNone, map, slice_set, true, false};
+ghost use Rattle.lc_board.specs.LegalHistory.{IsOver};
+ghost use Rattle.lc_board.specs.RowsInPlace.{InPlace};
+ghost use Rattle.lc_board.specs.PlainBoard.{IsAfter, Adds, first_board, workers, held_by, posts_by, cell_at};
+ghost use Rattle.lc_board.specs.PlainCalls.{AnswersClaim, AnswersPost, RefusesRows, NoneOpen, NoneHeld, IsLeftLeast, NoneLeft, IsLeft, cell_of};
+ghost use Rattle.lc_board.specs.declared.event.Event.TheVariants.{Return, Fault};
+
+use crate::answers::{Claim, CloseFault, Closed, Ended, PostFault};
+use crate::limits::{MOST_NUMBERS, MOST_WORKERS};
+use std::alloc::{AllocError, Global};
+use std::marker::Model;
+
+pub mod cell;
+mod cells;
+
+use cell::{Cell, count_post, posts_of, take_job};
+use cells::{all_ended, first_left, is_any_held};
+
+/// A board of one thread. Contracts see it as its capacity, what each worker has claimed, and the cells of its numbers.
+#[derive(Drop)]
+pub struct Plain<J, R> {
+    capacity: u32,
+    /// For each worker the number that it has claimed.
+    held: Vec<Option<u32>>,
+    cells: Vec<Cell<J, R>>,
+    /// The least number that is open; where none is, the least that is not used.
+    next: u32,
+}
+
+impl<J, R> Model for Plain<J, R> {
+    ghost use Rattle.lc_board.specs.PlainBoard.{Board};
+
+    ghost Value = { Board J R };
+
+    ghost use Rattle.lc_board.specs.PlainFields.{IsSound};
+
+    ghost view = { λ p. record { capacity = p.capacity; held = p.held.items; cells = p.cells.items } };
+
+    ghost invariant = { λ p. IsSound p.next (record { capacity = p.capacity; held = p.held.items; cells = p.cells.items }) };
+}
+
+impl<J: Drop, R: Drop> Plain<J, R> {
+    /// A board on which number 0 is open with the job of the root. Where memory is refused the root is dropped.
+    pub fn start(
+        alloc: Global,
+        capacity: u32,
+        workers: u32,
+        root: J,
+    ) -> Result<Plain<J, R>, AllocError>
+        requires capacity { (1 ≤ capacity) × (capacity ≤ MOST_NUMBERS) }
+        requires workers { (1 ≤ workers) × (workers ≤ MOST_WORKERS) }
+        ensures { IfOk result (λ b. (b ≡ first_board capacity workers root) × IsAfter root [] b) }
+    {
+        let mut held = Vec::with_capacity(alloc, workers as usize)?;
+        for _ in 0..workers {
+            held.push(None)?;
+        }
+        let mut cells = Vec::new(alloc);
+        cells.push(Cell::Waiting(root))?;
+        Ok(Plain {
+            capacity,
+            held,
+            cells,
+            next: 0,
+        })
+    }
+
+    /// Claims the least open number for a worker that has claimed none. It takes no memory, and never answers Memory.
+    pub fn claim(&mut self, worker: u32) -> Claim<J>
+        requires worker { worker < workers self.old }
+        requires free { held_by self.old worker ≡ None }
+        ensures { AnswersClaim worker self.old result self.new }
+    {
+        let number = self.next;
+        if (number as usize) < self.cells.len() {
+            let job = take_job(&mut self.cells[number as usize], worker);
+            self.held[worker as usize] = Some(number);
+            self.next = number + 1;
+            return Claim::Got(number, job);
+        }
+        if is_any_held(&self.held) {
+            return Claim::Later;
+        }
+        Claim::Over
+    }
+
+    /// Posts a job at the least unused number, under the claim of the worker.
+    pub fn post(&mut self, worker: u32, job: J) -> Result<u32, PostFault<J>>
+        requires worker { worker < workers self.old }
+        requires holds { held_by self.old worker ≢ None }
+        ensures { AnswersPost worker self.old job result self.new }
+    {
+        let Some(parent) = self.held[worker as usize] else {
+            unreachable!()
+        };
+        let number = self.cells.len();
+        if number >= self.capacity as usize {
+            return Err(PostFault::Full(job));
+        }
+        if self.cells.reserve(1).is_err() {
+            return Err(PostFault::Memory(job));
+        }
+        count_post(&mut self.cells[parent as usize]);
+        self.cells.push_reserved(Cell::Waiting(job));
+        Ok(number as u32)
+    }
+
+    /// Ends the claim of the worker by a row. It takes no memory.
+    pub fn give(&mut self, worker: u32, row: R)
+        requires worker { worker < workers self.old }
+        requires holds { held_by self.old worker ≢ None }
+        ensures event { IfSome (held_by self.old worker) (λ i. Adds self.old (Return worker i row) self.new) }
+        ensures free { self.new.held ≡ slice_set self.old.held worker None }
+    {
+        let Some(number) = self.held[worker as usize] else {
+            unreachable!()
+        };
+        self.cells[number as usize] = Cell::Done(Ended::Returned(row));
+        self.held[worker as usize] = None;
+    }
+
+    /// Ends the claim of the worker, which has posted nothing under it, by the row of a fault. It takes no memory.
+    pub fn fault(&mut self, worker: u32, row: R)
+        requires worker { worker < workers self.old }
+        requires holds { held_by self.old worker ≢ None }
+        requires none { posts_by self.old worker ≡ 0 }
+        ensures event { IfSome (held_by self.old worker) (λ i. Adds self.old (Fault worker i row) self.new) }
+        ensures free { self.new.held ≡ slice_set self.old.held worker None }
+    {
+        let Some(number) = self.held[worker as usize] else {
+            unreachable!()
+        };
+        self.cells[number as usize] = Cell::Done(Ended::Faulted(row));
+        self.held[worker as usize] = None;
+    }
+
+    /// No number is open or claimed.
+    pub fn is_over(&self) -> bool
+        ensures over { result ≡ true → NoneOpen self.now × NoneHeld self.now }
+        ensures left { result ≡ false → (k : ℕ) × IsLeft (cell_at self.now k) }
+    {
+        if (self.next as usize) < self.cells.len() {
+            return false;
+        }
+        !is_any_held(&self.held)
+    }
+
+    /// The row of each number. Where it is refused the rows are dropped.
+    pub fn into_rows(self, alloc: Global) -> Result<Closed<R>, CloseFault>
+        ensures rows { IfOk result (λ c. map cell_of c.rows.items ≡ self.cells) }
+        ensures placed { IfOk result (λ c. (root : J) (h : _) → IsAfter root h self → IsOver h × InPlace root h c.rows.items) }
+        ensures fault { IfErr result (RefusesRows self) }
+    {
+        let Plain {
+            capacity: _,
+            held: _,
+            cells,
+            next: _,
+        } = self;
+        if let Some(number) = first_left(&cells) {
+            return Err(CloseFault::Unfinished(number));
+        }
+        match all_ended(alloc, cells) {
+            Ok(rows) => Ok(Closed { rows }),
+            Err(_) => Err(CloseFault::Memory),
+        }
+    }
+
+    pub(crate) fn workers(&self) -> u32
+        requires { workers self.now < 2 ^ 32 }
+        ensures { result ≡ workers self.now }
+    {
+        self.held.len() as u32
+    }
+
+    pub(crate) fn capacity(&self) -> u32
+        ensures { result ≡ self.now.capacity }
+    {
+        self.capacity
+    }
+
+    /// The number that a worker has claimed.
+    pub(crate) fn held_by(&self, worker: u32) -> Option<u32>
+        requires { worker < workers self.now }
+        ensures { result ≡ held_by self.now worker }
+    {
+        self.held[worker as usize]
+    }
+
+    /// The posts under the claim of a worker.
+    pub(crate) fn posts_by(&self, worker: u32) -> u32
+        requires worker { worker < workers self.now }
+        requires holds { held_by self.now worker ≢ None }
+        ensures { result ≡ posts_by self.now worker }
+    {
+        let Some(number) = self.held[worker as usize] else {
+            unreachable!()
+        };
+        posts_of(&self.cells[number as usize])
+    }
+
+    /// The least number that has not ended.
+    pub(crate) fn first_left(&self) -> Option<u32>
+        ensures some { IfSome result (IsLeftLeast self.now) }
+        ensures none { IfNone result (NoneLeft self.now) }
+    {
+        first_left(&self.cells)
+    }
+}

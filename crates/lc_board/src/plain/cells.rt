@@ -1,0 +1,50 @@
+//! All cells of a board of one thread, and who holds them.
+ghost use Rattle.std.specs.Prelude.{◌≡◌, ◌≢◌, ℕ, ◌<◌, ◌≤◌, false, true, Some, IfOk, IfSome, IfNone, length, map, slice_get};
+ghost use Rattle.lc_board.specs.PlainCalls.{IsLeft, cell_of};
+
+use crate::answers::Ended;
+use crate::limits::MOST_NUMBERS;
+use crate::plain::cell::{Cell, is_left, row_in};
+use std::alloc::{AllocError, Global};
+
+/// Some worker holds a number.
+pub fn is_any_held(held: &[Option<u32>]) -> bool
+    ensures some { result ≡ true → (w i : ℕ) × (slice_get held.now w ≡ Some (Some i)) }
+    ensures none { result ≡ false → (w i : ℕ) → slice_get held.now w ≢ Some (Some i) }
+{
+    for at in 0..held.len() {
+        if held[at].is_some() {
+            return true;
+        }
+    }
+    false
+}
+
+/// The least number that has not ended.
+pub fn first_left<J, R>(cells: &[Cell<J, R>]) -> Option<u32>
+    requires { length cells.now ≤ MOST_NUMBERS }
+    ensures some { IfSome result (λ n. IsLeft (slice_get cells.now n) × ((k : ℕ) → k < n → ¬ IsLeft (slice_get cells.now k))) }
+    ensures none { IfNone result ((k : ℕ) → ¬ IsLeft (slice_get cells.now k)) }
+{
+    for at in 0..cells.len() {
+        if is_left(&cells[at]) {
+            return Some(at as u32);
+        }
+    }
+    None
+}
+
+/// The rows of cells that have all ended.
+pub fn all_ended<J: Drop, R: Drop>(
+    alloc: Global,
+    cells: Vec<Cell<J, R>>,
+) -> Result<Vec<Ended<R>>, AllocError>
+    requires { (k : ℕ) → ¬ IsLeft (slice_get cells.items k) }
+    ensures { IfOk result (λ rows. map cell_of rows.items ≡ cells.items) }
+{
+    let mut rows = Vec::with_capacity(alloc, cells.len())?;
+    for cell in cells {
+        rows.push(row_in(cell))?;
+    }
+    Ok(rows)
+}

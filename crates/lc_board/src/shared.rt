@@ -1,0 +1,102 @@
+//! What a board has to be for workers on threads.
+//!
+//! Each worker has a pass, by which it claims a number, posts further jobs under that claim, and ends it by a row. The calls of all
+//! workers stand in one legal history, of which each pass has its worker's part; `close` says so of all passes at once.
+ghost use Rattle.std.specs.Prelude.{◌≡◌, ◌≢◌, ℕ, ◌≤◌, Some, None, IfOk, IfErr, slice_get, vec_len, map};
+ghost use Rattle.lc_board.specs.Pass.{Pass, holding, posted, new_pass, after_claim, after_post, after_give, after_fault, job_back};
+ghost use Rattle.lc_board.specs.ClosedBoard.{Promises, Settled, RefusesClose};
+
+use crate::answers::{Claim, CloseFault, Closed, PostFault};
+use crate::limits::{MOST_NUMBERS, MOST_WORKERS};
+use std::alloc::{AllocError, Global};
+use std::sync::Wait;
+
+/// A worker's pass.
+pub trait Token<J, R> {
+    /// Its worker, the events that it made, and whether it was refused.
+    ghost view: { Self → Pass J R };
+
+    /// The worker's number, from 0.
+    fn worker(&self) -> u32
+        ensures { result ≡ (view self.now).worker };
+
+    /// The number that is claimed and not ended.
+    fn holding(&self) -> Option<u32>
+        ensures { result ≡ holding (view self.now) };
+
+    /// How much was posted under the present claim.
+    fn posted(&self) -> u32
+        ensures { result ≡ posted (view self.now) };
+}
+
+/// A board that workers share. A call that may wait promises only if it returns.
+pub trait Shared<J, R>: Sized {
+    type Pass: Token<J, R> + Send + Drop;
+
+    /// Its capacity.
+    ghost room: { Self → ℕ };
+
+    /// How many workers share it.
+    ghost crew: { Self → ℕ };
+
+    /// The job of number 0.
+    ghost top: { Self → J };
+
+    /// The pass is this board's.
+    ghost owns: { Self → Self.Pass → Type 0 };
+
+    /// What closing such a board promises.
+    ghost promises: { Promises };
+
+    /// A board on which number 0 is open with the job of the root, and the passes of its workers, in order. Where memory is refused
+    /// the root is dropped.
+    fn start(
+        alloc: Global,
+        capacity: u32,
+        workers: u32,
+        root: J,
+    ) -> Result<(Self, Vec<Self::Pass>), AllocError>
+        requires capacity { (1 ≤ capacity) × (capacity ≤ MOST_NUMBERS) }
+        requires workers { (1 ≤ workers) × (workers ≤ MOST_WORKERS) }
+        ensures board { IfOk result (λ b. (Self.room b.0 ≡ capacity) × (Self.crew b.0 ≡ workers) × (Self.top b.0 ≡ root)) }
+        ensures count { IfOk result (λ b. vec_len b.1 ≡ workers) }
+        ensures passes { IfOk result (λ b. (w : ℕ) (p : Self.Pass) → slice_get b.1.items w ≡ Some p → owns b.0 p × (Self.Pass.view p ≡ new_pass w)) };
+
+    /// Claims an open number for a worker that has claimed none.
+    fn claim<W: Wait>(&self, rt: &W, pass: &mut Self::Pass) -> Claim<J>
+        requires pass { owns self.now pass.old }
+        requires free { holding (Self.Pass.view pass.old) ≡ None }
+        ensures pass { owns self.now pass.new }
+        ensures mine { Self.Pass.view pass.new ≡ after_claim (Self.Pass.view pass.old) result };
+
+    /// Makes one more number open with this job, under the claim of the pass.
+    fn post<W: Wait>(&self, rt: &W, pass: &mut Self::Pass, job: J) -> Result<u32, PostFault<J>>
+        requires pass { owns self.now pass.old }
+        requires holds { holding (Self.Pass.view pass.old) ≢ None }
+        ensures pass { owns self.now pass.new }
+        ensures mine { Self.Pass.view pass.new ≡ after_post (Self.Pass.view pass.old) job result }
+        ensures back { IfErr result (λ f. job_back f ≡ job) };
+
+    /// Ends the claim of the pass by a row.
+    fn give<W: Wait>(&self, rt: &W, pass: &mut Self::Pass, row: R)
+        requires pass { owns self.now pass.old }
+        requires holds { holding (Self.Pass.view pass.old) ≢ None }
+        ensures pass { owns self.now pass.new }
+        ensures mine { Self.Pass.view pass.new ≡ after_give (Self.Pass.view pass.old) row };
+
+    /// Ends the claim of the pass, under which nothing was posted, by the row of a fault.
+    fn fault<W: Wait>(&self, rt: &W, pass: &mut Self::Pass, row: R)
+        requires pass { owns self.now pass.old }
+        requires holds { holding (Self.Pass.view pass.old) ≢ None }
+        requires none { posted (Self.Pass.view pass.old) ≡ 0 }
+        ensures pass { owns self.now pass.new }
+        ensures mine { Self.Pass.view pass.new ≡ after_fault (Self.Pass.view pass.old) row };
+
+    /// The rows, once each number has ended. It takes all passes of the board, in their workers' order. Where it is refused the rows
+    /// are dropped.
+    fn close(self, passes: Vec<Self::Pass>) -> Result<Closed<R>, CloseFault>
+        requires all { vec_len passes ≡ Self.crew self }
+        requires each { (w : ℕ) (p : Self.Pass) → slice_get passes.items w ≡ Some p → owns self p × ((Self.Pass.view p).worker ≡ w) }
+        ensures settled { IfOk result (λ c. Settled (Self.room self) (Self.crew self) (Self.top self) promises (map (λ p. Self.Pass.view p) passes.items) c.rows.items) }
+        ensures fault { IfErr result (RefusesClose (Self.room self) (Self.crew self) promises (map (λ p. Self.Pass.view p) passes.items)) };
+}
