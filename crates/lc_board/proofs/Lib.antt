@@ -1,4 +1,9 @@
 pub mod Places
+pub mod NumbersOnce
+pub mod PartsOfWhole
+pub mod HeldClaims
+pub mod OverHistories
+pub mod ComputedScripts
 pub mod NewestFirst
 pub mod PlainSteps
 pub mod PlainSound
@@ -7,3 +12,4 @@ pub mod BareHistories
 pub mod RecordedSteps
 pub mod Weaving
 pub mod Closing
+pub mod ReturnedPasses

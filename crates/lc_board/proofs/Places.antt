@@ -2,7 +2,7 @@
 use Rattle.std.proofs.Common.{◌≡◌, ◌≢◌, ℕ, zero, suc, ◌<◌, ◌≤◌, ◌==◌, cond, Bool, true, false, not, List, [], ◌∷◌, ◌++◌, length, slice_get, slice_set, slice_index_or, Option, Some, None, refl, sym, ◌∙◌, ap, subst, arith, eq-eqb}
 use Rattle.std.proofs.lemmas.Bool.{eqb-true}
 
-differ : {b : Bool} → b ≡ true → b ≡ false → ⊥
+pub differ : {b : Bool} → b ≡ true → b ≡ false → ⊥
 differ t f = let h : true ≡ false = sym t ∙ f in absurd (cc h)
 
 pub not_true : (b : Bool) → not b ≡ true → b ≡ false
@@ -16,6 +16,10 @@ not_false false e = sym e
 -- a choice by an equation of numbers
 pub at_same : {A : Type 0} (k i : ℕ) (x y : A) → k ≡ i → cond (k == i) x y ≡ x
 at_same k i x y e = ap (λ b. cond b x y) (eq-eqb k i e)
+
+-- two numbers that a test tells apart
+pub apart : (k i : ℕ) → (k == i) ≡ false → k ≢ i
+apart k i e same = differ (eq-eqb k i same) e
 
 other_cases : {A : Type 0} (k i : ℕ) (x y : A) → k ≢ i → (b : Bool) → (k == i) ≡ b → cond b x y ≡ y
 other_cases k i x y n true t = absurd (n (eqb-true k i t))

@@ -15,3 +15,5 @@ pub mod Notes
 pub mod ComparedPass
 pub mod RecordedBoard
 pub mod RecordedCalls
+pub mod Laws
+pub mod Scripts

@@ -1,7 +1,7 @@
 //! What the calls of a board answer.
 
 /// What a claim answers.
-#[derive(Drop)]
+#[derive(PartialEq, Eq, Debug, Drop)]
 pub enum Claim<J> {
     /// The number that was claimed, with its job.
     Got(u32, J),
@@ -14,7 +14,7 @@ pub enum Claim<J> {
 }
 
 /// Why a job was not posted. It comes back.
-#[derive(Drop)]
+#[derive(PartialEq, Eq, Debug, Drop)]
 pub enum PostFault<J> {
     /// All numbers of the board are used.
     Full(J),
@@ -23,7 +23,7 @@ pub enum PostFault<J> {
 }
 
 /// Why a board was not closed. They are tested in this order.
-#[derive(Drop)]
+#[derive(Clone, Copy, PartialEq, Eq, Debug, Drop)]
 pub enum CloseFault {
     /// The least number that is neither returned nor faulted.
     Unfinished(u32),
@@ -34,14 +34,14 @@ pub enum CloseFault {
 }
 
 /// The row by which a number ended.
-#[derive(Drop)]
+#[derive(PartialEq, Eq, Debug, Drop)]
 pub enum Ended<R> {
     Returned(R),
     Faulted(R),
 }
 
 /// What a closed board leaves: the row of each number, at its place.
-#[derive(Drop)]
+#[derive(PartialEq, Eq, Debug, Drop)]
 pub struct Closed<R> {
     pub rows: Vec<Ended<R>>,
 }

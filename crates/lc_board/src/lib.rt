@@ -6,6 +6,7 @@
 
 mod answers;
 mod event;
+pub mod laws;
 pub mod limits;
 pub mod locked;
 pub mod plain;
@@ -17,3 +18,6 @@ pub use locked::Locked;
 pub use locked::pass::LockedPass;
 pub use plain::Plain;
 pub use shared::{Shared, Token};
+
+#[cfg(test)]
+mod tests;

@@ -1,5 +1,5 @@
 //! What lies under the lock: a board of one thread beside the history of its events.
-ghost use Rattle.std.specs.Prelude.{◌≡◌, ℕ, ◌≤◌, [], IfOk, IfErr, map, length};
+ghost use Rattle.std.specs.Prelude.{◌≡◌, ℕ, ◌≤◌, [], IfOk, IfErr, MatchBool, map, length};
 ghost use Rattle.lc_board.specs.PlainBoard.{first_board};
 ghost use Rattle.lc_board.specs.RecordedCalls.{Holds, MayFault, RecordsClaim, RecordsPost, RecordsEnd, RefusesMemory, locked_promises};
 ghost use Rattle.lc_board.specs.ClosedBoard.{Settled, RefusesClose};
@@ -61,7 +61,7 @@ impl<J: Drop, R: Drop> Recorded<J, R> {
         if worker >= crew || self.plain.held_by(worker).is_some() {
             return Claim::Later;
         }
-        if self.history.reserve(crew as usize + 2).is_err() {
+        if self.history.reserve(crew as usize + 1).is_err() {
             return Claim::Memory;
         }
         let answer = self.plain.claim(worker);
@@ -82,10 +82,10 @@ impl<J: Drop, R: Drop> Recorded<J, R> {
     pub fn post(&mut self, worker: u32, parent: u32, job: J) -> Result<u32, PostFault<J>>
         ensures { RecordsPost worker parent self.old job result self.new }
     {
-        let crew = self.plain.workers();
-        if worker >= crew || self.plain.held_by(worker) != Some(parent) {
+        if !self.holds(worker, parent) {
             return Err(PostFault::Full(job));
         }
+        let crew = self.plain.workers();
         if self.history.reserve(crew as usize + 1).is_err() {
             return Err(PostFault::Memory(job));
         }
@@ -107,7 +107,7 @@ impl<J: Drop, R: Drop> Recorded<J, R> {
     pub fn give(&mut self, worker: u32, number: u32, row: R) -> bool
         ensures { RecordsEnd (Holds worker number self.old.board) self.old (Return worker number row) result self.new }
     {
-        if worker >= self.plain.workers() || self.plain.held_by(worker) != Some(number) {
+        if !self.holds(worker, number) {
             return false;
         }
         self.plain.give(worker, row);
@@ -123,10 +123,7 @@ impl<J: Drop, R: Drop> Recorded<J, R> {
     pub fn fault(&mut self, worker: u32, number: u32, row: R) -> bool
         ensures { RecordsEnd (MayFault worker number self.old.board) self.old (Fault worker number row) result self.new }
     {
-        if worker >= self.plain.workers() || self.plain.held_by(worker) != Some(number) {
-            return false;
-        }
-        if self.plain.posts_by(worker) != 0 {
+        if !self.holds(worker, number) || self.plain.posts_by(worker) != 0 {
             return false;
         }
         self.plain.fault(worker, row);
@@ -136,6 +133,13 @@ impl<J: Drop, R: Drop> Recorded<J, R> {
             row: (),
         });
         true
+    }
+
+    /// The worker is one of the board's, and has claimed this number.
+    fn holds(&self, worker: u32, number: u32) -> bool
+        ensures { MatchBool result (Holds worker number self.now.board) (¬ Holds worker number self.now.board) }
+    {
+        worker < self.plain.workers() && self.plain.held_by(worker) == Some(number)
     }
 
     /// The rows, where each number has ended and the history agrees with each pass.

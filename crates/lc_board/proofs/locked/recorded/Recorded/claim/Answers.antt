@@ -6,7 +6,7 @@ use Rattle.lc_board.proofs.locked.recorded.Recorded.claim.Goals as goal
 pub invariant_of-self-in-Got : goal.invariant_of-self-in-Got
 invariant_of-self-in-Got g c =
     let told = rw c.in-Got.is at c.claim-answer.ensures in
-    let room : vec_len c.reserve.new.self + (c.workers-crew.result + 2) ≤ vec_capacity c.reserve.new.self = search rules in
+    let room : vec_len c.reserve.new.self + (c.workers-crew.result + 1) ≤ vec_capacity c.reserve.new.self = search rules in
     let most = held_count-most c.claim-answer.new.self.held in
     record {
       recorded = rw (c.push_reserved.ensures.items, c.reserve.ensures.items) (records _ _ (Claim c.args.worker c.in-Got.number c.in-Got.field-1) c.self.inside.history.items c.self.invariant.recorded told.1);
@@ -17,7 +17,7 @@ invariant_of-self-in-Got g c =
 pub invariant_of-self-in-Over : goal.invariant_of-self-in-Over
 invariant_of-self-in-Over g c =
     let told = rw c.in-Over.is at c.claim-answer.ensures in
-    let room : vec_len c.reserve.new.self + (c.workers-crew.result + 2) ≤ vec_capacity c.reserve.new.self = search rules in
+    let room : vec_len c.reserve.new.self + (c.workers-crew.result + 1) ≤ vec_capacity c.reserve.new.self = search rules in
     let most = held_count-most c.claim-answer.new.self.held in
     record {
       recorded = rw (c.push_reserved-in-Over.ensures.items, c.reserve.ensures.items) (records _ _ (Over c.args.worker) c.self.inside.history.items c.self.invariant.recorded told.2);

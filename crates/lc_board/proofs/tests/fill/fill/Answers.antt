@@ -1,0 +1,10 @@
+use Rattle.std.proofs.Common.{◌≡◌, length, sym, ◌∙◌}
+use Rattle.lc_board.proofs.ReturnedPasses.{still_in_order}
+use Rattle.lc_board.proofs.tests.fill.fill.Goals as goal
+
+pub close-requires-clause-each : goal.close-requires-clause-each
+close-requires-clause-each g c =
+    let len : length c.in_ok-passes.passes.items ≡ length c.in_ok-board.passes.items =
+    sym c.in_ok-passes.passes.ok.0 ∙ (c.in_ok-passes.ensures.len ∙ c.in_ok-board.passes.ok.0) in
+    still_in_order g.B.Pass.Token.view (g.B.Shared.owns c.in_ok-board.board) c.in_ok-board.passes.items c.in_ok-passes.passes.items len c.in_ok-board.ensures.passes
+    (λ w p q low. c.in_ok-passes.ensures.each w p q (rw c.in_ok-board.passes.ok.0 low))

@@ -1,0 +1,9 @@
+use Rattle.std.proofs.Common.{◌≡◌}
+use Rattle.lc_board.proofs.tests.fill.work.Given as goal
+
+abbrev pub invariant-loop : goal.invariant-loop
+invariant-loop g l =
+    (goal.iterator-loop g).can_next l.iterator'
+    × (goal.iterator-loop g).is_finite l.iterator'
+    × g.B.Shared.owns l.board l.pass
+    × ((g.B.Pass.Token.view l.pass).worker ≡ (g.B.Pass.Token.view l.fn.pass).worker)

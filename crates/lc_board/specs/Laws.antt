@@ -1,0 +1,70 @@
+-- What holds of every legal history.
+use Rattle.std.specs.Prelude.{◌≡◌, ℕ, ◌≤◌, List, [], ◌∷◌, length, Option, Some, None, ◌↔◌}
+use Rattle.lc_board.specs.State.{Status, Absent, Open, Claimed, Returned, Faulted, status}
+use Rattle.lc_board.specs.Part.{part}
+use Rattle.lc_board.specs.LegalHistory.{posts_under, IsLegal, IsOver}
+use Rattle.lc_board.specs.Holding.{holding, posted}
+use Rattle.lc_board.specs.RowsInPlace.{job_got, row_given}
+use Rattle.lc_board.specs.Numbers.{posts_of, claims_of, ends_of}
+use Rattle.lc_board.specs.declared.event.Event.{Event}
+use Rattle.lc_board.specs.declared.event.Event.TheVariants.{Over}
+use Rattle.lc_board.specs.declared.answers.Ended.{Ended}
+use Rattle.lc_board.specs.declared.answers.Ended.TheVariants as ended
+
+-- how often a number was posted, claimed and ended, by what it is
+abbrev pub Counts : Status → (posts claims ends : ℕ) → Type 0
+Counts Absent posts claims ends = (posts ≡ 0) × (claims ≡ 0) × (ends ≡ 0)
+Counts Open posts claims ends = (posts ≤ 1) × (claims ≡ 0) × (ends ≡ 0)
+Counts (Claimed w) posts claims ends = (posts ≤ 1) × (claims ≡ 1) × (ends ≡ 0)
+Counts Returned posts claims ends = (posts ≤ 1) × (claims ≡ 1) × (ends ≡ 1)
+Counts Faulted posts claims ends = (posts ≤ 1) × (claims ≡ 1) × (ends ≡ 1)
+
+module _ {J R : Type 0} where
+  -- nothing was done with a number
+  pub record IsFresh (i : ℕ) (h : List (Event J R)) : Type 0 where
+    pub posts : posts_under i h ≡ []
+    pub got : job_got h i ≡ None
+    pub given : row_given h i ≡ None
+
+  -- two histories say the same of a number: the posts under it, the job got there and the row given there
+  pub record SaysSame (i : ℕ) (h g : List (Event J R)) : Type 0 where
+    pub posts : posts_under i g ≡ posts_under i h
+    pub got : job_got g i ≡ job_got h i
+    pub given : row_given g i ≡ row_given h i
+
+  -- what a worker's part says of its present claim
+  pub record HoldsAs (w : ℕ) (h : List (Event J R)) : Type 0 where
+    pub claimed : (i : ℕ) → (holding (part w h) ≡ Some i) ↔ (status h i ≡ Claimed w)
+    pub posts : (i : ℕ) → status h i ≡ Claimed w → posted (part w h) ≡ length (posts_under i h)
+
+-- a number is posted at most once, claimed at most once, and ended at most once
+abbrev pub NumbersOnce : Type 0 → Type 0 → Type 0
+NumbersOnce J R = (capacity workers : ℕ) (h : List (Event J R)) → IsLegal capacity workers h → (k : ℕ) → Counts (status h k) (posts_of k h) (claims_of k h) (ends_of k h)
+
+-- of a number that a worker claimed, the worker's part says what the whole history says
+abbrev pub PartSaysWhole : Type 0 → Type 0 → Type 0
+PartSaysWhole J R = (capacity workers : ℕ) (h : List (Event J R)) → IsLegal capacity workers h → (w i : ℕ) (j : J) → job_got (part w h) i ≡ Some j → SaysSame i h (part w h)
+
+-- a worker's part tells which number it has claimed, and how much it has posted under it
+abbrev pub PartTellsClaim : Type 0 → Type 0 → Type 0
+PartTellsClaim J R = (capacity workers : ℕ) (h : List (Event J R)) → IsLegal capacity workers h → (w : ℕ) → HoldsAs w h
+
+-- nothing was posted under a claim, as the worker's part counts it and as the history lists it
+abbrev pub PostedNothing : Type 0 → Type 0 → Type 0
+PostedNothing J R = (capacity workers : ℕ) (h : List (Event J R)) → IsLegal capacity workers h → (w i : ℕ) → status h i ≡ Claimed w → (posted (part w h) ≡ 0) ↔ (posts_under i h ≡ [])
+
+-- a history in which the last event of some worker is Over is over
+abbrev pub OverStays : Type 0 → Type 0 → Type 0
+OverStays J R = (capacity workers : ℕ) (h : List (Event J R)) → IsLegal capacity workers h → (w : ℕ) (m : List (Event J R)) → part w h ≡ Over w ∷ m → IsOver h
+
+-- the row given at a number, by what the number is
+abbrev pub GivenAs : {R : Type 0} → Status → Option (Ended R) → Type 0
+GivenAs Absent o = o ≡ None
+GivenAs Open o = o ≡ None
+GivenAs (Claimed w) o = o ≡ None
+GivenAs {R} Returned o = (r : R) × (o ≡ Some (ended.Returned r))
+GivenAs {R} Faulted o = (r : R) × (o ≡ Some (ended.Faulted r))
+
+-- a number has a row exactly where it has ended, of the kind that it ended by
+abbrev pub EndedHasRow : Type 0 → Type 0 → Type 0
+EndedHasRow J R = (capacity workers : ℕ) (h : List (Event J R)) → IsLegal capacity workers h → (k : ℕ) → GivenAs (status h k) (row_given h k)

@@ -1,0 +1,40 @@
+//! What holds of every legal history, for those who reason about boards. A law has no code: its contract is what it says.
+ghost use Rattle.lc_board.specs.Laws.{NumbersOnce, PartSaysWhole, PartTellsClaim, PostedNothing, OverStays, EndedHasRow};
+ghost use Rattle.lc_board.specs.Scripts.{ScriptsAreLegal};
+
+/// No number is handed out twice: each is posted, claimed and ended at most once.
+#[tactic(auto, using(crate::proofs::NumbersOnce::numbers_once))]
+pub fn numbers_once<J, R>()
+    ensures { NumbersOnce J R }
+{}
+
+/// What a worker's own events say of a number that it claimed holds of the whole history.
+#[tactic(auto, using(crate::proofs::PartsOfWhole::part_says_whole))]
+pub fn part_says_whole<J, R>()
+    ensures { PartSaysWhole J R }
+{}
+
+/// A worker's own events tell which number it has claimed, and how much it has posted under it.
+#[tactic(auto, using(crate::proofs::HeldClaims::part_tells_claim, crate::proofs::HeldClaims::posted_nothing))]
+pub fn part_tells_claim<J, R>()
+    ensures claim { PartTellsClaim J R }
+    ensures nothing { PostedNothing J R }
+{}
+
+/// Once a worker was told that the board is over, it stays so.
+#[tactic(auto, using(crate::proofs::OverHistories::over_stays))]
+pub fn over_stays<J, R>()
+    ensures { OverStays J R }
+{}
+
+/// A number has a row exactly where it has ended.
+#[tactic(auto, using(crate::proofs::NumbersOnce::ended_has_row))]
+pub fn ended_has_row<J, R>()
+    ensures { EndedHasRow J R }
+{}
+
+/// The definitions, computed on short histories.
+#[tactic(auto, using(crate::proofs::ComputedScripts::scripts_are_legal))]
+pub fn scripts_are_legal()
+    ensures { ScriptsAreLegal }
+{}

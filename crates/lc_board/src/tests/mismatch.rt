@@ -1,0 +1,25 @@
+//! A locked board that is closed with the passes of another.
+use crate::answers::CloseFault;
+use crate::locked::Locked;
+use crate::shared::Shared;
+use crate::tests::script::{Call, ROOT, Told};
+use crate::tests::shared_scripts::tell;
+use std::alloc::Global;
+use std::test::Fail;
+
+#[test]
+fn passes_of_another_board(rt: HostRuntime) -> Result<(), Fail> {
+    let alloc: Global = rt.alloc();
+    let (board, mut passes) = Locked::<u32, u32>::start(alloc, 1, 1, ROOT)?;
+    let (_, others) = Locked::<u32, u32>::start(alloc, 1, 1, ROOT)?;
+    assert_eq!(rt; passes.len(), 1);
+    if tell(&rt, &board, &mut passes[0], Call::Claim(0)) == Told::NoClaim {
+        return Ok(());
+    }
+    assert_eq!(rt;
+        tell(&rt, &board, &mut passes[0], Call::Give(0, 1)),
+        Told::Done
+    );
+    assert_eq!(rt; board.close(others), Err(CloseFault::Mismatch(0)));
+    Ok(())
+}

@@ -1,0 +1,121 @@
+//! The scripts on a board of one thread.
+ghost use Rattle.std.specs.Prelude.{◌≡◌, ◌≤◌, ◌<◌, length};
+ghost use Rattle.lc_board.specs.PlainBoard.{workers};
+
+use crate::answers::{Claim, CloseFault, Closed, Ended, PostFault};
+use crate::limits::{MOST_NUMBERS, MOST_WORKERS};
+use crate::plain::Plain;
+use crate::tests::script::{Call, FAULT, FULL, OWN_POST, ROOT, TWO_WORKERS, Told};
+use std::alloc::{AllocError, Global};
+use std::process::Abort;
+use std::test::Fail;
+
+/// Makes a call, if it is the worker's turn.
+fn tell(board: &mut Plain<u32, u32>, call: Call) -> Told
+    requires { workers board.old ≤ MOST_WORKERS }
+    ensures { workers board.new ≡ workers board.old }
+{
+    let worker = call.worker();
+    if worker >= board.workers() {
+        return Told::OutOfTurn;
+    }
+    let held = board.held_by(worker).is_some();
+    match call {
+        Call::Claim(_) => {
+            if held {
+                return Told::OutOfTurn;
+            }
+            match board.claim(worker) {
+                Claim::Got(number, job) => Told::Got(number, job),
+                Claim::Later => Told::Later,
+                Claim::Over => Told::Over,
+                Claim::Memory => Told::NoClaim,
+            }
+        }
+        Call::Post(_, job) => {
+            if !held {
+                return Told::OutOfTurn;
+            }
+            match board.post(worker, job) {
+                Ok(number) => Told::Posted(number),
+                Err(PostFault::Full(job)) => Told::Full(job),
+                Err(PostFault::Memory(job)) => Told::NoPost(job),
+            }
+        }
+        Call::Give(_, row) => {
+            if !held {
+                return Told::OutOfTurn;
+            }
+            board.give(worker, row);
+            Told::Done
+        }
+        Call::Fault(_, row) => {
+            if !held || board.posts_by(worker) != 0 {
+                return Told::OutOfTurn;
+            }
+            board.fault(worker, row);
+            Told::Done
+        }
+    }
+}
+
+/// Makes the calls on a new board, compares the answers, and takes the rows.
+fn run<R: Abort>(
+    rt: &R,
+    alloc: Global,
+    capacity: u32,
+    workers: u32,
+    script: &[(Call, Told)],
+) -> Result<Result<Closed<u32>, CloseFault>, AllocError>
+    requires capacity { (1 ≤ capacity) × (capacity ≤ MOST_NUMBERS) }
+    requires workers { (1 ≤ workers) × (workers ≤ MOST_WORKERS) }
+{
+    let mut board = Plain::<u32, u32>::start(alloc, capacity, workers, ROOT)?;
+    assert!(rt; !board.is_over());
+    for (call, told) in script {
+        match tell(&mut board, *call) {
+            Told::NoPost(_) => return Err(AllocError),
+            answer => assert_eq!(rt; answer, *told),
+        }
+        assert_eq!(rt; board.is_over(), board.first_left().is_none());
+    }
+    Ok(board.into_rows(alloc))
+}
+
+/// The script ends with these rows.
+fn ends_with<R: Abort>(
+    rt: &R,
+    alloc: Global,
+    capacity: u32,
+    workers: u32,
+    script: &[(Call, Told)],
+    rows: &[Ended<u32>],
+) -> Result<(), AllocError>
+    requires capacity { (1 ≤ capacity) × (capacity ≤ MOST_NUMBERS) }
+    requires workers { (1 ≤ workers) × (workers ≤ MOST_WORKERS) }
+{
+    match run(rt, alloc, capacity, workers, script)? {
+        Ok(closed) => assert_eq!(rt; closed.rows.as_slice(), rows),
+        Err(CloseFault::Memory) => return Err(AllocError),
+        Err(fault) => assert!(rt; false, "{fault:?}"),
+    }
+    Ok(())
+}
+
+#[test]
+fn scripts_on_plain(rt: HostRuntime) -> Result<(), Fail> {
+    let alloc: Global = rt.alloc();
+    ends_with(
+        &rt,
+        alloc,
+        2,
+        2,
+        &TWO_WORKERS,
+        &[Ended::Returned(10), Ended::Returned(11)],
+    )?;
+    ends_with(&rt, alloc, 1, 1, &FULL, &[Ended::Returned(10)])?;
+    ends_with(&rt, alloc, 1, 1, &FAULT, &[Ended::Faulted(10)])?;
+    let unfinished = run(&rt, alloc, 2, 1, &OWN_POST)?;
+    assert_eq!(rt; unfinished, Err(CloseFault::Unfinished(1)));
+    Ok(())
+}

@@ -1,0 +1,77 @@
+//! Scripts: who calls what on a board, and what each call is to answer.
+
+/// The job of the root.
+pub const ROOT: u32 = 7;
+
+/// One call, by the worker that stands first.
+#[derive(Clone, Copy, Drop)]
+pub enum Call {
+    Claim(u32),
+    Post(u32, u32),
+    Give(u32, u32),
+    Fault(u32, u32),
+}
+
+impl Call {
+    pub fn worker(self) -> u32 {
+        match self {
+            Call::Claim(worker) => worker,
+            Call::Post(worker, _) => worker,
+            Call::Give(worker, _) => worker,
+            Call::Fault(worker, _) => worker,
+        }
+    }
+}
+
+/// What a call answered.
+#[derive(Clone, Copy, PartialEq, Eq, Debug, Drop)]
+pub enum Told {
+    Got(u32, u32),
+    Later,
+    Over,
+    Posted(u32),
+    Full(u32),
+    Done,
+    /// There was no memory to claim with.
+    NoClaim,
+    /// There was no memory to post this job with.
+    NoPost(u32),
+    /// No such worker, or one that has claimed something where it should not, or the other way round.
+    OutOfTurn,
+}
+
+/// Two workers on a board of two numbers: the second waits for the first to post, and both find the end.
+pub const TWO_WORKERS: [(Call, Told); 9] = [
+    (Call::Claim(0), Told::Got(0, ROOT)),
+    (Call::Claim(1), Told::Later),
+    (Call::Post(0, 9), Told::Posted(1)),
+    (Call::Claim(1), Told::Got(1, 9)),
+    (Call::Give(0, 10), Told::Done),
+    (Call::Claim(0), Told::Later),
+    (Call::Give(1, 11), Told::Done),
+    (Call::Claim(0), Told::Over),
+    (Call::Claim(1), Told::Over),
+];
+
+/// One worker reads back what it posted.
+pub const OWN_POST: [(Call, Told); 4] = [
+    (Call::Claim(0), Told::Got(0, ROOT)),
+    (Call::Post(0, 9), Told::Posted(1)),
+    (Call::Give(0, 10), Told::Done),
+    (Call::Claim(0), Told::Got(1, 9)),
+];
+
+/// On a board of one number nothing can be posted.
+pub const FULL: [(Call, Told); 4] = [
+    (Call::Claim(0), Told::Got(0, ROOT)),
+    (Call::Post(0, 9), Told::Full(9)),
+    (Call::Give(0, 10), Told::Done),
+    (Call::Claim(0), Told::Over),
+];
+
+/// A fault ends the root.
+pub const FAULT: [(Call, Told); 3] = [
+    (Call::Claim(0), Told::Got(0, ROOT)),
+    (Call::Fault(0, 10), Told::Done),
+    (Call::Claim(0), Told::Over),
+];

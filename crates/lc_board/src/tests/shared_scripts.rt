@@ -1,0 +1,128 @@
+//! The scripts on a board that workers share.
+ghost use Rattle.std.specs.Prelude.{◌≡◌, ◌≤◌, ◌<◌, Some};
+
+use crate::answers::{Claim, CloseFault, Closed, Ended, PostFault};
+use crate::limits::{MOST_NUMBERS, MOST_WORKERS};
+use crate::locked::Locked;
+use crate::shared::{Shared, Token};
+use crate::tests::script::{Call, FAULT, FULL, OWN_POST, ROOT, TWO_WORKERS, Told};
+use std::alloc::{AllocError, Global};
+use std::process::Abort;
+use std::sync::Wait;
+use std::test::Fail;
+
+/// Makes a call, if it is the pass's turn.
+pub fn tell<B: Shared<u32, u32>, W: Wait>(rt: &W, board: &B, pass: &mut B::Pass, call: Call) -> Told
+    requires { B.owns board.now pass.old }
+    ensures pass { B.owns board.now pass.new }
+    ensures worker { (B.Pass.view pass.new).worker ≡ (B.Pass.view pass.old).worker }
+{
+    let held = pass.holding().is_some();
+    match call {
+        Call::Claim(_) => {
+            if held {
+                return Told::OutOfTurn;
+            }
+            match board.claim(rt, pass) {
+                Claim::Got(number, job) => Told::Got(number, job),
+                Claim::Later => Told::Later,
+                Claim::Over => Told::Over,
+                Claim::Memory => Told::NoClaim,
+            }
+        }
+        Call::Post(_, job) => {
+            if !held {
+                return Told::OutOfTurn;
+            }
+            match board.post(rt, pass, job) {
+                Ok(number) => Told::Posted(number),
+                Err(PostFault::Full(job)) => Told::Full(job),
+                Err(PostFault::Memory(job)) => Told::NoPost(job),
+            }
+        }
+        Call::Give(_, row) => {
+            if !held {
+                return Told::OutOfTurn;
+            }
+            board.give(rt, pass, row);
+            Told::Done
+        }
+        Call::Fault(_, row) => {
+            if !held || pass.posted() != 0 {
+                return Told::OutOfTurn;
+            }
+            board.fault(rt, pass, row);
+            Told::Done
+        }
+    }
+}
+
+/// Makes the calls on a new board, compares the answers, and closes the board.
+fn run<B: Shared<u32, u32> + Drop, R: Wait + Abort>(
+    rt: &R,
+    alloc: Global,
+    capacity: u32,
+    workers: u32,
+    script: &[(Call, Told)],
+) -> Result<Result<Closed<u32>, CloseFault>, AllocError>
+    requires capacity { (1 ≤ capacity) × (capacity ≤ MOST_NUMBERS) }
+    requires workers { (1 ≤ workers) × (workers ≤ MOST_WORKERS) }
+{
+    let (board, mut passes) = B::start(alloc, capacity, workers, ROOT)?;
+    for (call, told) in script {
+        let worker = call.worker() as usize;
+        assert!(rt; worker < passes.len());
+        match tell(rt, &board, &mut passes[worker], *call) {
+            Told::NoClaim => return Err(AllocError),
+            Told::NoPost(_) => return Err(AllocError),
+            answer => assert_eq!(rt; answer, *told),
+        }
+    }
+    Ok(board.close(passes))
+}
+
+/// The script ends with these rows.
+fn ends_with<B: Shared<u32, u32> + Drop, R: Wait + Abort>(
+    rt: &R,
+    alloc: Global,
+    capacity: u32,
+    workers: u32,
+    script: &[(Call, Told)],
+    rows: &[Ended<u32>],
+) -> Result<(), AllocError>
+    requires capacity { (1 ≤ capacity) × (capacity ≤ MOST_NUMBERS) }
+    requires workers { (1 ≤ workers) × (workers ≤ MOST_WORKERS) }
+{
+    match run::<B, R>(rt, alloc, capacity, workers, script)? {
+        Ok(closed) => assert_eq!(rt; closed.rows.as_slice(), rows),
+        Err(CloseFault::Memory) => return Err(AllocError),
+        Err(fault) => assert!(rt; false, "{fault:?}"),
+    }
+    Ok(())
+}
+
+/// The scripts, on a board of this type.
+fn scripts_on<B: Shared<u32, u32> + Drop, R: Wait + Abort>(
+    rt: &R,
+    alloc: Global,
+) -> Result<(), AllocError> {
+    ends_with::<B, R>(
+        rt,
+        alloc,
+        2,
+        2,
+        &TWO_WORKERS,
+        &[Ended::Returned(10), Ended::Returned(11)],
+    )?;
+    ends_with::<B, R>(rt, alloc, 1, 1, &FULL, &[Ended::Returned(10)])?;
+    ends_with::<B, R>(rt, alloc, 1, 1, &FAULT, &[Ended::Faulted(10)])?;
+    let unfinished = run::<B, R>(rt, alloc, 2, 1, &OWN_POST)?;
+    assert_eq!(rt; unfinished, Err(CloseFault::Unfinished(1)));
+    Ok(())
+}
+
+#[test]
+fn scripts_on_locked(rt: HostRuntime) -> Result<(), Fail> {
+    scripts_on::<Locked<u32, u32>, HostRuntime>(&rt, rt.alloc())?;
+    Ok(())
+}
