@@ -5,14 +5,7 @@ use Rattle.lc_glob.specs.Views.{unit_of}
 use Rattle.lc_glob.specs.declared.piece.Piece.{Piece}
 use Rattle.lc_glob.specs.Units.{GlobUnit, byte, any, star, set, takes, is_star}
 use Rattle.lc_glob.specs.Fits.{Fits}
-use Rattle.lc_glob.proofs.After.{after_none, after_more, after_empty, after_cut}
-
--- by the first unit and the first byte
-pub fits_star_empty : (u : GlobUnit) (us : List GlobUnit) → is_star u ≡ true → Fits (u ∷ us) [] ↔ Fits us []
-fits_star_empty star us e = (after_empty (Fits us), after_none (Fits us) [])
-fits_star_empty (byte c) us e = cc
-fits_star_empty any us e = cc
-fits_star_empty (set n rs) us e = cc
+use Rattle.lc_glob.proofs.After.{after_none, after_more, after_cut}
 
 pub fits_one_empty : (u : GlobUnit) (us : List GlobUnit) → is_star u ≡ false → Fits (u ∷ us) [] → ⊥
 fits_one_empty star us e h = cc

@@ -1,6 +1,5 @@
 -- The items of a bracket.
 use Rattle.std.proofs.Common.{length-drop, not, ◌&&◌, add-zero, lt-ltb, nat_eq, ◌≡◌, ◌<◌, ◌≤◌, ◌+◌, ◌-◌, ℕ, zero, suc, Bool, true, false, nat_lt, cond, List, [], ◌∷◌, ◌++◌, length, take, drop, Option, Some, None, refl, sym, ◌∙◌, ap, subst, arith, append_assoc}
-use Rattle.std.proofs.lemmas.Bool.{le-ltb}
 use Rattle.std.proofs.lemmas.List.{take_rest, append-nil}
 use Rattle.std.specs.List.{position_or_len}
 use Rattle.std.proofs.lemmas.List.Sums.{position_or_len_is}
@@ -27,13 +26,6 @@ of_none false u n k plain t = refl
 
 test_lt : (a b : ℕ) → a < b → nat_lt a b ≡ true
 test_lt a b l = lt-ltb a b l
-
-pub colon_none : (p q : ℕ) (rest : List ℕ) (plain : Option (List (ℕ × ℕ) × ℕ)) → p ≡ q → p ≡ length rest → colon_item q rest plain ≡ None
-colon_none p q rest plain e l = of_none _ _ _ _ plain (le-ltb q (length rest) (omega arith))
-
-pub colon_plain : (p q : ℕ) (rest : List ℕ) (plain : Option (List (ℕ × ℕ) × ℕ)) → p ≡ q → p < length rest → is_class rest p ≡ false → colon_item q rest plain ≡ plain
-colon_plain p q rest plain e l f =
-    subst (λ (n : ℕ). colon_item n rest plain ≡ plain) e (of_plain _ _ _ _ plain (test_lt p (length rest) l) f)
 
 pub colon_class : (p q : ℕ) (rest : List ℕ) (plain : Option (List (ℕ × ℕ) × ℕ)) (o : Option (List (ℕ × ℕ))) → p ≡ q → p < length rest → is_class rest p ≡ true → class_of (take (p - 1) rest) ≡ o → colon_item q rest plain ≡ class_item (p + 2) o
 colon_class p q rest plain o e l f k =
@@ -79,16 +71,6 @@ at_item first b bs more k a n t e =
     let next = λ (j : ℕ). items false j bs in
     let step : items first 0 (b ∷ bs) ≡ taken_more more (items false k bs) = ap (λ (u : Bool). items_on u (item b bs) next) t ∙ ap (λ (o : Option (List (ℕ × ℕ) × ℕ)). items_on false o next) e in
     ap (prepend a n) step ∙ prepend_more a more n (items false k bs) ∙ items_skip false k bs (a ++ more) (n + 1)
-
-pub at_dead : (first : Bool) (b : ℕ) (bs : List ℕ) (a : List (ℕ × ℕ)) (n : ℕ) → (nat_eq b 93 && not first) ≡ false → item b bs ≡ None → prepend a n (items first 0 (b ∷ bs)) ≡ None
-at_dead first b bs a n t e =
-    let next = λ (j : ℕ). items false j bs in
-    ap (prepend a n) (ap (λ (u : Bool). items_on u (item b bs) next) t ∙ ap (λ (o : Option (List (ℕ × ℕ) × ℕ)). items_on false o next) e)
-
-pub at_close : (first : Bool) (b : ℕ) (bs : List ℕ) (a : List (ℕ × ℕ)) (n : ℕ) → (nat_eq b 93 && not first) ≡ true → prepend a n (items first 0 (b ∷ bs)) ≡ Some (a, n + 1)
-at_close first b bs a n t =
-    let next = λ (j : ℕ). items false j bs in
-    ap (prepend a n) (ap (λ (u : Bool). items_on u (item b bs) next) t) ∙ ap (λ (l : List (ℕ × ℕ)). Some (l, n + 1)) (append-nil a)
 
 pub items_step : (all : Option (List (ℕ × ℕ) × ℕ)) (first : Bool) (left : List ℕ) (b : ℕ) (rest : List ℕ) (a new more : List (ℕ × ℕ)) (k len : ℕ) → all ≡ prepend a (len - length left) (items first 0 left) → left ≡ b ∷ rest → length left ≤ len → (nat_eq b 93 && not first) ≡ false → item b rest ≡ Some (more, k) → k ≤ length rest → new ≡ a ++ more → all ≡ prepend new (len - length (take (length rest - k) (drop k rest))) (items false 0 (take (length rest - k) (drop k rest)))
 items_step all first left b rest a new more k len same cons within t e fits pushed =

@@ -29,10 +29,6 @@ parts_skip (suc k) (b ∷ bs) = parts_skip k bs
 at_token : (b : ℕ) (bs : List ℕ) (t : Token) (k : ℕ) → token b bs ≡ Some (t, k) → parts 0 (b ∷ bs) ≡ put t (parts 0 (drop k bs))
 at_token b bs t k e = ap (λ (o : Option (Token × ℕ)). put_on o (λ j. parts j bs)) e ∙ ap (put t) (parts_skip k bs)
 
-pub parts_dead : (all : Option (List (List GlobUnit))) (done : List (List GlobUnit)) (at : List GlobUnit) (left : List ℕ) (b : ℕ) (bs : List ℕ) → all ≡ join done at (parts 0 left) → left ≡ b ∷ bs → token b bs ≡ None → all ≡ None
-parts_dead all done at left b bs same cons e =
-    same ∙ ap (λ (l : List ℕ). join done at (parts 0 l)) cons ∙ ap (λ (o : Option (Token × ℕ)). join done at (put_on o (λ j. parts j bs))) e
-
 pub parts_separator : (all : Option (List (List GlobUnit))) (done : List (List GlobUnit)) (at : List GlobUnit) (left : List ℕ) (b : ℕ) (bs : List ℕ) (t : Token) (k : ℕ) → all ≡ join done at (parts 0 left) → left ≡ b ∷ bs → token b bs ≡ Some (t, k) → t ≡ separator → all ≡ join (done ++ at ∷ []) [] (parts 0 (take (length bs - k) (drop k bs)))
 parts_separator all done at left b bs t k same cons e is =
     rw take_rest (same ∙ ap (λ (l : List ℕ). join done at (parts 0 l)) cons ∙ ap (join done at) (at_token b bs t k e ∙ ap (λ (u : Token). put u (parts 0 (drop k bs))) is) ∙ join_separator done at (parts 0 (drop k bs)))
@@ -40,10 +36,6 @@ parts_separator all done at left b bs t k same cons e is =
 pub parts_one : (all : Option (List (List GlobUnit))) (done : List (List GlobUnit)) (at : List GlobUnit) (left : List ℕ) (b : ℕ) (bs : List ℕ) (t : Token) (u : GlobUnit) (k : ℕ) → all ≡ join done at (parts 0 left) → left ≡ b ∷ bs → token b bs ≡ Some (t, k) → t ≡ one u → all ≡ join done (at ++ u ∷ []) (parts 0 (take (length bs - k) (drop k bs)))
 parts_one all done at left b bs t u k same cons e is =
     rw take_rest (same ∙ ap (λ (l : List ℕ). join done at (parts 0 l)) cons ∙ ap (join done at) (at_token b bs t k e ∙ ap (λ (v : Token). put v (parts 0 (drop k bs))) is) ∙ join_one done at u (parts 0 (drop k bs)))
-
-pub parts_end : (all : Option (List (List GlobUnit))) (done : List (List GlobUnit)) (at : List GlobUnit) (left : List ℕ) → all ≡ join done at (parts 0 left) → left ≡ [] → all ≡ Some (done ++ at ∷ [])
-parts_end all done at left same none =
-    same ∙ ap (λ (l : List ℕ). join done at (parts 0 l)) none ∙ ap (λ (l : List GlobUnit). Some (done ++ l ∷ [])) (append-nil at)
 
 join_put : (t : Token) (o : Option (List (List GlobUnit))) → put t o ≡ join [] [] (put t o)
 join_put t None = refl
