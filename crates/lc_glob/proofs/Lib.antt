@@ -1,3 +1,4 @@
+pub mod FirstByte
 pub mod Fitting
 pub mod Stepping
 pub mod Naming

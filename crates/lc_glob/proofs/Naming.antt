@@ -1,17 +1,14 @@
 -- The first name of a path, by the place of its first slash.
-use Rattle.std.proofs.Common.{length-drop, ◌≡◌, ◌↔◌, ◌<◌, ◌+◌, ◌-◌, ℕ, Bool, true, false, IsTrue, nat_eq, List, [], ◌∷◌, ◌++◌, length, take, drop, get_or, refl, sym, ◌∙◌, ap, subst, Option, Some, None, arith, suc, zero}
-use Rattle.std.specs.List.{onto_first, position_or_len, All}
+use Rattle.std.proofs.Common.{length-drop, ◌≡◌, ◌↔◌, ◌<◌, ◌+◌, ◌-◌, ℕ, Bool, true, false, IsTrue, nat_eq, List, [], ◌∷◌, ◌++◌, length, take, drop, get_or, refl, sym, ◌∙◌, ap, subst, Option, Some, None, arith}
+use Rattle.std.specs.List.{onto_first, All}
 use Rattle.std.specs.Borrow.{Bor}
-use Rattle.std.proofs.lemmas.List.Splits.{slice_split_none, slice_split_first, slice_split-cons_yes, slice_split-cons_no, length-slice_split}
-use Rattle.std.proofs.lemmas.List.Sums.{position_or_len_is}
+use Rattle.std.proofs.lemmas.List.Splits.{slice_split_none, slice_split-cons_yes, slice_split-cons_no, length-slice_split}
 use Rattle.std.proofs.lemmas.List.{take_rest, take-append-drop, drop_more, get_or-drop}
-use Rattle.memchr.specs.Find.{IsFirstByte, IsLastByte, is_byte}
+use Rattle.std.proofs.lemmas.Bool.{false_from_ne_true}
+use Rattle.memchr.specs.Find.{IsLastByte, is_byte}
 use Rattle.lc_glob.specs.Path.{segments_of}
 use Rattle.lc_glob.specs.Names.{names_of}
-
-never_true : (t : Bool) → (t ≡ true → ⊥) → t ≡ false
-never_true true h = absurd (h refl)
-never_true false h = refl
+use Rattle.lc_glob.proofs.FirstByte.{same_read, split_none}
 
 pub some_segment : (bytes : List ℕ) → segments_of bytes ≡ [] → ⊥
 some_segment bytes e =
@@ -23,22 +20,6 @@ none_left rest e = (λ h. ap names_of e, λ h. refl)
 
 pub some_left : (rest : Option (Bor (List ℕ))) (bytes : Bor (List ℕ)) → rest ≡ Some bytes → IsTrue false ↔ (names_of rest ≡ [])
 some_left rest bytes e = (λ h. cc, λ h. absurd (some_segment bytes.now (sym (ap names_of e) ∙ h)))
-
-same_read : (xs : List ℕ) (k d : ℕ) → k < length xs → get_or xs k d ≡ get_or xs k 0
-same_read [] k d h = absurd (omega arith)
-same_read (x ∷ xs) zero d h = refl
-same_read (x ∷ xs) (suc k) d h = same_read xs k d (omega arith)
-
-pub no_slash : (bytes : List ℕ) → IsFirstByte (is_byte 47) bytes None → segments_of bytes ≡ bytes ∷ []
-no_slash bytes h = slice_split_none (λ (b : ℕ). nat_eq b 47) bytes (λ k d l. never_true _ (λ t. h k (omega arith) l (subst (λ (x : ℕ). nat_eq x 47 ≡ true) (same_read bytes k d l) t)))
-
-pub at_slash : (bytes : List ℕ) (i : ℕ) → IsFirstByte (is_byte 47) bytes (Some i) → segments_of bytes ≡ take i bytes ∷ segments_of (take (length bytes - (i + 1)) (drop (i + 1) bytes))
-at_slash bytes i h =
-    let p = λ (b : ℕ). nat_eq b 47 in
-    let below : i < length bytes = h.0.high in
-    let at : position_or_len p bytes ≡ i = position_or_len_is p bytes i 0 (omega arith) (λ k l. never_true _ (h.0.before k (omega arith) l)) (λ _. h.1) in
-    let first = slice_split_first p bytes 0 (subst (λ (n : ℕ). n < length bytes) (sym at) below) in
-    rw take_rest (subst (λ (n : ℕ). segments_of bytes ≡ take n bytes ∷ segments_of (drop (n + 1) bytes)) at first)
 
 onto_end : (x : ℕ) (parts : List (List ℕ)) (ys : List ℕ) → (parts ≡ [] → ⊥) → onto_first x (parts ++ ys ∷ []) ≡ onto_first x parts ++ ys ∷ []
 onto_end x [] ys some = absurd (some refl)
@@ -59,7 +40,7 @@ split_end (x ∷ xs) y ys e none = at (nat_eq x 47) refl (split_end xs y ys e no
         ∙ ap (λ (l : List (List ℕ)). l ++ ys ∷ []) (sym (slice_split-cons_no (λ (b : ℕ). nat_eq b 47) x xs s))
 
 pub no_last_slash : (bytes : List ℕ) → IsLastByte (is_byte 47) bytes None → segments_of bytes ≡ bytes ∷ []
-no_last_slash bytes h = no_slash bytes h
+no_last_slash bytes h = split_none 47 bytes h
 
 pub at_last_slash : (bytes : List ℕ) (i : ℕ) → IsLastByte (is_byte 47) bytes (Some i) → segments_of bytes ≡ segments_of (take i bytes) ++ take (length bytes - (i + 1)) (drop (i + 1) bytes) ∷ []
 at_last_slash bytes i h =
@@ -68,5 +49,5 @@ at_last_slash bytes i h =
     let none : All (λ (b : ℕ). nat_eq b 47 ≡ false) (drop (i + 1) bytes) =
     λ k d l.
     let inside : i + 1 + k < length bytes = omega (arith, length-drop (i + 1) bytes) in
-    never_true _ (λ t. h.0.after (i + 1 + k) (omega arith) inside (subst (λ (x : ℕ). nat_eq x 47 ≡ true) (get_or-drop (i + 1) bytes k d ∙ same_read bytes (i + 1 + k) d inside) t)) in
+    false_from_ne_true _ (λ t. h.0.after (i + 1 + k) (omega arith) inside (subst (λ (x : ℕ). nat_eq x 47 ≡ true) (get_or-drop (i + 1) bytes k d ∙ same_read bytes (i + 1 + k) d inside) t)) in
     rw take_rest (sym (ap segments_of cut) ∙ split_end (take i bytes) (get_or bytes i 0) (drop (i + 1) bytes) h.1 none)

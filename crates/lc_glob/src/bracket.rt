@@ -1,4 +1,4 @@
-// What stands between brackets, read from its bytes.
+//! What stands between brackets, read from its bytes.
 
 ghost use Rattle.std.specs.Prelude.{◌≡◌, ◌<◌, ◌≤◌, ◌+◌, length, [], ◌∷◌, MatchOption, IfOk, IfSome, Some, None, true, not, ◌&&◌, ◌==◌};
 ghost use Rattle.std.specs.List.{position_or_len};

@@ -1,4 +1,4 @@
-// The bytes that a bracket stands for.
+//! The bytes that a bracket stands for.
 
 ghost use Rattle.std.specs.Prelude.{◌≡◌, ◌≤◌};
 ghost use Rattle.lc_glob.specs.Units.{in_ranges, takes, set};

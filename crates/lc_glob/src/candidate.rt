@@ -1,4 +1,4 @@
-// A path that patterns are asked about.
+//! A path that patterns are asked about.
 
 ghost use Rattle.std.specs.Prelude.{◌≡◌};
 

@@ -1,7 +1,7 @@
-// The definitions of a match as programs: each cut and each run is tried in turn.
-//
-// The depth of their calls grows with pattern and path, and their time with the number of cuts, so only tests run them,
-// to compare the steppers with.
+//! The definitions of a match as programs: each cut and each run is tried in turn.
+//!
+//! The depth of their calls grows with pattern and path, and their time with the number of cuts, so only tests run them,
+//! to compare the steppers with.
 
 ghost use Rattle.std.specs.Prelude.{◌↔◌, IsTrue, map};
 ghost use Rattle.lc_glob.specs.Fits.{Fits};

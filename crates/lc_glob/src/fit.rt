@@ -1,5 +1,5 @@
-// Whether a segment's units fit a name, with one place to go back to: the last star that was passed, since the fewest
-// bytes that serve one star serve all before it.
+//! Whether a segment's units fit a name, with one place to go back to: the last star that was passed, since the fewest
+//! bytes that serve one star serve all before it.
 
 ghost use Rattle.std.specs.Prelude.{◌≡◌, ◌↔◌, ◌≤◌, ◌+◌, ◌*◌, IsTrue, IsFalse, map, length};
 ghost use Rattle.lc_glob.specs.Fits.{Fits};

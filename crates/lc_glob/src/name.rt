@@ -1,4 +1,4 @@
-// One segment of a path, whose bytes are seen only through a test that is counted.
+//! One segment of a path, whose bytes are seen only through a test that is counted.
 
 ghost use Rattle.std.specs.Prelude.{◌≡◌, ◌↔◌, ◌<◌, ◌+◌, ◌^◌, ◌-◌, min, IsTrue, length, slice_index, drop};
 ghost use Rattle.lc_glob.specs.Units.{takes};

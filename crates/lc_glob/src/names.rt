@@ -1,4 +1,4 @@
-// The segments of a path, found one by one from either end.
+//! The segments of a path, found one by one from either end.
 
 ghost use Rattle.std.specs.Prelude.{◌≡◌, ◌↔◌, IsTrue, [], ◌∷◌, ◌++◌, MatchOption};
 ghost use Rattle.lc_glob.specs.Path.{segments_of};

@@ -1,4 +1,4 @@
-// A pattern, and whether it matches a path.
+//! A pattern, and whether it matches a path.
 
 ghost use Rattle.std.specs.Prelude.{◌≡◌, ◌↔◌, ◌≤◌, ◌+◌, ◌*◌, IsTrue, length, List, ℕ, IfOk, map};
 ghost use Rattle.lc_glob.specs.IsMatch.{is_match, IsMatchDecides};

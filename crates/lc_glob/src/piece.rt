@@ -1,4 +1,4 @@
-// The units of a segment.
+//! The units of a segment.
 
 ghost use Rattle.std.specs.Prelude.{◌≡◌};
 ghost use Rattle.lc_glob.specs.Units.{takes, is_star};

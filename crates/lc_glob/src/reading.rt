@@ -1,4 +1,4 @@
-// Bytes read as a pattern: their tokens, the parts that separators cut, and what those make.
+//! Bytes read as a pattern: their tokens, the parts that separators cut, and what those make.
 
 ghost use Rattle.std.specs.Prelude.{◌≡◌, ◌≤◌, length, MatchOption, IfOk, IfSome, Some, None, map};
 ghost use Rattle.lc_glob.specs.Patterns.{dead};

@@ -1,4 +1,4 @@
-// The segments of a pattern.
+//! The segments of a pattern.
 
 use crate::piece::Piece;
 

@@ -1,8 +1,8 @@
-// Whether a pattern's segments spell a path's.
-//
-// What stands after the last double star is compared from the end of the path, so that it costs no more than the
-// pattern is long. Only what stands before it is looked for, from the front, with one place to go back to: the last
-// double star that was passed, since the shortest run that serves one serves all before it.
+//! Whether a pattern's segments spell a path's.
+//!
+//! What stands after the last double star is compared from the end of the path, so that it costs no more than the
+//! pattern is long. Only what stands before it is looked for, from the front, with one place to go back to: the last
+//! double star that was passed, since the shortest run that serves one serves all before it.
 
 ghost use Rattle.std.specs.Prelude.{◌↔◌, ◌≤◌, ◌+◌, ◌*◌, IsTrue, map};
 ghost use Rattle.lc_glob.specs.Matches.{Spells, FitsLast};

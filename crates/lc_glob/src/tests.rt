@@ -1,4 +1,4 @@
-// What no contract shows by itself: worked examples, and that calls with ample memory answer.
+//! What no contract shows by itself: worked examples, and that calls with ample memory answer.
 
 mod agreement;
 mod cost;

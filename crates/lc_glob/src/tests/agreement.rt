@@ -1,4 +1,4 @@
-// The steppers beside the definitions as programs, on all small patterns, names and paths.
+//! The steppers beside the definitions as programs, on all small patterns, names and paths.
 
 use crate::definition;
 use crate::fit::fits;

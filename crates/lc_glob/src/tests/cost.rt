@@ -1,4 +1,4 @@
-// How many bytes the matcher tests for hostile patterns.
+//! How many bytes the matcher tests for hostile patterns.
 
 use crate::{Candidate, Pattern};
 use std::test::Fail;

@@ -1,4 +1,4 @@
-// Worked examples of what patterns match, and how many bytes the matcher tests.
+//! Worked examples of what patterns match, and how many bytes the matcher tests.
 
 use crate::Pattern;
 use std::alloc::{AllocError, Global};

@@ -1,0 +1,35 @@
+-- The first place of a byte, as a search finds it, and what it cuts.
+use Rattle.std.proofs.Common.{◌≡◌, ◌<◌, ◌+◌, ◌-◌, ℕ, zero, suc, true, nat_eq, List, [], ◌∷◌, length, take, drop, get_or, Some, None, refl, sym, subst, arith}
+use Rattle.std.specs.List.{slice_split, position_or_len}
+use Rattle.std.proofs.lemmas.Bool.{false_from_ne_true}
+use Rattle.std.proofs.lemmas.List.{take_rest}
+use Rattle.std.proofs.lemmas.List.Splits.{slice_split_none, slice_split_first}
+use Rattle.std.proofs.lemmas.List.Sums.{position_or_len_is}
+use Rattle.memchr.specs.Find.{IsFirstByte, is_byte}
+
+-- below a list's length the default of a read does not matter
+pub same_read : (xs : List ℕ) (k d : ℕ) → k < length xs → get_or xs k d ≡ get_or xs k 0
+same_read [] k d h = absurd (omega arith)
+same_read (x ∷ xs) zero d h = refl
+same_read (x ∷ xs) (suc k) d h = same_read xs k d (omega arith)
+
+pub place_none : (c : ℕ) (bytes : List ℕ) → IsFirstByte (is_byte c) bytes None → position_or_len (λ b. nat_eq b c) bytes ≡ length bytes
+place_none c bytes h = position_or_len_is (λ b. nat_eq b c) bytes (length bytes) 0 (omega arith) (λ k l. false_from_ne_true _ (h k (omega arith) l)) (λ l. absurd (omega arith))
+
+pub place_some : (c : ℕ) (bytes : List ℕ) (i : ℕ) → IsFirstByte (is_byte c) bytes (Some i) → position_or_len (λ b. nat_eq b c) bytes ≡ i
+place_some c bytes i h =
+    let below : i < length bytes = h.0.high in
+    position_or_len_is (λ b. nat_eq b c) bytes i 0 (omega arith) (λ k l. false_from_ne_true _ (h.0.before k (omega arith) l)) (λ _. h.1)
+
+-- where the byte is nowhere, the bytes are one piece
+pub split_none : (c : ℕ) (bytes : List ℕ) → IsFirstByte (is_byte c) bytes None → slice_split (λ b. nat_eq b c) bytes ≡ bytes ∷ []
+split_none c bytes h = slice_split_none (λ b. nat_eq b c) bytes (λ k d l. false_from_ne_true _ (λ t. h k (omega arith) l (subst (λ (x : ℕ). nat_eq x c ≡ true) (same_read bytes k d l) t)))
+
+-- the first piece stands before the first place, and the others after it
+pub split_some : (c : ℕ) (bytes : List ℕ) (i : ℕ) → IsFirstByte (is_byte c) bytes (Some i)
+    → slice_split (λ b. nat_eq b c) bytes ≡ take i bytes ∷ slice_split (λ b. nat_eq b c) (take (length bytes - (i + 1)) (drop (i + 1) bytes))
+split_some c bytes i h =
+    let p = λ (b : ℕ). nat_eq b c in
+    let at = place_some c bytes i h in
+    rw take_rest (subst (λ (n : ℕ). slice_split p bytes ≡ take n bytes ∷ slice_split p (drop (n + 1) bytes)) at
+    (slice_split_first p bytes 0 (subst (λ (n : ℕ). n < length bytes) (sym at) h.0.high)))
