@@ -1,0 +1,6 @@
+pub mod LinesOf
+pub mod Taking
+pub mod Directories
+pub mod Dashes
+pub mod Reading
+pub mod Plain

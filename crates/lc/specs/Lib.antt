@@ -1,0 +1,8 @@
+pub mod Escape
+pub mod Lines
+pub mod PathLines
+pub mod CheckText
+pub mod Joined
+pub mod Writes
+pub mod Reads
+pub mod Causes

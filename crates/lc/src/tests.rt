@@ -1,0 +1,5 @@
+//! What no clause says: worked cases, that calls succeed where there is memory, and streams that misbehave.
+
+mod programs;
+mod sinks;
+mod texts;
