@@ -10,6 +10,7 @@ use crate::faults::{MAX_RULE_BYTES, RuleFault};
 use crate::ignore_line::{Rule, read_rule};
 use crate::lines::Lines;
 use crate::verdicts::Verdict;
+use lc_glob::Candidate;
 use std::alloc::{AllocError, Global};
 use std::marker::Model;
 
@@ -81,9 +82,10 @@ fn read_rules(alloc: Global, bytes: &[u8]) -> Result<Vec<Rule>, AllocError>
 fn last_verdict(rules: &[Rule], path: &[u8], is_dir: bool) -> Verdict
     ensures { result ≡ verdict_of (at_depth 0 (map rule_view rules.now)) path.now is_dir }
 {
+    let candidate = Candidate::new(path);
     let mut left = rules;
     'rules: while let Some((rule, older)) = left.split_last() {
-        if rule.pattern.matches(path, is_dir) {
+        if rule.pattern.matches_candidate(&candidate, is_dir) {
             return rule.verdict();
         }
         left = older;
