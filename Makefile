@@ -25,8 +25,9 @@ test: rt
 test-memory: rt
 	tools/test-memory
 
-# the built program with files, pipes and words as a shell gives them
+# the built program with files, pipes and words as a shell gives them, and the tables of cases beside the tests
 test-program: lc
+	docs/cases/check
 	tools/test-program
 
 install: lc
