@@ -21,6 +21,9 @@ place_some c bytes i h =
     let below : i < length bytes = h.0.high in
     position_or_len_is (λ b. nat_eq b c) bytes i 0 (omega arith) (λ k l. false_from_ne_true _ (h.0.before k (omega arith) l)) (λ _. h.1)
 
+pub place_below : (c : ℕ) (bytes : List ℕ) (i : ℕ) → IsFirstByte (is_byte c) bytes (Some i) → i < length bytes
+place_below c bytes i h = h.0.high
+
 -- where the byte is nowhere, the bytes are one piece
 pub split_none : (c : ℕ) (bytes : List ℕ) → IsFirstByte (is_byte c) bytes None → slice_split (λ b. nat_eq b c) bytes ≡ bytes ∷ []
 split_none c bytes h = slice_split_none (λ b. nat_eq b c) bytes (λ k d l. false_from_ne_true _ (λ t. h k (omega arith) l (subst (λ (x : ℕ). nat_eq x c ≡ true) (same_read bytes k d l) t)))

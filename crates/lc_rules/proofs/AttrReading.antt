@@ -9,7 +9,7 @@ use Rattle.memchr.specs.Find.{IsFirstByte, is_byte}
 use Rattle.lc_rules.specs.Attributes.{Assign, set, value}
 use Rattle.lc_rules.specs.AttrWords.{assign, assigns, both, is_equals, plain_assign, named, is_name, is_name_byte}
 use Rattle.lc_rules.specs.AttrQuotes.{unquoted, put_byte, put_escape, escape}
-use Rattle.lc_rules.proofs.FirstByte.{place_none, place_some, place_below}
+use Rattle.lc_glob.proofs.FirstByte.{place_none, place_some, place_below}
 
 -- assignments before others
 abbrev pub onto_all : List Assign → Option (List Assign) → Option (List Assign)

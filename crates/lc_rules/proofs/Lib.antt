@@ -1,4 +1,3 @@
-pub mod FirstByte
 pub mod Cuts
 pub mod LineEnds
 pub mod LastRule

@@ -15,6 +15,7 @@ use crate::macros::Macros;
 use crate::paths::below;
 use crate::states::{State, TextState};
 use crate::wanted::Wanted;
+use lc_glob::Candidate;
 use smallvec::SmallVec;
 use std::alloc::{AllocError, Global};
 use std::marker::Model;
@@ -71,8 +72,8 @@ impl AttrChainFile {
         if !lines.can_decide(wanted) {
             return Ok(None);
         }
-        let inner = below(path, self.depth);
-        let found = decide_by_lines(wanted, lines.as_slice(), inner, is_dir, deciding)?;
+        let inner = Candidate::new(below(path, self.depth));
+        let found = decide_by_lines(wanted, lines.as_slice(), &inner, is_dir, deciding)?;
         Ok(found)
     }
 }

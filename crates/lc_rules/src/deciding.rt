@@ -11,6 +11,7 @@ use crate::assignment::{Assignment, Line, Word};
 use crate::macros::Body;
 use crate::states::State;
 use crate::wanted::Wanted;
+use lc_glob::Candidate;
 use std::alloc::{AllocError, Global};
 use std::collections::BTreeSet;
 
@@ -132,7 +133,7 @@ fn decide_by_words<'a>(
 fn decide_by_line<'a>(
     wanted: Wanted<'_, 'a>,
     line: &'a Line,
-    path: &[u8],
+    path: &Candidate,
     is_dir: bool,
     deciding: &mut Deciding<'a>,
 ) -> Result<Option<State<'a>>, AllocError>
@@ -144,7 +145,7 @@ fn decide_by_line<'a>(
     if !wanted.matters_in(line.assignments.as_slice()) {
         return Ok(None);
     }
-    if !line.pattern.matches(path, is_dir) {
+    if !line.pattern.matches_candidate(path, is_dir) {
         return Ok(None);
     }
     let found = decide_by_words(wanted, line.assignments.as_slice(), deciding)?;
@@ -155,7 +156,7 @@ fn decide_by_line<'a>(
 pub(crate) fn decide_by_lines<'a>(
     wanted: Wanted<'_, 'a>,
     lines: &'a [Line],
-    path: &[u8],
+    path: &Candidate,
     is_dir: bool,
     deciding: &mut Deciding<'a>,
 ) -> Result<Option<State<'a>>, AllocError>

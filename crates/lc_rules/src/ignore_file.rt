@@ -60,7 +60,7 @@ impl IgnoreFile {
     pub fn verdict(&self, path: &[u8], is_dir: bool) -> Verdict
         ensures { result ≡ verdict_of (at_depth 0 self.now) path.now is_dir }
     {
-        last_verdict(&self.rules, path, is_dir)
+        last_verdict(&self.rules, &Candidate::new(path), is_dir)
     }
 }
 
@@ -79,13 +79,12 @@ fn read_rules(alloc: Global, bytes: &[u8]) -> Result<Vec<Rule>, AllocError>
 }
 
 /// What the last of the rules that matches a path says, from the newest to the oldest.
-fn last_verdict(rules: &[Rule], path: &[u8], is_dir: bool) -> Verdict
+fn last_verdict(rules: &[Rule], path: &Candidate, is_dir: bool) -> Verdict
     ensures { result ≡ verdict_of (at_depth 0 (map rule_view rules.now)) path.now is_dir }
 {
-    let candidate = Candidate::new(path);
     let mut left = rules;
     'rules: while let Some((rule, older)) = left.split_last() {
-        if rule.pattern.matches_candidate(&candidate, is_dir) {
+        if rule.pattern.matches_candidate(path, is_dir) {
             return rule.verdict();
         }
         left = older;

@@ -1,6 +1,6 @@
 use Rattle.std.proofs.Common.{◌∙◌, sym, ap, take}
 use Rattle.lc_rules.proofs.AttrReading.{whole_take}
-use Rattle.lc_rules.proofs.FirstByte.{place_none, place_some}
+use Rattle.lc_glob.proofs.FirstByte.{place_none, place_some}
 use Rattle.lc_rules.proofs.attr_words.before_equals.Goals as goal
 
 pub returns-in-None : goal.returns-in-None
