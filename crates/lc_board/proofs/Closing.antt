@@ -6,13 +6,16 @@ use Rattle.lc_board.specs.Bare.{bare, BareEvent}
 use Rattle.lc_board.specs.State.{Status, Open, Claimed, status}
 use Rattle.lc_board.specs.LegalHistory.{IsLegal, IsOver}
 use Rattle.lc_board.specs.PlainBoard.{Board, IsAfter}
-use Rattle.lc_board.specs.PlainCalls.{IsLeftLeast, NoneLeft, cell_of}
+use Rattle.lc_board.specs.PlainCalls.{RefusesRows, IsLeftLeast, NoneLeft, cell_of}
 use Rattle.lc_board.specs.Pass.{Pass}
 use Rattle.lc_board.specs.Numbers.{HasNumbers}
-use Rattle.lc_board.specs.RecordedCalls.{IsReady, locked_promises}
+use Rattle.lc_board.specs.RecordedCalls.{RefusesMemory, RefusesRecorded, IsReady, locked_promises}
 use Rattle.lc_board.specs.declared.plain.cell.Cell.{Cell}
 use Rattle.lc_board.specs.ClosedBoard.{Settled, Unfinished, Differs, IsUnended}
 use Rattle.lc_board.specs.declared.event.Event.{Event}
+use Rattle.lc_board.specs.RecordedBoard.{Record}
+use Rattle.lc_board.specs.declared.answers.CloseFault.{CloseFault}
+use Rattle.lc_board.specs.declared.answers.CloseFault.TheVariants as close
 use Rattle.lc_board.specs.declared.answers.Ended.{Ended}
 use Rattle.lc_board.proofs.PlainSteps.{has_numbers, rows_placed, rows_shown, left_status, gone_status}
 use Rattle.lc_board.proofs.BareHistories.{part_bare}
@@ -23,7 +26,7 @@ get_map f [] i y h = absurd (cc h)
 get_map f (x ∷ xs) zero y h = (x, refl, cc h)
 get_map f (x ∷ xs) (suc i) y h = get_map f xs i y h
 
-map_get : {X Y : Type 0} (f : X → Y) (xs : List X) (i : ℕ) (x : X) → slice_get xs i ≡ Some x → slice_get (map f xs) i ≡ Some (f x)
+pub map_get : {X Y : Type 0} (f : X → Y) (xs : List X) (i : ℕ) (x : X) → slice_get xs i ≡ Some x → slice_get (map f xs) i ≡ Some (f x)
 map_get f [] i x h = absurd (cc h)
 map_get f (y ∷ xs) zero x h = let e : y ≡ x = cc h in ap (λ z. Some (f z)) e
 map_get f (y ∷ xs) (suc i) x h = map_get f xs i x h
@@ -70,9 +73,23 @@ module _ {J R : Type 0} where
       (length-map ps view ∙ len)
       (λ w v at. let there = get_map view ps w v at in subst (λ (u : Pass J R). part w es ≡ map bare u.mine) there.2 (each w there.0 there.1))
 
+  -- the pass of a worker tells something else than the history
+  pub tells_other : {P : Type 0} (view : P → Pass J R) (ps : List P) (es : List BareEvent) (w : ℕ) (p : P) → slice_get ps w ≡ Some p → ¬ (part w es ≡ map bare (view p).mine)
+      → (q : Pass J R) → slice_get (map view ps) w ≡ Some q → part w es ≢ map bare q.mine
+  tells_other view ps es w p at other q there same =
+      let x : Some (view p) ≡ Some q = sym (map_get view ps w p at) ∙ there in
+      let is : view p ≡ q = cc x in
+      other (same ∙ ap (λ (u : Pass J R). map bare u.mine) (sym is))
+
   pub ready : {P : Type 0} (view : P → Pass J R) (ps : List P) (b : Board J R) (es : List BareEvent) → NoneLeft b
       → ((w : ℕ) (p : P) → slice_get ps w ≡ Some p → part w es ≡ map bare (view p).mine) → IsReady (record { board = b; history = es }) (map view ps)
   ready view ps b es none each = record {
     none_left = none;
     agrees = λ w v at. let there = get_map view ps w v at in subst (λ (u : Pass J R). part w es ≡ map bare u.mine) there.2 (each w there.0 there.1);
   }
+
+  -- why the rows are refused is why the board is
+  pub rows_refused : (r : Record J R) (capacity crew : ℕ) (passes : List (Pass J R)) (f : CloseFault) → RefusesRows r.board f → RefusesMemory r capacity crew passes → RefusesRecorded r capacity crew passes f
+  rows_refused r capacity crew passes (close.Unfinished n) why ready = why
+  rows_refused r capacity crew passes (close.Mismatch w) why ready = absurd why
+  rows_refused r capacity crew passes close.Memory why ready = ready

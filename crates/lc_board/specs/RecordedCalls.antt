@@ -1,9 +1,9 @@
 -- What the calls of the board under the lock answer.
-use Rattle.std.specs.Prelude.{◌≡◌, ℕ, ◌<◌, Bool, true, false, List, ◌∷◌, map, Some, None, Result, Ok, Err, slice_get}
+use Rattle.std.specs.Prelude.{◌≡◌, ◌≢◌, ℕ, ◌<◌, Bool, true, false, List, ◌∷◌, map, Some, None, Result, Ok, Err, slice_get}
 use Rattle.lc_board.specs.Part.{part}
 use Rattle.lc_board.specs.Bare.{bare}
 use Rattle.lc_board.specs.PlainBoard.{Board, workers, held_by, posts_by, Adds}
-use Rattle.lc_board.specs.PlainCalls.{AnswersClaim, AnswersPost, NoneLeft}
+use Rattle.lc_board.specs.PlainCalls.{AnswersClaim, AnswersPost, IsLeftLeast, NoneLeft}
 use Rattle.lc_board.specs.Pass.{Pass}
 use Rattle.lc_board.specs.ClosedBoard.{Promises}
 use Rattle.lc_board.specs.RecordedBoard.{Record}
@@ -11,6 +11,8 @@ use Rattle.lc_board.specs.declared.event.Event.{Event}
 use Rattle.lc_board.specs.declared.event.Event.TheVariants as event
 use Rattle.lc_board.specs.declared.answers.Claim.{Claim}
 use Rattle.lc_board.specs.declared.answers.Claim.TheVariants as answer
+use Rattle.lc_board.specs.declared.answers.CloseFault.{CloseFault}
+use Rattle.lc_board.specs.declared.answers.CloseFault.TheVariants as close
 use Rattle.lc_board.specs.declared.answers.PostFault.{PostFault}
 use Rattle.lc_board.specs.declared.answers.PostFault.TheVariants as refusal
 
@@ -62,3 +64,9 @@ module _ {J R : Type 0} where
   -- a close answers Memory only so, or where the board is of another size than it is closed as
   abbrev pub RefusesMemory : Record J R → ℕ → ℕ → List (Pass J R) → Type 0
   RefusesMemory r capacity crew passes = r.board.capacity ≡ capacity → workers r.board ≡ crew → IsReady r passes
+
+  -- why it is not closed: the least number that has not ended; else a worker of whom the history has something else; else memory
+  abbrev pub RefusesRecorded : Record J R → ℕ → ℕ → List (Pass J R) → CloseFault → Type 0
+  RefusesRecorded r capacity crew passes (close.Unfinished n) = IsLeftLeast r.board n
+  RefusesRecorded r capacity crew passes (close.Mismatch w) = NoneLeft r.board × ((p : Pass J R) → slice_get passes w ≡ Some p → part w r.history ≢ map bare p.mine)
+  RefusesRecorded r capacity crew passes close.Memory = RefusesMemory r capacity crew passes

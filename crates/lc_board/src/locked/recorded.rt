@@ -1,7 +1,7 @@
 //! What lies under the lock: a board of one thread beside the history of its events.
 ghost use Rattle.std.specs.Prelude.{◌≡◌, ℕ, ◌≤◌, [], IfOk, IfErr, MatchBool, map, length};
 ghost use Rattle.lc_board.specs.PlainBoard.{first_board};
-ghost use Rattle.lc_board.specs.RecordedCalls.{Holds, MayFault, RecordsClaim, RecordsPost, RecordsEnd, RefusesMemory, locked_promises};
+ghost use Rattle.lc_board.specs.RecordedCalls.{Holds, MayFault, RecordsClaim, RecordsPost, RecordsEnd, RefusesRecorded, locked_promises};
 ghost use Rattle.lc_board.specs.ClosedBoard.{Settled, RefusesClose};
 ghost use Rattle.lc_board.specs.declared.event.Event.TheVariants.{Return, Fault};
 
@@ -154,7 +154,7 @@ impl<J: Drop, R: Drop> Recorded<J, R> {
         requires all { length passes.now ≡ workers }
         ensures settled { IfOk result (λ c. (root : J) → Settled capacity workers root locked_promises (map ⟦<LockedPass<J, R> as Token<J, R>>⟧.view passes.now) c.rows.items) }
         ensures fault { IfErr result (RefusesClose capacity workers locked_promises (map ⟦<LockedPass<J, R> as Token<J, R>>⟧.view passes.now)) }
-        ensures memory { result ≡ Err CloseFault.Memory → RefusesMemory self capacity workers (map ⟦<LockedPass<J, R> as Token<J, R>>⟧.view passes.now) }
+        ensures refused { IfErr result (RefusesRecorded self capacity workers (map ⟦<LockedPass<J, R> as Token<J, R>>⟧.view passes.now)) }
     {
         let Recorded { plain, history } = self;
         if plain.capacity() != capacity || plain.workers() != workers {

@@ -1,5 +1,7 @@
 use Rattle.std.proofs.Common.{rules, ◌≡◌, length, refl}
-use Rattle.lc_board.proofs.Closing.{unfinished, differs, settled_all, ready}
+use Rattle.lc_board.specs.NewestFirst.{newest_first}
+use Rattle.lc_board.specs.Notes.{mine_of}
+use Rattle.lc_board.proofs.Closing.{unfinished, differs, settled_all, ready, rows_refused, tells_other}
 use Rattle.lc_board.proofs.locked.recorded.Recorded.close.Goals as goal
 
 pub returns-in-Some-clause-fault : goal.returns-in-Some-clause-fault
@@ -25,7 +27,15 @@ returns-in-Ok-clause-settled g c root =
     let all = rw c.as_slice.ensures.value at c.in_default-first_mismatch.ensures.none in
     settled_all _ _ _ root _ l.root l.events _ _ _ l.after same crew l.stored_is c.in-Ok.ensures.rows c.requires.all all
 
-pub returns-clause-memory : goal.returns-clause-memory
-returns-clause-memory g c = λ _ _ _.
+pub returns-in-Some-clause-refused : goal.returns-in-Some-clause-refused
+returns-in-Some-clause-refused g c = rw (← c.self.view_is) c.in-Some.ensures.some
+
+pub returns-in-Some-first_mismatch-clause-refused : goal.returns-in-Some-first_mismatch-clause-refused
+returns-in-Some-first_mismatch-clause-refused g c =
+    let found = rw c.as_slice.ensures.value at c.in-Some-first_mismatch.ensures.some in
+    rw (← c.self.view_is) (c.in_default.ensures.none, tells_other (λ p. record { worker = p.worker; mine = mine_of p.notes.items; full = p.full; refused = p.refused }) c.args.passes.now (newest_first c.self.inside.history.items) c.in-Some-first_mismatch.worker found.0 found.1 found.2)
+
+pub returns-clause-refused : goal.returns-clause-refused
+returns-clause-refused g c =
     let all = rw c.as_slice.ensures.value at c.in_default-first_mismatch.ensures.none in
-    rw (← c.self.view_is) (ready _ _ _ _ c.in_default.ensures.none all)
+    rw (← c.self.view_is) (rows_refused _ _ _ _ c.in-Err.fault c.in-Err.ensures.fault (λ _ _. ready _ _ _ _ c.in_default.ensures.none all))
