@@ -14,7 +14,7 @@ abbrev pub Script : Type 0
 Script = List (Event ℕ ℕ)
 
 -- Two workers on a board of two numbers; the root's job is 7. Worker 0 claims it, posts the job 9, which worker 1 gets, and gives the
--- row 10; worker 1 gives the row 11; both find that the board is over. Newest first.
+-- number 10 as its row; worker 1 gives 11; both find that the board is over. Newest first.
 abbrev pub two_workers : Script
 two_workers = Over 1 ∷ Over 0 ∷ Return 1 1 11 ∷ Return 0 0 10 ∷ Claim 1 1 9 ∷ Post 0 0 1 9 ∷ Claim 0 0 7 ∷ []
 
