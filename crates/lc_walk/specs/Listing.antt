@@ -1,0 +1,65 @@
+-- Entries of a directory, the names that they may have, and what makes them a listing.
+use Rattle.std.specs.Prelude.{ℕ, ◌<◌, ◌≤◌, ◌==◌, Bool, true, false, not, ◌&&◌, List, [], ◌∷◌, length, map, IsTrue, IsFalse}
+use Rattle.std.specs.List.{list_all, list_any, IsDistinct}
+use Rattle.std.specs.List.Sorted.{IsPermutation, IsStrictlySortedBy}
+use Rattle.std.specs.declared.cmp.Ordering.{Ordering}
+use Rattle.std.specs.Ordering.{nat_cmp, on, eq_by_cmp}
+use Rattle.std.specs.Cmp.Lexicographic.{slice_cmp}
+use Rattle.lc_walk.specs.declared.entry.Kind.{Kind}
+use Rattle.lc_walk.specs.declared.listing.ListingFault.{ListingFault}
+use Rattle.lc_walk.specs.declared.listing.ListingFault.TheVariants.{BadName, Twice, TooMany, Memory}
+use Rattle.lc_walk.specs.declared.listing.TheConstants.{MAX_ENTRIES}
+
+-- an entry: its name, and what stands under it
+pub record DirEntry : Type 0 where
+  pub name : List ℕ
+  pub kind : Kind
+
+-- the names, in order
+abbrev pub names : List DirEntry → List (List ℕ)
+names es = map (λ e. e.name) es
+
+-- names by their bytes
+abbrev pub name_cmp : List ℕ → List ℕ → Ordering
+name_cmp = slice_cmp nat_cmp
+
+-- entries by their names
+abbrev pub by_name : DirEntry → DirEntry → Ordering
+by_name = on (λ (e : DirEntry). e.name) name_cmp
+
+-- whether a name is one of those that stand for no entry: the empty one, `.` and `..`
+abbrev pub is_no_name : List ℕ → Bool
+is_no_name [] = true
+is_no_name (b ∷ []) = b == 46
+is_no_name (b ∷ c ∷ []) = (b == 46) && (c == 46)
+is_no_name (b ∷ c ∷ d ∷ ds) = false
+
+-- whether a directory can have an entry of this name: without a slash (47) and a NUL
+abbrev pub is_good_name : List ℕ → Bool
+is_good_name name = not (is_no_name name) && not (list_any (λ b. b == 47) name) && not (list_any (λ b. b == 0) name)
+
+-- whether all names are good
+abbrev pub have_good_names : List DirEntry → Bool
+have_good_names es = list_all (λ e. is_good_name e.name) es
+
+-- no name stands twice
+abbrev pub HaveDistinctNames : List DirEntry → Type 0
+HaveDistinctNames es = IsDistinct (eq_by_cmp name_cmp) (names es)
+
+-- a listing: good names, each below those after it, and not too many
+pub record IsListing (es : List DirEntry) : Type 0 where
+  pub good : IsTrue (have_good_names es)
+  pub order : IsStrictlySortedBy name_cmp (names es)
+  pub few : length es ≤ MAX_ENTRIES
+
+-- the listing of given entries
+pub record IsListingOf (es listed : List DirEntry) : Type 0 where
+  pub entries : IsPermutation es listed
+  pub listing : IsListing listed
+
+-- why entries make no listing: each fault where those before it don't hold; none is for want of memory
+abbrev pub IsRefusedBy : List DirEntry → ListingFault → Type 0
+IsRefusedBy es BadName = IsFalse (have_good_names es)
+IsRefusedBy es Twice = IsTrue (have_good_names es) × (HaveDistinctNames es → ⊥)
+IsRefusedBy es TooMany = IsTrue (have_good_names es) × HaveDistinctNames es × (MAX_ENTRIES < length es)
+IsRefusedBy es Memory = ⊥

@@ -1,0 +1,70 @@
+-- The tally of a list of counted files.
+use Rattle.std.specs.Prelude.{◌≡◌, ℕ, ◌<◌, cond, List, Option, length, All}
+use Rattle.std.specs.List.{filter, sum_by}
+use Rattle.lc_walk.specs.Key.{Key, same_key}
+use Rattle.lc_walk.specs.Sums.{plus, no_files, IsModest}
+use Rattle.lc_walk.specs.Rows.{Row, sums_of_rows, rows_with, IsInOrder}
+use Rattle.lc_rules.specs.declared.states.TextState.{TextState}
+use Rattle.lc_census.specs.declared.totals.Count.{Count}
+use Rattle.lc_walk.specs.declared.sums.Sums.{Sums}
+
+-- what a tally needs of a counted file
+pub record CountedFile : Type 0 where
+  pub extension : Option (List ℕ)
+  pub text : TextState
+  pub count : Count
+
+-- the file of an extension, a text state and a census
+abbrev pub counted : Option (List ℕ) → TextState → Count → CountedFile
+counted e t c = record { extension = e; text = t; count = c }
+
+-- the key of the row that a file belongs to
+abbrev pub key_of : CountedFile → Key
+key_of f = record { extension = f.extension; text = f.text; eol = f.count.eol }
+
+-- the number of files, and the sums of their lines, blank lines and bytes
+abbrev pub sums_of_files : List CountedFile → Sums
+sums_of_files fs = record {
+  files = length fs;
+  lines = sum_by (λ f. f.count.lines) fs;
+  blank = sum_by (λ f. f.count.blank) fs;
+  bytes = sum_by (λ f. f.count.bytes) fs;
+}
+
+-- the files of a key
+abbrev pub files_with : Key → List CountedFile → List CountedFile
+files_with k fs = filter (λ f. same_key k (key_of f)) fs
+
+-- a row for each key that some file has, with the sums over the files of this key, in order of keys
+pub record IsTally (fs : List CountedFile) (rs : List Row) : Type 0 where
+  pub sums : (k : Key) → sums_of_rows (rows_with k rs) ≡ sums_of_files (files_with k fs)
+  pub filled : All (λ r. 0 < r.sums.files) rs
+  pub order : IsInOrder rs
+
+-- what a tally holds: its rows, and the sums over all files
+pub record Held : Type 0 where
+  pub rows : List Row
+  pub totals : Sums
+
+-- a tally holds the rows and the sums of these files
+pub record StandsFor (t : Held) (fs : List CountedFile) : Type 0 where
+  pub tally : IsTally fs t.rows
+  pub totals : t.totals ≡ sums_of_files fs
+
+-- what is true of every tally
+pub record IsKept (t : Held) : Type 0 where
+  pub order : IsInOrder t.rows
+  pub totals : t.totals ≡ sums_of_rows t.rows
+  pub modest : IsModest t.totals
+
+-- from some rows to the next, the sums of one key gain s
+pub record Gains (old new : List Row) (k : Key) (s : Sums) : Type 0 where
+  pub sums : (j : Key) → sums_of_rows (rows_with j new) ≡ plus (sums_of_rows (rows_with j old)) (cond (same_key j k) s no_files)
+  pub all : sums_of_rows new ≡ plus (sums_of_rows old) s
+  pub filled : 0 < s.files → All (λ r. 0 < r.sums.files) old → All (λ r. 0 < r.sums.files) new
+  pub order : IsInOrder new
+
+-- the same of a tally
+pub record Grows (old new : Held) (k : Key) (s : Sums) : Type 0 where
+  pub rows : Gains old.rows new.rows k s
+  pub totals : new.totals ≡ plus old.totals s

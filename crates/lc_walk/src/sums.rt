@@ -1,0 +1,54 @@
+//! The sums over some counted files.
+ghost use Rattle.std.specs.Prelude.{◌≡◌};
+ghost use Rattle.lc_walk.specs.Sums.{plus, one_file, no_files, HasRoom};
+
+use lc_census::Count;
+
+/// The sums over some counted files. Those of fewer than 2^63 files never overflow.
+#[derive(Clone, Copy, Debug, Drop, PartialEq, Eq)]
+pub struct Sums {
+    /// The number of files.
+    pub files: u64,
+    /// The sum of their lines.
+    pub lines: u128,
+    /// The sum of their blank lines.
+    pub blank: u128,
+    /// The sum of their bytes.
+    pub bytes: u128,
+}
+
+impl Sums {
+    pub(crate) fn none() -> Sums
+        ensures { result ≡ no_files }
+    {
+        Sums {
+            files: 0,
+            lines: 0,
+            blank: 0,
+            bytes: 0,
+        }
+    }
+
+    pub(crate) fn one(count: Count) -> Sums
+        ensures { result ≡ one_file count }
+    {
+        Sums {
+            files: 1,
+            lines: u128::from(count.lines),
+            blank: u128::from(count.blank),
+            bytes: u128::from(count.bytes),
+        }
+    }
+
+    pub(crate) fn add(self, more: Sums) -> Sums
+        requires { HasRoom (plus self more) }
+        ensures { result ≡ plus self more }
+    {
+        Sums {
+            files: self.files + more.files,
+            lines: self.lines + more.lines,
+            blank: self.blank + more.blank,
+            bytes: self.bytes + more.bytes,
+        }
+    }
+}
