@@ -1,19 +1,33 @@
-/* Loaded before a program: makes the allocation whose number REFUSED_ALLOCATION gives fail, the first being 1, and says at
-   the end how many there were where COUNT_ALLOCATIONS is set. For tools/test-memory. */
+/* Loaded before a program: makes the allocation whose number REFUSED_ALLOCATION gives fail, the first being 1, and keeps their
+   number in the file that COUNT_FILE names, as a long. For tools/test-memory. */
 #define _GNU_SOURCE
 #include <dlfcn.h>
 #include <errno.h>
+#include <fcntl.h>
 #include <stdatomic.h>
-#include <stdio.h>
 #include <stdlib.h>
+#include <sys/mman.h>
+#include <unistd.h>
 
 static void *(*real_malloc)(size_t);
 static void *(*real_realloc)(void *, size_t);
 static void *(*real_calloc)(size_t, size_t);
 static void *(*real_aligned_alloc)(size_t, size_t);
 static int (*real_posix_memalign)(void **, size_t, size_t);
-static atomic_long made;
+static atomic_long own_count;
+static atomic_long *made = &own_count;
 static long refused = -1;
+
+/* A program may end without its destructors, so the count lies in the file all the time. */
+static void count_in_file(const char *name) {
+  int file = open(name, O_RDWR | O_CREAT | O_TRUNC, 0600);
+  if (file < 0 || ftruncate(file, sizeof own_count) != 0)
+    return;
+  void *shared = mmap(NULL, sizeof own_count, PROT_READ | PROT_WRITE, MAP_SHARED, file, 0);
+  if (shared != MAP_FAILED)
+    made = shared;
+  close(file);
+}
 
 __attribute__((constructor)) static void begin(void) {
   real_malloc = dlsym(RTLD_NEXT, "malloc");
@@ -24,15 +38,16 @@ __attribute__((constructor)) static void begin(void) {
   const char *number = getenv("REFUSED_ALLOCATION");
   if (number)
     refused = atol(number);
-}
-
-__attribute__((destructor)) static void end(void) {
-  if (getenv("COUNT_ALLOCATIONS"))
-    fprintf(stderr, "allocations: %ld\n", atomic_load(&made));
+  const char *name = getenv("COUNT_FILE");
+  if (name)
+    count_in_file(name);
 }
 
 static int is_refused(void) {
-  return atomic_fetch_add(&made, 1) + 1 == refused;
+  if (atomic_fetch_add(made, 1) + 1 != refused)
+    return 0;
+  errno = ENOMEM;
+  return 1;
 }
 
 void *malloc(size_t size) {
