@@ -13,3 +13,13 @@ pub mod RecordedSteps
 pub mod Weaving
 pub mod Closing
 pub mod ReturnedPasses
+pub mod Growths
+pub mod WordsMoved
+pub mod WordClaims
+pub mod WordPosts
+pub mod WordEnds
+pub mod WordSeats
+pub mod WordTies
+pub mod WordScans
+pub mod WordCloses
+pub mod WordStarts

@@ -17,3 +17,9 @@ pub mod RecordedBoard
 pub mod RecordedCalls
 pub mod Laws
 pub mod Scripts
+pub mod Growth
+pub mod WordRow
+pub mod WordSteps
+pub mod WordPass
+pub mod WordsBoard
+pub mod WordClose

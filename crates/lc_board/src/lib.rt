@@ -11,6 +11,7 @@ pub mod limits;
 pub mod locked;
 pub mod plain;
 pub mod shared;
+pub mod words;
 
 pub use answers::{Claim, CloseFault, Closed, Ended, PostFault};
 pub use event::{BareEvent, Event};
@@ -18,6 +19,8 @@ pub use locked::Locked;
 pub use locked::pass::LockedPass;
 pub use plain::Plain;
 pub use shared::{Shared, Token};
+pub use words::Words;
+pub use words::pass::WordsPass;
 
 #[cfg(test)]
 mod tests;

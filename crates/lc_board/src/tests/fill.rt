@@ -8,6 +8,7 @@ use crate::locked::Locked;
 use crate::shared::{Shared, Token};
 use crate::tests::script::{Call, ROOT, Told};
 use crate::tests::shared_scripts::tell;
+use crate::words::Words;
 use std::alloc::{AllocError, Global};
 use std::process::Abort;
 use std::sync::Wait;
@@ -110,5 +111,17 @@ fn fill<B: Shared<u32, u32> + Sync + Drop, R: Threads + Wait + Abort + Sync>(
 #[test]
 fn sixteen_threads_fill_locked(rt: HostRuntime) -> Result<(), Fail> {
     fill::<Locked<u32, u32>, HostRuntime>(&rt, rt.alloc(), 65_536, 16)?;
+    Ok(())
+}
+
+#[test]
+fn two_threads_fill_words(rt: HostRuntime) -> Result<(), Fail> {
+    fill::<Words<u32, u32>, HostRuntime>(&rt, rt.alloc(), 65_536, 2)?;
+    Ok(())
+}
+
+#[test]
+fn sixteen_threads_fill_words(rt: HostRuntime) -> Result<(), Fail> {
+    fill::<Words<u32, u32>, HostRuntime>(&rt, rt.alloc(), 65_536, 16)?;
     Ok(())
 }

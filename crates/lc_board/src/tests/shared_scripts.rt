@@ -6,6 +6,7 @@ use crate::limits::{MOST_NUMBERS, MOST_WORKERS};
 use crate::locked::Locked;
 use crate::shared::{Shared, Token};
 use crate::tests::script::{Call, FAULT, FULL, OWN_POST, ROOT, TWO_WORKERS, Told};
+use crate::words::Words;
 use std::alloc::{AllocError, Global};
 use std::process::Abort;
 use std::sync::Wait;
@@ -124,5 +125,11 @@ fn scripts_on<B: Shared<u32, u32> + Drop, R: Wait + Abort>(
 #[test]
 fn scripts_on_locked(rt: HostRuntime) -> Result<(), Fail> {
     scripts_on::<Locked<u32, u32>, HostRuntime>(&rt, rt.alloc())?;
+    Ok(())
+}
+
+#[test]
+fn scripts_on_words(rt: HostRuntime) -> Result<(), Fail> {
+    scripts_on::<Words<u32, u32>, HostRuntime>(&rt, rt.alloc())?;
     Ok(())
 }

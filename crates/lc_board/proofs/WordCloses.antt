@@ -1,0 +1,356 @@
+-- What a closed row of words says of one history, and of the rows that are taken out of it.
+use Rattle.std.proofs.Common.{◌≡◌, ◌≢◌, ℕ, zero, suc, ◌+◌, ◌<◌, ◌≤◌, ◌==◌, ◌⊎◌, Bool, true, false, cond, ltb, List, [], ◌∷◌, ◌++◌, length, get_or, slice_get, sym, refl, ap, ◌∙◌, subst, inl, inr, ⊎_elim, arith, Option, Some, None}
+use mathlib.Core.Logic.{dite}
+use mathlib.Core.Option.{some, some-injective, some-ne-none}
+use native.Mathlib.Decide.{ℕ_discrete, dec_lt}
+use lib.ListN.{get_elem?}
+use Rattle.std.proofs.lemmas.Bool.{eqb-true}
+use Rattle.std.proofs.lemmas.Bool.Decides.{nat_tests}
+use Rattle.std.proofs.lemmas.Option.{slice_get_past, slice_get_within}
+use Rattle.atomic_table.specs.Table.{Final, Seen}
+use Rattle.lc_board.specs.State.{Status, Absent, Open, Claimed, Returned, Faulted, status}
+use Rattle.lc_board.specs.Part.{part}
+use Rattle.lc_board.specs.LegalHistory.{IsLegal, IsOver}
+use Rattle.lc_board.specs.RowsInPlace.{job_posted, job_got, row_given}
+use Rattle.lc_board.specs.Laws.{GivenAs}
+use Rattle.lc_board.specs.Pass.{Pass}
+use Rattle.lc_board.specs.ClosedBoard.{Shows, IsUnended, Settled, Unfinished, Finished}
+use Rattle.lc_board.specs.Growth.{rank, job_at, IsMatched}
+use Rattle.lc_board.specs.WordRow.{Face, held, plain, shown, code, Homes, Lies, Knows, IsRow}
+use Rattle.lc_board.specs.WordSteps.{merged, larger}
+use Rattle.lc_board.specs.WordClose.{words_promises, ended_as, row_of, Tells, HasTaken, IsClosedRow, EndedBelow, HasRows}
+use Rattle.lc_board.specs.declared.event.Event.{Event}
+use Rattle.lc_board.specs.declared.event.Event.TheVariants.{Post, Claim, Return, Fault, Over}
+use Rattle.lc_board.specs.declared.answers.Ended.{Ended}
+use Rattle.lc_board.specs.declared.words.view.Slot.{Slot}
+use Rattle.lc_board.specs.declared.words.view.Slot.TheVariants.{Row}
+use Rattle.lc_board.specs.declared.words.view.View.{View}
+use Rattle.lc_board.proofs.Places.{at_same, at_other, apart, get_push_same, get_push_other}
+use Rattle.lc_board.proofs.NumbersOnce.{ended_has_row}
+use Rattle.lc_board.proofs.WordClaims.{is_absent, is_ended}
+
+pub index_at : (l : List ℕ) (i a : ℕ) → get_elem? l i ≡ some a → get_or l i 0 ≡ a
+index_at [] i a e = absurd (some-ne-none a (sym e))
+index_at (x ∷ xs) zero a e = some-injective x a e
+index_at (x ∷ xs) (suc i) a e = index_at xs i a e
+
+pub word_there : (ws : List ℕ) (i a : ℕ) → get_elem? ws i ≡ some a → (a ≡ 1) ⊎ (4 ≤ a) → (get_or ws i 0 ≡ 1) ⊎ (4 ≤ get_or ws i 0)
+word_there ws i a e o = subst (λ z. (z ≡ 1) ⊎ (4 ≤ z)) (sym (index_at ws i a e)) o
+
+pub ended_word : (ws : List ℕ) (i a : ℕ) → get_elem? ws i ≡ some a → a ≢ 0 → (a ≢ 1) × (a < 4) → (2 ≤ get_or ws i 0) × (get_or ws i 0 < 4)
+ended_word ws i a e used n = let x : a ≢ 0 = used in let y : a ≢ 1 = n.0 in let same = index_at ws i a e in (omega (arith, x, y, same), omega (arith, n.1, same))
+
+-- the worker of a claim is one of the board's
+named_by : (n w : ℕ) (b : Bool) (u : ℕ) (s : Status) → (b ≡ true → u ≡ w → w < n) → (s ≡ Claimed w → w < n) → cond b (Claimed u) s ≡ Claimed w → w < n
+named_by n w true u s a c e = a refl (cc e)
+named_by n w false u s a c e = c e
+
+not_named : (n w : ℕ) (b : Bool) (x s : Status) → x ≢ Claimed w → (s ≡ Claimed w → w < n) → cond b x s ≡ Claimed w → w < n
+not_named n w true x s ne c e = absurd (ne e)
+not_named n w false x s ne c e = c e
+
+pub claimed_member : {J R : Type 0} (c n : ℕ) (h : List (Event J R)) → IsLegal c n h → (k w : ℕ) → status h k ≡ Claimed w → w < n
+claimed_member c n [] l k w e = go (k == 0) e
+  where
+    go : (b : Bool) → cond b Open Absent ≡ Claimed w → w < n
+    go true x = absurd (cc x)
+    go false x = absurd (cc x)
+claimed_member c n (Post v p i j ∷ h) l k w e = not_named n w (k == i) Open (status h k) (λ x. absurd (cc x)) (claimed_member c n h l.0 k w) e
+claimed_member c n (Claim v i j ∷ h) l k w e = named_by n w (k == i) v (status h k) (λ _ is. subst (λ z. z < n) is l.1) (claimed_member c n h l.0 k w) e
+claimed_member c n (Return v i r ∷ h) l k w e = not_named n w (k == i) Returned (status h k) (λ x. absurd (cc x)) (claimed_member c n h l.0 k w) e
+claimed_member c n (Fault v i r ∷ h) l k w e = not_named n w (k == i) Faulted (status h k) (λ x. absurd (cc x)) (claimed_member c n h l.0 k w) e
+claimed_member c n (Over v ∷ h) l k w e = claimed_member c n h l.0 k w e
+
+module _ {J R : Type 0} where
+  -- the job got at a number that is claimed or ended is the one that was posted there
+  abbrev GotAs : Option J → Status → List (Event J R) → ℕ → Type 0
+  GotAs root Absent h k = Unit {0}
+  GotAs root Open h k = Unit {0}
+  GotAs root (Claimed w) h k = job_got h k ≡ job_at root h k
+  GotAs root Returned h k = job_got h k ≡ job_at root h k
+  GotAs root Faulted h k = job_got h k ≡ job_at root h k
+
+  got_keep : (root : Option J) (s : Status) (h g : List (Event J R)) (k : ℕ) → job_got g k ≡ job_got h k → job_at root g k ≡ job_at root h k → GotAs root s h k → GotAs root s g k
+  got_keep root Absent h g k a b x = tt
+  got_keep root Open h g k a b x = tt
+  got_keep root (Claimed w) h g k a b x = a ∙ (x ∙ sym b)
+  got_keep root Returned h g k a b x = a ∙ (x ∙ sym b)
+  got_keep root Faulted h g k a b x = a ∙ (x ∙ sym b)
+
+  got_post : (root : Option J) (w p i : ℕ) (j : J) (h : List (Event J R)) (k : ℕ) (b : Bool) → (k == i) ≡ b → GotAs root (status h k) h k → GotAs root (cond b Open (status h k)) (Post w p i j ∷ h) k
+  got_post root w p i j h k true e x = tt
+  got_post root w p i j h k false e x = got_keep root (status h k) h (Post w p i j ∷ h) k refl (at_other k i (Some j) (job_at root h k) (apart k i e)) x
+
+  got_claim : (root : Option J) (w i : ℕ) (j : J) (h : List (Event J R)) (k : ℕ) (b : Bool) → (k == i) ≡ b → job_at root h i ≡ Some j → GotAs root (status h k) h k → GotAs root (cond b (Claimed w) (status h k)) (Claim w i j ∷ h) k
+  got_claim root w i j h k true e m x = at_same k i (Some j) (job_got h k) (eqb-true k i e) ∙ sym (ap (λ z. job_at root h z) (eqb-true k i e) ∙ m)
+  got_claim root w i j h k false e m x = got_keep root (status h k) h (Claim w i j ∷ h) k (at_other k i (Some j) (job_got h k) (apart k i e)) refl x
+
+  got_return : (root : Option J) (w i : ℕ) (r : R) (h : List (Event J R)) (k : ℕ) (b : Bool) → (k == i) ≡ b → status h i ≡ Claimed w → GotAs root (status h k) h k → GotAs root (cond b Returned (status h k)) (Return w i r ∷ h) k
+  got_return root w i r h k true e c x = subst (λ s. GotAs root s h k) (ap (λ z. status h z) (eqb-true k i e) ∙ c) x
+  got_return root w i r h k false e c x = got_keep root (status h k) h (Return w i r ∷ h) k refl refl x
+
+  got_fault : (root : Option J) (w i : ℕ) (r : R) (h : List (Event J R)) (k : ℕ) (b : Bool) → (k == i) ≡ b → status h i ≡ Claimed w → GotAs root (status h k) h k → GotAs root (cond b Faulted (status h k)) (Fault w i r ∷ h) k
+  got_fault root w i r h k true e c x = subst (λ s. GotAs root s h k) (ap (λ z. status h z) (eqb-true k i e) ∙ c) x
+  got_fault root w i r h k false e c x = got_keep root (status h k) h (Fault w i r ∷ h) k refl refl x
+
+  first_got : (root : Option J) (k : ℕ) (h : List (Event J R)) (b : Bool) → GotAs root (cond b Open Absent) h k
+  first_got root k h true = tt
+  first_got root k h false = tt
+
+  got_right : (c n : ℕ) (root : Option J) (h : List (Event J R)) → IsLegal c n h → IsMatched root h → (k : ℕ) → GotAs root (status h k) h k
+  got_right c n root [] l m k = first_got root k [] (k == 0)
+  got_right c n root (Post w p i j ∷ h) l m k = got_post root w p i j h k (k == i) refl (got_right c n root h l.0 m.0 k)
+  got_right c n root (Claim w i j ∷ h) l m k = got_claim root w i j h k (k == i) refl m.1 (got_right c n root h l.0 m.0 k)
+  got_right c n root (Return w i r ∷ h) l m k = got_return root w i r h k (k == i) refl l.2 (got_right c n root h l.0 m.0 k)
+  got_right c n root (Fault w i r ∷ h) l m k = got_fault root w i r h k (k == i) refl l.2.0 (got_right c n root h l.0 m.0 k)
+  got_right c n root (Over w ∷ h) l m k = got_keep root (status h k) h (Over w ∷ h) k refl refl (got_right c n root h l.0 m.0 k)
+
+  posted_same : (root : J) (h : List (Event J R)) (k : ℕ) → job_at (Some root) h k ≡ job_posted root h k
+  posted_same root [] k = refl
+  posted_same root (Post w p i j ∷ h) k = ap (λ z. cond (k == i) (Some j) z) (posted_same root h k)
+  posted_same root (Claim w i j ∷ h) k = posted_same root h k
+  posted_same root (Return w i r ∷ h) k = posted_same root h k
+  posted_same root (Fault w i r ∷ h) k = posted_same root h k
+  posted_same root (Over w ∷ h) k = posted_same root h k
+
+  handed_by : (root : J) (s : Status) (h : List (Event J R)) (k : ℕ) → rank s ≡ 3 → GotAs (Some root) s h k → job_got h k ≡ job_posted root h k
+  handed_by root Absent h k e x = absurd (omega arith)
+  handed_by root Open h k e x = absurd (omega arith)
+  handed_by root (Claimed w) h k e x = absurd (omega arith)
+  handed_by root Returned h k e x = x ∙ posted_same root h k
+  handed_by root Faulted h k e x = x ∙ posted_same root h k
+
+ended_over : (s : Status) → rank s ≡ 3 → (s ≢ Open) × ((w : ℕ) → s ≢ Claimed w)
+ended_over s e = (λ x. let y = sym e ∙ ap rank x in absurd (omega arith), λ w x. let y = sym e ∙ ap rank x in absurd (omega arith))
+
+absent_over : (s : Status) → s ≡ Absent → (s ≢ Open) × ((w : ℕ) → s ≢ Claimed w)
+absent_over s e = (λ x. let y : Absent ≡ Open = sym e ∙ x in absurd (cc y), λ w x. let y : Absent ≡ Claimed w = sym e ∙ x in absurd (cc y))
+
+ended_there : (s : Status) → rank s ≡ 3 → s ≢ Absent
+ended_there s e x = let y = sym e ∙ ap rank x in absurd (omega arith)
+
+not_unended : (s : Status) → rank s ≡ 3 → ¬ IsUnended s
+not_unended Absent e x = x
+not_unended Open e x = absurd (omega arith)
+not_unended (Claimed w) e x = absurd (omega arith)
+not_unended Returned e x = x
+not_unended Faulted e x = x
+
+row_says : {R : Type 0} (c : Face) (r : R) → 2 ≤ code c → code c < 4 → ended_as (shown c) r ≡ Some (row_of (code c) r)
+row_says (held w) r a b = absurd (omega arith)
+row_says (plain Absent) r a b = absurd (omega arith)
+row_says (plain Open) r a b = absurd (omega arith)
+row_says (plain (Claimed w)) r a b = absurd (omega arith)
+row_says (plain Returned) r a b = refl
+row_says (plain Faulted) r a b = refl
+
+open_face : (c : Face) → ((u : ℕ) → c ≢ held u) → (code c ≡ 1) ⊎ (4 ≤ code c) → IsUnended (shown c)
+open_face (held w) n e = absurd (n w refl)
+open_face (plain Absent) n e = absurd (⊎_elim (λ x. omega arith) (λ x. omega arith) e)
+open_face (plain Open) n e = tt
+open_face (plain (Claimed w)) n e = tt
+open_face (plain Returned) n e = absurd (⊎_elim (λ x. omega arith) (λ x. omega arith) e)
+open_face (plain Faulted) n e = absurd (⊎_elim (λ x. omega arith) (λ x. omega arith) e)
+
+shows_given : {R : Type 0} (s : Status) (o : Option (Ended R)) → GivenAs s o → s ≢ Open → ((w : ℕ) → s ≢ Claimed w) → Shows s o
+shows_given Absent o g a b = subst (λ z. Shows Absent z) (sym g) refl
+shows_given Open o g a b = absurd (a refl)
+shows_given (Claimed w) o g a b = absurd (b w refl)
+shows_given Returned o g a b = subst (λ z. Shows Returned z) (sym g.1) refl
+shows_given Faulted o g a b = subst (λ z. Shows Faulted z) (sym g.1) refl
+
+none_given : {R : Type 0} (s : Status) (o : Option (Ended R)) → s ≡ Absent → GivenAs s o → o ≡ None
+none_given s o e g = subst (λ z. GivenAs z o) e g
+
+module _ {J R : Type 0} (root : J) (crew : ℕ) (passes : List (Pass J R)) (ws : List ℕ) (xs : List (Slot J R)) (r : IsClosedRow (Some root) crew passes ws xs) where
+  ended_at : (n k : ℕ) → n ≤ length xs → EndedBelow n ws → k < n → rank (status r.history k) ≡ 3
+  ended_at n k small e below = let w = e k below in let s = r.shows k (omega (arith, below, small)) in ap rank (r.agrees k) ∙ is_ended (r.faces k) (omega (arith, w.0, s)) (omega (arith, w.1, s))
+
+  -- the row at a number that has ended
+  pub lies_at : (n k : ℕ) → n ≤ length xs → EndedBelow n ws → k < n → (x : R) × (get_elem? xs k ≡ some (Row x)) × (row_given r.history k ≡ Some (row_of (get_or ws k 0) x))
+  lies_at n k small e below =
+      let low : k < length xs = omega (arith, below, small) in
+      let p = r.placed k low (ended_at n k small e below) in
+      let w = e k below in let s = r.shows k low in
+      let says = row_says (r.faces k) p.0 (omega (arith, w.0, s)) (omega (arith, w.1, s)) in
+      (p.0, p.1, p.2 ∙ (ap (λ z. ended_as z p.0) (r.agrees k) ∙ (says ∙ ap (λ z. Some (row_of z p.0)) (sym s))))
+
+  pub all_lie : (n : ℕ) → n ≤ length xs → EndedBelow n ws → HasRows n xs
+  all_lie n small e k below = let p = lies_at n k small e below in (p.0, p.1)
+
+  absent_from : (n : ℕ) → n ≤ length xs → (n ≡ length xs) ⊎ (get_or ws n 0 ≡ 0) → (k : ℕ) → n ≤ k → r.faces k ≡ plain Absent
+  absent_from n small o k far = dite (dec_lt k (length xs))
+      (λ near. ⊎_elim (λ (e : n ≡ length xs). absurd (omega (arith, e, far, near)))
+      (λ (e : get_or ws n 0 ≡ 0). let low : n < length xs = omega (arith, far, near) in r.together n k far (is_absent (r.faces n) (sym (r.shows n low) ∙ e))) o)
+      (λ out. r.beyond k (omega (arith, out)))
+
+  module _ (n : ℕ) (small : n ≤ length xs) (e : EndedBelow n ws) (o : (n ≡ length xs) ⊎ (get_or ws n 0 ≡ 0)) where
+    gone : (k : ℕ) → n ≤ k → status r.history k ≡ Absent
+    gone k far = r.agrees k ∙ ap shown (absent_from n small o k far)
+
+    over_now : IsOver r.history
+    over_now k = dite (dec_lt k n) (λ below. ended_over (status r.history k) (ended_at n k small e below)) (λ far. absent_over (status r.history k) (gone k (omega (arith, far))))
+
+    -- memory for the rows is asked for last
+    pub finished : Finished (length xs) crew passes
+    finished = record { history = r.history; legal = r.legal; over = over_now; parts = r.parts }
+
+    module _ (rows : List (Ended R)) (count : length rows ≡ n) (taken : (k : ℕ) (x : R) → k < n → get_elem? xs k ≡ some (Row x) → slice_get rows k ≡ Some (row_of (get_or ws k 0) x)) where
+      given_now : (k : ℕ) → slice_get rows k ≡ row_given r.history k
+      given_now k = dite (dec_lt k n)
+          (λ below. let p = lies_at n k small e below in taken k p.0 below p.1 ∙ sym p.2)
+          (λ far. let out : n ≤ k = omega (arith, far) in
+          slice_get_past rows k (omega (arith, out, count)) ∙ sym (none_given (status r.history k) (row_given r.history k) (gone k out) (ended_has_row (length xs) crew r.history r.legal k)))
+
+      used_all : (w : ℕ) (p : Pass J R) → slice_get passes w ≡ Some p → p.full ≡ true → length rows ≡ length xs
+      used_all w p at full = ⊎_elim (λ (x : n ≡ length xs). count ∙ x)
+          (λ (x : get_or ws n 0 ≡ 0). dite (dec_lt n (length xs)) (λ near. absurd (r.used w p at full n near (is_absent (r.faces n) (sym (r.shows n near) ∙ x)))) (λ out. omega (arith, out, small, count))) o
+
+      pub settled : Settled (length xs) crew root words_promises passes rows
+      settled = record {
+        history = r.history;
+        legal = r.legal;
+        over = over_now;
+        parts = r.parts;
+        numbers = λ k. (
+          (λ a. dite (dec_lt k n) (λ below. absurd (ended_there (status r.history k) (ended_at n k small e below) a)) (λ far. omega (arith, far, count))),
+          (λ far. gone k (omega (arith, far, count))),
+        );
+        shown = λ k. let v = over_now k in subst (λ z. Shows (status r.history k) z) (sym (given_now k)) (shows_given (status r.history k) (row_given r.history k) (ended_has_row (length xs) crew r.history r.legal k) v.0 v.1);
+        in_place = λ _. record {
+          given = given_now;
+          handed = λ k x at. handed_by root (status r.history k) r.history k (ended_at n k small e (omega (arith, slice_get_within rows k x at, count))) (got_right (length xs) crew (Some root) r.history r.legal r.matched k);
+        };
+        all_used = λ _. used_all;
+      }
+
+  pub unfinished : (n : ℕ) → n < length xs → EndedBelow n ws → (get_or ws n 0 ≡ 1) ⊎ (4 ≤ get_or ws n 0) → Unfinished (length xs) crew n words_promises passes
+  unfinished n low e o =
+      let s = r.shows n low in
+      let face : (code (r.faces n) ≡ 1) ⊎ (4 ≤ code (r.faces n)) = subst (λ z. (z ≡ 1) ⊎ (4 ≤ z)) s o in
+      record {
+        history = r.history;
+        legal = r.legal;
+        left = subst IsUnended (sym (r.agrees n)) (open_face (r.faces n) (r.unheld n) face);
+        least = λ k below. not_unended (status r.history k) (ended_at n k (omega (arith, low)) e below);
+        parts = λ _. r.parts;
+      }
+
+-- an element that a list has
+get_there : {A : Type 0} (xs : List A) (i : ℕ) → i < length xs → (x : A) × (slice_get xs i ≡ Some x)
+get_there [] i l = absurd (omega (arith, l))
+get_there (x ∷ xs) zero l = (x, refl)
+get_there (x ∷ xs) (suc i) l = get_there xs i (omega (arith, l))
+
+-- the last element of a list that is the beginning of another
+pub popped : {A : Type 0} (all old new : List A) (x : A) (n : ℕ) → old ≡ new ++ x ∷ [] → length new ≡ n → ((w : ℕ) → w < n + 1 → slice_get old w ≡ slice_get all w) → (slice_get all n ≡ Some x) × ((w : ℕ) → w < n → slice_get new w ≡ slice_get all w)
+popped {A} all old new x n e len same = (
+  sym (same n (omega arith)) ∙ (ap (λ (z : List A). slice_get z n) e ∙ (ap (λ z. slice_get (new ++ x ∷ []) z) (sym len) ∙ get_push_same new x)),
+  λ w low. sym (get_push_other new x w (λ z. absurd (omega (arith, low, len, z)))) ∙ (ap (λ (z : List A). slice_get z w) (sym e) ∙ same w (omega (arith, low))),
+)
+
+nat_lt_true : (a b : ℕ) → ltb a b ≡ true → a < b
+nat_lt_true a b e = grind (arith, nat_tests)
+
+nat_lt_false : (a b : ℕ) → ltb a b ≡ false → b ≤ a
+nat_lt_false a b e = grind (arith, nat_tests)
+
+at_front : {A : Type 0} (l m : List A) (n : ℕ) (a : A) → get_elem? l n ≡ some a → get_elem? (l ++ m) n ≡ some a
+at_front [] m n a e = absurd (some-ne-none a (sym e))
+at_front (x ∷ l) m zero a e = e
+at_front (x ∷ l) m (suc n) a e = at_front l m n a e
+
+at_middle : {A : Type 0} (l m : List A) (a : A) → get_elem? (l ++ a ∷ m) (length l) ≡ some a
+at_middle [] m a = refl
+at_middle (x ∷ l) m a = at_middle l m a
+
+larger_left : (a b n : ℕ) (c : Bool) → ltb a b ≡ c → n ≤ a → n ≤ cond c b a
+larger_left a b n true e l = let x = nat_lt_true a b e in omega (arith, l, x)
+larger_left a b n false e l = l
+
+larger_right : (a b n : ℕ) (c : Bool) → ltb a b ≡ c → n ≤ b → n ≤ cond c b a
+larger_right a b n true e l = l
+larger_right a b n false e l = let x = nat_lt_false a b e in omega (arith, l, x)
+
+module _ {J R : Type 0} where
+  -- the pass that takes in another tells what it told before, and what the other did
+  still_tells : (v w : View J R) (u : ℕ) (m : List (Event J R)) → Tells v u m → Tells (merged v w) u m
+  still_tells v w u m t = ⊎_elim (λ x. inl x) (λ x. inr (x.0, at_front v.joined ((w.worker, w.mine) ∷ w.joined) x.0 (u, m) x.1)) t
+
+  now_tells : (v w : View J R) → Tells (merged v w) w.worker w.mine
+  now_tells v w = inr (length v.joined, at_middle v.joined w.joined (w.worker, w.mine))
+
+  -- one more pass is taken in
+  pub took_in : (slots : ℕ) (passes : List (Pass J R)) (n : ℕ) (v w : View J R) (p : Pass J R) → slice_get passes n ≡ Some p → w.worker ≡ n → p.mine ≡ w.mine → (p.full ≡ true → slots ≤ w.front)
+      → HasTaken slots passes (n + 1) v → HasTaken slots passes n (merged v w)
+  took_in slots passes n v w p at num own full has u q above there = dite (ℕ_discrete u n)
+      (λ same.
+      let x : Some p ≡ Some q = sym at ∙ (ap (λ z. slice_get passes z) (sym same) ∙ there) in
+      let is : p ≡ q = cc x in
+      subst (λ (z : Pass J R). Tells (merged v w) u z.mine × (z.full ≡ true → slots ≤ larger v.front w.front)) is
+      (subst (λ (z : ℕ × List (Event J R)). Tells (merged v w) z.0 z.1) (λ i. ((num ∙ sym same) i, sym own i)) (now_tells v w), λ f. larger_right v.front w.front slots (ltb v.front w.front) refl (full f)))
+      (λ off.
+      let old = has u q (let y : u ≢ n = off in omega (arith, above, y)) there in
+      (still_tells v w u q.mine old.0, λ f. larger_left v.front w.front slots (ltb v.front w.front) refl (old.1 f)))
+
+  pub took_first : (slots : ℕ) (passes : List (Pass J R)) (n : ℕ) (v : View J R) (p : Pass J R) → length passes ≡ n + 1 → slice_get passes n ≡ Some p → v.worker ≡ n → p.mine ≡ v.mine → (p.full ≡ true → slots ≤ v.front) → HasTaken slots passes n v
+  took_first slots passes n v p len at num own full u q above there =
+      let low = slice_get_within passes u q there in
+      let same : u ≡ n = omega (arith, low, len, above) in
+      let x : Some p ≡ Some q = sym at ∙ (ap (λ z. slice_get passes z) (sym same) ∙ there) in
+      let is : p ≡ q = cc x in
+      subst (λ (z : Pass J R). Tells v u z.mine × (z.full ≡ true → slots ≤ v.front)) is (inl (same ∙ sym num, sym own), full)
+
+  ended_lies : (root : Option J) (h : List (Event J R)) (hs : Homes J R) (k : ℕ) (c : Face) → Lies root h hs k c → rank (shown c) ≡ 3 → (r : R) × (get_elem? hs k ≡ some (some (Row r))) × (row_given h k ≡ ended_as (shown c) r)
+  ended_lies root h hs k (held w) l e = absurd (omega arith)
+  ended_lies root h hs k (plain Absent) l e = absurd (omega arith)
+  ended_lies root h hs k (plain Open) l e = absurd (omega arith)
+  ended_lies root h hs k (plain (Claimed w)) l e = absurd (omega arith)
+  ended_lies root h hs k (plain Returned) l e = l
+  ended_lies root h hs k (plain Faulted) l e = l
+
+  part_told : (root : Option J) (crew : ℕ) (h : List (Event J R)) (faces : ℕ → Face) (owner : ℕ → Option ℕ) (id : ℕ) (v : View J R) → Knows root crew h faces owner id v → (u : ℕ) (m : List (Event J R)) → Tells v u m → part u h ≡ m
+  part_told root crew h faces owner id v k u m t = ⊎_elim (λ (x : (u ≡ v.worker) × (v.mine ≡ m)). ap (λ z. part z h) x.0 ∙ (k.mine ∙ x.1)) (λ (x : (n : ℕ) × (get_elem? v.joined n ≡ some (u, m))). (k.joins x.0 u m x.1).events) t
+
+  not_held : (root : Option J) (crew : ℕ) (h : List (Event J R)) (faces : ℕ → Face) (owner : ℕ → Option ℕ) (id : ℕ) (v : View J R) → Knows root crew h faces owner id v → v.drawn ≡ 0 → (u : ℕ) (m : List (Event J R)) → Tells v u m → (q : ℕ) → faces q ≢ held u
+  not_held root crew h faces owner id v k none u m t q f = ⊎_elim
+      (λ (x : (u ≡ v.worker) × (v.mine ≡ m)). let d = k.drew q (f ∙ ap held x.0) in absurd (omega (arith, d, none)))
+      (λ (x : (n : ℕ) × (get_elem? v.joined n ≡ some (u, m))). (k.joins x.0 u m x.1).idle q f) t
+
+  -- a closed row, by the pass that stayed
+  pub settles : (root : Option J) (crew id : ℕ) (v : View J R) (passes : List (Pass J R)) (ws : List ℕ) (xs : List (Slot J R)) → v.live ≡ true → v.drawn ≡ 0 → length passes ≡ crew → HasTaken (length xs) passes 0 v
+      → Final (Seen (IsRow root crew) id v) ws xs → IsClosedRow root crew passes ws xs
+  settles root crew id v passes ws xs lives none len has f =
+      let s = f.0 in let r = f.1.0 in let k = r.each_seat id v f.1.1 lives in let size : length s.homes ≡ length xs = f.3 in record {
+        history = r.history;
+        faces = r.faces;
+        legal = subst (λ z. IsLegal z crew r.history) size r.legal;
+        matched = r.matched;
+        parts = λ w p at. part_told root crew r.history r.faces r.owner id v k w p.mine (has w p (omega arith) at).0;
+        shows = λ q l. ap (λ z. get_or z q 0) (sym f.2) ∙ r.shows q (subst (λ z. q < z) (sym size) l);
+        agrees = r.agrees;
+        beyond = λ q l. r.beyond q (subst (λ z. z ≤ q) (sym size) l);
+        together = r.together;
+        unheld = λ q u e.
+            let b = r.busy q u e in
+            let low = claimed_member (length s.homes) crew r.history r.legal b.0 u b.1 in
+            let p = get_there passes u (omega (arith, low, len)) in
+            not_held root crew r.history r.faces r.owner id v k none u p.0.mine (has u p.0 (omega arith) p.1).0 q e;
+        placed = λ q l e.
+            let x = ended_lies root r.history s.homes q (r.faces q) (r.lies q (subst (λ z. q < z) (sym size) l)) (sym (ap rank (r.agrees q)) ∙ e) in
+            (x.0, f.4 q (Row x.0) x.1, x.2 ∙ ap (λ z. ended_as z x.0) (sym (r.agrees q)));
+        used = λ w p at full q l. k.front q (let y = (has w p (omega arith) at).1 full in omega (arith, l, y));
+      }
+
+  -- one more row is taken out
+  pub rows_more : (ws : List ℕ) (xs : List (Slot J R)) (rows : List (Ended R)) (n w : ℕ) (row : R) → length rows ≡ n → get_elem? ws n ≡ some w → get_elem? xs n ≡ some (Row row)
+      → ((k : ℕ) (r : R) → k < n → get_elem? xs k ≡ some (Row r) → slice_get rows k ≡ Some (row_of (get_or ws k 0) r))
+      → (k : ℕ) (r : R) → k < n + 1 → get_elem? xs k ≡ some (Row r) → slice_get (rows ++ row_of w row ∷ []) k ≡ Some (row_of (get_or ws k 0) r)
+  rows_more ws xs rows n w row len word there old k r low at = dite (ℕ_discrete k n)
+      (λ e.
+      let here : get_elem? xs n ≡ some (Row r) = sym (ap (λ z. get_elem? xs z) e) ∙ at in
+      let same : Row row ≡ Row r = some-injective (Row row) (Row r) (sym there ∙ here) in
+      let rows_same : row ≡ r = cc same in
+      let words_same : w ≡ get_or ws k 0 = sym (index_at ws n w word) ∙ ap (λ z. get_or ws z 0) (sym e) in
+      ap (λ z. slice_get (rows ++ row_of w row ∷ []) z) (e ∙ sym len) ∙ (get_push_same rows (row_of w row) ∙ (ap (λ z. Some (row_of z row)) words_same ∙ ap (λ z. Some (row_of (get_or ws k 0) z)) rows_same)))
+      (λ ne. get_push_other rows (row_of w row) k (λ z. ne (z ∙ len)) ∙ old k r (let y : k ≢ n = ne in omega (arith, low, y)) at)

@@ -1,0 +1,43 @@
+-- One more pass of a board of words that is being started.
+use Rattle.std.proofs.Common.{◌≡◌, ◌<◌, ◌+◌, ◌++◌, ◌∷◌, ◌∙◌, ℕ, false, List, [], Some, length, slice_get, slice_set, sym, ap, subst, arith}
+use Rattle.std.proofs.lemmas.List.{length-set}
+use Rattle.lc_board.specs.Pass.{new_pass}
+use Rattle.lc_board.specs.WordSteps.{dealt, newcomer}
+use Rattle.lc_board.specs.WordsBoard.{IsPassOf, IsSamePass, known, told}
+use Rattle.lc_board.specs.declared.words.Words.{Words}
+use Rattle.lc_board.specs.declared.words.pass.WordsPass.{WordsPass}
+use Rattle.lc_board.specs.declared.words.view.View.{View}
+use Rattle.lc_board.proofs.Places.{each_set, each_push, get_push_other, get_set_same}
+
+module _ {J R : Type 0} where
+  abbrev IsNew : Words J R → ℕ → WordsPass J R → Type 0
+  IsNew b w p = IsPassOf b p × (told p ≡ new_pass w)
+
+  pub one_more : (b : Words J R) (items : List (WordsPass J R)) (n crew : ℕ) (first first' other : WordsPass J R) → slice_get items 0 ≡ Some first → length items ≡ n → 0 < n
+      → IsSamePass first first' → known first' ≡ dealt (known first) → IsPassOf b other → other.worker ≡ n → other.full ≡ false → known other ≡ newcomer (known first)
+      → ((w : ℕ) (p : WordsPass J R) → slice_get items w ≡ Some p → IsNew b w p) → ((known first).made ≡ n) × ((known first).crew ≡ crew)
+      → ((w : ℕ) (p : WordsPass J R) → slice_get (slice_set items 0 first' ++ other ∷ []) w ≡ Some p → IsNew b w p)
+      × ((p : WordsPass J R) → slice_get (slice_set items 0 first' ++ other ∷ []) 0 ≡ Some p → ((known p).made ≡ n + 1) × ((known p).crew ≡ crew))
+  one_more b items n crew first first' other at len some same me own number empty new each deals =
+      let ds : List (WordsPass J R) = slice_set items 0 first' in
+      let low : 0 < length items = omega (arith, len, some) in
+      let size : length (slice_set items 0 first') ≡ n = length-set items 0 first' ∙ len in
+      let was = each 0 first at in
+      let mine_first : (known first').mine ≡ (known first).mine = ap (λ (v : View J R). v.mine) me in
+      let told_first : told first' ≡ told first = (λ i. record { worker = same.1 i; mine = mine_first i; full = same.2 i; refused = false }) in
+      let mine_other : (known other).mine ≡ [] = ap (λ (v : View J R). v.mine) new in
+      let worker_other : other.worker ≡ length (slice_set items 0 first') = number ∙ sym size in
+      let told_other : told other ≡ new_pass (length (slice_set items 0 first')) = (λ i. record { worker = worker_other i; mine = mine_other i; full = empty i; refused = false }) in
+      let board_first : IsPassOf b first' = same.0 ∙ was.0 in (
+        each_push (λ w o. (p : WordsPass J R) → o ≡ Some p → IsNew b w p) (slice_set items 0 first') other
+            (λ p e. let is : other ≡ p = cc e in subst (λ q. IsNew b (length (slice_set items 0 first')) q) is (own, told_other))
+            (λ k _. each_set (λ w o. (p : WordsPass J R) → o ≡ Some p → IsNew b w p) items 0 first' low
+            (λ p e. let is : first' ≡ p = cc e in subst (λ q. IsNew b 0 q) is (board_first, told_first ∙ was.1))
+            (λ q off p e. each q p e) k),
+        λ p e.
+            let there : slice_get (slice_set items 0 first' ++ other ∷ []) 0 ≡ Some first' = get_push_other (slice_set items 0 first') other 0 (λ z. absurd (omega (arith, z, size, some))) ∙ get_set_same items 0 first' low in
+            let x : Some first' ≡ Some p = sym there ∙ e in
+            let is : first' ≡ p = cc x in
+            subst (λ q. ((known q).made ≡ n + 1) × ((known q).crew ≡ crew)) is
+            (ap (λ (v : View J R). v.made) me ∙ ap (λ k. k + 1) deals.0, ap (λ (v : View J R). v.crew) me ∙ deals.1),
+      )

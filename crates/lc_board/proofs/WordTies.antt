@@ -1,0 +1,138 @@
+-- What is stored in a pass of a board of words stays tied to what it knows and holds.
+use Rattle.std.proofs.Common.{◌≡◌, ◌≢◌, ℕ, ◌+◌, ◌<◌, Bool, true, false, List, [], ◌∷◌, map, refl, ap, sym, ◌∙◌, subst, Option, Some, None, arith}
+use mathlib.Core.Path.{Path}
+use Rattle.std.specs.Prelude.{MatchBool, IsSome}
+use Rattle.std.proofs.lemmas.Bool.Decides.{nat_tests}
+use Rattle.atomic_table.specs.Table.{Step, rest}
+use Rattle.lc_board.specs.Holding.{holding, posted}
+use Rattle.lc_board.specs.WordRow.{Seated}
+use Rattle.lc_board.specs.WordSteps.{AddsEvent, Looks, Missed, low_after, last_look, Leaves, claimed, drew, opened}
+use Rattle.lc_board.specs.WordPass.{IsTied, kind, tag, tags_as, carried_as}
+use Rattle.lc_board.specs.declared.event.Event.{Event}
+use Rattle.lc_board.specs.declared.event.Event.TheVariants.{Over}
+use Rattle.lc_board.specs.declared.words.view.Slot.{Slot}
+use Rattle.lc_board.specs.declared.words.view.Slot.TheVariants.{Empty, Job, Row}
+use Rattle.lc_board.specs.declared.words.view.View.{View}
+
+pub holds_some : (o : Option ℕ) → IsSome o → (i : ℕ) × (o ≡ Some i)
+holds_some None h = absurd cc
+holds_some (Some i) h = (i, refl)
+
+lower_stays : (cap i low r low2 slots : ℕ) → slots ≡ cap → low2 ≡ low_after cap i low r → low < slots → low2 < slots
+lower_stays cap i low r low2 slots same is l = grind (arith, nat_tests)
+
+module _ {J R : Type 0} where
+  is_empty : (x : Slot J R) → kind x ≡ 0 → Path (Slot J R) x Empty
+  is_empty Empty e = refl
+  is_empty (Job j) e = absurd (omega arith)
+  is_empty (Row r) e = absurd (omega arith)
+
+  -- what a pass carries, from the tags of it
+  pub carried_is : (c : List (ℕ × Slot J R)) (o : Option ℕ) → map tag c ≡ tags_as o → Path (List (ℕ × Slot J R)) c (carried_as o)
+  carried_is [] None e = refl
+  carried_is [] (Some i) e = absurd cc
+  carried_is (x ∷ xs) None e = absurd cc
+  carried_is (x ∷ y ∷ xs) (Some i) e = absurd cc
+  carried_is (x ∷ []) (Some i) e = let h : (x.0, kind x.1) ≡ (i, 0) = cc in let a : x.0 ≡ i = ap (λ (p : ℕ × ℕ). p.0) h in let b = is_empty x.1 (ap (λ (p : ℕ × ℕ). p.1) h) in (λ k. (a k, b k) ∷ [])
+
+  pub first_job : (i k : ℕ) (j job : J) (xs ys : List (ℕ × Slot J R)) → (i, Job j) ∷ xs ≡ (k, Job job) ∷ ys → j ≡ job
+  first_job i k j job xs ys e = let h : (i, Job j) ≡ (k, Job job) = cc e in let a : Path (Slot J R) (Job j) (Job job) = ap (λ (p : ℕ × Slot J R). p.1) h in cc a
+
+  pub held_slot : (i : ℕ) (slots worker posts front low : ℕ) (m : Seated J R) → IsTied slots worker (Some i) posts front low m → (x : Slot J R) × (m.1 ≡ (i, x) ∷ rest m.1)
+  held_slot i slots worker posts front low m t = let e = carried_is m.1 (Some i) t.carries in (Empty, e ∙ ap (λ l. (i, Empty) ∷ rest l) (sym e))
+
+  missed_holds : (cap : ℕ) (v w : View J R) (b : Bool) → MatchBool b (AddsEvent cap v (Over v.worker) w) (Looks cap v w) → holding w.mine ≡ holding v.mine
+  missed_holds cap v w true a = ap holding a.1
+  missed_holds cap v w false a = ap holding a.1
+
+  missed_counts : (cap : ℕ) (v w : View J R) (b : Bool) → MatchBool b (AddsEvent cap v (Over v.worker) w) (Looks cap v w) → posted w.mine ≡ posted v.mine
+  missed_counts cap v w true a = ap posted a.1
+  missed_counts cap v w false a = ap posted a.1
+
+  pub tied_missed : (cap i r slots worker : ℕ) (claim : Option ℕ) (posts front low low2 : ℕ) (m m' : Seated J R) → slots ≡ cap → m'.1 ≡ m.1 → Missed cap i r m.0 m'.0 → low2 ≡ low_after cap i low r
+      → IsTied slots worker claim posts front low m → IsTied slots worker claim posts front low2 m'
+  tied_missed cap i r slots worker claim posts front low low2 m m' same c miss is t = record {
+    live = miss.0.0 ∙ t.live;
+    idle = miss.1 ∙ t.idle;
+    numbered = miss.0.3 ∙ t.numbered;
+    fronted = miss.2 ∙ t.fronted;
+    lowered = miss.3 ∙ (ap (λ l. low_after cap i l r) t.lowered ∙ sym is);
+    holds = missed_holds cap m.0 m'.0 (last_look cap i m.0.low r) miss.7 ∙ t.holds;
+    counts = missed_counts cap m.0 m'.0 (last_look cap i m.0.low r) miss.7 ∙ t.counts;
+    carries = ap (map tag) c ∙ t.carries;
+    near = t.near;
+    within = t.within;
+    inside = t.inside;
+    lower = lower_stays cap i low r low2 slots same is t.lower;
+  }
+
+  -- a claim, and then the empty slot
+  pub tied_claimed : (slots i r worker : ℕ) (st : Step (Slot J R)) (posts front low : ℕ) (m m1 m2 : Seated J R) → st.word ≡ i → i < slots → r ≡ 1 → claimed st m r m1 → m2 ≡ (m1.0, (i, Empty) ∷ rest m1.1)
+      → IsTied slots worker None posts front low m → IsTied slots worker (Some i) 0 front low m2
+  tied_claimed slots i r worker st posts front low m m1 m2 at near is did now t = let hit = did.0 is in let me : Path (View J R) m2.0 m1.0 = ap (λ (x : Seated J R). x.0) now in record {
+    live = ap (λ (v : View J R). v.live) me ∙ (hit.1.0 ∙ t.live);
+    idle = ap (λ (v : View J R). v.drawn) me ∙ (hit.2 ∙ t.idle);
+    numbered = ap (λ (v : View J R). v.worker) me ∙ (hit.1.3 ∙ t.numbered);
+    fronted = ap (λ (v : View J R). v.front) me ∙ (hit.3 ∙ t.fronted);
+    lowered = ap (λ (v : View J R). v.low) me ∙ (hit.4 ∙ t.lowered);
+    holds = ap (λ (v : View J R). holding v.mine) me ∙ (ap holding hit.6.1 ∙ ap (λ k. Some k) at);
+    counts = ap (λ (v : View J R). posted v.mine) me ∙ ap posted hit.6.1;
+    carries = ap (λ (x : Seated J R). map tag x.1) now ∙ (ap (λ (l : List (ℕ × Slot J R)). map tag ((i, Empty) ∷ rest l)) hit.5 ∙ ap (λ (l : List (ℕ × ℕ)). (i, 0) ∷ l) t.carries);
+    near = omega arith;
+    within = t.within;
+    inside = λ k e. let x : i ≡ k = cc in subst (λ z. z < slots) x near;
+    lower = t.lower;
+  }
+
+  pub tied_ended : (slots i worker posts front low : ℕ) (row : R) (e : Event J R) (m m1 m2 : Seated J R) → ((h : List (Event J R)) → holding (e ∷ h) ≡ None) → ((h : List (Event J R)) → posted (e ∷ h) ≡ 0)
+      → m1 ≡ (m.0, (i, Row row) ∷ rest m.1) → Leaves m1 m2 → m2.0.mine ≡ e ∷ m1.0.mine
+      → IsTied slots worker (Some i) posts front low m → IsTied slots worker None 0 front low m2
+  tied_ended slots i worker posts front low row e m m1 m2 goes zero now did adds t = let me : Path (View J R) m1.0 m.0 = ap (λ (x : Seated J R). x.0) now in record {
+    live = did.0.0 ∙ (ap (λ (v : View J R). v.live) me ∙ t.live);
+    idle = did.1;
+    numbered = did.0.3 ∙ (ap (λ (v : View J R). v.worker) me ∙ t.numbered);
+    fronted = did.3 ∙ (ap (λ (v : View J R). v.front) me ∙ t.fronted);
+    lowered = did.2 ∙ (ap (λ (v : View J R). v.low) me ∙ t.lowered);
+    holds = ap holding adds ∙ goes m1.0.mine;
+    counts = ap posted adds ∙ zero m1.0.mine;
+    carries = ap (map tag) did.4 ∙ (ap (λ (x : Seated J R). map tag (rest x.1)) now ∙ ap (λ (l : List (ℕ × Slot J R)). map tag (rest l)) (carried_is m.1 (Some i) t.carries));
+    near = omega arith;
+    within = t.within;
+    inside = λ k e. absurd (cc);
+    lower = t.lower;
+  }
+
+  pub tied_passed : (slots i r worker : ℕ) (claim : Option ℕ) (st : Step (Slot J R)) (posts low : ℕ) (m m1 : Seated J R) → st.word ≡ i → i < slots → r ≢ 0 → drew st m r m1
+      → IsTied slots worker claim posts i low m → IsTied slots worker claim posts (i + 1) low m1
+  tied_passed slots i r worker claim st posts low m m1 at near other did t = let miss = did.5 other in record {
+    live = did.0.0 ∙ t.live;
+    idle = miss.1 ∙ t.idle;
+    numbered = did.0.3 ∙ t.numbered;
+    fronted = did.2 ∙ ap (λ k. k + 1) at;
+    lowered = did.1 ∙ t.lowered;
+    holds = ap holding did.3.1 ∙ t.holds;
+    counts = ap posted did.3.1 ∙ t.counts;
+    carries = ap (map tag) miss.0 ∙ t.carries;
+    near = let x = t.near in omega arith;
+    within = omega arith;
+    inside = t.inside;
+    lower = t.lower;
+  }
+
+  -- a number is drawn, gets the job, and is opened
+  pub tied_posted : (slots i p r' worker : ℕ) (st st' : Step (Slot J R)) (job : J) (posts low : ℕ) (m m1 m2 m3 : Seated J R) → st.word ≡ i → i < slots → drew st m 0 m1 → m2 ≡ (m1.0, (i, Job job) ∷ rest m1.1) → opened st' m2 r' m3
+      → IsTied slots worker (Some p) posts i low m → IsTied slots worker (Some p) (posts + 1) (i + 1) low m3
+  tied_posted slots i p r' worker st st' job posts low m m1 m2 m3 at near did now opens t = let hit = did.4 refl in let did2 = opens.0 in let me : Path (View J R) m2.0 m1.0 = ap (λ (x : Seated J R). x.0) now in record {
+    live = did2.0.0 ∙ (ap (λ (v : View J R). v.live) me ∙ (did.0.0 ∙ t.live));
+    idle = did2.1;
+    numbered = did2.0.3 ∙ (ap (λ (v : View J R). v.worker) me ∙ (did.0.3 ∙ t.numbered));
+    fronted = did2.3 ∙ (ap (λ (v : View J R). v.front) me ∙ (did.2 ∙ ap (λ k. k + 1) at));
+    lowered = did2.2 ∙ (ap (λ (v : View J R). v.low) me ∙ (did.1 ∙ t.lowered));
+    holds = ap holding opens.1.4.1 ∙ (ap (λ (v : View J R). holding v.mine) me ∙ (ap holding did.3.1 ∙ t.holds));
+    counts = ap posted opens.1.4.1 ∙ ap (λ k. k + 1) (ap (λ (v : View J R). posted v.mine) me ∙ (ap posted did.3.1 ∙ t.counts));
+    carries = ap (map tag) did2.4 ∙ (ap (λ (x : Seated J R). map tag (rest x.1)) now ∙ (ap (λ (l : List (ℕ × Slot J R)). map tag (rest l)) hit.0 ∙ t.carries));
+    near = let x = t.near in omega arith;
+    within = omega arith;
+    inside = t.inside;
+    lower = t.lower;
+  }

@@ -1,0 +1,171 @@
+-- What stays of the row of words when one number and one pass move.
+use Rattle.std.proofs.Common.{◌≡◌, ◌≢◌, ◌↔◌, ℕ, eqb, subst, ◌<◌, ◌≤◌, true, false, cond, List, length, get_or, set, sym, refl, ap, ◌∙◌, ⊎_elim, arith, length-set, get_or-set_same, get_or-set_other, Option, Some, None}
+use mathlib.Core.Path.{Path}
+use mathlib.Core.Option.{some}
+use lib.ListN.{get_elem?}
+use Rattle.atomic_table.specs.Table.{State}
+use Rattle.atomic_table.proofs.Lists.{at_set}
+use Rattle.lc_board.specs.State.{Status, Absent, Open, Claimed, Returned, Faulted, status}
+use Rattle.lc_board.specs.Part.{part}
+use Rattle.lc_board.specs.LegalHistory.{IsLegal}
+use Rattle.lc_board.specs.Holding.{holding}
+use Rattle.lc_board.specs.RowsInPlace.{row_given}
+use Rattle.lc_board.specs.Growth.{GoesOn, put, job_at, IsMatched}
+use Rattle.lc_board.specs.WordRow.{Face, held, plain, shown, code, Homes, Lies, HasJoined, Knows, IsRow}
+use Rattle.lc_board.specs.declared.event.Event.{Event}
+use Rattle.lc_board.specs.declared.words.view.Slot.{Slot}
+use Rattle.lc_board.specs.declared.words.view.View.{View}
+use Rattle.lc_board.proofs.HeldClaims.{part_tells_claim}
+use Rattle.lc_board.proofs.Growths.{at_put, put_else, goes_trans}
+
+-- a number is the same for the worker u
+pub record IsApart (u : ℕ) (faces faces' : ℕ → Face) : Type 0 where
+  pub held_to : (k : ℕ) → faces k ≡ held u → faces' k ≡ held u
+  pub held_from : (k : ℕ) → faces' k ≡ held u → faces k ≡ held u
+  pub taken_from : (k : ℕ) → faces' k ≡ plain (Claimed u) → faces k ≡ plain (Claimed u)
+
+pub of_shown : (c : Face) (w : ℕ) → shown c ≡ Claimed w → c ≡ plain (Claimed w)
+of_shown (held u) w e = cc
+of_shown (plain m) w e = ap plain e
+
+apart_at : (u : ℕ) (faces : ℕ → Face) (i : ℕ) (c' : Face) → faces i ≢ held u → c' ≢ held u → c' ≢ plain (Claimed u) → IsApart u faces (put faces i c')
+apart_at u faces i c' a c d = record {
+  held_to = λ k e. at_put faces i c' (λ z f. z ≡ k → f ≡ held u) k (λ x. absurd (a (ap faces x ∙ e))) (λ _ _. e) refl;
+  held_from = λ k. at_put faces i c' (λ z f. f ≡ held u → faces z ≡ held u) k (λ e. absurd (c e)) (λ _ e. e);
+  taken_from = λ k. at_put faces i c' (λ z f. f ≡ plain (Claimed u) → faces z ≡ plain (Claimed u)) k (λ e. absurd (d e)) (λ _ e. e);
+}
+
+pub apart_same : (u : ℕ) (faces : ℕ → Face) → IsApart u faces faces
+apart_same u faces = record { held_to = λ k e. e; held_from = λ k e. e; taken_from = λ k e. e }
+
+pub agree_put : (s : ℕ → Status) (faces : ℕ → Face) (i : ℕ) (m : Status) (c' : Face) → m ≡ shown c' → ((k : ℕ) → s k ≡ shown (faces k)) → (k : ℕ) → put s i m k ≡ shown (put faces i c' k)
+agree_put s faces i m c' is old k = elim (eqb k i) as (λ b. cond b m (s k) ≡ shown (cond b c' (faces k))) [ true ↦ is | false ↦ old k ]
+
+more_at : (faces : ℕ → Face) (i : ℕ) (c' : Face) → c' ≢ plain Absent → (k : ℕ) → put faces i c' k ≡ plain Absent → (k ≢ i) × (faces k ≡ plain Absent)
+more_at faces i c' ne k = at_put faces i c' (λ z f. f ≡ plain Absent → (z ≢ i) × (faces z ≡ plain Absent)) k (λ e. absurd (ne e)) (λ o e. (o, e))
+
+pub same_some : {a b : ℕ} → Path (Option ℕ) (Some a) (Some b) → a ≡ b
+same_some e = cc
+
+module _ {J R : Type 0} where
+  -- what a pass has claimed, as its events say it
+  pub held_is : (root : Option J) (crew : ℕ) (s : State (Slot J R) (View J R)) (r : IsRow root crew s) (me : ℕ) (v : View J R) → Knows root crew r.history r.faces r.owner me v
+      → (i : ℕ) → (holding v.mine ≡ Some i) ↔ (status r.history i ≡ Claimed v.worker)
+  held_is root crew s r me v k i =
+      let t = part_tells_claim (length s.homes) crew r.history r.legal v.worker in
+      subst (λ m. (holding m ≡ Some i) ↔ (status r.history i ≡ Claimed v.worker)) k.mine (t.claimed i)
+
+  still_joined : (h h' : List (Event J R)) (faces faces' : ℕ → Face) (owner : ℕ → Option ℕ) (j worker u : ℕ) (m : List (Event J R)) → part u h' ≡ part u h → IsApart u faces faces' → HasJoined h faces owner j worker u m → HasJoined h' faces' owner j worker u m
+  still_joined h h' faces faces' owner j worker u m same apart x = record { owned = x.owned; other = x.other; events = same ∙ x.events; idle = λ k e. x.idle k (apart.held_from k e) }
+
+  others_know : (root : Option J) (crew : ℕ) (h h' : List (Event J R)) (faces faces' : ℕ → Face) (owner : ℕ → Option ℕ) (j : ℕ) (d : View J R)
+      → part d.worker h' ≡ part d.worker h → ((n u : ℕ) (m : List (Event J R)) → get_elem? d.joined n ≡ some (u, m) → (part u h' ≡ part u h) × IsApart u faces faces') → GoesOn h' h → IsApart d.worker faces faces'
+      → ((k : ℕ) → faces' k ≡ plain Absent → faces k ≡ plain Absent) → Knows root crew h faces owner j d → Knows root crew h' faces' owner j d
+  others_know root crew h h' faces faces' owner j d same sames longer apart more k = record {
+    root_is = k.root_is;
+    crew_is = k.crew_is;
+    member = k.member;
+    mine = same ∙ k.mine;
+    seen = goes_trans h' h d.seen longer k.seen;
+    owns = k.owns;
+    drew = λ i e. k.drew i (apart.held_from i e);
+    draws = λ i e. apart.held_to i (k.draws i e);
+    low = k.low;
+    front = λ i l e. k.front i l (more i e);
+    deals = k.deals;
+    joins = λ n u m e. let x = sames n u m e in still_joined h h' faces faces' owner j d.worker u m x.0 x.1 (k.joins n u m e);
+  }
+
+  -- passes at other seats are other workers'
+  pub other_worker : (root : Option J) (crew : ℕ) (h : List (Event J R)) (faces : ℕ → Face) (owner : ℕ → Option ℕ) (me j : ℕ) (v d : View J R) → Knows root crew h faces owner me v → Knows root crew h faces owner j d → j ≢ me → d.worker ≢ v.worker
+  other_worker root crew h faces owner me j v d a b ne e = ne (same_some (sym b.owns ∙ (ap owner e ∙ a.owns)))
+
+  pub record IsNext (root : Option J) (crew : ℕ) (s : State (Slot J R) (View J R)) (r : IsRow root crew s) (worker : ℕ) (h' : List (Event J R)) (faces' : ℕ → Face) (words' : List ℕ) (homes' : Homes J R) : Type 0 where
+    pub long : length homes' ≡ length s.homes
+    pub wide : length words' ≡ length s.words
+    pub legal : IsLegal (length s.homes) crew h'
+    pub matched : IsMatched root h'
+    pub grows : GoesOn h' r.history
+    pub parts : (u : ℕ) → u ≢ worker → part u h' ≡ part u r.history
+    pub shows : (k : ℕ) → k < length s.homes → get_or words' k 0 ≡ code (faces' k)
+    pub agrees : (k : ℕ) → status h' k ≡ shown (faces' k)
+    pub beyond : (k : ℕ) → length s.homes ≤ k → faces' k ≡ plain Absent
+    pub together : (k l : ℕ) → k ≤ l → faces' k ≡ plain Absent → faces' l ≡ plain Absent
+    pub lies : (k : ℕ) → k < length s.homes → Lies root h' homes' k (faces' k)
+    pub busy : (k w : ℕ) → faces' k ≡ held w → (p : ℕ) × (status h' p ≡ Claimed w)
+    pub apart : (u : ℕ) → u ≢ worker → IsApart u r.faces faces'
+    pub more : (k : ℕ) → faces' k ≡ plain Absent → r.faces k ≡ plain Absent
+
+  pub rebuilt : (root : Option J) (crew : ℕ) (s : State (Slot J R) (View J R)) (r : IsRow root crew s) (me : ℕ) (v : View J R) → get_elem? s.views me ≡ some v → v.live ≡ true
+      → (h' : List (Event J R)) (faces' : ℕ → Face) (words' : List ℕ) (homes' : Homes J R) (w : View J R) → IsNext root crew s r v.worker h' faces' words' homes' → Knows root crew h' faces' r.owner me w
+      → IsRow root crew record { words = words'; homes = homes'; views = set s.views me w }
+  rebuilt root crew s r me v at lives h' faces' words' homes' w n mine = let len : length s.homes ≡ length homes' = sym n.long in record {
+    history = h';
+    faces = faces';
+    owner = r.owner;
+    legal = subst (λ z. IsLegal z crew h') len n.legal;
+    matched = n.matched;
+    wide = n.wide ∙ (r.wide ∙ len);
+    shows = λ k l. n.shows k (subst (λ z. k < z) n.long l);
+    agrees = n.agrees;
+    beyond = λ k l. n.beyond k (subst (λ z. z ≤ k) n.long l);
+    together = n.together;
+    lies = λ k l. n.lies k (subst (λ z. k < z) n.long l);
+    busy = n.busy;
+    idle = λ u none. let old = r.idle u none in let ne : u ≢ v.worker = (λ e. let x : Path (Option ℕ) None (Some me) = sym none ∙ (ap r.owner e ∙ (r.each_seat me v at lives).owns) in cc) in
+        (n.parts u ne ∙ old.0, λ k. ((λ e. (old.1 k).0 ((n.apart u ne).held_from k e)), (λ e. (old.1 k).1 ((n.apart u ne).taken_from k e))));
+    each_seat = λ j d e live. ⊎_elim (λ (x : (j ≡ me) × (w ≡ d)). subst (λ (y : ℕ × View J R). Knows root crew h' faces' r.owner y.0 y.1) (λ i. (sym x.0 i, x.1 i)) mine)
+        (λ (x : (j ≢ me) × (get_elem? s.views j ≡ some d)). let kd = r.each_seat j d x.1 live in let km = r.each_seat me v at lives in let ne = other_worker root crew r.history r.faces r.owner me j v d km kd x.0 in
+        others_know root crew r.history h' r.faces faces' r.owner j d (n.parts d.worker ne)
+        (λ q u m is. let jd = kd.joins q u m is in let off : u ≢ v.worker = (λ (same : u ≡ v.worker). x.0 (same_some (sym jd.owned ∙ (ap r.owner same ∙ km.owns)))) in (n.parts u off, n.apart u off))
+        n.grows (n.apart d.worker ne) n.more kd)
+        (at_set s.views me j w d e);
+  }
+
+  pub lies_stay : (root : Option J) (h h' : List (Event J R)) (hs hs' : Homes J R) (k : ℕ) → get_elem? hs' k ≡ get_elem? hs k → job_at root h' k ≡ job_at root h k → row_given h' k ≡ row_given h k → (c : Face) → Lies root h hs k c → Lies root h' hs' k c
+  lies_stay root h h' hs hs' k a b d (held w) l = tt
+  lies_stay root h h' hs hs' k a b d (plain Absent) l = a ∙ l
+  lies_stay root h h' hs hs' k a b d (plain Open) l = (l.0, a ∙ l.1, b ∙ l.2)
+  lies_stay root h h' hs hs' k a b d (plain (Claimed w)) l = tt
+  lies_stay root h h' hs hs' k a b d (plain Returned) l = (l.0, a ∙ l.1, d ∙ l.2)
+  lies_stay root h h' hs hs' k a b d (plain Faulted) l = (l.0, a ∙ l.1, d ∙ l.2)
+
+  -- what a step on the number i owes
+  pub record IsTurn (root : Option J) (crew : ℕ) (s : State (Slot J R) (View J R)) (r : IsRow root crew s) (worker i : ℕ) (h' : List (Event J R)) (c' : Face) (homes' : Homes J R) : Type 0 where
+    pub near : i < length s.homes
+    pub long : length homes' ≡ length s.homes
+    pub legal : IsLegal (length s.homes) crew h'
+    pub matched : IsMatched root h'
+    pub grows : GoesOn h' r.history
+    pub parts : (u : ℕ) → u ≢ worker → part u h' ≡ part u r.history
+    pub agrees : (k : ℕ) → status h' k ≡ shown (put r.faces i c' k)
+    pub filled : r.faces i ≡ plain Absent → (k : ℕ) → k < i → r.faces k ≢ plain Absent
+    pub some_face : c' ≢ plain Absent
+    pub homes_else : (k : ℕ) → k ≢ i → get_elem? homes' k ≡ get_elem? s.homes k
+    pub jobs_else : (k : ℕ) → k ≢ i → job_at root h' k ≡ job_at root r.history k
+    pub rows_else : (k : ℕ) → k ≢ i → row_given h' k ≡ row_given r.history k
+    pub lies_here : Lies root h' homes' i c'
+    pub busy : (k w : ℕ) → put r.faces i c' k ≡ held w → (p : ℕ) × (status h' p ≡ Claimed w)
+    pub loose : (u : ℕ) → u ≢ worker → (r.faces i ≢ held u) × (c' ≢ held u) × (c' ≢ plain (Claimed u))
+
+  pub turned : (root : Option J) (crew : ℕ) (s : State (Slot J R) (View J R)) (r : IsRow root crew s) (worker i : ℕ) (h' : List (Event J R)) (c' : Face) (homes' : Homes J R) → IsTurn root crew s r worker i h' c' homes'
+      → IsNext root crew s r worker h' (put r.faces i c') (set s.words i (code c')) homes'
+  turned root crew s r worker i h' c' homes' t = record {
+    long = t.long;
+    wide = length-set s.words i (code c');
+    legal = t.legal;
+    matched = t.matched;
+    grows = t.grows;
+    parts = t.parts;
+    shows = λ k l. at_put r.faces i c' (λ z f. z < length s.homes → get_or (set s.words i (code c')) z 0 ≡ code f) k
+        (λ near. get_or-set_same s.words i (code c') 0 (subst (λ z. i < z) (sym r.wide) near)) (λ ne near. get_or-set_other s.words i k (code c') 0 ne ∙ r.shows k near) l;
+    agrees = t.agrees;
+    beyond = λ k l. let near = t.near in put_else r.faces i c' k (λ e. absurd (omega arith)) ∙ r.beyond k l;
+    together = λ k l le e. let m = more_at r.faces i c' t.some_face k e in let gone = r.together k l le m.1 in
+        put_else r.faces i c' l (λ (is : l ≡ i). let lt : k < i = (let ne = m.0 in omega arith) in t.filled (ap r.faces (sym is) ∙ gone) k lt m.1) ∙ gone;
+    lies = λ k l. at_put r.faces i c' (λ z f. z < length s.homes → Lies root h' homes' z f) k (λ _. t.lies_here)
+        (λ ne near. lies_stay root r.history h' s.homes homes' k (t.homes_else k ne) (t.jobs_else k ne) (t.rows_else k ne) (r.faces k) (r.lies k near)) l;
+    busy = t.busy;
+    apart = λ u ne. let x = t.loose u ne in apart_at u r.faces i c' x.0 x.1 x.2;
+    more = λ k e. (more_at r.faces i c' t.some_face k e).1;
+  }

@@ -1,0 +1,27 @@
+use Rattle.std.proofs.Common.{arith, sym, ap, ◌∙◌, refl, ℕ, ◌+◌, ◌*◌, ◌∷◌, Some, subst}
+use Rattle.atomic_table.specs.Table.{rest, step}
+use mathlib.Core.Option.{none}
+use Rattle.lc_board.specs.declared.words.view.Slot.TheVariants.{Job}
+use Rattle.lc_board.specs.WordPass.{IsTied}
+use Rattle.lc_board.proofs.WordClaims.{claims}
+use Rattle.lc_board.proofs.WordTies.{tied_claimed}
+use Rattle.lc_board.proofs.words.Words.try_claim.Goals as goal
+
+pub compare_exchange-found-requires : goal.compare_exchange-found-requires
+compare_exchange-found-requires g c = let t = c.args.pass.now.ties in let sq = c.args.self.now.square in let near = c.requires.near in (
+  c.requires.board,
+  omega arith,
+  claims _ _ _ _ _ _ _ t.live (omega arith) (t.holds ∙ c.requires.free) (c.claimed_by-new.ensures ∙ ap (λ (n : ℕ). 5 + 2 * n) (sym t.numbered)),
+)
+
+pub exchange-requires : goal.exchange-requires
+exchange-requires g c = let told = c.compare_exchange-found.ensures in let hit = told.2.0 c.if-found-ne-OPEN.false in
+    (told.0 ∙ c.requires.board, (Job hit.0, hit.5 ∙ ap (λ l. (c.args.number, Job hit.0) ∷ rest l) (sym hit.5)))
+
+pub invariant_of-pass-in-Job : goal.invariant_of-pass-in-Job
+invariant_of-pass-in-Job g c = let sq = c.args.self.now.square in let near = c.requires.near in let e = c.compare_exchange-found.ensures.0 in let t = c.args.pass.now.ties in record {
+  ties = subst (λ z. IsTied z.slots c.args.pass.now.worker (Some c.args.number) 0 c.args.pass.now.front c.args.pass.now.low c.exchange.new.seat.me) (sym (c.exchange.ensures.0 ∙ e))
+      (tied_claimed _ c.args.number _ _ (step c.args.self.now.table.shared.table_id.slots c.args.number 1 c.claimed_by-new.result none) _ _ _ _ _ _ refl (let own = ap (λ z. z.slots) c.requires.board in omega arith) c.if-found-ne-OPEN.false c.compare_exchange-found.ensures.2 c.exchange.ensures.3
+      (subst (λ o. IsTied c.args.pass.now.seat.table_id.slots c.args.pass.now.worker o c.args.pass.now.posted c.args.pass.now.front c.args.pass.now.low c.args.pass.now.seat.me) c.requires.free t));
+  all_used = λ f. c.args.pass.now.all_used f ∙ ap (λ z. z.slots) (sym (c.exchange.ensures.0 ∙ e));
+}

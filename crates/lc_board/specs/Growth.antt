@@ -1,0 +1,43 @@
+-- How a history goes on, and how far a number has come in it.
+use Rattle.std.specs.Prelude.{◌≡◌, ℕ, ◌==◌, cond, List, [], ◌∷◌, ◌++◌, Option, Some, None}
+use Rattle.lc_board.specs.State.{Status, Absent, Open, Claimed, Returned, Faulted}
+use Rattle.lc_board.specs.declared.event.Event.{Event}
+use Rattle.lc_board.specs.declared.event.Event.TheVariants.{Post, Claim, Return, Fault, Over}
+
+-- the first history begins with the second one, as both are told from their oldest event
+abbrev pub GoesOn : {E : Type 0} → List E → List E → Type 0
+GoesOn {E} h g = (rest : List E) × (h ≡ rest ++ g)
+
+-- how far a number has come: it never goes back
+abbrev pub rank : Status → ℕ
+rank Absent = 0
+rank Open = 1
+rank (Claimed w) = 2
+rank Returned = 3
+rank Faulted = 3
+
+-- a function, but at one number
+abbrev pub put : {A : Type 0} → (ℕ → A) → ℕ → A → ℕ → A
+put s i a k = cond (k == i) a (s k)
+
+module _ {J R : Type 0} where
+  -- the job posted at a number; at 0 it is the root's
+  abbrev pub job_at : Option J → List (Event J R) → ℕ → Option J
+  job_at root [] k = cond (k == 0) root None
+  job_at root (Post w p i j ∷ h) k = cond (k == i) (Some j) (job_at root h k)
+  job_at root (Claim w i j ∷ h) k = job_at root h k
+  job_at root (Return w i r ∷ h) k = job_at root h k
+  job_at root (Fault w i r ∷ h) k = job_at root h k
+  job_at root (Over w ∷ h) k = job_at root h k
+
+  -- a job that is got is the one that was posted there
+  abbrev pub IsRight : Option J → List (Event J R) → Event J R → Type 0
+  IsRight root h (Post w p i j) = Unit {0}
+  IsRight root h (Claim w i j) = job_at root h i ≡ Some j
+  IsRight root h (Return w i r) = Unit {0}
+  IsRight root h (Fault w i r) = Unit {0}
+  IsRight root h (Over w) = Unit {0}
+
+  abbrev pub IsMatched : Option J → List (Event J R) → Type 0
+  IsMatched root [] = Unit {0}
+  IsMatched root (e ∷ h) = IsMatched root h × IsRight root h e

@@ -1,0 +1,33 @@
+//! The board of words: a word for each number, which workers change by single exchanges.
+//!
+//! Its own calls `claim`, `post`, `give` and `fault` wait for nobody and take no memory. A slot holds the job of its number, later its
+//! row. Both are moved by the thread that changed the word, so that jobs and rows that are boxes make slots of 16 bytes.
+ghost use Rattle.std.specs.Prelude.{◌≡◌, ◌≤◌};
+ghost use Rattle.lc_board.specs.declared.limits.TheConstants.{MOST_NUMBERS, MOST_WORKERS};
+
+use crate::words::rule::{OneHistory, Origin};
+use crate::words::view::{Slot, View};
+use atomic_table::Table;
+use std::alloc::Global;
+
+mod claim;
+mod claims;
+pub(crate) mod close;
+pub mod pass;
+mod posts;
+pub mod rule;
+mod shared;
+mod start;
+pub mod view;
+
+/// A board of words. It keeps values: the rows that it gives back are in place.
+#[derive(Drop)]
+pub struct Words<J, R> {
+    pub(crate) table: Table<Slot<J, R>, View<J, R>, Origin<J>, OneHistory, Global>,
+    pub(crate) capacity: u32,
+    pub(crate) workers: u32,
+    pub(crate) alloc: Global,
+    ghost square: { (table.shared.table_id.words ≡ capacity) × (table.shared.table_id.slots ≡ capacity) },
+    ghost small: { (1 ≤ capacity) × (capacity ≤ MOST_NUMBERS) × (1 ≤ workers) × (workers ≤ MOST_WORKERS) },
+    ghost origin: { table.shared.key.crew ≡ workers },
+}

@@ -1,0 +1,40 @@
+//! A worker's pass of a board of words.
+ghost use Rattle.std.specs.Prelude.{◌≡◌, false, true};
+ghost use Rattle.std.proofs.Props.{props};
+ghost use Rattle.lc_board.specs.WordPass.{IsTied};
+
+use crate::shared::Token;
+use crate::words::view::{Slot, View};
+use atomic_table::Seat;
+
+/// A pass, which steps on the words for its worker.
+#[derive(Drop)]
+pub struct WordsPass<J, R> {
+    pub(crate) seat: Seat<Slot<J, R>, View<J, R>>,
+    pub(crate) worker: u32,
+    pub(crate) holding: Option<u32>,
+    pub(crate) posted: u32,
+    /// No word below it is absent.
+    pub(crate) front: u32,
+    /// Each word below it has ended.
+    pub(crate) low: u32,
+    pub(crate) full: bool,
+    ghost ties: { IsTied seat.table_id.slots worker holding posted front low seat.me } by { Prim.hlevel props },
+    ghost all_used: { full ≡ true → front ≡ seat.table_id.slots } by { Prim.hlevel props },
+}
+
+impl<J, R> Token<J, R> for WordsPass<J, R> {
+    ghost view = { λ p. record { worker = p.worker; mine = p.seat.me.0.mine; full = p.full; refused = false } };
+
+    fn worker(&self) -> u32 {
+        self.worker
+    }
+
+    fn holding(&self) -> Option<u32> {
+        self.holding
+    }
+
+    fn posted(&self) -> u32 {
+        self.posted
+    }
+}

@@ -1,0 +1,65 @@
+//! A number is drawn and opened.
+ghost use Rattle.std.specs.Prelude.{◌≡◌, ℕ, ◌+◌, ◌*◌, ◌<◌, MatchResult, IfSome, IsSome};
+ghost use Rattle.lc_board.specs.declared.event.Event.TheVariants.{Post};
+ghost use Rattle.lc_board.specs.WordSteps.{AddsEvent, Looks, Sees};
+ghost use Rattle.lc_board.specs.WordsBoard.{IsPassOf, IsSamePass, known};
+
+use crate::words::Words;
+use crate::words::pass::WordsPass;
+use crate::words::rule::{ABSENT, Draw, OPEN, Open};
+use crate::words::view::Slot;
+
+fn held_by(worker: u32) -> u64
+    ensures { result ≡ 4 + 2 * worker }
+{
+    4 + 2 * worker as u64
+}
+
+impl<J, R> Words<J, R> {
+    /// Tries to post the job at the front of the pass. Or else gives it back.
+    fn try_post(&self, pass: &mut WordsPass<J, R>, job: J) -> Result<u32, J>
+        requires board { IsPassOf self.now pass.old }
+        requires holds { IsSome pass.old.holding }
+        requires near { pass.old.front < self.now.capacity }
+        ensures board { IsSamePass pass.old pass.new × (pass.new.holding ≡ pass.old.holding) × (pass.new.front ≡ pass.old.front + 1) }
+        ensures rule { MatchResult result
+            (λ i. (pass.new.posted ≡ pass.old.posted + 1) × IfSome pass.old.holding (λ p. AddsEvent self.now.capacity (known pass.old) (Post pass.old.worker p i job) (known pass.new)))
+            (λ j. (j ≡ job) × (pass.new.posted ≡ pass.old.posted) × Looks self.now.capacity (known pass.old) (known pass.new)) }
+    {
+        let shared = &self.table.shared;
+        let number = pass.front;
+        let word = number as usize;
+        let new = held_by(pass.worker);
+        let found = shared.compare_exchange::<Draw>(&mut pass.seat, word, ABSENT, new);
+        pass.front = number + 1;
+        if found != ABSENT {
+            return Err(job);
+        }
+        match shared.exchange(&mut pass.seat, word, Slot::Job(job)) {
+            Slot::Empty => {}
+            _ => unreachable!(),
+        }
+        shared.swap::<Open>(&mut pass.seat, word, OPEN);
+        pass.posted += 1;
+        Ok(number)
+    }
+
+    /// Posts the job at the least number, at or above the front of the pass, that is not used. Where all numbers are used it hands the
+    /// job back. It waits for nobody and takes no memory.
+    pub fn post(&self, pass: &mut WordsPass<J, R>, mut job: J) -> Result<u32, J>
+        requires board { IsPassOf self.now pass.old }
+        requires holds { IsSome pass.old.holding }
+        ensures board { IsSamePass pass.old pass.new × (pass.new.holding ≡ pass.old.holding) }
+        ensures rule { MatchResult result
+            (λ i. (pass.new.posted ≡ pass.old.posted + 1) × IfSome pass.old.holding (λ p. AddsEvent self.now.capacity (known pass.old) (Post pass.old.worker p i job) (known pass.new)))
+            (λ j. (j ≡ job) × (pass.new.posted ≡ pass.old.posted) × Sees (known pass.old) (known pass.new) × ((known pass.new).front ≡ self.now.capacity)) }
+    {
+        while pass.front < self.capacity {
+            match self.try_post(pass, job) {
+                Ok(number) => return Ok(number),
+                Err(back) => job = back,
+            }
+        }
+        Err(job)
+    }
+}

@@ -1,0 +1,115 @@
+//! The rule that the words of a board keep, and what each step on a word tells.
+use crate::words::view::{Slot, View};
+use atomic_table::{Join, Play, Split, TableRule};
+use std::snapshot::Snapshot;
+
+/// Not used yet.
+pub const ABSENT: u64 = 0;
+
+/// Open, with its job in the slot.
+pub const OPEN: u64 = 1;
+
+/// Returned, with its row in the slot.
+pub const RETURNED: u64 = 2;
+
+/// Faulted, with its row in the slot.
+pub const FAULTED: u64 = 3;
+
+/// From here on a word names a worker: it holds the number (an even word), or has claimed it (an odd one).
+pub const BUSY: u64 = 4;
+
+/// What a board was started with.
+#[derive(Drop)]
+pub struct Origin<J> {
+    pub root: Snapshot<J>,
+    pub crew: u32,
+}
+
+/// The words show the state of one legal history.
+pub struct OneHistory;
+
+impl<J, R> TableRule<Slot<J, R>, View<J, R>, Origin<J>> for OneHistory {
+    ghost use Rattle.lc_board.specs.WordRow.{IsRow};
+    ghost use Rattle.lc_board.specs.WordSteps.{dealer};
+    ghost use Rattle.std.specs.Prelude.{Some};
+
+    ghost holds = { λ key. IsRow (Some key.root.value) key.crew };
+
+    ghost first = { λ key. dealer (Some key.root.value) key.crew };
+}
+
+pub struct Look;
+
+impl<J, R> Play<Slot<J, R>, View<J, R>> for Look {
+    ghost use Rattle.lc_board.specs.WordSteps.{looked};
+
+    ghost then = { looked };
+}
+
+pub struct Draw;
+
+impl<J, R> Play<Slot<J, R>, View<J, R>> for Draw {
+    ghost use Rattle.lc_board.specs.WordSteps.{drew};
+
+    ghost then = { drew };
+}
+
+pub struct Open;
+
+impl<J, R> Play<Slot<J, R>, View<J, R>> for Open {
+    ghost use Rattle.lc_board.specs.WordSteps.{opened};
+
+    ghost then = { λ s m r n. opened s m r n };
+}
+
+pub struct Take;
+
+impl<J, R> Play<Slot<J, R>, View<J, R>> for Take {
+    ghost use Rattle.lc_board.specs.WordSteps.{claimed};
+
+    ghost then = { claimed };
+}
+
+pub struct Give;
+
+impl<J, R> Play<Slot<J, R>, View<J, R>> for Give {
+    ghost use Rattle.lc_board.specs.WordSteps.{returned};
+
+    ghost then = { λ s m r n. returned s m r n };
+}
+
+pub struct Fail;
+
+impl<J, R> Play<Slot<J, R>, View<J, R>> for Fail {
+    ghost use Rattle.lc_board.specs.WordSteps.{faulted};
+
+    ghost then = { λ s m r n. faulted s m r n };
+}
+
+/// A look at the word of one's own claim, by which its slot goes home.
+pub struct PutDown;
+
+impl<J, R> Play<Slot<J, R>, View<J, R>> for PutDown {
+    ghost use Rattle.lc_board.specs.WordSteps.{put_down};
+
+    ghost then = { λ s m r n. put_down s m r n };
+}
+
+/// How one pass makes another, and takes it in.
+pub struct Deal;
+
+impl<J, R> Split<View<J, R>> for Deal {
+    ghost use Rattle.lc_board.specs.WordSteps.{dealt, newcomer};
+
+    ghost left = { dealt };
+
+    ghost right = { newcomer };
+}
+
+impl<J, R> Join<View<J, R>> for Deal {
+    ghost use Rattle.lc_board.specs.WordSteps.{merged, spent};
+
+    ghost both = { merged };
+
+    ghost spent = { spent };
+}

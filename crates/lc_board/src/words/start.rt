@@ -1,0 +1,106 @@
+//! A board is made, and its passes are made.
+ghost use Rattle.std.specs.Prelude.{◌≡◌, ◌<◌, ◌≤◌, ◌∷◌, false, replicate, IfOk};
+ghost use Rattle.lc_board.specs.declared.words.view.Slot.TheVariants.{Empty, Job};
+ghost use Rattle.lc_board.specs.WordSteps.{dealer, dealt, newcomer};
+ghost use Rattle.lc_board.specs.WordsBoard.{IsPassOf, IsSamePass, known};
+
+use crate::limits::{MOST_NUMBERS, MOST_WORKERS};
+use crate::words::Words;
+use crate::words::pass::WordsPass;
+use crate::words::rule::{ABSENT, Deal, OPEN, Origin};
+use crate::words::view::Slot;
+use atomic_table::Table;
+use std::alloc::{AllocError, Global};
+use std::snapshot::Snapshot;
+
+fn word_row(alloc: Global, others: u32) -> Result<Vec<u64>, AllocError>
+    ensures { IfOk result (λ v. v.items ≡ 1 ∷ replicate others 0) }
+{
+    let mut row = Vec::new(alloc);
+    row.push(OPEN)?;
+    for _ in 0..others {
+        row.push(ABSENT)?;
+    }
+    Ok(row)
+}
+
+fn slot_row<J: Drop, R: Drop>(
+    alloc: Global,
+    root: J,
+    others: u32,
+) -> Result<Vec<Slot<J, R>>, AllocError>
+    ensures { IfOk result (λ v. v.items ≡ (Job root) ∷ replicate others Empty) }
+{
+    let mut row = Vec::new(alloc);
+    row.push(Slot::Job(root))?;
+    for _ in 0..others {
+        row.push(Slot::Empty)?;
+    }
+    Ok(row)
+}
+
+impl<J: Drop, R: Drop> Words<J, R> {
+    /// A board with the root at number 0, and the pass of worker 0.
+    pub(crate) fn open(
+        alloc: Global,
+        capacity: u32,
+        workers: u32,
+        root: J,
+    ) -> Result<(Words<J, R>, WordsPass<J, R>), AllocError>
+        requires capacity { (1 ≤ capacity) × (capacity ≤ MOST_NUMBERS) }
+        requires workers { (1 ≤ workers) × (workers ≤ MOST_WORKERS) }
+        ensures board { IfOk result (λ b. (b.0.capacity ≡ capacity) × (b.0.workers ≡ workers) × (b.0.table.shared.key.root.value ≡ root)) }
+        ensures pass { IfOk result (λ b. IsPassOf b.0 b.1 × (b.1.worker ≡ 0) × (b.1.holding ≡ None) × (b.1.full ≡ false) × (known b.1 ≡ dealer (Some root) workers)) }
+    {
+        let origin = Origin {
+            root: Snapshot::of(&root),
+            crew: workers,
+        };
+        let words = word_row(alloc, capacity - 1)?;
+        let slots = slot_row(alloc, root, capacity - 1)?;
+        match Table::new(alloc, words.as_slice(), slots, &origin) {
+            Ok((table, seat)) => {
+                let pass = WordsPass {
+                    seat,
+                    worker: 0,
+                    holding: None,
+                    posted: 0,
+                    front: 1,
+                    low: 0,
+                    full: false,
+                };
+                Ok((
+                    Words {
+                        table,
+                        capacity,
+                        workers,
+                        alloc,
+                    },
+                    pass,
+                ))
+            }
+            Err(_) => Err(AllocError),
+        }
+    }
+}
+
+impl<J, R> Words<J, R> {
+    /// One more pass, of the next worker.
+    pub(crate) fn another(&self, pass: &mut WordsPass<J, R>, worker: u32) -> WordsPass<J, R>
+        requires board { IsPassOf self.now pass.old }
+        requires next { (0 < worker) × (worker < self.now.workers) × ((known pass.old).made ≡ worker) × ((known pass.old).crew ≡ self.now.workers) }
+        ensures same { IsSamePass pass.old pass.new × (pass.new.holding ≡ pass.old.holding) × (known pass.new ≡ dealt (known pass.old)) }
+        ensures other { IsPassOf self.now result × (result.worker ≡ worker) × (result.holding ≡ None) × (result.full ≡ false) × (known result ≡ newcomer (known pass.old)) }
+    {
+        let seat = self.table.shared.split_seat::<Deal>(&mut pass.seat);
+        WordsPass {
+            seat,
+            worker,
+            holding: None,
+            posted: 0,
+            front: pass.front,
+            low: 0,
+            full: false,
+        }
+    }
+}

@@ -1,0 +1,35 @@
+//! What a slot of a board of words holds, and what a pass of one knows.
+use crate::event::Event;
+use std::collections::LinkedList;
+
+/// What lies in the slot of a number.
+#[derive(Drop)]
+pub enum Slot<J, R> {
+    Empty,
+    Job(J),
+    Row(R),
+}
+
+/// What a pass knows, newest events first. No value of it is made.
+pub struct View<J, R> {
+    /// It hasn't been taken in by another pass.
+    pub live: bool,
+    pub root: Option<J>,
+    /// How many workers share the board.
+    pub crew: u32,
+    pub worker: u32,
+    /// A history of the board that was seen.
+    pub seen: LinkedList<Event<J, R>>,
+    /// The events of the worker.
+    pub mine: LinkedList<Event<J, R>>,
+    /// 0, or 1 more than the number that is held.
+    pub drawn: u64,
+    /// Each number below it has ended.
+    pub low: u64,
+    /// No number below it is absent.
+    pub front: u64,
+    /// 0, or how many passes there are, where this pass makes the others.
+    pub made: u64,
+    /// The workers of the passes that it took in, with their events.
+    pub joined: LinkedList<(u32, LinkedList<Event<J, R>>)>,
+}
