@@ -5,7 +5,7 @@ SHELL := /bin/bash
 
 .PHONY: run test test-memory test-program install clean rt
 
-lc: rt $(shell find crates -name out -prune -o -type f -print 2>/dev/null)
+lc: $(shell find crates -name out -prune -o -type f -print 2>/dev/null) | rt
 	@echo "make: proves lc and all that it stands on, then builds it: some minutes the first time, seconds after an edit"
 	@cd crates/lc && rt run -- check /dev/null < /dev/null > out.log 2>&1 || { cat out.log; rm -f out.log; exit 1; }
 	@rm -f crates/lc/out.log
