@@ -1,7 +1,10 @@
 //! Tests of the boards.
+mod drawn;
 mod fill;
 mod mismatch;
 mod plain_scripts;
 mod refused;
+mod schedules;
 mod script;
 mod shared_scripts;
+mod sizes;

@@ -14,7 +14,7 @@ mod claim;
 mod claims;
 pub(crate) mod close;
 pub mod pass;
-mod posts;
+pub(crate) mod posts;
 pub mod rule;
 mod shared;
 mod start;

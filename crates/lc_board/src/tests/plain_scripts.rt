@@ -2,7 +2,7 @@
 ghost use Rattle.std.specs.Prelude.{◌≡◌, ◌≤◌, ◌<◌, length};
 ghost use Rattle.lc_board.specs.PlainBoard.{workers};
 
-use crate::answers::{Claim, CloseFault, Closed, Ended, PostFault};
+use crate::answers::{CloseFault, Closed, Ended};
 use crate::limits::{MOST_NUMBERS, MOST_WORKERS};
 use crate::plain::Plain;
 use crate::tests::script::{Call, FAULT, FULL, OWN_POST, ROOT, TWO_WORKERS, Told};
@@ -25,22 +25,13 @@ fn tell(board: &mut Plain<u32, u32>, call: Call) -> Told
             if held {
                 return Told::OutOfTurn;
             }
-            match board.claim(worker) {
-                Claim::Got(number, job) => Told::Got(number, job),
-                Claim::Later => Told::Later,
-                Claim::Over => Told::Over,
-                Claim::Memory => Told::NoClaim,
-            }
+            Told::from(board.claim(worker))
         }
         Call::Post(_, job) => {
             if !held {
                 return Told::OutOfTurn;
             }
-            match board.post(worker, job) {
-                Ok(number) => Told::Posted(number),
-                Err(PostFault::Full(job)) => Told::Full(job),
-                Err(PostFault::Memory(job)) => Told::NoPost(job),
-            }
+            Told::from(board.post(worker, job))
         }
         Call::Give(_, row) => {
             if !held {

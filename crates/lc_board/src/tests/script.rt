@@ -1,4 +1,5 @@
 //! Scripts: who calls what on a board, and what each call is to answer.
+use crate::answers::{Claim, PostFault};
 
 /// The job of the root.
 pub const ROOT: u32 = 7;
@@ -38,6 +39,27 @@ pub enum Told {
     NoPost(u32),
     /// No such worker, or one that has claimed something where it should not, or the other way round.
     OutOfTurn,
+}
+
+impl From<Claim<u32>> for Told {
+    fn from(answer: Claim<u32>) -> Told {
+        match answer {
+            Claim::Got(number, job) => Told::Got(number, job),
+            Claim::Later => Told::Later,
+            Claim::Over => Told::Over,
+            Claim::Memory => Told::NoClaim,
+        }
+    }
+}
+
+impl From<Result<u32, PostFault<u32>>> for Told {
+    fn from(answer: Result<u32, PostFault<u32>>) -> Told {
+        match answer {
+            Ok(number) => Told::Posted(number),
+            Err(PostFault::Full(job)) => Told::Full(job),
+            Err(PostFault::Memory(job)) => Told::NoPost(job),
+        }
+    }
 }
 
 /// Two workers on a board of two numbers: the second waits for the first to post, and both find the end.

@@ -1,7 +1,7 @@
 //! The scripts on a board that workers share.
 ghost use Rattle.std.specs.Prelude.{◌≡◌, ◌≤◌, ◌<◌, Some};
 
-use crate::answers::{Claim, CloseFault, Closed, Ended, PostFault};
+use crate::answers::{CloseFault, Closed, Ended};
 use crate::limits::{MOST_NUMBERS, MOST_WORKERS};
 use crate::locked::Locked;
 use crate::shared::{Shared, Token};
@@ -24,22 +24,13 @@ pub fn tell<B: Shared<u32, u32>, W: Wait>(rt: &W, board: &B, pass: &mut B::Pass,
             if held {
                 return Told::OutOfTurn;
             }
-            match board.claim(rt, pass) {
-                Claim::Got(number, job) => Told::Got(number, job),
-                Claim::Later => Told::Later,
-                Claim::Over => Told::Over,
-                Claim::Memory => Told::NoClaim,
-            }
+            Told::from(board.claim(rt, pass))
         }
         Call::Post(_, job) => {
             if !held {
                 return Told::OutOfTurn;
             }
-            match board.post(rt, pass, job) {
-                Ok(number) => Told::Posted(number),
-                Err(PostFault::Full(job)) => Told::Full(job),
-                Err(PostFault::Memory(job)) => Told::NoPost(job),
-            }
+            Told::from(board.post(rt, pass, job))
         }
         Call::Give(_, row) => {
             if !held {

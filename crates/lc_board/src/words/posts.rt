@@ -9,7 +9,7 @@ use crate::words::pass::WordsPass;
 use crate::words::rule::{ABSENT, Draw, OPEN, Open};
 use crate::words::view::Slot;
 
-fn held_by(worker: u32) -> u64
+pub(crate) fn held_by(worker: u32) -> u64
     ensures { result ≡ 4 + 2 * worker }
 {
     4 + 2 * worker as u64

@@ -1,0 +1,236 @@
+//! Two workers on a board of three numbers, whose steps are made in every order that the bits of a number can name.
+ghost use Rattle.std.specs.Prelude.{◌≡◌, ◌≤◌, ◌<◌, Some, None};
+ghost use Rattle.lc_board.specs.Pass.{holding};
+
+use crate::answers::{CloseFault, Ended};
+use crate::locked::Locked;
+use crate::locked::pass::LockedPass;
+use crate::shared::{Shared, Token};
+use crate::tests::script::{Call, ROOT, Told};
+use crate::tests::shared_scripts::tell;
+use crate::words::Words;
+use crate::words::pass::WordsPass;
+use crate::words::rule::{ABSENT, OPEN};
+use std::alloc::{AllocError, Global};
+use std::process::Abort;
+use std::sync::Wait;
+use std::test::Fail;
+
+/// How many steps of each schedule are made in an order of its own. The rest are made in turns.
+const NAMED: u32 = 14;
+
+const STEPS: u32 = 72;
+
+/// What a worker remembers between two steps.
+#[derive(Clone, Copy, Drop)]
+struct Memory {
+    /// The job that it got last.
+    job: u32,
+    /// How often it tried to post under its claim.
+    tried: u32,
+    /// The number that it looks at next, or has just found open.
+    number: u32,
+    is_open: bool,
+}
+
+const NOTHING: Memory = Memory {
+    job: 0,
+    tried: 0,
+    number: 0,
+    is_open: false,
+};
+
+/// How a worker claims.
+trait Claims<B: Shared<u32, u32>> {
+    /// Makes one step of a claim.
+    fn step<W: Wait>(
+        rt: &W,
+        board: &B,
+        pass: &mut B::Pass,
+        memory: &mut Memory,
+    ) -> Result<(), AllocError>
+        requires pass { B.owns board.now pass.old }
+        requires free { holding (B.Pass.view pass.old) ≡ None }
+        ensures pass { B.owns board.now pass.new }
+        ensures worker { (B.Pass.view pass.new).worker ≡ (B.Pass.view pass.old).worker };
+}
+
+/// Claims by one call.
+fn claim_at_once<B: Shared<u32, u32>, W: Wait>(
+    rt: &W,
+    board: &B,
+    pass: &mut B::Pass,
+    memory: &mut Memory,
+) -> Result<(), AllocError>
+    requires { B.owns board.now pass.old }
+    ensures pass { B.owns board.now pass.new }
+    ensures worker { (B.Pass.view pass.new).worker ≡ (B.Pass.view pass.old).worker }
+{
+    match tell(rt, board, pass, Call::Claim(0)) {
+        Told::Got(_, job) => memory.job = job,
+        Told::NoClaim => return Err(AllocError),
+        _ => {}
+    }
+    Ok(())
+}
+
+/// A whole call is one step.
+struct AtOnce;
+
+impl Claims<Locked<u32, u32>> for AtOnce {
+    fn step<W: Wait>(
+        rt: &W,
+        board: &Locked<u32, u32>,
+        pass: &mut LockedPass<u32, u32>,
+        memory: &mut Memory,
+    ) -> Result<(), AllocError> {
+        claim_at_once(rt, board, pass, memory)
+    }
+}
+
+impl Claims<Words<u32, u32>> for AtOnce {
+    fn step<W: Wait>(
+        rt: &W,
+        board: &Words<u32, u32>,
+        pass: &mut WordsPass<u32, u32>,
+        memory: &mut Memory,
+    ) -> Result<(), AllocError> {
+        claim_at_once(rt, board, pass, memory)
+    }
+}
+
+/// Each look at a word, and each exchange, is a step.
+struct InSteps;
+
+impl Claims<Words<u32, u32>> for InSteps {
+    fn step<W: Wait>(
+        _rt: &W,
+        board: &Words<u32, u32>,
+        pass: &mut WordsPass<u32, u32>,
+        memory: &mut Memory,
+    ) -> Result<(), AllocError> {
+        let number = memory.number;
+        memory.number = 0;
+        if number >= board.capacity {
+            return Ok(());
+        }
+        if memory.is_open {
+            memory.is_open = false;
+            if let Ok(job) = board.try_claim(pass, number) {
+                memory.job = job;
+            }
+            return Ok(());
+        }
+        let found = board.look(pass, number);
+        memory.is_open = found == OPEN;
+        if found == OPEN {
+            memory.number = number;
+        } else if found != ABSENT {
+            memory.number = number + 1;
+        }
+        Ok(())
+    }
+}
+
+/// How many jobs are to be posted under a number: all together, one more than there is room for.
+fn wanted(number: u32) -> u32 {
+    if number == 0 { 2 } else { 1 }
+}
+
+/// Posts, returns the job that was got as the row, or makes a step of a claim.
+fn step<B: Shared<u32, u32>, C: Claims<B>, W: Wait>(
+    rt: &W,
+    board: &B,
+    pass: &mut B::Pass,
+    memory: &mut Memory,
+) -> Result<(), AllocError>
+    requires { B.owns board.now pass.old }
+    ensures pass { B.owns board.now pass.new }
+    ensures worker { (B.Pass.view pass.new).worker ≡ (B.Pass.view pass.old).worker }
+{
+    let number = match pass.holding() {
+        None => return C::step(rt, board, pass, memory),
+        Some(number) => number,
+    };
+    if memory.tried < wanted(number) {
+        memory.tried += 1;
+        return match tell(rt, board, pass, Call::Post(0, number)) {
+            Told::NoPost(_) => Err(AllocError),
+            _ => Ok(()),
+        };
+    }
+    memory.tried = 0;
+    let _ = tell(rt, board, pass, Call::Give(0, memory.job));
+    Ok(())
+}
+
+/// Makes the steps in the order of the schedule. The board ends with the root's job, a job posted under the root, and one posted under
+/// either of these.
+fn follow<B: Shared<u32, u32> + Drop, C: Claims<B>, R: Wait + Abort>(
+    rt: &R,
+    alloc: Global,
+    schedule: u32,
+) -> Result<(), AllocError> {
+    let (board, mut passes) = B::start(alloc, 3, 2, ROOT)?;
+    let mut memories = [NOTHING; 2];
+    for turn in 0..STEPS {
+        let worker = if turn < NAMED {
+            (schedule >> turn) & 1
+        } else {
+            turn & 1
+        } as usize;
+        assert!(rt; worker < passes.len() && worker < 2);
+        step::<B, C, R>(rt, &board, &mut passes[worker], &mut memories[worker])?;
+    }
+    match board.close(passes) {
+        Ok(closed) => {
+            let by_root = [
+                Ended::Returned(ROOT),
+                Ended::Returned(0),
+                Ended::Returned(0),
+            ];
+            let by_other = [
+                Ended::Returned(ROOT),
+                Ended::Returned(0),
+                Ended::Returned(1),
+            ];
+            let rows = closed.rows.as_slice();
+            assert!(rt;
+                rows == by_root.as_slice() || rows == by_other.as_slice(),
+                "{schedule}"
+            );
+        }
+        Err(CloseFault::Memory) => return Err(AllocError),
+        Err(fault) => assert!(rt; false, "{schedule}: {fault:?}"),
+    }
+    Ok(())
+}
+
+/// Every schedule.
+fn follow_all<B: Shared<u32, u32> + Drop, C: Claims<B>, R: Wait + Abort>(
+    rt: &R,
+    alloc: Global,
+) -> Result<(), AllocError> {
+    for schedule in 0..1 << NAMED {
+        follow::<B, C, R>(rt, alloc, schedule)?;
+    }
+    Ok(())
+}
+
+#[test]
+fn every_order_of_calls_on_locked(rt: HostRuntime) -> Result<(), Fail> {
+    follow_all::<Locked<u32, u32>, AtOnce, HostRuntime>(&rt, rt.alloc())?;
+    Ok(())
+}
+
+#[test]
+fn every_order_of_calls_on_words(rt: HostRuntime) -> Result<(), Fail> {
+    follow_all::<Words<u32, u32>, AtOnce, HostRuntime>(&rt, rt.alloc())?;
+    Ok(())
+}
+
+#[test]
+fn every_order_of_steps_on_words(rt: HostRuntime) -> Result<(), Fail> {
+    follow_all::<Words<u32, u32>, InSteps, HostRuntime>(&rt, rt.alloc())?;
+    Ok(())
+}
