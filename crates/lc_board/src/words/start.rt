@@ -16,7 +16,7 @@ use std::snapshot::Snapshot;
 fn word_row(alloc: Global, others: u32) -> Result<Vec<u64>, AllocError>
     ensures { IfOk result (λ v. v.items ≡ 1 ∷ replicate others 0) }
 {
-    let mut row = Vec::new(alloc);
+    let mut row = Vec::with_capacity(alloc, others as usize + 1)?;
     row.push(OPEN)?;
     for _ in 0..others {
         row.push(ABSENT)?;
@@ -31,7 +31,7 @@ fn slot_row<J: Drop, R: Drop>(
 ) -> Result<Vec<Slot<J, R>>, AllocError>
     ensures { IfOk result (λ v. v.items ≡ (Job root) ∷ replicate others Empty) }
 {
-    let mut row = Vec::new(alloc);
+    let mut row = Vec::with_capacity(alloc, others as usize + 1)?;
     row.push(Slot::Job(root))?;
     for _ in 0..others {
         row.push(Slot::Empty)?;
