@@ -17,7 +17,7 @@ use std::sync::Wait;
 use std::test::Fail;
 
 /// How many steps of each schedule are made in an order of its own. The rest are made in turns.
-const NAMED: u32 = 14;
+const NAMED: u32 = 16;
 
 const STEPS: u32 = 72;
 
