@@ -8,7 +8,7 @@ use Rattle.lc_board.specs.State.{Status, Absent, Open, status}
 use Rattle.lc_board.specs.LegalHistory.{IsLegal}
 use Rattle.lc_board.specs.Holding.{holding}
 use Rattle.lc_board.specs.Growth.{GoesOn, rank}
-use Rattle.lc_board.specs.WordSteps.{AddsEvent, Looks, Sees, OthersHeld, Waits, Missed, Visits, low_after, last_look}
+use Rattle.lc_board.specs.WordSteps.{IsFair, AddsEvent, Looks, Sees, OthersHeld, Waits, Missed, Visits, low_after, last_look}
 use Rattle.lc_board.specs.declared.event.Event.{Event}
 use Rattle.lc_board.specs.declared.event.Event.TheVariants.{Post, Claim, Over}
 use Rattle.lc_board.specs.declared.words.view.View.{View}
@@ -51,6 +51,7 @@ module _ {J R : Type 0} where
   -- what a claim that has gone up to i knows, where v is the view at the start
   pub record IsScan (cap start i : ℕ) (busy : Bool) (v w : View J R) : Type 0 where
     pub sees : Sees v w
+    pub fair : start < i → IsFair cap w
     pub at_start : w.low ≤ i
     pub ended : start < i → (k : ℕ) → k < w.low → rank (status w.seen k) ≡ 3
     pub past : (k : ℕ) → start ≤ k → k < i → (status v.seen k ≡ Absent) ⊎ (2 ≤ rank (status w.seen k))
@@ -78,6 +79,7 @@ module _ {J R : Type 0} where
   pub scan_begin : (cap i : ℕ) (v : View J R) → v.low ≡ i → IsScan cap v.low i false v v
   scan_begin cap i v e = record {
     sees = sees_self v;
+    fair = λ l. absurd (omega arith);
     at_start = omega arith;
     ended = λ l. absurd (omega arith);
     past = λ k a b. absurd (omega arith);
@@ -91,6 +93,7 @@ module _ {J R : Type 0} where
   pub scan_open : (cap start i : ℕ) (busy : Bool) (v u w : View J R) → IsScan cap start i busy v u → Missed cap i 1 u w → IsScan cap start i busy v w
   scan_open cap start i busy v u w s m = let l = looks_of cap i 1 u w m (last_open cap i u.low) in let same : w.low ≡ u.low = m.3 ∙ low_open cap i u.low 1 (inl (omega arith)) in record {
     sees = sees_trans v u w s.sees (l.0, l.1);
+    fair = λ _. l.2;
     at_start = let a = s.at_start in omega arith;
     ended = λ _. m.4;
     past = λ k a b. passed cap v u w k l (s.past k a b);
@@ -111,10 +114,10 @@ module _ {J R : Type 0} where
       (λ b. rank_two (status w.seen k) (let x = ended k (omega arith) in omega arith)))
 
   -- another was busy, and this word is absent
-  pub scan_later : (cap start i : ℕ) (v u w : View J R) → IsScan cap start i true v u → Missed cap i 0 u w → Waits v w
+  pub scan_later : (cap start i : ℕ) (v u w : View J R) → IsScan cap start i true v u → Missed cap i 0 u w → Waits cap v w
   scan_later cap start i v u w s m = let o = s.others refl in let b = o.1 in let l = looks_of cap i 0 u w m (last_no cap i u.low 0 b) in let sees = sees_trans v u w s.sees (l.0, l.1) in
       let same : w.low ≡ u.low = m.3 ∙ low_same cap i u.low 0 b in (
-        sees,
+        (sees.0, sees.1, l.2),
         past_all start i v w sees m.4 (let a = s.started in omega arith) (λ k a c. passed cap v u w k l (s.past k a c)) (λ k far. was_absent cap v w k l.2.0 sees.0 (m.6.0 refl k far)),
         others_on cap v u w o.0 l.0 m.0.3,
       )
@@ -135,6 +138,7 @@ module _ {J R : Type 0} where
       dite (dec_le 4 r)
       (λ far. let same : w.low ≡ u.low = m.3 ∙ low_open cap i u.low r (inr far) in record {
         sees = sees;
+        fair = λ _. l.2;
         at_start = omega arith;
         ended = λ _. m.4;
         past = past';
@@ -146,6 +150,7 @@ module _ {J R : Type 0} where
       (λ near. elim busy as (λ b. (b ≡ false → r < 4 → i + 1 < cap) → (b ≡ false → u.low ≡ i) → (b ≡ true → OthersHeld v u × (u.low < i)) → busy' ≡ b → IsScan cap start (i + 1) busy' v w) [
         | true ↦ λ _ _ o is. let b = (o refl).1 in let same : w.low ≡ u.low = m.3 ∙ low_same cap i u.low r b in record {
           sees = sees;
+          fair = λ _. l.2;
           at_start = omega arith;
           ended = λ _. m.4;
           past = past';
@@ -156,6 +161,7 @@ module _ {J R : Type 0} where
         }
         | false ↦ λ x c _ is. let next : w.low ≡ i + 1 = m.3 ∙ low_next cap i u.low r (c refl) (omega arith) (omega arith) (x refl (omega arith)) in record {
           sees = sees;
+          fair = λ _. l.2;
           at_start = omega arith;
           ended = λ _. m.4;
           past = past';
@@ -167,8 +173,8 @@ module _ {J R : Type 0} where
       ] more s.clear s.others (keeps_it (omega arith)))
 
   -- the end of the row
-  pub scan_end : (cap start i : ℕ) (v w : View J R) → IsScan cap start i true v w → i ≡ cap → Waits v w
-  scan_end cap start i v w s is = let b = (s.others refl).1 in let c = s.started in let on : start < i = omega arith in (s.sees, past_all start i v w s.sees (s.ended on) s.started s.past (λ k le. s.far on k (omega arith)), (s.others refl).0)
+  pub scan_end : (cap start i : ℕ) (v w : View J R) → IsScan cap start i true v w → i ≡ cap → Waits cap v w
+  scan_end cap start i v w s is = let b = (s.others refl).1 in let c = s.started in let on : start < i = omega arith in ((s.sees.0, s.sees.1, s.fair on), past_all start i v w s.sees (s.ended on) s.started s.past (λ k le. s.far on k (omega arith)), (s.others refl).0)
 
   post_to : (cap i worker worker' : ℕ) (o : Option ℕ) (job job' : J) (v u w : View J R) → worker' ≡ worker → job' ≡ job → Sees v u → IfSome o (λ p. AddsEvent cap u (Post worker' p i job') w) → IfSome o (λ p. AddsEvent cap v (Post worker p i job) w)
   post_to cap i worker worker' None job job' v u w a b s x = x
@@ -186,7 +192,7 @@ module _ {J R : Type 0} where
   claim_over cap start i r busy v u w off who s t last = let x = visited cap start i r busy v u w s t in
       subst (λ z. AddsEvent cap v (Over z) w) (x.3 ∙ who) (scan_over cap start i r v x.0 w (subst (λ b. IsScan cap start i b v x.0) off x.1) x.2 last)
 
-  pub claim_later : (cap start i r : ℕ) (busy : Bool) (v u w : View J R) → busy ≡ true → r ≡ 0 → IsScan cap start i busy v u → Visits cap i r u w → Waits v w
+  pub claim_later : (cap start i r : ℕ) (busy : Bool) (v u w : View J R) → busy ≡ true → r ≡ 0 → IsScan cap start i busy v u → Visits cap i r u w → Waits cap v w
   claim_later cap start i r busy v u w on is s t = let x = visited cap start i r busy v u w s t in
       scan_later cap start i v x.0 w (subst (λ b. IsScan cap start i b v x.0) on x.1) (subst (λ z. Missed cap i z x.0 w) is x.2)
 
@@ -194,7 +200,7 @@ module _ {J R : Type 0} where
       → (4 ≤ r → busy' ≡ true) → (r < 4 → busy' ≡ busy) → IsScan cap start (i + 1) busy' v w
   claim_next cap start i r busy busy' v u w s t free a b c d e = let x = visited cap start i r busy v u w s t in scan_next cap start i r busy busy' v x.0 w x.1 x.2 free a b c d e
 
-  pub claim_end : (cap start i : ℕ) (busy : Bool) (v w : View J R) → IsScan cap start i busy v w → w.low < cap → i ≡ cap → Waits v w
+  pub claim_end : (cap start i : ℕ) (busy : Bool) (v w : View J R) → IsScan cap start i busy v w → w.low < cap → i ≡ cap → Waits cap v w
   claim_end cap start i busy v w s low is = scan_end cap start i v w (subst (λ b. IsScan cap start i b v w) (go busy refl) s) is
     where
       go : (b : Bool) → busy ≡ b → busy ≡ true

@@ -57,8 +57,8 @@ module _ {J R : Type 0} where
   OthersHeld v w = (h : List (Event J R)) × (p u : ℕ) × GoesOn h v.seen × GoesOn w.seen h × (u ≢ w.worker) × (status h p ≡ Claimed u)
 
   -- no number that had been seen posted is open, and another worker held a claim meanwhile
-  abbrev pub Waits : View J R → View J R → Type 0
-  Waits v w = Sees v w × ((k : ℕ) → status v.seen k ≢ Absent → status w.seen k ≢ Open) × OthersHeld v w
+  abbrev pub Waits : ℕ → View J R → View J R → Type 0
+  Waits cap v w = Looks cap v w × ((k : ℕ) → status v.seen k ≢ Absent → status w.seen k ≢ Open) × OthersHeld v w
 
   -- the word found says what the number is in the history then seen
   abbrev pub Finds : ℕ → ℕ → View J R → Type 0

@@ -29,6 +29,6 @@ module _ {J R : Type 0} where
   -- what a claim answers: the event that it added, or that another worker held a claim meanwhile. It never wants memory
   abbrev pub AnswersWords : ℕ → View J R → View J R → Option ℕ → Claim J → Type 0
   AnswersWords cap v w holding (answer.Got i j) = (holding ≡ Some i) × AddsEvent cap v (event.Claim v.worker i j) w
-  AnswersWords cap v w holding answer.Later = (holding ≡ None) × Waits v w
+  AnswersWords cap v w holding answer.Later = (holding ≡ None) × Waits cap v w
   AnswersWords cap v w holding answer.Over = (holding ≡ None) × AddsEvent cap v (event.Over v.worker) w
   AnswersWords cap v w holding answer.Memory = ⊥
