@@ -1,9 +1,11 @@
 //! A number is drawn and opened.
 ghost use Rattle.std.specs.Prelude.{◌≡◌, ℕ, ◌+◌, ◌*◌, ◌<◌, MatchResult, IfSome, IsSome};
+ghost use Rattle.lc_board.specs.declared.answers.PostFault.TheVariants.{Full};
 ghost use Rattle.lc_board.specs.declared.event.Event.TheVariants.{Post};
 ghost use Rattle.lc_board.specs.WordSteps.{AddsEvent, Looks, Sees};
 ghost use Rattle.lc_board.specs.WordsBoard.{IsPassOf, IsSamePass, known};
 
+use crate::answers::PostFault;
 use crate::words::Words;
 use crate::words::pass::WordsPass;
 use crate::words::rule::{ABSENT, Draw, OPEN, Open};
@@ -45,14 +47,14 @@ impl<J, R> Words<J, R> {
     }
 
     /// Posts the job at the least number, at or above the front of the pass, that is not used. Where all numbers are used it hands the
-    /// job back. It waits for nobody and takes no memory.
-    pub fn post(&self, pass: &mut WordsPass<J, R>, mut job: J) -> Result<u32, J>
+    /// job back. It waits for nobody, takes no memory and never answers Memory.
+    pub fn post(&self, pass: &mut WordsPass<J, R>, mut job: J) -> Result<u32, PostFault<J>>
         requires board { IsPassOf self.now pass.old }
         requires holds { IsSome pass.old.holding }
         ensures board { IsSamePass pass.old pass.new × (pass.new.holding ≡ pass.old.holding) }
         ensures rule { MatchResult result
             (λ i. (pass.new.posted ≡ pass.old.posted + 1) × IfSome pass.old.holding (λ p. AddsEvent self.now.capacity (known pass.old) (Post pass.old.worker p i job) (known pass.new)))
-            (λ j. (j ≡ job) × (pass.new.posted ≡ pass.old.posted) × Sees (known pass.old) (known pass.new) × ((known pass.new).front ≡ self.now.capacity)) }
+            (λ f. (f ≡ Full job) × (pass.new.posted ≡ pass.old.posted) × Sees (known pass.old) (known pass.new) × ((known pass.new).front ≡ self.now.capacity)) }
     {
         while pass.front < self.capacity {
             match self.try_post(pass, job) {
@@ -60,6 +62,6 @@ impl<J, R> Words<J, R> {
                 Err(back) => job = back,
             }
         }
-        Err(job)
+        Err(PostFault::Full(job))
     }
 }

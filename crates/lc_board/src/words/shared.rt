@@ -58,10 +58,11 @@ impl<J: Drop + Send, R: Drop + Send> Shared<J, R> for Words<J, R> {
     ) -> Result<u32, PostFault<J>> {
         match Words::post(self, pass, job) {
             Ok(number) => Ok(number),
-            Err(job) => {
+            Err(PostFault::Full(job)) => {
                 pass.full = true;
                 Err(PostFault::Full(job))
             }
+            _ => unreachable!(),
         }
     }
 

@@ -1,4 +1,5 @@
 use Rattle.std.proofs.Common.{arith, ap, ◌∙◌, ◌+◌}
+use Rattle.lc_board.specs.declared.answers.PostFault.TheVariants.{Full}
 use Rattle.lc_board.proofs.WordScans.{post_through, sees_trans}
 use Rattle.lc_board.proofs.words.Words.post.Goals as goal
 
@@ -8,7 +9,7 @@ returns-in-Ok-clause-rule g c = let inv = c.loop-pass.invariant in let did = c.i
 
 pub returns-clause-rule : goal.returns-clause-rule
 returns-clause-rule g c = let inv = c.loop-pass.invariant in let t = c.loop-pass.pass.ties in let w = t.within in let sq = c.args.self.now.square in let own = ap (λ z. z.slots) (inv.own ∙ c.requires.board) in
-    (inv.job, inv.posted, inv.sees, omega (arith, t.fronted, c.loop-pass-test.false))
+    (ap Full inv.job, inv.posted, inv.sees, omega (arith, t.fronted, c.loop-pass-test.false))
 
 pub loop-pass-preserved : goal.loop-pass-preserved
 loop-pass-preserved g c = let inv = c.loop-pass.invariant in let same = c.in-Err.ensures.board in let told = c.in-Err.ensures.rule in record {
