@@ -21,5 +21,6 @@ pub mod WordEnds
 pub mod WordSeats
 pub mod WordTies
 pub mod WordScans
+pub mod WordMarks
 pub mod WordCloses
 pub mod WordStarts

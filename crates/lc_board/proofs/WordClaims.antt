@@ -1,5 +1,5 @@
 -- A look at a word keeps the row of words, and so does a claim of an open number.
-use Rattle.std.proofs.Common.{◌≡◌, ◌≢◌, ℕ, eqb, subst, ◌+◌, ◌*◌, ◌<◌, ◌≤◌, ◌⊎◌, Bool, true, false, List, [], ◌∷◌, length, get_or, set, sym, refl, ap, ◌∙◌, inl, inr, ⊎_elim, arith, length-set, Option, Some, None}
+use Rattle.std.proofs.Common.{◌≡◌, ◌≢◌, ℕ, eqb, subst, ◌+◌, ◌*◌, ◌%◌, ◌<◌, ◌≤◌, ◌⊎◌, Bool, true, false, List, [], ◌∷◌, length, get_or, set, sym, refl, ap, ◌∙◌, inl, inr, ⊎_elim, arith, length-set, Option, Some, None}
 use mathlib.Core.Logic.{dite}
 use mathlib.Core.Option.{some, none}
 use native.Mathlib.Decide.{ℕ_discrete, dec_lt}
@@ -57,6 +57,14 @@ is_busy (plain Open) a = absurd (omega arith)
 is_busy (plain (Claimed w)) a = (w, inr refl)
 is_busy (plain Returned) a = absurd (omega arith)
 is_busy (plain Faulted) a = absurd (omega arith)
+
+is_claimed : (c : Face) → 4 ≤ code c → code c % 2 ≡ 1 → rank (shown c) ≡ 2
+is_claimed (held w) a b = absurd (omega arith)
+is_claimed (plain Absent) a b = absurd (omega arith)
+is_claimed (plain Open) a b = absurd (omega arith)
+is_claimed (plain (Claimed w)) a b = refl
+is_claimed (plain Returned) a b = absurd (omega arith)
+is_claimed (plain Faulted) a b = absurd (omega arith)
 
 low_tells : (cap i low r z : ℕ) → z < low_after cap i low r → (z < low) ⊎ ((z ≡ i) × (2 ≤ r) × (r < 4))
 low_tells cap i low r z h = grind (arith, nat_tests)
@@ -138,6 +146,7 @@ module _ {J R : Type 0} where
         (λ e k le. same k ∙ (r.agrees k ∙ ap shown (r.together i k le (is_absent (r.faces i) (face ∙ e))))),
         (λ e. same i ∙ (r.agrees i ∙ ap shown (is_open (r.faces i) (face ∙ e)))),
         (λ a b. ap rank (same i ∙ r.agrees i) ∙ is_ended (r.faces i) (omega arith) (omega arith)),
+        (λ a odd. ap rank (same i ∙ r.agrees i) ∙ is_claimed (r.faces i) (omega arith) (ap (λ n. n % 2) face ∙ odd)),
         (λ a. let b = is_busy (r.faces i) (omega arith) in ⊎_elim
             (λ (e : r.faces i ≡ held b.0). let p = r.busy i b.0 e in (inl (same i ∙ (r.agrees i ∙ ap shown e)), mine p.0 b.0 p.1))
             (λ (e : r.faces i ≡ plain (Claimed b.0)). (inr (ap rank (same i ∙ (r.agrees i ∙ ap shown e))), mine i b.0 (r.agrees i ∙ ap shown e))) b.1),

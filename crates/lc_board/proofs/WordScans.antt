@@ -2,19 +2,23 @@
 use Rattle.std.proofs.Common.{◌≡◌, ◌≢◌, ℕ, ◌+◌, ◌<◌, ◌≤◌, ◌⊎◌, Bool, true, false, ◌∷◌, refl, ap, sym, ◌∙◌, subst, inl, inr, ⊎_elim, Option, Some, None, arith}
 use mathlib.Core.Logic.{dite}
 use native.Mathlib.Decide.{ℕ_discrete, dec_le}
-use Rattle.std.specs.Prelude.{MatchBool, IfSome, MatchResult, Result, Ok, Err}
+use Rattle.std.specs.Prelude.{MatchBool, IfSome, IfNone, MatchResult, Result, Ok, Err}
 use Rattle.std.proofs.lemmas.Bool.Decides.{nat_tests}
 use Rattle.lc_board.specs.State.{Status, Absent, Open, status}
 use Rattle.lc_board.specs.LegalHistory.{IsLegal}
 use Rattle.lc_board.specs.Holding.{holding}
 use Rattle.lc_board.specs.Growth.{GoesOn, rank}
-use Rattle.lc_board.specs.WordSteps.{IsFair, AddsEvent, Looks, Sees, OthersHeld, Waits, Missed, Visits, low_after, last_look}
+use Rattle.lc_board.specs.WordSteps.{IsFair, AddsEvent, Looks, Sees, OthersHeld, Waits, Missed, low_after, last_look}
+use Rattle.lc_board.specs.WordMarks.{AnswersLow, HasPassed}
+use Rattle.lc_board.specs.WordsBoard.{AnswersWords}
+use Rattle.lc_board.specs.declared.answers.Claim.{Claim as Answer}
+use Rattle.lc_board.specs.declared.answers.Claim.TheVariants as answer
 use Rattle.lc_board.specs.declared.event.Event.{Event}
 use Rattle.lc_board.specs.declared.event.Event.TheVariants.{Post, Claim, Over}
 use Rattle.lc_board.specs.declared.words.view.View.{View}
 use Rattle.lc_board.proofs.Growths.{rank_from, whole, goes_trans, rank_zero}
 
-last_no : (cap i low r : ℕ) → low < i → last_look cap i low r ≡ false
+last_no : (cap i low r : ℕ) → low ≢ i → last_look cap i low r ≡ false
 last_no cap i low r h = grind (arith, nat_tests)
 
 last_open : (cap i low : ℕ) → last_look cap i low 1 ≡ false
@@ -26,17 +30,26 @@ last_yes cap i low r e h = grind (arith, nat_tests)
 last_not : (cap i low r : ℕ) → r ≢ 0 → ((r < 4) → i + 1 < cap) → last_look cap i low r ≡ false
 last_not cap i low r a b = grind (arith, nat_tests)
 
-low_same : (cap i low r : ℕ) → low < i → low_after cap i low r ≡ low
-low_same cap i low r h = grind (arith, nat_tests)
+low_open : (cap i low : ℕ) → low_after cap i low 1 ≡ low
+low_open cap i low = grind (arith, nat_tests)
 
-low_open : (cap i low r : ℕ) → (r < 2) ⊎ (4 ≤ r) → low_after cap i low r ≡ low
-low_open cap i low r h = grind (arith, nat_tests)
-
-low_next : (cap i low r : ℕ) → low ≡ i → 2 ≤ r → r < 4 → i + 1 < cap → low_after cap i low r ≡ i + 1
+pub low_next : (cap i low r : ℕ) → low ≡ i → 2 ≤ r → r < 4 → i + 1 < cap → low_after cap i low r ≡ i + 1
 low_next cap i low r e a b c = grind (arith, nat_tests)
+
+pub not_last : (cap i low r : ℕ) → r ≢ 0 → (low ≡ i → r < 4 → i + 1 < cap) → last_look cap i low r ≡ false
+not_last cap i low r some_word more = dite (ℕ_discrete low i) (λ e. last_not cap i low r some_word (more e)) (λ ne. last_no cap i low r ne)
 
 rank_two : (m : Status) → 2 ≤ rank m → m ≢ Open
 rank_two m h e = let x = ap rank e in omega arith
+
+-- what an answer says where it is Later for who met somebody busy, and else none
+pub some_later : {J : Type 0} (b : Bool) (x : Option (Answer J)) (P : Answer J → Type 0) → MatchBool b (x ≡ Some answer.Later) (x ≡ None) → (b ≡ true → P answer.Later) → IfSome x P
+some_later true x P e y = subst (λ z. IfSome z P) (sym e) (y refl)
+some_later false x P e y = subst (λ z. IfSome z P) (sym e) tt
+
+pub none_later : {J : Type 0} (b : Bool) (x : Option (Answer J)) (P : Type 0) → MatchBool b (x ≡ Some answer.Later) (x ≡ None) → P → IfNone x P
+none_later true x P e y = subst (λ z. IfNone z P) (sym e) tt
+none_later false x P e y = subst (λ z. IfNone z P) (sym e) y
 
 module _ {J R : Type 0} where
   pub sees_adds : (cap : ℕ) (v u w : View J R) (e : Event J R) → Sees v u → AddsEvent cap u e w → AddsEvent cap v e w
@@ -52,12 +65,9 @@ module _ {J R : Type 0} where
   pub record IsScan (cap start i : ℕ) (busy : Bool) (v w : View J R) : Type 0 where
     pub sees : Sees v w
     pub fair : start < i → IsFair cap w
-    pub at_start : w.low ≤ i
-    pub ended : start < i → (k : ℕ) → k < w.low → rank (status w.seen k) ≡ 3
+    pub below : (k : ℕ) → k < start → 2 ≤ rank (status w.seen k)
     pub past : (k : ℕ) → start ≤ k → k < i → (status v.seen k ≡ Absent) ⊎ (2 ≤ rank (status w.seen k))
-    pub clear : busy ≡ false → w.low ≡ i
-    pub others : busy ≡ true → OthersHeld v w × (w.low < i)
-    pub started : start ≤ w.low
+    pub others : busy ≡ true → OthersHeld v w × (start < i)
     pub far : start < i → (k : ℕ) → cap ≤ k → status v.seen k ≡ Absent
 
   looks_of : (cap i r : ℕ) (v w : View J R) → Missed cap i r v w → last_look cap i v.low r ≡ false → Looks cap v w
@@ -76,105 +86,123 @@ module _ {J R : Type 0} where
   others_on : (cap : ℕ) (v u w : View J R) → OthersHeld v u → GoesOn w.seen u.seen → w.worker ≡ u.worker → OthersHeld v w
   others_on cap v u w o s e = (o.0, o.1, o.2, o.3, goes_trans w.seen u.seen o.0 s o.4, (λ x. o.5 (x ∙ e)), o.6)
 
-  pub scan_begin : (cap i : ℕ) (v : View J R) → v.low ≡ i → IsScan cap v.low i false v v
-  scan_begin cap i v e = record {
+  -- what is taken stays taken
+  kept : (cap : ℕ) (u w : View J R) (k : ℕ) → Looks cap u w → 2 ≤ rank (status u.seen k) → 2 ≤ rank (status w.seen k)
+  kept cap u w k l a = let g = rank_from cap w.crew w.seen u.seen l.2.0 l.0 k in omega arith
+
+  pub scan_begin : (cap i : ℕ) (v : View J R) → ((k : ℕ) → k < i → 2 ≤ rank (status v.seen k)) → IsScan cap i i false v v
+  scan_begin cap i v used = record {
     sees = sees_self v;
     fair = λ l. absurd (omega arith);
-    at_start = omega arith;
-    ended = λ l. absurd (omega arith);
+    below = used;
     past = λ k a b. absurd (omega arith);
-    clear = λ _. e;
     others = λ x. absurd cc;
-    started = omega arith;
     far = λ l. absurd (omega arith);
   }
 
-  -- the word was open, and then the exchange failed or not
-  pub scan_open : (cap start i : ℕ) (busy : Bool) (v u w : View J R) → IsScan cap start i busy v u → Missed cap i 1 u w → IsScan cap start i busy v w
-  scan_open cap start i busy v u w s m = let l = looks_of cap i 1 u w m (last_open cap i u.low) in let same : w.low ≡ u.low = m.3 ∙ low_open cap i u.low 1 (inl (omega arith)) in record {
-    sees = sees_trans v u w s.sees (l.0, l.1);
-    fair = λ _. l.2;
-    at_start = let a = s.at_start in omega arith;
-    ended = λ _. m.4;
-    past = λ k a b. passed cap v u w k l (s.past k a b);
-    clear = λ e. same ∙ s.clear e;
-    others = λ e. let o = s.others e in let b = o.1 in (others_on cap v u w o.0 l.0 m.0.3, omega arith);
-    started = let a = s.started in omega arith;
-    far = λ _ k f. was_absent cap v w k l.2.0 (sees_trans v u w s.sees (l.0, l.1)).0 (m.5 k f);
-  }
-
   -- it is over
-  pub scan_over : (cap start i r : ℕ) (v u w : View J R) → IsScan cap start i false v u → Missed cap i r u w → (r ≡ 0) ⊎ ((2 ≤ r) × (r < 4) × (i + 1 ≡ cap)) → AddsEvent cap v (Over u.worker) w
-  scan_over cap start i r v u w s m last = sees_adds cap v u w (Over u.worker) s.sees (over_of cap i r u w m (last_yes cap i u.low r (s.clear refl) last))
+  pub scan_over : (cap start i r : ℕ) (busy : Bool) (v u w : View J R) → u.worker ≡ v.worker → IsScan cap start i busy v u → u.low ≡ i → Missed cap i r u w → (r ≡ 0) ⊎ ((2 ≤ r) × (r < 4) × (i + 1 ≡ cap)) → AddsEvent cap v (Over v.worker) w
+  scan_over cap start i r busy v u w who s low m last =
+      subst (λ z. AddsEvent cap v (Over z) w) who (sees_adds cap v u w (Over u.worker) s.sees (over_of cap i r u w m (last_yes cap i u.low r low last)))
 
-  past_all : (start i : ℕ) (v w : View J R) → Sees v w → ((k : ℕ) → k < w.low → rank (status w.seen k) ≡ 3) → start ≤ w.low → ((k : ℕ) → start ≤ k → k < i → (status v.seen k ≡ Absent) ⊎ (2 ≤ rank (status w.seen k)))
-      → ((k : ℕ) → i ≤ k → status v.seen k ≡ Absent) → (k : ℕ) → status v.seen k ≢ Absent → status w.seen k ≢ Open
-  past_all start i v w sees ended started past rest k there = dite (dec_le i k) (λ far. absurd (there (rest k far)))
-      (λ near. dite (dec_le start k) (λ a. ⊎_elim (λ (e : status v.seen k ≡ Absent). absurd (there e)) (λ (e : 2 ≤ rank (status w.seen k)). rank_two (status w.seen k) e) (past k a (omega arith)))
-      (λ b. rank_two (status w.seen k) (let x = ended k (omega arith) in omega arith)))
+  -- what has been passed, where the rest is absent
+  all_passed : (cap start i : ℕ) (busy : Bool) (v w : View J R) → IsScan cap start i busy v w → ((k : ℕ) → i ≤ k → k < cap → status v.seen k ≡ Absent) → HasPassed cap v w
+  all_passed cap start i busy v w s rest = (
+    s.sees,
+    λ k near there. dite (dec_le i k) (λ far. absurd (there (rest k far near)))
+        (λ low. dite (dec_le start k) (λ a. ⊎_elim (λ (e : status v.seen k ≡ Absent). absurd (there e)) (λ (e : 2 ≤ rank (status w.seen k)). e) (s.past k a (omega arith)))
+        (λ b. s.below k (omega arith))),
+  )
 
-  -- another was busy, and this word is absent
-  pub scan_later : (cap start i : ℕ) (v u w : View J R) → IsScan cap start i true v u → Missed cap i 0 u w → Waits cap v w
-  scan_later cap start i v u w s m = let o = s.others refl in let b = o.1 in let l = looks_of cap i 0 u w m (last_no cap i u.low 0 b) in let sees = sees_trans v u w s.sees (l.0, l.1) in
-      let same : w.low ≡ u.low = m.3 ∙ low_same cap i u.low 0 b in (
-        (sees.0, sees.1, l.2),
-        past_all start i v w sees m.4 (let a = s.started in omega arith) (λ k a c. passed cap v u w k l (s.past k a c)) (λ k far. was_absent cap v w k l.2.0 sees.0 (m.6.0 refl k far)),
-        others_on cap v u w o.0 l.0 m.0.3,
+  waits : (cap : ℕ) (v w : View J R) → HasPassed cap v w → IsFair cap w → ((k : ℕ) → cap ≤ k → status v.seen k ≡ Absent) → OthersHeld v w → Waits cap v w
+  waits cap v w p f far o = (
+    (p.0.0, p.0.1, f),
+    (λ k there. dite (dec_le cap k) (λ x. absurd (there (far k x))) (λ x. rank_two (status w.seen k) (p.1 k (omega arith) there))),
+    o,
+  )
+
+  -- one more look, by which nothing was claimed and nothing is over
+  scan_moved : (cap start i r : ℕ) (busy : Bool) (v u w : View J R) → IsScan cap start i busy v u → Missed cap i r u w → Looks cap u w → Sees v w × ((k : ℕ) → k < start → 2 ≤ rank (status w.seen k)) × ((k : ℕ) → start ≤ k → k < i → (status v.seen k ≡ Absent) ⊎ (2 ≤ rank (status w.seen k))) × ((k : ℕ) → cap ≤ k → status v.seen k ≡ Absent)
+  scan_moved cap start i r busy v u w s m l = let sees = sees_trans v u w s.sees (l.0, l.1) in (
+    sees,
+    (λ k a. kept cap u w k l (s.below k a)),
+    (λ k a b. passed cap v u w k l (s.past k a b)),
+    (λ k f. was_absent cap v w k l.2.0 sees.0 (m.5 k f)),
+  )
+
+  -- this word is absent
+  scan_absent : (cap start i : ℕ) (busy : Bool) (v u w : View J R) → IsScan cap start i busy v u → Missed cap i 0 u w → u.low ≢ i → HasPassed cap v w × IsFair cap w × ((k : ℕ) → cap ≤ k → status v.seen k ≡ Absent) × (busy ≡ true → OthersHeld v w)
+  scan_absent cap start i busy v u w s m low = let l = looks_of cap i 0 u w m (last_no cap i u.low 0 low) in let t = scan_moved cap start i 0 busy v u w s m l in
+      let sees = t.0 in (
+        (
+          sees,
+          λ k near there. dite (dec_le i k) (λ far. absurd (there (was_absent cap v w k l.2.0 sees.0 (m.6.0 refl k far))))
+              (λ x. dite (dec_le start k) (λ a. ⊎_elim (λ (e : status v.seen k ≡ Absent). absurd (there e)) (λ (e : 2 ≤ rank (status w.seen k)). e) (t.2 k a (omega arith)))
+              (λ b. t.1 k (omega arith))),
+        ),
+        l.2,
+        t.3,
+        (λ on. others_on cap v u w (s.others on).0 l.0 m.0.3),
       )
 
   -- the next word
-  pub scan_next : (cap start i r : ℕ) (busy busy' : Bool) (v u w : View J R) → IsScan cap start i busy v u → Missed cap i r u w → holding v.mine ≡ None → r ≢ 0 → r ≢ 1 → (busy ≡ false → r < 4 → i + 1 < cap)
+  pub scan_next : (cap start i r : ℕ) (busy busy' : Bool) (v u w : View J R) → start ≤ i → IsScan cap start i busy v u → Missed cap i r u w → last_look cap i u.low r ≡ false → holding v.mine ≡ None → r ≢ 0 → r ≢ 1
       → (4 ≤ r → busy' ≡ true) → (r < 4 → busy' ≡ busy) → IsScan cap start (i + 1) busy' v w
-  scan_next cap start i r busy busy' v u w s m free some_word not_open more sets keeps_it =
-      let no : last_look cap i u.low r ≡ false = elim busy as (λ b. (b ≡ false → r < 4 → i + 1 < cap) → (b ≡ true → u.low < i) → last_look cap i u.low r ≡ false)
-      [ true ↦ λ _ y. last_no cap i u.low r (y refl) | false ↦ λ x _. last_not cap i u.low r some_word (x refl) ] more (λ e. (s.others e).1) in
-      let l = looks_of cap i r u w m no in let sees = sees_trans v u w s.sees (l.0, l.1) in
-      let past' : (k : ℕ) → start ≤ k → k < i + 1 → (status v.seen k ≡ Absent) ⊎ (2 ≤ rank (status w.seen k)) = (λ k a b. dite (ℕ_discrete k i)
-      (λ is. subst (λ z. (status v.seen z ≡ Absent) ⊎ (2 ≤ rank (status w.seen z))) (sym is) (dite (dec_le 4 r)
-      (λ far. ⊎_elim (λ (e : status w.seen i ≡ Absent). inl (was_absent cap v w i l.2.0 sees.0 e)) (λ (e : rank (status w.seen i) ≡ 2). inr (omega arith)) (m.6.3 far).0)
-      (λ near. inr (let x = m.6.2 (omega arith) (omega arith) in omega arith))))
-      (λ ne. passed cap v u w k l (s.past k a (omega arith)))) in
-      let a0 = s.at_start in let b0 = s.started in
-      dite (dec_le 4 r)
-      (λ far. let same : w.low ≡ u.low = m.3 ∙ low_open cap i u.low r (inr far) in record {
+  scan_next cap start i r busy busy' v u w from s m goes free some_word not_open sets keeps_it =
+      let l = looks_of cap i r u w m goes in let t = scan_moved cap start i r busy v u w s m l in let sees = t.0 in record {
         sees = sees;
         fair = λ _. l.2;
-        at_start = omega arith;
-        ended = λ _. m.4;
-        past = past';
-        clear = λ e. let x = sym e ∙ sets far in absurd cc;
-        others = λ _. let o = (m.6.3 far).1 in ((w.seen, o.0, o.1, sees.0, whole w.seen, o.3 (ap holding sees.1 ∙ free), o.2), omega arith);
-        started = omega arith;
-        far = λ _ k f. was_absent cap v w k l.2.0 sees.0 (m.5 k f);
-      })
-      (λ near. elim busy as (λ b. (b ≡ false → r < 4 → i + 1 < cap) → (b ≡ false → u.low ≡ i) → (b ≡ true → OthersHeld v u × (u.low < i)) → busy' ≡ b → IsScan cap start (i + 1) busy' v w) [
-        | true ↦ λ _ _ o is. let b = (o refl).1 in let same : w.low ≡ u.low = m.3 ∙ low_same cap i u.low r b in record {
-          sees = sees;
-          fair = λ _. l.2;
-          at_start = omega arith;
-          ended = λ _. m.4;
-          past = past';
-          clear = λ e. let x = sym e ∙ is in absurd cc;
-          others = λ _. (others_on cap v u w (o refl).0 l.0 m.0.3, omega arith);
-          started = omega arith;
-          far = λ _ k f. was_absent cap v w k l.2.0 sees.0 (m.5 k f);
-        }
-        | false ↦ λ x c _ is. let next : w.low ≡ i + 1 = m.3 ∙ low_next cap i u.low r (c refl) (omega arith) (omega arith) (x refl (omega arith)) in record {
-          sees = sees;
-          fair = λ _. l.2;
-          at_start = omega arith;
-          ended = λ _. m.4;
-          past = past';
-          clear = λ _. next;
-          others = λ e. let y = sym e ∙ is in absurd cc;
-          started = omega arith;
-          far = λ _ k f. was_absent cap v w k l.2.0 sees.0 (m.5 k f);
-        }
-      ] more s.clear s.others (keeps_it (omega arith)))
+        below = t.1;
+        past = λ k a b. dite (ℕ_discrete k i)
+            (λ is. subst (λ z. (status v.seen z ≡ Absent) ⊎ (2 ≤ rank (status w.seen z))) (sym is) (dite (dec_le 4 r)
+            (λ far. ⊎_elim (λ (e : status w.seen i ≡ Absent). inl (was_absent cap v w i l.2.0 sees.0 e)) (λ (e : rank (status w.seen i) ≡ 2). inr (omega arith)) (m.6.4 far).0)
+            (λ near. inr (let x = m.6.2 (omega arith) (omega arith) in omega arith))))
+            (λ ne. t.2 k a (omega arith));
+        others = λ on. (
+          dite (dec_le 4 r)
+              (λ far. let o = (m.6.4 far).1 in (w.seen, o.0, o.1, sees.0, whole w.seen, o.3 (ap holding sees.1 ∙ free), o.2))
+              (λ near. others_on cap v u w (s.others (sym (keeps_it (omega arith)) ∙ on)).0 l.0 m.0.3),
+          omega arith,
+        );
+        far = λ _. t.3;
+      }
+
+  pub later_absent : (cap start i r : ℕ) (busy : Bool) (v u w : View J R) → IsScan cap start i busy v u → Missed cap i r u w → r ≡ 0 → u.low ≢ i → busy ≡ true → Waits cap v w
+  later_absent cap start i r busy v u w s m is low on = let x = scan_absent cap start i busy v u w s (subst (λ z. Missed cap i z u w) is m) low in waits cap v w x.0 x.1 x.2 (x.3 on)
+
+  pub passed_absent : (cap start i r : ℕ) (busy : Bool) (v u w : View J R) → IsScan cap start i busy v u → Missed cap i r u w → r ≡ 0 → u.low ≢ i → HasPassed cap v w
+  passed_absent cap start i r busy v u w s m is low = (scan_absent cap start i busy v u w s (subst (λ z. Missed cap i z u w) is m) low).0
 
   -- the end of the row
-  pub scan_end : (cap start i : ℕ) (v w : View J R) → IsScan cap start i true v w → i ≡ cap → Waits cap v w
-  scan_end cap start i v w s is = let b = (s.others refl).1 in let c = s.started in let on : start < i = omega arith in ((s.sees.0, s.sees.1, s.fair on), past_all start i v w s.sees (s.ended on) s.started s.past (λ k le. s.far on k (omega arith)), (s.others refl).0)
+  pub passed_end : (cap start i : ℕ) (busy : Bool) (v w : View J R) → IsScan cap start i busy v w → cap ≤ i → HasPassed cap v w
+  passed_end cap start i busy v w s is = all_passed cap start i busy v w s (λ k a b. absurd (omega arith))
+
+  pub later_end : (cap start i : ℕ) (busy : Bool) (v w : View J R) → IsScan cap start i busy v w → cap ≤ i → busy ≡ true → Waits cap v w
+  later_end cap start i busy v w s is on = let o = s.others on in waits cap v w (passed_end cap start i busy v w s is) (s.fair o.1) (s.far o.1) o.0
+
+  -- another is busy with the lowest number that has not ended
+  pub low_busy : (cap i r : ℕ) (v u w : View J R) → Sees v u → Missed cap i r u w → holding v.mine ≡ None → 4 ≤ r → Looks cap v w × OthersHeld v w × ((k : ℕ) → cap ≤ k → status w.seen k ≡ Absent)
+  low_busy cap i r v u w s m free far = let l = looks_of cap i r u w m (last_not cap i u.low r (λ e. omega arith) (λ x. absurd (omega arith))) in let sees = sees_trans v u w s (l.0, l.1) in let o = (m.6.4 far).1 in (
+    (sees.0, sees.1, l.2),
+    (w.seen, o.0, o.1, sees.0, whole w.seen, o.3 (ap holding sees.1 ∙ free), o.2),
+    m.5,
+  )
+
+  pub low_over : (cap i r : ℕ) (v u w : View J R) → u.worker ≡ v.worker → Sees v u → Missed cap i r u w → u.low ≡ i → (r ≡ 0) ⊎ ((2 ≤ r) × (r < 4) × (i + 1 ≡ cap)) → AddsEvent cap v (Over v.worker) w
+  low_over cap i r v u w who s m low last = subst (λ z. AddsEvent cap v (Over z) w) who (sees_adds cap v u w (Over u.worker) s (over_of cap i r u w m (last_yes cap i u.low r low last)))
+
+  pub low_on : (cap i r : ℕ) (v u w : View J R) → Sees v u → Missed cap i r u w → r ≢ 0 → r ≢ 1 → r < 4 → (r < 4 → i + 1 < cap) → u.low ≡ i → Sees v w × (w.low ≡ i + 1)
+  low_on cap i r v u w s m a b near more low = let l = looks_of cap i r u w m (last_not cap i u.low r a more) in (sees_trans v u w s (l.0, l.1), m.3 ∙ low_next cap i u.low r low (omega arith) near (more near))
+
+  -- all that was posted has been passed, and what is below decides
+  pub answer_low : (cap : ℕ) (v u w : View J R) (h : Option ℕ) (a : Answer J) → u.worker ≡ v.worker → HasPassed cap v u → AnswersLow cap u w h a → AnswersWords cap v w h a
+  answer_low cap v u w h (answer.Got i j) who p x = (x.0, subst (λ z. AddsEvent cap v (Claim z i j) w) who (sees_adds cap v u w (Claim u.worker i j) p.0 x.1))
+  answer_low cap v u w h answer.Later who p x = let l = x.1 in let o = x.2 in let sees = sees_trans v u w p.0 (l.0, l.1) in (
+    x.0,
+    waits cap v w (sees, λ k near there. kept cap u w k l (p.1 k near there)) l.2 (λ k far. was_absent cap v w k l.2.0 sees.0 (x.3 k far)) (o.0, o.1, o.2, goes_trans o.0 u.seen v.seen o.3 p.0.0, o.4, o.5, o.6),
+  )
+  answer_low cap v u w h answer.Over who p x = (x.0, subst (λ z. AddsEvent cap v (Over z) w) who (sees_adds cap v u w (Over u.worker) p.0 x.1))
+  answer_low cap v u w h answer.Memory who p x = x
 
   post_to : (cap i worker worker' : ℕ) (o : Option ℕ) (job job' : J) (v u w : View J R) → worker' ≡ worker → job' ≡ job → Sees v u → IfSome o (λ p. AddsEvent cap u (Post worker' p i job') w) → IfSome o (λ p. AddsEvent cap v (Post worker p i job) w)
   post_to cap i worker worker' None job job' v u w a b s x = x
@@ -183,36 +211,31 @@ module _ {J R : Type 0} where
   pub post_through : (cap i worker worker' : ℕ) (o o' : Option ℕ) (job job' : J) (v u w : View J R) → o' ≡ o → worker' ≡ worker → job' ≡ job → Sees v u → IfSome o' (λ p. AddsEvent cap u (Post worker' p i job') w) → IfSome o (λ p. AddsEvent cap v (Post worker p i job) w)
   post_through cap i worker worker' o o' job job' v u w e a b s x = post_to cap i worker worker' o job job' v u w a b s (subst (λ z. IfSome z (λ p. AddsEvent cap u (Post worker' p i job') w)) e x)
 
-  -- a visit, from the view before its last look
-  pub visited : (cap start i r : ℕ) (busy : Bool) (v u w : View J R) → IsScan cap start i busy v u → Visits cap i r u w → (x : View J R) × IsScan cap start i busy v x × Missed cap i r x w × (x.worker ≡ u.worker)
-  visited cap start i r busy v u w s t = ⊎_elim (λ (m : Missed cap i r u w). (u, s, m, refl))
-      (λ (m : (x : View J R) × Missed cap i 1 u x × Missed cap i r x w). (m.0, scan_open cap start i busy v u m.0 s m.1, m.2, m.1.0.3)) t
-
-  pub claim_over : (cap start i r : ℕ) (busy : Bool) (v u w : View J R) → busy ≡ false → u.worker ≡ v.worker → IsScan cap start i busy v u → Visits cap i r u w → (r ≡ 0) ⊎ ((2 ≤ r) × (r < 4) × (i + 1 ≡ cap)) → AddsEvent cap v (Over v.worker) w
-  claim_over cap start i r busy v u w off who s t last = let x = visited cap start i r busy v u w s t in
-      subst (λ z. AddsEvent cap v (Over z) w) (x.3 ∙ who) (scan_over cap start i r v x.0 w (subst (λ b. IsScan cap start i b v x.0) off x.1) x.2 last)
-
-  pub claim_later : (cap start i r : ℕ) (busy : Bool) (v u w : View J R) → busy ≡ true → r ≡ 0 → IsScan cap start i busy v u → Visits cap i r u w → Waits cap v w
-  claim_later cap start i r busy v u w on is s t = let x = visited cap start i r busy v u w s t in
-      scan_later cap start i v x.0 w (subst (λ b. IsScan cap start i b v x.0) on x.1) (subst (λ z. Missed cap i z x.0 w) is x.2)
-
-  pub claim_next : (cap start i r : ℕ) (busy busy' : Bool) (v u w : View J R) → IsScan cap start i busy v u → Visits cap i r u w → holding v.mine ≡ None → r ≢ 0 → r ≢ 1 → (busy ≡ false → r < 4 → i + 1 < cap)
-      → (4 ≤ r → busy' ≡ true) → (r < 4 → busy' ≡ busy) → IsScan cap start (i + 1) busy' v w
-  claim_next cap start i r busy busy' v u w s t free a b c d e = let x = visited cap start i r busy v u w s t in scan_next cap start i r busy busy' v x.0 w x.1 x.2 free a b c d e
-
-  pub claim_end : (cap start i : ℕ) (busy : Bool) (v w : View J R) → IsScan cap start i busy v w → w.low < cap → i ≡ cap → Waits cap v w
-  claim_end cap start i busy v w s low is = scan_end cap start i v w (subst (λ b. IsScan cap start i b v w) (go busy refl) s) is
+  -- a look, after one that found the number open
+  looked_twice : (cap i r : ℕ) (v u w : View J R) → Missed cap i 1 v u → Missed cap i r u w → Missed cap i r v w
+  looked_twice cap i r v u w m n = let l = looks_of cap i 1 v u m (last_open cap i v.low) in let low : u.low ≡ v.low = m.3 ∙ low_open cap i v.low in (
+    (n.0.0 ∙ m.0.0, n.0.1 ∙ m.0.1, n.0.2 ∙ m.0.2, n.0.3 ∙ m.0.3, n.0.4 ∙ m.0.4, n.0.5 ∙ m.0.5),
+    n.1 ∙ m.1,
+    n.2 ∙ m.2,
+    n.3 ∙ ap (λ x. low_after cap i x r) low,
+    n.4,
+    n.5,
+    n.6,
+    again (last_look cap i u.low r) (last_look cap i v.low r) (ap (λ x. last_look cap i x r) low) (l.0, l.1) m.0.3 n.7,
+  )
     where
-      go : (b : Bool) → busy ≡ b → busy ≡ true
-      go true e = e
-      go false e = let x = s.clear e in absurd (omega arith)
+      again : (a b : Bool) → a ≡ b → Sees v u → u.worker ≡ v.worker → MatchBool a (AddsEvent cap u (Over u.worker) w) (Looks cap u w) → MatchBool b (AddsEvent cap v (Over v.worker) w) (Looks cap v w)
+      again true true e s who x = subst (λ z. AddsEvent cap v (Over z) w) who (sees_adds cap v u w (Over u.worker) s x)
+      again true false e s who x = absurd cc
+      again false true e s who x = absurd cc
+      again false false e s who x = let t = sees_trans v u w s (x.0, x.1) in (t.0, t.1, x.2)
 
   pub visit_then : (cap i r wk posted : ℕ) (v u w : View J R) (h : Option ℕ) (x : Result J ℕ) → Missed cap i r v u → r ≡ 1 → wk ≡ v.worker
       → MatchResult x (λ j. (h ≡ Some i) × (posted ≡ 0) × AddsEvent cap u (Claim wk i j) w) (λ z. (h ≡ None) × (z ≢ 1) × Missed cap i z u w)
-      → MatchResult x (λ j. (h ≡ Some i) × AddsEvent cap v (Claim v.worker i j) w) (λ z. (h ≡ None) × (z ≢ 1) × Visits cap i z v w)
+      → MatchResult x (λ j. (h ≡ Some i) × AddsEvent cap v (Claim v.worker i j) w) (λ z. (h ≡ None) × (z ≢ 1) × Missed cap i z v w)
   visit_then cap i r wk posted v u w h (Ok j) m is who a = let n = subst (λ z. Missed cap i z v u) is m in let l = looks_of cap i 1 v u n (last_open cap i v.low) in
       (a.0, subst (λ z. AddsEvent cap v (Claim z i j) w) who (sees_adds cap v u w (Claim wk i j) (l.0, l.1) a.2))
-  visit_then cap i r wk posted v u w h (Err z) m is who a = (a.0, a.1, inr (u, subst (λ y. Missed cap i y v u) is m, a.2))
+  visit_then cap i r wk posted v u w h (Err z) m is who a = (a.0, a.1, looked_twice cap i z v u w (subst (λ y. Missed cap i y v u) is m) a.2)
 
   -- a number that was drawn and then opened
   pub try_posted : (cap slots i wk : ℕ) (o : Option ℕ) (job : J) (v u' u w : View J R) → slots ≡ cap → u ≡ u' → Looks slots v u' → u.worker ≡ wk → holding v.mine ≡ o → (p : ℕ) (j : J) → holding u.mine ≡ Some p → j ≡ job

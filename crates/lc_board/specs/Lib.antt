@@ -20,6 +20,7 @@ pub mod Scripts
 pub mod Growth
 pub mod WordRow
 pub mod WordSteps
+pub mod WordMarks
 pub mod WordPass
 pub mod WordsBoard
 pub mod WordClose

@@ -1,7 +1,10 @@
 -- What a pass of a board of words has stored is what it knows and holds.
 use Rattle.std.specs.Prelude.{◌≡◌, ℕ, ◌<◌, ◌≤◌, true, List, [], ◌∷◌, map, Option, Some, None}
 use Rattle.lc_board.specs.Holding.{holding, posted}
+use Rattle.lc_board.specs.State.{status}
+use Rattle.lc_board.specs.Growth.{rank}
 use Rattle.lc_board.specs.WordRow.{Seated}
+use Rattle.lc_board.specs.declared.event.Event.{Event}
 use Rattle.lc_board.specs.declared.words.view.Slot.{Slot}
 use Rattle.lc_board.specs.declared.words.view.Slot.TheVariants.{Empty, Job, Row}
 
@@ -21,6 +24,10 @@ tags_as (Some i) = (i, 0) ∷ []
 
 abbrev pub tag : {J R : Type 0} → ℕ × Slot J R → ℕ × ℕ
 tag x = (x.0, kind x.1)
+
+-- each number below the mark has ended or is claimed, and so will never be open again
+abbrev pub AreTaken : {J R : Type 0} → ℕ → List (Event J R) → Type 0
+AreTaken n h = (k : ℕ) → k < n → 2 ≤ rank (status h k)
 
 pub record IsTied {J R : Type 0} (slots worker : ℕ) (claim : Option ℕ) (posts front low : ℕ) (m : Seated J R) : Type 0 where
   pub live : m.0.live ≡ true

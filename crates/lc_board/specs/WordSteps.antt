@@ -1,5 +1,5 @@
 -- What each step on a word tells its pass.
-use Rattle.std.specs.Prelude.{◌≡◌, ◌≢◌, ℕ, ◌+◌, ◌<◌, ◌≤◌, ◌==◌, ◌⊎◌, Bool, true, false, cond, List, [], ◌∷◌, ◌++◌, Option, Some, None, ltb, ◌&&◌, ◌||◌, MatchBool}
+use Rattle.std.specs.Prelude.{◌≡◌, ◌≢◌, ℕ, ◌+◌, ◌%◌, ◌<◌, ◌≤◌, ◌==◌, ◌⊎◌, Bool, true, false, cond, List, [], ◌∷◌, ◌++◌, Option, Some, None, ltb, ◌&&◌, ◌||◌, MatchBool}
 use Rattle.atomic_table.specs.Table.{Step, rest}
 use Rattle.lc_board.specs.State.{Absent, Open, Claimed, status}
 use Rattle.lc_board.specs.Part.{part}
@@ -20,6 +20,14 @@ is_end r = ltb 1 r && ltb r 4
 -- the low mark after a look at the word i, which found r
 abbrev pub low_after : ℕ → ℕ → ℕ → ℕ → ℕ
 low_after cap i low r = cond ((low == i) && (is_end r && ltb (i + 1) cap)) (i + 1) low
+
+-- the word of a number that has ended, or is claimed
+abbrev pub is_taken : ℕ → Bool
+is_taken r = ltb 1 r && (ltb r 4 || ((r % 2) == 1))
+
+-- the mark of the numbers that are taken, after a look at the word i, which found r
+abbrev pub taken_after : ℕ → ℕ → ℕ → ℕ
+taken_after i taken r = cond ((taken == i) && is_taken r) (i + 1) taken
 
 -- no number is left to look at: all below are ended, and this one is absent, or is the last and ended
 abbrev pub last_look : ℕ → ℕ → ℕ → ℕ → Bool
@@ -65,6 +73,7 @@ module _ {J R : Type 0} where
   Finds i r w = (r ≡ 0 → (k : ℕ) → i ≤ k → status w.seen k ≡ Absent)
       × (r ≡ 1 → status w.seen i ≡ Open)
       × (2 ≤ r → r < 4 → rank (status w.seen i) ≡ 3)
+      × (4 ≤ r → r % 2 ≡ 1 → rank (status w.seen i) ≡ 2)
       × (4 ≤ r → ((status w.seen i ≡ Absent) ⊎ (rank (status w.seen i) ≡ 2)) × ((p u : ℕ) × (status w.seen p ≡ Claimed u) × (holding w.mine ≡ None → u ≢ w.worker)))
 
   -- a look at the word i, which found r. It is the event Over where no number is left to look at
@@ -72,10 +81,6 @@ module _ {J R : Type 0} where
   Missed cap i r v w = Same v w × (w.drawn ≡ v.drawn) × (w.front ≡ v.front) × (w.low ≡ low_after cap i v.low r)
       × ((k : ℕ) → k < w.low → rank (status w.seen k) ≡ 3) × ((k : ℕ) → cap ≤ k → status w.seen k ≡ Absent)
       × Finds i r w × MatchBool (last_look cap i v.low r) (AddsEvent cap v (Over v.worker) w) (Looks cap v w)
-
-  -- a look, perhaps after one that found the number open
-  abbrev pub Visits : ℕ → ℕ → ℕ → View J R → View J R → Type 0
-  Visits cap i r v w = Missed cap i r v w ⊎ ((u : View J R) × Missed cap i 1 v u × Missed cap i r u w)
 
   abbrev pub looked : Step (Slot J R) → Seated J R → ℕ → Seated J R → Type 0
   looked st m r m' = (m'.1 ≡ m.1) × Missed st.slots st.word r m.0 m'.0

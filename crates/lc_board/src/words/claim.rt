@@ -1,8 +1,10 @@
-//! A claim goes up from the low mark.
-ghost use Rattle.std.specs.Prelude.{◌≡◌, ◌≢◌, ◌<◌, ◌≤◌, ◌+◌, ◌⊎◌, true, MatchResult, MatchBool};
+//! A claim goes up from the numbers that are taken, and where nothing is open there, from the low mark.
+ghost use Rattle.std.specs.Prelude.{◌≡◌, ◌≢◌, ◌<◌, ◌≤◌, ◌+◌, ◌⊎◌, true, false, Some, None, IfSome, IfNone, MatchResult, MatchBool};
+ghost use Rattle.lc_board.specs.declared.answers.Claim.TheVariants.{Later};
 ghost use Rattle.lc_board.specs.declared.event.Event.TheVariants as event;
-ghost use Rattle.lc_board.specs.WordSteps.{AddsEvent, Visits};
+ghost use Rattle.lc_board.specs.WordSteps.{AddsEvent, Missed};
 ghost use Rattle.lc_board.specs.WordsBoard.{AnswersWords, IsPassOf, IsSamePass, known};
+ghost use Rattle.lc_board.specs.WordMarks.{AnswersLow, HasPassed};
 
 use crate::answers::Claim;
 use crate::words::Words;
@@ -23,6 +25,12 @@ fn next_busy(busy: bool, found: u64) -> bool
     if found >= BUSY { true } else { busy }
 }
 
+fn later_if<J>(busy: bool) -> Option<Claim<J>>
+    ensures { MatchBool busy (result ≡ Some Later) (result ≡ None) }
+{
+    if busy { Some(Claim::Later) } else { None }
+}
+
 impl<J, R> Words<J, R> {
     /// Looks at the number, and claims it if it is open. Or else gives the word.
     fn visit(&self, pass: &mut WordsPass<J, R>, number: u32) -> Result<J, u64>
@@ -32,13 +40,64 @@ impl<J, R> Words<J, R> {
         ensures board { IsSamePass pass.old pass.new }
         ensures rule { MatchResult result
             (λ j. (pass.new.holding ≡ Some number) × AddsEvent self.now.capacity (known pass.old) (event.Claim (known pass.old).worker number j) (known pass.new))
-            (λ r. (pass.new.holding ≡ None) × (r ≢ 1) × Visits self.now.capacity number r (known pass.old) (known pass.new)) }
+            (λ r. (pass.new.holding ≡ None) × (r ≢ 1) × Missed self.now.capacity number r (known pass.old) (known pass.new)) }
     {
         let found = self.look(pass, number);
         if found == OPEN {
             self.try_claim(pass, number)
         } else {
             Err(found)
+        }
+    }
+
+    /// Goes up from the numbers that are taken to the first that is absent, and claims the first open one. Where it meets none, and
+    /// nobody who is busy, what is below decides.
+    fn seek(&self, pass: &mut WordsPass<J, R>) -> Option<Claim<J>>
+        requires board { IsPassOf self.now pass.old }
+        requires free { pass.old.holding ≡ None }
+        ensures board { IsSamePass pass.old pass.new }
+        ensures some { IfSome result (AnswersWords self.now.capacity (known pass.old) (known pass.new) pass.new.holding) }
+        ensures none { IfNone result ((pass.new.holding ≡ None) × HasPassed self.now.capacity (known pass.old) (known pass.new)) }
+    {
+        let mut number = pass.taken;
+        let mut busy = false;
+        while number < self.capacity {
+            let lowest = number == pass.low;
+            let found = match self.visit(pass, number) {
+                Ok(job) => return Some(Claim::Got(number, job)),
+                Err(found) => found,
+            };
+            if lowest && is_last(self.capacity, number, found) {
+                return Some(Claim::Over);
+            }
+            if found == ABSENT {
+                return later_if(busy);
+            }
+            busy = next_busy(busy, found);
+            number += 1;
+        }
+        later_if(busy)
+    }
+
+    /// Goes up from the low mark over the numbers that have ended: others wait for the first that has not.
+    fn wait_or_end(&self, pass: &mut WordsPass<J, R>) -> Claim<J>
+        requires board { IsPassOf self.now pass.old }
+        requires free { pass.old.holding ≡ None }
+        ensures board { IsSamePass pass.old pass.new }
+        ensures rule { AnswersLow self.now.capacity (known pass.old) (known pass.new) pass.new.holding result }
+    {
+        loop {
+            let number = pass.low;
+            let found = match self.visit(pass, number) {
+                Ok(job) => return Claim::Got(number, job),
+                Err(found) => found,
+            };
+            if is_last(self.capacity, number, found) {
+                return Claim::Over;
+            }
+            if found >= BUSY {
+                return Claim::Later;
+            }
         }
     }
 
@@ -49,22 +108,9 @@ impl<J, R> Words<J, R> {
         ensures board { IsSamePass pass.old pass.new }
         ensures rule { AnswersWords self.now.capacity (known pass.old) (known pass.new) pass.new.holding result }
     {
-        let mut number = pass.low;
-        let mut busy = false;
-        while number < self.capacity {
-            let found = match self.visit(pass, number) {
-                Ok(job) => return Claim::Got(number, job),
-                Err(found) => found,
-            };
-            if !busy && is_last(self.capacity, number, found) {
-                return Claim::Over;
-            }
-            if found == ABSENT {
-                return Claim::Later;
-            }
-            busy = next_busy(busy, found);
-            number += 1;
+        match self.seek(pass) {
+            Some(answer) => answer,
+            None => self.wait_or_end(pass),
         }
-        Claim::Later
     }
 }

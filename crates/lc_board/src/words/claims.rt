@@ -1,12 +1,13 @@
 //! One number is looked at, claimed, or ended.
 ghost use Rattle.std.specs.Prelude.{◌≡◌, ℕ, ◌+◌, ◌*◌, ◌<◌, MatchResult, IfSome, IsSome, ◌≢◌};
 ghost use Rattle.lc_board.specs.declared.event.Event.TheVariants.{Claim, Return, Fault};
-ghost use Rattle.lc_board.specs.WordSteps.{AddsEvent, Missed, low_after};
+ghost use Rattle.lc_board.specs.declared.limits.TheConstants.{MOST_NUMBERS};
+ghost use Rattle.lc_board.specs.WordSteps.{AddsEvent, Missed, low_after, taken_after};
 ghost use Rattle.lc_board.specs.WordsBoard.{IsPassOf, IsSamePass, known};
 
 use crate::words::Words;
 use crate::words::pass::WordsPass;
-use crate::words::rule::{FAULTED, Fail, Give, Look, OPEN, RETURNED, Take};
+use crate::words::rule::{BUSY, FAULTED, Fail, Give, Look, OPEN, RETURNED, Take};
 use crate::words::view::Slot;
 
 fn claimed_by(worker: u32) -> u64
@@ -19,10 +20,21 @@ fn next_low(capacity: u32, number: u32, low: u32, found: u64) -> u32
     requires { number < capacity }
     ensures { result ≡ low_after capacity number low found }
 {
-    if low == number && found > 1 && found < 4 && number + 1 < capacity {
+    if low == number && found > OPEN && found < BUSY && number + 1 < capacity {
         number + 1
     } else {
         low
+    }
+}
+
+fn next_taken(number: u32, taken: u32, found: u64) -> u32
+    requires { number < MOST_NUMBERS }
+    ensures { result ≡ taken_after number taken found }
+{
+    if taken == number && found > OPEN && (found < BUSY || found % 2 == 1) {
+        number + 1
+    } else {
+        taken
     }
 }
 
@@ -37,6 +49,7 @@ impl<J, R> Words<J, R> {
         let shared = &self.table.shared;
         let found = shared.load::<Look>(&mut pass.seat, number as usize);
         pass.low = next_low(self.capacity, number, pass.low, found);
+        pass.taken = next_taken(number, pass.taken, found);
         found
     }
 
@@ -56,12 +69,14 @@ impl<J, R> Words<J, R> {
         let found = shared.compare_exchange::<Take>(&mut pass.seat, word, OPEN, new);
         if found != OPEN {
             pass.low = next_low(self.capacity, number, pass.low, found);
+            pass.taken = next_taken(number, pass.taken, found);
             return Err(found);
         }
         match shared.exchange(&mut pass.seat, word, Slot::Empty) {
             Slot::Job(job) => {
                 pass.holding = Some(number);
                 pass.posted = 0;
+                pass.taken = next_taken(number, pass.taken, new);
                 Ok(job)
             }
             _ => unreachable!(),

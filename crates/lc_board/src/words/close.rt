@@ -112,6 +112,7 @@ impl<J, R> Words<J, R> {
             posted: _,
             front: _,
             low: _,
+            taken: _,
             full: _,
         } = pass;
         let number = match holding {
@@ -166,6 +167,7 @@ impl<J, R> Words<J, R> {
             posted: _,
             front: _,
             low: _,
+            taken: _,
             full: _,
         } = pass;
         table.close_with(seat)

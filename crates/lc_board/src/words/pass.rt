@@ -1,7 +1,7 @@
 //! A worker's pass of a board of words.
 ghost use Rattle.std.specs.Prelude.{◌≡◌, false, true};
 ghost use Rattle.std.proofs.Props.{props};
-ghost use Rattle.lc_board.specs.WordPass.{IsTied};
+ghost use Rattle.lc_board.specs.WordPass.{AreTaken, IsTied};
 
 use crate::shared::Token;
 use crate::words::view::{Slot, View};
@@ -18,8 +18,11 @@ pub struct WordsPass<J, R> {
     pub(crate) front: u32,
     /// Each word below it has ended.
     pub(crate) low: u32,
+    /// Each word below it has ended or is claimed.
+    pub(crate) taken: u32,
     pub(crate) full: bool,
     ghost ties: { IsTied seat.table_id.slots worker holding posted front low seat.me } by { Prim.hlevel props },
+    ghost marked: { AreTaken taken seat.me.0.seen } by { Prim.hlevel props },
     ghost all_used: { full ≡ true → front ≡ seat.table_id.slots } by { Prim.hlevel props },
 }
 

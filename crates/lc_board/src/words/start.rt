@@ -67,6 +67,7 @@ impl<J: Drop, R: Drop> Words<J, R> {
                     posted: 0,
                     front: 1,
                     low: 0,
+                    taken: 0,
                     full: false,
                 };
                 Ok((
@@ -100,6 +101,7 @@ impl<J, R> Words<J, R> {
             posted: 0,
             front: pass.front,
             low: 0,
+            taken: 0,
             full: false,
         }
     }

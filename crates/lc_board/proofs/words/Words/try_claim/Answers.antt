@@ -2,9 +2,10 @@ use Rattle.std.proofs.Common.{arith, sym, ap, ◌∙◌, refl, ℕ, ◌+◌, ◌
 use Rattle.atomic_table.specs.Table.{rest, step}
 use mathlib.Core.Option.{none}
 use Rattle.lc_board.specs.declared.words.view.Slot.TheVariants.{Job}
-use Rattle.lc_board.specs.WordPass.{IsTied}
+use Rattle.lc_board.specs.WordPass.{AreTaken, IsTied}
 use Rattle.lc_board.proofs.WordClaims.{claims}
 use Rattle.lc_board.proofs.WordTies.{tied_claimed}
+use Rattle.lc_board.proofs.WordMarks.{marked_claimed, marked_missed}
 use Rattle.lc_board.proofs.words.Words.try_claim.Goals as goal
 
 pub compare_exchange-found-requires : goal.compare_exchange-found-requires
@@ -23,5 +24,11 @@ invariant_of-pass-in-Job g c = let sq = c.args.self.now.square in let near = c.r
   ties = subst (λ z. IsTied z.slots c.args.pass.now.worker (Some c.args.number) 0 c.args.pass.now.front c.args.pass.now.low c.exchange.new.seat.me) (sym (c.exchange.ensures.0 ∙ e))
       (tied_claimed _ c.args.number _ _ (step c.args.self.now.table.shared.table_id.slots c.args.number 1 c.claimed_by-new.result none) _ _ _ _ _ _ refl (let own = ap (λ z. z.slots) c.requires.board in omega arith) c.if-found-ne-OPEN.false c.compare_exchange-found.ensures.2 c.exchange.ensures.3
       (subst (λ o. IsTied c.args.pass.now.seat.table_id.slots c.args.pass.now.worker o c.args.pass.now.posted c.args.pass.now.front c.args.pass.now.low c.args.pass.now.seat.me) c.requires.free t));
+  marked = let hit = c.compare_exchange-found.ensures.2.0 c.if-found-ne-OPEN.false in
+      subst (λ v. AreTaken c.next_taken-pass-in-Job.result v.seen) (sym (ap (λ m. m.0) c.exchange.ensures.3))
+      (marked_claimed _ c.args.number _ c.claimed_by-new.result c.args.pass.now.taken _ hit.0 c.args.pass.now.seat.me.0 c.compare_exchange-found.new.seat.me.0 hit.6 c.next_taken-pass-in-Job.ensures c.args.pass.now.marked);
   all_used = λ f. c.args.pass.now.all_used f ∙ ap (λ z. z.slots) (sym (c.exchange.ensures.0 ∙ e));
 }
+
+pub invariant_of-pass-clause-marked : goal.invariant_of-pass-clause-marked
+invariant_of-pass-clause-marked g c = marked_missed _ c.args.number c.compare_exchange-found.result c.args.pass.now.taken _ c.args.pass.now.seat.me.0 c.compare_exchange-found.new.seat.me.0 (c.compare_exchange-found.ensures.2.1 c.if-found-ne-OPEN.true).1 c.next_taken-pass.ensures c.args.pass.now.marked

@@ -1,6 +1,6 @@
 use Rattle.std.proofs.Common.{◌≡◌, ◌-◌, ◌≤◌, None}
 use Rattle.lc_board.proofs.WordScans.{IsScan}
-use Rattle.lc_board.proofs.words.Words.claim.Given as goal
+use Rattle.lc_board.proofs.words.Words.seek.Given as goal
 
 abbrev pub invariant-loop-number : goal.invariant-loop-number
 invariant-loop-number g l = record {
@@ -8,8 +8,8 @@ invariant-loop-number g l = record {
   worker : l.pass.worker ≡ l.initial.pass.worker;
   full : l.pass.full ≡ l.initial.pass.full;
   holding : l.pass.holding ≡ None;
-  within : l.number ≤ l.self.capacity;
-  scan : IsScan l.self.capacity l.initial.pass.seat.me.0.low l.number l.busy l.initial.pass.seat.me.0 l.pass.seat.me.0;
+  from : l.initial.pass.taken ≤ l.number;
+  scan : IsScan l.self.capacity l.initial.pass.taken l.number l.busy l.initial.pass.seat.me.0 l.pass.seat.me.0;
 }
 
 abbrev pub decreases-loop-number : goal.decreases-loop-number
