@@ -4,7 +4,7 @@ use Rattle.std.specs.Prelude.{MatchBool}
 use Rattle.std.proofs.lemmas.Bool.Decides.{nat_tests}
 use Rattle.lc_board.specs.State.{Claimed, status}
 use Rattle.lc_board.specs.Growth.{GoesOn, rank}
-use Rattle.lc_board.specs.WordSteps.{IsFair, AddsEvent, Looks, Finds, Missed, is_taken, taken_after, last_look}
+use Rattle.lc_board.specs.WordSteps.{IsFair, AddsEvent, Looks, Finds, Missed, taken_word, taken_after, last_look}
 use Rattle.lc_board.specs.WordPass.{AreTaken}
 use Rattle.lc_board.specs.declared.event.Event.{Event}
 use Rattle.lc_board.specs.declared.event.Event.TheVariants.{Claim, Over}
@@ -12,10 +12,10 @@ use Rattle.lc_board.specs.declared.words.view.View.{View}
 use Rattle.lc_board.proofs.Growths.{longer, put_here, rank_from}
 
 -- which numbers are below the mark after a look
-taken_tells : (i taken r z : ℕ) → z < taken_after i taken r → (z < taken) ⊎ ((z ≡ i) × (is_taken r ≡ true))
+taken_tells : (i taken r z : ℕ) → z < taken_after i taken r → (z < taken) ⊎ ((z ≡ i) × (taken_word r ≡ true))
 taken_tells i taken r z h = grind (arith, nat_tests)
 
-taken_ways : (r : ℕ) → is_taken r ≡ true → ((2 ≤ r) × (r < 4)) ⊎ ((4 ≤ r) × (r % 2 ≡ 1))
+taken_ways : (r : ℕ) → taken_word r ≡ true → ((2 ≤ r) × (r < 4)) ⊎ ((4 ≤ r) × (r % 2 ≡ 1))
 taken_ways r h = grind (arith, nat_tests)
 
 module _ {J R : Type 0} where
@@ -29,11 +29,11 @@ module _ {J R : Type 0} where
   marked_added cap taken v w e a = marked_on cap taken v w (subst (λ h. GoesOn h v.seen) (sym a.0.2) (longer a.0.0 v.seen e a.0.1)) a.2
 
   -- and the number at the mark may be taken too
-  marked_next : (i taken taken2 r : ℕ) (w : View J R) → taken2 ≡ taken_after i taken r → AreTaken taken w.seen → (is_taken r ≡ true → 2 ≤ rank (status w.seen i)) → AreTaken taken2 w.seen
-  marked_next i taken taken2 r w mark marked here k low = ⊎_elim (λ (l : k < taken). marked k l) (λ (e : (k ≡ i) × (is_taken r ≡ true)). subst (λ z. 2 ≤ rank (status w.seen z)) (sym e.0) (here e.1))
+  marked_next : (i taken taken2 r : ℕ) (w : View J R) → taken2 ≡ taken_after i taken r → AreTaken taken w.seen → (taken_word r ≡ true → 2 ≤ rank (status w.seen i)) → AreTaken taken2 w.seen
+  marked_next i taken taken2 r w mark marked here k low = ⊎_elim (λ (l : k < taken). marked k l) (λ (e : (k ≡ i) × (taken_word r ≡ true)). subst (λ z. 2 ≤ rank (status w.seen z)) (sym e.0) (here e.1))
       (taken_tells i taken r k (subst (λ n. k < n) mark low))
 
-  found_taken : (i r : ℕ) (w : View J R) → Finds i r w → is_taken r ≡ true → 2 ≤ rank (status w.seen i)
+  found_taken : (i r : ℕ) (w : View J R) → Finds i r w → taken_word r ≡ true → 2 ≤ rank (status w.seen i)
   found_taken i r w f is = ⊎_elim (λ (e : (2 ≤ r) × (r < 4)). let x = f.2 e.0 e.1 in omega arith) (λ (e : (4 ≤ r) × (r % 2 ≡ 1)). let x = f.3 e.0 e.1 in omega arith) (taken_ways r is)
 
   missed_marked : (cap taken : ℕ) (v w : View J R) (b : Bool) → MatchBool b (AddsEvent cap v (Over v.worker) w) (Looks cap v w) → AreTaken taken v.seen → AreTaken taken w.seen

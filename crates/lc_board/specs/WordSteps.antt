@@ -22,12 +22,12 @@ abbrev pub low_after : ℕ → ℕ → ℕ → ℕ → ℕ
 low_after cap i low r = cond ((low == i) && (is_end r && ltb (i + 1) cap)) (i + 1) low
 
 -- the word of a number that has ended, or is claimed
-abbrev pub is_taken : ℕ → Bool
-is_taken r = ltb 1 r && (ltb r 4 || ((r % 2) == 1))
+abbrev pub taken_word : ℕ → Bool
+taken_word r = ltb 1 r && (ltb r 4 || ((r % 2) == 1))
 
 -- the mark of the numbers that are taken, after a look at the word i, which found r
 abbrev pub taken_after : ℕ → ℕ → ℕ → ℕ
-taken_after i taken r = cond ((taken == i) && is_taken r) (i + 1) taken
+taken_after i taken r = cond ((taken == i) && taken_word r) (i + 1) taken
 
 -- no number is left to look at: all below are ended, and this one is absent, or is the last and ended
 abbrev pub last_look : ℕ → ℕ → ℕ → ℕ → Bool

@@ -8,8 +8,8 @@ ghost use Rattle.lc_board.specs.WordMarks.{AnswersLow, HasPassed};
 
 use crate::answers::Claim;
 use crate::words::Words;
+use crate::words::coding::{ABSENT, BUSY, OPEN};
 use crate::words::pass::WordsPass;
-use crate::words::rule::{ABSENT, BUSY, OPEN};
 
 /// No number after this one is used.
 fn is_last(capacity: u32, number: u32, found: u64) -> bool

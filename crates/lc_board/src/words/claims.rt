@@ -6,21 +6,16 @@ ghost use Rattle.lc_board.specs.WordSteps.{AddsEvent, Missed, low_after, taken_a
 ghost use Rattle.lc_board.specs.WordsBoard.{IsPassOf, IsSamePass, known};
 
 use crate::words::Words;
+use crate::words::coding::{FAULTED, OPEN, RETURNED, claimed_by, has_ended, is_taken};
 use crate::words::pass::WordsPass;
-use crate::words::rule::{BUSY, FAULTED, Fail, Give, Look, OPEN, RETURNED, Take};
+use crate::words::rule::{Fail, Give, Look, Take};
 use crate::words::view::Slot;
-
-fn claimed_by(worker: u32) -> u64
-    ensures { result ≡ 5 + 2 * worker }
-{
-    5 + 2 * worker as u64
-}
 
 fn next_low(capacity: u32, number: u32, low: u32, found: u64) -> u32
     requires { number < capacity }
     ensures { result ≡ low_after capacity number low found }
 {
-    if low == number && found > OPEN && found < BUSY && number + 1 < capacity {
+    if low == number && has_ended(found) && number + 1 < capacity {
         number + 1
     } else {
         low
@@ -31,7 +26,7 @@ fn next_taken(number: u32, taken: u32, found: u64) -> u32
     requires { number < MOST_NUMBERS }
     ensures { result ≡ taken_after number taken found }
 {
-    if taken == number && found > OPEN && (found < BUSY || found % 2 == 1) {
+    if taken == number && is_taken(found) {
         number + 1
     } else {
         taken

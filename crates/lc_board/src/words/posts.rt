@@ -7,15 +7,10 @@ ghost use Rattle.lc_board.specs.WordsBoard.{IsPassOf, IsSamePass, known};
 
 use crate::answers::PostFault;
 use crate::words::Words;
+use crate::words::coding::{ABSENT, OPEN, held_by};
 use crate::words::pass::WordsPass;
-use crate::words::rule::{ABSENT, Draw, OPEN, Open};
+use crate::words::rule::{Draw, Open};
 use crate::words::view::Slot;
-
-pub(crate) fn held_by(worker: u32) -> u64
-    ensures { result ≡ 4 + 2 * worker }
-{
-    4 + 2 * worker as u64
-}
 
 impl<J, R> Words<J, R> {
     /// Tries to post the job at the front of the pass. Or else gives it back.

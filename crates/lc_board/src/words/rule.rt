@@ -3,21 +3,6 @@ use crate::words::view::{Slot, View};
 use atomic_table::{Join, Play, Split, TableRule};
 use std::snapshot::Snapshot;
 
-/// Not used yet.
-pub const ABSENT: u64 = 0;
-
-/// Open, with its job in the slot.
-pub const OPEN: u64 = 1;
-
-/// Returned, with its row in the slot.
-pub const RETURNED: u64 = 2;
-
-/// Faulted, with its row in the slot.
-pub const FAULTED: u64 = 3;
-
-/// From here on a word names a worker: it holds the number (an even word), or has claimed it (an odd one).
-pub const BUSY: u64 = 4;
-
 /// What a board was started with.
 #[derive(Drop)]
 pub struct Origin<J> {

@@ -6,8 +6,9 @@ ghost use Rattle.lc_board.specs.WordsBoard.{IsPassOf, IsSamePass, known};
 
 use crate::limits::{MOST_NUMBERS, MOST_WORKERS};
 use crate::words::Words;
+use crate::words::coding::{ABSENT, OPEN};
 use crate::words::pass::WordsPass;
-use crate::words::rule::{ABSENT, Deal, OPEN, Origin};
+use crate::words::rule::{Deal, Origin};
 use crate::words::view::Slot;
 use atomic_table::Table;
 use std::alloc::{AllocError, Global};
