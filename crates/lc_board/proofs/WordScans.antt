@@ -17,6 +17,7 @@ use Rattle.lc_board.specs.declared.event.Event.{Event}
 use Rattle.lc_board.specs.declared.event.Event.TheVariants.{Post, Claim, Over}
 use Rattle.lc_board.specs.declared.words.view.View.{View}
 use Rattle.lc_board.proofs.Growths.{rank_from, whole, goes_trans, rank_zero}
+use Rattle.lc_board.proofs.WordMarks.{stays_taken}
 
 last_no : (cap i low r : ℕ) → low ≢ i → last_look cap i low r ≡ false
 last_no cap i low r h = grind (arith, nat_tests)
@@ -78,17 +79,13 @@ module _ {J R : Type 0} where
 
   -- the numbers that are passed stay passed
   passed : (cap : ℕ) (v u w : View J R) (k : ℕ) → Looks cap u w → (status v.seen k ≡ Absent) ⊎ (2 ≤ rank (status u.seen k)) → (status v.seen k ≡ Absent) ⊎ (2 ≤ rank (status w.seen k))
-  passed cap v u w k l p = ⊎_elim (λ a. inl a) (λ (a : 2 ≤ rank (status u.seen k)). let g = rank_from cap w.crew w.seen u.seen l.2.0 l.0 k in inr (omega arith)) p
+  passed cap v u w k l p = ⊎_elim (λ a. inl a) (λ (a : 2 ≤ rank (status u.seen k)). inr (stays_taken cap u w k l.0 l.2 a)) p
 
   was_absent : (cap : ℕ) (v w : View J R) (k : ℕ) → IsLegal cap w.crew w.seen → GoesOn w.seen v.seen → status w.seen k ≡ Absent → status v.seen k ≡ Absent
   was_absent cap v w k l s e = let g = rank_from cap w.crew w.seen v.seen l s k in let x = ap rank e in rank_zero (status v.seen k) (omega arith)
 
   others_on : (cap : ℕ) (v u w : View J R) → OthersHeld v u → GoesOn w.seen u.seen → w.worker ≡ u.worker → OthersHeld v w
   others_on cap v u w o s e = (o.0, o.1, o.2, o.3, goes_trans w.seen u.seen o.0 s o.4, (λ x. o.5 (x ∙ e)), o.6)
-
-  -- what is taken stays taken
-  kept : (cap : ℕ) (u w : View J R) (k : ℕ) → Looks cap u w → 2 ≤ rank (status u.seen k) → 2 ≤ rank (status w.seen k)
-  kept cap u w k l a = let g = rank_from cap w.crew w.seen u.seen l.2.0 l.0 k in omega arith
 
   pub scan_begin : (cap i : ℕ) (v : View J R) → ((k : ℕ) → k < i → 2 ≤ rank (status v.seen k)) → IsScan cap i i false v v
   scan_begin cap i v used = record {
@@ -125,7 +122,7 @@ module _ {J R : Type 0} where
   scan_moved : (cap start i r : ℕ) (busy : Bool) (v u w : View J R) → IsScan cap start i busy v u → Missed cap i r u w → Looks cap u w → Sees v w × ((k : ℕ) → k < start → 2 ≤ rank (status w.seen k)) × ((k : ℕ) → start ≤ k → k < i → (status v.seen k ≡ Absent) ⊎ (2 ≤ rank (status w.seen k))) × ((k : ℕ) → cap ≤ k → status v.seen k ≡ Absent)
   scan_moved cap start i r busy v u w s m l = let sees = sees_trans v u w s.sees (l.0, l.1) in (
     sees,
-    (λ k a. kept cap u w k l (s.below k a)),
+    (λ k a. stays_taken cap u w k l.0 l.2 (s.below k a)),
     (λ k a b. passed cap v u w k l (s.past k a b)),
     (λ k f. was_absent cap v w k l.2.0 sees.0 (m.5 k f)),
   )
@@ -199,7 +196,7 @@ module _ {J R : Type 0} where
   answer_low cap v u w h (answer.Got i j) who p x = (x.0, subst (λ z. AddsEvent cap v (Claim z i j) w) who (sees_adds cap v u w (Claim u.worker i j) p.0 x.1))
   answer_low cap v u w h answer.Later who p x = let l = x.1 in let o = x.2 in let sees = sees_trans v u w p.0 (l.0, l.1) in (
     x.0,
-    waits cap v w (sees, λ k near there. kept cap u w k l (p.1 k near there)) l.2 (λ k far. was_absent cap v w k l.2.0 sees.0 (x.3 k far)) (o.0, o.1, o.2, goes_trans o.0 u.seen v.seen o.3 p.0.0, o.4, o.5, o.6),
+    waits cap v w (sees, λ k near there. stays_taken cap u w k l.0 l.2 (p.1 k near there)) l.2 (λ k far. was_absent cap v w k l.2.0 sees.0 (x.3 k far)) (o.0, o.1, o.2, goes_trans o.0 u.seen v.seen o.3 p.0.0, o.4, o.5, o.6),
   )
   answer_low cap v u w h answer.Over who p x = (x.0, subst (λ z. AddsEvent cap v (Over z) w) who (sees_adds cap v u w (Over u.worker) p.0 x.1))
   answer_low cap v u w h answer.Memory who p x = x

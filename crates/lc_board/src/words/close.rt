@@ -13,7 +13,7 @@ ghost use Rattle.lc_board.specs.declared.words.view.Slot.TheVariants.{Row};
 use crate::answers::Ended;
 use crate::shared::Token;
 use crate::words::Words;
-use crate::words::coding::{ABSENT, BUSY, OPEN, RETURNED};
+use crate::words::coding::{ABSENT, RETURNED, is_unended};
 use crate::words::pass::WordsPass;
 use crate::words::rule::{Deal, PutDown};
 use crate::words::view::{Slot, View};
@@ -30,12 +30,6 @@ pub(crate) fn drain<S: Drop>(mut closed: Closed<S, Global>, from: usize)
         at += 1;
     }
     closed.free();
-}
-
-fn is_unended(word: u64) -> bool
-    ensures { MatchBool result ((word ≡ 1) ⊎ (4 ≤ word)) ((word ≢ 1) × (word < 4)) }
-{
-    word == OPEN || word >= BUSY
 }
 
 /// How many numbers there are, if all have ended. Or else the least that has not.

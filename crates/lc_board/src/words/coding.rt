@@ -1,5 +1,5 @@
 //! What a word of the board says, as a number.
-ghost use Rattle.std.specs.Prelude.{◌≡◌, ◌+◌, ◌*◌};
+ghost use Rattle.std.specs.Prelude.{◌≡◌, ◌≢◌, ◌+◌, ◌*◌, ◌<◌, ◌≤◌, ◌⊎◌, MatchBool};
 ghost use Rattle.lc_board.specs.WordSteps.{is_end, taken_word};
 
 /// Not used yet.
@@ -42,4 +42,11 @@ pub fn is_taken(word: u64) -> bool
     ensures { result ≡ taken_word word }
 {
     word > OPEN && (word < BUSY || word % 2 == 1)
+}
+
+/// Open, held or claimed.
+pub fn is_unended(word: u64) -> bool
+    ensures { MatchBool result ((word ≡ 1) ⊎ (4 ≤ word)) ((word ≢ 1) × (word < 4)) }
+{
+    word == OPEN || word >= BUSY
 }
