@@ -1,6 +1,7 @@
 //! Tests of the boards.
 mod drawn;
 mod fill;
+mod marks;
 mod mismatch;
 mod plain_scripts;
 mod refused;
