@@ -11,7 +11,7 @@ use Rattle.lc_board.proofs.Places.{each_set, each_push, get_push_other, get_set_
 
 module _ {J R : Type 0} where
   abbrev IsNew : Words J R → ℕ → WordsPass J R → Type 0
-  IsNew b w p = IsPassOf b p × (told p ≡ new_pass w)
+  IsNew b w p = IsPassOf b p × (told p ≡ new_pass w) × ((known p).seen ≡ [])
 
   pub one_more : (b : Words J R) (items : List (WordsPass J R)) (n crew : ℕ) (first first' other : WordsPass J R) → slice_get items 0 ≡ Some first → length items ≡ n → 0 < n
       → IsSamePass first first' → known first' ≡ dealt (known first) → IsPassOf b other → other.worker ≡ n → other.full ≡ false → known other ≡ newcomer (known first)
@@ -30,9 +30,9 @@ module _ {J R : Type 0} where
       let told_other : told other ≡ new_pass (length (slice_set items 0 first')) = (λ i. record { worker = worker_other i; mine = mine_other i; full = empty i; refused = false }) in
       let board_first : IsPassOf b first' = same.0 ∙ was.0 in (
         each_push (λ w o. (p : WordsPass J R) → o ≡ Some p → IsNew b w p) (slice_set items 0 first') other
-            (λ p e. let is : other ≡ p = cc e in subst (λ q. IsNew b (length (slice_set items 0 first')) q) is (own, told_other))
+            (λ p e. let is : other ≡ p = cc e in subst (λ q. IsNew b (length (slice_set items 0 first')) q) is (own, told_other, ap (λ (v : View J R). v.seen) new))
             (λ k _. each_set (λ w o. (p : WordsPass J R) → o ≡ Some p → IsNew b w p) items 0 first' low
-            (λ p e. let is : first' ≡ p = cc e in subst (λ q. IsNew b 0 q) is (board_first, told_first ∙ was.1))
+            (λ p e. let is : first' ≡ p = cc e in subst (λ q. IsNew b 0 q) is (board_first, told_first ∙ was.1, ap (λ (v : View J R). v.seen) me ∙ was.2))
             (λ q off p e. each q p e) k),
         λ p e.
             let there : slice_get (slice_set items 0 first' ++ other ∷ []) 0 ≡ Some first' = get_push_other (slice_set items 0 first') other 0 (λ z. absurd (omega (arith, z, size, some))) ∙ get_set_same items 0 first' low in

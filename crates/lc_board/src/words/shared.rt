@@ -1,10 +1,16 @@
 //! A board of words is one that workers share.
-ghost use Rattle.std.specs.Prelude.{◌≡◌, ◌≢◌, ℕ, Some, IfOk, IfErr, map, slice_get, vec_len};
+ghost use Rattle.std.specs.Prelude.{◌≡◌, ◌≢◌, ◌≤◌, ℕ, [], None, Some, IfSome, IfOk, IfErr, map, slice_get, vec_len};
 ghost use Rattle.lc_board.specs.ClosedBoard.{Settled, RefusesClose};
 ghost use Rattle.lc_board.specs.WordClose.{words_promises};
-ghost use Rattle.lc_board.specs.WordsBoard.{IsPassOf};
+ghost use Rattle.lc_board.specs.Pass.{holding, posted, new_pass, after_claim, after_post, after_give, after_fault, job_back};
+ghost use Rattle.lc_board.specs.WordSteps.{AddsEvent, Sees};
+ghost use Rattle.lc_board.specs.WordsBoard.{AnswersWords, IsPassOf, known, told};
+ghost use Rattle.lc_board.specs.declared.words.pass.WordsPass.{WordsPass};
+ghost use Rattle.lc_board.specs.declared.answers.PostFault.TheVariants.{Full};
+ghost use Rattle.lc_board.specs.declared.event.Event.TheVariants.{Post, Return, Fault};
 
 use crate::answers::{Claim, CloseFault, Closed, PostFault};
+use crate::limits::{MOST_NUMBERS, MOST_WORKERS};
 use crate::shared::{Shared, Token};
 use crate::words::Words;
 use crate::words::close::{count_ended, drain, take_rows};
@@ -30,7 +36,14 @@ impl<J: Drop + Send, R: Drop + Send> Shared<J, R> for Words<J, R> {
         capacity: u32,
         workers: u32,
         root: J,
-    ) -> Result<(Words<J, R>, Vec<WordsPass<J, R>>), AllocError> {
+    ) -> Result<(Words<J, R>, Vec<WordsPass<J, R>>), AllocError>
+        requires capacity { (1 ≤ capacity) × (capacity ≤ MOST_NUMBERS) }
+        requires workers { (1 ≤ workers) × (workers ≤ MOST_WORKERS) }
+        ensures board { IfOk result (λ b. (b.0.capacity ≡ capacity) × (b.0.workers ≡ workers) × (b.0.table.shared.key.root.value ≡ root)) }
+        ensures count { IfOk result (λ b. vec_len b.1 ≡ workers) }
+        ensures passes { IfOk result (λ b. (w : ℕ) (p : WordsPass _ _) → slice_get b.1.items w ≡ Some p → IsPassOf b.0 p × (told p ≡ new_pass w)) }
+        ensures unseen { IfOk result (λ b. (w : ℕ) (p : WordsPass _ _) → slice_get b.1.items w ≡ Some p → (known p).seen ≡ []) }
+    {
         let mut passes = Vec::with_capacity(alloc, workers as usize)?;
         let (board, first) = Words::open(alloc, capacity, workers, root)?;
         passes.push(first)?;
@@ -41,7 +54,14 @@ impl<J: Drop + Send, R: Drop + Send> Shared<J, R> for Words<J, R> {
         Ok((board, passes))
     }
 
-    fn claim<W: Wait>(&self, _rt: &W, pass: &mut WordsPass<J, R>) -> Claim<J> {
+    /// As `Words::claim`.
+    fn claim<W: Wait>(&self, _rt: &W, pass: &mut WordsPass<J, R>) -> Claim<J>
+        requires pass { IsPassOf self.now pass.old }
+        requires free { holding (told pass.old) ≡ None }
+        ensures pass { IsPassOf self.now pass.new }
+        ensures mine { told pass.new ≡ after_claim (told pass.old) result }
+        ensures rule { AnswersWords self.now.capacity (known pass.old) (known pass.new) pass.new.holding result }
+    {
         match Words::claim(self, pass) {
             Claim::Got(number, job) => Claim::Got(number, job),
             Claim::Later => Claim::Later,
@@ -50,12 +70,21 @@ impl<J: Drop + Send, R: Drop + Send> Shared<J, R> for Words<J, R> {
         }
     }
 
+    /// As `Words::post`.
     fn post<W: Wait>(
         &self,
         _rt: &W,
         pass: &mut WordsPass<J, R>,
         job: J,
-    ) -> Result<u32, PostFault<J>> {
+    ) -> Result<u32, PostFault<J>>
+        requires pass { IsPassOf self.now pass.old }
+        requires holds { holding (told pass.old) ≢ None }
+        ensures pass { IsPassOf self.now pass.new }
+        ensures mine { told pass.new ≡ after_post (told pass.old) job result }
+        ensures back { IfErr result (λ f. job_back f ≡ job) }
+        ensures posted { IfOk result (λ i. IfSome pass.old.holding (λ p. AddsEvent self.now.capacity (known pass.old) (Post pass.old.worker p i job) (known pass.new))) }
+        ensures full { IfErr result (λ f. (f ≡ Full job) × Sees (known pass.old) (known pass.new) × ((known pass.new).front ≡ self.now.capacity)) }
+    {
         match Words::post(self, pass, job) {
             Ok(number) => Ok(number),
             Err(PostFault::Full(job)) => {
@@ -66,11 +95,26 @@ impl<J: Drop + Send, R: Drop + Send> Shared<J, R> for Words<J, R> {
         }
     }
 
-    fn give<W: Wait>(&self, _rt: &W, pass: &mut WordsPass<J, R>, row: R) {
+    /// As `Words::give`.
+    fn give<W: Wait>(&self, _rt: &W, pass: &mut WordsPass<J, R>, row: R)
+        requires pass { IsPassOf self.now pass.old }
+        requires holds { holding (told pass.old) ≢ None }
+        ensures pass { IsPassOf self.now pass.new }
+        ensures mine { told pass.new ≡ after_give (told pass.old) row }
+        ensures rule { IfSome pass.old.holding (λ i. AddsEvent self.now.capacity (known pass.old) (Return pass.old.worker i row) (known pass.new)) }
+    {
         Words::give(self, pass, row);
     }
 
-    fn fault<W: Wait>(&self, _rt: &W, pass: &mut WordsPass<J, R>, row: R) {
+    /// As `Words::fault`.
+    fn fault<W: Wait>(&self, _rt: &W, pass: &mut WordsPass<J, R>, row: R)
+        requires pass { IsPassOf self.now pass.old }
+        requires holds { holding (told pass.old) ≢ None }
+        requires none { posted (told pass.old) ≡ 0 }
+        ensures pass { IsPassOf self.now pass.new }
+        ensures mine { told pass.new ≡ after_fault (told pass.old) row }
+        ensures rule { IfSome pass.old.holding (λ i. AddsEvent self.now.capacity (known pass.old) (Fault pass.old.worker i row) (known pass.new)) }
+    {
         Words::fault(self, pass, row);
     }
 
