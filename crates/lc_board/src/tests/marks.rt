@@ -1,4 +1,4 @@
-//! The marks of a pass: a number that another worker holds is passed over once, and no more looked at by claims that find something.
+//! The marks of a pass: a number that another worker has claimed is passed over once, and claims that find something look at it no more.
 use crate::tests::script::{Call, ROOT, Told};
 use crate::tests::shared_scripts::tell;
 use crate::words::Words;
