@@ -102,13 +102,14 @@ module _ {J R : Type 0} where
   scan_over cap start i r busy v u w who s low m last =
       subst (λ z. AddsEvent cap v (Over z) w) who (sees_adds cap v u w (Over u.worker) s.sees (over_of cap i r u w m (last_yes cap i u.low r low last)))
 
-  -- what has been passed, where the rest is absent
-  all_passed : (cap start i : ℕ) (busy : Bool) (v w : View J R) → IsScan cap start i busy v w → ((k : ℕ) → i ≤ k → k < cap → status v.seen k ≡ Absent) → HasPassed cap v w
-  all_passed cap start i busy v w s rest = (
-    s.sees,
+  -- all that had been seen posted is passed, where the rest is absent
+  all_passed : (cap start i : ℕ) (v w : View J R) → Sees v w → ((k : ℕ) → k < start → 2 ≤ rank (status w.seen k)) → ((k : ℕ) → start ≤ k → k < i → (status v.seen k ≡ Absent) ⊎ (2 ≤ rank (status w.seen k)))
+      → ((k : ℕ) → i ≤ k → k < cap → status v.seen k ≡ Absent) → HasPassed cap v w
+  all_passed cap start i v w sees below past rest = (
+    sees,
     λ k near there. dite (dec_le i k) (λ far. absurd (there (rest k far near)))
-        (λ low. dite (dec_le start k) (λ a. ⊎_elim (λ (e : status v.seen k ≡ Absent). absurd (there e)) (λ (e : 2 ≤ rank (status w.seen k)). e) (s.past k a (omega arith)))
-        (λ b. s.below k (omega arith))),
+        (λ low. dite (dec_le start k) (λ a. ⊎_elim (λ (e : status v.seen k ≡ Absent). absurd (there e)) (λ (e : 2 ≤ rank (status w.seen k)). e) (past k a (omega arith)))
+        (λ b. below k (omega arith))),
   )
 
   waits : (cap : ℕ) (v w : View J R) → HasPassed cap v w → IsFair cap w → ((k : ℕ) → cap ≤ k → status v.seen k ≡ Absent) → OthersHeld v w → Waits cap v w
@@ -131,12 +132,7 @@ module _ {J R : Type 0} where
   scan_absent : (cap start i : ℕ) (busy : Bool) (v u w : View J R) → IsScan cap start i busy v u → Missed cap i 0 u w → u.low ≢ i → HasPassed cap v w × IsFair cap w × ((k : ℕ) → cap ≤ k → status v.seen k ≡ Absent) × (busy ≡ true → OthersHeld v w)
   scan_absent cap start i busy v u w s m low = let l = looks_of cap i 0 u w m (last_no cap i u.low 0 low) in let t = scan_moved cap start i 0 busy v u w s m l in
       let sees = t.0 in (
-        (
-          sees,
-          λ k near there. dite (dec_le i k) (λ far. absurd (there (was_absent cap v w k l.2.0 sees.0 (m.6.0 refl k far))))
-              (λ x. dite (dec_le start k) (λ a. ⊎_elim (λ (e : status v.seen k ≡ Absent). absurd (there e)) (λ (e : 2 ≤ rank (status w.seen k)). e) (t.2 k a (omega arith)))
-              (λ b. t.1 k (omega arith))),
-        ),
+        all_passed cap start i v w sees t.1 t.2 (λ k far near. was_absent cap v w k l.2.0 sees.0 (m.6.0 refl k far)),
         l.2,
         t.3,
         (λ on. others_on cap v u w (s.others on).0 l.0 m.0.3),
@@ -144,8 +140,8 @@ module _ {J R : Type 0} where
 
   -- the next word
   pub scan_next : (cap start i r : ℕ) (busy busy' : Bool) (v u w : View J R) → start ≤ i → IsScan cap start i busy v u → Missed cap i r u w → last_look cap i u.low r ≡ false → holding v.mine ≡ None → r ≢ 0 → r ≢ 1
-      → (4 ≤ r → busy' ≡ true) → (r < 4 → busy' ≡ busy) → IsScan cap start (i + 1) busy' v w
-  scan_next cap start i r busy busy' v u w from s m goes free some_word not_open sets keeps_it =
+      → (r < 4 → busy' ≡ busy) → IsScan cap start (i + 1) busy' v w
+  scan_next cap start i r busy busy' v u w from s m goes free some_word not_open keeps_it =
       let l = looks_of cap i r u w m goes in let t = scan_moved cap start i r busy v u w s m l in let sees = t.0 in record {
         sees = sees;
         fair = λ _. l.2;
@@ -172,7 +168,7 @@ module _ {J R : Type 0} where
 
   -- the end of the row
   pub passed_end : (cap start i : ℕ) (busy : Bool) (v w : View J R) → IsScan cap start i busy v w → cap ≤ i → HasPassed cap v w
-  passed_end cap start i busy v w s is = all_passed cap start i busy v w s (λ k a b. absurd (omega arith))
+  passed_end cap start i busy v w s is = all_passed cap start i v w s.sees s.below s.past (λ k a b. absurd (omega arith))
 
   pub later_end : (cap start i : ℕ) (busy : Bool) (v w : View J R) → IsScan cap start i busy v w → cap ≤ i → busy ≡ true → Waits cap v w
   later_end cap start i busy v w s is on = let o = s.others on in waits cap v w (passed_end cap start i busy v w s is) (s.fair o.1) (s.far o.1) o.0

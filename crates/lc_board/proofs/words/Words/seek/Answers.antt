@@ -43,5 +43,5 @@ loop-number-preserved g c = let told = c.in-Err.ensures.rule in let inv = c.loop
       holding = told.0;
       from = let x = inv.from in omega arith;
       scan = scan_next c.args.self.now.capacity c.args.pass.now.taken c.loop-number.number c.in-Err.found c.loop-number.busy c.next_busy-busy.result v u w inv.from inv.scan told.2
-          (not_last c.args.self.now.capacity c.loop-number.number u.low c.in-Err.found c.if-found-eq-ABSENT.false more) (t.holds ∙ c.requires.free) c.if-found-eq-ABSENT.false told.1 c.next_busy-busy.ensures.0 c.next_busy-busy.ensures.1;
+          (not_last c.args.self.now.capacity c.loop-number.number u.low c.in-Err.found c.if-found-eq-ABSENT.false more) (t.holds ∙ c.requires.free) c.if-found-eq-ABSENT.false told.1 c.next_busy-busy.ensures.1;
     }
