@@ -5,10 +5,10 @@ use Rattle.std.specs.List.Sorted.{IsPermutation, IsStrictlySortedBy}
 use Rattle.std.specs.declared.cmp.Ordering.{Ordering}
 use Rattle.std.specs.Ordering.{nat_cmp, on, eq_by_cmp}
 use Rattle.std.specs.Cmp.Lexicographic.{slice_cmp}
-use Rattle.lc_walk.specs.declared.entry.Kind.{Kind}
-use Rattle.lc_walk.specs.declared.listing.ListingFault.{ListingFault}
-use Rattle.lc_walk.specs.declared.listing.ListingFault.TheVariants.{BadName, Twice, TooMany, Memory}
-use Rattle.lc_walk.specs.declared.listing.TheConstants.{MAX_ENTRIES}
+use Rattle.lc_walk.specs.declared.tree.entry.Kind.{Kind}
+use Rattle.lc_walk.specs.declared.tree.listing.ListingFault.{ListingFault}
+use Rattle.lc_walk.specs.declared.tree.listing.ListingFault.TheVariants.{BadName, Twice, TooMany, Memory}
+use Rattle.lc_walk.specs.declared.tree.listing.TheConstants.{MAX_ENTRIES}
 
 -- an entry: its name, and what stands under it
 pub record DirEntry : Type 0 where

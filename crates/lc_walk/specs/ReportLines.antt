@@ -7,7 +7,7 @@ use Rattle.std.specs.Ordering.{nat_cmp, eq_by_cmp}
 use Rattle.std.specs.Cmp.Lexicographic.{slice_cmp}
 use Rattle.lc_rules.specs.declared.states.TextState.{TextState}
 use Rattle.lc_census.specs.declared.totals.Count.{Count}
-use Rattle.lc_walk.specs.declared.fault_word.FaultWord.{FaultWord}
+use Rattle.lc_walk.specs.declared.report.fault_word.FaultWord.{FaultWord}
 
 -- a counted file
 pub record FileAt : Type 0 where

@@ -1,39 +1,41 @@
--- The rows of a tally.
-use Rattle.std.specs.Prelude.{◌≡◌, ℕ, Bool, List, Result, map, MatchResult}
-use Rattle.std.specs.List.{filter, sum_by, list_any, HoldsAt}
-use Rattle.std.specs.List.Sorted.{IsStrictlySortedBy, IsPartitionPoint}
-use Rattle.std.specs.declared.cmp.Ordering.TheVariants.{Less, Equal, Greater}
-use Rattle.lc_walk.specs.Key.{Key, key_cmp, same_key}
-use Rattle.lc_walk.specs.declared.sums.Sums.{Sums}
+-- Rows: what a worker gives for a directory.
+use Rattle.std.specs.Prelude.{ℕ, List, [], codes}
+use Rattle.lc_board.specs.declared.answers.Ended.{Ended}
+use Rattle.lc_board.specs.declared.answers.Ended.TheVariants as ended
+use Rattle.lc_walk.specs.Paths.{path_in}
+use Rattle.lc_walk.specs.Job.{JobAt}
+use Rattle.lc_walk.specs.RowViews.{ChildAt}
+use Rattle.lc_walk.specs.declared.row.place.Place.{Place}
+use Rattle.lc_walk.specs.declared.row.place.Place.TheVariants.{Directory, Git, GitInfo, ExcludeFile, InfoAttributes, IgnoreFile, AttributeFile}
+use Rattle.lc_walk.specs.declared.row.Row.{Row}
+use Rattle.lc_walk.specs.declared.row.Row.TheVariants.{Listed, Faulted, Broken}
 
--- a key, and the sums over the files that have it
-pub record Row : Type 0 where
-  pub key : Key
-  pub sums : Sums
+abbrev pub row_of : {R : Type 0} → Ended R → R
+row_of (ended.Returned r) = r
+row_of (ended.Faulted r) = r
 
--- the sums over all rows
-abbrev pub sums_of_rows : List Row → Sums
-sums_of_rows rs = record {
-  files = sum_by (λ r. r.sums.files) rs;
-  lines = sum_by (λ r. r.sums.lines) rs;
-  blank = sum_by (λ r. r.sums.blank) rs;
-  bytes = sum_by (λ r. r.sums.bytes) rs;
-}
+abbrev pub job_of : Row → JobAt
+job_of (Listed r) = r.job
+job_of (Faulted r) = r.job
+job_of (Broken r) = r.job
 
--- the rows of a key: one or none, where the keys rise
-abbrev pub rows_with : Key → List Row → List Row
-rows_with k rs = filter (λ r. same_key k r.key) rs
+-- the posted child directories
+abbrev pub children_in : Row → List ChildAt
+children_in (Listed r) = r.children
+children_in (Faulted r) = []
+children_in (Broken r) = []
 
--- whether a key has a row
-abbrev pub has_row : Key → List Row → Bool
-has_row k rs = list_any (λ r. same_key k r.key) rs
+abbrev pub IsWhole : Row → Type 0
+IsWhole (Listed r) = Unit {0}
+IsWhole (Faulted r) = Unit {0}
+IsWhole (Broken r) = ⊥
 
--- the keys rise
-abbrev pub IsInOrder : List Row → Type 0
-IsInOrder rs = IsStrictlySortedBy key_cmp (map (λ r. r.key) rs)
-
--- where the row of a key stands, or else between which rows it would
-abbrev pub IsPlaceFor : List Row → Key → Result ℕ ℕ → Type 0
-IsPlaceFor rs k at =
-    MatchResult at (HoldsAt (λ r. key_cmp r.key k ≡ Equal) rs)
-    (IsPartitionPoint (λ r. key_cmp r.key k ≡ Less) (λ r. key_cmp r.key k ≡ Greater) rs)
+-- the path that is at fault, of a directory at a path
+abbrev pub place_path : List ℕ → Place → List ℕ
+place_path directory Directory = directory
+place_path directory Git = codes ".git"
+place_path directory GitInfo = codes ".git/info"
+place_path directory ExcludeFile = codes ".git/info/exclude"
+place_path directory InfoAttributes = codes ".git/info/attributes"
+place_path directory IgnoreFile = path_in directory (codes ".gitignore")
+place_path directory AttributeFile = path_in directory (codes ".gitattributes")

@@ -1,6 +1,6 @@
 -- Sums over files.
 use Rattle.std.specs.Prelude.{◌+◌, ◌*◌, ◌-◌, ◌^◌, ◌<◌, ◌≤◌}
-use Rattle.lc_walk.specs.declared.sums.Sums.{Sums}
+use Rattle.lc_walk.specs.declared.tally.sums.Sums.{Sums}
 use Rattle.lc_census.specs.declared.totals.Count.{Count}
 
 -- the sums over no files

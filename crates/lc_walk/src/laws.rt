@@ -1,10 +1,38 @@
 //! Laws of the definitions that the contracts cite. The functions do nothing: their contracts are what is proved.
 ghost use Rattle.std.specs.Prelude.{List};
 ghost use Rattle.std.specs.List.Sorted.{IsPermutation};
+ghost use Rattle.lc_walk.specs.Laws.{CoreLaw, NumbersLaw, OneAnswerLaw, PartLaw, PathsOnceLaw};
 ghost use Rattle.lc_walk.specs.Tally.{Held, CountedFile, StandsFor};
+ghost use Rattle.lc_walk.specs.WalkReport.{ReportLaw};
 
 /// What a tally stands for has no order, so tallies may be merged in any order.
 pub fn a_tally_has_no_order()
     ensures { (tally : Held) (files moved : List CountedFile)
         → IsPermutation files moved → StandsFor tally files → StandsFor tally moved }
+{}
+
+/// The rows of a closed walk are what the recursive walk of their tree finds, whatever the turns of the workers were.
+pub fn rows_are_the_walk_of_their_tree()
+    ensures found { CoreLaw }
+    ensures numbers { NumbersLaw }
+{}
+
+/// Where each row's level is that of one tree, they are what the recursive walk of that tree finds.
+pub fn rows_are_the_walk_of_one_tree()
+    ensures { OneAnswerLaw }
+{}
+
+/// A row that is lawful in a worker's part is lawful in the whole history.
+pub fn lawful_in_part_is_lawful()
+    ensures { PartLaw }
+{}
+
+/// No path stands twice among the files, or among the faults, of a walk.
+pub fn paths_stand_once()
+    ensures { PathsOnceLaw }
+{}
+
+/// A report tells nothing of the order in which things were found.
+pub fn a_report_has_no_order()
+    ensures { ReportLaw }
 {}

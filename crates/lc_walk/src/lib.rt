@@ -1,35 +1,32 @@
 //! The walk over a tree: what it lists, what it counts, and what it reports.
 //!
-//! - `entry`, `listing`: the entries of one directory, in the order of their names
-//! - `extensions`: the extension of a file's name
-//! - `key`, `sums`, `tally_row`, `row_hints`, `tally`: the sums over the counted files, a row for each key
-//! - `fault_word`, `report_lines`, `report`: what a walk reports
+//! - `tree`: trees, as they answer
+//! - `job`, `row`: what a worker gets and gives for a directory
+//! - `tally`: the sums over the counted files, a row for each key
+//! - `report`: what a walk reports, and how the rows of a closed board make it
+//! - `walk_fault`: why there is no report
 //! - `laws`: what is true of the definitions that the contracts cite
 #![tactic(auto)]
 
-mod entry;
-mod extensions;
-mod fault_word;
-mod key;
+mod job;
 mod laws;
-mod listing;
+mod paths;
 mod report;
-mod report_lines;
-mod row_hints;
-mod sums;
+mod row;
 mod tally;
-mod tally_row;
+mod tree;
+mod walk_fault;
 
-pub use entry::{Entry, Kind};
-pub use extensions::extension;
-pub use fault_word::FaultWord;
-pub use laws::a_tally_has_no_order;
-pub use listing::{Listing, ListingFault, MAX_ENTRIES};
-pub use report::Report;
-pub use report_lines::{FaultLine, FileLine};
-pub use sums::Sums;
-pub use tally::Tally;
-pub use tally_row::TallyRow;
+pub use job::Job;
+pub use laws::{
+    a_report_has_no_order, a_tally_has_no_order, lawful_in_part_is_lawful, paths_stand_once,
+    rows_are_the_walk_of_one_tree, rows_are_the_walk_of_their_tree,
+};
+pub use report::{FaultLine, FaultWord, FileLine, Report, assemble};
+pub use row::{BrokenRow, Cause, Child, Counted, FaultedRow, FileFault, ListedRow, Place, Row};
+pub use tally::{Sums, Tally, TallyRow, extension};
+pub use tree::{Entry, Kind, Listing, ListingFault, MAX_ENTRIES};
+pub use walk_fault::WalkFault;
 
 #[cfg(test)]
 mod tests;

@@ -1,13 +1,23 @@
 //! The report of a walk.
+//!
+//! - `fault_word`, `report_lines`: what it says of a file and of a fault
+//! - `assembly`, with `row_lines` and `tree_check`: the report that the rows of a closed board make
 ghost use Rattle.std.specs.Prelude.{◌≡◌, IfOk};
 ghost use Rattle.std.specs.List.Sorted.{IsPermutation, IsSortedByKey};
 ghost use Rattle.lc_walk.specs.Report.{IsReport};
 ghost use Rattle.lc_walk.specs.ReportLines.{FileAt, FaultAt, file_paths, fault_paths, path_cmp, AreApart, AreInOrder};
 
-use crate::report_lines::{FaultLine, FileLine};
-use crate::sums::Sums;
-use crate::tally::Tally;
-use crate::tally_row::TallyRow;
+mod assembly;
+mod fault_word;
+mod report_lines;
+mod row_lines;
+mod tree_check;
+
+pub use assembly::assemble;
+pub use fault_word::FaultWord;
+pub use report_lines::{FaultLine, FileLine};
+
+use crate::tally::{Sums, Tally, TallyRow};
 use std::alloc::AllocError;
 
 /// What a walk found.

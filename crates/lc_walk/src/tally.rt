@@ -1,13 +1,25 @@
 //! The tally of counted files: the sums over the files of each key, and over all.
+//!
+//! - `extensions`: the extension of a file's name
+//! - `key`, `sums`, `tally_row`: a row for each key, with its sums
+//! - `row_hints`: where a key's row stood last
 ghost use Rattle.std.specs.Prelude.{◌≡◌, ◌+◌, ◌<◌, ◌≤◌, ◌^◌, List, [], ◌∷◌, ◌++◌, length, IfOk, IsOk, IsTrue, OnOk, OnErr, MatchResult, option_map};
-ghost use Rattle.lc_walk.specs.Rows.{IsInOrder, IsPlaceFor, has_row, sums_of_rows};
+ghost use Rattle.lc_walk.specs.TallyRows.{IsInOrder, IsPlaceFor, has_row, sums_of_rows};
 ghost use Rattle.lc_walk.specs.Sums.{plus, IsModest, HasRoom};
 ghost use Rattle.lc_walk.specs.Tally.{StandsFor, CountedFile, IsTally, Gains, Grows, counted, key_of};
 
-use crate::key::KeyRef;
-use crate::row_hints::{RowHints, slot_of};
-use crate::sums::Sums;
-use crate::tally_row::TallyRow;
+mod extensions;
+mod key;
+mod row_hints;
+mod sums;
+mod tally_row;
+
+pub use extensions::extension;
+pub use sums::Sums;
+pub use tally_row::TallyRow;
+
+use key::KeyRef;
+use row_hints::{RowHints, slot_of};
 use lc_census::Count;
 use lc_rules::TextState;
 use std::alloc::{AllocError, Global};

@@ -1,7 +1,7 @@
 use Rattle.std.proofs.Common.{ap, ◌∙◌}
 use Rattle.lc_walk.specs.Tally.{Held}
 use Rattle.lc_walk.specs.Sums.{plus}
-use Rattle.lc_walk.specs.declared.sums.Sums.{Sums}
+use Rattle.lc_walk.specs.declared.tally.sums.Sums.{Sums}
 use Rattle.lc_walk.proofs.Joining.{joins_more, joined_all, stands_both}
 use Rattle.lc_walk.proofs.tally.Tally.merge.Goals as goal
 

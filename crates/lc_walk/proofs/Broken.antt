@@ -1,0 +1,33 @@
+-- Rows of which none is Broken for any cause are whole.
+use Rattle.std.proofs.Common.{◌≡◌, ℕ, List, slice_get, Some, refl}
+use Rattle.lc_board.specs.declared.answers.Ended.{Ended}
+use Rattle.lc_walk.specs.Rows.{row_of, IsWhole}
+use Rattle.lc_walk.specs.Walked.{AreWhole}
+use Rattle.lc_walk.specs.Assembled.{IsBrokenBy, RefusesRows}
+use Rattle.lc_walk.specs.Marks.{RefusesTree, fault_of_tree}
+use Rattle.lc_walk.specs.declared.row.Cause.{Cause}
+use Rattle.lc_walk.specs.declared.row.Cause.TheVariants.{Memory, TooManyDirs, TooDeep}
+use Rattle.lc_walk.specs.declared.row.Row.{Row}
+use Rattle.lc_walk.specs.declared.row.Row.TheVariants.{Listed, Faulted, Broken}
+use Rattle.lc_walk.specs.declared.report.tree_check.TreeFault.{TreeFault}
+use Rattle.lc_walk.specs.declared.report.tree_check.TreeFault.TheVariants as tree
+
+abbrev pub NoneFor : Cause → List (Ended Row) → Type 0
+NoneFor cause rows = (i : ℕ) (e : Ended Row) → slice_get rows i ≡ Some e → IsBrokenBy cause (row_of e) → ⊥
+
+whole_row : (r : Row) → (IsBrokenBy Memory r → ⊥) → (IsBrokenBy TooManyDirs r → ⊥) → (IsBrokenBy TooDeep r → ⊥) → IsWhole r
+whole_row (Listed r) a b c = tt
+whole_row (Faulted r) a b c = tt
+whole_row (Broken r) a b c = at r.cause a b c
+  where
+    at : (x : Cause) → (x ≡ Memory → ⊥) → (x ≡ TooManyDirs → ⊥) → (x ≡ TooDeep → ⊥) → ⊥
+    at Memory a b c = a refl
+    at TooManyDirs a b c = b refl
+    at TooDeep a b c = c refl
+
+pub whole_rows : (rows : List (Ended Row)) → NoneFor Memory rows → NoneFor TooManyDirs rows → NoneFor TooDeep rows → AreWhole rows
+whole_rows rows a b c i e is = whole_row (row_of e) (a i e is) (b i e is) (c i e is)
+
+pub refused_rows : (rows : List (Ended Row)) (f : TreeFault) → NoneFor Memory rows → NoneFor TooManyDirs rows → NoneFor TooDeep rows → RefusesTree rows f → RefusesRows rows (fault_of_tree f)
+refused_rows rows tree.Memory a b c t = tt
+refused_rows rows (tree.Torn n) a b c t = (whole_rows rows a b c, t)

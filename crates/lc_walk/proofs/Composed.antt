@@ -1,0 +1,340 @@
+-- From a closed board, and from what its workers left, to a closed walk and its report.
+use Rattle.std.proofs.Common.{◌≡◌, ℕ, zero, suc, ◌<◌, ◌≤◌, ◌||◌, Bool, true, false, cond, List, [], ◌∷◌, length, slice_get, map, refl, sym, ◌∙◌, ap, arith, subst, Option, Some, None, IsPermutation, append-nil}
+use Rattle.std.specs.List.{flat_map, list_any}
+use Rattle.std.proofs.lemmas.List.Sorted.{IsPermutation-sym, IsPermutation-trans}
+use Rattle.lc_board.specs.Part.{worker_of, part}
+use Rattle.lc_board.specs.RowsInPlace.{row_given, InPlace}
+use Rattle.lc_board.specs.Pass.{Pass}
+use Rattle.lc_board.specs.ClosedBoard.{Promises, Settled}
+use Rattle.lc_board.specs.declared.event.Event.{Event}
+use Rattle.lc_board.specs.declared.event.Event.TheVariants.{Post, Claim, Return, Fault, Over}
+use Rattle.lc_board.specs.declared.answers.Ended.{Ended}
+use Rattle.lc_board.specs.declared.answers.Ended.TheVariants as ended
+use Rattle.lc_walk.specs.Tally.{Held, CountedFile, StandsFor}
+use Rattle.lc_walk.specs.ReportLines.{file_paths, fault_paths, AreApart}
+use Rattle.lc_walk.specs.Report.{IsReport}
+use Rattle.lc_walk.proofs.Joining.{stands_permuted}
+use Rattle.lc_walk.specs.declared.report.Report.{Report}
+use Rattle.lc_walk.specs.Answers.{Answers, no_answers}
+use Rattle.lc_walk.specs.Job.{JobAt}
+use Rattle.lc_walk.specs.Found.{Found, found_of, found_at, children_at}
+use Rattle.lc_walk.specs.Rows.{row_of, job_of, IsWhole}
+use Rattle.lc_walk.specs.Lawful.{Asked, IsLawful, Says, IsCause, IsTidy, files_at}
+use Rattle.lc_walk.specs.TreeOfRows.{numbers_below, child_number, tree_from, children_by_rows, tree_of_rows}
+use Rattle.lc_walk.specs.Walked.{Walked, AreWhole, row_found, rows_found}
+use Rattle.lc_walk.specs.WalkReport.{line_of, tallied_in, file_in, fault_in, directory_in, tallied_of, files_of, faults_of, directories_of, IsReportOf}
+use Rattle.lc_walk.specs.Assembled.{directories_by_row, files_by_row, faults_by_row, directories_in_rows, files_in_rows, faults_in_rows}
+use Rattle.lc_walk.specs.Worked.{AreLawful, returned_files, files_given, files_of_pass, files_of_passes}
+use Rattle.lc_walk.proofs.Given.{contributes, each_part, Chosen, choose}
+use Rattle.lc_walk.specs.WalkAnswers.{SomeRows, IsWalkReport}
+use Rattle.std.specs.List.{IsDistinct}
+use Rattle.std.specs.List.Sorted.{IsStrictlySortedBy}
+use Rattle.lc_walk.specs.Listing.{IsListing}
+use Rattle.lc_walk.specs.Walk.{walk_of}
+use Rattle.lc_walk.specs.RowViews.{ChildAt}
+use Rattle.lc_walk.proofs.Reports.{report_law}
+use Rattle.lc_walk.proofs.PathsApart.{paths_once_law, file_lines_apart, fault_lines_apart}
+use Rattle.lc_walk.specs.declared.row.Cause.{Cause}
+use Rattle.lc_walk.specs.declared.row.Cause.TheVariants.{Memory, TooManyDirs, TooDeep}
+use Rattle.lc_walk.specs.declared.row.Row.{Row}
+use Rattle.lc_walk.specs.declared.row.Row.TheVariants.{Listed, Faulted, Broken}
+use Rattle.lc_walk.proofs.Weights.{Each, each-map, flat_map-on, permuted_lists}
+use Rattle.lc_walk.proofs.Moves.{lists_moved}
+use Rattle.lc_walk.proofs.Law.{core_law, one_answer_law}
+use Rattle.lc_walk.proofs.Ends.{ender, ended_by, ends, IsTold, all_told, by_ender, ender_within, ends_are, parts_of, parts_whole}
+use Rattle.lc_walk.proofs.Listings.{flat_twice, tallied_went, files_went, faults_went, directories_went, got_here, by_number, below_all}
+
+-- ---- a row that is lawful where posts may have been refused is so wherever they may have been
+
+fuller_cause : (ask : Asked) (full fuller : Bool) (j : JobAt) (a : Answers) (c : Cause) → (full ≡ true → fuller ≡ true) → IsCause ask full j a c → IsCause ask fuller j a c
+fuller_cause ask full fuller j a Memory f c = tt
+fuller_cause ask full fuller j a TooManyDirs f c = f c
+fuller_cause ask full fuller j a TooDeep f c = c
+
+fuller_says : (ask : Asked) (full fuller : Bool) (e : Ended Row) (a : Answers) (posts : List (ℕ × JobAt)) → (full ≡ true → fuller ≡ true) → Says ask full e a posts → Says ask fuller e a posts
+fuller_says ask full fuller (ended.Returned (Listed r)) a posts f s = s
+fuller_says ask full fuller (ended.Returned (Faulted r)) a posts f s = s
+fuller_says ask full fuller (ended.Returned (Broken r)) a posts f s = record { posted = s.posted; posts_are = s.posts_are; cause_is = fuller_cause ask full fuller r.job a r.cause f s.cause_is }
+fuller_says ask full fuller (ended.Faulted (Listed r)) a posts f s = s
+fuller_says ask full fuller (ended.Faulted (Faulted r)) a posts f s = s
+fuller_says ask full fuller (ended.Faulted (Broken r)) a posts f s = s
+
+fuller_row : (ask : Asked) (full fuller : Bool) (h : List (Event JobAt Row)) (i : ℕ) (e : Ended Row) (a : Answers) → (full ≡ true → fuller ≡ true) → IsLawful ask full h i e a → IsLawful ask fuller h i e a
+fuller_row ask full fuller h i e a f l = record { job_is = l.job_is; tidy = l.tidy; says = fuller_says ask full fuller e a _ f l.says }
+
+or_left : (a b : Bool) → a ≡ true → (a || b) ≡ true
+or_left true b e = refl
+or_left false b e = cc
+
+or_right : (a b : Bool) → b ≡ true → (a || b) ≡ true
+or_right true b e = refl
+or_right false b e = e
+
+pub some_full : (passes : List (Pass JobAt Row)) (w : ℕ) (p : Pass JobAt Row) → slice_get passes w ≡ Some p → p.full ≡ true → list_any (λ q. q.full) passes ≡ true
+some_full [] w p is f = cc
+some_full (q ∷ qs) zero p is f = let same : q ≡ p = one q p is in or_left q.full (list_any (λ q. q.full) qs) (ap (λ (x : Pass JobAt Row). x.full) same ∙ f)
+  where
+    one : (x y : Pass JobAt Row) → Some x ≡ Some y → x ≡ y
+    one x y e = cc
+some_full (q ∷ qs) (suc w) p is f = or_right q.full (list_any (λ q. q.full) qs) (some_full qs w p is f)
+
+abbrev or_no_answers : Option (Ended Row) → Answers → Answers
+or_no_answers None a = no_answers
+or_no_answers (Some e) a = a
+
+module _ (ask : Asked) (MayAnswer : List ℕ → Answers → Type 0) (capacity workers : ℕ) (top : JobAt) (promises : Promises) (passes : List (Pass JobAt Row)) (rows : List (Ended Row))
+    (room : 1 ≤ capacity) (keeps : promises.keeps ≡ true) (count : length passes ≡ workers)
+    (settled : Settled capacity workers top promises passes rows) (given : ℕ → List Answers)
+    (lawful : (w : ℕ) (p : Pass JobAt Row) → slice_get passes w ≡ Some p → AreLawful ask p.full MayAnswer p.mine (given w)) where
+  abbrev pub history : List (Event JobAt Row)
+  history = settled.history
+
+  -- by number, what each worker's answers are
+  pub chosen : (w : ℕ) → Chosen ask MayAnswer settled.history w (slice_get passes w) (given w)
+  chosen w = choose ask MayAnswer capacity workers settled.history settled.legal w (slice_get passes w) (given w)
+      (λ p is. subst (λ m. AreLawful ask p.full MayAnswer m (given w)) (sym (settled.parts w p is)) (lawful w p is))
+
+  abbrev pub by : ℕ → ℕ → Answers
+  by w = (chosen w).by
+
+  -- the answers of a number are those of the worker that ended it
+  abbrev pub answers : ℕ → Answers
+  answers i = or_no_answers (slice_get rows i) (by (ender history i) i)
+
+  abbrev pub full : Bool
+  full = list_any (λ (p : Pass JobAt Row). p.full) passes
+
+  in_place : InPlace top history rows
+  in_place = settled.in_place keeps
+
+  answers_are : (i : ℕ) (e : Ended Row) → slice_get rows i ≡ Some e → answers i ≡ by (ender history i) i
+  answers_are i e is = ap (λ o. or_no_answers o (by (ender history i) i)) is
+
+  pub lawful_here : (i : ℕ) (e : Ended Row) → slice_get rows i ≡ Some e → IsLawful ask full history i e (answers i) × MayAnswer (job_of (row_of e)).path (answers i)
+  lawful_here i e is =
+      let given_here : row_given history i ≡ Some e = sym (in_place.given i) ∙ is in
+      let low = ender_within capacity workers history settled.legal i e given_here in
+      let p = got_here passes (ender history i) (omega arith) in
+      let l = (chosen (ender history i)).lawful p.0 p.1 i e (by_ender i e history given_here) in
+      let whole = fuller_row ask p.0.full full history i e (by (ender history i) i) (some_full passes (ender history i) p.0 p.1) l.0 in
+      (subst (IsLawful ask full history i e) (sym (answers_are i e is)) whole, subst (MayAnswer (job_of (row_of e)).path) (sym (answers_are i e is)) l.1)
+
+  pub walked : Walked ask full capacity workers top history rows answers
+  walked = record {
+    room = room;
+    legal = settled.legal;
+    over = settled.over;
+    numbers = settled.numbers;
+    in_place = in_place;
+    lawful = λ i e is. (lawful_here i e is).0;
+  }
+
+  abbrev pub some_rows : SomeRows MayAnswer ask capacity workers top
+  some_rows = record {
+    full = full;
+    history = history;
+    rows = rows;
+    answers = answers;
+    walked = walked;
+    may = λ i e is. (lawful_here i e is).1;
+  }
+
+  -- ---- the files of all passes are those of the rows
+
+  abbrev by_end : Option (Ended Row) → Answers → List CountedFile
+  by_end None a = []
+  by_end (Some (ended.Returned r)) a = returned_files ask r a
+  by_end (Some (ended.Faulted r)) a = []
+
+  abbrev by_row : ℕ → List CountedFile
+  by_row i = by_end (slice_get rows i) (answers i)
+
+  one_event : (e : Event JobAt Row) → IsTold history e → contributes ask answers e ≡ flat_map by_row (ended_by e)
+  one_event (Post w p i j) t = refl
+  one_event (Claim w i j) t = refl
+  one_event (Return w i r) t = sym (append-nil (by_row i) ∙ ap (λ o. by_end o (answers i)) (in_place.given i ∙ t.0))
+  one_event (Fault w i r) t = sym (append-nil (by_row i) ∙ ap (λ o. by_end o (answers i)) (in_place.given i ∙ t.0))
+  one_event (Over w) t = refl
+
+  told : Each (IsTold history) history
+  told = all_told capacity workers history settled.legal
+
+  by_numbers : flat_map (contributes ask answers) history ≡ flat_map by_row (ends history)
+  by_numbers =
+      flat_map-on (contributes ask answers) (λ e. flat_map by_row (ended_by e)) history (each-map (IsTold history) (λ e. contributes ask answers e ≡ flat_map by_row (ended_by e)) one_event history told)
+      ∙ sym (flat_twice by_row ended_by history)
+
+  own_event : (w : ℕ) (e : Event JobAt Row) → IsTold history e × (worker_of e ≡ w) → contributes ask (by w) e ≡ contributes ask answers e
+  own_event w (Post v p i j) t = refl
+  own_event w (Claim v i j) t = refl
+  own_event w (Return v i r) t =
+      let here : slice_get rows i ≡ Some (ended.Returned r) = in_place.given i ∙ t.0.0 in
+      ap (returned_files ask r) (ap (λ u. by u i) (sym (t.0.1 ∙ t.1)) ∙ sym (answers_are i (ended.Returned r) here))
+  own_event w (Fault v i r) t = refl
+  own_event w (Over v) t = refl
+
+  one_pass : (w : ℕ) (p : Pass JobAt Row) → slice_get passes w ≡ Some p → files_of_pass ask (given w) (slice_get passes w) ≡ flat_map (contributes ask answers) (part w history)
+  one_pass w p is =
+      ap (files_of_pass ask (given w)) is
+      ∙ ap (λ m. files_given ask m (given w)) (sym (settled.parts w p is))
+      ∙ sym ((chosen w).files p is)
+      ∙ flat_map-on (contributes ask (by w)) (contributes ask answers) (part w history)
+      (each-map (λ e. IsTold history e × (worker_of e ≡ w)) (λ e. contributes ask (by w) e ≡ contributes ask answers e) (own_event w) (part w history) (each_part (IsTold history) w history told))
+
+  all_passes : files_of_passes ask given passes ≡ flat_map (contributes ask answers) (parts_of workers history)
+  all_passes =
+      flat_map-on (λ w. files_of_pass ask (given w) (slice_get passes w)) (λ w. flat_map (contributes ask answers) (part w history)) (numbers_below (length passes))
+      (each-map (λ w. w < length passes) (λ w. files_of_pass ask (given w) (slice_get passes w) ≡ flat_map (contributes ask answers) (part w history))
+      (λ w b. let p = got_here passes w b in one_pass w p.0 p.1) (numbers_below (length passes)) (below_all (length passes)))
+      ∙ sym (flat_twice (contributes ask answers) (λ w. part w history) (numbers_below (length passes)))
+      ∙ ap (λ n. flat_map (contributes ask answers) (parts_of n history)) count
+
+  module _ (whole : AreWhole rows) where
+    -- ---- what one row says is what it found
+
+    record RowFinds (e : Ended Row) (a : Answers) : Type 0 where
+      pub tally : by_end (Some e) a ≡ tallied_of (found_at ask.archive (job_of (row_of e)) a)
+      pub files : ask.files ≡ true → files_of (found_at ask.archive (job_of (row_of e)) a) ≡ files_by_row (row_of e)
+      pub faults : faults_of (found_at ask.archive (job_of (row_of e)) a) ≡ faults_by_row (row_of e)
+      pub directories : directories_of (found_at ask.archive (job_of (row_of e)) a) ≡ directories_by_row (row_of e)
+
+    row_finds : (e : Ended Row) (a : Answers) (posts : List (ℕ × JobAt)) → Says ask full e a posts → IsWhole (row_of e) → RowFinds e a
+    row_finds (ended.Returned (Listed r)) a posts s w =
+        let l = s.level_is in
+        let f = found_of r.job in record {
+          tally = sym (ap (λ x. tallied_of (f x)) l ∙ tallied_went r.job (files_at ask.archive r.job a) r.faults (children_at ask.archive r.job a));
+          files = λ t. ap (λ x. files_of (f x)) l ∙ files_went r.job (files_at ask.archive r.job a) r.faults (children_at ask.archive r.job a) ∙ ap (map (line_of r.job.path)) (sym (s.files_are ∙ ap (λ b. cond b (files_at ask.archive r.job a) []) t));
+          faults = ap (λ x. faults_of (f x)) l ∙ faults_went r.job (files_at ask.archive r.job a) r.faults (children_at ask.archive r.job a);
+          directories = ap (λ x. directories_of (f x)) l ∙ directories_went r.job (files_at ask.archive r.job a) r.faults (children_at ask.archive r.job a);
+        }
+    row_finds (ended.Returned (Faulted r)) a posts s w = absurd s
+    row_finds (ended.Returned (Broken r)) a posts s w = absurd w
+    row_finds (ended.Faulted (Listed r)) a posts s w = absurd s
+    row_finds (ended.Faulted (Faulted r)) a posts s w =
+        let l = s.level_is in
+        let f = found_of r.job in record {
+          tally = sym (ap (λ x. tallied_of (f x)) l);
+          files = λ t. ap (λ x. files_of (f x)) l;
+          faults = ap (λ x. faults_of (f x)) l;
+          directories = ap (λ x. directories_of (f x)) l;
+        }
+    row_finds (ended.Faulted (Broken r)) a posts s w = absurd w
+
+    finds_here : (i : ℕ) (e : Ended Row) → slice_get rows i ≡ Some e → RowFinds e (answers i)
+    finds_here i e is = row_finds e (answers i) _ (lawful_here i e is).0.says (whole i e is)
+
+    -- ---- all rows
+
+    abbrev found : List Found
+    found = rows_found ask rows answers
+
+    spread_out : {B : Type 0} (g : Found → List B) → flat_map g found ≡ flat_map (λ i. flat_map g (row_found ask (slice_get rows i) (answers i))) (numbers_below (length rows))
+    spread_out g = flat_twice g (λ i. row_found ask (slice_get rows i) (answers i)) (numbers_below (length rows))
+
+    at_row : {B : Type 0} (g : Found → List B) (i : ℕ) (e : Ended Row) → slice_get rows i ≡ Some e →
+        flat_map g (row_found ask (slice_get rows i) (answers i)) ≡ flat_map g (found_at ask.archive (job_of (row_of e)) (answers i))
+    at_row g i e is = ap (λ o. flat_map g (row_found ask o (answers i))) is
+
+    tally_rows : flat_map by_row (numbers_below (length rows)) ≡ tallied_of found
+    tally_rows =
+        flat_map-on by_row (λ i. flat_map tallied_in (row_found ask (slice_get rows i) (answers i))) (numbers_below (length rows))
+        (each-map (λ i. i < length rows) (λ i. by_row i ≡ flat_map tallied_in (row_found ask (slice_get rows i) (answers i)))
+        (λ i b. let r = got_here rows i b in ap (λ o. by_end o (answers i)) r.1 ∙ (finds_here i r.0 r.1).tally ∙ sym (at_row tallied_in i r.0 r.1)) (numbers_below (length rows)) (below_all (length rows)))
+        ∙ sym (spread_out tallied_in)
+
+    pub files_found : IsPermutation (files_of_passes ask given passes) (tallied_of found)
+    files_found =
+        subst (λ l. IsPermutation l (tallied_of found)) (sym all_passes)
+        (IsPermutation-trans _ (flat_map (contributes ask answers) history) _
+        (lists_moved (contributes ask answers) (parts_of workers history) history (parts_whole capacity workers history settled.legal))
+        (subst (λ l. IsPermutation l (tallied_of found)) (sym by_numbers)
+        (subst (IsPermutation (flat_map by_row (ends history))) tally_rows
+        (permuted_lists by_row (ends history) (numbers_below (length rows)) (ends_are capacity workers history settled.legal settled.over (length rows) settled.numbers)))))
+
+    file_rows : ask.files ≡ true → files_of found ≡ files_in_rows rows
+    file_rows t = spread_out file_in ∙ by_number (λ i. flat_map file_in (row_found ask (slice_get rows i) (answers i))) (λ e. files_by_row (row_of e)) rows
+        (λ i e is. at_row file_in i e is ∙ (finds_here i e is).files t)
+
+    fault_rows : faults_of found ≡ faults_in_rows rows
+    fault_rows = spread_out fault_in ∙ by_number (λ i. flat_map fault_in (row_found ask (slice_get rows i) (answers i))) (λ e. faults_by_row (row_of e)) rows
+        (λ i e is. at_row fault_in i e is ∙ (finds_here i e is).faults)
+
+    asked_files : (b : Bool) → ask.files ≡ b → cond ask.files (files_of found) [] ≡ cond ask.files (files_in_rows rows) []
+    asked_files true t = ap (λ l. cond ask.files l []) (file_rows t)
+    asked_files false t = ap (λ b. cond b (files_of found) []) t ∙ sym (ap (λ b. cond b (files_in_rows rows) []) t)
+
+    directory_rows : directories_of found ≡ directories_in_rows rows
+    directory_rows = spread_out directory_in ∙ by_number (λ i. flat_map directory_in (row_found ask (slice_get rows i) (answers i))) (λ e. directories_by_row (row_of e)) rows
+        (λ i e is. at_row directory_in i e is ∙ (finds_here i e is).directories)
+
+    -- the report of what the rows found
+    pub report_of_rows : (t : Held) → StandsFor t (files_of_passes ask given passes) → (r : Report) →
+        IsReport t (length (directories_in_rows rows)) (cond ask.files (files_in_rows rows) []) (faults_in_rows rows) r → IsReportOf ask.files found r
+    report_of_rows t stood r is =
+        let stands = stands_permuted t (files_of_passes ask given passes) (tallied_of found) files_found stood in
+        record {
+          tally = is.tally (tallied_of found) stands;
+          totals = is.totals ∙ stands.totals;
+          directories = is.directories ∙ sym (ap length directory_rows);
+          files_are = subst (λ l. IsPermutation l r.files.items) (sym (asked_files ask.files refl)) is.files;
+          file_order = is.file_order;
+          faults_are = subst (λ l. IsPermutation l r.faults.items) (sym fault_rows) is.faults;
+          fault_order = is.fault_order;
+        }
+
+    -- ---- no path stands twice
+
+    no_entries : IsListing []
+    unfolding IsStrictlySortedBy
+    no_entries = record { good = refl; order = tt; few = omega arith }
+
+    tidy_or : (i : ℕ) (o : Option (Ended Row)) → slice_get rows i ≡ o → IsTidy (or_no_answers o (by (ender history i) i))
+    tidy_or i None is = no_entries
+    tidy_or i (Some e) is = subst IsTidy (answers_are i e is) (lawful_here i e is).0.tidy
+
+    tidy_at : (i : ℕ) → IsTidy (answers i)
+    tidy_at i = tidy_or i (slice_get rows i) refl
+
+    tidy_from : (children : ℕ → List ChildAt) (i : ℕ) (place : List (List ℕ)) → IsTidy (tree_from no_answers answers children i place)
+    tidy_from children i [] = tidy_at i
+    tidy_from children i (n ∷ place) = at (child_number n (children i)) (λ k. tidy_from children k place)
+      where
+        at : (o : Option ℕ) → ((k : ℕ) → IsTidy (tree_from no_answers answers children k place)) → IsTidy (elim o [ None ↦ no_answers | Some k ↦ tree_from no_answers answers children k place ])
+        at None rec = no_entries
+        at (Some k) rec = rec k
+
+    moved : IsPermutation (walk_of ask.archive capacity top (tree_of_rows rows answers)) found
+    moved = core_law ask full capacity workers top history rows answers walked whole capacity (omega arith)
+
+    once : AreApart (file_paths (files_of (walk_of ask.archive capacity top (tree_of_rows rows answers)))) × AreApart (fault_paths (faults_of (walk_of ask.archive capacity top (tree_of_rows rows answers))))
+    once = paths_once_law ask.archive capacity top (tree_of_rows rows answers) (tidy_from (children_by_rows rows) 0)
+
+    nothing_twice : AreApart []
+    unfolding IsDistinct
+    nothing_twice = tt
+
+    files_apart : (b : Bool) → ask.files ≡ b → AreApart (file_paths (cond ask.files (files_in_rows rows) []))
+    files_apart true t =
+        subst (λ l. AreApart (file_paths l)) (file_rows t ∙ sym (ap (λ b. cond b (files_in_rows rows) []) t)) (file_lines_apart _ found moved once.0)
+    files_apart false t = subst (λ b. AreApart (file_paths (cond b (files_in_rows rows) []))) (sym t) nothing_twice
+
+    faults_apart : AreApart (fault_paths (faults_in_rows rows))
+    faults_apart = subst (λ l. AreApart (fault_paths l)) fault_rows (fault_lines_apart _ found moved once.1)
+
+    -- ---- the report of the walk
+
+    pub report_of_walk : top.path ≡ [] → (t : Held) → StandsFor t (files_of_passes ask given passes) → (r : Report) →
+        IsReport t (length (directories_in_rows rows)) (cond ask.files (files_in_rows rows) []) (faults_in_rows rows) r → IsWalkReport MayAnswer ask capacity workers top r
+    report_of_walk at_top t stood r is =
+        let ours = report_of_rows t stood r is in
+        record {
+          found = some_rows;
+          whole = whole;
+          report = λ depth deep. report_law ask.files found (walk_of ask.archive depth top (tree_of_rows rows answers)) r
+              (IsPermutation-sym _ _ (core_law ask full capacity workers top history rows answers walked whole depth deep)) ours;
+          files_once = is.files_strictly (files_apart ask.files refl);
+          faults_once = is.faults_strictly faults_apart;
+          one_answer = λ tree one depth deep. report_law ask.files found (walk_of ask.archive depth top tree) r
+              (IsPermutation-sym _ _ (one_answer_law tree ask full capacity workers top history rows answers walked whole at_top
+              (λ i e here. one (job_of (row_of e)) (answers i) (lawful_here i e here).1) depth deep)) ours;
+        }

@@ -1,0 +1,85 @@
+-- What the parts of a level give to a report, and lists by number.
+use Rattle.std.proofs.Common.{◌≡◌, ℕ, zero, suc, ◌<◌, List, [], ◌∷◌, ◌++◌, length, slice_get, map, refl, sym, ◌∙◌, ap, arith, Option, Some, None, append-nil, append_assoc}
+use Rattle.std.specs.List.{flat_map}
+use Rattle.std.proofs.lemmas.Grind.{flat_map-append}
+use Rattle.std.proofs.lemmas.List.Folds.{flat_map-map}
+use Rattle.std.proofs.lemmas.List.Concat.{flat_map_single}
+use Rattle.lc_walk.specs.Job.{JobAt}
+use Rattle.lc_walk.specs.Level.{CountedAt, FileFaultAt, listed_level}
+use Rattle.lc_walk.specs.Found.{Found, found_file, found_directory, fault_of, found_of}
+use Rattle.lc_walk.specs.WalkReport.{tallied, line_of, tallied_in, file_in, fault_in, directory_in, tallied_of, files_of, faults_of, directories_of}
+use Rattle.lc_walk.specs.Assembled.{fault_line}
+use Rattle.lc_walk.specs.TreeOfRows.{numbers_below}
+use Rattle.lc_walk.proofs.Weights.{Each, each-map, each-append, flat_map-on}
+
+pub flat_twice : {A B C : Type 0} (g : B → List C) (f : A → List B) (xs : List A) → flat_map g (flat_map f xs) ≡ flat_map (λ x. flat_map g (f x)) xs
+flat_twice g f [] = refl
+flat_twice g f (x ∷ xs) = flat_map-append g (f x) (flat_map f xs) ∙ ap (λ l. flat_map g (f x) ++ l) (flat_twice g f xs)
+
+pub flat_none : {A B : Type 0} (f : A → List B) (xs : List A) → ((x : A) → f x ≡ []) → flat_map f xs ≡ []
+flat_none f [] e = refl
+flat_none f (x ∷ xs) e = ap (λ l. l ++ flat_map f xs) (e x) ∙ flat_none f xs e
+
+went : {B : Type 0} (g : Found → List B) (j : JobAt) (fs : List CountedAt) (xs : List FileFaultAt) (cs : List (List ℕ × JobAt)) →
+    flat_map g (found_of j (listed_level fs xs cs)) ≡ g (found_directory j.path) ++ (flat_map (λ f. g (found_file j.path f)) fs ++ flat_map (λ x. g (fault_of j.path x)) xs)
+went g j fs xs cs =
+    ap (λ l. g (found_directory j.path) ++ l)
+    (flat_map-append g (map (found_file j.path) fs) (map (fault_of j.path) xs)
+    ∙ ap (λ l. l ++ flat_map g (map (fault_of j.path) xs)) (flat_map-map g (found_file j.path) fs)
+    ∙ ap (λ l. flat_map (λ f. g (found_file j.path f)) fs ++ l) (flat_map-map g (fault_of j.path) xs))
+
+pub tallied_went : (j : JobAt) (fs : List CountedAt) (xs : List FileFaultAt) (cs : List (List ℕ × JobAt)) → tallied_of (found_of j (listed_level fs xs cs)) ≡ map tallied fs
+tallied_went j fs xs cs =
+    went tallied_in j fs xs cs ∙ ap (λ l. flat_map (λ f. tallied f ∷ []) fs ++ l) (flat_none (λ x. tallied_in (fault_of j.path x)) xs (λ x. refl))
+    ∙ append-nil (flat_map (λ f. tallied f ∷ []) fs) ∙ flat_map_single tallied fs
+
+pub files_went : (j : JobAt) (fs : List CountedAt) (xs : List FileFaultAt) (cs : List (List ℕ × JobAt)) → files_of (found_of j (listed_level fs xs cs)) ≡ map (line_of j.path) fs
+files_went j fs xs cs =
+    went file_in j fs xs cs ∙ ap (λ l. flat_map (λ f. line_of j.path f ∷ []) fs ++ l) (flat_none (λ x. file_in (fault_of j.path x)) xs (λ x. refl))
+    ∙ append-nil (flat_map (λ f. line_of j.path f ∷ []) fs) ∙ flat_map_single (line_of j.path) fs
+
+pub faults_went : (j : JobAt) (fs : List CountedAt) (xs : List FileFaultAt) (cs : List (List ℕ × JobAt)) → faults_of (found_of j (listed_level fs xs cs)) ≡ map (fault_line j.path) xs
+faults_went j fs xs cs =
+    went fault_in j fs xs cs ∙ ap (λ l. l ++ flat_map (λ x. fault_line j.path x ∷ []) xs) (flat_none (λ f. fault_in (found_file j.path f)) fs (λ f. refl))
+    ∙ flat_map_single (fault_line j.path) xs
+
+pub directories_went : (j : JobAt) (fs : List CountedAt) (xs : List FileFaultAt) (cs : List (List ℕ × JobAt)) → directories_of (found_of j (listed_level fs xs cs)) ≡ j.path ∷ []
+directories_went j fs xs cs =
+    went directory_in j fs xs cs
+    ∙ ap (λ l. j.path ∷ (l ++ flat_map (λ x. directory_in (fault_of j.path x)) xs)) (flat_none (λ f. directory_in (found_file j.path f)) fs (λ f. refl))
+    ∙ ap (λ l. j.path ∷ l) (flat_none (λ x. directory_in (fault_of j.path x)) xs (λ x. refl))
+
+-- ---- lists by number
+
+front : {B : Type 0} (f : ℕ → List B) (n : ℕ) → flat_map f (numbers_below (suc n)) ≡ f 0 ++ flat_map (λ k. f (suc k)) (numbers_below n)
+front f zero = refl
+front f (suc n) =
+    flat_map-append f (numbers_below (suc n)) (suc n ∷ [])
+    ∙ ap (λ l. l ++ (f (suc n) ++ [])) (front f n)
+    ∙ append_assoc (f 0) (flat_map (λ k. f (suc k)) (numbers_below n)) (f (suc n) ++ [])
+    ∙ ap (λ l. f 0 ++ l) (sym (flat_map-append (λ k. f (suc k)) (numbers_below n) (n ∷ [])))
+
+abbrev or_none : {A B : Type 0} → (A → List B) → Option A → List B
+or_none f None = []
+or_none f (Some x) = f x
+
+in_order : {A B : Type 0} (f : A → List B) (xs : List A) → flat_map (λ i. or_none f (slice_get xs i)) (numbers_below (length xs)) ≡ flat_map f xs
+in_order f [] = refl
+in_order f (x ∷ xs) = front (λ i. or_none f (slice_get (x ∷ xs) i)) (length xs) ∙ ap (λ l. f x ++ l) (in_order f xs)
+
+pub below_all : (n : ℕ) → Each (λ i. i < n) (numbers_below n)
+below_all zero = tt
+below_all (suc n) = each-append (λ i. i < suc n) (numbers_below n) (n ∷ []) (each-map (λ i. i < n) (λ i. i < suc n) (λ i b. omega arith) (numbers_below n) (below_all n)) (omega arith, tt)
+
+pub got_here : {A : Type 0} (xs : List A) (i : ℕ) → i < length xs → (x : A) × (slice_get xs i ≡ Some x)
+got_here [] i l = absurd (omega arith)
+got_here (x ∷ xs) zero l = (x, refl)
+got_here (x ∷ xs) (suc i) l = got_here xs i (omega arith)
+
+-- what each number gives, where it is what its element gives
+pub by_number : {A B : Type 0} (g : ℕ → List B) (f : A → List B) (xs : List A) → ((i : ℕ) (x : A) → slice_get xs i ≡ Some x → g i ≡ f x) →
+    flat_map g (numbers_below (length xs)) ≡ flat_map f xs
+by_number g f xs e =
+    flat_map-on g (λ i. or_none f (slice_get xs i)) (numbers_below (length xs))
+    (each-map (λ i. i < length xs) (λ i. g i ≡ or_none f (slice_get xs i)) (λ i b. let r = got_here xs i b in e i r.0 r.1 ∙ ap (or_none f) (sym r.1)) (numbers_below (length xs)) (below_all (length xs)))
+    ∙ in_order f xs

@@ -1,0 +1,282 @@
+-- The steps of going through the rows' children.
+use Rattle.std.proofs.Common.{◌≡◌, ◌≢◌, ℕ, zero, suc, ◌+◌, ◌<◌, ◌≤◌, ◌==◌, Bool, true, false, List, [], ◌∷◌, length, slice_get, slice_set, replicate, refl, sym, ◌∙◌, ap, arith, subst, Some, ◌⊎◌, inl, inr, eq-eqb}
+use Rattle.std.proofs.lemmas.Option.{slice_get_within}
+use Rattle.std.proofs.lemmas.Bool.{eqb-true, cases_lt}
+use Rattle.lc_board.proofs.Places.{get_set_same, get_set_other}
+use Rattle.lc_board.specs.declared.answers.Ended.{Ended}
+use Rattle.lc_walk.specs.Paths.{path_in}
+use Rattle.lc_walk.specs.RowViews.{ChildAt}
+use Rattle.lc_walk.specs.Rows.{row_of, job_of, children_in}
+use Rattle.lc_walk.specs.Assembled.{IsEdge, HangsOnce, IsPlaced}
+use Rattle.lc_walk.specs.Marks.{Seen, HangsSeen, Marks, IsNext, IsPathAt}
+use Rattle.lc_walk.specs.declared.row.Row.{Row}
+use Rattle.lc_walk.proofs.Listings.{got_here}
+
+-- what is seen with one child more is that child, or was seen
+seen_more : (at j p i : ℕ) → Seen at (j + 1) p i → Seen at j p i ⊎ ((p ≡ at) × (i ≡ j))
+seen_more at j p i (inl l) = inl (inl l)
+seen_more at j p i (inr x) = split (cases_lt i j)
+  where
+    split : (i < j) ⊎ (j ≤ i) → Seen at j p i ⊎ ((p ≡ at) × (i ≡ j))
+    split (inl l) = inl (inr (x.0, l))
+    split (inr g) = let u = x.1 in inr (x.0, omega arith)
+
+more_seen : (at j p i : ℕ) → Seen at j p i → Seen at (j + 1) p i
+more_seen at j p i (inl l) = inl l
+more_seen at j p i (inr x) = let u = x.1 in inr (x.0, omega arith)
+
+not_seen : (at j p i : ℕ) → Seen at j p i → p ≡ at → i ≡ j → ⊥
+not_seen at j p i (inl l) e f = omega arith
+not_seen at j p i (inr x) e f = let u = x.1 in omega arith
+
+length_set : {A : Type 0} (xs : List A) (i : ℕ) (v : A) → length (slice_set xs i v) ≡ length xs
+length_set [] i v = refl
+length_set (x ∷ xs) zero v = refl
+length_set (x ∷ xs) (suc i) v = ap suc (length_set xs i v)
+
+pub no_length : {A : Type 0} (xs : List A) → length xs ≡ 0 → xs ≡ []
+no_length [] e = refl
+no_length (x ∷ xs) e = absurd (omega arith)
+
+module _ (rows : List (Ended Row)) where
+  abbrev next_edge : (at j : ℕ) (child : ChildAt) → IsNext rows at j child → IsEdge rows at j child.number
+  next_edge at j child n = record { above = n.above; is = n.is; child = child; here = n.here; number = refl }
+
+  -- the child at a place has one number
+  one_number : (at j k : ℕ) (child : ChildAt) → IsNext rows at j child → IsEdge rows at j k → child.number ≡ k
+  one_number at j k child n e =
+      let row : n.above ≡ e.above = some_row n.above e.above (sym n.is ∙ e.is) in
+      let same : child ≡ e.child = some_child child e.child (sym n.here ∙ ap (λ r. slice_get (children_in (row_of r)) j) row ∙ e.here) in
+      ap (λ (c : ChildAt). c.number) same ∙ e.number
+    where
+      some_row : (x y : Ended Row) → Some x ≡ Some y → x ≡ y
+      some_row x y e = cc
+
+      some_child : (x y : ChildAt) → Some x ≡ Some y → x ≡ y
+      some_child x y e = cc
+
+  -- one child more, of another number
+  other_hangs : (at j k : ℕ) (child : ChildAt) → IsNext rows at j child → child.number ≢ k → HangsSeen rows at j k → HangsSeen rows at (j + 1) k
+  other_hangs at j k child n o h = record {
+    row = h.row;
+    its = h.its;
+    parent = h.parent;
+    place = h.place;
+    lower = h.lower;
+    seen = more_seen at j h.parent h.place h.seen;
+    edge = h.edge;
+    path = h.path;
+    only = λ p i s e. only p i e (seen_more at j p i s);
+  }
+    where
+      only : (p i : ℕ) → IsEdge rows p i k → Seen at j p i ⊎ ((p ≡ at) × (i ≡ j)) → (p ≡ h.parent) × (i ≡ h.place)
+      only p i e (inl s) = h.only p i s e
+      only p i e (inr x) = absurd (o (one_number at j k child n (subst (λ y. IsEdge rows at y k) x.1 (subst (λ y. IsEdge rows y i k) x.0 e))))
+
+  other_unnamed : (at j k : ℕ) (child : ChildAt) → IsNext rows at j child → child.number ≢ k →
+      ((p i : ℕ) → Seen at j p i → IsEdge rows p i k → ⊥) → (p i : ℕ) → Seen at (j + 1) p i → IsEdge rows p i k → ⊥
+  other_unnamed at j k child n o u p i s e = at_place (seen_more at j p i s)
+    where
+      at_place : Seen at j p i ⊎ ((p ≡ at) × (i ≡ j)) → ⊥
+      at_place (inl t) = u p i t e
+      at_place (inr x) = o (one_number at j k child n (subst (λ y. IsEdge rows at y k) x.1 (subst (λ y. IsEdge rows y i k) x.0 e)))
+
+  pub marks_skip : (at j : ℕ) (child : ChildAt) (hung : List Bool) → IsNext rows at j child → (child.number ≡ 0) ⊎ (length rows ≤ child.number) → Marks rows at j hung → Marks rows at (j + 1) hung
+  marks_skip at j child hung n out m = record {
+    long = m.long;
+    unnamed = λ k some is. other_unnamed at j k child n (apart k some (slice_get_within hung k false is) out) (m.unnamed k some is);
+    hangs = λ k some is. other_hangs at j k child n (apart k some (slice_get_within hung k true is) out) (m.hangs k some is);
+  }
+    where
+      apart : (k : ℕ) → 1 ≤ k → k < length hung → (child.number ≡ 0) ⊎ (length rows ≤ child.number) → child.number ≢ k
+      apart k some low (inl z) e = omega arith
+      apart k some low (inr g) e = let same = m.long in omega arith
+
+  -- why the rows make no tree at the child's number
+  placed_at : (k : ℕ) (e : Ended Row) → 1 ≤ k → slice_get rows k ≡ Some e → IsPlaced rows k → HangsOnce rows k (row_of e)
+  placed_at zero e some is p = absurd (omega arith)
+  placed_at (suc k) e some is p = p e is
+
+  pub torn_twice : (at j : ℕ) (child : ChildAt) (hung : List Bool) → IsNext rows at j child → 1 ≤ child.number →
+      slice_get hung child.number ≡ Some true → Marks rows at j hung → IsPlaced rows child.number → ⊥
+  torn_twice at j child hung n some is m p =
+      let s = m.hangs child.number some is in
+      let h = placed_at child.number s.row some s.its p in
+      let mine = h.only at j (next_edge at j child n) in
+      let theirs = h.only s.parent s.place s.edge in
+      not_seen at j s.parent s.place s.seen (theirs.0 ∙ sym mine.0) (theirs.1 ∙ sym mine.1)
+
+  pub torn_low : (at j : ℕ) (child : ChildAt) → IsNext rows at j child → 1 ≤ child.number → child.number < length rows → child.number ≤ at → IsPlaced rows child.number → ⊥
+  torn_low at j child n some low high p =
+      let r = got_here rows child.number low in
+      let h = placed_at child.number r.0 some r.1 p in
+      let mine = (h.only at j (next_edge at j child n)).0 in
+      let up = h.lower in
+      omega arith
+
+  pub torn_path : (at j : ℕ) (child : ChildAt) (d x : List ℕ) → IsNext rows at j child → IsPathAt rows at d → IsPathAt rows child.number x → 1 ≤ child.number →
+      (x ≡ path_in d child.name → ⊥) → IsPlaced rows child.number → ⊥
+  torn_path at j child d x n up its some other p =
+      let h = placed_at child.number its.row some its.is p in
+      let mine = h.only at j (next_edge at j child n) in
+      let dir : (job_of (row_of n.above)).path ≡ d = ap (λ r. (job_of (row_of r)).path) (one_row n.above up.row (sym n.is ∙ up.is)) ∙ up.path_is in
+      let above : n.above ≡ h.edge.above = one_row n.above h.edge.above (sym n.is ∙ ap (slice_get rows) mine.0 ∙ h.edge.is) in
+      let child_is : child ≡ h.edge.child = one_child child h.edge.child (sym n.here ∙ ap (λ r. slice_get (children_in (row_of r)) j) above ∙ ap (slice_get (children_in (row_of h.edge.above))) mine.1 ∙ h.edge.here) in
+      other (sym its.path_is ∙ h.path ∙ ap (λ r. path_in (job_of (row_of r)).path h.edge.child.name) (sym above) ∙ ap (λ (c : ChildAt). path_in (job_of (row_of n.above)).path c.name) (sym child_is) ∙ ap (λ x. path_in x child.name) dir)
+    where
+      one_row : (x y : Ended Row) → Some x ≡ Some y → x ≡ y
+      one_row x y e = cc
+
+      one_child : (x y : ChildAt) → Some x ≡ Some y → x ≡ y
+      one_child x y e = cc
+
+  -- the child's number gets its mark
+  pub marks_set : (at j : ℕ) (child : ChildAt) (d x : List ℕ) (hung : List Bool) → IsNext rows at j child → IsPathAt rows at d → IsPathAt rows child.number x → 1 ≤ child.number → child.number < length rows → at < child.number →
+      slice_get hung child.number ≡ Some false → x ≡ path_in d child.name →
+      Marks rows at j hung → Marks rows at (j + 1) (slice_set hung child.number true)
+  marks_set at j child d x hung n dir its some low up unmarked path m = record {
+    long = long hung child.number ∙ m.long;
+    unnamed = λ k s f. unnamed k s f (which k);
+    hangs = λ k s t. hangs k s t (which k);
+  }
+    where
+      one_row : (x y : Ended Row) → Some x ≡ Some y → x ≡ y
+      one_row x y e = cc
+
+      dir_is : (job_of (row_of n.above)).path ≡ d
+      dir_is = ap (λ r. (job_of (row_of r)).path) (one_row n.above dir.row (sym n.is ∙ dir.is)) ∙ dir.path_is
+
+      long : (xs : List Bool) (i : ℕ) → length (slice_set xs i true) ≡ length xs
+      long xs i = length_set xs i true
+
+      within : child.number < length hung
+      within = let same = m.long in omega arith
+
+      which : (k : ℕ) → (child.number ≡ k) ⊎ (child.number ≢ k)
+      which k = decide (child.number == k) refl
+        where
+          decide : (b : Bool) → (child.number == k) ≡ b → (child.number ≡ k) ⊎ (child.number ≢ k)
+          decide true e = inl (eqb-true child.number k e)
+          decide false e = inr (λ s. (let t = eq-eqb child.number k s in let h : true ≡ false = sym t ∙ e in cc))
+
+      marked : slice_get (slice_set hung child.number true) child.number ≡ Some true
+      marked = get_set_same hung child.number true within
+
+      old : (k : ℕ) → child.number ≢ k → slice_get (slice_set hung child.number true) k ≡ slice_get hung k
+      old k o = get_set_other hung child.number k true (λ e. o (sym e))
+
+      unnamed : (k : ℕ) → 1 ≤ k → slice_get (slice_set hung child.number true) k ≡ Some false → (child.number ≡ k) ⊎ (child.number ≢ k) → (p i : ℕ) → Seen at (j + 1) p i → IsEdge rows p i k → ⊥
+      unnamed k s f (inl e) p i z x = let t : Some true ≡ Some false = sym marked ∙ ap (slice_get (slice_set hung child.number true)) e ∙ f in cc
+      unnamed k s f (inr o) p i z x = other_unnamed at j k child n o (m.unnamed k s (sym (old k o) ∙ f)) p i z x
+
+      hangs : (k : ℕ) → 1 ≤ k → slice_get (slice_set hung child.number true) k ≡ Some true → (child.number ≡ k) ⊎ (child.number ≢ k) → HangsSeen rows at (j + 1) k
+      hangs k s t (inr o) = other_hangs at j k child n o (m.hangs k s (sym (old k o) ∙ t))
+      hangs k s t (inl e) = subst (HangsSeen rows at (j + 1)) e (record {
+        row = its.row;
+        its = its.is;
+        parent = at;
+        place = j;
+        lower = up;
+        seen = inr (refl, omega arith);
+        edge = next_edge at j child n;
+        path = its.path_is ∙ path ∙ ap (λ y. path_in y child.name) (sym dir_is);
+        only = λ p i z edge. only p i edge (seen_more at j p i z);
+      })
+        where
+          only : (p i : ℕ) → IsEdge rows p i child.number → Seen at j p i ⊎ ((p ≡ at) × (i ≡ j)) → (p ≡ at) × (i ≡ j)
+          only p i edge (inl z) = absurd (m.unnamed child.number some unmarked p i z edge)
+          only p i edge (inr x) = x
+
+  -- all children of a row were seen
+  pub marks_row : (at : ℕ) (e : Ended Row) (hung : List Bool) → slice_get rows at ≡ Some e → Marks rows at (length (children_in (row_of e))) hung → Marks rows (at + 1) 0 hung
+  marks_row at e hung is m = record {
+    long = m.long;
+    unnamed = λ k s f p i z edge. m.unnamed k s f p i (back p i k edge z) edge;
+    hangs = λ k s t. (let h = m.hangs k s t in record {
+      row = h.row;
+      its = h.its;
+      parent = h.parent;
+      place = h.place;
+      lower = h.lower;
+      seen = on h.parent h.place h.seen;
+      edge = h.edge;
+      path = h.path;
+      only = λ p i z edge. h.only p i (back p i k edge z) edge;
+    });
+  }
+    where
+      on : (p i : ℕ) → Seen at (length (children_in (row_of e))) p i → Seen (at + 1) 0 p i
+      on p i (inl l) = inl (omega arith)
+      on p i (inr x) = let u = x.0 in inl (omega arith)
+
+      one_row : (x y : Ended Row) → Some x ≡ Some y → x ≡ y
+      one_row x y e = cc
+
+      inside : (p i k : ℕ) → IsEdge rows p i k → p ≡ at → i < length (children_in (row_of e))
+      inside p i k edge same =
+          let row : edge.above ≡ e = one_row edge.above e (sym edge.is ∙ ap (slice_get rows) same ∙ is) in
+          slice_get_within (children_in (row_of e)) i edge.child (ap (λ r. slice_get (children_in (row_of r)) i) (sym row) ∙ edge.here)
+
+      back : (p i k : ℕ) → IsEdge rows p i k → Seen (at + 1) 0 p i → Seen at (length (children_in (row_of e))) p i
+      back p i k edge (inr x) = let u = x.1 in absurd (omega arith)
+      back p i k edge (inl l) = split (cases_lt p at)
+        where
+          split : (p < at) ⊎ (at ≤ p) → Seen at (length (children_in (row_of e))) p i
+          split (inl b) = inl b
+          split (inr b) = let same : p ≡ at = omega arith in inr (same, inside p i k edge same)
+
+  no_marks : (n k : ℕ) → slice_get (replicate n false) k ≡ Some true → ⊥
+  no_marks zero k e = cc
+  no_marks (suc n) zero e = cc
+  no_marks (suc n) (suc k) e = no_marks n k e
+
+  pub marks_start : (hung : List Bool) → hung ≡ replicate (length rows) false → length hung ≡ length rows → Marks rows 0 0 hung
+  marks_start hung is long = record {
+    long = long;
+    unnamed = λ k s f p i z edge. none p i z;
+    hangs = λ k s t. absurd (no_marks (length rows) k (ap (λ l. slice_get l k) (sym is) ∙ t));
+  }
+    where
+      none : (p i : ℕ) → Seen 0 0 p i → ⊥
+      none p i (inl l) = omega arith
+      none p i (inr x) = let u = x.1 in omega arith
+
+  -- all rows were seen
+  all_seen : (p i k : ℕ) → IsEdge rows p i k → Seen (length rows) 0 p i
+  all_seen p i k edge = inl (slice_get_within rows p edge.above edge.is)
+
+  pub torn_unnamed : (k : ℕ) (hung : List Bool) → 1 ≤ k → k < length rows → slice_get hung k ≡ Some false → Marks rows (length rows) 0 hung → IsPlaced rows k → ⊥
+  torn_unnamed k hung some low is m p =
+      let r = got_here rows k low in
+      let h = placed_at k r.0 some r.1 p in
+      m.unnamed k some is h.parent h.at (all_seen h.parent h.at k h.edge) h.edge
+
+  pub hangs_now : (k : ℕ) (hung : List Bool) (e : Ended Row) → 1 ≤ k → slice_get rows k ≡ Some e → slice_get hung k ≡ Some true → Marks rows (length rows) 0 hung → HangsOnce rows k (row_of e)
+  hangs_now k hung e some is t m =
+      let h = m.hangs k some t in
+      let row : h.row ≡ e = one_row h.row e (sym h.its ∙ is) in
+      record {
+        parent = h.parent;
+        at = h.place;
+        lower = h.lower;
+        edge = h.edge;
+        path = ap (λ r. (job_of (row_of r)).path) (sym row) ∙ h.path;
+        only = λ p i edge. h.only p i (all_seen p i k edge) edge;
+      }
+    where
+      one_row : (x y : Ended Row) → Some x ≡ Some y → x ≡ y
+      one_row x y e = cc
+
+  pub torn_empty : length rows ≡ 0 → IsPlaced rows 0 → ⊥
+  torn_empty z p = let low = slice_get_within rows 0 p.0 p.1 in omega arith
+
+  pub torn_top : (e : Ended Row) → slice_get rows 0 ≡ Some e → ((job_of (row_of e)).path ≡ [] → ⊥) → IsPlaced rows 0 → ⊥
+  torn_top e is other p = other (ap (λ r. (job_of (row_of r)).path) (one_row e p.0 (sym is ∙ p.1)) ∙ p.2)
+    where
+      one_row : (x y : Ended Row) → Some x ≡ Some y → x ≡ y
+      one_row x y e = cc
+
+  pub all_placed : (hung : List Bool) (e : Ended Row) → slice_get rows 0 ≡ Some e → (job_of (row_of e)).path ≡ [] → Marks rows (length rows) 0 hung →
+      ((k : ℕ) → 1 ≤ k → k < length rows → slice_get hung k ≡ Some true) → (k : ℕ) → IsPlaced rows k
+  all_placed hung e is top m all zero = (e, is, top)
+  all_placed hung e is top m all (suc k) = λ d here. hangs_now (suc k) hung d (omega arith) here (all (suc k) (omega arith) (slice_get_within rows (suc k) d here)) m

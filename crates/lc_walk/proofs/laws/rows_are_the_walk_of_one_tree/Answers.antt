@@ -1,0 +1,5 @@
+use Rattle.lc_walk.proofs.Law.{one_answer_law}
+use Rattle.lc_walk.proofs.laws.rows_are_the_walk_of_one_tree.Goals as goal
+
+pub returns : goal.returns
+returns c = one_answer_law

@@ -1,0 +1,44 @@
+use Rattle.std.proofs.Common.{◌+◌, true, slice_get, slice_set, Some, sym, ◌∙◌, ap, subst, arith, inl, inr}
+use Rattle.lc_walk.specs.Assembled.{IsPlaced}
+use Rattle.lc_walk.specs.Marks.{Marks, IsPathAt}
+use Rattle.lc_walk.proofs.Marking.{marks_skip, torn_twice, torn_low, torn_path, marks_set}
+use Rattle.lc_walk.proofs.report.tree_check.hang.Goals as goal
+
+pub returns-then-number-eq0-clause-marks : goal.returns-then-number-eq0-clause-marks
+returns-then-number-eq0-clause-marks c =
+    marks_skip c.args.rows.now c.args.at c.args.place c.args.child.now c.args.hung.now c.requires.next
+    (inl (omega (arith, c.if-number-eq0.true, c.number_of-number.ensures.same))) c.requires.marks
+
+pub returns-then-number-rows-clause-marks : goal.returns-then-number-rows-clause-marks
+returns-then-number-rows-clause-marks c =
+    marks_skip c.args.rows.now c.args.at c.args.place c.args.child.now c.args.hung.now c.requires.next
+    (inr (omega (arith, c.if-number-rows.true, c.number_of-number.ensures.same))) c.requires.marks
+
+pub returns-then-is_marked-clause-torn : goal.returns-then-is_marked-clause-torn
+returns-then-is_marked-clause-torn c = λ p.
+    let same = c.number_of-number.ensures.same in
+    torn_twice c.args.rows.now c.args.at c.args.place c.args.child.now c.args.hung.now c.requires.next
+    (omega (arith, c.if-number-eq0.false, same))
+    (ap (slice_get c.args.hung.now) (sym same) ∙ c.is_marked.ensures ∙ ap Some c.if-is_marked.true) c.requires.marks (subst (IsPlaced c.args.rows.now) same p)
+
+pub returns-then-at-number-clause-torn : goal.returns-then-at-number-clause-torn
+returns-then-at-number-clause-torn c = λ p.
+    let same = c.number_of-number.ensures.same in
+    torn_low c.args.rows.now c.args.at c.args.place c.args.child.now c.requires.next
+    (omega (arith, c.if-number-eq0.false, same)) (omega (arith, c.if-number-rows.false, same)) (omega (arith, c.if-at-number.true, same)) (subst (IsPlaced c.args.rows.now) same p)
+
+pub returns-then-not-same-clause-torn : goal.returns-then-not-same-clause-torn
+returns-then-not-same-clause-torn c = λ p.
+    let same = c.number_of-number.ensures.same in
+    torn_path c.args.rows.now c.args.at c.args.place c.args.child.now c.path_at.result.now c.path_at-path.result.now c.requires.next c.path_at.ensures
+    (subst (λ k. IsPathAt c.args.rows.now k c.path_at-path.result.now) same c.path_at-path.ensures)
+    (omega (arith, c.if-number-eq0.false, same)) (c.in-Ok.ensures.1 c.if-not-same.true) (subst (IsPlaced c.args.rows.now) same p)
+
+pub returns-clause-marks : goal.returns-clause-marks
+returns-clause-marks c =
+    let same = c.number_of-number.ensures.same in
+    subst (Marks c.args.rows.now c.args.at (c.args.place + 1)) (sym (c.mark.ensures ∙ ap (λ k. slice_set c.args.hung.now k true) same))
+    (marks_set c.args.rows.now c.args.at c.args.place c.args.child.now c.path_at.result.now c.path_at-path.result.now c.args.hung.now c.requires.next c.path_at.ensures
+    (subst (λ k. IsPathAt c.args.rows.now k c.path_at-path.result.now) same c.path_at-path.ensures)
+    (omega (arith, c.if-number-eq0.false, same)) (omega (arith, c.if-number-rows.false, same)) (omega (arith, c.if-at-number.false, same))
+    (ap (slice_get c.args.hung.now) (sym same) ∙ c.is_marked.ensures ∙ ap Some c.if-is_marked.false) (c.in-Ok.ensures.0 c.if-not-same.false) c.requires.marks)

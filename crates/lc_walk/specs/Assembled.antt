@@ -1,0 +1,102 @@
+-- What is made of the rows of a closed board.
+use Rattle.std.specs.Prelude.{◌≡◌, ℕ, zero, suc, ◌<◌, Bool, cond, List, [], ◌∷◌, length, map, flat_map, slice_get, Some, Result, Ok, Err}
+use Rattle.lc_board.specs.declared.answers.Ended.{Ended}
+use Rattle.lc_walk.specs.Tally.{Held}
+use Rattle.lc_walk.specs.ReportLines.{FileAt, FaultAt}
+use Rattle.lc_walk.specs.Report.{IsReport}
+use Rattle.lc_walk.specs.declared.report.Report.{Report}
+use Rattle.lc_walk.specs.Paths.{path_in}
+use Rattle.lc_walk.specs.Level.{FileFaultAt}
+use Rattle.lc_walk.specs.RowViews.{ChildAt}
+use Rattle.lc_walk.specs.Rows.{row_of, job_of, children_in, place_path}
+use Rattle.lc_walk.specs.WalkReport.{line_of}
+use Rattle.lc_walk.specs.Walked.{AreWhole}
+use Rattle.lc_walk.specs.declared.row.Cause.{Cause}
+use Rattle.lc_walk.specs.declared.row.Cause.TheVariants.{Memory, TooManyDirs, TooDeep}
+use Rattle.lc_walk.specs.declared.row.Row.{Row}
+use Rattle.lc_walk.specs.declared.row.Row.TheVariants.{Listed, Faulted, Broken}
+use Rattle.lc_walk.specs.declared.walk_fault.WalkFault.{WalkFault}
+use Rattle.lc_walk.specs.declared.walk_fault.WalkFault.TheVariants as fault
+
+-- ---- what the rows themselves say
+
+abbrev pub directories_by_row : Row → List (List ℕ)
+directories_by_row (Listed r) = r.job.path ∷ []
+directories_by_row (Faulted r) = []
+directories_by_row (Broken r) = []
+
+abbrev pub files_by_row : Row → List FileAt
+files_by_row (Listed r) = map (line_of r.job.path) r.files
+files_by_row (Faulted r) = []
+files_by_row (Broken r) = []
+
+abbrev pub fault_line : List ℕ → FileFaultAt → FaultAt
+fault_line directory f = record { path = path_in directory f.name; word = f.word }
+
+abbrev pub faults_by_row : Row → List FaultAt
+faults_by_row (Listed r) = map (fault_line r.job.path) r.faults
+faults_by_row (Faulted r) = record { path = place_path r.job.path r.place; word = r.word } ∷ []
+faults_by_row (Broken r) = []
+
+-- the listed directories, the stored lines of files, the lines of faults
+abbrev pub directories_in_rows : List (Ended Row) → List (List ℕ)
+directories_in_rows rows = flat_map (λ e. directories_by_row (row_of e)) rows
+
+abbrev pub files_in_rows : List (Ended Row) → List FileAt
+files_in_rows rows = flat_map (λ e. files_by_row (row_of e)) rows
+
+abbrev pub faults_in_rows : List (Ended Row) → List FaultAt
+faults_in_rows rows = flat_map (λ e. faults_by_row (row_of e)) rows
+
+-- ---- whether they make a tree
+
+-- the row of `parent` names the number as its child at the place `at`
+pub record IsEdge (rows : List (Ended Row)) (parent at k : ℕ) : Type 0 where
+  pub above : Ended Row
+  pub is : slice_get rows parent ≡ Some above
+  pub child : ChildAt
+  pub here : slice_get (children_in (row_of above)) at ≡ Some child
+  pub number : child.number ≡ k
+
+-- the number is named once, by a lower number, and its path is its parent's with the child's name
+pub record HangsOnce (rows : List (Ended Row)) (k : ℕ) (row : Row) : Type 0 where
+  pub parent : ℕ
+  pub at : ℕ
+  pub lower : parent < k
+  pub edge : IsEdge rows parent at k
+  pub path : (job_of row).path ≡ path_in (job_of (row_of edge.above)).path edge.child.name
+  pub only : (p i : ℕ) → IsEdge rows p i k → (p ≡ parent) × (i ≡ at)
+
+-- the top has the empty path, and each other number hangs so
+abbrev pub IsPlaced : List (Ended Row) → ℕ → Type 0
+IsPlaced rows zero = (e : Ended Row) × (slice_get rows 0 ≡ Some e) × ((job_of (row_of e)).path ≡ [])
+IsPlaced rows (suc k) = (e : Ended Row) → slice_get rows (suc k) ≡ Some e → HangsOnce rows (suc k) (row_of e)
+
+-- ---- what `assemble` answers
+
+-- the rows make a tree, none is Broken, and the report is that of the tally and of the rows
+pub record IsAssembled (files : Bool) (tally : Held) (rows : List (Ended Row)) (r : Report) : Type 0 where
+  pub whole : AreWhole rows
+  pub placed : (k : ℕ) → IsPlaced rows k
+  pub report : IsReport tally (length (directories_in_rows rows)) (cond files (files_in_rows rows) []) (faults_in_rows rows) r
+
+-- some row is Broken with this cause
+abbrev pub IsBrokenBy : Cause → Row → Type 0
+IsBrokenBy cause (Listed r) = ⊥
+IsBrokenBy cause (Faulted r) = ⊥
+IsBrokenBy cause (Broken r) = r.cause ≡ cause
+
+abbrev pub SomeBroken : Cause → List (Ended Row) → Type 0
+SomeBroken cause rows = (i : ℕ) × ((e : Ended Row) × (slice_get rows i ≡ Some e) × IsBrokenBy cause (row_of e))
+
+-- a Broken row's cause, Memory first; else the number at which they make no tree; or Memory
+abbrev pub RefusesRows : List (Ended Row) → WalkFault → Type 0
+RefusesRows rows fault.Memory = Unit {0}
+RefusesRows rows fault.TooManyDirs = SomeBroken TooManyDirs rows × ¬ SomeBroken Memory rows
+RefusesRows rows fault.TooDeep = SomeBroken TooDeep rows × ¬ SomeBroken Memory rows
+RefusesRows rows (fault.Torn n) = AreWhole rows × ¬ IsPlaced rows n
+RefusesRows rows (fault.Mismatch w) = ⊥
+
+abbrev pub Assembles : Bool → Held → List (Ended Row) → Result Report WalkFault → Type 0
+Assembles files tally rows (Ok r) = IsAssembled files tally rows r
+Assembles files tally rows (Err f) = RefusesRows rows f

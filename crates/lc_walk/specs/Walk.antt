@@ -1,0 +1,21 @@
+-- The recursive walk over a tree.
+use Rattle.std.specs.Prelude.{ℕ, zero, suc, Bool, List, [], ◌∷◌, ◌++◌}
+use Rattle.lc_walk.specs.Answers.{Tree}
+use Rattle.lc_walk.specs.Job.{JobAt}
+use Rattle.lc_walk.specs.Found.{Found, found_at, children_at}
+
+-- for any kind of answers: what the directory gives, then the walks of its child directories, one after another
+module _ {J N A X : Type 0} (found : J → A → List X) (children : J → A → List (N × J)) where
+  -- the walks by `walk` of some child directories
+  abbrev pub walks_below : (J → (List N → A) → List X) → (List N → A) → List (N × J) → List X
+  walks_below walk tree [] = []
+  walks_below walk tree (c ∷ cs) = walk c.1 (λ place. tree (c.0 ∷ place)) ++ walks_below walk tree cs
+
+  -- at most so many levels deep
+  abbrev pub walk_by : ℕ → J → (List N → A) → List X
+  walk_by zero j tree = []
+  walk_by (suc depth) j tree = found j (tree []) ++ walks_below (walk_by depth) tree (children j (tree []))
+
+-- what the recursive walk of a tree finds
+abbrev pub walk_of : Bool → ℕ → JobAt → Tree → List Found
+walk_of archive depth top tree = walk_by (found_at archive) (children_at archive) depth top tree

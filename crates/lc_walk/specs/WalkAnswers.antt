@@ -1,0 +1,67 @@
+-- What a walk answers, over any shared board.
+use Rattle.std.specs.Prelude.{◌≡◌, ℕ, ◌≤◌, Bool, true, false, List, length, slice_get, Some, Result, Ok, Err}
+use Rattle.lc_board.specs.ClosedBoard.{Promises}
+use Rattle.lc_board.specs.declared.event.Event.{Event}
+use Rattle.lc_board.specs.declared.answers.Ended.{Ended}
+use Rattle.lc_walk.specs.ReportLines.{file_paths, fault_paths, AreInOrder}
+use Rattle.lc_walk.specs.declared.report.Report.{Report}
+use Rattle.lc_walk.specs.Paths.{segments}
+use Rattle.lc_walk.specs.Answers.{Answers, Tree}
+use Rattle.lc_walk.specs.Job.{JobAt}
+use Rattle.lc_walk.specs.Level.{level}
+use Rattle.lc_walk.specs.Walk.{walk_of}
+use Rattle.lc_walk.specs.Deep.{has_too_deep}
+use Rattle.lc_walk.specs.Rows.{row_of, job_of}
+use Rattle.lc_walk.specs.Lawful.{Asked}
+use Rattle.lc_walk.specs.TreeOfRows.{tree_of_rows}
+use Rattle.lc_walk.specs.Walked.{Walked, AreWhole}
+use Rattle.lc_walk.specs.WalkReport.{IsReportOf}
+use Rattle.lc_walk.specs.declared.row.Row.{Row}
+use Rattle.lc_walk.specs.declared.walk_fault.WalkFault.{WalkFault}
+use Rattle.lc_walk.specs.declared.walk_fault.WalkFault.TheVariants.{Memory, TooManyDirs, TooDeep, Torn, Mismatch}
+
+-- a tree that for each path answers as one tree does, as far as a level tells
+abbrev pub IsOneAnswer : Bool → (List ℕ → Answers → Type 0) → Tree → Type 0
+IsOneAnswer archive MayAnswer t = (j : JobAt) (a : Answers) → MayAnswer j.path a → level archive j a ≡ level archive j (t (segments j.path))
+
+module _ (MayAnswer : List ℕ → Answers → Type 0) (ask : Asked) (capacity workers : ℕ) (top : JobAt) where
+  -- lawful rows in place for a legal history that is over, with the top job at 0, whose answers the tree may give
+  pub record SomeRows : Type 0 where
+    pub full : Bool
+    pub history : List (Event JobAt Row)
+    pub rows : List (Ended Row)
+    pub answers : ℕ → Answers
+    pub walked : Walked ask full capacity workers top history rows answers
+    pub may : (i : ℕ) (e : Ended Row) → slice_get rows i ≡ Some e → MayAnswer (job_of (row_of e)).path (answers i)
+
+  -- the report is that of the recursive walk of the tree of such rows, none of them Broken; no path stands twice; and where the
+  -- tree is a one-answer tree it is the report of the recursive walk of that tree
+  pub record IsWalkReport (r : Report) : Type 0 where
+    pub found : SomeRows
+    pub whole : AreWhole found.rows
+    pub report : (depth : ℕ) → capacity ≤ depth → IsReportOf ask.files (walk_of ask.archive depth top (tree_of_rows found.rows found.answers)) r
+    pub files_once : AreInOrder (file_paths r.files.items)
+    pub faults_once : AreInOrder (fault_paths r.faults.items)
+    pub one_answer : (t : Tree) → IsOneAnswer ask.archive MayAnswer t → (depth : ℕ) → capacity ≤ depth → IsReportOf ask.files (walk_of ask.archive depth top t) r
+
+  -- such rows, Broken ones allowed, of which one's listing has an entry that is too deep
+  pub record IsTooDeepSomewhere : Type 0 where
+    pub found : SomeRows
+    pub number : ℕ
+    pub row : Ended Row
+    pub is : slice_get found.rows number ≡ Some row
+    pub deep : has_too_deep ask.archive (job_of (row_of row)) (found.answers number) ≡ true
+
+  -- such rows, Broken ones allowed, that fill all numbers
+  pub record FillsAll : Type 0 where
+    pub found : SomeRows
+    pub filled : length found.rows ≡ capacity
+
+  -- what a walk over a board of these promises answers
+  abbrev pub WalkAnswers : Promises → Result Report WalkFault → Type 0
+  WalkAnswers promises (Ok r) = promises.keeps ≡ true → IsWalkReport r
+  WalkAnswers promises (Err Memory) = Unit {0}
+  WalkAnswers promises (Err TooManyDirs) = promises.keeps ≡ true → promises.fills ≡ true → FillsAll
+  WalkAnswers promises (Err TooDeep) = promises.keeps ≡ true → IsTooDeepSomewhere
+  WalkAnswers promises (Err (Torn n)) = promises.keeps ≡ true → promises.compares ≡ false → ⊥
+  WalkAnswers promises (Err (Mismatch w)) = promises.compares ≡ false → ⊥

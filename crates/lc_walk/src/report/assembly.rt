@@ -1,0 +1,88 @@
+//! The report of a closed walk.
+ghost use Rattle.std.specs.Prelude.{◌≡◌, ℕ, ◌<◌, ◌≤◌, ◌^◌, true, false, slice_get, Some, vec_len};
+ghost use Rattle.lc_walk.specs.Rows.{row_of};
+ghost use Rattle.lc_walk.specs.Assembled.{IsBrokenBy, SomeBroken, Assembles};
+ghost use Rattle.lc_walk.specs.Marks.{fault_of_tree};
+ghost use Rattle.lc_board.specs.declared.answers.Ended.{Ended};
+ghost use Rattle.lc_walk.specs.declared.row.Row.{Row};
+
+use crate::report::row_lines::{Lists, lists_of, row_of};
+use crate::row::{Cause, Row};
+use crate::report::tree_check::{TreeFault, check_tree};
+use crate::walk_fault::WalkFault;
+use lc_board::{Closed, Ended};
+use crate::report::Report;
+use crate::tally::Tally;
+use std::alloc::Global;
+
+/// The row was given up for this cause.
+fn is_broken_by(row: &Row, cause: Cause) -> bool
+    ensures broken { result ≡ true → IsBrokenBy cause row.now }
+    ensures other { result ≡ false → IsBrokenBy cause row.now → ⊥ }
+{
+    match row {
+        Row::Listed(_) => false,
+        Row::Faulted(_) => false,
+        Row::Broken(row) => row.cause == cause,
+    }
+}
+
+/// Some row was given up for this cause.
+fn some_broken(rows: &[Ended<Row>], cause: Cause) -> bool
+    ensures some { result ≡ true → SomeBroken cause rows.now }
+    ensures none { result ≡ false → (i : ℕ) (e : Ended Row) → slice_get rows.now i ≡ Some e → IsBrokenBy cause (row_of e) → ⊥ }
+{
+    for at in 0..rows.len() {
+        if is_broken_by(row_of(&rows[at]), cause) {
+            return true;
+        }
+    }
+    false
+}
+
+fn fault_of_tree(fault: TreeFault) -> WalkFault
+    ensures { result ≡ fault_of_tree fault }
+{
+    match fault {
+        TreeFault::Memory => WalkFault::Memory,
+        TreeFault::Torn(number) => WalkFault::Torn(number),
+    }
+}
+
+/// Makes the report of a closed board and of the tally of all its counted files. A refusal gives up the rows and the tally.
+pub fn assemble(
+    alloc: Global,
+    closed: Closed<Row>,
+    files: bool,
+    tally: Tally,
+) -> Result<Report, WalkFault>
+    requires { vec_len closed.rows ≤ 2 ^ 32 }
+    ensures { Assembles files tally closed.rows.items result }
+{
+    let rows = closed.rows.as_slice();
+    if some_broken(rows, Cause::Memory) {
+        return Err(WalkFault::Memory);
+    }
+    if some_broken(rows, Cause::TooManyDirs) {
+        return Err(WalkFault::TooManyDirs);
+    }
+    if some_broken(rows, Cause::TooDeep) {
+        return Err(WalkFault::TooDeep);
+    }
+    match check_tree(alloc, rows) {
+        Ok(()) => {}
+        Err(fault) => return Err(fault_of_tree(fault)),
+    }
+    let Ok(lists) = lists_of(alloc, rows, files) else {
+        return Err(WalkFault::Memory);
+    };
+    let Lists {
+        directories,
+        files,
+        faults,
+    } = lists;
+    match Report::new(&tally, directories, files, faults) {
+        Ok(report) => Ok(report),
+        Err(_) => Err(WalkFault::Memory),
+    }
+}

@@ -1,0 +1,41 @@
+//! What a report says of one file and of one fault.
+use crate::report::fault_word::FaultWord;
+use lc_census::Count;
+use lc_rules::TextState;
+use std::marker::Model;
+
+/// A counted file.
+#[derive(Debug, Drop)]
+pub struct FileLine {
+    /// The names from the top down to the file, joined by slashes.
+    pub path: Vec<u8>,
+    /// What the attribute `text` is for the file.
+    pub text: TextState,
+    /// The census of its bytes.
+    pub count: Count,
+}
+
+impl Model for FileLine {
+    ghost use Rattle.lc_walk.specs.ReportLines.{FileAt};
+
+    ghost Value = { FileAt };
+
+    ghost view = { λ a. record { path = a.path.items; text = a.text; count = a.count } };
+}
+
+/// A file or a directory that was not counted, and why.
+#[derive(Debug, Drop)]
+pub struct FaultLine {
+    /// The names from the top down to it, joined by slashes; empty for the top itself.
+    pub path: Vec<u8>,
+    /// Why it was not counted.
+    pub word: FaultWord,
+}
+
+impl Model for FaultLine {
+    ghost use Rattle.lc_walk.specs.ReportLines.{FaultAt};
+
+    ghost Value = { FaultAt };
+
+    ghost view = { λ a. record { path = a.path.items; word = a.word } };
+}

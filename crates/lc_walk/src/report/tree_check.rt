@@ -1,0 +1,186 @@
+//! Whether rows make a tree.
+ghost use Rattle.std.specs.Prelude.{◌≡◌, ℕ, ◌+◌, ◌<◌, ◌≤◌, ◌^◌, List, true, false, length, slice_get, slice_set, replicate, Some, IfOk, IfErr, OnOk, OnErr};
+ghost use Rattle.lc_walk.specs.Rows.{row_of, job_of, children_in};
+ghost use Rattle.lc_walk.specs.Paths.{path_in};
+ghost use Rattle.lc_walk.specs.Assembled.{IsPlaced};
+ghost use Rattle.lc_walk.specs.Marks.{Marks, IsNext, IsPathAt, RefusesTree};
+
+use crate::report::row_lines::row_of;
+use crate::paths::path_in;
+use crate::row::{Child, Row};
+use lc_board::Ended;
+use std::alloc::{AllocError, Global};
+
+/// Why rows make no tree.
+#[derive(Clone, Copy, PartialEq, Eq, Debug, Drop)]
+pub enum TreeFault {
+    Memory,
+    /// The rows make no tree at this number.
+    Torn(u32),
+}
+
+/// The path of a row's directory.
+pub fn path_of(row: &Row) -> &[u8]
+    ensures { result.now ≡ (job_of row.now).path }
+{
+    match row {
+        Row::Listed(row) => &row.job.path,
+        Row::Faulted(row) => &row.job.path,
+        Row::Broken(row) => &row.job.path,
+    }
+}
+
+/// The child directories that a row names.
+pub fn children_of(row: &Row) -> &[Child]
+    ensures { result.now ≡ children_in row.now }
+{
+    match row {
+        Row::Listed(row) => &row.children,
+        Row::Faulted(_) => &[],
+        Row::Broken(_) => &[],
+    }
+}
+
+/// The path of a child is that of its directory with its name.
+fn is_child_path(
+    alloc: Global,
+    directory: &[u8],
+    child: &Child,
+    path: &[u8],
+) -> Result<bool, AllocError>
+    ensures { IfOk result (λ b. (b ≡ true → path.now ≡ path_in directory.now child.now.name) × (b ≡ false → path.now ≡ path_in directory.now child.now.name → ⊥)) }
+{
+    let own = path_in(alloc, directory, &child.name)?;
+    Ok(own.as_slice() == path)
+}
+
+fn number_of(child: &Child) -> usize
+    ensures same { result ≡ child.now.number }
+    ensures few { result < 2 ^ 32 }
+{
+    child.number as usize
+}
+
+fn is_marked(hung: &[bool], at: usize) -> bool
+    requires { at < length hung.now }
+    ensures { slice_get hung.now at ≡ Some result }
+{
+    hung[at]
+}
+
+fn mark(hung: &mut [bool], at: usize)
+    requires { at < length hung.old }
+    ensures { hung.new ≡ slice_set hung.old at true }
+{
+    hung[at] = true;
+}
+
+/// The path of the directory of a number.
+fn path_at(rows: &[Ended<Row>], at: usize) -> &[u8]
+    requires { at < length rows.now }
+    ensures { IsPathAt rows.now at result.now }
+{
+    path_of(row_of(&rows[at]))
+}
+
+/// Marks the number of the next child.
+fn hang(
+    alloc: Global,
+    rows: &[Ended<Row>],
+    at: usize,
+    place: usize,
+    child: &Child,
+    hung: &mut [bool],
+) -> Result<(), TreeFault>
+    requires at { at < length rows.now }
+    requires few { length rows.now ≤ 2 ^ 32 }
+    requires next { IsNext rows.now at place child.now }
+    requires marks { Marks rows.now at place hung.old }
+    ensures marks { OnOk result (Marks rows.now at (place + 1) hung.new) }
+    ensures torn { IfErr result (RefusesTree rows.now) }
+{
+    let number = number_of(child);
+    if number == 0 {
+        return Ok(());
+    }
+    if number >= rows.len() {
+        return Ok(());
+    }
+    if is_marked(hung, number) {
+        return Err(TreeFault::Torn(number as u32));
+    }
+    if at >= number {
+        return Err(TreeFault::Torn(number as u32));
+    }
+    let path = path_at(rows, number);
+    let Ok(same) = is_child_path(alloc, path_at(rows, at), child, path) else {
+        return Err(TreeFault::Memory);
+    };
+    if !same {
+        return Err(TreeFault::Torn(number as u32));
+    }
+    mark(hung, number);
+    Ok(())
+}
+
+/// Marks the numbers of all children of a row.
+fn hang_row(
+    alloc: Global,
+    rows: &[Ended<Row>],
+    at: usize,
+    hung: &mut [bool],
+) -> Result<(), TreeFault>
+    requires at { at < length rows.now }
+    requires few { length rows.now ≤ 2 ^ 32 }
+    requires marks { Marks rows.now at 0 hung.old }
+    ensures marks { OnOk result (Marks rows.now (at + 1) 0 hung.new) }
+    ensures torn { IfErr result (RefusesTree rows.now) }
+{
+    let children = children_of(row_of(&rows[at]));
+    for place in 0..children.len() {
+        hang(alloc, rows, at, place, &children[place], hung)?;
+    }
+    Ok(())
+}
+
+fn no_marks(alloc: Global, count: usize) -> Result<Vec<bool>, AllocError>
+    ensures { IfOk result (λ hung. hung.items ≡ replicate count false) }
+{
+    Ok(vec![in alloc; false; count]?)
+}
+
+/// Marks the numbers that rows name as children.
+fn hang_all(alloc: Global, rows: &[Ended<Row>]) -> Result<Vec<bool>, TreeFault>
+    requires few { length rows.now ≤ 2 ^ 32 }
+    ensures marks { IfOk result (λ hung. Marks rows.now (length rows.now) 0 hung.items) }
+    ensures torn { IfErr result (RefusesTree rows.now) }
+{
+    let Ok(mut hung) = no_marks(alloc, rows.len()) else {
+        return Err(TreeFault::Memory);
+    };
+    for at in 0..rows.len() {
+        hang_row(alloc, rows, at, &mut hung)?;
+    }
+    Ok(hung)
+}
+
+/// Whether the rows make a tree, and else a number at which they don't.
+pub fn check_tree(alloc: Global, rows: &[Ended<Row>]) -> Result<(), TreeFault>
+    requires few { length rows.now ≤ 2 ^ 32 }
+    ensures placed { IfOk result (λ _. (k : ℕ) → IsPlaced rows.now k) }
+    ensures torn { IfErr result (RefusesTree rows.now) }
+{
+    if rows.is_empty() {
+        return Err(TreeFault::Torn(0));
+    }
+    if path_at(rows, 0).len() > 0 {
+        return Err(TreeFault::Torn(0));
+    }
+    let hung = hang_all(alloc, rows)?;
+    for number in 1..rows.len() {
+        if !is_marked(&hung, number) {
+            return Err(TreeFault::Torn(number as u32));
+        }
+    }
+    Ok(())
+}

@@ -1,0 +1,137 @@
+//! A row of the tally: the sums over the files of one key.
+ghost use Rattle.std.specs.Prelude.{◌≡◌, IfOk, option_map};
+ghost use Rattle.std.specs.Option.{option_cmp};
+ghost use Rattle.std.specs.Ordering.{nat_cmp};
+ghost use Rattle.std.specs.Cmp.Lexicographic.{slice_cmp};
+ghost use Rattle.lc_walk.specs.Key.{key_cmp};
+ghost use Rattle.lc_walk.specs.Sums.{plus, HasRoom};
+
+use crate::tally::key::{KeyRef, eol_rank, text_rank};
+use crate::tally::sums::Sums;
+use lc_census::Eol;
+use lc_rules::TextState;
+use std::alloc::{AllocError, Global};
+use std::cmp::Ordering;
+use std::marker::Model;
+
+/// The sums over the files that have one extension, one text state and one class of line ends.
+#[derive(Debug, Drop)]
+pub struct TallyRow {
+    /// The bytes after the last dot of the files' names, which `extension` gives, or none.
+    pub ext: Option<Vec<u8>>,
+    /// What the attribute `text` is for the files.
+    pub text: TextState,
+    /// How the files' lines end.
+    pub eol: Eol,
+    /// The number of the files.
+    pub files: u64,
+    /// The sum of their lines.
+    pub lines: u128,
+    /// The sum of their blank lines.
+    pub blank: u128,
+    /// The sum of their bytes.
+    pub bytes: u128,
+}
+
+impl Model for TallyRow {
+    ghost use Rattle.std.specs.Prelude.{option_map};
+    ghost use Rattle.lc_walk.specs.TallyRows.{KeySums};
+
+    ghost Value = { KeySums };
+
+    ghost view = { λ a. record {
+      key = record { extension = option_map (λ v. v.items) a.ext; text = a.text; eol = a.eol };
+      sums = record { files = a.files; lines = a.lines; blank = a.blank; bytes = a.bytes };
+    } };
+}
+
+impl TallyRow {
+    pub(crate) fn new(alloc: Global, key: &KeyRef<'_>, sums: Sums) -> Result<TallyRow, AllocError>
+        ensures { IfOk result (λ r. r ≡ record { key = key.now; sums = sums }) }
+    {
+        Ok(TallyRow {
+            ext: copy_extension(alloc, key.extension)?,
+            text: key.text,
+            eol: key.eol,
+            files: sums.files,
+            lines: sums.lines,
+            blank: sums.blank,
+            bytes: sums.bytes,
+        })
+    }
+
+    pub(crate) fn sums(&self) -> Sums
+        ensures { result ≡ self.now.sums }
+    {
+        Sums {
+            files: self.files,
+            lines: self.lines,
+            blank: self.blank,
+            bytes: self.bytes,
+        }
+    }
+
+    pub(crate) fn key(&self) -> KeyRef<'_>
+        ensures { result ≡ self.now.key }
+    {
+        KeyRef {
+            extension: lent_extension(&self.ext),
+            text: self.text,
+            eol: self.eol,
+        }
+    }
+
+    pub(crate) fn copy(&self, alloc: Global) -> Result<TallyRow, AllocError>
+        ensures { IfOk result (λ r. r ≡ self.now) }
+    {
+        TallyRow::new(alloc, &self.key(), self.sums())
+    }
+
+    #[tactic(auto, unfolding(crate::specs::Key::key_cmp))]
+    pub(crate) fn compare(&self, key: &KeyRef<'_>) -> Ordering
+        ensures { result ≡ key_cmp self.now.key key.now }
+    {
+        compare_extensions(&self.ext, key.extension)
+            .then(text_rank(self.text).cmp(&text_rank(key.text)))
+            .then(eol_rank(self.eol).cmp(&eol_rank(key.eol)))
+    }
+
+    pub(crate) fn absorb(&mut self, more: Sums)
+        requires { HasRoom (plus self.old.sums more) }
+        ensures { self.new ≡ record { key = self.old.key; sums = plus self.old.sums more } }
+    {
+        self.files += more.files;
+        self.lines += more.lines;
+        self.blank += more.blank;
+        self.bytes += more.bytes;
+    }
+}
+
+fn lent_extension(own: &Option<Vec<u8>>) -> Option<&[u8]>
+    ensures { option_map (λ s. s.now) result ≡ option_map (λ v. v.items) own.now }
+{
+    match own {
+        Some(bytes) => Some(bytes.as_slice()),
+        None => None,
+    }
+}
+
+fn copy_extension(alloc: Global, lent: Option<&[u8]>) -> Result<Option<Vec<u8>>, AllocError>
+    ensures { IfOk result (λ r. option_map (λ v. v.items) r ≡ option_map (λ s. s.now) lent.entry) }
+{
+    match lent {
+        Some(bytes) => Ok(Some(bytes.to_vec(alloc)?)),
+        None => Ok(None),
+    }
+}
+
+fn compare_extensions(own: &Option<Vec<u8>>, lent: Option<&[u8]>) -> Ordering
+    ensures { result ≡ option_cmp (slice_cmp nat_cmp) (option_map (λ v. v.items) own.now) (option_map (λ s. s.now) lent.entry) }
+{
+    match (own, lent) {
+        (None, None) => Ordering::Equal,
+        (None, Some(_)) => Ordering::Less,
+        (Some(_), None) => Ordering::Greater,
+        (Some(own), Some(lent)) => own.as_slice().cmp(&lent),
+    }
+}
