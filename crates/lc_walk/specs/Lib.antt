@@ -23,7 +23,9 @@ pub mod Sums
 pub mod Tally
 pub mod TallyRows
 pub mod TreeAnswers
+pub mod TreeFaults
 pub mod TreeOfRows
+pub mod Trees
 pub mod Walk
 pub mod WalkAnswers
 pub mod WalkOn

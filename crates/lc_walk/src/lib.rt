@@ -25,7 +25,7 @@ pub use laws::{
 pub use report::{FaultLine, FaultWord, FileLine, Report, assemble};
 pub use row::{BrokenRow, Cause, Child, Counted, FaultedRow, FileFault, ListedRow, Place, Row};
 pub use tally::{Sums, Tally, TallyRow, extension};
-pub use tree::{Entry, Kind, Listing, ListingFault, MAX_ENTRIES};
+pub use tree::{Entry, Kind, Listing, ListingFault, MAX_ENTRIES, ReadFault, Tree};
 pub use walk_fault::WalkFault;
 
 #[cfg(test)]
