@@ -2,6 +2,7 @@ pub mod Bytes
 pub mod Units
 pub mod Fits
 pub mod Patterns
+pub mod Pieces
 pub mod Path
 pub mod Matches
 pub mod IsMatch

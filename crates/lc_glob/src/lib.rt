@@ -24,10 +24,12 @@
 mod bracket;
 mod byte_set;
 mod candidate;
+mod cut;
 mod definition;
 mod fit;
 mod name;
 mod names;
+pub mod path;
 mod pattern;
 mod piece;
 mod reading;
@@ -37,4 +39,5 @@ mod spell;
 mod tests;
 
 pub use candidate::Candidate;
+pub use cut::cut_at_first;
 pub use pattern::{Pattern, is_match_decides};

@@ -3,3 +3,4 @@
 mod agreement;
 mod cost;
 mod meaning;
+mod paths;
