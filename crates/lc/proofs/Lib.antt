@@ -2,5 +2,4 @@ pub mod LinesOf
 pub mod Taking
 pub mod Directories
 pub mod Dashes
-pub mod Reading
 pub mod Plain

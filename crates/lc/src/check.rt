@@ -8,10 +8,9 @@ ghost use Rattle.lc.specs.Reads.{ReadsWhole, StopsReading, ReadsPast, ReadsInput
 ghost use Rattle.lc.specs.Writes.{Writes, StopsWriting};
 
 use crate::check_text::check_text;
-use crate::input::{InputFault, read_whole};
 use crate::joined::split_joined;
 use crate::sink::{Sink, write_whole};
-use lc_census::Source;
+use lc_census::{Source, WholeFault, new_buffer, read_whole};
 use lc_rules::{IgnoreFile, MAX_RULE_BYTES, RuleFault};
 use std::alloc::Global;
 use thiserror::Error;
@@ -46,11 +45,15 @@ fn read_input<S: Source>(alloc: Global, input: &mut S) -> Result<Vec<u8>, CheckF
     ensures long { result ≡ Err CheckFault.InputTooLong → ReadsPast S.may_give input.old MOST_INPUT input.new }
     ensures others { (result ≢ Err CheckFault.RulesTooLong) × (result ≢ Err CheckFault.Write) }
 {
-    match read_whole(alloc, input, MOST_INPUT) {
-        Ok(bytes) => Ok(bytes),
-        Err(InputFault::Read) => Err(CheckFault::Read),
-        Err(InputFault::TooLong) => Err(CheckFault::InputTooLong),
-        Err(InputFault::Memory) => Err(CheckFault::Memory),
+    let mut bytes = Vec::new(alloc);
+    let Ok(mut buffer) = new_buffer(alloc) else {
+        return Err(CheckFault::Memory);
+    };
+    match read_whole(&mut buffer, &mut bytes, input, MOST_INPUT) {
+        Ok(()) => Ok(bytes),
+        Err(WholeFault::Read) => Err(CheckFault::Read),
+        Err(WholeFault::TooLong) => Err(CheckFault::InputTooLong),
+        Err(WholeFault::Memory) => Err(CheckFault::Memory),
     }
 }
 

@@ -6,7 +6,6 @@ mod cause;
 mod check;
 mod check_text;
 mod escape;
-mod input;
 mod joined;
 mod laws;
 mod lines;

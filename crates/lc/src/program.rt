@@ -4,9 +4,8 @@ ghost use Rattle.std.specs.Prelude.{◌≡◌};
 
 use crate::cause::Cause;
 use crate::check::{check, check_joined};
-use crate::input::{InputFault, read_whole};
 use crate::sink::{Sink, write_whole};
-use lc_census::{Source, StdSource};
+use lc_census::{Source, StdSource, WholeFault, new_buffer, read_whole};
 use lc_rules::{IgnoreFile, MAX_RULE_BYTES, RuleFault};
 use std::convert::AsStr;
 use std::rt::Files;
@@ -51,12 +50,21 @@ fn read_rules<R: Files + AllocGlobal>(rt: &R, file: &str) -> Result<IgnoreFile, 
         Err(error) if error.kind() == io::ErrorKind::OutOfMemory => return Err(Cause::Memory),
         Err(_) => return Err(Cause::UnreadRules),
     };
-    let bytes = match read_whole(rt.alloc(), &mut StdSource(reader), MAX_RULE_BYTES) {
-        Ok(bytes) => bytes,
-        Err(InputFault::Read) => return Err(Cause::UnreadRules),
-        Err(InputFault::TooLong) => return Err(Cause::RulesTooLong),
-        Err(InputFault::Memory) => return Err(Cause::Memory),
+    let mut bytes = Vec::new(rt.alloc());
+    let Ok(mut buffer) = new_buffer(rt.alloc()) else {
+        return Err(Cause::Memory);
     };
+    match read_whole(
+        &mut buffer,
+        &mut bytes,
+        &mut StdSource(reader),
+        MAX_RULE_BYTES,
+    ) {
+        Ok(()) => {}
+        Err(WholeFault::Read) => return Err(Cause::UnreadRules),
+        Err(WholeFault::TooLong) => return Err(Cause::RulesTooLong),
+        Err(WholeFault::Memory) => return Err(Cause::Memory),
+    }
     match IgnoreFile::read(rt.alloc(), &bytes) {
         Ok(rules) => Ok(rules),
         Err(RuleFault::TooLong) => Err(Cause::RulesTooLong),

@@ -1,6 +1,9 @@
 -- Runs of reads, one after another.
-use Rattle.std.proofs.Common.{◌≢◌, ℕ, zero, suc, ◌<◌, ◌≤◌, List, [], ◌∷◌, ◌++◌, length, take, arith, refl, sym, subst}
-use Rattle.lc_census.specs.Reads.{Answer, gave, Stop, at_neither, MayRead, Stops, Reads}
+use Rattle.std.proofs.Common.{◌≢◌, ℕ, zero, suc, ◌<◌, ◌≤◌, List, [], ◌∷◌, ◌++◌, length, take, arith, refl, sym, ap, subst, ◌∙◌}
+use Rattle.std.specs.List.{concat}
+use Rattle.std.proofs.lemmas.List.{append-nil}
+use Rattle.std.proofs.lemmas.List.Folds.{concat-append}
+use Rattle.lc_census.specs.Reads.{Answer, gave, Stop, at_neither, MayRead, Stops, Reads, GivesBytes}
 
 module _ {S : Type 0} (may_give : S → ℕ → Answer → S → Type 0) (IsRoom : ℕ → Type 0) where
   -- reads that went on, and then these reads
@@ -25,6 +28,26 @@ module _ {S : Type 0} (may_give : S → ℕ → Answer → S → Type 0) (IsRoom
   reads_stop [] stop old middle new same next = let P : S → Type 0 = λ s. Stops may_give IsRoom s stop new in subst P (sym same) next
   reads_stop (piece ∷ pieces) stop old middle new reads next =
       (reads.0, reads.1, reads.2, reads_stop pieces stop reads.0 middle new reads.3 next)
+
+  -- bytes that went on, and then one more piece
+  pub gives_more : (bytes piece : List ℕ) (old middle new : S)
+      → GivesBytes may_give IsRoom old bytes at_neither middle → piece ≢ [] → MayRead may_give IsRoom middle (gave piece) new
+      → GivesBytes may_give IsRoom old (bytes ++ piece) at_neither new
+  gives_more bytes piece old middle new so_far some read = record {
+    pieces = so_far.pieces ++ piece ∷ [];
+    reads = reads_more so_far.pieces piece old middle new so_far.reads some read;
+    joined = concat-append so_far.pieces (piece ∷ []) ∙ (ap (λ l. concat so_far.pieces ++ l) (append-nil piece) ∙ ap (λ l. l ++ piece) so_far.joined);
+  }
+
+  -- bytes that went on, and then stopped so
+  pub gives_stop : (bytes : List ℕ) (stop : Stop) (old middle new : S)
+      → GivesBytes may_give IsRoom old bytes at_neither middle → Stops may_give IsRoom middle stop new
+      → GivesBytes may_give IsRoom old bytes stop new
+  gives_stop bytes stop old middle new so_far stops = record {
+    pieces = so_far.pieces;
+    reads = reads_stop so_far.pieces stop old middle new so_far.reads stops;
+    joined = so_far.joined;
+  }
 
 -- the first n of some bytes are some
 pub take_some : (n : ℕ) (xs : List ℕ) → 0 < n → n ≤ length xs → take n xs ≢ []

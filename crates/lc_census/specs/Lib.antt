@@ -7,3 +7,4 @@ pub mod Lanes
 pub mod Reads
 pub mod Scan
 pub mod StdReads
+pub mod Whole

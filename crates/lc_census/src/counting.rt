@@ -91,7 +91,8 @@ pub fn count<S: Source>(alloc: Global, reader: &mut S) -> Result<Count, CensusFa
     count_within(alloc, reader, MOST_TURNS)
 }
 
-fn new_buffer(alloc: Global) -> Result<Vec<u8>, AllocError>
+/// A buffer of 65,536 bytes for reads.
+pub fn new_buffer(alloc: Global) -> Result<Vec<u8>, AllocError>
     ensures { IfOk result (λ buffer. vec_len buffer ≡ BUFFER_LEN) }
 {
     Ok(vec![in alloc; 0u8; BUFFER_LEN]?)

@@ -4,6 +4,7 @@
 //! - `totals`: what a census says
 //! - `census`: the census of bytes that are fed piece by piece
 //! - `counting`: the census of all that a reader gives
+//! - `whole`: the bytes of a reader, up to a limit
 //! - `scan`, `plain`, `lanes`: the two bodies of the census, a byte at a time and by vectors, under one contract; they
 //!   are public for benchmarks alone
 //! - `laws`: what is true of the definitions that the contracts cite
@@ -18,9 +19,12 @@ mod scan;
 mod source;
 mod std_source;
 mod totals;
+mod whole;
 
 pub use census::Census;
-pub use counting::{BUFFER_LEN, CensusFault, MOST_TURNS, count, count_in, count_within};
+pub use counting::{
+    BUFFER_LEN, CensusFault, MOST_TURNS, count, count_in, count_within, new_buffer,
+};
 pub use lanes::scan_lanes;
 pub use laws::{a_slice_gives_its_bytes, bytes_have_one_cutting};
 pub use plain::scan_plain;
@@ -28,6 +32,7 @@ pub use scan::Scan;
 pub use source::{Failed, Source};
 pub use std_source::StdSource;
 pub use totals::{Count, Eol};
+pub use whole::{WholeFault, read_whole};
 
 #[cfg(test)]
 mod tests;

@@ -1,6 +1,5 @@
-use crate::{
-    BUFFER_LEN, CensusFault, Count, Eol, Failed, Source, StdSource, count, count_in, count_within,
-};
+use crate::tests::byte_by_byte::{ByteByByte, Last};
+use crate::{BUFFER_LEN, CensusFault, Count, Eol, StdSource, count, count_in, count_within};
 use std::alloc::AllocError;
 use std::io::{Error, ErrorKind, Read, Result as IoResult};
 use std::test::Fail;
@@ -11,64 +10,6 @@ fn count_of(lines: u64, blank: u64, bytes: u64, eol: Eol) -> Count {
         blank,
         bytes,
         eol,
-    }
-}
-
-/// What comes when the bytes are given.
-#[derive(Clone, Copy, Drop, PartialEq, Eq)]
-enum Last {
-    End,
-    /// A failure at one read. The reads after it meet the end.
-    Failure,
-    /// A byte `x` at each read, for ever.
-    More,
-}
-
-/// Gives its bytes, one a read.
-#[derive(Drop)]
-struct ByteByByte<'a> {
-    left: &'a [u8],
-    last: Last,
-    reads: u64,
-    longest: usize,
-}
-
-impl<'a> ByteByByte<'a> {
-    fn new(bytes: &'a [u8], last: Last) -> Self {
-        ByteByByte {
-            left: bytes,
-            last,
-            reads: 0,
-            longest: 0,
-        }
-    }
-}
-
-impl Source for ByteByByte<'_> {
-    ghost may_give = { λ _ _ _ _. Unit {0} };
-
-    fn read(&mut self, buffer: &mut [u8]) -> Result<usize, Failed> {
-        self.reads = self.reads.saturating_add(1);
-        self.longest = self.longest.max(buffer.len());
-        if buffer.is_empty() {
-            return Ok(0);
-        }
-        if let [first, rest @ ..] = self.left {
-            buffer[0] = *first;
-            self.left = rest;
-            return Ok(1);
-        }
-        match self.last {
-            Last::End => Ok(0),
-            Last::Failure => {
-                self.last = Last::End;
-                Err(Failed)
-            }
-            Last::More => {
-                buffer[0] = b'x';
-                Ok(1)
-            }
-        }
     }
 }
 
