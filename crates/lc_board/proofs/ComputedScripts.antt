@@ -100,6 +100,8 @@ scripts_are_legal = record {
   two_placed = record { given = given_two; handed = λ k e at. handed_two k };
   own_legal = own_legal;
   own_holding = (refl, refl);
+  own_held = (refl, refl);
+  posting_held = (refl, refl, refl);
   fault_legal = fault_legal;
   fault_placed = record { given = given_fault; handed = λ k e at. handed_fault k };
   no_second_claim = λ l. let e : Claimed 0 ≡ Open = l.2.0 in absurd (cc e);

@@ -1,11 +1,12 @@
--- A worker's part of a legal history tells which number the worker has claimed, and how much it has posted under it.
-use Rattle.std.proofs.Common.{◌≡◌, ◌≢◌, ℕ, ◌+◌, ◌==◌, cond, Bool, true, false, List, [], ◌∷◌, ◌++◌, length, Some, None, refl, sym, ◌∙◌, ap, arith, eq-eqb, length-append}
+-- A worker's part of a legal history tells which number the worker has claimed, with which job, and what it has posted under it.
+use Rattle.std.proofs.Common.{◌≡◌, ◌≢◌, ℕ, ◌==◌, cond, Bool, true, false, List, [], ◌∷◌, ◌++◌, length, Some, None, refl, sym, ◌∙◌, ap, arith, eq-eqb, length-append}
 use Rattle.std.proofs.lemmas.Bool.{eqb-true}
 use Rattle.std.proofs.lemmas.List.{nil_from_length}
 use Rattle.lc_board.specs.State.{Status, Absent, Open, Claimed, Returned, Faulted, status}
 use Rattle.lc_board.specs.Part.{part}
 use Rattle.lc_board.specs.LegalHistory.{posts_under, IsLegal}
-use Rattle.lc_board.specs.Holding.{holding, posted}
+use Rattle.lc_board.specs.Holding.{holding, posted, job_held, posts_held}
+use Rattle.lc_board.specs.RowsInPlace.{job_got}
 use Rattle.lc_board.specs.Laws.{PartTellsClaim, PostedNothing}
 use Rattle.lc_board.specs.declared.event.Event.{Event}
 use Rattle.lc_board.specs.declared.event.Event.TheVariants.{Post, Claim, Return, Fault, Over}
@@ -23,9 +24,6 @@ claimed_by u w n e = n (cc e)
 first_none : (w : ℕ) (b : Bool) → cond b Open Absent ≢ Claimed w
 first_none w true e = absurd (cc e)
 first_none w false e = absurd (cc e)
-
-longer : {A : Type 0} (p : ℕ) (xs : List A) (x : A) (i : ℕ) → i ≡ p → length (cond (i == p) (xs ++ x ∷ []) xs) ≡ length xs + 1
-longer p xs x i e = ap length (at_same i p (xs ++ x ∷ []) xs e) ∙ omega (arith, length-append xs (x ∷ []))
 
 module _ {J R : Type 0} where
   -- a worker's part and the whole agree on what it has claimed
@@ -95,50 +93,80 @@ module _ {J R : Type 0} where
       let same = holding_same (Over u) (λ q. refl) (u == w) (part w h) in
       record { yes = λ i e. o.yes i (sym same ∙ e); back = λ i s. same ∙ o.back i s }
 
-  abbrev CountsPosts : ℕ → List (Event J R) → Type 0
-  CountsPosts w h = (i : ℕ) → status h i ≡ Claimed w → posted (part w h) ≡ length (posts_under i h)
+  -- the worker's events m tell the job of the number and the posts under it
+  abbrev Tells : List (Event J R) → ℕ → List (Event J R) → Type 0
+  Tells m i h = (job_held m ≡ job_got h i) × (posts_held m ≡ posts_under i h)
 
-  count_post : (w u p k : ℕ) (j : J) (h : List (Event J R)) (b : Bool) → (u == w) ≡ b → status h p ≡ Claimed u → HoldsOne w h → CountsPosts w h
-      → (i : ℕ) → cond (i == k) Open (status h i) ≡ Claimed w → posted (cond b (Post u p k j ∷ part w h) (part w h)) ≡ length (posts_under i (Post u p k j ∷ h))
-  count_post w u p k j h true e held o counts i s =
+  abbrev AllTold : ℕ → List (Event J R) → Type 0
+  AllTold w h = (i : ℕ) → status h i ≡ Claimed w → Tells (part w h) i h
+
+  tell_post : (w u p k : ℕ) (j : J) (h : List (Event J R)) (b : Bool) → (u == w) ≡ b → status h p ≡ Claimed u → HoldsOne w h → AllTold w h
+      → (i : ℕ) → cond (i == k) Open (status h i) ≡ Claimed w → Tells (cond b (Post u p k j ∷ part w h) (part w h)) i (Post u p k j ∷ h)
+  tell_post w u p k j h true e held o told i s =
       let was = unput (i == k) Open (status h i) (Claimed w) (λ x. absurd (cc x)) s in
       let same = one_number w h o i p was.1 (held ∙ ap Claimed (eqb-true u w e)) in
-      ap (λ m. m + 1) (counts i was.1) ∙ sym (longer p (posts_under i h) (k, j) i same)
-  count_post w u p k j h false e held o counts i s =
+      let t = told i was.1 in
+      (t.0, ap (λ m. m ++ (k, j) ∷ []) t.1 ∙ sym (at_same i p (posts_under i h ++ (k, j) ∷ []) (posts_under i h) same))
+  tell_post w u p k j h false e held o told i s =
       let was = unput (i == k) Open (status h i) (Claimed w) (λ x. absurd (cc x)) s in
       let n : i ≢ p = other h i p _ _ was.1 held (λ z. claimed_by u w (apart u w e) (sym z)) in
-      counts i was.1 ∙ sym (ap length (at_other i p (posts_under i h ++ (k, j) ∷ []) (posts_under i h) n))
+      let t = told i was.1 in
+      (t.0, t.1 ∙ sym (at_other i p (posts_under i h ++ (k, j) ∷ []) (posts_under i h) n))
 
-  count_claim : (w u k : ℕ) (j : J) (h : List (Event J R)) (b : Bool) → (u == w) ≡ b → posts_under k h ≡ [] → ((m : ℕ) → status h m ≢ Claimed u) → CountsPosts w h
-      → (i : ℕ) (c : Bool) → (i == k) ≡ c → cond c (Claimed u) (status h i) ≡ Claimed w → posted (cond b (Claim u k j ∷ part w h) (part w h)) ≡ length (posts_under i h)
-  count_claim w u k j h true e none idle counts i true f s = sym (ap (λ m. length (posts_under m h)) (eqb-true i k f) ∙ ap length none)
-  count_claim w u k j h true e none idle counts i false f s = absurd (idle i (s ∙ ap Claimed (sym (eqb-true u w e))))
-  count_claim w u k j h false e none idle counts i c f s = let was = unput c (Claimed u) (status h i) (Claimed w) (claimed_by u w (apart u w e)) s in counts i was.1
+  tell_claim : (w u k : ℕ) (j : J) (h : List (Event J R)) (b : Bool) → (u == w) ≡ b → posts_under k h ≡ [] → ((m : ℕ) → status h m ≢ Claimed u) → AllTold w h
+      → (i : ℕ) (c : Bool) → (i == k) ≡ c → cond c (Claimed u) (status h i) ≡ Claimed w → Tells (cond b (Claim u k j ∷ part w h) (part w h)) i (Claim u k j ∷ h)
+  tell_claim w u k j h true e none idle told i true f s =
+      let is = eqb-true i k f in
+      (sym (at_same i k (Some j) (job_got h i) is), sym (ap (λ m. posts_under m h) is ∙ none))
+  tell_claim w u k j h true e none idle told i false f s = absurd (idle i (s ∙ ap Claimed (sym (eqb-true u w e))))
+  tell_claim w u k j h false e none idle told i c f s =
+      let was = unput c (Claimed u) (status h i) (Claimed w) (claimed_by u w (apart u w e)) s in
+      let t = told i was.1 in
+      (t.0 ∙ sym (at_other i k (Some j) (job_got h i) (apart i k (f ∙ was.0))), t.1)
 
-  count_end : (x : Status) (w u k : ℕ) (e : Event J R) (h : List (Event J R)) (b : Bool) → (u == w) ≡ b → x ≢ Claimed w → status h k ≡ Claimed u → HoldsOne w h → CountsPosts w h
-      → (i : ℕ) → cond (i == k) x (status h i) ≡ Claimed w → posted (cond b (e ∷ part w h) (part w h)) ≡ length (posts_under i h)
-  count_end x w u k e h true is n held o counts i s =
+  tell_end : (x : Status) (w u k : ℕ) (e : Event J R) (h : List (Event J R)) (b : Bool) → (u == w) ≡ b → x ≢ Claimed w → status h k ≡ Claimed u → HoldsOne w h → AllTold w h
+      → (i : ℕ) → cond (i == k) x (status h i) ≡ Claimed w → Tells (cond b (e ∷ part w h) (part w h)) i h
+  tell_end x w u k e h true is n held o told i s =
       let was = unput (i == k) x (status h i) (Claimed w) n s in
       let same = one_number w h o i k was.1 (held ∙ ap Claimed (eqb-true u w is)) in
       absurd (differ (eq-eqb i k same) was.0)
-  count_end x w u k e h false is n held o counts i s = let was = unput (i == k) x (status h i) (Claimed w) n s in counts i was.1
+  tell_end x w u k e h false is n held o told i s = let was = unput (i == k) x (status h i) (Claimed w) n s in told i was.1
 
-  posted_same : (e : Event J R) → ((q : List (Event J R)) → posted (e ∷ q) ≡ posted q) → (b : Bool) (q : List (Event J R)) → posted (cond b (e ∷ q) q) ≡ posted q
-  posted_same e same true q = same q
-  posted_same e same false q = refl
+  tell_over : (u i : ℕ) (h : List (Event J R)) (b : Bool) (q : List (Event J R)) → Tells q i h → Tells (cond b (Over u ∷ q) q) i h
+  tell_over u i h true q t = t
+  tell_over u i h false q t = t
 
-  counts_posts : (c n w : ℕ) (h : List (Event J R)) → IsLegal c n h → CountsPosts w h
-  counts_posts c n w [] l i s = absurd (first_none w (i == 0) s)
-  counts_posts c n w (Post u p k j ∷ h) l i s = count_post w u p k j h (u == w) refl l.2.0 (holds_one c n w h l.0) (counts_posts c n w h l.0) i s
-  counts_posts c n w (Claim u k j ∷ h) l i s =
+  all_told : (c n w : ℕ) (h : List (Event J R)) → IsLegal c n h → AllTold w h
+  all_told c n w [] l i s = absurd (first_none w (i == 0) s)
+  all_told c n w (Post u p k j ∷ h) l i s = tell_post w u p k j h (u == w) refl l.2.0 (holds_one c n w h l.0) (all_told c n w h l.0) i s
+  all_told c n w (Claim u k j ∷ h) l i s =
       let fresh = open_fresh c n h l.0 k l.2.0 in
-      count_claim w u k j h (u == w) refl fresh.posts l.2.1 (counts_posts c n w h l.0) i (i == k) refl s
-  counts_posts c n w (Return u k r ∷ h) l i s = count_end Returned w u k (Return u k r) h (u == w) refl (λ y. absurd (cc y)) l.2 (holds_one c n w h l.0) (counts_posts c n w h l.0) i s
-  counts_posts c n w (Fault u k r ∷ h) l i s = count_end Faulted w u k (Fault u k r) h (u == w) refl (λ y. absurd (cc y)) l.2.0 (holds_one c n w h l.0) (counts_posts c n w h l.0) i s
-  counts_posts c n w (Over u ∷ h) l i s = posted_same (Over u) (λ q. refl) (u == w) (part w h) ∙ counts_posts c n w h l.0 i s
+      tell_claim w u k j h (u == w) refl fresh.posts l.2.1 (all_told c n w h l.0) i (i == k) refl s
+  all_told c n w (Return u k r ∷ h) l i s = tell_end Returned w u k (Return u k r) h (u == w) refl (λ y. absurd (cc y)) l.2 (holds_one c n w h l.0) (all_told c n w h l.0) i s
+  all_told c n w (Fault u k r ∷ h) l i s = tell_end Faulted w u k (Fault u k r) h (u == w) refl (λ y. absurd (cc y)) l.2.0 (holds_one c n w h l.0) (all_told c n w h l.0) i s
+  all_told c n w (Over u ∷ h) l i s = tell_over u i h (u == w) (part w h) (all_told c n w h l.0 i s)
+
+  posted_is : (m : List (Event J R)) → posted m ≡ length (posts_held m)
+  posted_is [] = refl
+  posted_is (Post w p i j ∷ m) = let rest = posted_is m in omega (arith, rest, length-append (posts_held m) ((i, j) ∷ []))
+  posted_is (Claim w i j ∷ m) = refl
+  posted_is (Return w i r ∷ m) = refl
+  posted_is (Fault w i r ∷ m) = refl
+  posted_is (Over w ∷ m) = posted_is m
+
+  counts_posts : (c n w : ℕ) (h : List (Event J R)) → IsLegal c n h → (i : ℕ) → status h i ≡ Claimed w → posted (part w h) ≡ length (posts_under i h)
+  counts_posts c n w h l i s = posted_is (part w h) ∙ ap length (all_told c n w h l i s).1
 
   pub part_tells_claim : PartTellsClaim J R
-  part_tells_claim c n h l w = let o = holds_one c n w h l in record { claimed = λ i. (o.yes i, o.back i); posts = counts_posts c n w h l }
+  part_tells_claim c n h l w =
+      let o = holds_one c n w h l in
+      let told = all_told c n w h l in
+      record {
+        claimed = λ i. (o.yes i, o.back i);
+        posts = counts_posts c n w h l;
+        job_is = λ i s. (told i s).0;
+        posts_are = λ i s. (told i s).1;
+      }
 
   pub posted_nothing : PostedNothing J R
   posted_nothing c n h l w i s =

@@ -1,5 +1,5 @@
 -- What the events of one worker say of its present claim.
-use Rattle.std.specs.Prelude.{ℕ, ◌+◌, List, [], ◌∷◌, Option, Some, None}
+use Rattle.std.specs.Prelude.{ℕ, ◌+◌, List, [], ◌∷◌, ◌++◌, Option, Some, None}
 use Rattle.lc_board.specs.declared.event.Event.{Event}
 use Rattle.lc_board.specs.declared.event.Event.TheVariants.{Post, Claim, Return, Fault, Over}
 
@@ -21,3 +21,21 @@ module _ {J R : Type 0} where
   posted (Return w i r ∷ m) = 0
   posted (Fault w i r ∷ m) = 0
   posted (Over w ∷ m) = posted m
+
+  -- the job got with that claim
+  abbrev pub job_held : List (Event J R) → Option J
+  job_held [] = None
+  job_held (Post w p i j ∷ m) = job_held m
+  job_held (Claim w i j ∷ m) = Some j
+  job_held (Return w i r ∷ m) = None
+  job_held (Fault w i r ∷ m) = None
+  job_held (Over w ∷ m) = job_held m
+
+  -- the posts since that claim, the oldest first
+  abbrev pub posts_held : List (Event J R) → List (ℕ × J)
+  posts_held [] = []
+  posts_held (Post w p i j ∷ m) = posts_held m ++ (i, j) ∷ []
+  posts_held (Claim w i j ∷ m) = []
+  posts_held (Return w i r ∷ m) = []
+  posts_held (Fault w i r ∷ m) = []
+  posts_held (Over w ∷ m) = posts_held m

@@ -3,7 +3,7 @@ use Rattle.std.specs.Prelude.{◌≡◌, ℕ, ◌≤◌, List, [], ◌∷◌, le
 use Rattle.lc_board.specs.State.{Status, Absent, Open, Claimed, Returned, Faulted, status}
 use Rattle.lc_board.specs.Part.{part}
 use Rattle.lc_board.specs.LegalHistory.{posts_under, IsLegal, IsOver}
-use Rattle.lc_board.specs.Holding.{holding, posted}
+use Rattle.lc_board.specs.Holding.{holding, posted, job_held, posts_held}
 use Rattle.lc_board.specs.RowsInPlace.{job_got, row_given}
 use Rattle.lc_board.specs.Numbers.{posts_of, claims_of, ends_of}
 use Rattle.lc_board.specs.declared.event.Event.{Event}
@@ -36,6 +36,8 @@ module _ {J R : Type 0} where
   pub record HoldsAs (w : ℕ) (h : List (Event J R)) : Type 0 where
     pub claimed : (i : ℕ) → (holding (part w h) ≡ Some i) ↔ (status h i ≡ Claimed w)
     pub posts : (i : ℕ) → status h i ≡ Claimed w → posted (part w h) ≡ length (posts_under i h)
+    pub job_is : (i : ℕ) → status h i ≡ Claimed w → job_held (part w h) ≡ job_got h i
+    pub posts_are : (i : ℕ) → status h i ≡ Claimed w → posts_held (part w h) ≡ posts_under i h
 
 -- a number is posted at most once, claimed at most once, and ended at most once
 abbrev pub NumbersOnce : Type 0 → Type 0 → Type 0
@@ -45,7 +47,7 @@ NumbersOnce J R = (capacity workers : ℕ) (h : List (Event J R)) → IsLegal ca
 abbrev pub PartSaysWhole : Type 0 → Type 0 → Type 0
 PartSaysWhole J R = (capacity workers : ℕ) (h : List (Event J R)) → IsLegal capacity workers h → (w i : ℕ) (j : J) → job_got (part w h) i ≡ Some j → SaysSame i h (part w h)
 
--- a worker's part tells which number it has claimed, and how much it has posted under it
+-- a worker's part tells which number it has claimed, with which job, and what it has posted under it
 abbrev pub PartTellsClaim : Type 0 → Type 0 → Type 0
 PartTellsClaim J R = (capacity workers : ℕ) (h : List (Event J R)) → IsLegal capacity workers h → (w : ℕ) → HoldsAs w h
 

@@ -2,7 +2,7 @@
 use Rattle.std.specs.Prelude.{◌≡◌, ℕ, List, [], ◌∷◌, Some}
 use Rattle.lc_board.specs.LegalHistory.{IsLegal, IsOver, posts_under}
 use Rattle.lc_board.specs.Part.{part}
-use Rattle.lc_board.specs.Holding.{holding, posted}
+use Rattle.lc_board.specs.Holding.{holding, posted, job_held, posts_held}
 use Rattle.lc_board.specs.RowsInPlace.{InPlace}
 use Rattle.lc_board.specs.Numbers.{HasNumbers}
 use Rattle.lc_board.specs.declared.event.Event.{Event}
@@ -25,6 +25,10 @@ own_post = Claim 0 1 9 ∷ Return 0 0 10 ∷ Post 0 0 1 9 ∷ Claim 0 0 7 ∷ []
 -- One worker that ends the root by a fault.
 abbrev pub one_fault : Script
 one_fault = Over 0 ∷ Fault 0 0 10 ∷ Claim 0 0 7 ∷ []
+
+-- One worker that has posted two jobs under its claim.
+abbrev pub posting : Script
+posting = Post 0 0 2 8 ∷ Post 0 0 1 9 ∷ Claim 0 0 7 ∷ []
 
 -- Three that are not legal: the root is claimed twice, a claim under which something was posted is ended by a fault, a board of one
 -- number has another.
@@ -52,6 +56,9 @@ part_of_second = Over 1 ∷ Return 1 1 11 ∷ Claim 1 1 9 ∷ []
 abbrev pub posts_of_first : List (ℕ × ℕ)
 posts_of_first = (1, 9) ∷ []
 
+abbrev pub posts_of_posting : List (ℕ × ℕ)
+posts_of_posting = (1, 9) ∷ (2, 8) ∷ []
+
 -- what the definitions say of them
 pub record ScriptsAreLegal : Type 0 where
   pub two_legal : IsLegal 2 2 two_workers
@@ -62,6 +69,8 @@ pub record ScriptsAreLegal : Type 0 where
   pub two_placed : InPlace {J = ℕ} {R = ℕ} 7 two_workers two_rows
   pub own_legal : IsLegal 2 1 own_post
   pub own_holding : (holding own_post ≡ Some 1) × (posted own_post ≡ 0)
+  pub own_held : (job_held own_post ≡ Some 9) × (posts_held own_post ≡ [])
+  pub posting_held : (job_held posting ≡ Some 7) × (posts_held posting ≡ posts_of_posting) × (posts_under 0 posting ≡ posts_of_posting)
   pub fault_legal : IsLegal 1 1 one_fault
   pub fault_placed : InPlace {J = ℕ} {R = ℕ} 7 one_fault fault_row
   pub no_second_claim : ¬ IsLegal 2 2 second_claim

@@ -14,7 +14,7 @@ pub fn part_says_whole<J, R>()
     ensures { PartSaysWhole J R }
 {}
 
-/// A worker's own events tell which number it has claimed, and how much it has posted under it.
+/// A worker's own events tell which number it has claimed, with which job, and what it has posted under it.
 #[tactic(auto, using(crate::proofs::HeldClaims::part_tells_claim, crate::proofs::HeldClaims::posted_nothing))]
 pub fn part_tells_claim<J, R>()
     ensures claim { PartTellsClaim J R }

@@ -26,7 +26,6 @@ pub struct Locked<J, R> {
     alloc: Global,
     capacity: u32,
     workers: u32,
-    root: Snapshot<J>,
     recorded: Mutex<Recorded<J, R>>,
     ghost small: { (capacity ≤ MOST_NUMBERS) × (workers ≤ MOST_WORKERS) },
 }
@@ -38,7 +37,7 @@ impl<J: Drop, R: Drop> Shared<J, R> for Locked<J, R> {
 
     ghost crew = { λ b. b.workers };
 
-    ghost top = { λ b. b.root.value };
+    ghost top = { λ b root. Unit {0} };
 
     ghost owns = { λ b p. Unit {0} };
 
@@ -54,14 +53,12 @@ impl<J: Drop, R: Drop> Shared<J, R> for Locked<J, R> {
         for worker in 0..workers {
             passes.push(LockedPass::new(alloc, worker))?;
         }
-        let shown = Snapshot::of(&root);
         let recorded = Recorded::start(alloc, capacity, workers, root)?;
         Ok((
             Locked {
                 alloc,
                 capacity,
                 workers,
-                root: shown,
                 recorded: Mutex::new(recorded),
             },
             passes,
@@ -135,14 +132,13 @@ impl<J: Drop, R: Drop> Shared<J, R> for Locked<J, R> {
     fn close(self, passes: Vec<LockedPass<J, R>>) -> Result<Closed<R>, CloseFault>
         requires all { vec_len passes ≡ self.workers }
         requires each { (w : ℕ) (p : _) → slice_get passes.items w ≡ Some p → (⟦<LockedPass<J, R> as Token<J, R>>⟧.view p).worker ≡ w }
-        ensures settled { IfOk result (λ c. Settled self.capacity self.workers self.root.value locked_promises (map ⟦<LockedPass<J, R> as Token<J, R>>⟧.view passes.items) c.rows.items) }
+        ensures settled { IfOk result (λ c. (root : J) → Unit {0} → Settled self.capacity self.workers root locked_promises (map ⟦<LockedPass<J, R> as Token<J, R>>⟧.view passes.items) c.rows.items) }
         ensures fault { IfErr result (RefusesClose self.capacity self.workers locked_promises (map ⟦<LockedPass<J, R> as Token<J, R>>⟧.view passes.items)) }
     {
         let Locked {
             alloc,
             capacity,
             workers,
-            root: _,
             recorded,
         } = self;
         let recorded = recorded.into_inner();

@@ -39,8 +39,8 @@ pub trait Shared<J, R>: Sized {
     /// How many workers share it.
     ghost crew: { Self → ℕ };
 
-    /// The job of number 0.
-    ghost top: { Self → J };
+    /// The job of number 0, as far as the board tells it.
+    ghost top: { Self → J → Type 0 };
 
     /// The pass is this board's.
     ghost owns: { Self → Self.Pass → Type 0 };
@@ -58,7 +58,7 @@ pub trait Shared<J, R>: Sized {
     ) -> Result<(Self, Vec<Self::Pass>), AllocError>
         requires capacity { (1 ≤ capacity) × (capacity ≤ MOST_NUMBERS) }
         requires workers { (1 ≤ workers) × (workers ≤ MOST_WORKERS) }
-        ensures board { IfOk result (λ b. (Self.room b.0 ≡ capacity) × (Self.crew b.0 ≡ workers) × (Self.top b.0 ≡ root)) }
+        ensures board { IfOk result (λ b. (Self.room b.0 ≡ capacity) × (Self.crew b.0 ≡ workers) × Self.top b.0 root) }
         ensures count { IfOk result (λ b. vec_len b.1 ≡ workers) }
         ensures passes { IfOk result (λ b. (w : ℕ) (p : Self.Pass) → slice_get b.1.items w ≡ Some p → owns b.0 p × (Self.Pass.view p ≡ new_pass w)) };
 
@@ -97,6 +97,6 @@ pub trait Shared<J, R>: Sized {
     fn close(self, passes: Vec<Self::Pass>) -> Result<Closed<R>, CloseFault>
         requires all { vec_len passes ≡ Self.crew self }
         requires each { (w : ℕ) (p : Self.Pass) → slice_get passes.items w ≡ Some p → owns self p × ((Self.Pass.view p).worker ≡ w) }
-        ensures settled { IfOk result (λ c. Settled (Self.room self) (Self.crew self) (Self.top self) promises (map (λ p. Self.Pass.view p) passes.items) c.rows.items) }
+        ensures settled { IfOk result (λ c. (root : J) → Self.top self root → Settled (Self.room self) (Self.crew self) root promises (map (λ p. Self.Pass.view p) passes.items) c.rows.items) }
         ensures fault { IfErr result (RefusesClose (Self.room self) (Self.crew self) promises (map (λ p. Self.Pass.view p) passes.items)) };
 }

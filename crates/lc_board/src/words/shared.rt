@@ -25,7 +25,7 @@ impl<J: Drop + Send, R: Drop + Send> Shared<J, R> for Words<J, R> {
 
     ghost crew = { λ b. b.workers };
 
-    ghost top = { λ b. b.table.shared.key.root.value };
+    ghost top = { λ b root. b.table.shared.key.root.value ≡ root };
 
     ghost owns = { IsPassOf };
 
@@ -121,7 +121,7 @@ impl<J: Drop + Send, R: Drop + Send> Shared<J, R> for Words<J, R> {
     fn close(self, passes: Vec<WordsPass<J, R>>) -> Result<Closed<R>, CloseFault>
         requires all { vec_len passes ≡ self.workers }
         requires each { (w : ℕ) (p : _) → slice_get passes.items w ≡ Some p → IsPassOf self p × ((⟦<WordsPass<J, R> as Token<J, R>>⟧.view p).worker ≡ w) }
-        ensures settled { IfOk result (λ c. Settled self.capacity self.workers self.table.shared.key.root.value words_promises (map ⟦<WordsPass<J, R> as Token<J, R>>⟧.view passes.items) c.rows.items) }
+        ensures settled { IfOk result (λ c. (root : J) → self.table.shared.key.root.value ≡ root → Settled self.capacity self.workers root words_promises (map ⟦<WordsPass<J, R> as Token<J, R>>⟧.view passes.items) c.rows.items) }
         ensures fault { IfErr result (RefusesClose self.capacity self.workers words_promises (map ⟦<WordsPass<J, R> as Token<J, R>>⟧.view passes.items)) }
     {
         let alloc = self.alloc;
