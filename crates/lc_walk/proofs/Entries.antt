@@ -6,7 +6,8 @@ use Rattle.std.proofs.lemmas.Cmp.{nat_list_cmp_total, eq_by_cmp_equiv}
 use Rattle.std.proofs.lemmas.List.Sums.{AllPass-from_list_all, list_all-from_AllPass}
 use Rattle.std.proofs.lemmas.List.Sorted.{All-permutation, IsPermutation-map, IsPermutation-sym}
 use Rattle.std.proofs.lemmas.Map.Keys.{IsDistinct-IsPermutation, IsDistinct-from_sorted}
-use Rattle.lc_walk.specs.Listing.{DirEntry, names, name_cmp, is_good_name, have_good_names, HaveDistinctNames}
+use Rattle.lc_glob.specs.Path.{is_good_name}
+use Rattle.lc_walk.specs.Listing.{DirEntry, names, name_cmp, have_good_names, HaveDistinctNames}
 
 pub good_names_moved : (es fs : List DirEntry) → IsPermutation es fs → IsTrue (have_good_names es) → IsTrue (have_good_names fs)
 good_names_moved es fs moved good =

@@ -11,7 +11,7 @@ use Rattle.lc_board.specs.declared.event.Event.TheVariants.{Post, Claim, Return,
 use Rattle.lc_board.specs.declared.answers.Ended.{Ended}
 use Rattle.lc_board.proofs.HeldClaims.{part_tells_claim}
 use Rattle.lc_board.proofs.NumbersOnce.{ended_has_row}
-use Rattle.lc_walk.specs.Held.{job_held, posts_held}
+use Rattle.lc_board.specs.Holding.{job_held, posts_held}
 
 pub other : {A : Type 0} (k i : ℕ) (x y : A) → k ≢ i → cond (k == i) x y ≡ y
 other k i x y n = ap (λ b. cond b x y) (ne_eqb k i n)

@@ -3,7 +3,7 @@ use Rattle.std.proofs.Common.{◌≡◌, ℕ, cond, ◌&&◌, Bool, true, false,
 use Rattle.std.specs.List.{flat_map}
 use Rattle.lc_walk.specs.Listing.{IsListing}
 use Rattle.lc_walk.specs.declared.report.fault_word.FaultWord.{FaultWord}
-use Rattle.lc_walk.specs.Paths.{path_in}
+use Rattle.lc_glob.specs.Path.{path_in}
 use Rattle.lc_walk.specs.Answers.{Item, file_item, directory_item, other_item, Items, Answers, name_of}
 use Rattle.lc_walk.specs.Job.{JobAt}
 use Rattle.lc_walk.specs.RuleFiles.{RuleBytes, extended, file_named, has_directory, is_top}

@@ -5,7 +5,7 @@ use Rattle.lc_board.specs.State.{Absent, Open, Claimed, status}
 use Rattle.lc_board.specs.LegalHistory.{posts_under, IsLegal}
 use Rattle.lc_board.specs.declared.event.Event.{Event}
 use Rattle.lc_board.specs.declared.event.Event.TheVariants.{Post, Claim, Return, Fault, Over}
-use Rattle.lc_walk.specs.Paths.{path_in}
+use Rattle.lc_glob.specs.Path.{path_in}
 use Rattle.lc_walk.specs.Job.{JobAt}
 use Rattle.lc_walk.specs.RowViews.{ChildAt}
 use Rattle.lc_walk.specs.Lawful.{jobs_of, named}

@@ -6,7 +6,7 @@ use Rattle.std.proofs.lemmas.Cmp.{nat_list_cmp_total, eq_by_cmp_equiv}
 use Rattle.std.proofs.lemmas.Map.Keys.{IsDistinct-IsPermutation}
 use Rattle.std.proofs.lemmas.Map.Text.{is_eq-slice_cmp}
 use Rattle.lc_walk.specs.ReportLines.{FileAt, FaultAt, file_paths, fault_paths, path_cmp, AreApart}
-use Rattle.lc_walk.specs.Paths.{path_in}
+use Rattle.lc_glob.specs.Path.{path_in}
 use Rattle.lc_walk.specs.Level.{CountedAt, FileFaultAt, level_of_items, files_by, faults_by, children_by}
 use Rattle.lc_walk.specs.Found.{Found, found_of}
 use Rattle.lc_walk.specs.Walk.{walk_of}

@@ -4,7 +4,8 @@ use Rattle.std.specs.List.{flat_map}
 use Rattle.std.proofs.lemmas.Grind.{flat_map-append}
 use Rattle.std.proofs.lemmas.List.{append_cancel_left}
 use Rattle.lc_walk.specs.declared.report.fault_word.FaultWord.{FaultWord}
-use Rattle.lc_walk.specs.Paths.{path_in, segments}
+use Rattle.lc_glob.specs.Path.{path_in}
+use Rattle.lc_walk.specs.Paths.{segments}
 use Rattle.lc_walk.specs.Answers.{Item, file_item, directory_item, other_item, Tree, name_of}
 use Rattle.lc_walk.specs.Job.{JobAt}
 use Rattle.lc_walk.specs.RuleFiles.{extended}

@@ -5,7 +5,7 @@ use Rattle.lc_board.specs.LegalHistory.{posts_under}
 use Rattle.lc_board.specs.declared.event.Event.{Event}
 use Rattle.lc_board.specs.declared.answers.Ended.{Ended}
 use Rattle.std.proofs.lemmas.Option.{slice_get_within}
-use Rattle.lc_walk.specs.Paths.{path_in}
+use Rattle.lc_glob.specs.Path.{path_in}
 use Rattle.lc_walk.specs.Answers.{Answers}
 use Rattle.lc_walk.specs.Job.{JobAt}
 use Rattle.lc_walk.specs.Found.{children_at}

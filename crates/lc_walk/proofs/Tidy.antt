@@ -5,7 +5,8 @@ use Rattle.std.specs.Ordering.{eq_by_cmp}
 use Rattle.std.proofs.lemmas.Map.Keys.{IsDistinct-from_sorted}
 use Rattle.std.proofs.lemmas.Map.Text.{is_eq-slice_cmp}
 use Rattle.std.proofs.lemmas.Slice.Eq.{bytes_eq-Decides}
-use Rattle.lc_walk.specs.Listing.{names, name_cmp, is_no_name, is_good_name, have_good_names, HaveDistinctNames, IsListing}
+use Rattle.lc_glob.specs.Path.{is_no_name, is_good_name}
+use Rattle.lc_walk.specs.Listing.{names, name_cmp, have_good_names, HaveDistinctNames, IsListing}
 use Rattle.lc_walk.specs.Answers.{Item, name_of, entries_of}
 use Rattle.lc_walk.proofs.Weights.{Each}
 

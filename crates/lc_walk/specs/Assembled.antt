@@ -5,7 +5,7 @@ use Rattle.lc_walk.specs.Tally.{Held}
 use Rattle.lc_walk.specs.ReportLines.{FileAt, FaultAt}
 use Rattle.lc_walk.specs.Report.{IsReport}
 use Rattle.lc_walk.specs.declared.report.Report.{Report}
-use Rattle.lc_walk.specs.Paths.{path_in}
+use Rattle.lc_glob.specs.Path.{path_in}
 use Rattle.lc_walk.specs.Level.{FileFaultAt}
 use Rattle.lc_walk.specs.RowViews.{ChildAt}
 use Rattle.lc_walk.specs.Rows.{row_of, job_of, children_in, place_path}

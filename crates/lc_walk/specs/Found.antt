@@ -1,7 +1,7 @@
 -- What a walk finds.
 use Rattle.std.specs.Prelude.{ℕ, Bool, List, [], ◌∷◌, ◌++◌, map}
 use Rattle.lc_walk.specs.declared.report.fault_word.FaultWord.{FaultWord}
-use Rattle.lc_walk.specs.Paths.{path_in}
+use Rattle.lc_glob.specs.Path.{path_in}
 use Rattle.lc_walk.specs.Answers.{Answers}
 use Rattle.lc_walk.specs.Job.{JobAt}
 use Rattle.lc_walk.specs.Level.{CountedAt, FileFaultAt, Level, faulted_level, listed_level, level}

@@ -8,7 +8,7 @@ use Rattle.lc_rules.specs.declared.verdicts.Verdict.TheVariants.{Ignored, Includ
 use Rattle.lc_rules.specs.declared.states.TextState.{TextState}
 use Rattle.lc_census.specs.declared.totals.Count.{Count}
 use Rattle.lc_walk.specs.declared.report.fault_word.FaultWord.{FaultWord}
-use Rattle.lc_walk.specs.Paths.{path_in}
+use Rattle.lc_glob.specs.Path.{path_in}
 use Rattle.lc_walk.specs.AttrFiles.{state_with_info}
 use Rattle.lc_walk.specs.Answers.{Item, file_item, directory_item, other_item, Items, Answers}
 use Rattle.lc_walk.specs.Job.{JobAt}

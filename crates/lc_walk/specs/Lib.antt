@@ -4,7 +4,6 @@ pub mod AttrFiles
 pub mod Deep
 pub mod Extension
 pub mod Found
-pub mod Held
 pub mod Job
 pub mod Key
 pub mod Lawful

@@ -1,10 +1,11 @@
 -- Entries of a directory, the names that they may have, and what makes them a listing.
-use Rattle.std.specs.Prelude.{ℕ, ◌<◌, ◌≤◌, ◌==◌, Bool, true, false, not, ◌&&◌, List, [], ◌∷◌, length, map, IsTrue, IsFalse}
-use Rattle.std.specs.List.{list_all, list_any, IsDistinct}
+use Rattle.std.specs.Prelude.{ℕ, ◌<◌, ◌≤◌, Bool, List, length, map, IsTrue, IsFalse}
+use Rattle.std.specs.List.{list_all, IsDistinct}
 use Rattle.std.specs.List.Sorted.{IsPermutation, IsStrictlySortedBy}
 use Rattle.std.specs.declared.cmp.Ordering.{Ordering}
 use Rattle.std.specs.Ordering.{nat_cmp, on, eq_by_cmp}
 use Rattle.std.specs.Cmp.Lexicographic.{slice_cmp}
+use Rattle.lc_glob.specs.Path.{is_good_name}
 use Rattle.lc_walk.specs.declared.tree.entry.Kind.{Kind}
 use Rattle.lc_walk.specs.declared.tree.listing.ListingFault.{ListingFault}
 use Rattle.lc_walk.specs.declared.tree.listing.ListingFault.TheVariants.{BadName, Twice, TooMany, Memory}
@@ -26,17 +27,6 @@ name_cmp = slice_cmp nat_cmp
 -- entries by their names
 abbrev pub by_name : DirEntry → DirEntry → Ordering
 by_name = on (λ (e : DirEntry). e.name) name_cmp
-
--- whether a name is one of those that stand for no entry: the empty one, `.` and `..`
-abbrev pub is_no_name : List ℕ → Bool
-is_no_name [] = true
-is_no_name (b ∷ []) = b == 46
-is_no_name (b ∷ c ∷ []) = (b == 46) && (c == 46)
-is_no_name (b ∷ c ∷ d ∷ ds) = false
-
--- whether a directory can have an entry of this name: without a slash (47) and a NUL
-abbrev pub is_good_name : List ℕ → Bool
-is_good_name name = not (is_no_name name) && not (list_any (λ b. b == 47) name) && not (list_any (λ b. b == 0) name)
 
 -- whether all names are good
 abbrev pub have_good_names : List DirEntry → Bool

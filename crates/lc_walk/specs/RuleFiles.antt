@@ -3,7 +3,7 @@ use Rattle.std.specs.Prelude.{ℕ, Bool, true, false, ◌||◌, cond, List, [], 
 use Rattle.lc_rules.specs.IgnoreRules.{rules_of}
 use Rattle.lc_rules.specs.AttrLines.{attribute_file_of}
 use Rattle.lc_walk.specs.declared.report.fault_word.FaultWord.{FaultWord}
-use Rattle.lc_walk.specs.Paths.{depth_of}
+use Rattle.lc_glob.specs.Path.{depth_of}
 use Rattle.lc_walk.specs.Answers.{Item, file_item, directory_item, other_item}
 use Rattle.lc_walk.specs.Job.{JobAt}
 

@@ -2,7 +2,7 @@
 use Rattle.std.specs.Prelude.{◌≡◌, ℕ, true, ◌&&◌, List, [], Ok, Err, codes}
 use Rattle.std.specs.List.{AllByRecursion}
 use Rattle.lc_walk.specs.Answers.{Item, file_item, directory_item, other_item, Items, Answers, entries_of}
-use Rattle.lc_walk.specs.Paths.{path_in}
+use Rattle.lc_glob.specs.Path.{path_in}
 use Rattle.lc_walk.specs.RuleFiles.{has_directory, is_top}
 use Rattle.lc_walk.specs.Trees.{Listings, Contents, MayCount, MayReadRules}
 

@@ -5,7 +5,7 @@ use Rattle.lc_walk.specs.Extension.{extension_of}
 use Rattle.lc_walk.specs.Tally.{CountedFile, counted, sums_of_files, IsTally}
 use Rattle.lc_walk.specs.ReportLines.{FileAt, FaultAt, path_cmp}
 use Rattle.lc_walk.specs.declared.report.Report.{Report}
-use Rattle.lc_walk.specs.Paths.{path_in}
+use Rattle.lc_glob.specs.Path.{path_in}
 use Rattle.lc_walk.specs.Level.{CountedAt}
 use Rattle.lc_walk.specs.Found.{Found, found_file, found_fault, found_directory}
 

@@ -6,7 +6,7 @@ use Rattle.lc_board.specs.declared.event.Event.TheVariants.{Post, Claim, Return,
 use Rattle.lc_board.specs.declared.answers.Ended.{Ended}
 use Rattle.lc_board.specs.declared.answers.Ended.TheVariants as ended
 use Rattle.lc_walk.specs.Tally.{Held, CountedFile, StandsFor}
-use Rattle.lc_walk.specs.Held.{job_held, posts_held}
+use Rattle.lc_board.specs.Holding.{job_held, posts_held}
 use Rattle.lc_walk.specs.Answers.{Answers}
 use Rattle.lc_walk.specs.Job.{JobAt}
 use Rattle.lc_walk.specs.Rows.{row_of, job_of}

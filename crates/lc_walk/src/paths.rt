@@ -1,6 +1,6 @@
 //! Paths.
 ghost use Rattle.std.specs.Prelude.{◌≡◌, IfOk};
-ghost use Rattle.lc_walk.specs.Paths.{path_in};
+ghost use Rattle.lc_glob.specs.Path.{path_in};
 
 use std::alloc::{AllocError, Global};
 

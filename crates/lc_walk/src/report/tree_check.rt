@@ -1,7 +1,7 @@
 //! Whether rows make a tree.
 ghost use Rattle.std.specs.Prelude.{◌≡◌, ℕ, ◌+◌, ◌<◌, ◌≤◌, ◌^◌, List, true, false, length, slice_get, slice_set, replicate, Some, IfOk, IfErr, OnOk, OnErr};
 ghost use Rattle.lc_walk.specs.Rows.{row_of, job_of, children_in};
-ghost use Rattle.lc_walk.specs.Paths.{path_in};
+ghost use Rattle.lc_glob.specs.Path.{path_in};
 ghost use Rattle.lc_walk.specs.Assembled.{IsPlaced};
 ghost use Rattle.lc_walk.specs.Marks.{Marks, IsNext, IsPathAt, RefusesTree};
 

@@ -2,9 +2,10 @@
 ghost use Rattle.std.specs.Prelude.{◌≡◌, MatchResult};
 ghost use Rattle.std.specs.Bool.{MatchBool};
 ghost use Rattle.std.specs.List.Sorted.{IsPermutation, IsSorted, IsStrictlySortedBy};
-ghost use Rattle.lc_walk.specs.Listing.{by_name, name_cmp, names, have_good_names, is_good_name, HaveDistinctNames, IsListing, IsListingOf, IsRefusedBy};
+ghost use Rattle.lc_walk.specs.Listing.{by_name, name_cmp, names, have_good_names, HaveDistinctNames, IsListing, IsListingOf, IsRefusedBy};
 
 use crate::tree::entry::Entry;
+use lc_glob::path::is_good_name;
 use std::marker::Model;
 use thiserror::Error;
 
@@ -86,12 +87,6 @@ fn all_good(entries: &[Entry]) -> bool
     ensures { result ≡ have_good_names entries.now }
 {
     entries.iter().all(|entry| is_good_name(&entry.name))
-}
-
-fn is_good_name(name: &[u8]) -> bool
-    ensures { result ≡ is_good_name name.now }
-{
-    !matches!(name, [] | [b'.'] | [b'.', b'.']) && !name.contains(&b'/') && !name.contains(&0)
 }
 
 fn sort_by_name(entries: &mut Vec<Entry>)
