@@ -6,51 +6,26 @@ use Rattle.lc_walk.specs.declared.report.fault_word.FaultWord.{FaultWord}
 use Rattle.lc_glob.specs.Path.{path_in}
 use Rattle.lc_walk.specs.Answers.{Item, file_item, directory_item, other_item, Items, Answers, name_of}
 use Rattle.lc_walk.specs.Job.{JobAt}
-use Rattle.lc_walk.specs.RuleFiles.{RuleBytes, extended, file_named, has_directory, is_top}
-use Rattle.lc_walk.specs.Level.{faulted_level, reading, listing, with_info, with_info_files, with_own_files, with_rule_files, level_with, level_of_items, is_taken, child_job, children_by}
+use Rattle.lc_walk.specs.ReportLines.{FaultAt}
+use Rattle.lc_walk.specs.RuleFiles.{Pair, RuleBytes, extended, file_named, has_directory, is_top, has_git, and_then, reading, both_read, info_items, info_bytes, own_bytes, rule_bytes}
+use Rattle.lc_walk.specs.Level.{Level, faulted_level, level, level_of, level_after, level_of_items, is_taken, child_job, children_by}
 use Rattle.lc_walk.specs.Found.{children_of, children_at}
 use Rattle.lc_walk.specs.Lawful.{IsTidy, listed_in}
 use Rattle.lc_walk.proofs.Weights.{Each}
 use Rattle.lc_walk.proofs.Tidy.{IsGoodName, good_one, Spread, spread}
 
--- what holds of each fault, and of what comes of the items with any chains, holds of the whole
-module _ {X : Type 0} (P : X → Type 0) (at_fault : List ℕ → FaultWord → X) (faults : (p : List ℕ) (w : FaultWord) → P (at_fault p w)) where
-  reading_keeps : (p : List ℕ) (o : Option (Result (List ℕ) FaultWord)) (next : Option (List ℕ) → X) → ((b : Option (List ℕ)) → P (next b)) → P (reading at_fault p o next)
-  reading_keeps p None next k = k None
-  reading_keeps p (Some (Ok bytes)) next k = k (Some bytes)
-  reading_keeps p (Some (Err word)) next k = faults p word
+-- what holds of each fault, and of the level of the items with any chains, holds of the level
+pub level_keeps : (P : Level → Type 0) (archive : Bool) (j : JobAt) (a : Answers) → ((p : List ℕ) (w : FaultWord) → P (faulted_level p w)) →
+    ((items : List Item) → a.here ≡ Ok items → (b : RuleBytes) → P (level_of_items archive items (extended j b))) → P (level archive j a)
+level_keeps P archive j a faults items_keep = at a.here refl
+  where
+    after : (items : List Item) → a.here ≡ Ok items → (r : Result RuleBytes FaultAt) → P (level_after archive j items r)
+    after items e (Ok b) = items_keep items e b
+    after items e (Err f) = faults f.path f.word
 
-  listing_keeps : (b : Bool) (p : List ℕ) (o : Items) (next : List Item → X) → ((es : List Item) → P (next es)) → P (listing at_fault b p o next)
-  listing_keeps false p o next k = k []
-  listing_keeps true p (Ok es) next k = k es
-  listing_keeps true p (Err word) next k = faults p word
-
-  info_keeps : (j : JobAt) (es : List Item) (a : Answers) (next : List Item → X) → ((is : List Item) → P (next is)) → P (with_info at_fault j es a next)
-  info_keeps j es a next k =
-      listing_keeps (is_top j.path && has_directory (codes ".git") es) (codes ".git") a.git (λ in_git. listing at_fault (has_directory (codes "info") in_git) (codes ".git/info") a.info next)
-      (λ in_git. listing_keeps (has_directory (codes "info") in_git) (codes ".git/info") a.info next k)
-
-  info_files_keep : (is : List Item) (next : Option (List ℕ) → Option (List ℕ) → X) → ((x y : Option (List ℕ)) → P (next x y)) → P (with_info_files at_fault is next)
-  info_files_keep is next k =
-      reading_keeps (codes ".git/info/exclude") (file_named (codes "exclude") is) (λ x. reading at_fault (codes ".git/info/attributes") (file_named (codes "attributes") is) (λ y. next x y))
-      (λ x. reading_keeps (codes ".git/info/attributes") (file_named (codes "attributes") is) (λ y. next x y) (λ y. k x y))
-
-  own_files_keep : (j : JobAt) (es : List Item) (next : Option (List ℕ) → Option (List ℕ) → X) → ((i t : Option (List ℕ)) → P (next i t)) → P (with_own_files at_fault j es next)
-  own_files_keep j es next k =
-      reading_keeps (path_in j.path (codes ".gitignore")) (file_named (codes ".gitignore") es) (λ i. reading at_fault (path_in j.path (codes ".gitattributes")) (file_named (codes ".gitattributes") es) (λ t. next i t))
-      (λ i. reading_keeps (path_in j.path (codes ".gitattributes")) (file_named (codes ".gitattributes") es) (λ t. next i t) (λ t. k i t))
-
-  files_keep : (j : JobAt) (es : List Item) (a : Answers) (next : RuleBytes → X) → ((b : RuleBytes) → P (next b)) → P (with_rule_files at_fault j es a next)
-  files_keep j es a next k =
-      info_keeps j es a (λ is. with_info_files at_fault is (λ x y. with_own_files at_fault j es (λ i t. next (record { exclude = x; info_attributes = y; ignore = i; attributes = t }))))
-      (λ is. info_files_keep is (λ x y. with_own_files at_fault j es (λ i t. next (record { exclude = x; info_attributes = y; ignore = i; attributes = t })))
-      (λ x y. own_files_keep j es (λ i t. next (record { exclude = x; info_attributes = y; ignore = i; attributes = t }))
-      (λ i t. k (record { exclude = x; info_attributes = y; ignore = i; attributes = t }))))
-
-  pub level_keeps : (j : JobAt) (a : Answers) (o : Items) (next : List Item → JobAt → X) →
-      ((es : List Item) → o ≡ Ok es → (b : RuleBytes) → P (next es (extended j b))) → P (level_with at_fault j a o next)
-  level_keeps j a (Ok es) next k = files_keep j es a (λ b. next es (extended j b)) (λ b. k es refl b)
-  level_keeps j a (Err word) next k = faults j.path word
+    at : (o : Items) → a.here ≡ o → P (level_of archive j a o)
+    at (Ok items) e = after items e (rule_bytes j.path items a)
+    at (Err word) e = faults j.path word
 
 -- ---- where a directory can be at fault
 
@@ -62,40 +37,62 @@ top_is : (p : List ℕ) → is_top p ≡ true → p ≡ []
 top_is [] e = refl
 top_is (b ∷ bs) e = cc
 
-module _ {X : Type 0} (P : X → Type 0) (at_fault : List ℕ → FaultWord → X) (j : JobAt) (faults : (p : List ℕ) (w : FaultWord) → IsOwnPlace j.path p → P (at_fault p w)) where
-  own_reading : (n : List ℕ) → IsGoodName n → (o : Option (Result (List ℕ) FaultWord)) (next : Option (List ℕ) → X) → ((b : Option (List ℕ)) → P (next b)) → P (reading at_fault (path_in j.path n) o next)
-  own_reading n g None next k = k None
-  own_reading n g (Some (Ok bytes)) next k = k (Some bytes)
-  own_reading n g (Some (Err word)) next k = faults (path_in j.path n) word (inr (inl (n, g, refl)))
+-- what holds of the fault, if there is one
+abbrev IfFault : {A : Type 0} → (List ℕ → Type 0) → Result A FaultAt → Type 0
+IfFault P (Ok x) = Unit {0}
+IfFault P (Err f) = P f.path
 
-  own_two : (es : List Item) (next : Option (List ℕ) → Option (List ℕ) → X) → ((i t : Option (List ℕ)) → P (next i t)) → P (with_own_files at_fault j es next)
-  own_two es next k =
-      own_reading (codes ".gitignore") (good_one (codes ".gitignore") refl) (file_named (codes ".gitignore") es)
-      (λ i. reading at_fault (path_in j.path (codes ".gitattributes")) (file_named (codes ".gitattributes") es) (λ t. next i t))
-      (λ i. own_reading (codes ".gitattributes") (good_one (codes ".gitattributes") refl) (file_named (codes ".gitattributes") es) (λ t. next i t) (λ t. k i t))
+fault_of_and_then : {A B : Type 0} (P : List ℕ → Type 0) (r : Result A FaultAt) (next : A → Result B FaultAt) → IfFault P r → ((x : A) → IfFault P (next x)) → IfFault P (and_then r next)
+fault_of_and_then P (Ok x) next first rest = rest x
+fault_of_and_then P (Err f) next first rest = first
 
-  -- what comes after `.git/info` was read, and the whole, by whether the directory is the top
-  abbrev after_info : List Item → (RuleBytes → X) → List Item → X
-  after_info es next in_info = with_info_files at_fault in_info (λ x y. with_own_files at_fault j es (λ i t. next (record { exclude = x; info_attributes = y; ignore = i; attributes = t })))
+fault_of_reading : (P : List ℕ → Type 0) (p : List ℕ) (o : Option (Result (List ℕ) FaultWord)) → P p → IfFault P (reading p o)
+fault_of_reading P p None k = tt
+fault_of_reading P p (Some (Ok bytes)) k = tt
+fault_of_reading P p (Some (Err word)) k = k
 
-  abbrev by_top : List Item → Answers → (RuleBytes → X) → Bool → X
-  by_top es a next t =
-      listing at_fault (t && has_directory (codes ".git") es) (codes ".git") a.git
-      (λ in_git. listing at_fault (has_directory (codes "info") in_git) (codes ".git/info") a.info (after_info es next))
+fault_of_both : (P : List ℕ → Type 0) (p : List ℕ) (o : Option (Result (List ℕ) FaultWord)) (q : List ℕ) (u : Option (Result (List ℕ) FaultWord)) → P p → P q → IfFault P (both_read p o q u)
+fault_of_both P p o q u k l =
+    fault_of_and_then P (reading p o) (λ x. and_then (reading q u) (λ y. Ok (record { rules = x; attributes = y }))) (fault_of_reading P p o k)
+    (λ x. fault_of_and_then P (reading q u) (λ y. Ok (record { rules = x; attributes = y })) (fault_of_reading P q u l) (λ y. tt))
 
-  own_by_top : (es : List Item) (a : Answers) (next : RuleBytes → X) → ((b : RuleBytes) → P (next b)) → (b : Bool) → is_top j.path ≡ b → P (with_rule_files at_fault j es a next)
-  own_by_top es a next k true e = files_keep P at_fault (λ p w. faults p w (inr (inr (top_is j.path e)))) j es a next k
-  own_by_top es a next k false e =
-      let none : P (by_top es a next false) = own_two es (λ i t. next (record { exclude = None; info_attributes = None; ignore = i; attributes = t })) (λ i t. k (record { exclude = None; info_attributes = None; ignore = i; attributes = t })) in
-      subst (λ t. P (by_top es a next t)) (sym e) none
+-- nothing of `.git` is read where it is not there
+no_git : (P : List ℕ → Type 0) (a : Answers) (there : Bool) → (there ≡ true → (p : List ℕ) → P p) → IfFault P (and_then (info_items there a) info_bytes)
+no_git P a false k = tt
+no_git P a true k = any (and_then (info_items true a) info_bytes)
+  where
+    any : (r : Result Pair FaultAt) → IfFault P r
+    any (Ok x) = tt
+    any (Err f) = k refl f.path
 
-  own_files : (es : List Item) (a : Answers) (next : RuleBytes → X) → ((b : RuleBytes) → P (next b)) → P (with_rule_files at_fault j es a next)
-  own_files es a next k = own_by_top es a next k (is_top j.path) refl
+git_of_top : (p : List ℕ) (items : List Item) → has_git p items ≡ true → p ≡ []
+git_of_top p items e = top_is p (first (is_top p) (has_directory (codes ".git") items) e)
+  where
+    first : (b c : Bool) → (b && c) ≡ true → b ≡ true
+    first true c e = refl
+    first false c e = cc
 
-  pub own_level_keeps : (a : Answers) (o : Items) (next : List Item → JobAt → X) →
-      ((es : List Item) → o ≡ Ok es → (b : RuleBytes) → P (next es (extended j b))) → P (level_with at_fault j a o next)
-  own_level_keeps a (Ok es) next k = own_files es a (λ b. next es (extended j b)) (λ b. k es refl b)
-  own_level_keeps a (Err word) next k = faults j.path word (inl refl)
+pub fault_place : (path : List ℕ) (items : List Item) (a : Answers) → IfFault (IsOwnPlace path) (rule_bytes path items a)
+fault_place path items a =
+    fault_of_and_then (IsOwnPlace path) (and_then (info_items (has_git path items) a) info_bytes) (λ i. and_then (own_bytes path items) (λ o. Ok (record { info = i; own = o })))
+    (no_git (IsOwnPlace path) a (has_git path items) (λ e p. inr (inr (git_of_top path items e))))
+    (λ i. fault_of_and_then (IsOwnPlace path) (own_bytes path items) (λ o. Ok (record { info = i; own = o }))
+    (fault_of_both (IsOwnPlace path) (path_in path (codes ".gitignore")) (file_named (codes ".gitignore") items) (path_in path (codes ".gitattributes")) (file_named (codes ".gitattributes") items)
+    (inr (inl (codes ".gitignore", good_one (codes ".gitignore") refl, refl))) (inr (inl (codes ".gitattributes", good_one (codes ".gitattributes") refl, refl))))
+    (λ o. tt))
+
+-- the same, where the fault may be known to lie in the directory
+pub own_level_keeps : (P : Level → Type 0) (archive : Bool) (j : JobAt) (a : Answers) → ((p : List ℕ) (w : FaultWord) → IsOwnPlace j.path p → P (faulted_level p w)) →
+    ((items : List Item) → a.here ≡ Ok items → (b : RuleBytes) → P (level_of_items archive items (extended j b))) → P (level archive j a)
+own_level_keeps P archive j a faults items_keep = at a.here refl
+  where
+    after : (items : List Item) → a.here ≡ Ok items → (r : Result RuleBytes FaultAt) → IfFault (IsOwnPlace j.path) r → P (level_after archive j items r)
+    after items e (Ok b) o = items_keep items e b
+    after items e (Err f) o = faults f.path f.word o
+
+    at : (o : Items) → a.here ≡ o → P (level_of archive j a o)
+    at (Ok items) e = after items e (rule_bytes j.path items a) (fault_place j.path items a)
+    at (Err word) e = faults j.path word (inl refl)
 
 -- ---- the child directories
 
@@ -142,10 +139,10 @@ tidy_items a t es e = spread es (subst (λ (o : Items). IsListing (listed_in o))
 
 pub apart_level : (archive : Bool) (j : JobAt) (a : Answers) → IsTidy a → IsApart (children_at archive j a)
 apart_level archive j a t =
-    level_keeps (λ l. IsApart (children_of l)) faulted_level (λ p w. tt) j a a.here (level_of_items archive)
+    level_keeps (λ l. IsApart (children_of l)) archive j a (λ p w. tt)
     (λ es e b. apart_children archive (extended j b) es (tidy_items a t es e))
 
 pub good_level : (archive : Bool) (j : JobAt) (a : Answers) → IsTidy a → Each (IsChild j.path) (children_at archive j a)
 good_level archive j a t =
-    level_keeps (λ l. Each (IsChild j.path) (children_of l)) faulted_level (λ p w. tt) j a a.here (level_of_items archive)
+    level_keeps (λ l. Each (IsChild j.path) (children_of l)) archive j a (λ p w. tt)
     (λ es e b. each_child archive (extended j b) (IsChild j.path) IsGoodName (λ n g. (g, refl)) es (good_names es (tidy_items a t es e)))

@@ -284,9 +284,8 @@ module _ (archive : Bool) (pick : Found → List (List ℕ)) (keep : JobAt → I
   fine (suc k) j t tidy =
       own_level_keeps
       (λ l. IsFine j.path (paths (found_of j l ++ walks_below (found_at archive) (children_at archive) (walk k) t (children_of l))))
-      faulted_level j
+      archive j (t [])
       (λ p w o. subst (IsFine j.path) (sym (again (pick (found_fault p w)))) (of_fault j.path p (pick (found_fault p w)) o (kind.fault j p w)))
-      (t []) (t []).here (level_of_items archive)
       (λ es e b. of_items k (extended j b) t es (tidy_items (t []) (tidy []) es e) (λ i u. fine k i (λ p. t (u ∷ p)) (λ p. tidy (u ∷ p))))
     where
       again : (xs : List (List ℕ)) → xs ++ [] ≡ xs ++ []

@@ -1,13 +1,15 @@
 -- What is too deep for a walk.
-use Rattle.std.specs.Prelude.{Bool, true, false, not, ◌&&◌, ◌||◌, nat_lt, length, bytes_eq, codes}
+use Rattle.std.specs.Prelude.{Bool, true, false, not, ◌&&◌, ◌||◌, nat_lt, List, length, Result, Ok, Err, bytes_eq, codes}
 use Rattle.std.specs.List.{list_any}
 use Rattle.lc_walk.specs.Listing.{DirEntry}
 use Rattle.lc_walk.specs.declared.tree.entry.Kind.{Kind}
 use Rattle.lc_walk.specs.declared.tree.entry.Kind.TheVariants.{File, Dir, Other}
 use Rattle.lc_glob.specs.Path.{path_in, depth_of, max_path, max_depth}
-use Rattle.lc_walk.specs.Answers.{entry_of, Answers}
+use Rattle.lc_walk.specs.Answers.{Item, entry_of, Items, Answers}
 use Rattle.lc_walk.specs.Job.{JobAt}
-use Rattle.lc_walk.specs.Level.{is_kept, level_with}
+use Rattle.lc_walk.specs.Level.{is_kept}
+use Rattle.lc_walk.specs.ReportLines.{FaultAt}
+use Rattle.lc_walk.specs.RuleFiles.{RuleBytes, rule_bytes, extended}
 
 abbrev pub is_dir : Kind → Bool
 is_dir File = false
@@ -21,6 +23,15 @@ is_too_deep archive j e =
     && (nat_lt max_path (length (path_in j.path e.name))
     || (is_dir e.kind && is_kept archive j (path_in j.path e.name) true && nat_lt max_depth (depth_of (path_in j.path e.name))))
 
+-- some of these items is, by both chains with the rule files
+abbrev pub some_too_deep : Bool → JobAt → List Item → Result RuleBytes FaultAt → Bool
+some_too_deep archive j items (Ok files) = list_any (λ item. is_too_deep archive (extended j files) (entry_of item)) items
+some_too_deep archive j items (Err fault) = false
+
+abbrev pub too_deep_among : Bool → JobAt → Answers → Items → Bool
+too_deep_among archive j a (Ok items) = some_too_deep archive j items (rule_bytes j.path items a)
+too_deep_among archive j a (Err word) = false
+
 -- a directory that is not at fault has such an entry
 abbrev pub has_too_deep : Bool → JobAt → Answers → Bool
-has_too_deep archive j a = level_with (λ path word. false) j a a.here (λ es k. list_any (λ e. is_too_deep archive k (entry_of e)) es)
+has_too_deep archive j a = too_deep_among archive j a a.here

@@ -12,7 +12,8 @@ use Rattle.lc_glob.specs.Path.{path_in}
 use Rattle.lc_walk.specs.AttrFiles.{state_with_info}
 use Rattle.lc_walk.specs.Answers.{Item, file_item, directory_item, other_item, Items, Answers}
 use Rattle.lc_walk.specs.Job.{JobAt}
-use Rattle.lc_walk.specs.RuleFiles.{RuleBytes, file_named, has_directory, is_top, extended}
+use Rattle.lc_walk.specs.ReportLines.{FaultAt}
+use Rattle.lc_walk.specs.RuleFiles.{RuleBytes, rule_bytes, extended}
 
 -- a counted file of a directory
 pub record CountedAt : Type 0 where
@@ -29,8 +30,6 @@ pub record FileFaultAt : Type 0 where
 pub data Level : Type 0 where
   faulted_level : (path : List ℕ) → FaultWord → Level
   listed_level : List CountedAt → List FileFaultAt → List (List ℕ × JobAt) → Level
-
--- ---- the entries
 
 abbrev pub is_ignored : Verdict → Bool
 is_ignored Ignored = true
@@ -85,52 +84,17 @@ children_by archive j (other_item name) = []
 abbrev pub level_of_items : Bool → List Item → JobAt → Level
 level_of_items archive es j = listed_level (flat_map (files_by archive j) es) (flat_map (faults_by archive j) es) (flat_map (children_by archive j) es)
 
--- ---- what is read before them; the first fault is all that the directory gives
+-- ---- the whole
 
--- `at_fault` is what a fault at a path gives, and `next` what comes where there is none
-module _ {X : Type 0} (at_fault : List ℕ → FaultWord → X) where
-  -- a rule file at a path
-  abbrev pub reading : List ℕ → Option (Result (List ℕ) FaultWord) → (Option (List ℕ) → X) → X
-  reading path None next = next None
-  reading path (Some (Ok bytes)) next = next (Some bytes)
-  reading path (Some (Err word)) next = at_fault path word
+-- the level of these items, by what reading the rule files gave
+abbrev pub level_after : Bool → JobAt → List Item → Result RuleBytes FaultAt → Level
+level_after archive j items (Ok files) = level_of_items archive items (extended j files)
+level_after archive j items (Err fault) = faulted_level fault.path fault.word
 
-  -- the items of a directory at a path; none where it is not there
-  abbrev pub listing : Bool → List ℕ → Items → (List Item → X) → X
-  listing false path items next = next []
-  listing true path (Ok es) next = next es
-  listing true path (Err word) next = at_fault path word
-
-  -- the items of `.git/info` of the top
-  abbrev pub with_info : JobAt → List Item → Answers → (List Item → X) → X
-  with_info j es a next =
-      listing (is_top j.path && has_directory (codes ".git") es) (codes ".git") a.git
-      (λ in_git. listing (has_directory (codes "info") in_git) (codes ".git/info") a.info next)
-
-  -- the bytes of the two files in it
-  abbrev pub with_info_files : List Item → (Option (List ℕ) → Option (List ℕ) → X) → X
-  with_info_files in_info next =
-      reading (codes ".git/info/exclude") (file_named (codes "exclude") in_info)
-      (λ x. reading (codes ".git/info/attributes") (file_named (codes "attributes") in_info) (λ y. next x y))
-
-  -- those of the directory's own two files
-  abbrev pub with_own_files : JobAt → List Item → (Option (List ℕ) → Option (List ℕ) → X) → X
-  with_own_files j es next =
-      reading (path_in j.path (codes ".gitignore")) (file_named (codes ".gitignore") es)
-      (λ i. reading (path_in j.path (codes ".gitattributes")) (file_named (codes ".gitattributes") es) (λ t. next i t))
-
-  -- the bytes of all rule files, in the order in which they are read
-  abbrev pub with_rule_files : JobAt → List Item → Answers → (RuleBytes → X) → X
-  with_rule_files j es a next =
-      with_info j es a
-      (λ in_info. with_info_files in_info
-      (λ x y. with_own_files j es (λ i t. next (record { exclude = x; info_attributes = y; ignore = i; attributes = t }))))
-
-  -- what comes of the items of a directory and of its job with both chains extended
-  abbrev pub level_with : JobAt → Answers → Items → (List Item → JobAt → X) → X
-  level_with j a (Ok es) next = with_rule_files j es a (λ files. next es (extended j files))
-  level_with j a (Err word) next = at_fault j.path word
+abbrev pub level_of : Bool → JobAt → Answers → Items → Level
+level_of archive j a (Ok items) = level_after archive j items (rule_bytes j.path items a)
+level_of archive j a (Err word) = faulted_level j.path word
 
 -- the level of a directory whose answers these are
 abbrev pub level : Bool → JobAt → Answers → Level
-level archive j a = level_with faulted_level j a a.here (level_of_items archive)
+level archive j a = level_of archive j a a.here

@@ -1,9 +1,9 @@
 -- Which answers for a directory a tree may give, by what its calls may answer.
-use Rattle.std.specs.Prelude.{◌≡◌, ℕ, true, ◌&&◌, List, [], Ok, Err, codes}
+use Rattle.std.specs.Prelude.{◌≡◌, ℕ, true, List, [], Ok, Err, codes}
 use Rattle.std.specs.List.{AllByRecursion}
 use Rattle.lc_walk.specs.Answers.{Item, file_item, directory_item, other_item, Items, Answers, entries_of}
 use Rattle.lc_glob.specs.Path.{path_in}
-use Rattle.lc_walk.specs.RuleFiles.{has_directory, is_top}
+use Rattle.lc_walk.specs.RuleFiles.{has_directory, has_git}
 use Rattle.lc_walk.specs.Trees.{Listings, Contents, MayCount, MayReadRules}
 
 -- `lists` and `gives` say what the listings and the files of a tree may answer at each path
@@ -25,5 +25,5 @@ module _ (lists : List ℕ → Listings) (gives : List ℕ → Contents) where
   -- `.git` and `.git/info` are asked about only where the top has them
   pub record MayAnswer (path : List ℕ) (a : Answers) : Type 0 where
     pub here : MayList path a.here
-    pub git : (is_top path && has_directory (codes ".git") (items_of a.here)) ≡ true → MayList (codes ".git") a.git
-    pub info : (is_top path && has_directory (codes ".git") (items_of a.here)) ≡ true → has_directory (codes "info") (items_of a.git) ≡ true → MayList (codes ".git/info") a.info
+    pub git : has_git path (items_of a.here) ≡ true → MayList (codes ".git") a.git
+    pub info : has_git path (items_of a.here) ≡ true → has_directory (codes "info") (items_of a.git) ≡ true → MayList (codes ".git/info") a.info
