@@ -23,6 +23,7 @@ pub mod Places
 pub mod Placing
 pub mod Reach
 pub mod Reports
+pub mod Rooms
 pub mod Sorting
 pub mod Tidy
 pub mod WalkOn

@@ -3,6 +3,7 @@ pub mod Assembled
 pub mod AttrFiles
 pub mod Deep
 pub mod Extension
+pub mod FileReads
 pub mod Found
 pub mod Job
 pub mod Key

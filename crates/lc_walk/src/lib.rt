@@ -10,6 +10,7 @@
 
 mod job;
 mod laws;
+mod level;
 mod paths;
 mod report;
 mod row;
