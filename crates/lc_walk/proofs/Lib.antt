@@ -24,6 +24,7 @@ pub mod Placing
 pub mod Reach
 pub mod Reports
 pub mod Rooms
+pub mod RuleParsing
 pub mod Sorting
 pub mod Tidy
 pub mod WalkOn

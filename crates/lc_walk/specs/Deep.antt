@@ -1,20 +1,14 @@
 -- What is too deep for a walk.
-use Rattle.std.specs.Prelude.{Bool, true, false, not, ◌&&◌, ◌||◌, nat_lt, List, length, Result, Ok, Err, bytes_eq, codes}
+use Rattle.std.specs.Prelude.{Bool, false, not, ◌&&◌, ◌||◌, nat_lt, List, length, Result, Ok, Err, bytes_eq, codes}
 use Rattle.std.specs.List.{list_any}
 use Rattle.lc_walk.specs.Listing.{DirEntry}
-use Rattle.lc_walk.specs.declared.tree.entry.Kind.{Kind}
-use Rattle.lc_walk.specs.declared.tree.entry.Kind.TheVariants.{File, Dir, Other}
+use Rattle.lc_walk.specs.EntryLooks.{is_dir}
 use Rattle.lc_glob.specs.Path.{path_in, depth_of, max_path, max_depth}
 use Rattle.lc_walk.specs.Answers.{Item, entry_of, Items, Answers}
 use Rattle.lc_walk.specs.Job.{JobAt}
 use Rattle.lc_walk.specs.Level.{is_kept}
 use Rattle.lc_walk.specs.ReportLines.{FaultAt}
 use Rattle.lc_walk.specs.RuleFiles.{RuleBytes, rule_bytes, extended}
-
-abbrev pub is_dir : Kind → Bool
-is_dir File = false
-is_dir Dir = true
-is_dir Other = false
 
 -- an entry, other than `.git`, whose path has over 4,096 bytes, or a directory of over 256 segments that the rules leave in
 abbrev pub is_too_deep : Bool → JobAt → DirEntry → Bool

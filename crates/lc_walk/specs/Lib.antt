@@ -2,6 +2,7 @@ pub mod Answers
 pub mod Assembled
 pub mod AttrFiles
 pub mod Deep
+pub mod EntryLooks
 pub mod Extension
 pub mod FileReads
 pub mod Found
@@ -13,12 +14,14 @@ pub mod Level
 pub mod Listing
 pub mod Marks
 pub mod Passes
+pub mod PathBuffers
 pub mod Paths
 pub mod Report
 pub mod ReportLines
 pub mod RowViews
 pub mod Rows
 pub mod RuleFiles
+pub mod RuleReads
 pub mod Sums
 pub mod Tally
 pub mod TallyRows
