@@ -21,6 +21,7 @@ pub mod ReportLines
 pub mod RowViews
 pub mod Rows
 pub mod RuleFiles
+pub mod RulePairs
 pub mod RuleReads
 pub mod Sums
 pub mod Tally

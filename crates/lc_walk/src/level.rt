@@ -9,4 +9,6 @@ mod entry_looks;
 mod files;
 mod path_buffer;
 mod rule_files;
+mod rule_pair;
+mod unlisted;
 mod unread;
