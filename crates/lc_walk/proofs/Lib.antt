@@ -6,6 +6,9 @@ pub mod Ends
 pub mod Entries
 pub mod Filtered
 pub mod Given
+pub mod GitReads
+pub mod GivenItems
+pub mod GivenPairs
 pub mod Growing
 pub mod Histories
 pub mod Holds

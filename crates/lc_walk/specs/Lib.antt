@@ -6,6 +6,7 @@ pub mod EntryLooks
 pub mod Extension
 pub mod FileReads
 pub mod Found
+pub mod GitInfo
 pub mod Job
 pub mod Key
 pub mod Lawful

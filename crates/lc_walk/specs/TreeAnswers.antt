@@ -6,6 +6,11 @@ use Rattle.lc_glob.specs.Path.{path_in}
 use Rattle.lc_walk.specs.RuleFiles.{has_directory, has_git}
 use Rattle.lc_walk.specs.Trees.{Listings, Contents, MayCount, MayReadRules}
 
+-- the items, if there are any
+abbrev pub items_of : Items → List Item
+items_of (Ok items) = items
+items_of (Err word) = []
+
 -- `lists` and `gives` say what the listings and the files of a tree may answer at each path
 module _ (lists : List ℕ → Listings) (gives : List ℕ → Contents) where
   -- what an item of the directory at a path holds
@@ -17,10 +22,6 @@ module _ (lists : List ℕ → Listings) (gives : List ℕ → Contents) where
   abbrev pub MayList : List ℕ → Items → Type 0
   MayList path (Ok items) = lists path (Ok (entries_of items)) × AllByRecursion (MayHave path) items
   MayList path (Err word) = lists path (Err word)
-
-  abbrev pub items_of : Items → List Item
-  items_of (Ok items) = items
-  items_of (Err word) = []
 
   -- `.git` and `.git/info` are asked about only where the top has them
   pub record MayAnswer (path : List ℕ) (a : Answers) : Type 0 where

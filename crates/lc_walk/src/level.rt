@@ -7,6 +7,7 @@
 mod desk;
 mod entry_looks;
 mod files;
+mod git_info;
 mod path_buffer;
 mod rule_files;
 mod rule_pair;

@@ -20,6 +20,18 @@ pub(crate) struct RulePair {
     pub(crate) attributes: Option<Arc<AttrFile, Global>>,
 }
 
+impl RulePair {
+    /// Neither of them.
+    pub(crate) fn none() -> RulePair
+        ensures { result ≡ record { rules = None; attributes = None } }
+    {
+        RulePair {
+            rules: None,
+            attributes: None,
+        }
+    }
+}
+
 /// A name to be read, and the place that is at fault where it can't be.
 #[derive(Clone, Copy)]
 pub(crate) struct RuleName<'a> {
