@@ -24,11 +24,11 @@ place_some c bytes i h =
 pub place_below : (c : ℕ) (bytes : List ℕ) (i : ℕ) → IsFirstByte (is_byte c) bytes (Some i) → i < length bytes
 place_below c bytes i h = h.0.high
 
--- where the byte is nowhere, the bytes are one piece
+-- where the byte is nowhere, the bytes are one token
 pub split_none : (c : ℕ) (bytes : List ℕ) → IsFirstByte (is_byte c) bytes None → slice_split (λ b. nat_eq b c) bytes ≡ bytes ∷ []
 split_none c bytes h = slice_split_none (λ b. nat_eq b c) bytes (λ k d l. false_from_ne_true _ (λ t. h k (omega arith) l (subst (λ (x : ℕ). nat_eq x c ≡ true) (same_read bytes k d l) t)))
 
--- the first piece stands before the first place, and the others after it
+-- the first token stands before the first place, and the others after it
 pub split_some : (c : ℕ) (bytes : List ℕ) (i : ℕ) → IsFirstByte (is_byte c) bytes (Some i)
     → slice_split (λ b. nat_eq b c) bytes ≡ take i bytes ∷ slice_split (λ b. nat_eq b c) (take (length bytes - (i + 1)) (drop (i + 1) bytes))
 split_some c bytes i h =

@@ -1,5 +1,6 @@
 pub mod Bytes
-pub mod Units
+pub mod Lists
+pub mod Tokens
 pub mod Fits
 pub mod Patterns
 pub mod Pieces
@@ -9,8 +10,6 @@ pub mod IsMatch
 pub mod Brackets
 pub mod Reading
 pub mod Views
-pub mod Tokens
-pub mod Names
 pub mod BracketSteps
 pub mod Steps
 pub mod Strides

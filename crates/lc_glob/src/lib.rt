@@ -25,18 +25,16 @@ mod bracket;
 mod byte_set;
 mod candidate;
 mod cut;
-mod definition;
-mod fit;
-mod name;
-mod names;
+mod match_path;
+mod match_segment;
 pub mod path;
+mod path_segment;
 mod pattern;
-mod piece;
 mod reading;
 mod segment;
-mod spell;
 #[cfg(test)]
 mod tests;
+mod token;
 
 pub use candidate::Candidate;
 pub use cut::cut_at_first;

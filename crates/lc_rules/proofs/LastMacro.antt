@@ -3,7 +3,7 @@ use Rattle.std.proofs.Common.{◌≡◌, ◌<◌, ℕ, zero, suc, Bool, true, fa
 use Rattle.std.proofs.Math.Seq.{take-suc}
 use Rattle.std.proofs.lemmas.List.{map-append, length-map}
 use Rattle.std.specs.Str.{bytes_eq}
-use Rattle.lc_rules.specs.Attributes.{Macro}
+use Rattle.lc_rules.specs.Attributes.{Assign, Macro}
 use Rattle.lc_rules.specs.Decision.{macro_of, later}
 use Rattle.lc_rules.specs.AttrViews.{assign_of, macro_view}
 use Rattle.lc_rules.specs.MacroPlaces.{place_behind, last_place}
@@ -20,6 +20,19 @@ last_place-append [] m n = refl
 last_place-append (x ∷ xs) m n =
     ap (λ o. place_behind o (cond (bytes_eq x.0 n) (Some 0) None)) (last_place-append xs m n)
     ∙ elim (bytes_eq m.0 n) as (λ b. place_behind (cond b (Some (length xs)) (last_place xs n)) (cond (bytes_eq x.0 n) (Some 0) None) ≡ cond b (Some (suc (length xs))) (place_behind (last_place xs n) (cond (bytes_eq x.0 n) (Some 0) None))) [ true ↦ refl | false ↦ refl ]
+
+-- the macros of two lists: the later list has the last of a name
+pub macro_of-both : (ms os : List Macro) (n : List ℕ) → macro_of (ms ++ os) n ≡ later (macro_of os n) (macro_of ms n)
+macro_of-both [] os n = elim (macro_of os n) as (λ o. o ≡ later o None) [ None ↦ refl | Some b ↦ refl ]
+macro_of-both (x ∷ xs) os n =
+    ap (λ o. later o (cond (bytes_eq x.0 n) (Some x.1) None)) (macro_of-both xs os n)
+    ∙ elim (macro_of os n) as (λ o. later (later o (macro_of xs n)) (cond (bytes_eq x.0 n) (Some x.1) None) ≡ later o (later (macro_of xs n) (cond (bytes_eq x.0 n) (Some x.1) None))) [ None ↦ refl | Some b ↦ refl ]
+
+pub macro_later : (first ms os : List Macro) (n : List ℕ) (body : List Assign) → macro_of os n ≡ Some body → macro_of (first ++ (ms ++ os)) n ≡ Some body
+macro_later first ms os n body e = macro_of-both first (ms ++ os) n ∙ ap (λ o. later o (macro_of first n)) (macro_of-both ms os n ∙ ap (λ o. later o (macro_of ms n)) e)
+
+pub macro_earlier : (first ms os : List Macro) (n : List ℕ) (o : Option (List Assign)) → macro_of os n ≡ None → macro_of ms n ≡ o → macro_of (first ++ (ms ++ os)) n ≡ later o (macro_of first n)
+macro_earlier first ms os n o e f = macro_of-both first (ms ++ os) n ∙ ap (λ o. later o (macro_of first n)) (macro_of-both ms os n ∙ ap (λ o. later o (macro_of ms n)) e ∙ f)
 
 none_at : (m : Macro) (ms : List Macro) (n : List ℕ) (o : Option ℕ) (b : Bool) → last_place ms n ≡ o → bytes_eq m.0 n ≡ b → place_behind o (cond b (Some 0) None) ≡ None → (last_place ms n ≡ None → macro_of ms n ≡ None) → macro_of (m ∷ ms) n ≡ None
 none_at m ms n (Some i) b p q h more = absurd (let e : Some (suc i) ≡ None = h in cc)

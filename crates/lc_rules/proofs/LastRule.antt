@@ -78,20 +78,14 @@ by_last_depth d e [] = refl
 by_last_depth d e (r ∷ []) = refl
 by_last_depth d e (r ∷ s ∷ rs) = by_last_depth d e (s ∷ rs)
 
-pub file_below : (d : ℕ) (rules : List IgnoreRule) (path : List ℕ) (is_dir : Bool) → verdict_of (at_depth 0 rules) (below d path) is_dir ≡ verdict_of (joined ((d, rules) ∷ [])) path is_dir
+pub file_below : (d : ℕ) (rules : List IgnoreRule) (path : List ℕ) (is_dir : Bool) → verdict_of (at_depth 0 rules) (below d path) is_dir ≡ verdict_of (at_depth d rules) path is_dir
 file_below d rules path is_dir =
     ap by_last (filter_depth 0 rules (below d path) is_dir) ∙ by_last_depth 0 d (filter (λ r. is_match r.pattern (below d path) is_dir) rules)
     ∙ sym (ap by_last (filter_depth d rules path is_dir))
-    ∙ ap (λ l. verdict_of l path is_dir) (sym (append-nil (at_depth d rules)))
 
--- the files of a chain
-joined-append : (fs gs : List (ℕ × List IgnoreRule)) → joined (fs ++ gs) ≡ joined fs ++ joined gs
-joined-append [] gs = refl
-joined-append (f ∷ fs) gs = ap (λ l. at_depth f.0 f.1 ++ l) (joined-append fs gs) ∙ sym (append_assoc (at_depth f.0 f.1) (joined fs) (joined gs))
-
-pub file_decides : (whole older : List (ℕ × List IgnoreRule)) (f : ℕ × List IgnoreRule) (path : List ℕ) (is_dir : Bool) (v : Verdict) → whole ≡ older ++ (f ∷ []) → verdict_of (joined (f ∷ [])) path is_dir ≡ v → verdict_of (joined whole) path is_dir ≡ or_older v (verdict_of (joined older) path is_dir)
-file_decides whole older f path is_dir v e h =
+-- the nearer files of a chain decide, or else the first
+pub nearer_decides : (files nearer : List (ℕ × List IgnoreRule)) (f : ℕ × List IgnoreRule) (path : List ℕ) (is_dir : Bool) (v : Verdict) → files ≡ f ∷ nearer → v ≡ verdict_of (joined nearer) path is_dir → verdict_of (joined files) path is_dir ≡ or_older v (verdict_of (at_depth f.0 f.1) path is_dir)
+nearer_decides files nearer f path is_dir v e h =
     ap (λ l. verdict_of (joined l) path is_dir) e
-    ∙ ap (λ l. verdict_of l path is_dir) (joined-append older (f ∷ []))
-    ∙ verdict_of-append (joined older) (joined (f ∷ [])) path is_dir
-    ∙ ap (λ w. or_older w (verdict_of (joined older) path is_dir)) h
+    ∙ verdict_of-append (at_depth f.0 f.1) (joined nearer) path is_dir
+    ∙ ap (λ w. or_older w (verdict_of (at_depth f.0 f.1) path is_dir)) (sym h)

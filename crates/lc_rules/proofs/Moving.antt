@@ -89,10 +89,9 @@ moves_answer ms w todo after (Some s) h = ap (λ l. answer ms w l []) (sym (appe
 pub same_lines : (lent shown : List AttrLine) (depth d : ℕ) (inner path : List ℕ) (is_dir : Bool) → lent ≡ shown → d ≡ depth → inner ≡ below d path → by_lines shown (below depth path) is_dir ≡ by_lines lent inner is_dir
 same_lines lent shown depth d inner path is_dir e f g = ap (λ l. by_lines l (below depth path) is_dir) (sym e) ∙ ap (λ p. by_lines lent p is_dir) (sym (g ∙ ap (λ n. below n path) f))
 
-pub state_is : (shown files : AttributeFiles) (ms : List Macro) (w path : List ℕ) (is_dir : Bool) (names after : List (List ℕ)) (found : Option AttrState) → files ≡ shown → ms ≡ macros_of files → names ≡ [] → Moves ms w (assignments_of files path is_dir) names found [] after → state_of shown path is_dir w ≡ unwrap_or found unspecified
-state_is shown files ms w path is_dir names after found e f g h =
-    ap (λ l. state_of l path is_dir w) (sym e)
-    ∙ ap (λ o. unwrap_or o unspecified) (moves_answer (macros_of files) w (assignments_of files path is_dir) after found
+pub state_is : (files : AttributeFiles) (ms : List Macro) (w path : List ℕ) (is_dir : Bool) (names after : List (List ℕ)) (found : Option AttrState) → ms ≡ macros_of files → names ≡ [] → Moves ms w (assignments_of files path is_dir) names found [] after → state_of files path is_dir w ≡ unwrap_or found unspecified
+state_is files ms w path is_dir names after found f g h =
+    ap (λ o. unwrap_or o unspecified) (moves_answer (macros_of files) w (assignments_of files path is_dir) after found
     (subst (λ (m : List Macro). Moves m w (assignments_of files path is_dir) [] found [] after) f
     (subst (λ (n : List (List ℕ)). Moves ms w (assignments_of files path is_dir) n found [] after) g h)))
 

@@ -14,10 +14,10 @@ use Rattle.lc_rules.specs.AttrStates.{binary}
 use Rattle.lc_rules.specs.AttrViews.{assign_of}
 use Rattle.lc_rules.specs.Decision.{macro_of, later}
 use Rattle.lc_rules.specs.KnownMacros.{matters}
-use Rattle.lc_rules.specs.LineNames.{assigns_name, lines_name, has_name, HasNames}
+use Rattle.lc_rules.specs.LineNames.{assigns_name, lines_name, has_name, HasNames, NameNone}
 use Rattle.lc_rules.specs.declared.assignment.Assignment.{Assignment}
 use Rattle.lc_rules.proofs.DecisionLaws.{bytes_self, same_bytes}
-use Rattle.lc_rules.proofs.LastMacro.{macro_of-append}
+use Rattle.lc_rules.proofs.LastMacro.{macro_of-append, macro_of-both}
 
 -- no name that passes the test is among these
 abbrev pub NoneNamed : (List ℕ → Bool) → (List ℕ → Bool) → Type 0
@@ -78,7 +78,7 @@ no_macro_more lines ms m n h k e = by_cases (bytes_eq m.0 n) refl (ap is_some (s
     by_cases false p q = h n q
 
 -- nothing that matters is named
-pub none_matters : (lines : List AttrLine) (ms : List Macro) (wanted : List ℕ) → lines_name lines wanted ≡ false → ((n : List ℕ) → is_some (macro_of ms n) ≡ true → lines_name lines n ≡ false) → list_any (λ l. list_any (λ a. matters ms wanted a.0) l.assigns) lines ≡ false
+pub none_matters : (lines : List AttrLine) (ms : List Macro) (wanted : List ℕ) → lines_name lines wanted ≡ false → NameNone lines ms → list_any (λ l. list_any (λ a. matters ms wanted a.0) l.assigns) lines ≡ false
 none_matters lines ms wanted h k = named_none (matters ms wanted) lines (λ n e. by_cases n (bytes_eq n wanted) (is_some (macro_of ms n)) refl refl e)
   where
     by_cases : (n : List ℕ) (b c : Bool) → bytes_eq n wanted ≡ b → is_some (macro_of ms n) ≡ c → (b || c) ≡ true → lines_name lines n ≡ false
@@ -86,10 +86,20 @@ none_matters lines ms wanted h k = named_none (matters ms wanted) lines (λ n e.
     by_cases n false true p q r = k n q
     by_cases n false false p q r = absurd (let s : false ≡ true = r in cc)
 
-pub no_known_macro : (lines : List AttrLine) (ms : List Macro) → lines_name lines binary.0 ≡ false → ((n : List ℕ) → is_some (macro_of ms n) ≡ true → lines_name lines n ≡ false) → (n : List ℕ) → is_some (macro_of (binary ∷ ms) n) ≡ true → lines_name lines n ≡ false
-no_known_macro lines ms h k n e = by_cases (macro_of ms n) (bytes_eq binary.0 n) refl refl e
+pub none_named-both : (lines : List AttrLine) (ms os : List Macro) → NameNone lines ms → NameNone lines os → NameNone lines (ms ++ os)
+none_named-both lines ms os h k n e = by_cases (macro_of os n) refl (ap is_some (sym (macro_of-both ms os n)) ∙ e)
   where
-    by_cases : (o : Option (List Assign)) (b : Bool) → macro_of ms n ≡ o → bytes_eq binary.0 n ≡ b → is_some (later o (cond b (Some binary.1) None)) ≡ true → lines_name lines n ≡ false
-    by_cases (Some body) b p q r = k n (ap is_some p)
-    by_cases None true p q r = ap (lines_name lines) (sym (same_bytes binary.0 n q)) ∙ h
-    by_cases None false p q r = absurd (let s : false ≡ true = r in cc)
+    by_cases : (o : Option (List Assign)) → macro_of os n ≡ o → is_some (later o (macro_of ms n)) ≡ true → lines_name lines n ≡ false
+    by_cases (Some body) p q = k n (ap is_some p)
+    by_cases None p q = h n q
+
+none_named-binary : (lines : List AttrLine) → lines_name lines binary.0 ≡ false → NameNone lines (binary ∷ [])
+none_named-binary lines h n e = by_cases (bytes_eq binary.0 n) refl e
+  where
+    by_cases : (b : Bool) → bytes_eq binary.0 n ≡ b → is_some (cond b (Some binary.1) None) ≡ true → lines_name lines n ≡ false
+    by_cases true p q = ap (lines_name lines) (sym (same_bytes binary.0 n p)) ∙ h
+    by_cases false p q = absurd (let s : false ≡ true = q in cc)
+
+-- nor does a line name `binary` or a macro of either list
+pub none_named : (lines : List AttrLine) (ms os : List Macro) → lines_name lines binary.0 ≡ false → NameNone lines ms → NameNone lines os → NameNone lines (binary ∷ ms ++ os)
+none_named lines ms os h k m = none_named-both lines (binary ∷ []) (ms ++ os) (none_named-binary lines h) (none_named-both lines ms os k m)

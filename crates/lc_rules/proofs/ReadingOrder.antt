@@ -6,10 +6,9 @@ use Rattle.std.proofs.lemmas.List.{append-nil, reverse-append, map-append}
 use Rattle.std.proofs.lemmas.List.Folds.{list_any-append}
 use Rattle.lc_glob.specs.IsMatch.{is_match}
 use Rattle.lc_rules.specs.Attributes.{Assign}
-use Rattle.lc_rules.specs.AttrLines.{AttrLine, AttributeFile}
-use Rattle.lc_rules.specs.AttrStates.{AttributeFiles, by_line, by_lines, assignments_of}
+use Rattle.lc_rules.specs.AttrLines.{AttrLine}
+use Rattle.lc_rules.specs.AttrStates.{by_line, by_lines}
 use Rattle.lc_rules.specs.AttrViews.{assign_of, line_of}
-use Rattle.lc_rules.specs.Verdicts.{below}
 use Rattle.lc_rules.specs.declared.assignment.Assignment.{Assignment}
 use Rattle.lc_rules.specs.declared.assignment.Line.{Line}
 
@@ -25,13 +24,6 @@ by_lines_more (x ∷ xs) l path is_dir = ap (λ t. t ++ by_line x path is_dir) (
 
 pub lines_last : (whole before : List Line) (l : Line) (path : List ℕ) (is_dir : Bool) → whole ≡ before ++ (l ∷ []) → by_lines (map line_of whole) path is_dir ≡ by_line (line_of l) path is_dir ++ by_lines (map line_of before) path is_dir
 lines_last whole before l path is_dir e = ap (λ t. by_lines (map line_of t) path is_dir) e ∙ ap (λ t. by_lines t path is_dir) (map-append line_of before (l ∷ [])) ∙ by_lines_more (map line_of before) (line_of l) path is_dir
-
-assignments_of_more : (fs : AttributeFiles) (f : ℕ × AttributeFile) (path : List ℕ) (is_dir : Bool) → assignments_of (fs ++ (f ∷ [])) path is_dir ≡ by_lines f.1.lines (below f.0 path) is_dir ++ assignments_of fs path is_dir
-assignments_of_more [] f path is_dir = sym (append-nil (by_lines f.1.lines (below f.0 path) is_dir))
-assignments_of_more (x ∷ xs) f path is_dir = ap (λ t. t ++ by_lines x.1.lines (below x.0 path) is_dir) (assignments_of_more xs f path is_dir) ∙ append_assoc (by_lines f.1.lines (below f.0 path) is_dir) (assignments_of xs path is_dir) (by_lines x.1.lines (below x.0 path) is_dir)
-
-pub files_last : (whole before : AttributeFiles) (f : ℕ × AttributeFile) (path : List ℕ) (is_dir : Bool) → whole ≡ before ++ (f ∷ []) → assignments_of whole path is_dir ≡ by_lines f.1.lines (below f.0 path) is_dir ++ assignments_of before path is_dir
-files_last whole before f path is_dir e = ap (λ t. assignments_of t path is_dir) e ∙ assignments_of_more before f path is_dir
 
 -- where none of some assignments passes a test, none that is read does
 reverse_none : (test : Assign → Bool) (assigns : List Assign) → list_any test assigns ≡ false → list_any test (reverse assigns) ≡ false

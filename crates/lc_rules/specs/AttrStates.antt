@@ -1,5 +1,5 @@
 -- What a chain of attribute files says of a path: gitattributes(5), DESCRIPTION, on the order of precedence.
-use Rattle.std.specs.Prelude.{ℕ, Bool, if◌then◌else◌, List, [], ◌∷◌, ◌++◌, reverse, unwrap_or, codes}
+use Rattle.std.specs.Prelude.{ℕ, Bool, if◌then◌else◌, List, [], ◌∷◌, ◌++◌, reverse, Option, Some, None, unwrap_or, codes}
 use Rattle.std.specs.Str.{bytes_eq}
 use Rattle.lc_glob.specs.IsMatch.{is_match}
 use Rattle.lc_rules.specs.Attributes.{AttrState, set, unset, value, unspecified, Assign, Macro}
@@ -13,18 +13,25 @@ use Rattle.lc_rules.specs.declared.states.TextState.TheVariants.{Set, Unset, Aut
 abbrev pub binary : Macro
 binary = (codes "binary", (codes "diff", unset) ∷ (codes "merge", unset) ∷ (codes "text", unset) ∷ [])
 
--- the files of a chain from the top down, each with its depth
-abbrev pub AttributeFiles : Type 0
-AttributeFiles = List (ℕ × AttributeFile)
+-- the files of a chain: those of the tree from the top down, each with its depth, and that of `.git/info`, which overrides
+-- them all
+pub record AttributeFiles : Type 0 where
+  pub tree : List (ℕ × AttributeFile)
+  pub info : Option AttributeFile
 
--- the macros that the first file defines, where it is top-level
-abbrev pub top_macros : AttributeFiles → List Macro
+-- the macros that the first file of a tree defines, where it is top-level
+abbrev pub top_macros : List (ℕ × AttributeFile) → List Macro
 top_macros [] = []
 top_macros (f ∷ fs) = if f.1.is_top then f.1.macros else []
 
--- the macros: `binary` as built in, then those of the top file
+-- those that the file of `.git/info` defines
+abbrev pub info_macros : Option AttributeFile → List Macro
+info_macros None = []
+info_macros (Some f) = f.macros
+
+-- the macros: `binary` as built in, then those of the top file, then those of `.git/info`
 abbrev pub macros_of : AttributeFiles → List Macro
-macros_of files = binary ∷ top_macros files
+macros_of files = binary ∷ top_macros files.tree ++ info_macros files.info
 
 -- the assignments of a line, from right to left, where it matches
 abbrev pub by_line : AttrLine → List ℕ → Bool → List Assign
@@ -35,11 +42,19 @@ abbrev pub by_lines : List AttrLine → List ℕ → Bool → List Assign
 by_lines [] path is_dir = []
 by_lines (l ∷ ls) path is_dir = by_lines ls path is_dir ++ by_line l path is_dir
 
--- the assignments of all lines that match, highest precedence first: those of the file nearest to the path before those
--- of a farther one
+-- those of a tree's files: of the file nearest to the path before those of a farther one
+abbrev pub tree_assignments : List (ℕ × AttributeFile) → List ℕ → Bool → List Assign
+tree_assignments [] path is_dir = []
+tree_assignments (f ∷ fs) path is_dir = tree_assignments fs path is_dir ++ by_lines f.1.lines (below f.0 path) is_dir
+
+-- those of the file of `.git/info`, which sees the whole path
+abbrev pub info_assignments : Option AttributeFile → List ℕ → Bool → List Assign
+info_assignments None path is_dir = []
+info_assignments (Some f) path is_dir = by_lines f.lines path is_dir
+
+-- the assignments of all lines that match, highest precedence first: those of `.git/info`, then those of the tree
 abbrev pub assignments_of : AttributeFiles → List ℕ → Bool → List Assign
-assignments_of [] path is_dir = []
-assignments_of (f ∷ fs) path is_dir = assignments_of fs path is_dir ++ by_lines f.1.lines (below f.0 path) is_dir
+assignments_of files path is_dir = info_assignments files.info path is_dir ++ tree_assignments files.tree path is_dir
 
 -- what an attribute is for a path: what the decision of all names has for its name
 abbrev pub state_of : AttributeFiles → List ℕ → Bool → List ℕ → AttrState

@@ -1,5 +1,5 @@
 -- The macros that the code knows while it decides one attribute.
-use Rattle.std.specs.Prelude.{ℕ, Bool, ◌||◌, List, [], ◌∷◌, map, reverse, Option, Some, None, is_some}
+use Rattle.std.specs.Prelude.{ℕ, Bool, ◌||◌, List, [], ◌∷◌, ◌++◌, map, reverse, Option, Some, None, is_some}
 use Rattle.std.specs.Str.{bytes_eq}
 use Rattle.std.specs.Borrow.{Bor}
 use Rattle.lc_rules.specs.Attributes.{AttrState, set, unset, value, unspecified, Assign, Macro}
@@ -16,9 +16,9 @@ abbrev pub defined_in : Option (Bor (List Macro)) → List Macro
 defined_in None = []
 defined_in (Some table) = table.now
 
--- `binary` and those of the table
+-- `binary` and those of both tables
 abbrev pub known_macros : Macros → List Macro
-known_macros m = binary ∷ defined_in m.defined
+known_macros m = binary ∷ defined_in m.top ++ defined_in m.info
 
 -- the assignments of a macro
 abbrev pub body_of : Body → List Assign

@@ -11,6 +11,7 @@ pub mod AttrQuotes
 pub mod AttrLines
 pub mod Decision
 pub mod AttrStates
+pub mod AttrChains
 pub mod AttrViews
 pub mod ReadLines
 pub mod MacroPlaces

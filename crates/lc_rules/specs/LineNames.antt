@@ -1,5 +1,5 @@
 -- The names that lines assign.
-use Rattle.std.specs.Prelude.{◌≡◌, ℕ, Bool, true, List, Vec}
+use Rattle.std.specs.Prelude.{◌≡◌, ℕ, Bool, true, false, List, Vec, is_some}
 use Rattle.std.specs.List.{list_any}
 use Rattle.std.specs.Str.{bytes_eq}
 use Rattle.std.specs.Ordering.{nat_cmp}
@@ -7,7 +7,8 @@ use Rattle.std.specs.Cmp.Lexicographic.{slice_cmp}
 use Rattle.std.specs.BTreeSet as tree
 use Rattle.std.specs.BTreeSet.{BTreeSet}
 use Rattle.std.specs.Global.{Global}
-use Rattle.lc_rules.specs.Attributes.{Assign}
+use Rattle.lc_rules.specs.Attributes.{Assign, Macro}
+use Rattle.lc_rules.specs.Decision.{macro_of}
 use Rattle.lc_rules.specs.AttrLines.{AttrLine}
 
 -- whether some assignment is of a name
@@ -25,3 +26,7 @@ has_name names name = tree.contains_by (λ k. slice_cmp nat_cmp name k.items) na
 -- the set has all names that the lines assign
 abbrev pub HasNames : List AttrLine → BTreeSet (Vec ℕ Global) → Type 0
 HasNames lines names = (name : List ℕ) → lines_name lines name ≡ true → has_name names name ≡ true
+
+-- no line assigns the name of a macro
+abbrev pub NameNone : List AttrLine → List Macro → Type 0
+NameNone lines ms = (name : List ℕ) → is_some (macro_of ms name) ≡ true → lines_name lines name ≡ false

@@ -9,6 +9,7 @@ mod attr_file;
 mod attr_line;
 mod attr_quotes;
 mod attr_words;
+mod chain_files;
 mod deciding;
 mod decision;
 mod faults;

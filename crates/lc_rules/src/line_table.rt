@@ -2,13 +2,12 @@
 
 ghost use Rattle.std.specs.Prelude.{◌≡◌, ◌∷◌, [], ◌++◌, true, false, ℕ, List, length, map, is_some, IfOk, OnOk};
 ghost use Rattle.std.specs.List.{list_any};
-ghost use Rattle.lc_rules.specs.AttrViews.{assign_of, line_of};
-ghost use Rattle.lc_rules.specs.Decision.{macro_of};
+ghost use Rattle.lc_rules.specs.AttrViews.{assign_of, line_of, macro_view};
 ghost use Rattle.lc_rules.specs.KnownMacros.{known_macros, macros_for, matters};
-ghost use Rattle.lc_rules.specs.LineNames.{assigns_name, lines_name, has_name};
+ghost use Rattle.lc_rules.specs.LineNames.{assigns_name, lines_name, has_name, NameNone};
 
-use crate::assignment::{Assignment, Line, copied};
-use crate::macros::Macros;
+use crate::assignment::{Assignment, Line, Macro, copied};
+use crate::macros::{Macros, macros_in};
 use crate::wanted::Wanted;
 use std::alloc::{AllocError, Global};
 use std::collections::BTreeSet;
@@ -72,14 +71,23 @@ impl LineTable {
         self.names.contains(name)
     }
 
-    /// Whether some line may name a macro. It is not looked for where there are more macros than names.
+    /// Whether some line may name a macro.
     fn may_name_some(&self, macros: Macros) -> bool
-        ensures { result ≡ false → (name : List ℕ) → is_some (macro_of (known_macros macros.entry) name) ≡ true → lines_name self.now name ≡ false }
+        ensures { result ≡ false → NameNone self.now (known_macros macros.entry) }
     {
         if self.may_name(b"binary") {
             return true;
         }
-        let defined = macros.as_slice();
+        if self.may_name_some_in(macros_in(macros.top)) {
+            return true;
+        }
+        self.may_name_some_in(macros_in(macros.info))
+    }
+
+    /// Whether some line may name one of these macros. They are not looked for where they are more than the names.
+    fn may_name_some_in(&self, defined: &[Macro]) -> bool
+        ensures { result ≡ false → NameNone self.now (map macro_view defined.now) }
+    {
         if defined.len() > self.names.len() {
             return true;
         }

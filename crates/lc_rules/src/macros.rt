@@ -18,10 +18,11 @@ pub(crate) enum Body<'a> {
     Binary,
 }
 
-/// The macros of a chain: `binary`, and those that its top file defines.
+/// The macros of a chain: `binary`, then those of its top file, then those of the file of `.git/info`.
 #[derive(Clone, Copy)]
 pub(crate) struct Macros<'a> {
-    pub(crate) defined: Option<&'a MacroTable>,
+    pub(crate) top: Option<&'a MacroTable>,
+    pub(crate) info: Option<&'a MacroTable>,
 }
 
 impl<'a> Macros<'a> {
@@ -29,7 +30,10 @@ impl<'a> Macros<'a> {
     pub(crate) fn find(self, name: &[u8]) -> Option<Body<'a>>
         ensures { MatchOption result (macro_of (known_macros self.entry) name.now ≡ None) (λ body. macro_of (known_macros self.entry) name.now ≡ Some (body_of body)) }
     {
-        if let Some(assignments) = self.find_defined(name) {
+        if let Some(assignments) = find_in(self.info, name) {
+            return Some(Body::Defined(assignments));
+        }
+        if let Some(assignments) = find_in(self.top, name) {
             return Some(Body::Defined(assignments));
         }
         if name == b"binary".as_slice() {
@@ -37,24 +41,24 @@ impl<'a> Macros<'a> {
         }
         None
     }
+}
 
-    fn find_defined(self, name: &[u8]) -> Option<&'a [Assignment]>
-        ensures { MatchOption result (macro_of (defined_in self.entry.defined) name.now ≡ None) (λ body. macro_of (defined_in self.entry.defined) name.now ≡ Some (map assign_of body.now)) }
-    {
-        match self.defined {
-            None => None,
-            Some(table) => table.find(name),
-        }
+fn find_in<'a>(table: Option<&'a MacroTable>, name: &[u8]) -> Option<&'a [Assignment]>
+    ensures { MatchOption result (macro_of (defined_in table.entry) name.now ≡ None) (λ body. macro_of (defined_in table.entry) name.now ≡ Some (map assign_of body.now)) }
+{
+    match table {
+        None => None,
+        Some(table) => table.find(name),
     }
+}
 
-    /// The macros that the top file defines.
-    pub(crate) fn as_slice(self) -> &'a [Macro]
-        ensures { map macro_view result.now ≡ defined_in self.entry.defined }
-    {
-        match self.defined {
-            None => &[],
-            Some(table) => table.as_slice(),
-        }
+/// The macros of a table that may be there.
+pub(crate) fn macros_in<'a>(table: Option<&'a MacroTable>) -> &'a [Macro]
+    ensures { map macro_view result.now ≡ defined_in table.entry }
+{
+    match table {
+        None => &[],
+        Some(table) => table.as_slice(),
     }
 }
 
