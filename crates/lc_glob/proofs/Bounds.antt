@@ -1,95 +1,95 @@
 -- The cost in bytes of the pattern and of the path.
 use Rattle.std.proofs.Common.{◌||◌, nat_lt, ◌≡◌, ◌≤◌, ◌+◌, ◌*◌, ℕ, zero, suc, Bool, true, false, cond, nat_eq, List, [], ◌∷◌, length, map, Option, Some, None, ap, arith, ◌&&◌}
 use Rattle.std.specs.List.{onto_first}
-use Rattle.lc_glob.specs.Units.{GlobUnit}
-use Rattle.lc_glob.specs.Patterns.{GlobSegment, plain, double_star, GlobPattern}
-use Rattle.lc_glob.specs.Strides.{weights, sizes}
+use Rattle.lc_glob.specs.Tokens.{TokenModel}
+use Rattle.lc_glob.specs.Patterns.{SegmentModel, plain, double_star, PatternModel}
+use Rattle.lc_glob.specs.Strides.{tokens_with_ends, bytes_with_ends}
 use Rattle.lc_glob.specs.Path.{segments_of}
-use Rattle.lc_glob.specs.Reading.{Token, separator, one, token, put, put_on, parts, pattern_of, pattern_from, segment_from, is_double_star, without_last, without_first, begins_empty, ends_empty, some_empty}
+use Rattle.lc_glob.specs.Reading.{LexemeModel, separator, one, lexeme, put, put_on, parts, pattern_of, pattern_from, segment_from, is_double_star, without_last, without_first, begins_empty, ends_empty, some_empty}
 use Rattle.lc_glob.specs.Patterns.{dead}
 
-onto_size : (b : ℕ) (s : List (List ℕ)) (k : ℕ) → sizes s ≤ suc k → 1 ≤ sizes s → sizes (onto_first b s) ≤ suc (suc k)
+onto_size : (b : ℕ) (s : List (List ℕ)) (k : ℕ) → bytes_with_ends s ≤ suc k → 1 ≤ bytes_with_ends s → bytes_with_ends (onto_first b s) ≤ suc (suc k)
 onto_size b [] k h l = absurd (omega arith)
 onto_size b (n ∷ ns) k h l = omega arith
 
-cond_size : (t : Bool) (a b : List (List ℕ)) (k : ℕ) → sizes a ≤ k → sizes b ≤ k → sizes (cond t a b) ≤ k
+cond_size : (t : Bool) (a b : List (List ℕ)) (k : ℕ) → bytes_with_ends a ≤ k → bytes_with_ends b ≤ k → bytes_with_ends (cond t a b) ≤ k
 cond_size true a b k x y = x
 cond_size false a b k x y = y
 
-cond_some : (t : Bool) (a b : List (List ℕ)) → 1 ≤ sizes a → 1 ≤ sizes b → 1 ≤ sizes (cond t a b)
+cond_some : (t : Bool) (a b : List (List ℕ)) → 1 ≤ bytes_with_ends a → 1 ≤ bytes_with_ends b → 1 ≤ bytes_with_ends (cond t a b)
 cond_some true a b x y = x
 cond_some false a b x y = y
 
-onto_some : (b : ℕ) (s : List (List ℕ)) → 1 ≤ sizes (onto_first b s)
+onto_some : (b : ℕ) (s : List (List ℕ)) → 1 ≤ bytes_with_ends (onto_first b s)
 onto_some b [] = omega arith
 onto_some b (n ∷ ns) = omega arith
 
-path_some : (path : List ℕ) → 1 ≤ sizes (segments_of path)
+path_some : (path : List ℕ) → 1 ≤ bytes_with_ends (segments_of path)
 path_some [] = omega arith
 path_some (b ∷ bs) = cond_some (nat_eq b 47) _ _ (omega arith) (onto_some b (segments_of bs))
 
-pub path_size : (path : List ℕ) → sizes (segments_of path) ≤ length path + 1
+pub path_size : (path : List ℕ) → bytes_with_ends (segments_of path) ≤ length path + 1
 path_size [] = omega arith
 path_size (b ∷ bs) =
     let h = path_size bs in let s = path_some bs in
-    let to_suc : sizes (segments_of bs) ≤ suc (length bs) = omega (arith, h) in
-    let r : sizes (cond (nat_eq b 47) ([] ∷ segments_of bs) (onto_first b (segments_of bs))) ≤ suc (suc (length bs)) = cond_size (nat_eq b 47) _ _ _ (omega (arith, h)) (onto_size b (segments_of bs) (length bs) to_suc s) in
+    let to_suc : bytes_with_ends (segments_of bs) ≤ suc (length bs) = omega (arith, h) in
+    let r : bytes_with_ends (cond (nat_eq b 47) ([] ∷ segments_of bs) (onto_first b (segments_of bs))) ≤ suc (suc (length bs)) = cond_size (nat_eq b 47) _ _ _ (omega (arith, h)) (onto_size b (segments_of bs) (length bs) to_suc s) in
     omega (arith, r)
 
--- the units of the parts, and one for each part
-abbrev pub part_sizes : List (List GlobUnit) → ℕ
+-- the tokens of the parts, and one for each part
+abbrev pub part_sizes : List (List TokenModel) → ℕ
 part_sizes [] = 0
 part_sizes (p ∷ ps) = (length p + 1) + part_sizes ps
 
-abbrev pub IsBelow : Option (List (List GlobUnit)) → ℕ → Type 0
+abbrev pub IsBelow : Option (List (List TokenModel)) → ℕ → Type 0
 IsBelow None n = Unit {0}
 IsBelow (Some ps) n = part_sizes ps ≤ n
 
-put_size : (t : Token) (o : Option (List (List GlobUnit))) (n : ℕ) → IsBelow o n → IsBelow (put t o) (suc n)
+put_size : (t : LexemeModel) (o : Option (List (List TokenModel))) (n : ℕ) → IsBelow o n → IsBelow (put t o) (suc n)
 put_size t None n h = tt
 put_size t (Some []) n h = tt
 put_size separator (Some (p ∷ ps)) n h = omega arith
 put_size (one u) (Some (p ∷ ps)) n h = omega arith
 
-put_on_size : (o : Option (Token × ℕ)) (next : ℕ → Option (List (List GlobUnit))) (n : ℕ) → ((k : ℕ) → IsBelow (next k) n) → IsBelow (put_on o next) (suc n)
+put_on_size : (o : Option (LexemeModel × ℕ)) (next : ℕ → Option (List (List TokenModel))) (n : ℕ) → ((k : ℕ) → IsBelow (next k) n) → IsBelow (put_on o next) (suc n)
 put_on_size None next n h = tt
 put_on_size (Some t) next n h = put_size t.0 (next t.1) n (h t.1)
 
-weaker : (o : Option (List (List GlobUnit))) (n : ℕ) → IsBelow o n → IsBelow o (suc n)
+weaker : (o : Option (List (List TokenModel))) (n : ℕ) → IsBelow o n → IsBelow o (suc n)
 weaker None n h = tt
 weaker (Some ps) n h = omega arith
 
 parts_size : (bs : List ℕ) (k : ℕ) → IsBelow (parts k bs) (suc (length bs))
 parts_size [] k = omega arith
-parts_size (b ∷ bs) zero = put_on_size (token b bs) (λ j. parts j bs) (suc (length bs)) (λ j. parts_size bs j)
+parts_size (b ∷ bs) zero = put_on_size (lexeme b bs) (λ j. parts j bs) (suc (length bs)) (λ j. parts_size bs j)
 parts_size (b ∷ bs) (suc k) = weaker (parts k bs) (suc (length bs)) (parts_size bs k)
 
-segment_weight : (t : Bool) (us : List GlobUnit) (r : List GlobSegment) → weights (cond t double_star (plain us) ∷ r) ≤ (length us + 1) + weights r
+segment_weight : (t : Bool) (us : List TokenModel) (r : List SegmentModel) → tokens_with_ends (cond t double_star (plain us) ∷ r) ≤ (length us + 1) + tokens_with_ends r
 segment_weight true us r = omega arith
 segment_weight false us r = omega arith
 
-segments_weight : (anchored : Bool) (ps : List (List GlobUnit)) → weights (map (segment_from anchored) ps) ≤ part_sizes ps
+segments_weight : (anchored : Bool) (ps : List (List TokenModel)) → tokens_with_ends (map (segment_from anchored) ps) ≤ part_sizes ps
 segments_weight anchored [] = omega arith
 segments_weight anchored (p ∷ ps) = omega (arith, segment_weight (anchored && is_double_star p) p (map (segment_from anchored) ps), segments_weight anchored ps)
 
-without_last_size : (ps : List (List GlobUnit)) → part_sizes (without_last ps) ≤ part_sizes ps
+without_last_size : (ps : List (List TokenModel)) → part_sizes (without_last ps) ≤ part_sizes ps
 without_last_size [] = omega arith
 without_last_size (p ∷ []) = omega arith
 without_last_size (p ∷ q ∷ ps) = omega (arith, without_last_size (q ∷ ps))
 
-without_first_size : (ps : List (List GlobUnit)) → part_sizes (without_first ps) ≤ part_sizes ps
+without_first_size : (ps : List (List TokenModel)) → part_sizes (without_first ps) ≤ part_sizes ps
 without_first_size [] = omega arith
 without_first_size (p ∷ ps) = omega arith
 
-choose : (t : Bool) (a b : List (List GlobUnit)) (n : ℕ) → part_sizes a ≤ n → part_sizes b ≤ n → part_sizes (cond t a b) ≤ n
+choose : (t : Bool) (a b : List (List TokenModel)) (n : ℕ) → part_sizes a ≤ n → part_sizes b ≤ n → part_sizes (cond t a b) ≤ n
 choose true a b n x y = x
 choose false a b n x y = y
 
-dead_or : (t : Bool) (p : GlobPattern) (n : ℕ) → weights p.segments ≤ n → weights (cond t dead p).segments ≤ n
+dead_or : (t : Bool) (p : PatternModel) (n : ℕ) → tokens_with_ends p.segments ≤ n → tokens_with_ends (cond t dead p).segments ≤ n
 dead_or true p n h = omega arith
 dead_or false p n h = h
 
-from_size : (o : Option (List (List GlobUnit))) (n : ℕ) → IsBelow o n → weights (pattern_from o).segments ≤ n
+from_size : (o : Option (List (List TokenModel))) (n : ℕ) → IsBelow o n → tokens_with_ends (pattern_from o).segments ≤ n
 from_size None n h = omega arith
 from_size (Some ps) n h =
     let a = cond (ends_empty ps) (without_last ps) ps in
@@ -97,16 +97,16 @@ from_size (Some ps) n h =
     let b = cond (begins_empty a) (without_first a) a in
     let y : part_sizes b ≤ n = choose (begins_empty a) _ _ n (omega (arith, without_first_size a)) x in
     let t = begins_empty a || nat_lt 1 (length a) in
-    let w : weights (map (segment_from t) b) ≤ n = omega (arith, segments_weight t b, y) in
+    let w : tokens_with_ends (map (segment_from t) b) ≤ n = omega (arith, segments_weight t b, y) in
     dead_or (some_empty b) _ n w
 
-pub pattern_size : (bytes : List ℕ) → weights (pattern_of bytes).segments ≤ length bytes + 1
+pub pattern_size : (bytes : List ℕ) → tokens_with_ends (pattern_of bytes).segments ≤ length bytes + 1
 pattern_size bytes = let h = from_size (parts 0 bytes) (suc (length bytes)) (parts_size bytes 0) in omega (arith, h)
 
-pub whole_bound : (bytes path : List ℕ) (p : GlobPattern) (n : ℕ) → n ≤ weights p.segments * sizes (segments_of path) → p ≡ pattern_of bytes → n ≤ (length bytes + 1) * (length path + 1)
+pub whole_bound : (bytes path : List ℕ) (p : PatternModel) (n : ℕ) → n ≤ tokens_with_ends p.segments * bytes_with_ends (segments_of path) → p ≡ pattern_of bytes → n ≤ (length bytes + 1) * (length path + 1)
 whole_bound bytes path p n h e =
-    let w : weights p.segments ≡ weights (pattern_of bytes).segments = ap (λ (q : GlobPattern). weights q.segments) e in
-    let a : weights p.segments ≤ length bytes + 1 = omega (arith, w, pattern_size bytes) in
+    let w : tokens_with_ends p.segments ≡ tokens_with_ends (pattern_of bytes).segments = ap (λ (q : PatternModel). tokens_with_ends q.segments) e in
+    let a : tokens_with_ends p.segments ≤ length bytes + 1 = omega (arith, w, pattern_size bytes) in
     product _ _ _ _ n h a (path_size path)
   where
     product : (a b c d n : ℕ) → n ≤ a * b → a ≤ c → b ≤ d → n ≤ c * d

@@ -1,8 +1,8 @@
 -- The first place of a byte, as a search finds it, and what it cuts.
-use Rattle.std.proofs.Common.{◌≡◌, ◌<◌, ◌+◌, ◌-◌, ℕ, zero, suc, true, nat_eq, List, [], ◌∷◌, length, take, drop, get_or, Some, None, refl, sym, subst, arith}
-use Rattle.std.specs.List.{slice_split, position_or_len}
+use Rattle.std.proofs.Common.{◌≡◌, ◌<◌, ◌+◌, ◌-◌, ℕ, zero, suc, true, nat_eq, List, [], ◌∷◌, length, take, drop, get_or, Some, None, refl, sym, subst, ap, arith}
+use Rattle.std.specs.List.{slice_split, position_or_len, before_first, after_first}
 use Rattle.std.proofs.lemmas.Bool.{false_from_ne_true}
-use Rattle.std.proofs.lemmas.List.{take_rest}
+use Rattle.std.proofs.lemmas.List.{take_rest, take_all, drop_all}
 use Rattle.std.proofs.lemmas.List.Splits.{slice_split_none, slice_split_first}
 use Rattle.std.proofs.lemmas.List.Sums.{position_or_len_is}
 use Rattle.memchr.specs.Find.{IsFirstByte, is_byte}
@@ -24,11 +24,11 @@ place_some c bytes i h =
 pub place_below : (c : ℕ) (bytes : List ℕ) (i : ℕ) → IsFirstByte (is_byte c) bytes (Some i) → i < length bytes
 place_below c bytes i h = h.0.high
 
--- where the byte is nowhere, the bytes are one piece
+-- where the byte is nowhere, the bytes are one token
 pub split_none : (c : ℕ) (bytes : List ℕ) → IsFirstByte (is_byte c) bytes None → slice_split (λ b. nat_eq b c) bytes ≡ bytes ∷ []
 split_none c bytes h = slice_split_none (λ b. nat_eq b c) bytes (λ k d l. false_from_ne_true _ (λ t. h k (omega arith) l (subst (λ (x : ℕ). nat_eq x c ≡ true) (same_read bytes k d l) t)))
 
--- the first piece stands before the first place, and the others after it
+-- the first token stands before the first place, and the others after it
 pub split_some : (c : ℕ) (bytes : List ℕ) (i : ℕ) → IsFirstByte (is_byte c) bytes (Some i)
     → slice_split (λ b. nat_eq b c) bytes ≡ take i bytes ∷ slice_split (λ b. nat_eq b c) (take (length bytes - (i + 1)) (drop (i + 1) bytes))
 split_some c bytes i h =
@@ -36,3 +36,15 @@ split_some c bytes i h =
     let at = place_some c bytes i h in
     rw take_rest (subst (λ (n : ℕ). slice_split p bytes ≡ take n bytes ∷ slice_split p (drop (n + 1) bytes)) at
     (slice_split_first p bytes 0 (subst (λ (n : ℕ). n < length bytes) (sym at) h.0.high)))
+
+pub before_none : (c : ℕ) (bytes : List ℕ) → IsFirstByte (is_byte c) bytes None → bytes ≡ before_first (λ b. nat_eq b c) bytes
+before_none c bytes h = sym (take_all _ bytes (omega (arith, place_none c bytes h)))
+
+pub before_some : (c : ℕ) (bytes : List ℕ) (i : ℕ) → IsFirstByte (is_byte c) bytes (Some i) → take i bytes ≡ before_first (λ b. nat_eq b c) bytes
+before_some c bytes i h = ap (λ (n : ℕ). take n bytes) (sym (place_some c bytes i h))
+
+pub after_none : (c : ℕ) (bytes : List ℕ) → IsFirstByte (is_byte c) bytes None → after_first (λ b. nat_eq b c) bytes ≡ []
+after_none c bytes h = drop_all _ bytes (omega (arith, place_none c bytes h))
+
+pub after_some : (c : ℕ) (bytes : List ℕ) (i : ℕ) → IsFirstByte (is_byte c) bytes (Some i) → take (length bytes - (i + 1)) (drop (i + 1) bytes) ≡ after_first (λ b. nat_eq b c) bytes
+after_some c bytes i h = rw take_rest (ap (λ (n : ℕ). drop (n + 1) bytes) (sym (place_some c bytes i h)))

@@ -2,32 +2,32 @@
 use Rattle.std.proofs.Common.{◌≡◌, ◌↔◌, IsTrue, ℕ, Bool, true, false, List, [], ◌∷◌, ◌++◌, refl, sym, ◌∙◌, subst, ap}
 use Rattle.std.proofs.lemmas.List.{append-nil}
 use Rattle.std.proofs.lemmas.Bool.{false≢true}
-use Rattle.lc_glob.specs.Units.{GlobUnit}
+use Rattle.lc_glob.specs.Tokens.{TokenModel}
 use Rattle.lc_glob.specs.Fits.{Fits}
-use Rattle.lc_glob.specs.Patterns.{GlobSegment, plain, double_star}
+use Rattle.lc_glob.specs.Patterns.{SegmentModel, plain, double_star}
 use Rattle.lc_glob.specs.Matches.{Spells}
 use Rattle.lc_glob.specs.Leads.{Leads}
 use Rattle.lc_glob.proofs.After.{after_empty, after_end}
 
 -- whether the last segment is a double star
-abbrev ends_double : List GlobSegment → Bool
+abbrev ends_double : List SegmentModel → Bool
 ends_double [] = false
 ends_double (plain us ∷ []) = false
 ends_double (double_star ∷ []) = true
 ends_double (s ∷ t ∷ r) = ends_double (t ∷ r)
 
-abbrev is_double : GlobSegment → Bool
+abbrev is_double : SegmentModel → Bool
 is_double (plain us) = false
 is_double double_star = true
 
-ends_at : (r : List GlobSegment) (s : GlobSegment) → ends_double (r ++ s ∷ []) ≡ is_double s
+ends_at : (r : List SegmentModel) (s : SegmentModel) → ends_double (r ++ s ∷ []) ≡ is_double s
 ends_at [] (plain us) = refl
 ends_at [] double_star = refl
 ends_at (t ∷ []) s = ends_at [] s
 ends_at (t ∷ u ∷ r) s = ends_at (u ∷ r) s
 
 -- segments whose last is no double star
-spells_leads : (s : List GlobSegment) (path : List (List ℕ)) → ends_double s ≡ false → Spells s path ↔ Leads s path
+spells_leads : (s : List SegmentModel) (path : List (List ℕ)) → ends_double s ≡ false → Spells s path ↔ Leads s path
 spells_leads [] [] e = (λ h. h, λ h. h)
 spells_leads [] (n ∷ ns) e = (λ h. h, λ h. h)
 spells_leads (plain us ∷ []) [] e = (λ h. h, λ h. h)
@@ -42,7 +42,7 @@ spells_leads (double_star ∷ t ∷ r) path e = (
 )
 
 -- segments whose last is a double star
-double_none : (s : List GlobSegment) → ends_double s ≡ true → Spells s [] → ⊥
+double_none : (s : List SegmentModel) → ends_double s ≡ true → Spells s [] → ⊥
 double_none [] e h = cc
 double_none (plain us ∷ []) e h = h
 double_none (double_star ∷ []) e h = h
@@ -54,7 +54,7 @@ double_one [] n = tt
 double_one (x ∷ path) n = tt
 
 -- they give the last name to that double star
-double_end : (s : List GlobSegment) (above : List (List ℕ)) (n : List ℕ) → ends_double s ≡ true → Spells s (above ++ n ∷ []) ↔ Leads s above
+double_end : (s : List SegmentModel) (above : List (List ℕ)) (n : List ℕ) → ends_double s ≡ true → Spells s (above ++ n ∷ []) ↔ Leads s above
 double_end [] above n e = cc
 double_end (plain us ∷ []) above n e = cc
 double_end (double_star ∷ []) above n e = (λ h. (above, [], sym (append-nil above), tt), λ h. double_one above n)
@@ -64,7 +64,7 @@ double_end (double_star ∷ t ∷ r) above n e =
     after_end (Spells (t ∷ r)) (Leads (t ∷ r)) n (double_none (t ∷ r) e) (λ b. double_end (t ∷ r) b n e) above
 
 -- a plain segment that is last needs a name
-pub plain_none : (r : List GlobSegment) (us : List GlobUnit) → Leads (r ++ plain us ∷ []) [] → ⊥
+pub plain_none : (r : List SegmentModel) (us : List TokenModel) → Leads (r ++ plain us ∷ []) [] → ⊥
 plain_none [] us h = h
 plain_none (plain vs ∷ r) us h = h
 plain_none (double_star ∷ r) us h = plain_none r us (after_empty (Leads (r ++ plain us ∷ [])) h)
@@ -74,7 +74,7 @@ beyond [] n h = h
 beyond (x ∷ path) n h = h
 
 -- and it fits the last of them
-pub plain_end : (r : List GlobSegment) (us : List GlobUnit) (above : List (List ℕ)) (n : List ℕ) → Leads (r ++ plain us ∷ []) (above ++ n ∷ []) ↔ (Leads r above × Fits us n)
+pub plain_end : (r : List SegmentModel) (us : List TokenModel) (above : List (List ℕ)) (n : List ℕ) → Leads (r ++ plain us ∷ []) (above ++ n ∷ []) ↔ (Leads r above × Fits us n)
 plain_end [] us [] n = (λ h. (tt, h.0), λ h. (h.1, tt))
 plain_end [] us (x ∷ above) n = (λ h. absurd (beyond above n h.1), λ h. absurd h.0)
 plain_end (plain vs ∷ r) us [] n = (λ h. absurd (plain_none r us h.1), λ h. absurd h.0)
@@ -90,30 +90,30 @@ plain_end (double_star ∷ r) us above n =
     )
 
 -- the same of lists that are equal to such ones
-pub when_end : (s r : List GlobSegment) (us : List GlobUnit) (path above : List (List ℕ)) (n : List ℕ) → s ≡ r ++ plain us ∷ [] → path ≡ above ++ n ∷ [] → Leads s path ↔ (Leads r above × Fits us n)
+pub when_end : (s r : List SegmentModel) (us : List TokenModel) (path above : List (List ℕ)) (n : List ℕ) → s ≡ r ++ plain us ∷ [] → path ≡ above ++ n ∷ [] → Leads s path ↔ (Leads r above × Fits us n)
 when_end s r us path above n e q =
     subst (λ (l : List (List ℕ)). Leads s l ↔ (Leads r above × Fits us n)) (sym q)
-    (subst (λ (l : List GlobSegment). Leads l (above ++ n ∷ []) ↔ (Leads r above × Fits us n)) (sym e) (plain_end r us above n))
+    (subst (λ (l : List SegmentModel). Leads l (above ++ n ∷ []) ↔ (Leads r above × Fits us n)) (sym e) (plain_end r us above n))
 
-pub when_none : (s r : List GlobSegment) (us : List GlobUnit) (path : List (List ℕ)) → s ≡ r ++ plain us ∷ [] → path ≡ [] → Leads s path → ⊥
-when_none s r us path e q h = plain_none r us (subst (Leads (r ++ plain us ∷ [])) q (subst (λ (l : List GlobSegment). Leads l path) e h))
+pub when_none : (s r : List SegmentModel) (us : List TokenModel) (path : List (List ℕ)) → s ≡ r ++ plain us ∷ [] → path ≡ [] → Leads s path → ⊥
+when_none s r us path e q h = plain_none r us (subst (Leads (r ++ plain us ∷ [])) q (subst (λ (l : List SegmentModel). Leads l path) e h))
 
 -- what tells whether the segments spell the names, by the last of both
 not_spelled : (above : List (List ℕ)) (n : List ℕ) → Spells [] (above ++ n ∷ []) → ⊥
 not_spelled [] n h = h
 not_spelled (x ∷ above) n h = h
 
-pub none_spelled : (s : List GlobSegment) (path above : List (List ℕ)) (n : List ℕ) → s ≡ [] → path ≡ above ++ n ∷ [] → IsTrue false ↔ Spells s path
+pub none_spelled : (s : List SegmentModel) (path above : List (List ℕ)) (n : List ℕ) → s ≡ [] → path ≡ above ++ n ∷ [] → IsTrue false ↔ Spells s path
 none_spelled s path above n e q =
-    (λ h. absurd (false≢true h), λ h. absurd (not_spelled above n (subst (λ (l : List GlobSegment). Spells l (above ++ n ∷ [])) e (subst (Spells s) q h))))
+    (λ h. absurd (false≢true h), λ h. absurd (not_spelled above n (subst (λ (l : List SegmentModel). Spells l (above ++ n ∷ [])) e (subst (Spells s) q h))))
 
-pub double_spelled : (T : Type 0) (s r : List GlobSegment) (path above : List (List ℕ)) (n : List ℕ) → s ≡ r ++ double_star ∷ [] → path ≡ above ++ n ∷ [] → T ↔ Leads s above → T ↔ Spells s path
+pub double_spelled : (T : Type 0) (s r : List SegmentModel) (path above : List (List ℕ)) (n : List ℕ) → s ≡ r ++ double_star ∷ [] → path ≡ above ++ n ∷ [] → T ↔ Leads s above → T ↔ Spells s path
 double_spelled T s r path above n e q t =
     let last : ends_double s ≡ true = ap ends_double e ∙ ends_at r double_star in
     let same = double_end s above n last in
     (λ h. subst (Spells s) (sym q) (same.1 (t.0 h)), λ h. t.1 (same.0 (subst (Spells s) q h)))
 
-pub plain_spelled : (s r : List GlobSegment) (us : List GlobUnit) (path above : List (List ℕ)) (n : List ℕ) → s ≡ r ++ plain us ∷ [] → path ≡ above ++ n ∷ [] → Spells s path ↔ (Leads r above × Fits us n)
+pub plain_spelled : (s r : List SegmentModel) (us : List TokenModel) (path above : List (List ℕ)) (n : List ℕ) → s ≡ r ++ plain us ∷ [] → path ≡ above ++ n ∷ [] → Spells s path ↔ (Leads r above × Fits us n)
 plain_spelled s r us path above n e q =
     let first = spells_leads s path (ap ends_double e ∙ ends_at r (plain us)) in
     let then = when_end s r us path above n e q in

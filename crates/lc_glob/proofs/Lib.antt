@@ -3,7 +3,6 @@ pub mod Fitting
 pub mod Stepping
 pub mod Naming
 pub mod After
-pub mod Spelling
 pub mod Cost
 pub mod Striding
 pub mod Items

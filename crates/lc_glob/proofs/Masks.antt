@@ -6,7 +6,7 @@ use Rattle.std.proofs.Math.Nat.{div-add-mod, mod-lt}
 use Rattle.std.proofs.lemmas.Bool.{false_from_ne_true, eqb-true}
 use Rattle.std.proofs.Math.Bool.{beq}
 use Rattle.std.proofs.Math.Pow.{pow_mono}
-use Rattle.lc_glob.specs.Units.{in_ranges, in_set}
+use Rattle.lc_glob.specs.Tokens.{in_ranges, in_set}
 use Rattle.lc_glob.specs.Words.{bit, word_of, words_of}
 
 pub word_none : (test : ℕ → Bool) (low : ℕ) → word_of test low 0 ≡ 0

@@ -1,9 +1,9 @@
 -- The test of a match is the relation.
 use Rattle.std.proofs.Common.{◌≡◌, ◌⊎◌, ℕ, Bool, true, false, not, ◌&&◌, ◌||◌, List, [], ◌∷◌, ◌++◌, IsTrue, inl, inr, refl, ap, subst}
 use Rattle.std.specs.Bool.{Decides, one_answer}
-use Rattle.lc_glob.specs.Units.{GlobUnit, byte, any, star, set, takes}
+use Rattle.lc_glob.specs.Tokens.{TokenModel, literal, any_byte, star, class, takes}
 use Rattle.lc_glob.specs.Fits.{Fits}
-use Rattle.lc_glob.specs.Patterns.{GlobSegment, plain, double_star, GlobPattern}
+use Rattle.lc_glob.specs.Patterns.{SegmentModel, plain, double_star, PatternModel}
 use Rattle.lc_glob.specs.Matches.{Spells, FitsLast, SegmentsMatch, Matches}
 use Rattle.lc_glob.specs.Path.{segments_of}
 use Rattle.lc_glob.specs.IsMatch.{some_rest, fits, spells, fits_last_name, fits_last, segments_match, is_match}
@@ -38,18 +38,18 @@ rest_decides test P d (x ∷ xs) =
 true_decides : (b : Bool) → Decides b (IsTrue b)
 true_decides b = (λ h. h, λ h. h)
 
-fits_decides : (us : List GlobUnit) (name : List ℕ) → Decides (fits us name) (Fits us name)
+fits_decides : (us : List TokenModel) (name : List ℕ) → Decides (fits us name) (Fits us name)
 fits_decides [] [] = always
 fits_decides [] (b ∷ bs) = never
 fits_decides (star ∷ us) name = rest_decides (fits us) (Fits us) (fits_decides us) name
-fits_decides (byte c ∷ us) [] = never
-fits_decides (byte c ∷ us) (b ∷ bs) = and_decides (takes (byte c) b) (fits us bs) (true_decides (takes (byte c) b)) (fits_decides us bs)
-fits_decides (any ∷ us) [] = never
-fits_decides (any ∷ us) (b ∷ bs) = and_decides (takes any b) (fits us bs) (true_decides (takes any b)) (fits_decides us bs)
-fits_decides (set n rs ∷ us) [] = never
-fits_decides (set n rs ∷ us) (b ∷ bs) = and_decides (takes (set n rs) b) (fits us bs) (true_decides (takes (set n rs) b)) (fits_decides us bs)
+fits_decides (literal c ∷ us) [] = never
+fits_decides (literal c ∷ us) (b ∷ bs) = and_decides (takes (literal c) b) (fits us bs) (true_decides (takes (literal c) b)) (fits_decides us bs)
+fits_decides (any_byte ∷ us) [] = never
+fits_decides (any_byte ∷ us) (b ∷ bs) = and_decides (takes any_byte b) (fits us bs) (true_decides (takes any_byte b)) (fits_decides us bs)
+fits_decides (class n rs ∷ us) [] = never
+fits_decides (class n rs ∷ us) (b ∷ bs) = and_decides (takes (class n rs) b) (fits us bs) (true_decides (takes (class n rs) b)) (fits_decides us bs)
 
-spells_decides : (segments : List GlobSegment) (path : List (List ℕ)) → Decides (spells segments path) (Spells segments path)
+spells_decides : (segments : List SegmentModel) (path : List (List ℕ)) → Decides (spells segments path) (Spells segments path)
 spells_decides [] [] = always
 spells_decides [] (n ∷ ns) = never
 spells_decides (plain us ∷ r) [] = never
@@ -59,35 +59,35 @@ spells_decides (double_star ∷ []) (n ∷ ns) = always
 spells_decides (double_star ∷ s ∷ r) path = rest_decides (spells (s ∷ r)) (Spells (s ∷ r)) (spells_decides (s ∷ r)) path
 
 -- the last of some names
-abbrev EndFits : List GlobUnit → List (List ℕ) → Type 0
+abbrev EndFits : List TokenModel → List (List ℕ) → Type 0
 EndFits us path = (above : List (List ℕ)) × (name : List ℕ) × (path ≡ above ++ name ∷ []) × Fits us name
 
-no_end : (us : List GlobUnit) (above : List (List ℕ)) (name : List ℕ) → [] ≡ above ++ name ∷ [] → ⊥
+no_end : (us : List TokenModel) (above : List (List ℕ)) (name : List ℕ) → [] ≡ above ++ name ∷ [] → ⊥
 no_end us [] name e = cc
 no_end us (a ∷ above) name e = cc
 
-one_end : (us : List GlobUnit) (n : List ℕ) (above : List (List ℕ)) (name : List ℕ) → n ∷ [] ≡ above ++ name ∷ [] → Fits us name → Fits us n
+one_end : (us : List TokenModel) (n : List ℕ) (above : List (List ℕ)) (name : List ℕ) → n ∷ [] ≡ above ++ name ∷ [] → Fits us name → Fits us n
 one_end us n [] name e f = subst (Fits us) (cc) f
 one_end us n (a ∷ []) name e f = cc
 one_end us n (a ∷ b ∷ above) name e f = cc
 
-end_below : (us : List GlobUnit) (n m : List ℕ) (ns above : List (List ℕ)) (name : List ℕ) → n ∷ m ∷ ns ≡ above ++ name ∷ [] → Fits us name → EndFits us (m ∷ ns)
+end_below : (us : List TokenModel) (n m : List ℕ) (ns above : List (List ℕ)) (name : List ℕ) → n ∷ m ∷ ns ≡ above ++ name ∷ [] → Fits us name → EndFits us (m ∷ ns)
 end_below us n m ns [] name e f = cc
 end_below us n m ns (a ∷ above) name e f = (above, name, (cc), f)
 
-name_decides : (us : List GlobUnit) (path : List (List ℕ)) → Decides (fits_last_name us path) (EndFits us path)
+name_decides : (us : List TokenModel) (path : List (List ℕ)) → Decides (fits_last_name us path) (EndFits us path)
 name_decides us [] = (λ h. absurd (cc), λ h. absurd (no_end us h.0 h.1 h.2))
 name_decides us (n ∷ []) = like_decides (fits us n) (λ f. ([], n, refl, f)) (λ h. one_end us n h.0 h.1 h.2 h.3) (fits_decides us n)
 name_decides us (n ∷ m ∷ ns) =
     like_decides (fits_last_name us (m ∷ ns)) (λ h. (n ∷ h.0, h.1, ap (λ (l : List (List ℕ)). n ∷ l) h.2, h.3)) (λ h. end_below us n m ns h.0 h.1 h.2 h.3) (name_decides us (m ∷ ns))
 
-last_decides : (segments : List GlobSegment) (path : List (List ℕ)) → Decides (fits_last segments path) (FitsLast segments path)
+last_decides : (segments : List SegmentModel) (path : List (List ℕ)) → Decides (fits_last segments path) (FitsLast segments path)
 last_decides [] path = never
 last_decides (plain us ∷ []) path = name_decides us path
 last_decides (plain us ∷ s ∷ r) path = never
 last_decides (double_star ∷ r) path = never
 
-segments_decide : (anchored : Bool) (segments : List GlobSegment) (path : List (List ℕ)) → Decides (segments_match anchored segments path) (SegmentsMatch anchored segments path)
+segments_decide : (anchored : Bool) (segments : List SegmentModel) (path : List (List ℕ)) → Decides (segments_match anchored segments path) (SegmentsMatch anchored segments path)
 segments_decide false segments path = last_decides segments path
 segments_decide true segments path = spells_decides segments path
 
@@ -100,7 +100,7 @@ allows true true = (λ h. λ t. refl, λ h. refl)
 allows true false = (λ h. absurd (cc), λ h. h refl)
 allows false d = (λ h. λ t. absurd (cc), λ h. refl)
 
-pub match_decides : (p : GlobPattern) (path : List ℕ) (is_dir : Bool) → Decides (is_match p path is_dir) (Matches p path is_dir)
+pub match_decides : (p : PatternModel) (path : List ℕ) (is_dir : Bool) → Decides (is_match p path is_dir) (Matches p path is_dir)
 unfolding is_match
 match_decides p path is_dir =
     like_decides (is_match p path is_dir) (λ h. (h.0.0, h.0.1, h.1)) (λ h. ((h.0, h.1), h.2))
@@ -109,5 +109,5 @@ match_decides p path is_dir =
     (segments_decide p.is_anchored p.segments (segments_of path)))
 
 -- what tells whether a pattern matches is the test
-pub decided : (p : GlobPattern) (path : List ℕ) (is_dir answer : Bool) → Decides answer (Matches p path is_dir) → answer ≡ is_match p path is_dir
+pub decided : (p : PatternModel) (path : List ℕ) (is_dir answer : Bool) → Decides answer (Matches p path is_dir) → answer ≡ is_match p path is_dir
 decided p path is_dir answer d = one_answer answer (is_match p path is_dir) d (match_decides p path is_dir)

@@ -7,7 +7,7 @@ use Rattle.std.proofs.lemmas.List.{take_rest, take-append-drop, drop_more, get_o
 use Rattle.std.proofs.lemmas.Bool.{false_from_ne_true}
 use Rattle.memchr.specs.Find.{IsLastByte, is_byte}
 use Rattle.lc_glob.specs.Path.{segments_of}
-use Rattle.lc_glob.specs.Names.{names_of}
+use Rattle.lc_glob.specs.Path.{segments_left}
 use Rattle.lc_glob.proofs.FirstByte.{same_read, split_none}
 
 pub some_segment : (bytes : List ℕ) → segments_of bytes ≡ [] → ⊥
@@ -15,11 +15,11 @@ some_segment bytes e =
     let h = length-slice_split (λ (b : ℕ). nat_eq b 47) bytes in
     let z : length (segments_of bytes) ≡ 0 = ap length e in omega (arith, h, z)
 
-pub none_left : (rest : Option (Bor (List ℕ))) → rest ≡ None → IsTrue true ↔ (names_of rest ≡ [])
-none_left rest e = (λ h. ap names_of e, λ h. refl)
+pub none_left : (rest : Option (Bor (List ℕ))) → rest ≡ None → IsTrue true ↔ (segments_left rest ≡ [])
+none_left rest e = (λ h. ap segments_left e, λ h. refl)
 
-pub some_left : (rest : Option (Bor (List ℕ))) (bytes : Bor (List ℕ)) → rest ≡ Some bytes → IsTrue false ↔ (names_of rest ≡ [])
-some_left rest bytes e = (λ h. cc, λ h. absurd (some_segment bytes.now (sym (ap names_of e) ∙ h)))
+pub some_left : (rest : Option (Bor (List ℕ))) (bytes : Bor (List ℕ)) → rest ≡ Some bytes → IsTrue false ↔ (segments_left rest ≡ [])
+some_left rest bytes e = (λ h. cc, λ h. absurd (some_segment bytes.now (sym (ap segments_left e) ∙ h)))
 
 onto_end : (x : ℕ) (parts : List (List ℕ)) (ys : List ℕ) → (parts ≡ [] → ⊥) → onto_first x (parts ++ ys ∷ []) ≡ onto_first x parts ++ ys ∷ []
 onto_end x [] ys some = absurd (some refl)

@@ -1,34 +1,34 @@
 -- Trying a star's cuts from the shortest on, with one place to go back to.
 use Rattle.std.proofs.Common.{drop, ◌≤◌, ◌+◌, ◌*◌, arith, length, Some, None, Option, ◌≡◌, ◌↔◌, ◌⊎◌, IsTrue, map, ℕ, true, false, List, [], ◌∷◌, inl, inr, refl, sym, ◌∙◌, subst, ap}
-use Rattle.lc_glob.specs.Units.{GlobUnit, byte, any, star, set, takes, is_star}
+use Rattle.lc_glob.specs.Tokens.{TokenModel, literal, any_byte, star, class, takes, is_star}
 use Rattle.lc_glob.specs.Fits.{Fits}
 use Rattle.std.proofs.lemmas.List.{length-map}
 use Rattle.std.proofs.Math.Nat.{mul-le-mul_right}
-use Rattle.lc_glob.specs.declared.piece.Piece.{Piece}
+use Rattle.lc_glob.specs.declared.token.Token.{Token}
 use Rattle.lc_glob.proofs.Fitting.{fits_one, fits_one_empty, when_one}
 use Rattle.lc_glob.proofs.After.{Later, later_after, after_split, after_join, after_after, after_drop}
-use Rattle.lc_glob.specs.Views.{unit_of}
-use Rattle.lc_glob.specs.declared.fit.Back.{Back}
+use Rattle.lc_glob.specs.Views.{token_model}
+use Rattle.lc_glob.specs.declared.match_segment.Back.{Back}
 
 -- what comes after a byte that is taken
-star_drop : (us : List GlobUnit) (u : GlobUnit) (x : ℕ) (xs : List ℕ) → is_star u ≡ false → Fits (star ∷ u ∷ us) (x ∷ xs) → Fits (star ∷ us) xs
+star_drop : (us : List TokenModel) (u : TokenModel) (x : ℕ) (xs : List ℕ) → is_star u ≡ false → Fits (star ∷ u ∷ us) (x ∷ xs) → Fits (star ∷ us) xs
 star_drop us u x xs s h = after_drop (Fits (u ∷ us)) (Fits us) (fits_one_empty u us s) (λ y ys f. ((fits_one u us y ys s).0 f).1) x xs h
 
-pub star_is : (u : GlobUnit) → is_star u ≡ true → u ≡ star
+pub star_is : (u : TokenModel) → is_star u ≡ true → u ≡ star
 star_is star e = refl
-star_is (byte c) e = cc
-star_is any e = cc
-star_is (set n rs) e = cc
+star_is (literal c) e = cc
+star_is any_byte e = cc
+star_is (class n rs) e = cc
 
--- what is still to be tried where the units here don't fit
+-- what is still to be tried where the tokens here don't fit
 abbrev pub LaterOf : Option Back → Type 0
 LaterOf None = ⊥
-LaterOf (Some b) = Later (Fits (map unit_of b.pieces.now)) b.name.bytes.now
+LaterOf (Some b) = Later (Fits (map token_model b.tokens.now)) b.name.bytes.now
 
--- whatever cut the star is given, the units here come at what is left or after it
-abbrev pub Covers : Option Back → List GlobUnit → List ℕ → Type 0
+-- whatever cut the star is given, the tokens here come at what is left or after it
+abbrev pub Covers : Option Back → List TokenModel → List ℕ → Type 0
 Covers None us name = Unit {0}
-Covers (Some b) us name = Fits (star ∷ map unit_of b.pieces.now) b.name.bytes.now → Fits (star ∷ us) name
+Covers (Some b) us name = Fits (star ∷ map token_model b.tokens.now) b.name.bytes.now → Fits (star ∷ us) name
 
 -- how long the name was where the star was tried last
 abbrev pub span : Option Back → ℕ → ℕ
@@ -37,49 +37,49 @@ span (Some b) n = length b.name.bytes.now
 
 abbrev pub IsWithin : Option Back → ℕ → Type 0
 IsWithin None n = Unit {0}
-IsWithin (Some b) n = length b.pieces.now ≤ n
+IsWithin (Some b) n = length b.tokens.now ≤ n
 
-later_fits : (back : Option Back) (us : List GlobUnit) (name : List ℕ) → Covers back (star ∷ us) name → LaterOf back → Fits (star ∷ us) name
+later_fits : (back : Option Back) (us : List TokenModel) (name : List ℕ) → Covers back (star ∷ us) name → LaterOf back → Fits (star ∷ us) name
 later_fits None us name c l = absurd l
-later_fits (Some b) us name c l = after_after (Fits us) name (c (later_after (Fits (map unit_of b.pieces.now)) b.name.bytes.now l))
+later_fits (Some b) us name c l = after_after (Fits us) name (c (later_after (Fits (map token_model b.tokens.now)) b.name.bytes.now l))
 
 -- at a star: it becomes the place to go back to
-pub at_star : (T : Type 0) (back : Option Back) (units us : List GlobUnit) (u : GlobUnit) (name : List ℕ) → units ≡ u ∷ us → is_star u ≡ true → Covers back units name → T ↔ (Fits units name ⊎ LaterOf back) → T ↔ (Fits us name ⊎ Later (Fits us) name)
-at_star T back units us u name e s c t =
-    let is : units ≡ star ∷ us = e ∙ ap (λ (v : GlobUnit). v ∷ us) (star_is u s) in
-    let t' : T ↔ (Fits (star ∷ us) name ⊎ LaterOf back) = subst (λ (l : List GlobUnit). T ↔ (Fits l name ⊎ LaterOf back)) is t in
-    let c' : Covers back (star ∷ us) name = subst (λ (l : List GlobUnit). Covers back l name) is c in (
+pub at_star : (T : Type 0) (back : Option Back) (tokens us : List TokenModel) (u : TokenModel) (name : List ℕ) → tokens ≡ u ∷ us → is_star u ≡ true → Covers back tokens name → T ↔ (Fits tokens name ⊎ LaterOf back) → T ↔ (Fits us name ⊎ Later (Fits us) name)
+at_star T back tokens us u name e s c t =
+    let is : tokens ≡ star ∷ us = e ∙ ap (λ (v : TokenModel). v ∷ us) (star_is u s) in
+    let t' : T ↔ (Fits (star ∷ us) name ⊎ LaterOf back) = subst (λ (l : List TokenModel). T ↔ (Fits l name ⊎ LaterOf back)) is t in
+    let c' : Covers back (star ∷ us) name = subst (λ (l : List TokenModel). Covers back l name) is c in (
       λ h. after_split (Fits us) name (elim (t'.0 h) [ inl f ↦ f | inr l ↦ later_fits back us name c' l ]),
       λ w. t'.1 (inl (after_join (Fits us) name w)),
     )
 
 -- at a byte that is taken
-pub at_byte : (T : Type 0) (back : Option Back) (units us : List GlobUnit) (u : GlobUnit) (name : List ℕ) (x : ℕ) (xs : List ℕ) → units ≡ u ∷ us → name ≡ x ∷ xs → is_star u ≡ false → IsTrue (takes u x) → T ↔ (Fits units name ⊎ LaterOf back) → T ↔ (Fits us xs ⊎ LaterOf back)
-at_byte T back units us u name x xs e n s k t =
-    let one = when_one units us u name x xs e n s in (
+pub at_byte : (T : Type 0) (back : Option Back) (tokens us : List TokenModel) (u : TokenModel) (name : List ℕ) (x : ℕ) (xs : List ℕ) → tokens ≡ u ∷ us → name ≡ x ∷ xs → is_star u ≡ false → IsTrue (takes u x) → T ↔ (Fits tokens name ⊎ LaterOf back) → T ↔ (Fits us xs ⊎ LaterOf back)
+at_byte T back tokens us u name x xs e n s k t =
+    let one = when_one tokens us u name x xs e n s in (
       λ h. elim (t.0 h) [ inl f ↦ inl (one.0 f).1 | inr l ↦ inr l ],
       λ w. t.1 (elim w [ inl f ↦ inl (one.1 (k, f)) | inr l ↦ inr l ]),
     )
 
-pub covers_byte : (back : Option Back) (units us : List GlobUnit) (u : GlobUnit) (name : List ℕ) (x : ℕ) (xs : List ℕ) → units ≡ u ∷ us → name ≡ x ∷ xs → is_star u ≡ false → Covers back units name → Covers back us xs
-covers_byte None units us u name x xs e n s c = tt
-covers_byte (Some b) units us u name x xs e n s c =
-    λ f. star_drop us u x xs s (subst (λ (l : List ℕ). Fits (star ∷ u ∷ us) l) n (subst (λ (l : List GlobUnit). Fits (star ∷ l) name) e (c f)))
+pub covers_byte : (back : Option Back) (tokens us : List TokenModel) (u : TokenModel) (name : List ℕ) (x : ℕ) (xs : List ℕ) → tokens ≡ u ∷ us → name ≡ x ∷ xs → is_star u ≡ false → Covers back tokens name → Covers back us xs
+covers_byte None tokens us u name x xs e n s c = tt
+covers_byte (Some b) tokens us u name x xs e n s c =
+    λ f. star_drop us u x xs s (subst (λ (l : List ℕ). Fits (star ∷ u ∷ us) l) n (subst (λ (l : List TokenModel). Fits (star ∷ l) name) e (c f)))
 
--- where the units here don't fit
-pub at_back : (T : Type 0) (us : List GlobUnit) (b : List ℕ) (name : List ℕ) (x : ℕ) (H : Type 0) → name ≡ x ∷ b → (H → ⊥) → T ↔ (H ⊎ Later (Fits us) name) → T ↔ (Fits us b ⊎ Later (Fits us) b)
+-- where the tokens here don't fit
+pub at_back : (T : Type 0) (us : List TokenModel) (b : List ℕ) (name : List ℕ) (x : ℕ) (H : Type 0) → name ≡ x ∷ b → (H → ⊥) → T ↔ (H ⊎ Later (Fits us) name) → T ↔ (Fits us b ⊎ Later (Fits us) b)
 at_back T us b name x H n never t =
     let t' : T ↔ (H ⊎ Fits (star ∷ us) b) = subst (λ (l : List ℕ). T ↔ (H ⊎ Later (Fits us) l)) n t in (
       λ h. after_split (Fits us) b (elim (t'.0 h) [ inl f ↦ absurd (never f) | inr l ↦ l ]),
       λ w. t'.1 (inr (after_join (Fits us) b w)),
     )
 
-pub shorter : (here rest : List Piece) (u : GlobUnit) → map unit_of here ≡ u ∷ map unit_of rest → length here ≡ length rest + 1
+pub shorter : (here rest : List Token) (u : TokenModel) → map token_model here ≡ u ∷ map token_model rest → length here ≡ length rest + 1
 shorter here rest u e =
-    let l : length (map unit_of here) ≡ length (u ∷ map unit_of rest) = ap length e in
-    let h = length-map here unit_of in let r = length-map rest unit_of in omega (arith, l, h, r)
+    let l : length (map token_model here) ≡ length (u ∷ map token_model rest) = ap length e in
+    let h = length-map here token_model in let r = length-map rest token_model in omega (arith, l, h, r)
 
--- what was paid and what may still be paid, where the units get fewer or the name that a star is tried at shorter
+-- what was paid and what may still be paid, where the tokens get fewer or the name that a star is tried at shorter
 pub paid_forward : (a b p h g t s all : ℕ) → a ≤ b → h + 1 ≤ g → s ≤ t + 1 → t + (b * (p + 1) + g) ≤ all → s + (a * (p + 1) + h) ≤ all
 paid_forward a b p h g t s all ab hg st paid = omega (arith, mul-le-mul_right (p + 1) ab)
 

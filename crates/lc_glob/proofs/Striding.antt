@@ -1,30 +1,30 @@
 -- Trying a double star's runs from the shortest on, with one place to go back to.
 use Rattle.std.proofs.Common.{◌≡◌, ◌↔◌, ◌⊎◌, ◌≤◌, ◌+◌, IsTrue, map, ℕ, true, List, [], ◌∷◌, inl, inr, refl, sym, subst, ap, length, Option, Some, None, arith}
 use Rattle.std.proofs.lemmas.List.{length-map, append-nil}
-use Rattle.lc_glob.specs.Units.{GlobUnit}
+use Rattle.lc_glob.specs.Tokens.{TokenModel}
 use Rattle.lc_glob.specs.Fits.{Fits}
-use Rattle.lc_glob.specs.Patterns.{GlobSegment, plain, double_star}
+use Rattle.lc_glob.specs.Patterns.{SegmentModel, plain, double_star}
 use Rattle.lc_glob.specs.Leads.{Leads}
-use Rattle.lc_glob.specs.Views.{segment_of}
-use Rattle.lc_glob.specs.Names.{names_left}
+use Rattle.lc_glob.specs.Views.{segment_model}
+use Rattle.lc_glob.specs.Path.{segments_left}
 use Rattle.lc_glob.specs.declared.segment.Segment.{Segment}
-use Rattle.lc_glob.specs.declared.spell.BackPath.{BackPath}
+use Rattle.lc_glob.specs.declared.match_path.BackPath.{BackPath}
 use Rattle.lc_glob.proofs.After.{After, Later, later_after, after_split, after_join, after_after, after_drop}
 use Rattle.lc_glob.proofs.Cost.{again}
 
--- what is still to be tried where the segments here don't spell the names that are left
+-- what is still to be tried where the segments here don't spell the segments that are left
 abbrev pub LaterOf : Option BackPath → Type 0
 LaterOf None = ⊥
-LaterOf (Some b) = Later (Leads (map segment_of b.segments.now)) (names_left b.path)
+LaterOf (Some b) = Later (Leads (map segment_model b.segments.now)) (segments_left b.path.rest)
 
--- whatever run the double star is given, the segments here come at the names left or after them
-abbrev pub Covers : Option BackPath → List GlobSegment → List (List ℕ) → Type 0
+-- whatever run the double star is given, the segments here come at the segments left or after them
+abbrev pub Covers : Option BackPath → List SegmentModel → List (List ℕ) → Type 0
 Covers None s path = Unit {0}
-Covers (Some b) s path = After (Leads (map segment_of b.segments.now)) (names_left b.path) → After (Leads s) path
+Covers (Some b) s path = After (Leads (map segment_model b.segments.now)) (segments_left b.path.rest) → After (Leads s) path
 
 abbrev pub span : Option BackPath → ℕ → ℕ
 span None n = n
-span (Some b) n = length (names_left b.path)
+span (Some b) n = length (segments_left b.path.rest)
 
 abbrev pub IsWithin : Option BackPath → ℕ → Type 0
 IsWithin None n = Unit {0}
@@ -33,51 +33,51 @@ IsWithin (Some b) n = length b.segments.now ≤ n
 -- what a later start may still cost; at first all but the straight try
 abbrev pub reserve : Option BackPath → ℕ → ℕ
 reserve None n = n
-reserve (Some b) n = again (map segment_of b.segments.now) (names_left b.path)
+reserve (Some b) n = again (map segment_model b.segments.now) (segments_left b.path.rest)
 
-later_comes : (back : Option BackPath) (s : List GlobSegment) (path : List (List ℕ)) → Covers back s path → LaterOf back → After (Leads s) path
+later_comes : (back : Option BackPath) (s : List SegmentModel) (path : List (List ℕ)) → Covers back s path → LaterOf back → After (Leads s) path
 later_comes None s path c l = absurd l
-later_comes (Some b) s path c l = c (later_after (Leads (map segment_of b.segments.now)) (names_left b.path) l)
+later_comes (Some b) s path c l = c (later_after (Leads (map segment_model b.segments.now)) (segments_left b.path.rest) l)
 
 -- at a double star: it becomes the place to go back to
-pub at_double : (T : Type 0) (back : Option BackPath) (segments rest : List GlobSegment) (path : List (List ℕ)) → segments ≡ double_star ∷ rest → Covers back segments path → T ↔ (Leads segments path ⊎ LaterOf back) → T ↔ (Leads rest path ⊎ Later (Leads rest) path)
+pub at_double : (T : Type 0) (back : Option BackPath) (segments rest : List SegmentModel) (path : List (List ℕ)) → segments ≡ double_star ∷ rest → Covers back segments path → T ↔ (Leads segments path ⊎ LaterOf back) → T ↔ (Leads rest path ⊎ Later (Leads rest) path)
 at_double T back segments rest path e c t =
     let P = Leads rest in
-    let t' : T ↔ (After P path ⊎ LaterOf back) = subst (λ (l : List GlobSegment). T ↔ (Leads l path ⊎ LaterOf back)) e t in
-    let c' : Covers back (double_star ∷ rest) path = subst (λ (l : List GlobSegment). Covers back l path) e c in (
+    let t' : T ↔ (After P path ⊎ LaterOf back) = subst (λ (l : List SegmentModel). T ↔ (Leads l path ⊎ LaterOf back)) e t in
+    let c' : Covers back (double_star ∷ rest) path = subst (λ (l : List SegmentModel). Covers back l path) e c in (
       λ h. after_split P path (elim (t'.0 h) [ inl f ↦ f | inr l ↦ after_after P path (later_comes back (double_star ∷ rest) path c' l) ]),
       λ w. t'.1 (inl (after_join P path w)),
     )
 
 -- at a name that is taken
-pub at_name : (T L : Type 0) (segments rest : List GlobSegment) (us : List GlobUnit) (path : List (List ℕ)) (n : List ℕ) (ns : List (List ℕ)) → segments ≡ plain us ∷ rest → path ≡ n ∷ ns → Fits us n → T ↔ (Leads segments path ⊎ L) → T ↔ (Leads rest ns ⊎ L)
+pub at_name : (T L : Type 0) (segments rest : List SegmentModel) (us : List TokenModel) (path : List (List ℕ)) (n : List ℕ) (ns : List (List ℕ)) → segments ≡ plain us ∷ rest → path ≡ n ∷ ns → Fits us n → T ↔ (Leads segments path ⊎ L) → T ↔ (Leads rest ns ⊎ L)
 at_name T L segments rest us path n ns e p f t =
-    let t' : T ↔ (Leads (plain us ∷ rest) (n ∷ ns) ⊎ L) = subst (λ (l : List (List ℕ)). T ↔ (Leads (plain us ∷ rest) l ⊎ L)) p (subst (λ (l : List GlobSegment). T ↔ (Leads l path ⊎ L)) e t) in (
+    let t' : T ↔ (Leads (plain us ∷ rest) (n ∷ ns) ⊎ L) = subst (λ (l : List (List ℕ)). T ↔ (Leads (plain us ∷ rest) l ⊎ L)) p (subst (λ (l : List SegmentModel). T ↔ (Leads l path ⊎ L)) e t) in (
       λ h. elim (t'.0 h) [ inl g ↦ inl g.1 | inr l ↦ inr l ],
       λ w. t'.1 (elim w [ inl g ↦ inl (f, g) | inr l ↦ inr l ]),
     )
 
-pub covers_name : (back : Option BackPath) (segments rest : List GlobSegment) (us : List GlobUnit) (path : List (List ℕ)) (n : List ℕ) (ns : List (List ℕ)) → segments ≡ plain us ∷ rest → path ≡ n ∷ ns → Covers back segments path → Covers back rest ns
+pub covers_name : (back : Option BackPath) (segments rest : List SegmentModel) (us : List TokenModel) (path : List (List ℕ)) (n : List ℕ) (ns : List (List ℕ)) → segments ≡ plain us ∷ rest → path ≡ n ∷ ns → Covers back segments path → Covers back rest ns
 covers_name None segments rest us path n ns e p c = tt
 covers_name (Some b) segments rest us path n ns e p c =
     λ f. after_drop (Leads (plain us ∷ rest)) (Leads rest) (λ h. h) (λ x xs h. h.1) n ns
-    (subst (λ (l : List (List ℕ)). After (Leads (plain us ∷ rest)) l) p (subst (λ (l : List GlobSegment). After (Leads l) path) e (c f)))
+    (subst (λ (l : List (List ℕ)). After (Leads (plain us ∷ rest)) l) p (subst (λ (l : List SegmentModel). After (Leads l) path) e (c f)))
 
--- where the segments here don't spell the names left
-pub at_block : (T H : Type 0) (s : List GlobSegment) (path : List (List ℕ)) (n : List ℕ) (ns : List (List ℕ)) → path ≡ n ∷ ns → (H → ⊥) → T ↔ (H ⊎ Later (Leads s) path) → T ↔ (Leads s ns ⊎ Later (Leads s) ns)
+-- where the segments here don't spell the segments left
+pub at_block : (T H : Type 0) (s : List SegmentModel) (path : List (List ℕ)) (n : List ℕ) (ns : List (List ℕ)) → path ≡ n ∷ ns → (H → ⊥) → T ↔ (H ⊎ Later (Leads s) path) → T ↔ (Leads s ns ⊎ Later (Leads s) ns)
 at_block T H s path n ns e never t =
     let t' : T ↔ (H ⊎ After (Leads s) ns) = subst (λ (l : List (List ℕ)). T ↔ (H ⊎ Later (Leads s) l)) e t in (
       λ h. after_split (Leads s) ns (elim (t'.0 h) [ inl f ↦ absurd (never f) | inr l ↦ l ]),
       λ w. t'.1 (inr (after_join (Leads s) ns w)),
     )
 
-pub shorter : (here rest : List Segment) (s : GlobSegment) → map segment_of here ≡ s ∷ map segment_of rest → length here ≡ length rest + 1
+pub shorter : (here rest : List Segment) (s : SegmentModel) → map segment_model here ≡ s ∷ map segment_model rest → length here ≡ length rest + 1
 shorter here rest s e =
-    let l : length (map segment_of here) ≡ length (s ∷ map segment_of rest) = ap length e in
-    let h = length-map here segment_of in let r = length-map rest segment_of in omega (arith, l, h, r)
+    let l : length (map segment_model here) ≡ length (s ∷ map segment_model rest) = ap length e in
+    let h = length-map here segment_model in let r = length-map rest segment_model in omega (arith, l, h, r)
 
 -- at a double star that is last: it takes what is left
-pub at_last : (T L : Type 0) (s : List GlobSegment) (path : List (List ℕ)) → s ≡ double_star ∷ [] → T ↔ (Leads s path ⊎ L) → IsTrue true ↔ T
+pub at_last : (T L : Type 0) (s : List SegmentModel) (path : List (List ℕ)) → s ≡ double_star ∷ [] → T ↔ (Leads s path ⊎ L) → IsTrue true ↔ T
 at_last T L s path e t =
-    let h : Leads s path = subst (λ (l : List GlobSegment). Leads l path) (sym e) (path, [], sym (append-nil path), tt) in
+    let h : Leads s path = subst (λ (l : List SegmentModel). Leads l path) (sym e) (path, [], sym (append-nil path), tt) in
     (λ _. t.1 (inl h), λ _. refl)

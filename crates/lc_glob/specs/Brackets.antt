@@ -2,7 +2,7 @@
 use Rattle.std.specs.Prelude.{ℕ, zero, suc, ◌+◌, ◌-◌, Bool, true, false, not, ◌&&◌, ◌||◌, ◌==◌, nat_lt, if◌then◌else◌, max, List, [], ◌∷◌, ◌++◌, length, take, drop, slice_index, Option, Some, None, codes, bytes_eq}
 use Rattle.std.specs.List.{position_or_len}
 use Rattle.lc_glob.specs.Bytes.{backslash, opening, closing, exclamation_mark, caret, hyphen, colon}
-use Rattle.lc_glob.specs.Units.{GlobUnit, set}
+use Rattle.lc_glob.specs.Tokens.{TokenModel, class}
 
 -- the ranges where the name is the one asked for, else what the other names give
 abbrev pub named : Bool → List (ℕ × ℕ) → Option (List (ℕ × ℕ)) → Option (List (ℕ × ℕ))
@@ -95,13 +95,13 @@ items first k [] = None
 items first (suc k) (b ∷ bs) = taken_more [] (items first k bs)
 items first zero (b ∷ bs) = items_on (b == closing && not first) (item b bs) (λ k. items false k bs)
 
--- the unit of the ranges that were found, after more bytes
-abbrev pub as_set : Bool → ℕ → Option (List (ℕ × ℕ) × ℕ) → Option (GlobUnit × ℕ)
+-- the token of the ranges that were found, after more bytes
+abbrev pub as_set : Bool → ℕ → Option (List (ℕ × ℕ) × ℕ) → Option (TokenModel × ℕ)
 as_set negated more None = None
-as_set negated more (Some r) = Some (set negated r.0, more + r.1)
+as_set negated more (Some r) = Some (class negated r.0, more + r.1)
 
 -- the set whose bracket opened before these bytes, and how many of them it takes
-abbrev pub bracket : List ℕ → Option (GlobUnit × ℕ)
+abbrev pub bracket : List ℕ → Option (TokenModel × ℕ)
 bracket [] = None
 bracket (b ∷ bs) =
     if b == exclamation_mark || (b == caret) then as_set true 1 (items true 0 bs) else as_set false 0 (items true 0 (b ∷ bs))

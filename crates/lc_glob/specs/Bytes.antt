@@ -39,3 +39,11 @@ hyphen = 45
 -- `:`, which begins and ends a class
 abbrev pub colon : ℕ
 colon = 58
+
+-- `.`, which alone and twice is no name
+abbrev pub dot : ℕ
+dot = 46
+
+-- the byte that no path has
+abbrev pub nul : ℕ
+nul = 0

@@ -1,12 +1,12 @@
 -- What a pattern matches: gitignore(5), PATTERN FORMAT.
 use Rattle.std.specs.Prelude.{ℕ, Bool, ◌≡◌, List, [], ◌∷◌, ◌++◌, IsTrue}
 use Rattle.lc_glob.specs.Fits.{Fits}
-use Rattle.lc_glob.specs.Patterns.{GlobSegment, plain, double_star, GlobPattern}
+use Rattle.lc_glob.specs.Patterns.{SegmentModel, plain, double_star, PatternModel}
 use Rattle.lc_glob.specs.Path.{segments_of}
 
 -- the segments of an anchored pattern spell a path's: a plain one gives one name that it fits, a double star any run of
 -- names, none included, but the last segment of a pattern at least one
-abbrev pub Spells : List GlobSegment → List (List ℕ) → Type 0
+abbrev pub Spells : List SegmentModel → List (List ℕ) → Type 0
 Spells [] [] = Unit {0}
 Spells [] (n ∷ ns) = ⊥
 Spells (plain us ∷ r) [] = ⊥
@@ -16,17 +16,17 @@ Spells (double_star ∷ []) (n ∷ ns) = Unit {0}
 Spells (double_star ∷ s ∷ r) path = (a b : List (List ℕ)) × (path ≡ a ++ b) × Spells (s ∷ r) b
 
 -- the one segment of a pattern that isn't anchored fits the last of a path's
-abbrev pub FitsLast : List GlobSegment → List (List ℕ) → Type 0
+abbrev pub FitsLast : List SegmentModel → List (List ℕ) → Type 0
 FitsLast [] path = ⊥
 FitsLast (plain us ∷ []) path = (above : List (List ℕ)) × (name : List ℕ) × (path ≡ above ++ name ∷ []) × Fits us name
 FitsLast (plain us ∷ s ∷ r) path = ⊥
 FitsLast (double_star ∷ r) path = ⊥
 
 -- the segments of a pattern, anchored or not, match those of a path
-abbrev pub SegmentsMatch : Bool → List GlobSegment → List (List ℕ) → Type 0
+abbrev pub SegmentsMatch : Bool → List SegmentModel → List (List ℕ) → Type 0
 SegmentsMatch Bool.false segments path = FitsLast segments path
 SegmentsMatch Bool.true segments path = Spells segments path
 
 -- the pattern matches the path of a directory, or of something else
-abbrev pub Matches : GlobPattern → List ℕ → Bool → Type 0
+abbrev pub Matches : PatternModel → List ℕ → Bool → Type 0
 Matches p path is_dir = (p.is_dead ≡ Bool.false) × (IsTrue p.is_dir_only → IsTrue is_dir) × SegmentsMatch p.is_anchored p.segments (segments_of path)

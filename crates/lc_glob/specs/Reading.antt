@@ -1,117 +1,113 @@
 -- How bytes are read as a pattern: gitignore(5), PATTERN FORMAT.
-use Rattle.std.specs.Prelude.{ℕ, zero, suc, Bool, true, false, ◌&&◌, ◌||◌, ◌==◌, nat_lt, if◌then◌else◌, List, [], ◌∷◌, length, map, Option, Some, None}
+use Rattle.std.specs.Prelude.{ℕ, zero, suc, Bool, false, ◌&&◌, ◌||◌, ◌==◌, nat_lt, if◌then◌else◌, List, [], ◌∷◌, length, map, Option, Some, None}
+use Rattle.lc_glob.specs.Lists.{is_empty}
 use Rattle.lc_glob.specs.Bytes.{slash, backslash, asterisk, question_mark, opening}
-use Rattle.lc_glob.specs.Units.{GlobUnit, byte, any, star, is_star}
-use Rattle.lc_glob.specs.Patterns.{GlobSegment, plain, double_star, GlobPattern, dead}
+use Rattle.lc_glob.specs.Tokens.{TokenModel, literal, any_byte, star, is_star}
+use Rattle.lc_glob.specs.Patterns.{SegmentModel, plain, double_star, PatternModel, dead}
 use Rattle.lc_glob.specs.Brackets.{bracket}
 
--- what the bytes are read as, one after the other
-pub data Token : Type 0 where
-  separator : Token
-  one : GlobUnit → Token
+-- what the bytes are read as, one after the other: a separator, or a token of a segment
+pub data LexemeModel : Type 0 where
+  separator : LexemeModel
+  one : TokenModel → LexemeModel
 
 -- a byte that means itself; a slash separates, quoted or not
-abbrev pub literal : ℕ → Token
-literal b = if b == slash then separator else one (byte b)
+abbrev pub literal_lexeme : ℕ → LexemeModel
+literal_lexeme b = if b == slash then separator else one (literal b)
 
 -- the byte after a backslash, which must be there
-abbrev pub quoted : List ℕ → Option (Token × ℕ)
+abbrev pub quoted : List ℕ → Option (LexemeModel × ℕ)
 quoted [] = None
-quoted (c ∷ cs) = Some (literal c, 1)
+quoted (c ∷ cs) = Some (literal_lexeme c, 1)
 
--- a bracket that was found is a unit
-abbrev pub as_token : Option (GlobUnit × ℕ) → Option (Token × ℕ)
-as_token None = None
-as_token (Some u) = Some (one u.0, u.1)
+-- a bracket that was found is a token
+abbrev pub as_lexeme : Option (TokenModel × ℕ) → Option (LexemeModel × ℕ)
+as_lexeme None = None
+as_lexeme (Some u) = Some (one u.0, u.1)
 
--- the unit that begins with the byte b, and how many of the bytes after b it takes
-abbrev pub token : ℕ → List ℕ → Option (Token × ℕ)
-token b bs =
+-- the token that begins with the byte b, and how many of the bytes after b it takes
+abbrev pub lexeme : ℕ → List ℕ → Option (LexemeModel × ℕ)
+lexeme b bs =
     if b == backslash then quoted bs
-    else if b == opening then as_token (bracket bs)
+    else if b == opening then as_lexeme (bracket bs)
     else if b == asterisk then Some (one star, 0)
-    else if b == question_mark then Some (one any, 0)
-    else Some (literal b, 0)
+    else if b == question_mark then Some (one any_byte, 0)
+    else Some (literal_lexeme b, 0)
 
--- a token before parts: a separator begins one, and a unit goes to the first
-abbrev pub put : Token → Option (List (List GlobUnit)) → Option (List (List GlobUnit))
+-- a lexeme before parts: a separator begins one, and a token goes to the first
+abbrev pub put : LexemeModel → Option (List (List TokenModel)) → Option (List (List TokenModel))
 put t None = None
 put t (Some []) = None
 put separator (Some (p ∷ ps)) = Some ([] ∷ p ∷ ps)
 put (one u) (Some (p ∷ ps)) = Some ((u ∷ p) ∷ ps)
 
--- the token that was found, before the parts of what it leaves
-abbrev pub put_on : Option (Token × ℕ) → (ℕ → Option (List (List GlobUnit))) → Option (List (List GlobUnit))
+-- the lexeme that was found, before the parts of what it leaves
+abbrev pub put_on : Option (LexemeModel × ℕ) → (ℕ → Option (List (List TokenModel))) → Option (List (List TokenModel))
 put_on None next = None
 put_on (Some t) next = put t.0 (next t.1)
 
--- the units of the parts that separators cut; None where the pattern is dead; the first k bytes are passed over
-abbrev pub parts : ℕ → List ℕ → Option (List (List GlobUnit))
+-- the tokens of the parts that separators cut; None where the pattern is dead; the first k bytes are passed over
+abbrev pub parts : ℕ → List ℕ → Option (List (List TokenModel))
 parts k [] = Some ([] ∷ [])
 parts (suc k) (b ∷ bs) = parts k bs
-parts zero (b ∷ bs) = put_on (token b bs) (λ k. parts k bs)
+parts zero (b ∷ bs) = put_on (lexeme b bs) (λ k. parts k bs)
 
--- whether a list is empty
-abbrev pub is_none_of : {A : Type 0} → List A → Bool
-is_none_of [] = true
-is_none_of (x ∷ xs) = false
-
--- whether the last token is a separator: there are parts before it, and the one after it is empty
-abbrev pub ends_empty : List (List GlobUnit) → Bool
+-- whether the last lexeme is a separator: there are parts before it, and the one after it is empty
+abbrev pub ends_empty : List (List TokenModel) → Bool
 ends_empty [] = false
 ends_empty (p ∷ []) = false
-ends_empty (p ∷ q ∷ []) = is_none_of q
+ends_empty (p ∷ q ∷ []) = is_empty q
 ends_empty (p ∷ q ∷ r ∷ ps) = ends_empty (q ∷ r ∷ ps)
 
 -- the parts without the last, so without that separator
-abbrev pub without_last : List (List GlobUnit) → List (List GlobUnit)
+abbrev pub without_last : List (List TokenModel) → List (List TokenModel)
 without_last [] = []
 without_last (p ∷ []) = []
 without_last (p ∷ q ∷ ps) = p ∷ without_last (q ∷ ps)
 
--- whether the first token is a separator: there are parts after it, and the one before it is empty
-abbrev pub begins_empty : List (List GlobUnit) → Bool
+-- whether the first lexeme is a separator: there are parts after it, and the one before it is empty
+abbrev pub begins_empty : List (List TokenModel) → Bool
 begins_empty [] = false
 begins_empty (p ∷ []) = false
-begins_empty (p ∷ q ∷ ps) = is_none_of p
+begins_empty (p ∷ q ∷ ps) = is_empty p
 
 -- the parts without the first, so without that separator
-abbrev pub without_first : List (List GlobUnit) → List (List GlobUnit)
+abbrev pub without_first : List (List TokenModel) → List (List TokenModel)
 without_first [] = []
 without_first (p ∷ ps) = ps
 
 -- whether a part is empty, which makes the pattern dead
-abbrev pub some_empty : List (List GlobUnit) → Bool
+abbrev pub some_empty : List (List TokenModel) → Bool
 some_empty [] = false
-some_empty (p ∷ ps) = is_none_of p || some_empty ps
+some_empty (p ∷ ps) = is_empty p || some_empty ps
 
 -- whether a part is two stars and nothing else
-abbrev pub is_double_star : List GlobUnit → Bool
+abbrev pub is_double_star : List TokenModel → Bool
 is_double_star [] = false
 is_double_star (u ∷ []) = false
 is_double_star (u ∷ v ∷ []) = is_star u && is_star v
 is_double_star (u ∷ v ∷ w ∷ us) = false
 
 -- the segment of a part: in an anchored pattern two stars alone are a double star
-abbrev pub segment_from : Bool → List GlobUnit → GlobSegment
-segment_from anchored units = if anchored && is_double_star units then double_star else plain units
+abbrev pub segment_from : Bool → List TokenModel → SegmentModel
+segment_from anchored tokens = if anchored && is_double_star tokens then double_star else plain tokens
 
 -- the pattern of parts without a separator at either end
-abbrev pub live : Bool → Bool → List (List GlobUnit) → GlobPattern
+abbrev pub live : Bool → Bool → List (List TokenModel) → PatternModel
 live dir_only anchored ps =
     if some_empty ps then dead
     else record { is_dead = false; is_dir_only = dir_only; is_anchored = anchored; segments = map (segment_from anchored) ps }
 
 -- the pattern of parts without a separator at the end: one at the front anchors it, and so do two parts or more
-abbrev pub cut_at_front : Bool → List (List GlobUnit) → GlobPattern
+abbrev pub cut_at_front : Bool → List (List TokenModel) → PatternModel
 cut_at_front dir_only ps =
     live dir_only (begins_empty ps || nat_lt 1 (length ps)) (if begins_empty ps then without_first ps else ps)
 
 -- the pattern of all the parts: a separator at the end makes it one for directories
-abbrev pub pattern_from : Option (List (List GlobUnit)) → GlobPattern
+abbrev pub pattern_from : Option (List (List TokenModel)) → PatternModel
 pattern_from None = dead
 pattern_from (Some ps) = cut_at_front (ends_empty ps) (if ends_empty ps then without_last ps else ps)
 
 -- the pattern that the bytes are read as
-abbrev pub pattern_of : List ℕ → GlobPattern
+abbrev pub pattern_of : List ℕ → PatternModel
 pattern_of bytes = pattern_from (parts 0 bytes)

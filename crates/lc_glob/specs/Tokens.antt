@@ -1,10 +1,34 @@
--- What the code's tokens stand for.
-use Rattle.lc_glob.specs.Views.{unit_of}
-use Rattle.lc_glob.specs.Reading.{Token, separator, one}
-use Rattle.lc_glob.specs.declared.reading.Token.{Token as CodeToken}
-use Rattle.lc_glob.specs.declared.reading.Token.TheVariants.{Separator, One}
+-- The tokens of a pattern, and what each stands for: gitignore(5), PATTERN FORMAT.
+use Rattle.std.specs.Prelude.{ℕ, Bool, true, false, not, ◌&&◌, ◌==◌, nat_le, List}
+use Rattle.std.specs.List.{list_any}
+use Rattle.lc_glob.specs.Bytes.{slash}
 
--- a separator, or the unit of a piece
-abbrev pub token_of : CodeToken → Token
-token_of Separator = separator
-token_of (One piece) = one (unit_of piece)
+-- a literal byte, `?`, `*`, or a bracket: one byte of its ranges, or of none of them where it is negated
+pub data TokenModel : Type 0 where
+  literal : ℕ → TokenModel
+  any_byte : TokenModel
+  star : TokenModel
+  class : Bool → List (ℕ × ℕ) → TokenModel
+
+-- whether a byte is in one of the ranges, whose ends belong to them
+abbrev pub in_ranges : List (ℕ × ℕ) → ℕ → Bool
+in_ranges ranges b = list_any (λ r. nat_le r.0 b && nat_le b r.1) ranges
+
+-- the same, or the contrary where the bracket is negated
+abbrev pub in_set : Bool → Bool → Bool
+in_set false member = member
+in_set true member = not member
+
+-- whether a token is a star, which alone may stand for no byte and for several
+abbrev pub is_star : TokenModel → Bool
+is_star (literal c) = false
+is_star any_byte = false
+is_star star = true
+is_star (class negated ranges) = false
+
+-- whether a token that is no star stands for this byte; neither `?` nor a bracket stands for a slash
+abbrev pub takes : TokenModel → ℕ → Bool
+takes (literal c) b = c == b
+takes any_byte b = not (b == slash)
+takes star b = false
+takes (class negated ranges) b = not (b == slash) && in_set negated (in_ranges ranges b)

@@ -1,6 +1,6 @@
 -- A set of bytes as the bits of four words.
 use Rattle.std.specs.Prelude.{ℕ, zero, suc, ◌+◌, ◌*◌, Bool, true, false, List, [], ◌∷◌}
-use Rattle.lc_glob.specs.Units.{in_ranges}
+use Rattle.lc_glob.specs.Tokens.{in_ranges}
 
 -- the number of a bit
 abbrev pub bit : Bool → ℕ

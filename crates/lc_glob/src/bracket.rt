@@ -5,7 +5,7 @@ ghost use Rattle.std.specs.List.{position_or_len};
 ghost use Rattle.lc_glob.specs.Bytes.{opening, closing};
 ghost use Rattle.lc_glob.specs.Brackets.{element, range_from, class_of, item, plain_item, colon_item, items, bracket};
 ghost use Rattle.lc_glob.specs.BracketSteps.{ColonIs, PushesItem};
-ghost use Rattle.lc_glob.specs.Units.{set};
+ghost use Rattle.lc_glob.specs.Tokens.{class};
 
 use crate::byte_set::ByteSet;
 use memchr::memchr;
@@ -200,7 +200,7 @@ pub(crate) fn read_bracket(
     alloc: Global,
     bytes: &[u8],
 ) -> Result<Option<(ByteSet, usize)>, AllocError>
-    ensures is { IfOk result (λ r. MatchOption r (bracket bytes.now ≡ None) (λ p. bracket bytes.now ≡ Some (set p.0.negated p.0.ranges.items, p.1))) }
+    ensures is { IfOk result (λ r. MatchOption r (bracket bytes.now ≡ None) (λ p. bracket bytes.now ≡ Some (class p.0.negated p.0.ranges.items, p.1))) }
     ensures within { IfOk result (λ r. IfSome r (λ p. p.1 ≤ length bytes.now)) }
 {
     let Some((b, rest)) = bytes.split_first() else {

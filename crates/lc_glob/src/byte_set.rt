@@ -1,7 +1,7 @@
 //! The bytes that a bracket stands for.
 
 ghost use Rattle.std.specs.Prelude.{◌≡◌, ◌≤◌};
-ghost use Rattle.lc_glob.specs.Units.{in_ranges, takes, set};
+ghost use Rattle.lc_glob.specs.Tokens.{in_ranges, takes, class};
 ghost use Rattle.lc_glob.specs.Words.{bit, word_of, words_of};
 
 /// The bytes of some ranges, or all but those and the slash.
@@ -34,7 +34,7 @@ impl ByteSet {
     }
 
     pub(crate) fn takes(&self, b: u8) -> bool
-        ensures { result ≡ takes (set self.now.negated self.now.ranges.items) b }
+        ensures { result ≡ takes (class self.now.negated self.now.ranges.items) b }
     {
         b != b'/' && self.negated != self.has(b)
     }

@@ -1,9 +1,11 @@
-//! A path that patterns are asked about.
+//! A path that patterns are asked about, and its segments, found one by one from either end.
 
-ghost use Rattle.std.specs.Prelude.{◌≡◌};
+ghost use Rattle.std.specs.Prelude.{◌≡◌, ◌↔◌, IsTrue, [], ◌∷◌, ◌++◌, MatchOption};
+ghost use Rattle.lc_glob.specs.Path.{segments_of, segments_left};
 
-use crate::name::Name;
-use crate::names::{Names, split_end};
+use crate::cut::cut_at_first;
+use crate::path_segment::PathSegment;
+use memchr::memrchr;
 use std::marker::Model;
 
 /// A path that is asked about many patterns: where its last segment begins is found once.
@@ -17,20 +19,19 @@ use std::marker::Model;
 #[derive(Debug, Drop)]
 pub struct Candidate<'a> {
     path: &'a [u8],
-    pub(crate) above: Names<'a>,
-    pub(crate) name: Name<'a>,
+    pub(crate) above: SegmentsLeft<'a>,
+    pub(crate) last: PathSegment<'a>,
 }
 
 impl<'a> Model for Candidate<'a> {
     ghost use Rattle.std.specs.Prelude.{◌≡◌, ℕ, List, [], ◌∷◌, ◌++◌};
-    ghost use Rattle.lc_glob.specs.Names.{names_left};
-    ghost use Rattle.lc_glob.specs.Path.{segments_of};
+    ghost use Rattle.lc_glob.specs.Path.{segments_of, segments_left};
 
     ghost Value = { List ℕ };
 
     ghost view = { λ c. c.path.now };
 
-    ghost invariant = { λ c. segments_of c.path.now ≡ names_left c.above ++ c.name.bytes.now ∷ [] };
+    ghost invariant = { λ c. segments_of c.path.now ≡ segments_left c.above.rest ++ c.last.bytes.now ∷ [] };
 }
 
 impl<'a> Candidate<'a> {
@@ -38,7 +39,56 @@ impl<'a> Candidate<'a> {
     pub fn new(path: &'a [u8]) -> Self
         ensures { result ≡ path.now }
     {
-        let (above, name) = split_end(path);
-        Candidate { path, above, name }
+        let (above, last) = split_last_segment(path);
+        Candidate { path, above, last }
+    }
+}
+
+/// The segments of a path that are left: none, or those of the bytes.
+#[derive(Clone, Copy, Debug)]
+pub(crate) struct SegmentsLeft<'a> {
+    rest: Option<&'a [u8]>,
+}
+
+impl<'a> SegmentsLeft<'a> {
+    /// Whether none is left.
+    pub(crate) fn is_over(self) -> bool
+        ensures { IsTrue result ↔ (segments_left self.entry.rest ≡ []) }
+    {
+        match self.rest {
+            None => true,
+            Some(_) => false,
+        }
+    }
+
+    /// The first of the segments, and the others.
+    pub(crate) fn split_first(self) -> Option<(PathSegment<'a>, SegmentsLeft<'a>)>
+        ensures { MatchOption result (segments_left self.entry.rest ≡ []) (λ p. segments_left self.entry.rest ≡ p.0.bytes.now ∷ segments_left p.1.rest) }
+    {
+        let (first, rest) = cut_at_first(b'/', self.rest?);
+        Some((PathSegment::new(first), SegmentsLeft { rest }))
+    }
+
+    /// The segments above the last, and the last.
+    pub(crate) fn split_last(self) -> Option<(SegmentsLeft<'a>, PathSegment<'a>)>
+        ensures { MatchOption result (segments_left self.entry.rest ≡ []) (λ p. segments_left self.entry.rest ≡ segments_left p.0.rest ++ p.1.bytes.now ∷ []) }
+    {
+        let bytes = self.rest?;
+        Some(split_last_segment(bytes))
+    }
+}
+
+/// The segments of a path above the last, and the last, which each path has.
+fn split_last_segment<'a>(path: &'a [u8]) -> (SegmentsLeft<'a>, PathSegment<'a>)
+    ensures { segments_of path.now ≡ segments_left result.0.rest ++ result.1.bytes.now ∷ [] }
+{
+    match memrchr(b'/', path) {
+        None => (SegmentsLeft { rest: None }, PathSegment::new(path)),
+        Some(place) => (
+            SegmentsLeft {
+                rest: Some(&path[..place]),
+            },
+            PathSegment::new(&path[place + 1..]),
+        ),
     }
 }

@@ -24,17 +24,18 @@
 mod bracket;
 mod byte_set;
 mod candidate;
-mod definition;
-mod fit;
-mod name;
-mod names;
+mod cut;
+mod match_path;
+mod match_segment;
+pub mod path;
+mod path_segment;
 mod pattern;
-mod piece;
 mod reading;
 mod segment;
-mod spell;
 #[cfg(test)]
 mod tests;
+mod token;
 
 pub use candidate::Candidate;
+pub use cut::cut_at_first;
 pub use pattern::{Pattern, is_match_decides};

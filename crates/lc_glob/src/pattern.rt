@@ -5,13 +5,13 @@ ghost use Rattle.lc_glob.specs.IsMatch.{is_match, IsMatchDecides};
 ghost use Rattle.lc_glob.specs.Matches.{Matches};
 ghost use Rattle.lc_glob.specs.Path.{segments_of};
 ghost use Rattle.lc_glob.specs.Reading.{pattern_of};
-ghost use Rattle.lc_glob.specs.Strides.{weights, sizes};
+ghost use Rattle.lc_glob.specs.Strides.{tokens_with_ends, bytes_with_ends};
 
 use crate::candidate::Candidate;
-use crate::name::Tests;
+use crate::match_path::{fits_last, spells};
+use crate::path_segment::ByteTests;
 use crate::reading::read_pattern;
 use crate::segment::Segment;
-use crate::spell::{fits_last, spells};
 use std::alloc::{AllocError, Global};
 use std::marker::Model;
 
@@ -32,13 +32,13 @@ pub struct Pattern {
 
 impl Model for Pattern {
     ghost use Rattle.std.specs.Prelude.{map};
-    ghost use Rattle.lc_glob.specs.Patterns.{GlobPattern};
+    ghost use Rattle.lc_glob.specs.Patterns.{PatternModel};
 
-    ghost Value = { GlobPattern };
+    ghost Value = { PatternModel };
 
-    ghost use Rattle.lc_glob.specs.Views.{segment_of};
+    ghost use Rattle.lc_glob.specs.Views.{segment_model};
 
-    ghost view = { λ p. record { is_dead = p.is_dead; is_dir_only = p.is_dir_only; is_anchored = p.is_anchored; segments = map segment_of p.segments.items } };
+    ghost view = { λ p. record { is_dead = p.is_dead; is_dir_only = p.is_dir_only; is_anchored = p.is_anchored; segments = map segment_model p.segments.items } };
 }
 
 impl Pattern {
@@ -103,7 +103,7 @@ impl Pattern {
         ensures meaning { IsTrue result ↔ Matches self.now path.now is_dir }
         ensures computed { result ≡ is_match self.now path.now is_dir }
     {
-        self.matched(path, is_dir, &mut Tests::none())
+        self.matched(path, is_dir, &mut ByteTests::none())
     }
 
     /// The same, and how many times a literal, a `?` or a bracket was compared with one byte of the path. The number stops
@@ -118,14 +118,14 @@ impl Pattern {
         ensures computed { result.0 ≡ is_match self.now path.now is_dir }
         ensures bound { (bytes : List ℕ) → self.now ≡ pattern_of bytes → result.1 ≤ (length bytes + 1) * (length path.now + 1) }
     {
-        let mut tests = Tests::none();
+        let mut tests = ByteTests::none();
         let found = self.matched(&Candidate::new(path), is_dir, &mut tests);
         (found, tests.made())
     }
 
-    fn matched(&self, path: &Candidate, is_dir: bool, tests: &mut Tests) -> bool
+    fn matched(&self, path: &Candidate, is_dir: bool, tests: &mut ByteTests) -> bool
         ensures meaning { IsTrue result ↔ Matches self.now path.now is_dir }
-        ensures cost { tests.new.made ≤ tests.old.made + weights self.now.segments * sizes (segments_of path.now) }
+        ensures cost { tests.new.made ≤ tests.old.made + tokens_with_ends self.now.segments * bytes_with_ends (segments_of path.now) }
     {
         if self.is_dead || self.is_dir_only && !is_dir {
             false

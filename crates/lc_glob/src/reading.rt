@@ -1,67 +1,67 @@
 //! Bytes read as a pattern: their tokens, the parts that separators cut, and what those make.
 
 ghost use Rattle.std.specs.Prelude.{◌≡◌, ◌≤◌, length, MatchOption, IfOk, IfSome, Some, None, map};
+ghost use Rattle.lc_glob.specs.Lists.{is_empty};
 ghost use Rattle.lc_glob.specs.Patterns.{dead};
-ghost use Rattle.lc_glob.specs.Reading.{token, literal, parts, segment_from, is_double_star, ends_empty, without_last, is_none_of, begins_empty, some_empty, cut_at_front, pattern_of};
-ghost use Rattle.lc_glob.specs.Tokens.{token_of};
-ghost use Rattle.lc_glob.specs.Views.{unit_of, part_of, segment_of};
+ghost use Rattle.lc_glob.specs.Reading.{lexeme, literal_lexeme, parts, segment_from, is_double_star, ends_empty, without_last, begins_empty, some_empty, cut_at_front, pattern_of};
+ghost use Rattle.lc_glob.specs.Views.{lexeme_model, token_model, tokens_model, segment_model};
 
 use crate::bracket::read_bracket;
 use crate::pattern::Pattern;
-use crate::piece::Piece;
 use crate::segment::Segment;
+use crate::token::Token;
 use std::alloc::{AllocError, Global};
 use std::mem;
 
 /// What the bytes are read as, one after the other.
 #[derive(Debug, Drop)]
-enum Token {
+enum Lexeme {
     Separator,
-    One(Piece),
+    One(Token),
 }
 
 /// A byte that means itself: a slash separates, quoted or not.
-fn literal_token(b: u8) -> Token
-    ensures { token_of result ≡ literal b }
+fn own_lexeme(b: u8) -> Lexeme
+    ensures { lexeme_model result ≡ literal_lexeme b }
 {
     if b == b'/' {
-        Token::Separator
+        Lexeme::Separator
     } else {
-        Token::One(Piece::Byte(b))
+        Lexeme::One(Token::Literal(b))
     }
 }
 
-/// The unit that begins with the byte `b`, and how many of the bytes after it are taken.
-fn read_token(alloc: Global, b: u8, rest: &[u8]) -> Result<Option<(Token, usize)>, AllocError>
-    ensures is { IfOk result (λ r. MatchOption r (token b rest.now ≡ None) (λ p. token b rest.now ≡ Some (token_of p.0, p.1))) }
+/// The token that begins with the byte `b`, and how many of the bytes after it are taken.
+fn read_lexeme(alloc: Global, b: u8, rest: &[u8]) -> Result<Option<(Lexeme, usize)>, AllocError>
+    ensures is { IfOk result (λ r. MatchOption r (lexeme b rest.now ≡ None) (λ p. lexeme b rest.now ≡ Some (lexeme_model p.0, p.1))) }
     ensures within { IfOk result (λ r. IfSome r (λ p. p.1 ≤ length rest.now)) }
 {
     if b == b'\\' {
         let Some((c, _)) = rest.split_first() else {
             return Ok(None);
         };
-        return Ok(Some((literal_token(*c), 1)));
+        return Ok(Some((own_lexeme(*c), 1)));
     }
     if b == b'[' {
         let Some((found, taken)) = read_bracket(alloc, rest)? else {
             return Ok(None);
         };
         let found = Box::new(alloc, found)?;
-        return Ok(Some((Token::One(Piece::Set(found)), taken)));
+        return Ok(Some((Lexeme::One(Token::Class(found)), taken)));
     }
     Ok(Some((
         match b {
-            b'*' => Token::One(Piece::Star),
-            b'?' => Token::One(Piece::Any),
-            _ => literal_token(b),
+            b'*' => Lexeme::One(Token::Star),
+            b'?' => Lexeme::One(Token::AnyByte),
+            _ => own_lexeme(b),
         },
         0,
     )))
 }
 
-/// The pieces of the parts that separators cut, or `None` where the pattern is dead.
-fn read_parts(alloc: Global, bytes: &[u8]) -> Result<Option<Vec<Vec<Piece>>>, AllocError>
-    ensures { IfOk result (λ r. MatchOption r (parts 0 bytes.now ≡ None) (λ v. parts 0 bytes.now ≡ Some (map part_of v.items))) }
+/// The tokens of the parts that separators cut, or `None` where the pattern is dead.
+fn read_parts(alloc: Global, bytes: &[u8]) -> Result<Option<Vec<Vec<Token>>>, AllocError>
+    ensures { IfOk result (λ r. MatchOption r (parts 0 bytes.now ≡ None) (λ v. parts 0 bytes.now ≡ Some (map tokens_model v.items))) }
 {
     let mut done = Vec::new(alloc);
     let mut current = Vec::new(alloc);
@@ -71,12 +71,12 @@ fn read_parts(alloc: Global, bytes: &[u8]) -> Result<Option<Vec<Vec<Piece>>>, Al
             done.push(current)?;
             return Ok(Some(done));
         };
-        let Some((token, taken)) = read_token(alloc, *b, rest)? else {
+        let Some((lexeme, taken)) = read_lexeme(alloc, *b, rest)? else {
             return Ok(None);
         };
-        match token {
-            Token::Separator => done.push(mem::replace(&mut current, Vec::new(alloc)))?,
-            Token::One(piece) => current.push(piece)?,
+        match lexeme {
+            Lexeme::Separator => done.push(mem::replace(&mut current, Vec::new(alloc)))?,
+            Lexeme::One(token) => current.push(token)?,
         }
         left = &rest[taken..];
     }
@@ -85,10 +85,10 @@ fn read_parts(alloc: Global, bytes: &[u8]) -> Result<Option<Vec<Vec<Piece>>>, Al
 /// Makes the segments of the parts.
 fn segments_from(
     alloc: Global,
-    parts: Vec<Vec<Piece>>,
+    parts: Vec<Vec<Token>>,
     anchored: bool,
 ) -> Result<Vec<Segment>, AllocError>
-    ensures { IfOk result (λ v. map segment_of v.items ≡ map (segment_from anchored) (map part_of parts.items)) }
+    ensures { IfOk result (λ v. map segment_model v.items ≡ map (segment_from anchored) (map tokens_model parts.items)) }
 {
     let mut segments = Vec::new(alloc);
     let mut parts = parts;
@@ -100,18 +100,18 @@ fn segments_from(
 }
 
 /// Whether a part is two stars and nothing else.
-fn is_double(part: &[Piece]) -> bool
-    ensures { result ≡ is_double_star (map unit_of part.now) }
+fn is_double(part: &[Token]) -> bool
+    ensures { result ≡ is_double_star (map token_model part.now) }
 {
     match part {
-        [Piece::Star, Piece::Star] => true,
+        [Token::Star, Token::Star] => true,
         _ => false,
     }
 }
 
 /// In an anchored pattern two stars alone are a double star.
-fn segment_from_part(anchored: bool, part: Vec<Piece>) -> Segment
-    ensures { segment_of result ≡ segment_from anchored (part_of part) }
+fn segment_from_part(anchored: bool, part: Vec<Token>) -> Segment
+    ensures { segment_model result ≡ segment_from anchored (tokens_model part) }
 {
     if anchored && is_double(&part) {
         Segment::DoubleStar
@@ -120,9 +120,9 @@ fn segment_from_part(anchored: bool, part: Vec<Piece>) -> Segment
     }
 }
 
-/// Whether the last token is a separator.
-fn ends_in_empty(parts: &[Vec<Piece>]) -> bool
-    ensures { result ≡ ends_empty (map part_of parts.now) }
+/// Whether the last lexeme is a separator.
+fn ends_in_empty(parts: &[Vec<Token>]) -> bool
+    ensures { result ≡ ends_empty (map tokens_model parts.now) }
 {
     let Some((last, rest)) = parts.split_last() else {
         return false;
@@ -130,8 +130,8 @@ fn ends_in_empty(parts: &[Vec<Piece>]) -> bool
     !rest.is_empty() && is_empty_part(last)
 }
 
-fn is_empty_part(part: &[Piece]) -> bool
-    ensures { result ≡ is_none_of (map unit_of part.now) }
+fn is_empty_part(part: &[Token]) -> bool
+    ensures { result ≡ is_empty (map token_model part.now) }
 {
     match part.split_first() {
         None => true,
@@ -139,9 +139,9 @@ fn is_empty_part(part: &[Piece]) -> bool
     }
 }
 
-/// Whether the first token is a separator.
-fn begins_with_empty(parts: &[Vec<Piece>]) -> bool
-    ensures { result ≡ begins_empty (map part_of parts.now) }
+/// Whether the first lexeme is a separator.
+fn begins_with_empty(parts: &[Vec<Token>]) -> bool
+    ensures { result ≡ begins_empty (map tokens_model parts.now) }
 {
     let Some((first, rest)) = parts.split_first() else {
         return false;
@@ -150,8 +150,8 @@ fn begins_with_empty(parts: &[Vec<Piece>]) -> bool
 }
 
 /// Whether a part is empty, which makes the pattern dead.
-fn has_empty(parts: &[Vec<Piece>]) -> bool
-    ensures { result ≡ some_empty (map part_of parts.now) }
+fn has_empty(parts: &[Vec<Token>]) -> bool
+    ensures { result ≡ some_empty (map tokens_model parts.now) }
 {
     for part in parts {
         if part.is_empty() {
@@ -175,8 +175,8 @@ pub(crate) fn read_pattern(alloc: Global, bytes: &[u8]) -> Result<Pattern, Alloc
 }
 
 /// The parts without the last, so without the separator before it.
-fn without_last_part(parts: Vec<Vec<Piece>>) -> Vec<Vec<Piece>>
-    ensures { map part_of result.items ≡ without_last (map part_of parts.items) }
+fn without_last_part(parts: Vec<Vec<Token>>) -> Vec<Vec<Token>>
+    ensures { map tokens_model result.items ≡ without_last (map tokens_model parts.items) }
 {
     let mut parts = parts;
     let kept = parts.len().saturating_sub(1);
@@ -187,10 +187,10 @@ fn without_last_part(parts: Vec<Vec<Piece>>) -> Vec<Vec<Piece>>
 /// Reads the parts of a pattern without a last separator.
 fn read_front(
     alloc: Global,
-    parts: Vec<Vec<Piece>>,
+    parts: Vec<Vec<Token>>,
     is_dir_only: bool,
 ) -> Result<Pattern, AllocError>
-    ensures { IfOk result (λ p. p ≡ cut_at_front is_dir_only (map part_of parts.items)) }
+    ensures { IfOk result (λ p. p ≡ cut_at_front is_dir_only (map tokens_model parts.items)) }
 {
     let mut parts = parts;
     let leads = begins_with_empty(&parts);

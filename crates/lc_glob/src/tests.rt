@@ -1,5 +1,5 @@
 //! What no contract shows by itself: worked examples, and that calls with ample memory answer.
 
-mod agreement;
 mod cost;
 mod meaning;
+mod paths;

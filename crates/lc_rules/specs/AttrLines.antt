@@ -2,7 +2,7 @@
 use Rattle.std.specs.Prelude.{ℕ, Bool, false, ◌==◌, ◌&&◌, if◌then◌else◌, List, [], ◌∷◌, Option, Some, None}
 use Rattle.std.specs.List.{filter_map}
 use Rattle.lc_glob.specs.Bytes.{exclamation_mark}
-use Rattle.lc_glob.specs.Patterns.{GlobPattern}
+use Rattle.lc_glob.specs.Patterns.{PatternModel}
 use Rattle.lc_glob.specs.Reading.{pattern_of}
 use Rattle.lc_rules.specs.Bytes.{hash, quotation_mark}
 use Rattle.lc_rules.specs.RuleLines.{lines_of}
@@ -12,7 +12,7 @@ use Rattle.lc_rules.specs.AttrQuotes.{unquoted}
 
 -- a line with a pattern: what it says of the paths that the pattern matches
 pub record AttrLine : Type 0 where
-  pub pattern : GlobPattern
+  pub pattern : PatternModel
   pub assigns : List Assign
 
 -- what a line gives

@@ -2,7 +2,7 @@
 use Rattle.std.specs.Prelude.{ℕ, Bool, true, false, ◌==◌, if◌then◌else◌, List, [], ◌∷◌, Option, Some, None}
 use Rattle.std.specs.List.{filter_map}
 use Rattle.lc_glob.specs.Bytes.{backslash, exclamation_mark}
-use Rattle.lc_glob.specs.Patterns.{GlobPattern}
+use Rattle.lc_glob.specs.Patterns.{PatternModel}
 use Rattle.lc_glob.specs.Reading.{pattern_of}
 use Rattle.lc_rules.specs.Bytes.{carriage_return, space, hash}
 use Rattle.lc_rules.specs.RuleLines.{lines_of}
@@ -10,7 +10,7 @@ use Rattle.lc_rules.specs.RuleLines.{lines_of}
 -- a rule: whether it includes again what an earlier rule ignored, and its pattern, perhaps a dead one
 pub record IgnoreRule : Type 0 where
   pub is_negated : Bool
-  pub pattern : GlobPattern
+  pub pattern : PatternModel
 
 -- a line without one carriage return at its end
 abbrev pub without_return : List ℕ → List ℕ

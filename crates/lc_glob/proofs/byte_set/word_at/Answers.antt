@@ -1,6 +1,6 @@
 use Rattle.std.proofs.Common.{add-zero, ◌≡◌, ◌∙◌, sym, ap, arith, ℕ, ◌-◌, ◌+◌}
 use Rattle.std.proofs.Math.Facts.{Fits-of_lt}
-use Rattle.lc_glob.specs.Units.{in_ranges}
+use Rattle.lc_glob.specs.Tokens.{in_ranges}
 use Rattle.lc_glob.specs.Words.{word_of}
 use Rattle.lc_glob.proofs.Masks.{word_none, word_step, word_room}
 use Rattle.lc_glob.proofs.byte_set.word_at.Goals as goal

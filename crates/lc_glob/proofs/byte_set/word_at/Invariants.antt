@@ -1,5 +1,5 @@
 use Rattle.std.proofs.Common.{◌≡◌, ◌≤◌, ◌+◌, ◌-◌}
-use Rattle.lc_glob.specs.Units.{in_ranges}
+use Rattle.lc_glob.specs.Tokens.{in_ranges}
 use Rattle.lc_glob.specs.Words.{word_of}
 use Rattle.lc_glob.proofs.byte_set.word_at.Given as goal
 

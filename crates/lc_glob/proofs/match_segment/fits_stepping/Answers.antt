@@ -1,0 +1,50 @@
+use Rattle.std.proofs.Common.{ap, arith, length, sym, ◌∙◌}
+use Rattle.lc_glob.proofs.Stepping.{at_star, at_byte, at_back, covers_byte, shorter, paid_forward, paid_back, with_first}
+use Rattle.std.proofs.lemmas.Bool.{false≢true}
+use Rattle.lc_glob.proofs.match_segment.fits_stepping.Goals as goal
+
+pub steps-preserved-in-Star : goal.steps-preserved-in-Star
+steps-preserved-in-Star c =
+    let inv = c.steps.invariant in
+    let is = c.in-Star.ensures.is in
+    let len = shorter _ _ _ is.1 in
+    record {
+      same = at_star _ _ _ _ _ _ is.1 is.2 inv.covers inv.same;
+      covers = λ f. f;
+      here_within = omega (arith, len);
+      star_within = omega (arith, len);
+      left_within = omega arith;
+      cost = paid_forward _ _ _ _ _ _ _ _ inv.left_within (omega (arith, len)) c.in-Star.ensures.cost inv.cost;
+    }
+
+pub steps-preserved-in-Taken : goal.steps-preserved-in-Taken
+steps-preserved-in-Taken c =
+    let inv = c.steps.invariant in
+    let is = c.in-Taken.ensures.is in
+    let len = shorter _ _ _ is.2 in
+    let left_len = ap length is.3 in
+    record {
+      same = at_byte _ _ _ _ _ _ _ _ is.2 is.3 is.4 is.5 inv.same;
+      covers = covers_byte _ _ _ _ _ _ _ is.2 is.3 is.4 inv.covers;
+      here_within = omega (arith, len);
+      star_within = inv.star_within;
+      left_within = omega (arith, left_len);
+      cost = paid_forward _ _ _ _ _ _ _ _ (omega arith) (omega (arith, len)) c.in-Taken.ensures.cost inv.cost;
+    }
+
+pub steps-preserved : goal.steps-preserved
+steps-preserved c =
+    let inv = c.steps.invariant in
+    let same = rw c.in-Some.is at inv.same in
+    let within = rw c.in-Some.is at inv.star_within in
+    let cost = rw c.in-Some.is at inv.cost in
+    let first = with_first _ _ (λ e. false≢true (sym c.if-is_empty.false ∙ c.is_empty.ensures.1 e)) c.rest-left.ensures in
+    let len = ap length first.1 in
+    record {
+      same = at_back _ _ _ _ _ _ first.1 c.in-Stuck.ensures.is same;
+      covers = λ f. f;
+      here_within = within;
+      star_within = within;
+      left_within = omega arith;
+      cost = paid_back _ _ _ _ _ _ _ _ (omega (arith, len)) within c.in-Stuck.ensures.cost cost;
+    }

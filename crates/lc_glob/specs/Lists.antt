@@ -1,0 +1,7 @@
+-- What is said of any list.
+use Rattle.std.specs.Prelude.{Bool, true, false, List, [], ◌∷◌}
+
+-- whether a list is empty
+abbrev pub is_empty : {A : Type 0} → List A → Bool
+is_empty [] = true
+is_empty (x ∷ xs) = false

@@ -1,0 +1,97 @@
+//! What a path is: the names from a directory down to one of its entries, joined by slashes.
+
+ghost use Rattle.std.specs.Prelude.{◌≡◌, nat_lt, length, OnOk, OnErr};
+ghost use Rattle.lc_glob.specs.Path.{is_good_name, is_good_path, depth_of, path_in, max_path, max_depth};
+
+use crate::cut::cut_at_first;
+use std::alloc::AllocError;
+
+/// The most bytes of a path.
+pub const MAX_PATH: usize = 4_096;
+
+/// The most segments of a directory's path.
+pub const MAX_DEPTH: usize = 256;
+
+/// Whether a directory can have an entry of this name: it is neither empty nor `.` nor `..`, and has neither a slash nor a
+/// NUL byte.
+///
+/// ```
+/// assert!(rt; is_good_name(b"...") && !is_good_name(b".."));
+/// ```
+pub fn is_good_name(name: &[u8]) -> bool
+    ensures { result ≡ is_good_name name.now }
+{
+    !matches!(name, [] | [b'.'] | [b'.', b'.']) && !name.contains(&b'/') && !name.contains(&0)
+}
+
+/// Whether a tree can have an entry of this path: each of its segments is a good name. The empty path is none.
+///
+/// ```
+/// assert!(rt; is_good_path(b"a/b") && !is_good_path(b"a//b"));
+/// ```
+pub fn is_good_path(path: &[u8]) -> bool
+    ensures { result ≡ is_good_path path.now }
+{
+    let mut left = path;
+    'segments: loop {
+        let (name, others) = cut_at_first(b'/', left);
+        if !is_good_name(name) {
+            return false;
+        }
+        let Some(rest) = others else {
+            return true;
+        };
+        left = rest;
+    }
+}
+
+/// Whether a path has over `MAX_PATH` bytes.
+pub fn is_too_long(path: &[u8]) -> bool
+    ensures { result ≡ nat_lt max_path (length path.now) }
+{
+    path.len() > MAX_PATH
+}
+
+/// How many segments a path has. The empty path, which is that of the directory itself, has none.
+///
+/// ```
+/// assert!(rt; depth_of(b"") == 0 && depth_of(b"a/b") == 2);
+/// ```
+pub fn depth_of(path: &[u8]) -> usize
+    ensures { result ≡ depth_of path.now }
+{
+    if path.is_empty() {
+        return 0;
+    }
+    let mut depth = 1;
+    for b in path {
+        depth += usize::from(*b == b'/');
+    }
+    depth
+}
+
+/// Whether a directory's path has over `MAX_DEPTH` segments.
+pub fn is_too_deep(path: &[u8]) -> bool
+    ensures { result ≡ nat_lt max_depth (depth_of path.now) }
+{
+    depth_of(path) > MAX_DEPTH
+}
+
+/// Turns the path of a directory into that of its entry of this name. Where memory is refused the path stays as it was.
+///
+/// ```
+/// push_name(&mut path, b"main.c")?; // of `src`
+/// assert!(rt; path == b"src/main.c");
+/// ```
+pub fn push_name(path: &mut Vec<u8>, name: &[u8]) -> Result<(), AllocError>
+    ensures ok { OnOk result (path.new.items ≡ path_in path.old.items name.now) }
+    ensures err { OnErr result (path.new.items ≡ path.old.items) }
+{
+    let len = path.len();
+    path.reserve(name.len().saturating_add(1))?;
+    if len > 0 {
+        path.push(b'/')?;
+    }
+    path.extend_from_slice(name)?;
+    Ok(())
+}
