@@ -8,7 +8,8 @@ use Rattle.std.proofs.lemmas.List.{get_or_append_left, append-nil}
 use Rattle.std.proofs.lemmas.List.Folds.{list_any-append, list_any_at}
 use Rattle.std.proofs.lemmas.List.Sums.{position_or_len_is}
 use Rattle.std.proofs.lemmas.List.Splits.{join_with_byte-slice_split}
-use Rattle.lc.specs.Joined.{is_dashes, pieces_of, with_feed, rules_part, paths_part}
+use Rattle.lc_glob.specs.Pieces.{pieces_of}
+use Rattle.lc.specs.Joined.{is_dashes, with_feed, rules_part, paths_part}
 
 true_is_false : true ≡ false → ⊥
 true_is_false e = cc
@@ -42,7 +43,7 @@ abbrev paths_by : List (List ℕ) → List ℕ
 paths_by pieces = cond (list_any is_dashes pieces) (join_with_byte 10 (after_first is_dashes pieces)) []
 
 module _ (bytes : List ℕ) (front : List (List ℕ)) (left : List ℕ) (line : List ℕ) (more : List (List ℕ))
-    (whole : bytes ≡ flat_map with_feed front ++ left) (pieces : pieces_of bytes ≡ front ++ line ∷ more) (plain : list_any is_dashes front ≡ false) where
+    (whole : bytes ≡ flat_map with_feed front ++ left) (pieces : pieces_of 10 bytes ≡ front ++ line ∷ more) (plain : list_any is_dashes front ≡ false) where
   front_length : length bytes - length left ≡ length (flat_map with_feed front)
   front_length = omega (arith, ap length whole, length-append (flat_map with_feed front) left)
 
@@ -72,18 +73,18 @@ module _ (bytes : List ℕ) (front : List (List ℕ)) (left : List ℕ) (line : 
       ∙ (sym (append_assoc (flat_map with_feed front) (with_feed line) rest)
       ∙ ap (λ l. l ++ rest) (sym (flat_map-append with_feed front (line ∷ []) ∙ ap (λ l. flat_map with_feed front ++ l) (append-nil (with_feed line))))))
 
-  pub pieces_more : pieces_of bytes ≡ (front ++ line ∷ []) ++ more
+  pub pieces_more : pieces_of 10 bytes ≡ (front ++ line ∷ []) ++ more
   pieces_more = pieces ∙ sym (append_assoc front (line ∷ []) more)
 
 -- without a line of dashes all bytes are rules
-pub rules_part-all : (bytes : List ℕ) (pieces : List (List ℕ)) → pieces_of bytes ≡ pieces → list_any is_dashes pieces ≡ false → bytes ≡ rules_part bytes
+pub rules_part-all : (bytes : List ℕ) (pieces : List (List ℕ)) → pieces_of 10 bytes ≡ pieces → list_any is_dashes pieces ≡ false → bytes ≡ rules_part bytes
 rules_part-all bytes pieces are plain =
     sym (ap (rules_by bytes) are ∙ ap (λ b. cond b (flat_map with_feed (before_first is_dashes pieces)) bytes) plain)
 
-pub paths_part-none : (bytes : List ℕ) (pieces : List (List ℕ)) → pieces_of bytes ≡ pieces → list_any is_dashes pieces ≡ false → [] ≡ paths_part bytes
+pub paths_part-none : (bytes : List ℕ) (pieces : List (List ℕ)) → pieces_of 10 bytes ≡ pieces → list_any is_dashes pieces ≡ false → [] ≡ paths_part bytes
 paths_part-none bytes pieces are plain =
     sym (ap paths_by are ∙ ap (λ b. cond b (join_with_byte 10 (after_first is_dashes pieces)) []) plain)
 
 -- the paths after a line feed
-pub paths_joined : (rest : List ℕ) → rest ≡ join_with_byte 10 (pieces_of rest)
+pub paths_joined : (rest : List ℕ) → rest ≡ join_with_byte 10 (pieces_of 10 rest)
 paths_joined rest = sym (join_with_byte-slice_split 10 rest)

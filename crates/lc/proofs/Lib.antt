@@ -3,3 +3,4 @@ pub mod Taking
 pub mod Directories
 pub mod Dashes
 pub mod Plain
+pub mod Stopping

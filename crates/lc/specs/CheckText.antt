@@ -11,8 +11,8 @@ use Rattle.lc.specs.Lines.{lines_of}
 use Rattle.lc.specs.PathLines.{is_bad_path, is_dir_line, path_of}
 
 -- what the rules of one file say of a path, or of a directory
-abbrev pub verdict_by : List IgnoreRule → List ℕ → Bool → Verdict
-verdict_by rules path is_dir = verdict_of (at_depth 0 rules) path is_dir
+abbrev pub file_verdict : List IgnoreRule → List ℕ → Bool → Verdict
+file_verdict rules path is_dir = verdict_of (at_depth 0 rules) path is_dir
 
 abbrev pub is_ignored : Verdict → Bool
 is_ignored Ignored = true
@@ -20,18 +20,18 @@ is_ignored Included = false
 is_ignored NoRule = false
 
 -- at place k of the path stands a slash, and what stands before it is, as a directory, ignored
-abbrev pub is_below_at : (List ℕ → Bool → Verdict) → List ℕ → ℕ → Bool
-is_below_at verdict path k = nat_eq (slice_index path k) slash && is_ignored (verdict (take k path) true)
+abbrev pub is_ignored_parent : (List ℕ → Bool → Verdict) → List ℕ → ℕ → Bool
+is_ignored_parent verdict path k = nat_eq (slice_index path k) slash && is_ignored (verdict (take k path) true)
 
 -- some directory above the path is ignored (gitignore(5), PATTERN FORMAT: a file can't be included again if a
 -- parent directory of it is excluded)
-abbrev pub is_below : (List ℕ → Bool → Verdict) → List ℕ → Bool
-is_below verdict path = list_any (is_below_at verdict path) (range_with_len 0 (length path))
+abbrev pub has_ignored_parent : (List ℕ → Bool → Verdict) → List ℕ → Bool
+has_ignored_parent verdict path = list_any (is_ignored_parent verdict path) (range_with_len 0 (length path))
 
 -- no directory that ends before place n is ignored
 pub record IsClearTo (verdict : List ℕ → Bool → Verdict) (path : List ℕ) (n : ℕ) : Type 0 where
   pub within : n ≤ length path
-  pub clear : (k : ℕ) → k < n → is_below_at verdict path k ≡ false
+  pub clear : (k : ℕ) → k < n → is_ignored_parent verdict path k ≡ false
 
 abbrev pub verdict_word : Verdict → List ℕ
 verdict_word Ignored = codes "ignored"
@@ -42,7 +42,7 @@ verdict_word NoRule = codes "none"
 abbrev pub path_word : (List ℕ → Bool → Verdict) → List ℕ → Bool → List ℕ
 path_word verdict path is_dir =
     cond (is_bad_path path) (codes "bad")
-    (cond (is_below verdict path) (codes "below")
+    (cond (has_ignored_parent verdict path) (codes "below")
     (verdict_word (verdict path is_dir)))
 
 -- the word, a tab, the line as it came, a line feed

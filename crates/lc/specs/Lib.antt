@@ -4,5 +4,5 @@ pub mod PathLines
 pub mod CheckText
 pub mod Joined
 pub mod Writes
-pub mod Reads
-pub mod Causes
+pub mod Check
+pub mod CheckFaults

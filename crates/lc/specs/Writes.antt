@@ -2,10 +2,8 @@
 use Rattle.std.specs.Prelude.{◌≡◌, ℕ, ◌<◌, ◌≤◌, ◌⊎◌, List, [], ◌∷◌, ◌++◌, length, drop, Result, Ok, Err, Vec}
 use Rattle.std.specs.Global.{Global}
 use Rattle.lc_census.specs.declared.source.Failed.{Failed}
-
--- what a write may answer: the sink before, the bytes offered, the answer, the sink afterwards
-abbrev pub MayTake : Type 0 → Type 1
-MayTake S = S → List ℕ → Result ℕ Failed → S → Type 0
+use Rattle.lc.specs.declared.print.PrintFault.{PrintFault}
+use Rattle.lc.specs.declared.print.PrintFault.TheVariants.{Write, Memory}
 
 -- a vector takes all bytes, or none where its growth is refused
 abbrev pub AppendsAll : Vec ℕ Global → List ℕ → Result ℕ Failed → Vec ℕ Global → Type 0
@@ -31,3 +29,9 @@ abbrev pub StopsWriting : {S : Type 0} → (S → List ℕ → Result ℕ Failed
 StopsWriting {S} may_take old text new =
     (counts : List ℕ) × (mid : S) × (rest : List ℕ) × (0 < length rest)
     × TakesCounts may_take old text counts mid rest × TakesNothing may_take mid rest new
+
+-- what a call answers that writes a text: it was written whole; a write stopped it; nothing was written
+abbrev pub AnswersPrint : {S : Type 0} → (S → List ℕ → Result ℕ Failed → S → Type 0) → S → List ℕ → Result (Unit {0}) PrintFault → S → Type 0
+AnswersPrint may_take old text (Ok _) new = Writes may_take old text new
+AnswersPrint may_take old text (Err Write) new = StopsWriting may_take old text new
+AnswersPrint may_take old text (Err Memory) new = new ≡ old

@@ -1,9 +1,7 @@
 //! Why the program gives up, and what it says then on standard error.
 
-ghost use Rattle.std.specs.Prelude.{◌≡◌};
-ghost use Rattle.lc.specs.Causes.{cause_of, line_of};
-
 use crate::check::CheckFault;
+use crate::rules_file::RulesFileFault;
 
 /// Why the program gives up. Each is one line on standard error and the status 3.
 #[derive(Debug, Clone, Copy, PartialEq, Eq)]
@@ -18,9 +16,7 @@ pub(crate) enum Cause {
 
 impl Cause {
     /// The line, with its line feed.
-    pub(crate) fn line(self) -> &'static str
-        ensures { result.now ≡ line_of self }
-    {
+    pub(crate) fn line(self) -> &'static str {
         match self {
             Cause::Memory => "lc: out of memory\n",
             Cause::UnreadRules => "lc: cannot read rules\n",
@@ -32,9 +28,17 @@ impl Cause {
     }
 }
 
-impl From<CheckFault> for Cause {
-    ghost from_gives = { λ fault cause. cause ≡ cause_of fault };
+impl From<RulesFileFault> for Cause {
+    fn from(fault: RulesFileFault) -> Cause {
+        match fault {
+            RulesFileFault::Unread => Cause::UnreadRules,
+            RulesFileFault::TooLong => Cause::RulesTooLong,
+            RulesFileFault::Memory => Cause::Memory,
+        }
+    }
+}
 
+impl From<CheckFault> for Cause {
     fn from(fault: CheckFault) -> Cause {
         match fault {
             CheckFault::Read => Cause::UnreadInput,

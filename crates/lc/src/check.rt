@@ -1,22 +1,29 @@
-//! The check of paths: read whole, then answered, then written.
+//! The check of paths: its input is read whole, then answered, then written.
 
-ghost use Rattle.std.specs.Prelude.{◌≡◌, ◌≢◌, ◌⊎◌, ◌≤◌, ◌<◌, length, vec_len, OnOk, IfOk, IfErr};
-ghost use Rattle.lc_rules.specs.IgnoreRules.{rules_of};
-ghost use Rattle.lc.specs.CheckText.{verdict_by, check_text_of};
-ghost use Rattle.lc.specs.Joined.{rules_part, paths_part};
-ghost use Rattle.lc.specs.Reads.{ReadsWhole, StopsReading, ReadsPast, ReadsInput};
-ghost use Rattle.lc.specs.Writes.{Writes, StopsWriting};
+ghost use Rattle.std.specs.Prelude.{◌≡◌, [], IfOk};
+ghost use Rattle.lc.specs.Check.{AnswersCheck, AnswersInput, max_input};
+ghost use Rattle.lc.specs.CheckFaults.{input_fault, rules_fault, print_fault};
+ghost use Rattle.lc.specs.CheckText.{file_verdict, check_text_of};
+ghost use Rattle.lc.specs.declared.check.CheckFault.TheVariants.{Memory};
+ghost use Rattle.lc.specs.Joined.{rules_part, joined_text};
 
-use crate::check_text::check_text;
-use crate::joined::split_joined;
-use crate::sink::{Sink, write_whole};
+pub(crate) mod checker;
+pub(crate) mod joined;
+pub(crate) mod lines;
+pub(crate) mod path_line;
+pub(crate) mod text;
+
+use crate::print::{PrintFault, print};
+use crate::sink::Sink;
+use joined::split_joined;
 use lc_census::{Source, WholeFault, new_buffer, read_whole};
-use lc_rules::{IgnoreFile, MAX_RULE_BYTES, RuleFault};
-use std::alloc::Global;
+use lc_rules::{IgnoreFile, RuleFault};
+use std::alloc::{AllocError, Global};
+use text::check_text;
 use thiserror::Error;
 
 /// The most bytes of an input: 16 MiB.
-pub const MOST_INPUT: usize = 16_777_216;
+pub const MAX_INPUT: usize = 16_777_216;
 
 /// Why a check was not written, or not whole.
 #[derive(Debug, Clone, Copy, PartialEq, Eq, Error)]
@@ -38,42 +45,45 @@ pub enum CheckFault {
     Write,
 }
 
-fn read_input<S: Source>(alloc: Global, input: &mut S) -> Result<Vec<u8>, CheckFault>
-    ensures ok { IfOk result (λ bytes. ReadsWhole S.may_give input.old bytes.items input.new) }
-    ensures within { IfOk result (λ bytes. vec_len bytes ≤ MOST_INPUT) }
-    ensures read { result ≡ Err CheckFault.Read → StopsReading S.may_give input.old input.new }
-    ensures long { result ≡ Err CheckFault.InputTooLong → ReadsPast S.may_give input.old MOST_INPUT input.new }
-    ensures others { (result ≢ Err CheckFault.RulesTooLong) × (result ≢ Err CheckFault.Write) }
-{
-    let mut bytes = Vec::new(alloc);
-    let Ok(mut buffer) = new_buffer(alloc) else {
-        return Err(CheckFault::Memory);
-    };
-    match read_whole(&mut buffer, &mut bytes, input, MOST_INPUT) {
-        Ok(()) => Ok(bytes),
-        Err(WholeFault::Read) => Err(CheckFault::Read),
-        Err(WholeFault::TooLong) => Err(CheckFault::InputTooLong),
-        Err(WholeFault::Memory) => Err(CheckFault::Memory),
+impl From<AllocError> for CheckFault {
+    ghost from_gives = { λ _ fault. fault ≡ Memory };
+
+    fn from(_refused: AllocError) -> CheckFault {
+        CheckFault::Memory
     }
 }
 
-/// Makes the text of a check, and writes it.
-fn write_checked<O: Sink>(
-    alloc: Global,
-    rules: &IgnoreFile,
-    paths: &[u8],
-    out: &mut O,
-) -> Result<(), CheckFault>
-    ensures ok { OnOk result (Writes O.may_take out.old (check_text_of (verdict_by rules.now) paths.now) out.new) }
-    ensures write { result ≡ Err CheckFault.Write → StopsWriting O.may_take out.old (check_text_of (verdict_by rules.now) paths.now) out.new }
-    ensures others { IfErr result (λ fault. (fault ≡ CheckFault.Write) ⊎ ((fault ≡ CheckFault.Memory) × (out.new ≡ out.old))) }
-{
-    let Ok(text) = check_text(alloc, rules, paths) else {
-        return Err(CheckFault::Memory);
-    };
-    match write_whole(out, &text) {
-        Ok(()) => Ok(()),
-        Err(_) => Err(CheckFault::Write),
+impl From<WholeFault> for CheckFault {
+    ghost from_gives = { λ whole fault. fault ≡ input_fault whole };
+
+    fn from(fault: WholeFault) -> CheckFault {
+        match fault {
+            WholeFault::Read => CheckFault::Read,
+            WholeFault::TooLong => CheckFault::InputTooLong,
+            WholeFault::Memory => CheckFault::Memory,
+        }
+    }
+}
+
+impl From<RuleFault> for CheckFault {
+    ghost from_gives = { λ rule fault. fault ≡ rules_fault rule };
+
+    fn from(fault: RuleFault) -> CheckFault {
+        match fault {
+            RuleFault::TooLong => CheckFault::RulesTooLong,
+            RuleFault::Memory => CheckFault::Memory,
+        }
+    }
+}
+
+impl From<PrintFault> for CheckFault {
+    ghost from_gives = { λ print fault. fault ≡ print_fault print };
+
+    fn from(fault: PrintFault) -> CheckFault {
+        match fault {
+            PrintFault::Write => CheckFault::Write,
+            PrintFault::Memory => CheckFault::Memory,
+        }
     }
 }
 
@@ -86,29 +96,14 @@ pub fn check<S: Source, O: Sink>(
     input: &mut S,
     out: &mut O,
 ) -> Result<(), CheckFault>
-    ensures ok { OnOk result (ReadsInput S.may_give input.old input.new (λ paths. Writes O.may_take out.old (check_text_of (verdict_by rules.now) paths) out.new)) }
-
-    ensures read { result ≡ Err CheckFault.Read → StopsReading S.may_give input.old input.new }
-    ensures long { result ≡ Err CheckFault.InputTooLong → ReadsPast S.may_give input.old MOST_INPUT input.new }
-    ensures no_rules { result ≢ Err CheckFault.RulesTooLong }
-    ensures write { result ≡ Err CheckFault.Write → ReadsInput S.may_give input.old input.new (λ paths. StopsWriting O.may_take out.old (check_text_of (verdict_by rules.now) paths) out.new) }
-    ensures nothing { IfErr result (λ fault. fault ≢ CheckFault.Write → out.new ≡ out.old) }
+    ensures { AnswersCheck S.may_give O.may_take (λ _. []) (check_text_of (file_verdict rules.now)) input.old out.old result input.new out.new }
 {
-    let paths = read_input(alloc, input)?;
-    write_checked(alloc, rules, &paths, out)
-}
-
-fn read_rules(alloc: Global, bytes: &[u8]) -> Result<IgnoreFile, CheckFault>
-    ensures ok { IfOk result (λ rules. rules ≡ rules_of bytes.now) }
-    ensures within { OnOk result (length bytes.now ≤ MAX_RULE_BYTES) }
-    ensures long { result ≡ Err CheckFault.RulesTooLong → MAX_RULE_BYTES < length bytes.now }
-    ensures others { (result ≢ Err CheckFault.Read) × (result ≢ Err CheckFault.InputTooLong) × (result ≢ Err CheckFault.Write) }
-{
-    match IgnoreFile::read(alloc, bytes) {
-        Ok(rules) => Ok(rules),
-        Err(RuleFault::TooLong) => Err(CheckFault::RulesTooLong),
-        Err(RuleFault::Memory) => Err(CheckFault::Memory),
-    }
+    let mut buffer = new_buffer(alloc)?;
+    let mut paths = Vec::new(alloc);
+    read_whole(&mut buffer, &mut paths, input, MAX_INPUT)?;
+    let text = check_text(alloc, rules, &paths)?;
+    print(out, &text)?;
+    Ok(())
 }
 
 /// Reads rules, a line `--` and paths from one input, and writes what the rules say of each path ([`check_text`]).
@@ -119,16 +114,14 @@ pub fn check_joined<S: Source, O: Sink>(
     input: &mut S,
     out: &mut O,
 ) -> Result<(), CheckFault>
-    ensures ok { OnOk result (ReadsInput S.may_give input.old input.new (λ bytes. (length (rules_part bytes) ≤ MAX_RULE_BYTES) × Writes O.may_take out.old (check_text_of (verdict_by (rules_of (rules_part bytes))) (paths_part bytes)) out.new)) }
-
-    ensures read { result ≡ Err CheckFault.Read → StopsReading S.may_give input.old input.new }
-    ensures long { result ≡ Err CheckFault.InputTooLong → ReadsPast S.may_give input.old MOST_INPUT input.new }
-    ensures long_rules { result ≡ Err CheckFault.RulesTooLong → ReadsInput S.may_give input.old input.new (λ bytes. MAX_RULE_BYTES < length (rules_part bytes)) }
-    ensures write { result ≡ Err CheckFault.Write → ReadsInput S.may_give input.old input.new (λ bytes. (length (rules_part bytes) ≤ MAX_RULE_BYTES) × StopsWriting O.may_take out.old (check_text_of (verdict_by (rules_of (rules_part bytes))) (paths_part bytes)) out.new) }
-    ensures nothing { IfErr result (λ fault. fault ≢ CheckFault.Write → out.new ≡ out.old) }
+    ensures { AnswersCheck S.may_give O.may_take rules_part joined_text input.old out.old result input.new out.new }
 {
-    let bytes = read_input(alloc, input)?;
+    let mut buffer = new_buffer(alloc)?;
+    let mut bytes = Vec::new(alloc);
+    read_whole(&mut buffer, &mut bytes, input, MAX_INPUT)?;
     let (rules, paths) = split_joined(&bytes);
-    let rules = read_rules(alloc, rules)?;
-    write_checked(alloc, &rules, paths, out)
+    let rules = IgnoreFile::read(alloc, rules)?;
+    let text = check_text(alloc, &rules, paths)?;
+    print(out, &text)?;
+    Ok(())
 }

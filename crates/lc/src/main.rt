@@ -1,16 +1,14 @@
 //! The program `lc`: it says which paths the rules of an ignore file leave out.
 #![tactic(auto)]
 
-mod above;
+mod arguments;
 mod cause;
 mod check;
-mod check_text;
 mod escape;
-mod joined;
 mod laws;
-mod lines;
-mod path_line;
+mod print;
 mod program;
+mod rules_file;
 mod sink;
 #[cfg(test)]
 mod tests;

@@ -1,9 +1,9 @@
 //! Where text is written.
 
-ghost use Rattle.std.specs.Prelude.{◌≡◌, ℕ, ◌≤◌, length, IfOk, OnOk, OnErr, List, Result};
+ghost use Rattle.std.specs.Prelude.{ℕ, ◌≤◌, length, IfOk, List, Result};
 ghost use Rattle.std.specs.Io.KnownBytes.{WriteAppends};
 ghost use Rattle.lc_census.specs.declared.source.Failed.{Failed};
-ghost use Rattle.lc.specs.Writes.{AppendsAll, Writes, StopsWriting};
+ghost use Rattle.lc.specs.Writes.{AppendsAll};
 
 use lc_census::Failed;
 use std::io;
@@ -49,20 +49,4 @@ impl<W: io::Write> Sink for StdSink<W> {
             Err(_) => Err(Failed),
         }
     }
-}
-
-/// Writes the whole text. A write that takes nothing of a rest that is not empty is a failure too.
-pub(crate) fn write_whole<O: Sink>(out: &mut O, text: &[u8]) -> Result<(), Failed>
-    ensures ok { OnOk result (Writes O.may_take out.old text.now out.new) }
-    ensures failed { OnErr result (StopsWriting O.may_take out.old text.now out.new) }
-{
-    let mut rest = text;
-    while !rest.is_empty() {
-        let count = out.write(rest)?;
-        if count == 0 {
-            return Err(Failed);
-        }
-        rest = &rest[count..];
-    }
-    Ok(())
 }

@@ -12,12 +12,12 @@ abbrev pub is_blank_text : List ℕ → Bool
 is_blank_text text = list_all is_space text
 
 -- the lines, and one more where a rest stands after the last end
-abbrev pub lines_of : Cutting → ℕ
-lines_of cutting = length cutting.lines + one_if (not (is_empty cutting.rest))
+abbrev pub line_count : Cutting → ℕ
+line_count cutting = length cutting.lines + one_if (not (is_empty cutting.rest))
 
 -- those of them that are blank
-abbrev pub blank_of : Cutting → ℕ
-blank_of cutting =
+abbrev pub blank_count : Cutting → ℕ
+blank_count cutting =
     count_by (λ line. is_blank_text line.text) cutting.lines
     + one_if (not (is_empty cutting.rest) && is_blank_text cutting.rest)
 
@@ -40,8 +40,8 @@ eol_of bytes lines =
 
 abbrev pub count_of : List ℕ → Cutting → Count
 count_of bytes cutting = record {
-  lines = lines_of cutting;
-  blank = blank_of cutting;
+  lines = line_count cutting;
+  blank = blank_count cutting;
   bytes = length bytes;
   eol = eol_of bytes cutting.lines;
 }

@@ -4,7 +4,7 @@ use Rattle.lc_census.specs.declared.scan.Scan.{Scan}
 use Rattle.lc_census.specs.Scan.{start, after_all}
 use Rattle.lc_census.specs.Bytes.{is_end, one_if}
 
-pub record Fed : Type 0 where
+pub record CensusModel : Type 0 where
   pub scan : Scan
   pub bytes : ℕ
   pub has_rest : Bool
@@ -15,7 +15,7 @@ rest_after b [] = b
 rest_after b (x ∷ xs) = rest_after (not (is_end x)) xs
 
 -- the bytes lead to what is kept
-abbrev pub LeadTo : List ℕ → Fed → Type 0
+abbrev pub LeadTo : List ℕ → CensusModel → Type 0
 LeadTo bytes fed =
     fed ≡ record { scan = after_all start bytes; bytes = length bytes; has_rest = rest_after false bytes }
 

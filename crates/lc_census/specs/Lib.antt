@@ -4,6 +4,7 @@ pub mod Counting
 pub mod Cutting
 pub mod Fed
 pub mod Lanes
+pub mod Limits
 pub mod Reads
 pub mod Scan
 pub mod StdReads

@@ -28,9 +28,9 @@ pub struct Census {
 }
 
 impl Model for Census {
-    ghost use Rattle.lc_census.specs.Fed.{Fed, IsSmall};
+    ghost use Rattle.lc_census.specs.Fed.{CensusModel, IsSmall};
 
-    ghost Value = { Fed };
+    ghost Value = { CensusModel };
 
     ghost view = { λ c. record { scan = c.scan; bytes = c.bytes; has_rest = c.has_rest } };
 

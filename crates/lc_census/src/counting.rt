@@ -1,6 +1,8 @@
 //! The census of what a reader gives.
 ghost use Rattle.std.specs.Prelude.{◌≡◌, ◌≢◌, ◌<◌, ◌≤◌, length, vec_len, IfOk};
-ghost use Rattle.lc_census.specs.Counting.{Counts};
+ghost use Rattle.lc_census.specs.Counting.{AnswersCount};
+ghost use Rattle.lc_census.specs.declared.counting.CensusFault.TheVariants.{Memory};
+ghost use Rattle.lc_census.specs.Limits.{buffer_len, max_turns};
 
 use crate::census::Census;
 use crate::source::Source;
@@ -18,20 +20,28 @@ pub enum CensusFault {
     Memory,
 }
 
+impl From<AllocError> for CensusFault {
+    ghost from_gives = { λ _ fault. fault ≡ Memory };
+
+    fn from(_refused: AllocError) -> CensusFault {
+        CensusFault::Memory
+    }
+}
+
 /// The length in bytes of the buffer of `count` and `count_within`, and the greatest that `count_in` takes.
 pub const BUFFER_LEN: usize = 65_536;
 
 /// The turns of `count`, and the most that `count_within` and `count_in` take: 2^32.
-pub const MOST_TURNS: u64 = 4_294_967_296;
+pub const MAX_TURNS: u64 = 4_294_967_296;
 
 /// Counts what the reader gives up to its end, in at most `turns` reads into the caller's buffer.
 ///
 /// A worker lends one buffer for all its files. It takes no memory, so the fault is never `Memory`.
 ///
 /// ```
-/// let mut buffer = vec![in alloc; 0u8; BUFFER_LEN]?;
+/// let mut buffer = new_buffer(alloc)?;
 /// let mut reader = StdSource(fs::open(rt, "notes.txt")?);
-/// let count = count_in(&mut buffer, &mut reader, MOST_TURNS);
+/// let count = count_in(&mut buffer, &mut reader, MAX_TURNS);
 /// ```
 pub fn count_in<S: Source>(
     buffer: &mut [u8],
@@ -39,9 +49,9 @@ pub fn count_in<S: Source>(
     turns: u64,
 ) -> Result<Count, CensusFault>
     requires some { 0 < length buffer.old }
-    requires room { length buffer.old ≤ BUFFER_LEN }
-    requires turns { turns ≤ MOST_TURNS }
-    ensures counts { Counts S.may_give (length buffer.old) turns reader.old result reader.new }
+    requires room { length buffer.old ≤ buffer_len }
+    requires turns { turns ≤ max_turns }
+    ensures counts { AnswersCount S.may_give (length buffer.old) turns reader.old result reader.new }
     ensures no_memory { result ≢ Err CensusFault.Memory }
 {
     let mut census = Census::new();
@@ -70,12 +80,10 @@ pub fn count_within<S: Source>(
     reader: &mut S,
     turns: u64,
 ) -> Result<Count, CensusFault>
-    requires { turns ≤ MOST_TURNS }
-    ensures { Counts S.may_give BUFFER_LEN turns reader.old result reader.new }
+    requires { turns ≤ max_turns }
+    ensures { AnswersCount S.may_give buffer_len turns reader.old result reader.new }
 {
-    let Ok(mut buffer) = new_buffer(alloc) else {
-        return Err(CensusFault::Memory);
-    };
+    let mut buffer = new_buffer(alloc)?;
     count_in(&mut buffer, reader, turns)
 }
 
@@ -86,14 +94,14 @@ pub fn count_within<S: Source>(
 /// let count = count(rt.alloc(), &mut reader); // 3 lines, 1 blank, 8 bytes, `Eol::Lf`
 /// ```
 pub fn count<S: Source>(alloc: Global, reader: &mut S) -> Result<Count, CensusFault>
-    ensures { Counts S.may_give BUFFER_LEN MOST_TURNS reader.old result reader.new }
+    ensures { AnswersCount S.may_give buffer_len max_turns reader.old result reader.new }
 {
-    count_within(alloc, reader, MOST_TURNS)
+    count_within(alloc, reader, MAX_TURNS)
 }
 
 /// A buffer of 65,536 bytes for reads.
 pub fn new_buffer(alloc: Global) -> Result<Vec<u8>, AllocError>
-    ensures { IfOk result (λ buffer. vec_len buffer ≡ BUFFER_LEN) }
+    ensures { IfOk result (λ buffer. vec_len buffer ≡ buffer_len) }
 {
     Ok(vec![in alloc; 0u8; BUFFER_LEN]?)
 }

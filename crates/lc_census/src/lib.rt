@@ -22,11 +22,9 @@ mod totals;
 mod whole;
 
 pub use census::Census;
-pub use counting::{
-    BUFFER_LEN, CensusFault, MOST_TURNS, count, count_in, count_within, new_buffer,
-};
+pub use counting::{BUFFER_LEN, CensusFault, MAX_TURNS, count, count_in, count_within, new_buffer};
 pub use lanes::scan_lanes;
-pub use laws::{a_slice_gives_its_bytes, bytes_have_one_cutting};
+pub use laws::{a_slice_gives_its_bytes, bytes_have_one_cutting, the_limits_are_these_numbers};
 pub use plain::scan_plain;
 pub use scan::Scan;
 pub use source::{Failed, Source};

@@ -1,7 +1,7 @@
 //! Rules and paths, and the text of their check.
 
+use crate::check::text::check_text;
 use crate::check::{CheckFault, check_joined};
-use crate::check_text::check_text;
 use crate::escape::escape;
 use lc_rules::IgnoreFile;
 use std::alloc::{AllocError, Global};

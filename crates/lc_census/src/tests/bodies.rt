@@ -6,7 +6,7 @@ const LETTERS: [u8; 6] = [b'\n', b'\r', 0, b' ', b'\t', b'x'];
 /// How many words of six letters there are.
 const WORDS: u32 = 46_656;
 
-fn word_of(number: u32) -> [u8; 6] {
+fn letters_of(number: u32) -> [u8; 6] {
     let mut word = [b'x'; 6];
     let mut left = number;
     for letter in &mut word {
@@ -22,7 +22,7 @@ fn word_of(number: u32) -> [u8; 6] {
 fn both_bodies_agree_at_every_place_of_a_vector(rt: HostRuntime) {
     let mut bytes = [b'x'; 128];
     for number in 0..WORDS {
-        let word = word_of(number);
+        let word = letters_of(number);
         let mut parted = [b'x'; 8];
         parted[1..7].copy_from_slice(&word);
         let inside = scan_plain(Scan::new(), &parted);

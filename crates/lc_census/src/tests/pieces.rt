@@ -64,6 +64,8 @@ fn counts_however_the_bytes_are_cut(rt: HostRuntime) {
     assert_census(&rt, "LF and then CR", b"\n\r", 2, 2, Eol::Mixed);
     assert_census(&rt, "a NUL beside an end", b"\0\n", 1, 0, Eol::Nul);
     assert_census(&rt, "a rest after an end", b"a\nb", 2, 0, Eol::Lf);
+    assert_census(&rt, "an empty line", b"one\n\ntwo", 3, 1, Eol::Lf);
+    assert_census(&rt, "two lines", b"one\r\ntwo\r\n", 2, 0, Eol::CrLf);
     assert_census(&rt, "a form feed is no space", b"\x0c\n", 1, 0, Eol::Lf);
     assert_census(
         &rt,

@@ -1,5 +1,5 @@
 use crate::tests::byte_by_byte::{ByteByByte, Last};
-use crate::{BUFFER_LEN, CensusFault, Count, Eol, StdSource, count, count_in, count_within};
+use crate::{CensusFault, Count, Eol, StdSource, count, count_in, count_within};
 use std::alloc::AllocError;
 use std::io::{Error, ErrorKind, Read, Result as IoResult};
 use std::test::Fail;
@@ -37,7 +37,7 @@ fn reads_up_to_the_end_within_its_turns(rt: HostRuntime) -> Result<(), Fail> {
         let found = count_within(rt.alloc(), &mut reader, turns);
         assert_eq!(&rt; answered(found, reader.reads)?, want, "{turns} turns");
         assert_eq!(&rt; reader.reads, reads, "{turns} turns");
-        assert!(&rt; turns == 0 || reader.longest == BUFFER_LEN);
+        assert!(&rt; turns == 0 || reader.longest == 65_536);
     }
     Ok(())
 }
@@ -51,24 +51,43 @@ fn an_endless_reader_is_read_1000_times(rt: HostRuntime) -> Result<(), Fail> {
     Ok(())
 }
 
+// The reads after the one that fails would meet the end.
 #[test]
-fn a_failed_read_is_the_last(rt: HostRuntime) {
+fn a_failed_read_is_the_last(rt: HostRuntime) -> Result<(), Fail> {
     for (name, bytes, reads) in [
-        ("at once", b"".as_slice(), 1),
+        ("the first", b"".as_slice(), 1),
+        ("the second", b"a".as_slice(), 2),
         ("in mid-stream", b"a\nb".as_slice(), 4),
         ("after a CR", b"a\r".as_slice(), 3),
     ] {
         let mut buffer = [0u8; 16];
         let mut reader = ByteByByte::new(bytes, Last::Failure);
+        let found = count_in(&mut buffer, &mut reader, 1_000);
+        assert_eq!(&rt; found, Err(CensusFault::Read), "{name}");
+        assert_eq!(&rt; reader.reads, reads, "{name}");
+        let mut reader = ByteByByte::new(bytes, Last::Failure);
+        let found = count(rt.alloc(), &mut reader);
         assert_eq!(&rt;
-            count_in(&mut buffer, &mut reader, 1_000),
+            answered(found, reader.reads)?,
             Err(CensusFault::Read),
             "{name}"
         );
         assert_eq!(&rt; reader.reads, reads, "{name}");
-        let again = count_in(&mut buffer, &mut reader, 1_000);
-        assert_eq!(&rt; again, Ok(count_of(0, 0, 0, Eol::NoEnd)), "{name}");
     }
+    Ok(())
+}
+
+#[test]
+fn the_end_of_a_slice_takes_a_read(rt: HostRuntime) -> Result<(), Fail> {
+    for (turns, want) in [
+        (1, Err(CensusFault::Endless)),
+        (2, Ok(count_of(1, 0, 2, Eol::NoEnd))),
+    ] {
+        let mut reader = b"ab".as_slice();
+        let found = count_within(rt.alloc(), &mut reader, turns);
+        assert_eq!(&rt; answered(found, 0)?, want, "{turns} turns");
+    }
+    Ok(())
 }
 
 #[test]
@@ -101,12 +120,14 @@ impl Read for Interrupted {
 }
 
 #[test]
-fn an_interrupted_read_is_not_tried_again(rt: HostRuntime) {
+fn each_read_is_one_of_the_reader_of_std(rt: HostRuntime) {
     let mut buffer = [0u8; 16];
     let mut reader = StdSource(Interrupted { reads: 0 });
-    assert_eq!(&rt;
-        count_in(&mut buffer, &mut reader, 1_000),
-        Err(CensusFault::Read)
-    );
-    assert_eq!(&rt; reader.0.reads, 1);
+    for (want, reads) in [
+        (Err(CensusFault::Read), 1),
+        (Ok(count_of(0, 0, 0, Eol::NoEnd)), 2),
+    ] {
+        assert_eq!(&rt; count_in(&mut buffer, &mut reader, 1_000), want);
+        assert_eq!(&rt; reader.0.reads, reads);
+    }
 }

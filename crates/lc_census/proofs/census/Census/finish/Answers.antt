@@ -1,7 +1,7 @@
 use Rattle.std.proofs.Common.{◌≡◌, ◌+◌, ◌-◌, Bool, true, false, ◌&&◌, refl, ap, ◌∙◌}
 use mir.Val.{bool_byte}
 use Rattle.lc_census.specs.Bytes.{one_if}
-use Rattle.lc_census.specs.Fed.{Fed}
+use Rattle.lc_census.specs.Fed.{CensusModel}
 use Rattle.lc_census.specs.declared.totals.Count.{Count}
 use Rattle.lc_census.proofs.OneCutting.{cut, cut_is}
 use Rattle.lc_census.proofs.Tells.{told, scan_tells}
@@ -11,7 +11,7 @@ byte_is : (b : Bool) → bool_byte b ≡ one_if b
 byte_is true = refl
 byte_is false = refl
 
-abbrev told_by : Fed → Count
+abbrev told_by : CensusModel → Count
 told_by fed = told fed.scan fed.has_rest fed.bytes
 
 pub returns : goal.returns

@@ -1,0 +1,27 @@
+-- A check that stops at a fault of its input or of its output.
+use Rattle.std.proofs.Common.{ℕ, List, Result, Err, refl}
+use Rattle.lc_census.specs.declared.source.Failed.{Failed}
+use Rattle.lc_census.specs.declared.whole.WholeFault.{WholeFault}
+use Rattle.lc_census.specs.declared.whole.WholeFault.TheVariants as whole
+use Rattle.lc_census.specs.Reads.{Answer}
+use Rattle.lc.specs.declared.print.PrintFault.{PrintFault}
+use Rattle.lc.specs.declared.print.PrintFault.TheVariants as print
+use Rattle.lc.specs.Check.{AnswersInput, HasRead, AnswersCheck}
+use Rattle.lc.specs.CheckFaults.{input_fault, print_fault}
+use Rattle.lc.specs.Writes.{AnswersPrint}
+
+module _ {I O : Type 0} (may_give : I → ℕ → Answer → I → Type 0) (may_take : O → List ℕ → Result ℕ Failed → O → Type 0)
+    (rules_in text_of : List ℕ → List ℕ) where
+  -- the input was not read whole
+  pub input_stops : (fault : WholeFault) (input read : I) (out : O) (bytes : List ℕ) → AnswersInput may_give input (Err fault) bytes read
+      → AnswersCheck may_give may_take rules_in text_of input out (Err (input_fault fault)) read out
+  input_stops whole.Read input read out bytes stopped = ((bytes, stopped), refl)
+  input_stops whole.TooLong input read out bytes stopped = ((bytes, stopped), refl)
+  input_stops whole.Memory input read out bytes stopped = refl
+
+  -- the text was not written whole
+  pub output_stops : (fault : PrintFault) (input read : I) (out wrote : O) (bytes : List ℕ) → HasRead may_give may_take rules_in text_of input bytes read
+      → AnswersPrint may_take out (text_of bytes) (Err fault) wrote
+      → AnswersCheck may_give may_take rules_in text_of input out (Err (print_fault fault)) read wrote
+  output_stops print.Write input read out wrote bytes has_read stopped = (bytes, has_read, stopped)
+  output_stops print.Memory input read out wrote bytes has_read stopped = stopped
