@@ -3,7 +3,7 @@ ghost use Rattle.std.specs.Prelude.{◌≡◌, ◌≤◌, ◌<◌, ℕ, Some, No
 ghost use Rattle.lc_board.specs.Pass.{holding};
 
 use crate::answers::{CloseFault, Ended};
-use crate::limits::{MOST_NUMBERS, MOST_WORKERS};
+use crate::limits::{MAX_CAPACITY, MAX_WORKERS};
 use crate::locked::Locked;
 use crate::shared::{Shared, Token};
 use crate::tests::script::{Call, ROOT, Told};
@@ -90,8 +90,8 @@ fn fill<B: Shared<u32, u32> + Sync + Drop, R: Threads + Wait + Abort + Sync>(
     capacity: u32,
     workers: u32,
 ) -> Result<(), AllocError>
-    requires capacity { (1 ≤ capacity) × (capacity ≤ MOST_NUMBERS) }
-    requires workers { (1 ≤ workers) × (workers ≤ MOST_WORKERS) }
+    requires capacity { (1 ≤ capacity) × (capacity ≤ MAX_CAPACITY) }
+    requires workers { (1 ≤ workers) × (workers ≤ MAX_WORKERS) }
 {
     let (board, passes) = B::start(alloc, capacity, workers, ROOT)?;
     let passes = work_all(rt, &board, passes)?;
