@@ -30,7 +30,7 @@ pub struct Locked<J, R> {
     ghost small: { (capacity ≤ MAX_CAPACITY) × (workers ≤ MAX_WORKERS) },
 }
 
-impl<J: Drop, R: Drop> Shared<J, R> for Locked<J, R> {
+impl<J: Drop + Send, R: Drop + Send> Shared<J, R> for Locked<J, R> {
     type Pass = LockedPass<J, R>;
 
     ghost capacity_of = { λ b. b.capacity };

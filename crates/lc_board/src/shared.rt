@@ -29,8 +29,9 @@ pub trait Token<J, R> {
         ensures { result ≡ posted (view self.now) };
 }
 
-/// A board that workers share. A call that may wait promises only if it returns.
-pub trait Shared<J, R>: Sized {
+/// A board that workers share. A call that may wait promises only if it returns. What every caller needs of the type to move it between
+/// threads and to let it go stands here, so that a worker asks for `B: Shared<J, R>` alone.
+pub trait Shared<J, R>: Sized + Sync + Drop {
     type Pass: Token<J, R> + Send + Drop;
 
     /// Its capacity.

@@ -50,7 +50,7 @@ pub fn tell<B: Shared<u32, u32>, W: Wait>(rt: &W, board: &B, pass: &mut B::Pass,
 }
 
 /// Makes the calls on a new board, compares the answers, and closes the board.
-fn run<B: Shared<u32, u32> + Drop, R: Wait + Abort>(
+fn run<B: Shared<u32, u32>, R: Wait + Abort>(
     rt: &R,
     alloc: Global,
     capacity: u32,
@@ -74,7 +74,7 @@ fn run<B: Shared<u32, u32> + Drop, R: Wait + Abort>(
 }
 
 /// The script ends with these rows.
-fn ends_with<B: Shared<u32, u32> + Drop, R: Wait + Abort>(
+fn ends_with<B: Shared<u32, u32>, R: Wait + Abort>(
     rt: &R,
     alloc: Global,
     capacity: u32,
@@ -94,7 +94,7 @@ fn ends_with<B: Shared<u32, u32> + Drop, R: Wait + Abort>(
 }
 
 /// The scripts, on a board of this type.
-fn scripts_on<B: Shared<u32, u32> + Drop, R: Wait + Abort>(
+fn scripts_on<B: Shared<u32, u32>, R: Wait + Abort>(
     rt: &R,
     alloc: Global,
 ) -> Result<(), AllocError> {
