@@ -36,12 +36,12 @@ unended s n = (λ e. n (subst IsUnended (sym e) tt), λ w e. n (subst IsUnended 
 
 module _ {J R : Type 0} where
   pub legal_at : (c n : ℕ) (root : J) (h : List (Event J R)) (b : Board J R) → IsAfter root h b → b.capacity ≡ c → length b.held ≡ n → IsLegal c n h
-  legal_at c n root h b a same crew = subst (λ k. IsLegal c k h) crew (subst (λ k. IsLegal k (length b.held) h) same a.legal)
+  legal_at c n root h b a same count = subst (λ k. IsLegal c k h) count (subst (λ k. IsLegal k (length b.held) h) same a.legal)
 
   pub unfinished : (c n k : ℕ) (views : List (Pass J R)) (root : J) (h : List (Event J R)) (b : Board J R) → IsAfter root h b → b.capacity ≡ c → length b.held ≡ n → IsLeftLeast b k → Unfinished c n k locked_promises views
-  unfinished c n k views root h b a same crew least = record {
+  unfinished c n k views root h b a same count least = record {
     history = h;
-    legal = legal_at c n root h b a same crew;
+    legal = legal_at c n root h b a same count;
     left = left_status root h b k a least.0;
     least = λ m less. gone_status root h b m a (least.1 m less);
     parts = λ no. absurd (cc no);
@@ -52,9 +52,9 @@ module _ {J R : Type 0} where
 
   pub differs : {P : Type 0} (view : P → Pass J R) (c n w : ℕ) (ps : List P) (p : P) (root : J) (h : List (Event J R)) (es : List BareEvent) (b : Board J R) → IsAfter root h b → b.capacity ≡ c → length b.held ≡ n
       → map bare h ≡ es → NoneLeft b → slice_get ps w ≡ Some p → ¬ (part w es ≡ map bare (view p).mine) → Differs c n w (map view ps)
-  differs view c n w ps p root h es b a same crew is none at other = record {
+  differs view c n w ps p root h es b a same count is none at other = record {
     history = h;
-    legal = legal_at c n root h b a same crew;
+    legal = legal_at c n root h b a same count;
     over = over_when root h b a none;
     pass = view p;
     its = map_get view ps w p at;
@@ -68,8 +68,8 @@ module _ {J R : Type 0} where
 
   pub settled_all : {P : Type 0} (view : P → Pass J R) (c n : ℕ) (root : J) (ps : List P) (first : J) (h : List (Event J R)) (es : List BareEvent) (b : Board J R) (rows : List (Ended R)) → IsAfter first h b → b.capacity ≡ c → length b.held ≡ n
       → map bare h ≡ es → map cell_of rows ≡ b.cells → length ps ≡ n → ((w : ℕ) (p : P) → slice_get ps w ≡ Some p → part w es ≡ map bare (view p).mine) → Settled c n root locked_promises (map view ps) rows
-  settled_all view c n root ps first h es b rows a same crew is cells len each =
-      settled c n root (map view ps) h es rows (legal_at c n first h b a same crew) (rows_placed first h b rows a cells).0 (numbers_of_rows first h b rows a cells) (rows_shown first h b rows a cells) is
+  settled_all view c n root ps first h es b rows a same count is cells len each =
+      settled c n root (map view ps) h es rows (legal_at c n first h b a same count) (rows_placed first h b rows a cells).0 (numbers_of_rows first h b rows a cells) (rows_shown first h b rows a cells) is
       (length-map ps view ∙ len)
       (λ w v at. let there = get_map view ps w v at in subst (λ (u : Pass J R). part w es ≡ map bare u.mine) there.2 (each w there.0 there.1))
 
@@ -89,7 +89,7 @@ module _ {J R : Type 0} where
   }
 
   -- why the rows are refused is why the board is
-  pub rows_refused : (r : Record J R) (capacity crew : ℕ) (passes : List (Pass J R)) (f : CloseFault) → RefusesRows r.board f → RefusesMemory r capacity crew passes → RefusesRecorded r capacity crew passes f
-  rows_refused r capacity crew passes (close.Unfinished n) why ready = why
-  rows_refused r capacity crew passes (close.Mismatch w) why ready = absurd why
-  rows_refused r capacity crew passes close.Memory why ready = ready
+  pub rows_refused : (r : Record J R) (capacity workers : ℕ) (passes : List (Pass J R)) (f : CloseFault) → RefusesRows r.board f → RefusesMemory r capacity workers passes → RefusesRecorded r capacity workers passes f
+  rows_refused r capacity workers passes (close.Unfinished n) why ready = why
+  rows_refused r capacity workers passes (close.Mismatch w) why ready = absurd why
+  rows_refused r capacity workers passes close.Memory why ready = ready

@@ -3,6 +3,12 @@ pub mod NumbersOnce
 pub mod PartsOfWhole
 pub mod HeldClaims
 pub mod OverHistories
+pub mod Weights
+pub mod PostedNumbers
+pub mod Parents
+pub mod EndedNumbers
+pub mod EndsInPlace
+pub mod RowsOfWorkers
 pub mod ComputedScripts
 pub mod NewestFirst
 pub mod PlainSteps

@@ -50,7 +50,7 @@ fault_given false r s o x = x
 
 module _ {J R : Type 0} where
   -- the status of a number that an event names
-  named : (h : List (Event J R)) (k i : ℕ) (s : Status) → status h i ≡ s → (k == i) ≡ true → status h k ≡ s
+  pub named : (h : List (Event J R)) (k i : ℕ) (s : Status) → status h i ≡ s → (k == i) ≡ true → status h k ≡ s
   named h k i s is e = ap (λ m. status h m) (eqb-true k i e) ∙ is
 
   pub numbers_once : NumbersOnce J R

@@ -27,12 +27,12 @@ module _ {J R : Type 0} where
   pub claim_got : (m w : ℕ) (j : J) (b : Board J R) → IsSound m b → held_by b w ≡ None → w < length b.held → m < length b.cells → cell_at b m ≡ Some (Waiting j)
       → AnswersClaim w b (answer.Got m j) (record { capacity = b.capacity; held = slice_set b.held w (Some m); cells = slice_set b.cells m (Held w 0) })
   claim_got m w j b s free low near here =
-      let crew : length (slice_set b.held w (Some m)) ≡ length b.held = simp length-set in (
+      let count : length (slice_set b.held w (Some m)) ≡ length b.held = simp length-set in (
         record { here = here; least = s.below },
         record {
           capacity = refl;
-          workers = crew;
-          goes_on = λ root h a. after_claim root h b _ w m j a refl crew low (free_cells m b w s free) near here refl;
+          workers = count;
+          goes_on = λ root h a. after_claim root h b _ w m j a refl count low (free_cells m b w s free) near here refl;
         },
         refl,
       )
@@ -86,12 +86,12 @@ module _ {J R : Type 0} where
       → IfSome (held_by b w) (λ q. Adds b (Return w q r) (record { capacity = b.capacity; held = slice_set b.held w None; cells = slice_set b.cells i (Done (ended.Returned r)) }))
   give_ok m w i r b s had low =
       let new : Board J R = record { capacity = b.capacity; held = slice_set b.held w None; cells = slice_set b.cells i (Done (ended.Returned r)) } in
-      let crew : length (slice_set b.held w None) ≡ length b.held = simp length-set in
+      let count : length (slice_set b.held w None) ≡ length b.held = simp length-set in
       let here = held_here m w i b s had in
       let adds : Adds b (Return w i r) new = record {
         capacity = refl;
-        workers = crew;
-        goes_on = λ root h a. after_return root h b new w i here.0 r a refl crew low here.2 here.1 refl;
+        workers = count;
+        goes_on = λ root h a. after_return root h b new w i here.0 r a refl count low here.2 here.1 refl;
       } in
       subst (λ o. IfSome o (λ q. Adds b (Return w q r) new)) (sym had) adds
 
@@ -99,15 +99,15 @@ module _ {J R : Type 0} where
       → IfSome (held_by b w) (λ q. Adds b (Fault w q r) (record { capacity = b.capacity; held = slice_set b.held w None; cells = slice_set b.cells i (Done (ended.Faulted r)) }))
   fault_ok m w i r b s had low none =
       let new : Board J R = record { capacity = b.capacity; held = slice_set b.held w None; cells = slice_set b.cells i (Done (ended.Faulted r)) } in
-      let crew : length (slice_set b.held w None) ≡ length b.held = simp length-set in
+      let count : length (slice_set b.held w None) ≡ length b.held = simp length-set in
       let here = held_here m w i b s had in
       let few : posts_in (cell_at b i) ≡ 0 = subst (λ o. posts_at b o ≡ 0) had none in
       let zero_posts : here.0 ≡ 0 = sym (ap posts_in here.1) ∙ few in
       let fresh : cell_at b i ≡ Some (Held w 0) = here.1 ∙ ap (λ n. Some (Held w n)) zero_posts in
       let adds : Adds b (Fault w i r) new = record {
         capacity = refl;
-        workers = crew;
-        goes_on = λ root h a. after_fault root h b new w i r a refl crew low here.2 fresh refl;
+        workers = count;
+        goes_on = λ root h a. after_fault root h b new w i r a refl count low here.2 fresh refl;
       } in
       subst (λ o. IfSome o (λ q. Adds b (Fault w q r) new)) (sym had) adds
 

@@ -2,8 +2,8 @@
 use Rattle.std.proofs.Common.{◌≡◌, ◌≢◌, ℕ, zero, suc, ◌<◌, ◌≤◌, ◌+◌, List, [], ◌∷◌, ◌++◌, length, slice_get, slice_set, slice_index_or, replicate, Option, Some, None, refl, sym, ◌∙◌, ap, subst, arith, length-append}
 use Rattle.std.proofs.lemmas.List.{length-set}
 use Rattle.std.proofs.lemmas.Option.{slice_get_past, slice_get_within}
-use Rattle.lc_board.specs.declared.limits.TheConstants.{MOST_NUMBERS}
-use Rattle.lc_board.specs.PlainBoard.{Board, workers, held_by, cell_at, first_board}
+use Rattle.lc_board.specs.declared.limits.TheConstants.{MAX_CAPACITY}
+use Rattle.lc_board.specs.PlainBoard.{Board, held_by, cell_at, first_board}
 use Rattle.lc_board.specs.PlainCalls.{IsOpen}
 use Rattle.lc_board.specs.PlainFields.{IsSound, IsHeldBy}
 use Rattle.lc_board.specs.declared.plain.cell.Cell.{Cell}
@@ -39,7 +39,7 @@ module _ {J R : Type 0} where
       let len : length (slice_set b.cells i (Held w 0)) ≡ length b.cells = simp length-set in
       record {
         small = s.small;
-        room = rw length-set s.room;
+        fits = rw length-set s.fits;
         reached = omega (arith, len, near, next);
         below = each_set (λ k o. k < m + 1 → ¬ IsOpen o) b.cells i (Held w 0) near (λ _ x. x) (λ k off less. s.below k (let d : k ≢ i = off in omega (arith, next, less, d)));
         above = each_set (λ k o. m + 1 ≤ k → k < length (slice_set b.cells i (Held w 0)) → IsOpen o) b.cells i (Held w 0) near
@@ -63,13 +63,13 @@ module _ {J R : Type 0} where
 
   pub sound_post : (m w p n : ℕ) (j : J) (b : Board J R) → IsSound m b → p < length b.cells → length b.cells < b.capacity → cell_at b p ≡ Some (Held w n)
       → IsSound m (record { capacity = b.capacity; held = b.held; cells = slice_set b.cells p (Held w (n + 1)) ++ Waiting j ∷ [] })
-  sound_post m w p n j b s near room here =
+  sound_post m w p n j b s near fits here =
       let ds = slice_set b.cells p (Held w (n + 1)) in
       let len : length ds ≡ length b.cells = simp length-set in
       let more : length (ds ++ Waiting j ∷ []) ≡ length b.cells + 1 = omega (arith, length-append ds (Waiting j ∷ []), len) in
       record {
         small = s.small;
-        room = omega (arith, more, room);
+        fits = omega (arith, more, fits);
         reached = omega (arith, more, s.reached);
         below = each_push (λ k o. k < m → ¬ IsOpen o) ds (Waiting j) (λ less _. absurd (omega (arith, less, len, s.reached)))
             (λ k _. each_set (λ q o. q < m → ¬ IsOpen o) b.cells p (Held w (n + 1)) near (λ _ x. x) (λ q off. s.below q) k);
@@ -99,7 +99,7 @@ module _ {J R : Type 0} where
       let len : length ds ≡ length b.cells = simp length-set in
       record {
         small = s.small;
-        room = rw length-set s.room;
+        fits = rw length-set s.fits;
         reached = omega (arith, len, s.reached);
         below = each_set (λ k o. k < m → ¬ IsOpen o) b.cells i (Done e) near (λ _ x. x) (λ k off. s.below k);
         above = each_set (λ k o. m ≤ k → k < length ds → IsOpen o) b.cells i (Done e) near
@@ -130,10 +130,10 @@ module _ {J R : Type 0} where
   first_owned root zero w n e = absurd (cc e)
   first_owned root (suc k) w n e = absurd (cc e)
 
-  pub sound_first : (capacity workers : ℕ) (root : J) → 1 ≤ capacity → capacity ≤ MOST_NUMBERS → IsSound {R = R} 0 (first_board capacity workers root)
+  pub sound_first : (capacity workers : ℕ) (root : J) → 1 ≤ capacity → capacity ≤ MAX_CAPACITY → IsSound {R = R} 0 (first_board capacity workers root)
   sound_first capacity workers root one small = record {
     small = small;
-    room = one;
+    fits = one;
     reached = omega arith;
     below = λ k less. absurd (omega (arith, less));
     above = λ k far less. first_open root k _ refl less;

@@ -61,9 +61,9 @@ module _ {J R : Type 0} where
   -- one event more
   pub after_step : (root : J) (h : List (Event J R)) (e : Event J R) (old new : Board J R) → IsAfter root h old → new.capacity ≡ old.capacity → length new.held ≡ length old.held
       → worker_of e < length old.held → IsAllowed old.capacity h e → ((k : ℕ) → Fits root (e ∷ h) k (cell_at new k)) → IsAfter root (e ∷ h) new
-  after_step root h e old new a same crew low may fits = record {
+  after_step root h e old new a same count low may fits = record {
     legal =
-        subst (λ n. IsLegal new.capacity n (e ∷ h)) (sym crew)
+        subst (λ n. IsLegal new.capacity n (e ∷ h)) (sym count)
         (subst (λ c. IsLegal c (length old.held) (e ∷ h)) (sym same) (a.legal, low, may));
     fits = fits;
   }
@@ -74,9 +74,9 @@ module _ {J R : Type 0} where
   pub after_claim : (root : J) (h : List (Event J R)) (old new : Board J R) (w i : ℕ) (j : J) → IsAfter root h old → new.capacity ≡ old.capacity → length new.held ≡ length old.held
       → w < length old.held → ((k n : ℕ) → cell_at old k ≢ Some (Held w n)) → i < length old.cells → cell_at old i ≡ Some (Waiting j) → new.cells ≡ slice_set old.cells i (Held w 0)
       → IsAfter root (Claim w i j ∷ h) new
-  after_claim root h old new w i j a same crew low free near here cells =
+  after_claim root h old new w i j a same count low free near here cells =
       let was = subst (Fits root h i) here (a.fits i) in
-      after_step root h (Claim w i j) old new a same crew low (was.0, idle_after root h old w a free)
+      after_step root h (Claim w i j) old new a same count low (was.0, idle_after root h old w a free)
       (λ k. subst (λ (cs : List (Cell J R)). Fits root (Claim w i j ∷ h) k (slice_get cs k)) (sym cells)
       (each_set (Fits root (Claim w i j ∷ h)) old.cells i (Held w 0) near
       (at_same i i _ _ refl, ap length was.1, was.2, at_same i i _ _ refl ∙ sym was.3)
@@ -96,7 +96,7 @@ module _ {J R : Type 0} where
   pub after_post : (root : J) (h : List (Event J R)) (old new : Board J R) (w p n : ℕ) (j : J) → IsAfter root h old → new.capacity ≡ old.capacity → length new.held ≡ length old.held
       → w < length old.held → p < length old.cells → length old.cells < old.capacity → cell_at old p ≡ Some (Held w n) → new.cells ≡ slice_set old.cells p (Held w (n + 1)) ++ Waiting j ∷ []
       → IsAfter root (Post w p (length old.cells) j ∷ h) new
-  after_post root h old new w p n j a same crew low near room here cells =
+  after_post root h old new w p n j a same count low near room here cells =
       let i = length old.cells in
       let g = Post w p i j ∷ h in
       let ds = slice_set old.cells p (Held w (n + 1)) in
@@ -112,7 +112,7 @@ module _ {J R : Type 0} where
       let rest : (m : ℕ) → m ≢ i → Fits root g m (slice_get ds m) =
       λ m off. each_set (λ q o. q ≢ i → Fits root g q o) old.cells p (Held w (n + 1)) near (λ _. at_p)
       (λ q other away. fits_same root h g q (record { states = at_other q i _ _ away; posts = at_other q p _ _ other; given = refl; got = refl; jobs = at_other q i _ _ away }) (slice_get old.cells q) (a.fits q)) m off in
-      after_step root h (Post w p i j) old new a same crew low (was.0, new_at.0, room, near)
+      after_step root h (Post w p i j) old new a same count low (was.0, new_at.0, room, near)
       (λ k. subst (λ (cs : List (Cell J R)). Fits root g k (slice_get cs k)) (sym cells)
       (each_push (Fits root g) ds (Waiting j)
       (subst (λ m. Fits root g m (Some (Waiting j))) (sym len) at_i)
@@ -121,9 +121,9 @@ module _ {J R : Type 0} where
   pub after_return : (root : J) (h : List (Event J R)) (old new : Board J R) (w i n : ℕ) (r : R) → IsAfter root h old → new.capacity ≡ old.capacity → length new.held ≡ length old.held
       → w < length old.held → i < length old.cells → cell_at old i ≡ Some (Held w n) → new.cells ≡ slice_set old.cells i (Done (ended.Returned r))
       → IsAfter root (Return w i r ∷ h) new
-  after_return root h old new w i n r a same crew low near here cells =
+  after_return root h old new w i n r a same count low near here cells =
       let was = subst (Fits root h i) here (a.fits i) in
-      after_step root h (Return w i r) old new a same crew low was.0
+      after_step root h (Return w i r) old new a same count low was.0
       (λ k. subst (λ (cs : List (Cell J R)). Fits root (Return w i r ∷ h) k (slice_get cs k)) (sym cells)
       (each_set (Fits root (Return w i r ∷ h)) old.cells i (Done (ended.Returned r)) near
       (at_same i i _ _ refl, at_same i i _ _ refl, was.3)
@@ -132,9 +132,9 @@ module _ {J R : Type 0} where
   pub after_fault : (root : J) (h : List (Event J R)) (old new : Board J R) (w i : ℕ) (r : R) → IsAfter root h old → new.capacity ≡ old.capacity → length new.held ≡ length old.held
       → w < length old.held → i < length old.cells → cell_at old i ≡ Some (Held w 0) → new.cells ≡ slice_set old.cells i (Done (ended.Faulted r))
       → IsAfter root (Fault w i r ∷ h) new
-  after_fault root h old new w i r a same crew low near here cells =
+  after_fault root h old new w i r a same count low near here cells =
       let was = subst (Fits root h i) here (a.fits i) in
-      after_step root h (Fault w i r) old new a same crew low (was.0, no_posts (posts_under i h) was.1)
+      after_step root h (Fault w i r) old new a same count low (was.0, no_posts (posts_under i h) was.1)
       (λ k. subst (λ (cs : List (Cell J R)). Fits root (Fault w i r ∷ h) k (slice_get cs k)) (sym cells)
       (each_set (Fits root (Fault w i r ∷ h)) old.cells i (Done (ended.Faulted r)) near
       (at_same i i _ _ refl, at_same i i _ _ refl, was.3)
@@ -144,8 +144,8 @@ module _ {J R : Type 0} where
   first_fits root zero o e = subst (Fits root [] 0) e (refl, refl, refl, refl)
   first_fits root (suc k) o e = subst (Fits root [] (suc k)) e (at_other (suc k) 0 _ _ (λ x. absurd (omega (arith, x))), refl, refl)
 
-  pub after_first : (capacity crew : ℕ) (root : J) → IsAfter {R = R} root [] (first_board capacity crew root)
-  after_first capacity crew root = record { legal = tt; fits = λ k. first_fits root k _ refl }
+  pub after_first : (capacity count : ℕ) (root : J) → IsAfter {R = R} root [] (first_board capacity count root)
+  after_first capacity count root = record { legal = tt; fits = λ k. first_fits root k _ refl }
 
   -- a number whose row is there has ended, one whose row is not there is absent
   pub record Ends (root : J) (h : List (Event J R)) (k : ℕ) (o : Option (Ended R)) : Type 0 where

@@ -1,17 +1,36 @@
 -- Passes that come back from their workers, in order.
-use Rattle.std.proofs.Common.{◌≡◌, ℕ, ◌<◌, List, length, slice_get, slice_index_or, Some, ◌∙◌, ap, subst, arith}
+use Rattle.std.proofs.Common.{◌≡◌, ℕ, zero, suc, ◌<◌, List, [], ◌∷◌, length, map, slice_get, slice_index_or, Some, refl, ◌∙◌, ap, subst, arith}
 use Rattle.std.proofs.lemmas.Option.{slice_get_within, get_or_from_slice_get, slice_get-get_or}
 use Rattle.lc_board.specs.Pass.{Pass, new_pass}
 
--- each is the board's, and its worker's, where the passes were new and no call changed the worker
-pub still_in_order : {J R P : Type 0} (view : P → Pass J R) (owns : P → Type 0) (ps back : List P) → length back ≡ length ps
+same_some : {A : Type 0} (x y : A) → Some x ≡ Some y → x ≡ y
+same_some x y e = cc
+
+-- what lies at a place of a mapped list comes from what lies there
+mapped_from : {A B : Type 0} (f : A → B) (xs : List A) (i : ℕ) (y : B) → slice_get (map f xs) i ≡ Some y → (x : A) × (slice_get xs i ≡ Some x) × (f x ≡ y)
+mapped_from f [] i y e = absurd (cc e)
+mapped_from f (x ∷ xs) zero y e = (x, refl, same_some (f x) y e)
+mapped_from f (x ∷ xs) (suc i) y e = mapped_from f xs i y e
+
+-- What comes back from each worker has its pass in it, as `pass` says. Each pass is the board's, and its worker's, where the passes were
+-- new and no call changed the worker
+pub still_in_order : {J R P Q : Type 0} (view : P → Pass J R) (owns : P → Type 0) (pass : Q → P) (ps : List P) (back : List Q) → length back ≡ length ps
     → ((w : ℕ) (p : P) → slice_get ps w ≡ Some p → owns p × (view p ≡ new_pass w))
-    → ((w : ℕ) (p q : P) → w < length ps → owns (slice_index_or back w q) × ((view (slice_index_or back w q)).worker ≡ (view (slice_index_or ps w p)).worker))
-    → (w : ℕ) (p : P) → slice_get back w ≡ Some p → owns p × ((view p).worker ≡ w)
-still_in_order view owns ps back len started ran w p at =
-    let low = slice_get_within back w p at in
+    → ((w : ℕ) (p : P) (q : Q) → w < length ps → owns (pass (slice_index_or back w q)) × ((view (pass (slice_index_or back w q))).worker ≡ (view (slice_index_or ps w p)).worker))
+    → (w : ℕ) (q : Q) → slice_get back w ≡ Some q → owns (pass q) × ((view (pass q)).worker ≡ w)
+still_in_order view owns pass ps back len started ran w q at =
+    let low = slice_get_within back w q at in
     let inside : w < length ps = omega (arith, low, len) in
-    let one = ran w p p inside in
+    let p = pass q in
+    let one = ran w p q inside in
     let first = started w _ (slice_get-get_or ps w p inside) in
-    subst (λ q. owns q × ((view q).worker ≡ w)) (get_or_from_slice_get back w p p at)
+    subst (λ x. owns (pass x) × ((view (pass x)).worker ≡ w)) (get_or_from_slice_get back w q q at)
     (one.0, one.1 ∙ ap (λ (v : Pass _ _). v.worker) first.1)
+
+-- and so are the passes alone, once they are taken out
+pub taken_in_order : {J R P Q : Type 0} (view : P → Pass J R) (owns : P → Type 0) (pass : Q → P) (back : List Q)
+    → ((w : ℕ) (q : Q) → slice_get back w ≡ Some q → owns (pass q) × ((view (pass q)).worker ≡ w))
+    → (w : ℕ) (p : P) → slice_get (map pass back) w ≡ Some p → owns p × ((view p).worker ≡ w)
+taken_in_order view owns pass back each w p at =
+    let q = mapped_from pass back w p at in
+    subst (λ x. owns x × ((view x).worker ≡ w)) q.2 (each w q.0 q.1)

@@ -79,25 +79,25 @@ module _ {J R : Type 0} where
   abbrev updated : View J R → List (Event J R) → View J R
   updated v h = record v { seen = h }
 
-  pub knows_more : (root : Option J) (crew cap : ℕ) (h : List (Event J R)) (faces : ℕ → Face) (owner : ℕ → Option ℕ) (me : ℕ) (v : View J R) → IsLegal cap crew h → Knows root crew h faces owner me v → Knows root crew h faces owner me (record v { seen = h })
-  knows_more root crew cap h faces owner me v l k = record {
+  pub knows_more : (root : Option J) (workers cap : ℕ) (h : List (Event J R)) (faces : ℕ → Face) (owner : ℕ → Option ℕ) (me : ℕ) (v : View J R) → IsLegal cap workers h → Knows root workers h faces owner me v → Knows root workers h faces owner me (record v { seen = h })
+  knows_more root workers cap h faces owner me v l k = record {
     root_is = k.root_is;
-    crew_is = k.crew_is;
+    workers_are = k.workers_are;
     member = k.member;
     mine = k.mine;
     seen = whole h;
     owns = k.owns;
     drew = k.drew;
     draws = k.draws;
-    low = λ i below. let a = k.low i below in let b = rank_from cap crew h v.seen l k.seen i in let c = rank_most (status h i) in omega arith;
+    low = λ i below. let a = k.low i below in let b = rank_from cap workers h v.seen l k.seen i in let c = rank_most (status h i) in omega arith;
     front = k.front;
     deals = k.deals;
     joins = k.joins;
   }
 
   -- nothing changes but what the pass has seen
-  pub next_same : (root : Option J) (crew : ℕ) (s : St J R) (r : IsRow root crew s) (worker : ℕ) → IsNext root crew s r worker r.history r.faces s.words s.homes
-  next_same root crew s r worker = record {
+  pub next_same : (root : Option J) (workers : ℕ) (s : St J R) (r : IsRow root workers s) (worker : ℕ) → IsNext root workers s r worker r.history r.faces s.words s.homes
+  next_same root workers s r worker = record {
     long = refl;
     wide = refl;
     legal = r.legal;
@@ -114,25 +114,25 @@ module _ {J R : Type 0} where
     more = λ k e. e;
   }
 
-  pub fair : (root : Option J) (crew cap : ℕ) (h : List (Event J R)) (faces : ℕ → Face) (owner : ℕ → Option ℕ) (me : ℕ) (w : View J R) → w.seen ≡ h → IsLegal cap crew h → IsMatched root h → Knows root crew h faces owner me w → IsFair cap w
-  fair root crew cap h faces owner me w same l m k = (
-    subst (λ (z : ℕ × List (Event J R)). IsLegal cap z.0 z.1) (λ i. (sym k.crew_is i, sym same i)) l,
+  pub fair : (root : Option J) (workers cap : ℕ) (h : List (Event J R)) (faces : ℕ → Face) (owner : ℕ → Option ℕ) (me : ℕ) (w : View J R) → w.seen ≡ h → IsLegal cap workers h → IsMatched root h → Knows root workers h faces owner me w → IsFair cap w
+  fair root workers cap h faces owner me w same l m k = (
+    subst (λ (z : ℕ × List (Event J R)). IsLegal cap z.0 z.1) (λ i. (sym k.workers_are i, sym same i)) l,
     subst (λ (z : Option J × List (Event J R)). IsMatched z.0 z.1) (λ i. (sym k.root_is i, sym same i)) m,
     ap (part w.worker) same ∙ k.mine,
   )
 
   -- the low mark stays where one event is added
-  pub low_stays : (root : Option J) (crew cap : ℕ) (h : List (Event J R)) (faces : ℕ → Face) (owner : ℕ → Option ℕ) (me : ℕ) (v : View J R) (e : Event J R) → IsLegal cap crew (e ∷ h) → Knows root crew h faces owner me v
+  pub low_stays : (root : Option J) (workers cap : ℕ) (h : List (Event J R)) (faces : ℕ → Face) (owner : ℕ → Option ℕ) (me : ℕ) (v : View J R) (e : Event J R) → IsLegal cap workers (e ∷ h) → Knows root workers h faces owner me v
       → (k : ℕ) → k < v.low → rank (status (e ∷ h) k) ≡ 3
-  low_stays root crew cap h faces owner me v e l k i below = let a = k.low i below in let b = rank_from cap crew (e ∷ h) v.seen l (longer h v.seen e k.seen) i in let c = rank_most (status (e ∷ h) i) in omega arith
+  low_stays root workers cap h faces owner me v e l k i below = let a = k.low i below in let b = rank_from cap workers (e ∷ h) v.seen l (longer h v.seen e k.seen) i in let c = rank_most (status (e ∷ h) i) in omega arith
 
-  pub adds : (root : Option J) (crew cap : ℕ) (h : List (Event J R)) (faces : ℕ → Face) (owner : ℕ → Option ℕ) (me : ℕ) (v : View J R) (e : Event J R) (f : ℕ → Face) (w : View J R) → w.seen ≡ e ∷ h → w.mine ≡ e ∷ v.mine
-      → IsLegal cap crew (e ∷ h) → IsMatched root (e ∷ h) → Knows root crew h faces owner me v → Knows root crew (e ∷ h) f owner me w → AddsEvent cap v e w
-  adds root crew cap h faces owner me v e f w same own l m k k' = ((h, k.seen, same), own, fair root crew cap (e ∷ h) f owner me w same l m k')
+  pub adds : (root : Option J) (workers cap : ℕ) (h : List (Event J R)) (faces : ℕ → Face) (owner : ℕ → Option ℕ) (me : ℕ) (v : View J R) (e : Event J R) (f : ℕ → Face) (w : View J R) → w.seen ≡ e ∷ h → w.mine ≡ e ∷ v.mine
+      → IsLegal cap workers (e ∷ h) → IsMatched root (e ∷ h) → Knows root workers h faces owner me v → Knows root workers (e ∷ h) f owner me w → AddsEvent cap v e w
+  adds root workers cap h faces owner me v e f w same own l m k k' = ((h, k.seen, same), own, fair root workers cap (e ∷ h) f owner me w same l m k')
 
-  pub finds : (root : Option J) (crew : ℕ) (s : St J R) (r : IsRow root crew s) (i me : ℕ) (h' : List (Event J R)) (w : View J R) → i < length s.homes → IsLegal (length s.homes) crew h' → ((k : ℕ) → status w.seen k ≡ status r.history k)
-      → Knows root crew h' r.faces r.owner me w → w.seen ≡ h' → (z : ℕ) → get_or s.words i 0 ≡ z → Finds i z w
-  finds root crew s r i me h' w near legal same k' is_h z is = let face = sym (r.shows i near) ∙ is in
+  pub finds : (root : Option J) (workers : ℕ) (s : St J R) (r : IsRow root workers s) (i me : ℕ) (h' : List (Event J R)) (w : View J R) → i < length s.homes → IsLegal (length s.homes) workers h' → ((k : ℕ) → status w.seen k ≡ status r.history k)
+      → Knows root workers h' r.faces r.owner me w → w.seen ≡ h' → (z : ℕ) → get_or s.words i 0 ≡ z → Finds i z w
+  finds root workers s r i me h' w near legal same k' is_h z is = let face = sym (r.shows i near) ∙ is in
       let mine : (p u : ℕ) → status r.history p ≡ Claimed u → (p u : ℕ) × (status w.seen p ≡ Claimed u) × (holding w.mine ≡ None → u ≢ w.worker) =
       (λ p u t. (
         p,
@@ -140,7 +140,7 @@ module _ {J R : Type 0} where
         same p ∙ t,
         λ free e.
             let there : status h' p ≡ Claimed w.worker = ap (λ y. status y p) (sym is_h) ∙ (same p ∙ (t ∙ ap Claimed e)) in
-            let told = part_tells_claim (length s.homes) crew h' legal w.worker in
+            let told = part_tells_claim (length s.homes) workers h' legal w.worker in
             let x : None ≡ Some p = sym free ∙ (ap holding (sym k'.mine) ∙ (told.claimed p).1 there) in cc,
       )) in (
         (λ e k le. same k ∙ (r.agrees k ∙ ap shown (r.together i k le (is_absent (r.faces i) (face ∙ e))))),
@@ -158,12 +158,12 @@ module _ {J R : Type 0} where
   abbrev over_view : View J R → List (Event J R) → ℕ → View J R
   over_view v h low = record v { seen = Over v.worker ∷ h; mine = Over v.worker ∷ v.mine; low = low }
 
-  module _ (root : Option J) (crew me i : ℕ) (v : View J R) (lives : v.live ≡ true) (s : St J R) (r : IsRow root crew s) (at : get_elem? s.views me ≡ some v) (near : i < length s.homes) where
-    km : Knows root crew r.history r.faces r.owner me v
+  module _ (root : Option J) (workers me i : ℕ) (v : View J R) (lives : v.live ≡ true) (s : St J R) (r : IsRow root workers s) (at : get_elem? s.views me ≡ some v) (near : i < length s.homes) where
+    km : Knows root workers r.history r.faces r.owner me v
     km = r.each_seat me v at lives
 
     ended_now : (z : ℕ) → z < v.low → rank (status r.history z) ≡ 3
-    ended_now z below = let a = km.low z below in let b = rank_from (length s.homes) crew r.history v.seen r.legal km.seen z in let c = rank_most (status r.history z) in omega arith
+    ended_now z below = let a = km.low z below in let b = rank_from (length s.homes) workers r.history v.seen r.legal km.seen z in let c = rank_most (status r.history z) in omega arith
 
     ended_here : 2 ≤ get_or s.words i 0 → get_or s.words i 0 < 4 → rank (status r.history i) ≡ 3
     ended_here a b = let e = r.shows i near in ap rank (r.agrees i) ∙ is_ended (r.faces i) (omega arith) (omega arith)
@@ -175,10 +175,10 @@ module _ {J R : Type 0} where
     beyond_now : (z : ℕ) → length s.homes ≤ z → status r.history z ≡ Absent
     beyond_now z far = r.agrees z ∙ ap shown (r.beyond z far)
 
-    looked_knows : Knows root crew r.history r.faces r.owner me (looked_view v r.history (low_after (length s.homes) i v.low (get_or s.words i 0)))
+    looked_knows : Knows root workers r.history r.faces r.owner me (looked_view v r.history (low_after (length s.homes) i v.low (get_or s.words i 0)))
     looked_knows = record {
       root_is = km.root_is;
-      crew_is = km.crew_is;
+      workers_are = km.workers_are;
       member = km.member;
       mine = km.mine;
       seen = whole r.history;
@@ -202,10 +202,10 @@ module _ {J R : Type 0} where
       over_allowed z = ⊎_elim (λ (e : rank (status r.history z) ≡ 3). ((λ is. let x = sym e ∙ ap rank is in omega arith), (λ u is. let x = sym e ∙ ap rank is in omega arith)))
           (λ (e : status r.history z ≡ Absent). ((λ is. let x = sym e ∙ is in cc), (λ u is. let x = sym e ∙ is in cc))) (all_done z)
 
-      over_legal : IsLegal (length s.homes) crew (Over v.worker ∷ r.history)
+      over_legal : IsLegal (length s.homes) workers (Over v.worker ∷ r.history)
       over_legal = (r.legal, km.member, over_allowed)
 
-      over_next : IsNext root crew s r v.worker (Over v.worker ∷ r.history) r.faces s.words s.homes
+      over_next : IsNext root workers s r v.worker (Over v.worker ∷ r.history) r.faces s.words s.homes
       over_next = record {
         long = refl;
         wide = refl;
@@ -223,10 +223,10 @@ module _ {J R : Type 0} where
         more = λ z e. e;
       }
 
-      over_knows : Knows root crew (Over v.worker ∷ r.history) r.faces r.owner me (over_view v r.history (low_after (length s.homes) i v.low (get_or s.words i 0)))
+      over_knows : Knows root workers (Over v.worker ∷ r.history) r.faces r.owner me (over_view v r.history (low_after (length s.homes) i v.low (get_or s.words i 0)))
       over_knows = record {
         root_is = km.root_is;
-        crew_is = km.crew_is;
+        workers_are = km.workers_are;
         member = km.member;
         mine = part_own v.worker r.history (Over v.worker) refl ∙ ap (λ z. Over v.worker ∷ z) km.mine;
         seen = whole (Over v.worker ∷ r.history);
@@ -241,10 +241,10 @@ module _ {J R : Type 0} where
 
     -- the step, by whether it is the last look
     pub misses : (b : Bool) → last_look (length s.homes) i v.low (get_or s.words i 0) ≡ b
-        → (w : View J R) × IsRow root crew record { words = s.words; homes = s.homes; views = set s.views me w } × Missed (length s.homes) i (get_or s.words i 0) v w
+        → (w : View J R) × IsRow root workers record { words = s.words; homes = s.homes; views = set s.views me w } × Missed (length s.homes) i (get_or s.words i 0) v w
     misses false is = let w = looked_view v r.history (low_after (length s.homes) i v.low (get_or s.words i 0)) in (
       w,
-      rebuilt root crew s r me v at lives r.history r.faces s.words s.homes w (next_same root crew s r v.worker) looked_knows,
+      rebuilt root workers s r me v at lives r.history r.faces s.words s.homes w (next_same root workers s r v.worker) looked_knows,
       (
         (refl, refl, refl, refl, refl, refl),
         refl,
@@ -252,14 +252,14 @@ module _ {J R : Type 0} where
         refl,
         low_now,
         beyond_now,
-        finds root crew s r i me r.history w near r.legal (λ z. refl) looked_knows refl (get_or s.words i 0) refl,
+        finds root workers s r i me r.history w near r.legal (λ z. refl) looked_knows refl (get_or s.words i 0) refl,
         subst (λ b. MatchBool b (AddsEvent (length s.homes) v (Over v.worker) w) (Looks (length s.homes) v w)) (sym is)
-            (km.seen, refl, fair root crew (length s.homes) r.history r.faces r.owner me w refl r.legal r.matched looked_knows),
+            (km.seen, refl, fair root workers (length s.homes) r.history r.faces r.owner me w refl r.legal r.matched looked_knows),
       ),
     )
     misses true is = let last = last_tells (length s.homes) i v.low (get_or s.words i 0) is in let w = over_view v r.history (low_after (length s.homes) i v.low (get_or s.words i 0)) in (
       w,
-      rebuilt root crew s r me v at lives (Over v.worker ∷ r.history) r.faces s.words s.homes w (over_next last) (over_knows last),
+      rebuilt root workers s r me v at lives (Over v.worker ∷ r.history) r.faces s.words s.homes w (over_next last) (over_knows last),
       (
         (refl, refl, refl, refl, refl, refl),
         refl,
@@ -267,19 +267,19 @@ module _ {J R : Type 0} where
         refl,
         low_now,
         beyond_now,
-        finds root crew s r i me (Over v.worker ∷ r.history) w near (over_legal last) (λ z. refl) (over_knows last) refl (get_or s.words i 0) refl,
+        finds root workers s r i me (Over v.worker ∷ r.history) w near (over_legal last) (λ z. refl) (over_knows last) refl (get_or s.words i 0) refl,
         subst (λ b. MatchBool b (AddsEvent (length s.homes) v (Over v.worker) w) (Looks (length s.homes) v w)) (sym is)
-            (adds root crew (length s.homes) r.history r.faces r.owner me v (Over v.worker) r.faces w refl refl (over_legal last) (r.matched, tt) km (over_knows last)),
+            (adds root workers (length s.homes) r.history r.faces r.owner me v (Over v.worker) r.faces w refl refl (over_legal last) (r.matched, tt) km (over_knows last)),
       ),
     )
 
-  pub looks : (root : Option J) (crew slots me : ℕ) (m : Seated J R) (i : ℕ) → m.0.live ≡ true → i < slots → Allows (IsRow root crew) slots me m i (λ n. n) (looked (step slots i 0 0 none) m)
-  looks root crew slots me m i lives near s r len at fits = let v = m.0 in let near' : i < length s.homes = omega arith in
-      let did = misses root crew me i v lives s r at near' (last_look (length s.homes) i v.low (get_or s.words i 0)) refl in (
+  pub looks : (root : Option J) (workers slots me : ℕ) (m : Seated J R) (i : ℕ) → m.0.live ≡ true → i < slots → Allows (IsRow root workers) slots me m i (λ n. n) (looked (step slots i 0 0 none) m)
+  looks root workers slots me m i lives near s r len at fits = let v = m.0 in let near' : i < length s.homes = omega arith in
+      let did = misses root workers me i v lives s r at near' (last_look (length s.homes) i v.low (get_or s.words i 0)) refl in (
         did.0,
         keeps,
         tt,
-        subst (λ (ws : List ℕ). IsRow root crew record { words = ws; homes = s.homes; views = set s.views me did.0 }) (sym (set-get_or s.words i 0)) did.1,
+        subst (λ (ws : List ℕ). IsRow root workers record { words = ws; homes = s.homes; views = set s.views me did.0 }) (sym (set-get_or s.words i 0)) did.1,
         (refl, subst (λ c. Missed c i (get_or s.words i 0) v did.0) len did.2),
       )
 
@@ -287,27 +287,27 @@ module _ {J R : Type 0} where
   added v h e = record v { seen = e ∷ h; mine = e ∷ v.mine }
 
   -- a claim takes the job that was posted
-  module _ (root : Option J) (crew me i : ℕ) (v : View J R) (lives : v.live ≡ true) (free : holding v.mine ≡ None) where
-    module _ (s : St J R) (r : IsRow root crew s) (at : get_elem? s.views me ≡ some v) (near : i < length s.homes) (open_there : r.faces i ≡ plain Open) (j : J) (lies : get_elem? s.homes i ≡ some (some (Job j))) (posted_there : job_at root r.history i ≡ Some j) where
+  module _ (root : Option J) (workers me i : ℕ) (v : View J R) (lives : v.live ≡ true) (free : holding v.mine ≡ None) where
+    module _ (s : St J R) (r : IsRow root workers s) (at : get_elem? s.views me ≡ some v) (near : i < length s.homes) (open_there : r.faces i ≡ plain Open) (j : J) (lies : get_elem? s.homes i ≡ some (some (Job j))) (posted_there : job_at root r.history i ≡ Some j) where
       abbrev h : List (Event J R)
       h = r.history
 
       abbrev e : Event J R
       e = Claim v.worker i j
 
-      abbrev k : Knows root crew r.history r.faces r.owner me v
+      abbrev k : Knows root workers r.history r.faces r.owner me v
       k = r.each_seat me v at lives
 
       was : status r.history i ≡ Open
       was = r.agrees i ∙ ap shown open_there
 
       none_mine : (z : ℕ) → status r.history z ≡ Claimed v.worker → ⊥
-      none_mine z is = let g = (held_is root crew s r me v k z).1 is in let x = sym free ∙ g in cc
+      none_mine z is = let g = (held_is root workers s r me v k z).1 is in let x = sym free ∙ g in cc
 
-      claim_legal : IsLegal (length s.homes) crew (Claim v.worker i j ∷ r.history)
+      claim_legal : IsLegal (length s.homes) workers (Claim v.worker i j ∷ r.history)
       claim_legal = (r.legal, k.member, (was, none_mine))
 
-      claim_turn : IsTurn root crew s r v.worker i (Claim v.worker i j ∷ r.history) (plain (Claimed v.worker)) (set s.homes i none)
+      claim_turn : IsTurn root workers s r v.worker i (Claim v.worker i j ∷ r.history) (plain (Claimed v.worker)) (set s.homes i none)
       claim_turn = record {
         near = near;
         long = length-set s.homes i none;
@@ -327,17 +327,17 @@ module _ {J R : Type 0} where
         loose = λ u ne. ((λ x. let y = sym open_there ∙ x in cc), (λ x. cc), (λ (x : plain (Claimed v.worker) ≡ plain (Claimed u)). let y : v.worker ≡ u = cc in ne (sym y)));
       }
 
-      claim_knows : Knows root crew (Claim v.worker i j ∷ r.history) (put r.faces i (plain (Claimed v.worker))) r.owner me (added v r.history (Claim v.worker i j))
+      claim_knows : Knows root workers (Claim v.worker i j ∷ r.history) (put r.faces i (plain (Claimed v.worker))) r.owner me (added v r.history (Claim v.worker i j))
       claim_knows = record {
         root_is = k.root_is;
-        crew_is = k.crew_is;
+        workers_are = k.workers_are;
         member = k.member;
         mine = part_own v.worker h e refl ∙ ap (λ z. e ∷ z) k.mine;
         seen = whole (e ∷ h);
         owns = k.owns;
         drew = λ z. at_put r.faces i (plain (Claimed v.worker)) (λ y f. f ≡ held v.worker → v.drawn ≡ y + 1) z (λ x. absurd (cc)) (λ _ x. k.drew z x);
         draws = λ z is. let x = k.draws z is in put_else r.faces i (plain (Claimed v.worker)) z (λ (o : z ≡ i). let y : held v.worker ≡ plain Open = sym x ∙ (ap r.faces o ∙ open_there) in cc) ∙ x;
-        low = low_stays root crew (length s.homes) h r.faces r.owner me v e claim_legal k;
+        low = low_stays root workers (length s.homes) h r.faces r.owner me v e claim_legal k;
         front = λ z below. at_put r.faces i (plain (Claimed v.worker)) (λ y f. y < v.front → f ≢ plain Absent) z (λ _ x. cc) (λ _. k.front z) below;
         deals = k.deals;
         joins = λ n u m is. let x = k.joins n u m is in record {
@@ -348,29 +348,29 @@ module _ {J R : Type 0} where
         };
       }
 
-  pub claims : (root : Option J) (crew slots me : ℕ) (m : Seated J R) (i new : ℕ) → m.0.live ≡ true → i < slots → holding m.0.mine ≡ None → new ≡ 5 + 2 * m.0.worker
-      → Allows (IsRow root crew) slots me m i (λ n. either (eqb n 1) new n) (claimed (step slots i 1 new none) m)
-  claims root crew slots me m i new lives near free is s r len at fits = let v = m.0 in let z : ℕ = get_or s.words i 0 in
+  pub claims : (root : Option J) (workers slots me : ℕ) (m : Seated J R) (i new : ℕ) → m.0.live ≡ true → i < slots → holding m.0.mine ≡ None → new ≡ 5 + 2 * m.0.worker
+      → Allows (IsRow root workers) slots me m i (λ n. either (eqb n 1) new n) (claimed (step slots i 1 new none) m)
+  claims root workers slots me m i new lives near free is s r len at fits = let v = m.0 in let z : ℕ = get_or s.words i 0 in
       let near' : i < length s.homes = omega arith in
-      let G : ℕ → Type 0 = λ n. (w : View J R) × (a : Act (Slot J R)) × Valid s.homes m.1 a × IsRow root crew (stepped s i n me m.1 w a) × claimed (step slots i 1 new none) m z (w, carried_after m.1 a) in
+      let G : ℕ → Type 0 = λ n. (w : View J R) × (a : Act (Slot J R)) × Valid s.homes m.1 a × IsRow root workers (stepped s i n me m.1 w a) × claimed (step slots i 1 new none) m z (w, carried_after m.1 a) in
       exchanged z 1 new G
       (λ (hit : z ≡ 1). let there = is_open (r.faces i) (sym (r.shows i near') ∙ hit) in let l = subst (λ c. Lies root r.history s.homes i c) there (r.lies i near') in
       let e : Event J R = Claim v.worker i l.0 in let k = r.each_seat me v at lives in let w = added v r.history e in
-      let turn = claim_turn root crew me i v lives free s r at near' there l.0 l.1 l.2 in let k' = claim_knows root crew me i v lives free s r at near' there l.0 l.1 l.2 in (
+      let turn = claim_turn root workers me i v lives free s r at near' there l.0 l.1 l.2 in let k' = claim_knows root workers me i v lives free s r at near' there l.0 l.1 l.2 in (
         w,
         takes i (Job l.0),
         l.1,
-        subst (λ n. IsRow root crew (stepped s i n me m.1 w (takes i (Job l.0)))) (sym is)
-            (rebuilt root crew s r me v at lives (e ∷ r.history) (put r.faces i (plain (Claimed v.worker))) (set s.words i (5 + 2 * v.worker)) (set s.homes i none) w (turned root crew s r v.worker i (e ∷ r.history) (plain (Claimed v.worker)) (set s.homes i none) turn) k'),
+        subst (λ n. IsRow root workers (stepped s i n me m.1 w (takes i (Job l.0)))) (sym is)
+            (rebuilt root workers s r me v at lives (e ∷ r.history) (put r.faces i (plain (Claimed v.worker))) (set s.words i (5 + 2 * v.worker)) (set s.homes i none) w (turned root workers s r v.worker i (e ∷ r.history) (plain (Claimed v.worker)) (set s.homes i none) turn) k'),
         (
-          (λ _. (l.0, (refl, refl, refl, refl, refl, refl), refl, refl, refl, refl, subst (λ c. AddsEvent c v e w) len (adds root crew (length s.homes) r.history r.faces r.owner me v e (put r.faces i (plain (Claimed v.worker))) w refl refl turn.legal turn.matched k k'))),
+          (λ _. (l.0, (refl, refl, refl, refl, refl, refl), refl, refl, refl, refl, subst (λ c. AddsEvent c v e w) len (adds root workers (length s.homes) r.history r.faces r.owner me v e (put r.faces i (plain (Claimed v.worker))) w refl refl turn.legal turn.matched k k'))),
           (λ miss. absurd (miss hit)),
         ),
       ))
-      (λ (miss : z ≢ 1). let did = misses root crew me i v lives s r at near' (last_look (length s.homes) i v.low (get_or s.words i 0)) refl in (
+      (λ (miss : z ≢ 1). let did = misses root workers me i v lives s r at near' (last_look (length s.homes) i v.low (get_or s.words i 0)) refl in (
         did.0,
         keeps,
         tt,
-        subst (λ (ws : List ℕ). IsRow root crew record { words = ws; homes = s.homes; views = set s.views me did.0 }) (sym (set-get_or s.words i 0)) did.1,
+        subst (λ (ws : List ℕ). IsRow root workers record { words = ws; homes = s.homes; views = set s.views me did.0 }) (sym (set-get_or s.words i 0)) did.1,
         ((λ hit. absurd (miss hit)), (λ _. (refl, subst (λ c. Missed c i (get_or s.words i 0) v did.0) len did.2))),
       ))

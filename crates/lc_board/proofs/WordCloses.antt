@@ -162,7 +162,7 @@ shows_given Faulted o g a b = subst (λ z. Shows Faulted z) (sym g.1) refl
 none_given : {R : Type 0} (s : Status) (o : Option (Ended R)) → s ≡ Absent → GivenAs s o → o ≡ None
 none_given s o e g = subst (λ z. GivenAs z o) e g
 
-module _ {J R : Type 0} (root : J) (crew : ℕ) (passes : List (Pass J R)) (ws : List ℕ) (xs : List (Slot J R)) (r : IsClosedRow (Some root) crew passes ws xs) where
+module _ {J R : Type 0} (root : J) (workers : ℕ) (passes : List (Pass J R)) (ws : List ℕ) (xs : List (Slot J R)) (r : IsClosedRow (Some root) workers passes ws xs) where
   ended_at : (n k : ℕ) → n ≤ length xs → EndedBelow n ws → k < n → rank (status r.history k) ≡ 3
   ended_at n k small e below = let w = e k below in let s = r.shows k (omega (arith, below, small)) in ap rank (r.agrees k) ∙ is_ended (r.faces k) (omega (arith, w.0, s)) (omega (arith, w.1, s))
 
@@ -192,7 +192,7 @@ module _ {J R : Type 0} (root : J) (crew : ℕ) (passes : List (Pass J R)) (ws :
     over_now k = dite (dec_lt k n) (λ below. ended_over (status r.history k) (ended_at n k small e below)) (λ far. absent_over (status r.history k) (gone k (omega (arith, far))))
 
     -- memory for the rows is asked for last
-    pub finished : Finished (length xs) crew passes
+    pub finished : Finished (length xs) workers passes
     finished = record { history = r.history; legal = r.legal; over = over_now; parts = r.parts }
 
     module _ (rows : List (Ended R)) (count : length rows ≡ n) (taken : (k : ℕ) (x : R) → k < n → get_elem? xs k ≡ some (Row x) → slice_get rows k ≡ Some (row_of (get_or ws k 0) x)) where
@@ -200,13 +200,13 @@ module _ {J R : Type 0} (root : J) (crew : ℕ) (passes : List (Pass J R)) (ws :
       given_now k = dite (dec_lt k n)
           (λ below. let p = lies_at n k small e below in taken k p.0 below p.1 ∙ sym p.2)
           (λ far. let out : n ≤ k = omega (arith, far) in
-          slice_get_past rows k (omega (arith, out, count)) ∙ sym (none_given (status r.history k) (row_given r.history k) (gone k out) (ended_has_row (length xs) crew r.history r.legal k)))
+          slice_get_past rows k (omega (arith, out, count)) ∙ sym (none_given (status r.history k) (row_given r.history k) (gone k out) (ended_has_row (length xs) workers r.history r.legal k)))
 
       used_all : (w : ℕ) (p : Pass J R) → slice_get passes w ≡ Some p → p.full ≡ true → length rows ≡ length xs
       used_all w p at full = ⊎_elim (λ (x : n ≡ length xs). count ∙ x)
           (λ (x : get_or ws n 0 ≡ 0). dite (dec_lt n (length xs)) (λ near. absurd (r.used w p at full n near (is_absent (r.faces n) (sym (r.shows n near) ∙ x)))) (λ out. omega (arith, out, small, count))) o
 
-      pub settled : Settled (length xs) crew root words_promises passes rows
+      pub settled : Settled (length xs) workers root words_promises passes rows
       settled = record {
         history = r.history;
         legal = r.legal;
@@ -216,15 +216,15 @@ module _ {J R : Type 0} (root : J) (crew : ℕ) (passes : List (Pass J R)) (ws :
           (λ a. dite (dec_lt k n) (λ below. absurd (ended_there (status r.history k) (ended_at n k small e below) a)) (λ far. omega (arith, far, count))),
           (λ far. gone k (omega (arith, far, count))),
         );
-        shown = λ k. let v = over_now k in subst (λ z. Shows (status r.history k) z) (sym (given_now k)) (shows_given (status r.history k) (row_given r.history k) (ended_has_row (length xs) crew r.history r.legal k) v.0 v.1);
+        shown = λ k. let v = over_now k in subst (λ z. Shows (status r.history k) z) (sym (given_now k)) (shows_given (status r.history k) (row_given r.history k) (ended_has_row (length xs) workers r.history r.legal k) v.0 v.1);
         in_place = λ _. record {
           given = given_now;
-          handed = λ k x at. handed_by root (status r.history k) r.history k (ended_at n k small e (omega (arith, slice_get_within rows k x at, count))) (got_right (length xs) crew (Some root) r.history r.legal r.matched k);
+          handed = λ k x at. handed_by root (status r.history k) r.history k (ended_at n k small e (omega (arith, slice_get_within rows k x at, count))) (got_right (length xs) workers (Some root) r.history r.legal r.matched k);
         };
         all_used = λ _. used_all;
       }
 
-  pub unfinished : (n : ℕ) → n < length xs → EndedBelow n ws → (get_or ws n 0 ≡ 1) ⊎ (4 ≤ get_or ws n 0) → Unfinished (length xs) crew n words_promises passes
+  pub unfinished : (n : ℕ) → n < length xs → EndedBelow n ws → (get_or ws n 0 ≡ 1) ⊎ (4 ≤ get_or ws n 0) → Unfinished (length xs) workers n words_promises passes
   unfinished n low e o =
       let s = r.shows n low in
       let face : (code (r.faces n) ≡ 1) ⊎ (4 ≤ code (r.faces n)) = subst (λ z. (z ≡ 1) ⊎ (4 ≤ z)) s o in
@@ -309,33 +309,33 @@ module _ {J R : Type 0} where
   ended_lies root h hs k (plain Returned) l e = l
   ended_lies root h hs k (plain Faulted) l e = l
 
-  part_told : (root : Option J) (crew : ℕ) (h : List (Event J R)) (faces : ℕ → Face) (owner : ℕ → Option ℕ) (id : ℕ) (v : View J R) → Knows root crew h faces owner id v → (u : ℕ) (m : List (Event J R)) → Tells v u m → part u h ≡ m
-  part_told root crew h faces owner id v k u m t = ⊎_elim (λ (x : (u ≡ v.worker) × (v.mine ≡ m)). ap (λ z. part z h) x.0 ∙ (k.mine ∙ x.1)) (λ (x : (n : ℕ) × (get_elem? v.joined n ≡ some (u, m))). (k.joins x.0 u m x.1).events) t
+  part_told : (root : Option J) (workers : ℕ) (h : List (Event J R)) (faces : ℕ → Face) (owner : ℕ → Option ℕ) (id : ℕ) (v : View J R) → Knows root workers h faces owner id v → (u : ℕ) (m : List (Event J R)) → Tells v u m → part u h ≡ m
+  part_told root workers h faces owner id v k u m t = ⊎_elim (λ (x : (u ≡ v.worker) × (v.mine ≡ m)). ap (λ z. part z h) x.0 ∙ (k.mine ∙ x.1)) (λ (x : (n : ℕ) × (get_elem? v.joined n ≡ some (u, m))). (k.joins x.0 u m x.1).events) t
 
-  not_held : (root : Option J) (crew : ℕ) (h : List (Event J R)) (faces : ℕ → Face) (owner : ℕ → Option ℕ) (id : ℕ) (v : View J R) → Knows root crew h faces owner id v → v.drawn ≡ 0 → (u : ℕ) (m : List (Event J R)) → Tells v u m → (q : ℕ) → faces q ≢ held u
-  not_held root crew h faces owner id v k none u m t q f = ⊎_elim
+  not_held : (root : Option J) (workers : ℕ) (h : List (Event J R)) (faces : ℕ → Face) (owner : ℕ → Option ℕ) (id : ℕ) (v : View J R) → Knows root workers h faces owner id v → v.drawn ≡ 0 → (u : ℕ) (m : List (Event J R)) → Tells v u m → (q : ℕ) → faces q ≢ held u
+  not_held root workers h faces owner id v k none u m t q f = ⊎_elim
       (λ (x : (u ≡ v.worker) × (v.mine ≡ m)). let d = k.drew q (f ∙ ap held x.0) in absurd (omega (arith, d, none)))
       (λ (x : (n : ℕ) × (get_elem? v.joined n ≡ some (u, m))). (k.joins x.0 u m x.1).idle q f) t
 
   -- a closed row, by the pass that stayed
-  pub settles : (root : Option J) (crew id : ℕ) (v : View J R) (passes : List (Pass J R)) (ws : List ℕ) (xs : List (Slot J R)) → v.live ≡ true → v.drawn ≡ 0 → length passes ≡ crew → HasTaken (length xs) passes 0 v
-      → Final (Seen (IsRow root crew) id v) ws xs → IsClosedRow root crew passes ws xs
-  settles root crew id v passes ws xs lives none len has f =
+  pub settles : (root : Option J) (workers id : ℕ) (v : View J R) (passes : List (Pass J R)) (ws : List ℕ) (xs : List (Slot J R)) → v.live ≡ true → v.drawn ≡ 0 → length passes ≡ workers → HasTaken (length xs) passes 0 v
+      → Final (Seen (IsRow root workers) id v) ws xs → IsClosedRow root workers passes ws xs
+  settles root workers id v passes ws xs lives none len has f =
       let s = f.0 in let r = f.1.0 in let k = r.each_seat id v f.1.1 lives in let size : length s.homes ≡ length xs = f.3 in record {
         history = r.history;
         faces = r.faces;
-        legal = subst (λ z. IsLegal z crew r.history) size r.legal;
+        legal = subst (λ z. IsLegal z workers r.history) size r.legal;
         matched = r.matched;
-        parts = λ w p at. part_told root crew r.history r.faces r.owner id v k w p.mine (has w p (omega arith) at).0;
+        parts = λ w p at. part_told root workers r.history r.faces r.owner id v k w p.mine (has w p (omega arith) at).0;
         shows = λ q l. ap (λ z. get_or z q 0) (sym f.2) ∙ r.shows q (subst (λ z. q < z) (sym size) l);
         agrees = r.agrees;
         beyond = λ q l. r.beyond q (subst (λ z. z ≤ q) (sym size) l);
         together = r.together;
         unheld = λ q u e.
             let b = r.busy q u e in
-            let low = claimed_member (length s.homes) crew r.history r.legal b.0 u b.1 in
+            let low = claimed_member (length s.homes) workers r.history r.legal b.0 u b.1 in
             let p = get_there passes u (omega (arith, low, len)) in
-            not_held root crew r.history r.faces r.owner id v k none u p.0.mine (has u p.0 (omega arith) p.1).0 q e;
+            not_held root workers r.history r.faces r.owner id v k none u p.0.mine (has u p.0 (omega arith) p.1).0 q e;
         placed = λ q l e.
             let x = ended_lies root r.history s.homes q (r.faces q) (r.lies q (subst (λ z. q < z) (sym size) l)) (sym (ap rank (r.agrees q)) ∙ e) in
             (x.0, f.4 q (Row x.0) x.1, x.2 ∙ ap (λ z. ended_as z x.0) (sym (r.agrees q)));

@@ -20,7 +20,7 @@ taken_ways r h = grind (arith, nat_tests)
 
 module _ {J R : Type 0} where
   pub stays_taken : (cap : ℕ) (v w : View J R) (k : ℕ) → GoesOn w.seen v.seen → IsFair cap w → 2 ≤ rank (status v.seen k) → 2 ≤ rank (status w.seen k)
-  stays_taken cap v w k goes fair a = let g = rank_from cap w.crew w.seen v.seen fair.0 goes k in omega arith
+  stays_taken cap v w k goes fair a = let g = rank_from cap w.workers w.seen v.seen fair.0 goes k in omega arith
 
   marked_on : (cap taken : ℕ) (v w : View J R) → GoesOn w.seen v.seen → IsFair cap w → AreTaken taken v.seen → AreTaken taken w.seen
   marked_on cap taken v w goes fair marked k low = stays_taken cap v w k goes fair (marked k low)

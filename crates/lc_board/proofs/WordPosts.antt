@@ -34,16 +34,16 @@ module _ {J R : Type 0} where
   passed_view v h i = record v { seen = h; front = i + 1 }
 
   -- a number is drawn, by who has a claim
-  module _ (root : Option J) (crew me i : ℕ) (v : View J R) (lives : v.live ≡ true) (empty : v.drawn ≡ 0) (front : v.front ≡ i) (q : ℕ) (claim : holding v.mine ≡ Some q)
-      (s : St J R) (r : IsRow root crew s) (at : get_elem? s.views me ≡ some v) (near : i < length s.homes) where
-    abbrev k : Knows root crew r.history r.faces r.owner me v
+  module _ (root : Option J) (workers me i : ℕ) (v : View J R) (lives : v.live ≡ true) (empty : v.drawn ≡ 0) (front : v.front ≡ i) (q : ℕ) (claim : holding v.mine ≡ Some q)
+      (s : St J R) (r : IsRow root workers s) (at : get_elem? s.views me ≡ some v) (near : i < length s.homes) where
+    abbrev k : Knows root workers r.history r.faces r.owner me v
     k = r.each_seat me v at lives
 
     module _ (gone : r.faces i ≡ plain Absent) where
       below_it : (p : ℕ) → holding v.mine ≡ Some p → p < i
-      below_it p is = dite (dec_le i p) (λ le. let x : Absent ≡ Claimed v.worker = sym (r.agrees p ∙ ap shown (r.together i p le gone)) ∙ (held_is root crew s r me v k p).0 is in absurd (cc)) (λ no. omega arith)
+      below_it p is = dite (dec_le i p) (λ le. let x : Absent ≡ Claimed v.worker = sym (r.agrees p ∙ ap shown (r.together i p le gone)) ∙ (held_is root workers s r me v k p).0 is in absurd (cc)) (λ no. omega arith)
 
-      draw_turn : IsTurn root crew s r v.worker i r.history (held v.worker) (set s.homes i none)
+      draw_turn : IsTurn root workers s r v.worker i r.history (held v.worker) (set s.homes i none)
       draw_turn = record {
         near = near;
         long = length-set s.homes i none;
@@ -59,14 +59,14 @@ module _ {J R : Type 0} where
         rows_else = λ z ne. refl;
         lies_here = tt;
         busy = λ z w. at_put r.faces i (held v.worker) (λ y f. f ≡ held w → (p : ℕ) × (status r.history p ≡ Claimed w)) z
-            (λ is. (q, (held_is root crew s r me v k q).0 claim ∙ ap Claimed (held_same v.worker w is))) (λ _ is. r.busy z w is);
+            (λ is. (q, (held_is root workers s r me v k q).0 claim ∙ ap Claimed (held_same v.worker w is))) (λ _ is. r.busy z w is);
         loose = λ u ne. ((λ x. let y = sym gone ∙ x in cc), (λ (x : held v.worker ≡ held u). ne (sym (held_same v.worker u x))), (λ x. cc));
       }
 
-      draw_knows : Knows root crew r.history (put r.faces i (held v.worker)) r.owner me (drawn_view v r.history i)
-      draw_knows = let k' = knows_more root crew (length s.homes) r.history r.faces r.owner me v r.legal k in record {
+      draw_knows : Knows root workers r.history (put r.faces i (held v.worker)) r.owner me (drawn_view v r.history i)
+      draw_knows = let k' = knows_more root workers (length s.homes) r.history r.faces r.owner me v r.legal k in record {
         root_is = k.root_is;
-        crew_is = k.crew_is;
+        workers_are = k.workers_are;
         member = k.member;
         mine = k.mine;
         seen = whole r.history;
@@ -84,10 +84,10 @@ module _ {J R : Type 0} where
         };
       }
 
-    pass_knows : r.faces i ≢ plain Absent → Knows root crew r.history r.faces r.owner me (passed_view v r.history i)
-    pass_knows there = let k' = knows_more root crew (length s.homes) r.history r.faces r.owner me v r.legal k in record {
+    pass_knows : r.faces i ≢ plain Absent → Knows root workers r.history r.faces r.owner me (passed_view v r.history i)
+    pass_knows there = let k' = knows_more root workers (length s.homes) r.history r.faces r.owner me v r.legal k in record {
       root_is = k.root_is;
-      crew_is = k.crew_is;
+      workers_are = k.workers_are;
       member = k.member;
       mine = k.mine;
       seen = whole r.history;
@@ -100,40 +100,40 @@ module _ {J R : Type 0} where
       joins = k.joins;
     }
 
-  pub draws : (root : Option J) (crew slots me : ℕ) (m : Seated J R) (i new q : ℕ) → m.0.live ≡ true → i < slots → m.0.drawn ≡ 0 → m.0.front ≡ i → holding m.0.mine ≡ Some q → new ≡ 4 + 2 * m.0.worker
-      → Allows (IsRow root crew) slots me m i (λ x. either (eqb x 0) new x) (drew (step slots i 0 new none) m)
-  draws root crew slots me m i new q lives near empty front claim is s r len at fits = let v = m.0 in let z : ℕ = get_or s.words i 0 in
+  pub draws : (root : Option J) (workers slots me : ℕ) (m : Seated J R) (i new q : ℕ) → m.0.live ≡ true → i < slots → m.0.drawn ≡ 0 → m.0.front ≡ i → holding m.0.mine ≡ Some q → new ≡ 4 + 2 * m.0.worker
+      → Allows (IsRow root workers) slots me m i (λ x. either (eqb x 0) new x) (drew (step slots i 0 new none) m)
+  draws root workers slots me m i new q lives near empty front claim is s r len at fits = let v = m.0 in let z : ℕ = get_or s.words i 0 in
       let near' : i < length s.homes = omega arith in let k0 = r.each_seat me v at lives in
-      let G : ℕ → Type 0 = λ x. (w : View J R) × (a : Act (Slot J R)) × Valid s.homes m.1 a × IsRow root crew (stepped s i x me m.1 w a) × drew (step slots i 0 new none) m z (w, carried_after m.1 a) in
+      let G : ℕ → Type 0 = λ x. (w : View J R) × (a : Act (Slot J R)) × Valid s.homes m.1 a × IsRow root workers (stepped s i x me m.1 w a) × drew (step slots i 0 new none) m z (w, carried_after m.1 a) in
       exchanged z 0 new G
       (λ (hit : z ≡ 0). let gone = is_absent (r.faces i) (sym (r.shows i near') ∙ hit) in let l = subst (λ c. Lies root r.history s.homes i c) gone (r.lies i near') in
-      let w = drawn_view v r.history i in let k' = draw_knows root crew me i v lives empty front q claim s r at near' gone in (
+      let w = drawn_view v r.history i in let k' = draw_knows root workers me i v lives empty front q claim s r at near' gone in (
         w,
         takes i Empty,
         l,
-        subst (λ x. IsRow root crew (stepped s i x me m.1 w (takes i Empty))) (sym is)
-            (rebuilt root crew s r me v at lives r.history (put r.faces i (held v.worker)) (set s.words i (4 + 2 * v.worker)) (set s.homes i none) w
-            (turned root crew s r v.worker i r.history (held v.worker) (set s.homes i none) (draw_turn root crew me i v lives empty front q claim s r at near' gone)) k'),
+        subst (λ x. IsRow root workers (stepped s i x me m.1 w (takes i Empty))) (sym is)
+            (rebuilt root workers s r me v at lives r.history (put r.faces i (held v.worker)) (set s.words i (4 + 2 * v.worker)) (set s.homes i none) w
+            (turned root workers s r v.worker i r.history (held v.worker) (set s.homes i none) (draw_turn root workers me i v lives empty front q claim s r at near' gone)) k'),
         (
           (refl, refl, refl, refl, refl, refl),
           refl,
           refl,
-          (k0.seen, refl, subst (λ c. IsFair c w) len (fair root crew (length s.homes) r.history (put r.faces i (held v.worker)) r.owner me w refl r.legal r.matched k')),
-          (λ _. (refl, refl, below_it root crew me i v lives empty front q claim s r at near' gone)),
+          (k0.seen, refl, subst (λ c. IsFair c w) len (fair root workers (length s.homes) r.history (put r.faces i (held v.worker)) r.owner me w refl r.legal r.matched k')),
+          (λ _. (refl, refl, below_it root workers me i v lives empty front q claim s r at near' gone)),
           (λ miss. absurd (miss hit)),
         ),
       ))
-      (λ (miss : z ≢ 0). let w = passed_view v r.history i in let k' = pass_knows root crew me i v lives empty front q claim s r at near' (λ e. miss (r.shows i near' ∙ ap code e)) in (
+      (λ (miss : z ≢ 0). let w = passed_view v r.history i in let k' = pass_knows root workers me i v lives empty front q claim s r at near' (λ e. miss (r.shows i near' ∙ ap code e)) in (
         w,
         keeps,
         tt,
-        subst (λ (ws : List ℕ). IsRow root crew record { words = ws; homes = s.homes; views = set s.views me w }) (sym (set-get_or s.words i 0))
-            (rebuilt root crew s r me v at lives r.history r.faces s.words s.homes w (next_same root crew s r v.worker) k'),
+        subst (λ (ws : List ℕ). IsRow root workers record { words = ws; homes = s.homes; views = set s.views me w }) (sym (set-get_or s.words i 0))
+            (rebuilt root workers s r me v at lives r.history r.faces s.words s.homes w (next_same root workers s r v.worker) k'),
         (
           (refl, refl, refl, refl, refl, refl),
           refl,
           refl,
-          (k0.seen, refl, subst (λ c. IsFair c w) len (fair root crew (length s.homes) r.history r.faces r.owner me w refl r.legal r.matched k')),
+          (k0.seen, refl, subst (λ c. IsFair c w) len (fair root workers (length s.homes) r.history r.faces r.owner me w refl r.legal r.matched k')),
           (λ hit. absurd (miss hit)),
           (λ _. (refl, refl)),
         ),
@@ -143,9 +143,9 @@ module _ {J R : Type 0} where
   abbrev opened_view : View J R → List (Event J R) → Event J R → View J R
   opened_view v h e = record v { seen = e ∷ h; mine = e ∷ v.mine; drawn = 0 }
 
-  module _ (root : Option J) (crew me i : ℕ) (v : View J R) (lives : v.live ≡ true) (full : v.drawn ≡ i + 1) (p : ℕ) (claim : holding v.mine ≡ Some p) (below : p < i) (j : J)
-      (s : St J R) (r : IsRow root crew s) (at : get_elem? s.views me ≡ some v) (near : i < length s.homes) where
-    abbrev ko : Knows root crew r.history r.faces r.owner me v
+  module _ (root : Option J) (workers me i : ℕ) (v : View J R) (lives : v.live ≡ true) (full : v.drawn ≡ i + 1) (p : ℕ) (claim : holding v.mine ≡ Some p) (below : p < i) (j : J)
+      (s : St J R) (r : IsRow root workers s) (at : get_elem? s.views me ≡ some v) (near : i < length s.homes) where
+    abbrev ko : Knows root workers r.history r.faces r.owner me v
     ko = r.each_seat me v at lives
 
     abbrev post : Event J R
@@ -157,10 +157,10 @@ module _ {J R : Type 0} where
     is_new : status r.history i ≡ Absent
     is_new = r.agrees i ∙ ap shown has
 
-    post_legal : IsLegal (length s.homes) crew (Post v.worker p i j ∷ r.history)
-    post_legal = (r.legal, ko.member, ((held_is root crew s r me v ko p).0 claim, is_new, near, below))
+    post_legal : IsLegal (length s.homes) workers (Post v.worker p i j ∷ r.history)
+    post_legal = (r.legal, ko.member, ((held_is root workers s r me v ko p).0 claim, is_new, near, below))
 
-    open_turn : IsTurn root crew s r v.worker i (Post v.worker p i j ∷ r.history) (plain Open) (set s.homes i (some (Job j)))
+    open_turn : IsTurn root workers s r v.worker i (Post v.worker p i j ∷ r.history) (plain Open) (set s.homes i (some (Job j)))
     open_turn = record {
       near = near;
       long = length-set s.homes i (some (Job j));
@@ -180,17 +180,17 @@ module _ {J R : Type 0} where
       loose = λ u ne. ((λ x. ne (sym (held_same v.worker u (sym has ∙ x)))), (λ x. cc), (λ x. cc));
     }
 
-    open_knows : Knows root crew (Post v.worker p i j ∷ r.history) (put r.faces i (plain Open)) r.owner me (opened_view v r.history (Post v.worker p i j))
+    open_knows : Knows root workers (Post v.worker p i j ∷ r.history) (put r.faces i (plain Open)) r.owner me (opened_view v r.history (Post v.worker p i j))
     open_knows = record {
       root_is = ko.root_is;
-      crew_is = ko.crew_is;
+      workers_are = ko.workers_are;
       member = ko.member;
       mine = part_own v.worker r.history post refl ∙ ap (λ z. post ∷ z) ko.mine;
       seen = whole (post ∷ r.history);
       owns = ko.owns;
       drew = λ z. at_put r.faces i (plain Open) (λ y f. f ≡ held v.worker → 0 ≡ y + 1) z (λ x. absurd (cc)) (λ ne x. absurd (let y = ko.drew z x in ne (omega arith)));
       draws = λ z is. absurd (omega arith);
-      low = low_stays root crew (length s.homes) r.history r.faces r.owner me v post post_legal ko;
+      low = low_stays root workers (length s.homes) r.history r.faces r.owner me v post post_legal ko;
       front = λ z below. at_put r.faces i (plain Open) (λ y f. y < v.front → f ≢ plain Absent) z (λ _ x. cc) (λ _. ko.front z) below;
       deals = ko.deals;
       joins = λ a u m is. let x = ko.joins a u m is in record {
@@ -201,16 +201,16 @@ module _ {J R : Type 0} where
       };
     }
 
-  pub opens : (root : Option J) (crew slots me : ℕ) (m : Seated J R) (i p : ℕ) (j : J) → m.0.live ≡ true → i < slots → m.0.drawn ≡ i + 1 → holding m.0.mine ≡ Some p → p < i → m.1 ≡ (i, Job j) ∷ rest m.1
-      → Allows (IsRow root crew) slots me m i (λ _. 1) (opened (step slots i 1 0 none) m)
-  opens root crew slots me m i p j lives near full claim below has s r len at fits = let v = m.0 in let near' : i < length s.homes = omega arith in let k0 = r.each_seat me v at lives in
+  pub opens : (root : Option J) (workers slots me : ℕ) (m : Seated J R) (i p : ℕ) (j : J) → m.0.live ≡ true → i < slots → m.0.drawn ≡ i + 1 → holding m.0.mine ≡ Some p → p < i → m.1 ≡ (i, Job j) ∷ rest m.1
+      → Allows (IsRow root workers) slots me m i (λ _. 1) (opened (step slots i 1 0 none) m)
+  opens root workers slots me m i p j lives near full claim below has s r len at fits = let v = m.0 in let near' : i < length s.homes = omega arith in let k0 = r.each_seat me v at lives in
       let e : Event J R = Post v.worker p i j in let w = opened_view v r.history e in
-      let turn = open_turn root crew me i v lives full p claim below j s r at near' in let k' = open_knows root crew me i v lives full p claim below j s r at near' in (
+      let turn = open_turn root workers me i v lives full p claim below j s r at near' in let k' = open_knows root workers me i v lives full p claim below j s r at near' in (
         w,
         gives,
         tt,
-        subst (λ (c : List (ℕ × Slot J R)). IsRow root crew (stepped s i 1 me c w gives)) (sym has)
-            (rebuilt root crew s r me v at lives (e ∷ r.history) (put r.faces i (plain Open)) (set s.words i 1) (set s.homes i (some (Job j))) w
-            (turned root crew s r v.worker i (e ∷ r.history) (plain Open) (set s.homes i (some (Job j))) turn) k'),
-        (((refl, refl, refl, refl, refl, refl), refl, refl, refl, refl), (p, j, claim, has, subst (λ c. AddsEvent c v e w) len (adds root crew (length s.homes) r.history r.faces r.owner me v e (put r.faces i (plain Open)) w refl refl turn.legal turn.matched k0 k'))),
+        subst (λ (c : List (ℕ × Slot J R)). IsRow root workers (stepped s i 1 me c w gives)) (sym has)
+            (rebuilt root workers s r me v at lives (e ∷ r.history) (put r.faces i (plain Open)) (set s.words i 1) (set s.homes i (some (Job j))) w
+            (turned root workers s r v.worker i (e ∷ r.history) (plain Open) (set s.homes i (some (Job j))) turn) k'),
+        (((refl, refl, refl, refl, refl, refl), refl, refl, refl, refl), (p, j, claim, has, subst (λ c. AddsEvent c v e w) len (adds root workers (length s.homes) r.history r.faces r.owner me v e (put r.faces i (plain Open)) w refl refl turn.legal turn.matched k0 k'))),
       )

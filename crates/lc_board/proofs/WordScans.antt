@@ -81,8 +81,8 @@ module _ {J R : Type 0} where
   passed : (cap : ℕ) (v u w : View J R) (k : ℕ) → Looks cap u w → (status v.seen k ≡ Absent) ⊎ (2 ≤ rank (status u.seen k)) → (status v.seen k ≡ Absent) ⊎ (2 ≤ rank (status w.seen k))
   passed cap v u w k l p = ⊎_elim (λ a. inl a) (λ (a : 2 ≤ rank (status u.seen k)). inr (stays_taken cap u w k l.0 l.2 a)) p
 
-  was_absent : (cap : ℕ) (v w : View J R) (k : ℕ) → IsLegal cap w.crew w.seen → GoesOn w.seen v.seen → status w.seen k ≡ Absent → status v.seen k ≡ Absent
-  was_absent cap v w k l s e = let g = rank_from cap w.crew w.seen v.seen l s k in let x = ap rank e in rank_zero (status v.seen k) (omega arith)
+  was_absent : (cap : ℕ) (v w : View J R) (k : ℕ) → IsLegal cap w.workers w.seen → GoesOn w.seen v.seen → status w.seen k ≡ Absent → status v.seen k ≡ Absent
+  was_absent cap v w k l s e = let g = rank_from cap w.workers w.seen v.seen l s k in let x = ap rank e in rank_zero (status v.seen k) (omega arith)
 
   others_on : (cap : ℕ) (v u w : View J R) → OthersHeld v u → GoesOn w.seen u.seen → w.worker ≡ u.worker → OthersHeld v w
   others_on cap v u w o s e = (o.0, o.1, o.2, o.3, goes_trans w.seen u.seen o.0 s o.4, (λ x. o.5 (x ∙ e)), o.6)

@@ -56,10 +56,10 @@ redirect_else o id j x e n = ap (redirect o id) e ∙ ap (λ b. cond b (Some id)
 
 module _ {J R : Type 0} where
   -- the rule stays where only the views and the owners change
-  reseated : (root : Option J) (crew : ℕ) (s : State (Slot J R) (View J R)) (r : IsRow root crew s) (views : List (View J R)) (owner : ℕ → Option ℕ)
+  reseated : (root : Option J) (workers : ℕ) (s : State (Slot J R) (View J R)) (r : IsRow root workers s) (views : List (View J R)) (owner : ℕ → Option ℕ)
       → ((u : ℕ) → owner u ≡ None → (part u r.history ≡ []) × ((k : ℕ) → (r.faces k ≢ held u) × (r.faces k ≢ plain (Claimed u))))
-      → ((j : ℕ) (v : View J R) → get_elem? views j ≡ some v → v.live ≡ true → Knows root crew r.history r.faces owner j v) → IsRow root crew record { words = s.words; homes = s.homes; views = views }
-  reseated root crew s r views owner idle seats = record {
+      → ((j : ℕ) (v : View J R) → get_elem? views j ≡ some v → v.live ≡ true → Knows root workers r.history r.faces owner j v) → IsRow root workers record { words = s.words; homes = s.homes; views = views }
+  reseated root workers s r views owner idle seats = record {
     history = r.history;
     faces = r.faces;
     owner = owner;
@@ -76,12 +76,12 @@ module _ {J R : Type 0} where
     each_seat = seats;
   }
 
-  reknown : (root : Option J) (crew : ℕ) (h : List (Event J R)) (faces : ℕ → Face) (owner owner' : ℕ → Option ℕ) (j : ℕ) (d : View J R) → Knows root crew h faces owner j d → owner' d.worker ≡ Some j
+  reknown : (root : Option J) (workers : ℕ) (h : List (Event J R)) (faces : ℕ → Face) (owner owner' : ℕ → Option ℕ) (j : ℕ) (d : View J R) → Knows root workers h faces owner j d → owner' d.worker ≡ Some j
       → (0 < d.made → (j ≡ 0) × ((u : ℕ) → d.made ≤ u → owner' u ≡ None))
-      → ((n u : ℕ) (m : List (Event J R)) → get_elem? d.joined n ≡ some (u, m) → owner' u ≡ Some j) → Knows root crew h faces owner' j d
-  reknown root crew h faces owner owner' j d k a b c = record {
+      → ((n u : ℕ) (m : List (Event J R)) → get_elem? d.joined n ≡ some (u, m) → owner' u ≡ Some j) → Knows root workers h faces owner' j d
+  reknown root workers h faces owner owner' j d k a b c = record {
     root_is = k.root_is;
-    crew_is = k.crew_is;
+    workers_are = k.workers_are;
     member = k.member;
     mine = k.mine;
     seen = k.seen;
@@ -94,21 +94,21 @@ module _ {J R : Type 0} where
     joins = λ n u m e. let x = k.joins n u m e in record { owned = c n u m e; other = x.other; events = x.events; idle = x.idle };
   }
 
-  pub splits : (root : Option J) (crew id : ℕ) (v : View J R) → v.live ≡ true → 0 < v.made → v.made < crew → Splits (IsRow root crew) id v (dealt v) (newcomer v)
-  splits root crew id v lives some_made room s r at = let k = r.each_seat id v at lives in let deals = k.deals some_made in let n : ℕ = length s.views in
+  pub splits : (root : Option J) (workers id : ℕ) (v : View J R) → v.live ≡ true → 0 < v.made → v.made < workers → Splits (IsRow root workers) id v (dealt v) (newcomer v)
+  splits root workers id v lives some_made room s r at = let k = r.each_seat id v at lives in let deals = k.deals some_made in let n : ℕ = length s.views in
       let owner' : ℕ → Option ℕ = put r.owner v.made (Some n) in
       let fresh : r.owner v.made ≡ None = deals.1 v.made (omega arith) in
       let other : (u j : ℕ) → r.owner u ≡ Some j → u ≢ v.made = (λ u j e x. let y = sym e ∙ (ap r.owner x ∙ fresh) in cc) in
       let kept : (u j : ℕ) → r.owner u ≡ Some j → owner' u ≡ Some j = (λ u j e. put_else r.owner v.made (Some n) u (other u j e) ∙ e) in
       let unused = r.idle v.made fresh in
-      reseated root crew s r (set s.views id (dealt v) ++ newcomer v ∷ []) owner'
+      reseated root workers s r (set s.views id (dealt v) ++ newcomer v ∷ []) owner'
       (λ u. at_put r.owner v.made (Some n) (λ z o. o ≡ None → (part z r.history ≡ []) × ((q : ℕ) → (r.faces q ≢ held z) × (r.faces q ≢ plain (Claimed z)))) u (λ e. absurd cc) (λ _ e. r.idle u e))
       (λ j d e live. ⊎_elim
       (λ (x : get_elem? (set s.views id (dealt v)) j ≡ some d). ⊎_elim
-      (λ (y : (j ≡ id) × (dealt v ≡ d)). subst (λ (z : ℕ × View J R). Knows root crew r.history r.faces owner' z.0 z.1) (λ i. (sym y.0 i, y.1 i))
-      (let base : Knows root crew r.history r.faces r.owner id (dealt v) = record {
+      (λ (y : (j ≡ id) × (dealt v ≡ d)). subst (λ (z : ℕ × View J R). Knows root workers r.history r.faces owner' z.0 z.1) (λ i. (sym y.0 i, y.1 i))
+      (let base : Knows root workers r.history r.faces r.owner id (dealt v) = record {
         root_is = k.root_is;
-        crew_is = k.crew_is;
+        workers_are = k.workers_are;
         member = k.member;
         mine = k.mine;
         seen = k.seen;
@@ -119,15 +119,15 @@ module _ {J R : Type 0} where
         front = k.front;
         deals = λ _. (deals.0, λ u le. deals.1 u (omega arith));
         joins = k.joins;
-      } in reknown root crew r.history r.faces r.owner owner' id (dealt v) base (kept v.worker id k.owns)
+      } in reknown root workers r.history r.faces r.owner owner' id (dealt v) base (kept v.worker id k.owns)
       (λ _. (deals.0, λ u le. put_else r.owner v.made (Some n) u (λ z. absurd (omega arith)) ∙ deals.1 u (omega arith)))
       (λ a u m is. let q = k.joins a u m is in kept u id q.owned)))
-      (λ (y : (j ≢ id) × (get_elem? s.views j ≡ some d)). let kd = r.each_seat j d y.1 live in reknown root crew r.history r.faces r.owner owner' j d kd (kept d.worker j kd.owns)
+      (λ (y : (j ≢ id) × (get_elem? s.views j ≡ some d)). let kd = r.each_seat j d y.1 live in reknown root workers r.history r.faces r.owner owner' j d kd (kept d.worker j kd.owns)
       (λ more. absurd (y.0 ((kd.deals more).0 ∙ sym deals.0))) (λ a u m is. let q = kd.joins a u m is in kept u j q.owned))
       (at_set s.views id j (dealt v) d x))
-      (λ (x : (j ≡ length (set s.views id (dealt v))) × (newcomer v ≡ d)). subst (λ (z : ℕ × View J R). Knows root crew r.history r.faces owner' z.0 z.1) (λ i. (sym (x.0 ∙ length-set s.views id (dealt v)) i, x.1 i)) record {
+      (λ (x : (j ≡ length (set s.views id (dealt v))) × (newcomer v ≡ d)). subst (λ (z : ℕ × View J R). Knows root workers r.history r.faces owner' z.0 z.1) (λ i. (sym (x.0 ∙ length-set s.views id (dealt v)) i, x.1 i)) record {
         root_is = k.root_is;
-        crew_is = k.crew_is;
+        workers_are = k.workers_are;
         member = room;
         mine = unused.0;
         seen = (r.history, sym (append-nil r.history));
@@ -141,18 +141,18 @@ module _ {J R : Type 0} where
       })
       (at_end (set s.views id (dealt v)) (newcomer v) d j e))
 
-  pub merges : (root : Option J) (crew id : ℕ) (v : View J R) (other : ℕ) (w : View J R) → v.live ≡ true → w.live ≡ true → w.drawn ≡ 0 → Joins (IsRow root crew) id v other w (merged v w) spent
-  merges root crew id v other w lives lives' still s r at apart at' = let k = r.each_seat id v at lives in let there = sym (set_else s.views id other (merged v w) apart) ∙ at' in let kw = r.each_seat other w there lives' in
+  pub merges : (root : Option J) (workers id : ℕ) (v : View J R) (other : ℕ) (w : View J R) → v.live ≡ true → w.live ≡ true → w.drawn ≡ 0 → Joins (IsRow root workers) id v other w (merged v w) spent
+  merges root workers id v other w lives lives' still s r at apart at' = let k = r.each_seat id v at lives in let there = sym (set_else s.views id other (merged v w) apart) ∙ at' in let kw = r.each_seat other w there lives' in
       let owner' : ℕ → Option ℕ = λ u. redirect other id (r.owner u) in
       let mine_stays : (u : ℕ) → r.owner u ≡ Some id → owner' u ≡ Some id = (λ u e. redirect_else other id id (r.owner u) e (λ x. apart (sym x))) in
-      reseated root crew s r (set (set s.views id (merged v w)) other spent) owner'
+      reseated root workers s r (set (set s.views id (merged v w)) other spent) owner'
       (λ u e. r.idle u (redirect_none other id (r.owner u) e))
       (λ j d e live. ⊎_elim
       (λ (y : (j ≡ other) × (spent ≡ d)). let x : false ≡ true = ap (λ (z : View J R). z.live) y.1 ∙ live in absurd cc)
       (λ (y : (j ≢ other) × (get_elem? (set s.views id (merged v w)) j ≡ some d)). ⊎_elim
-      (λ (z : (j ≡ id) × (merged v w ≡ d)). subst (λ (q : ℕ × View J R). Knows root crew r.history r.faces owner' q.0 q.1) (λ i. (sym z.0 i, z.1 i)) record {
+      (λ (z : (j ≡ id) × (merged v w ≡ d)). subst (λ (q : ℕ × View J R). Knows root workers r.history r.faces owner' q.0 q.1) (λ i. (sym z.0 i, z.1 i)) record {
         root_is = k.root_is;
-        crew_is = k.crew_is;
+        workers_are = k.workers_are;
         member = k.member;
         mine = k.mine;
         seen = k.seen;
@@ -165,7 +165,7 @@ module _ {J R : Type 0} where
         joins = λ n u m is. ⊎_elim (λ (q : get_elem? v.joined n ≡ some (u, m)). let x = k.joins n u m q in record { owned = mine_stays u x.owned; other = x.other; events = x.events; idle = x.idle })
             (λ (q : (a : ℕ) × (get_elem? ((w.worker, w.mine) ∷ w.joined) a ≡ some (u, m))). joined_one q.0 u m q.1) (at_append v.joined ((w.worker, w.mine) ∷ w.joined) (u, m) n is);
       })
-      (λ (z : (j ≢ id) × (get_elem? s.views j ≡ some d)). let kd = r.each_seat j d z.1 live in reknown root crew r.history r.faces r.owner owner' j d kd (redirect_else other id j (r.owner d.worker) kd.owns y.0)
+      (λ (z : (j ≢ id) × (get_elem? s.views j ≡ some d)). let kd = r.each_seat j d z.1 live in reknown root workers r.history r.faces r.owner owner' j d kd (redirect_else other id j (r.owner d.worker) kd.owns y.0)
       (λ more. let x = kd.deals more in (x.0, λ u le. ap (redirect other id) (x.1 u le))) (λ a u m is. let x = kd.joins a u m is in redirect_else other id j (r.owner u) x.owned y.0))
       (at_set s.views id j (merged v w) d y.1))
       (at_set (set s.views id (merged v w)) other j spent d e))
@@ -209,7 +209,7 @@ long_zeros (suc n) = ap suc (long_zeros n)
 abbrev first_faces : ℕ → Face
 first_faces = put (λ _. plain Absent) 0 (plain Open)
 
-module _ (J R : Type 0) (root : J) (crew n : ℕ) (some_crew : 0 < crew) where
+module _ (J R : Type 0) (root : J) (workers n : ℕ) (some_worker : 0 < workers) where
   abbrev first_homes : Homes J R
   first_homes = some (Job root) ∷ map some (replicate n Empty)
 
@@ -225,8 +225,8 @@ module _ (J R : Type 0) (root : J) (crew n : ℕ) (some_crew : 0 < crew) where
   first_lies (suc k) l = subst (λ f. Lies (Some root) [] first_homes (suc k) f) (sym (put_else (λ _. plain Absent) 0 (plain Open) (suc k) (λ e. absurd (omega arith)))) (empties J R n k (omega arith))
 
   -- word 0 is open with the root in its slot, and the others are absent
-  pub begins : (ws : List ℕ) (xs : List (Slot J R)) → ws ≡ 1 ∷ blank n → xs ≡ Job root ∷ replicate n Empty → IsRow (Some root) crew (opening ws xs (dealer (Some root) crew))
-  begins ws xs is are = subst (λ (z : List ℕ × List (Slot J R)). IsRow (Some root) crew (opening z.0 z.1 (dealer (Some root) crew))) (λ i. (sym is i, sym are i)) record {
+  pub begins : (ws : List ℕ) (xs : List (Slot J R)) → ws ≡ 1 ∷ blank n → xs ≡ Job root ∷ replicate n Empty → IsRow (Some root) workers (opening ws xs (dealer (Some root) workers))
+  begins ws xs is are = subst (λ (z : List ℕ × List (Slot J R)). IsRow (Some root) workers (opening z.0 z.1 (dealer (Some root) workers))) (λ i. (sym is i, sym are i)) record {
     history = [];
     faces = first_faces;
     owner = put (λ _. None) 0 (Some 0);
@@ -243,11 +243,11 @@ module _ (J R : Type 0) (root : J) (crew n : ℕ) (some_crew : 0 < crew) where
     each_seat = first_seats;
   }
     where
-      first_seat : Knows (Some root) crew [] first_faces (put (λ _. None) 0 (Some 0)) 0 (dealer {J = J} {R = R} (Some root) crew)
+      first_seat : Knows (Some root) workers [] first_faces (put (λ _. None) 0 (Some 0)) 0 (dealer {J = J} {R = R} (Some root) workers)
       first_seat = record {
         root_is = refl;
-        crew_is = refl;
-        member = some_crew;
+        workers_are = refl;
+        member = some_worker;
         mine = refl;
         seen = ([], refl);
         owns = refl;
@@ -259,6 +259,6 @@ module _ (J R : Type 0) (root : J) (crew n : ℕ) (some_crew : 0 < crew) where
         joins = λ a u m e. absurd (some-ne-none (u, m) (sym e));
       }
 
-      first_seats : (j : ℕ) (v : View J R) → get_elem? (dealer (Some root) crew ∷ []) j ≡ some v → v.live ≡ true → Knows (Some root) crew [] first_faces (put (λ _. None) 0 (Some 0)) j v
-      first_seats zero v e live = subst (λ z. Knows (Some root) crew [] first_faces (put (λ _. None) 0 (Some 0)) 0 z) (some-injective (dealer (Some root) crew) v e) first_seat
+      first_seats : (j : ℕ) (v : View J R) → get_elem? (dealer (Some root) workers ∷ []) j ≡ some v → v.live ≡ true → Knows (Some root) workers [] first_faces (put (λ _. None) 0 (Some 0)) j v
+      first_seats zero v e live = subst (λ z. Knows (Some root) workers [] first_faces (put (λ _. None) 0 (Some 0)) 0 z) (some-injective (dealer (Some root) workers) v e) first_seat
       first_seats (suc j) v e live = absurd (some-ne-none v (sym e))

@@ -13,12 +13,12 @@ module _ {J R : Type 0} where
   abbrev IsNew : Words J R → ℕ → WordsPass J R → Type 0
   IsNew b w p = IsPassOf b p × (told p ≡ new_pass w) × ((known p).seen ≡ [])
 
-  pub one_more : (b : Words J R) (items : List (WordsPass J R)) (n crew : ℕ) (first first' other : WordsPass J R) → slice_get items 0 ≡ Some first → length items ≡ n → 0 < n
+  pub one_more : (b : Words J R) (items : List (WordsPass J R)) (n workers : ℕ) (first first' other : WordsPass J R) → slice_get items 0 ≡ Some first → length items ≡ n → 0 < n
       → IsSamePass first first' → known first' ≡ dealt (known first) → IsPassOf b other → other.worker ≡ n → other.full ≡ false → known other ≡ newcomer (known first)
-      → ((w : ℕ) (p : WordsPass J R) → slice_get items w ≡ Some p → IsNew b w p) → ((known first).made ≡ n) × ((known first).crew ≡ crew)
+      → ((w : ℕ) (p : WordsPass J R) → slice_get items w ≡ Some p → IsNew b w p) → ((known first).made ≡ n) × ((known first).workers ≡ workers)
       → ((w : ℕ) (p : WordsPass J R) → slice_get (slice_set items 0 first' ++ other ∷ []) w ≡ Some p → IsNew b w p)
-      × ((p : WordsPass J R) → slice_get (slice_set items 0 first' ++ other ∷ []) 0 ≡ Some p → ((known p).made ≡ n + 1) × ((known p).crew ≡ crew))
-  one_more b items n crew first first' other at len some same me own number empty new each deals =
+      × ((p : WordsPass J R) → slice_get (slice_set items 0 first' ++ other ∷ []) 0 ≡ Some p → ((known p).made ≡ n + 1) × ((known p).workers ≡ workers))
+  one_more b items n workers first first' other at len some same me own number empty new each deals =
       let ds : List (WordsPass J R) = slice_set items 0 first' in
       let low : 0 < length items = omega (arith, len, some) in
       let size : length (slice_set items 0 first') ≡ n = length-set items 0 first' ∙ len in
@@ -38,6 +38,6 @@ module _ {J R : Type 0} where
             let there : slice_get (slice_set items 0 first' ++ other ∷ []) 0 ≡ Some first' = get_push_other (slice_set items 0 first') other 0 (λ z. absurd (omega (arith, z, size, some))) ∙ get_set_same items 0 first' low in
             let x : Some first' ≡ Some p = sym there ∙ e in
             let is : first' ≡ p = cc x in
-            subst (λ q. ((known q).made ≡ n + 1) × ((known q).crew ≡ crew)) is
-            (ap (λ (v : View J R). v.made) me ∙ ap (λ k. k + 1) deals.0, ap (λ (v : View J R). v.crew) me ∙ deals.1),
+            subst (λ q. ((known q).made ≡ n + 1) × ((known q).workers ≡ workers)) is
+            (ap (λ (v : View J R). v.made) me ∙ ap (λ k. k + 1) deals.0, ap (λ (v : View J R). v.workers) me ∙ deals.1),
       )

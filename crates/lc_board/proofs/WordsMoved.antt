@@ -49,21 +49,21 @@ same_some e = cc
 
 module _ {J R : Type 0} where
   -- what a pass has claimed, as its events say it
-  pub held_is : (root : Option J) (crew : ℕ) (s : State (Slot J R) (View J R)) (r : IsRow root crew s) (me : ℕ) (v : View J R) → Knows root crew r.history r.faces r.owner me v
+  pub held_is : (root : Option J) (workers : ℕ) (s : State (Slot J R) (View J R)) (r : IsRow root workers s) (me : ℕ) (v : View J R) → Knows root workers r.history r.faces r.owner me v
       → (i : ℕ) → (holding v.mine ≡ Some i) ↔ (status r.history i ≡ Claimed v.worker)
-  held_is root crew s r me v k i =
-      let t = part_tells_claim (length s.homes) crew r.history r.legal v.worker in
+  held_is root workers s r me v k i =
+      let t = part_tells_claim (length s.homes) workers r.history r.legal v.worker in
       subst (λ m. (holding m ≡ Some i) ↔ (status r.history i ≡ Claimed v.worker)) k.mine (t.claimed i)
 
   still_joined : (h h' : List (Event J R)) (faces faces' : ℕ → Face) (owner : ℕ → Option ℕ) (j worker u : ℕ) (m : List (Event J R)) → part u h' ≡ part u h → IsApart u faces faces' → HasJoined h faces owner j worker u m → HasJoined h' faces' owner j worker u m
   still_joined h h' faces faces' owner j worker u m same apart x = record { owned = x.owned; other = x.other; events = same ∙ x.events; idle = λ k e. x.idle k (apart.held_from k e) }
 
-  others_know : (root : Option J) (crew : ℕ) (h h' : List (Event J R)) (faces faces' : ℕ → Face) (owner : ℕ → Option ℕ) (j : ℕ) (d : View J R)
+  others_know : (root : Option J) (workers : ℕ) (h h' : List (Event J R)) (faces faces' : ℕ → Face) (owner : ℕ → Option ℕ) (j : ℕ) (d : View J R)
       → part d.worker h' ≡ part d.worker h → ((n u : ℕ) (m : List (Event J R)) → get_elem? d.joined n ≡ some (u, m) → (part u h' ≡ part u h) × IsApart u faces faces') → GoesOn h' h → IsApart d.worker faces faces'
-      → ((k : ℕ) → faces' k ≡ plain Absent → faces k ≡ plain Absent) → Knows root crew h faces owner j d → Knows root crew h' faces' owner j d
-  others_know root crew h h' faces faces' owner j d same sames longer apart more k = record {
+      → ((k : ℕ) → faces' k ≡ plain Absent → faces k ≡ plain Absent) → Knows root workers h faces owner j d → Knows root workers h' faces' owner j d
+  others_know root workers h h' faces faces' owner j d same sames longer apart more k = record {
     root_is = k.root_is;
-    crew_is = k.crew_is;
+    workers_are = k.workers_are;
     member = k.member;
     mine = same ∙ k.mine;
     seen = goes_trans h' h d.seen longer k.seen;
@@ -77,13 +77,13 @@ module _ {J R : Type 0} where
   }
 
   -- passes at other seats are other workers'
-  pub other_worker : (root : Option J) (crew : ℕ) (h : List (Event J R)) (faces : ℕ → Face) (owner : ℕ → Option ℕ) (me j : ℕ) (v d : View J R) → Knows root crew h faces owner me v → Knows root crew h faces owner j d → j ≢ me → d.worker ≢ v.worker
-  other_worker root crew h faces owner me j v d a b ne e = ne (same_some (sym b.owns ∙ (ap owner e ∙ a.owns)))
+  pub other_worker : (root : Option J) (workers : ℕ) (h : List (Event J R)) (faces : ℕ → Face) (owner : ℕ → Option ℕ) (me j : ℕ) (v d : View J R) → Knows root workers h faces owner me v → Knows root workers h faces owner j d → j ≢ me → d.worker ≢ v.worker
+  other_worker root workers h faces owner me j v d a b ne e = ne (same_some (sym b.owns ∙ (ap owner e ∙ a.owns)))
 
-  pub record IsNext (root : Option J) (crew : ℕ) (s : State (Slot J R) (View J R)) (r : IsRow root crew s) (worker : ℕ) (h' : List (Event J R)) (faces' : ℕ → Face) (words' : List ℕ) (homes' : Homes J R) : Type 0 where
+  pub record IsNext (root : Option J) (workers : ℕ) (s : State (Slot J R) (View J R)) (r : IsRow root workers s) (worker : ℕ) (h' : List (Event J R)) (faces' : ℕ → Face) (words' : List ℕ) (homes' : Homes J R) : Type 0 where
     pub long : length homes' ≡ length s.homes
     pub wide : length words' ≡ length s.words
-    pub legal : IsLegal (length s.homes) crew h'
+    pub legal : IsLegal (length s.homes) workers h'
     pub matched : IsMatched root h'
     pub grows : GoesOn h' r.history
     pub parts : (u : ℕ) → u ≢ worker → part u h' ≡ part u r.history
@@ -96,14 +96,14 @@ module _ {J R : Type 0} where
     pub apart : (u : ℕ) → u ≢ worker → IsApart u r.faces faces'
     pub more : (k : ℕ) → faces' k ≡ plain Absent → r.faces k ≡ plain Absent
 
-  pub rebuilt : (root : Option J) (crew : ℕ) (s : State (Slot J R) (View J R)) (r : IsRow root crew s) (me : ℕ) (v : View J R) → get_elem? s.views me ≡ some v → v.live ≡ true
-      → (h' : List (Event J R)) (faces' : ℕ → Face) (words' : List ℕ) (homes' : Homes J R) (w : View J R) → IsNext root crew s r v.worker h' faces' words' homes' → Knows root crew h' faces' r.owner me w
-      → IsRow root crew record { words = words'; homes = homes'; views = set s.views me w }
-  rebuilt root crew s r me v at lives h' faces' words' homes' w n mine = let len : length s.homes ≡ length homes' = sym n.long in record {
+  pub rebuilt : (root : Option J) (workers : ℕ) (s : State (Slot J R) (View J R)) (r : IsRow root workers s) (me : ℕ) (v : View J R) → get_elem? s.views me ≡ some v → v.live ≡ true
+      → (h' : List (Event J R)) (faces' : ℕ → Face) (words' : List ℕ) (homes' : Homes J R) (w : View J R) → IsNext root workers s r v.worker h' faces' words' homes' → Knows root workers h' faces' r.owner me w
+      → IsRow root workers record { words = words'; homes = homes'; views = set s.views me w }
+  rebuilt root workers s r me v at lives h' faces' words' homes' w n mine = let len : length s.homes ≡ length homes' = sym n.long in record {
     history = h';
     faces = faces';
     owner = r.owner;
-    legal = subst (λ z. IsLegal z crew h') len n.legal;
+    legal = subst (λ z. IsLegal z workers h') len n.legal;
     matched = n.matched;
     wide = n.wide ∙ (r.wide ∙ len);
     shows = λ k l. n.shows k (subst (λ z. k < z) n.long l);
@@ -114,9 +114,9 @@ module _ {J R : Type 0} where
     busy = n.busy;
     idle = λ u none. let old = r.idle u none in let ne : u ≢ v.worker = (λ e. let x : Path (Option ℕ) None (Some me) = sym none ∙ (ap r.owner e ∙ (r.each_seat me v at lives).owns) in cc) in
         (n.parts u ne ∙ old.0, λ k. ((λ e. (old.1 k).0 ((n.apart u ne).held_from k e)), (λ e. (old.1 k).1 ((n.apart u ne).taken_from k e))));
-    each_seat = λ j d e live. ⊎_elim (λ (x : (j ≡ me) × (w ≡ d)). subst (λ (y : ℕ × View J R). Knows root crew h' faces' r.owner y.0 y.1) (λ i. (sym x.0 i, x.1 i)) mine)
-        (λ (x : (j ≢ me) × (get_elem? s.views j ≡ some d)). let kd = r.each_seat j d x.1 live in let km = r.each_seat me v at lives in let ne = other_worker root crew r.history r.faces r.owner me j v d km kd x.0 in
-        others_know root crew r.history h' r.faces faces' r.owner j d (n.parts d.worker ne)
+    each_seat = λ j d e live. ⊎_elim (λ (x : (j ≡ me) × (w ≡ d)). subst (λ (y : ℕ × View J R). Knows root workers h' faces' r.owner y.0 y.1) (λ i. (sym x.0 i, x.1 i)) mine)
+        (λ (x : (j ≢ me) × (get_elem? s.views j ≡ some d)). let kd = r.each_seat j d x.1 live in let km = r.each_seat me v at lives in let ne = other_worker root workers r.history r.faces r.owner me j v d km kd x.0 in
+        others_know root workers r.history h' r.faces faces' r.owner j d (n.parts d.worker ne)
         (λ q u m is. let jd = kd.joins q u m is in let off : u ≢ v.worker = (λ (same : u ≡ v.worker). x.0 (same_some (sym jd.owned ∙ (ap r.owner same ∙ km.owns)))) in (n.parts u off, n.apart u off))
         n.grows (n.apart d.worker ne) n.more kd)
         (at_set s.views me j w d e);
@@ -131,10 +131,10 @@ module _ {J R : Type 0} where
   lies_stay root h h' hs hs' k a b d (plain Faulted) l = (l.0, a ∙ l.1, d ∙ l.2)
 
   -- what a step on the number i owes
-  pub record IsTurn (root : Option J) (crew : ℕ) (s : State (Slot J R) (View J R)) (r : IsRow root crew s) (worker i : ℕ) (h' : List (Event J R)) (c' : Face) (homes' : Homes J R) : Type 0 where
+  pub record IsTurn (root : Option J) (workers : ℕ) (s : State (Slot J R) (View J R)) (r : IsRow root workers s) (worker i : ℕ) (h' : List (Event J R)) (c' : Face) (homes' : Homes J R) : Type 0 where
     pub near : i < length s.homes
     pub long : length homes' ≡ length s.homes
-    pub legal : IsLegal (length s.homes) crew h'
+    pub legal : IsLegal (length s.homes) workers h'
     pub matched : IsMatched root h'
     pub grows : GoesOn h' r.history
     pub parts : (u : ℕ) → u ≢ worker → part u h' ≡ part u r.history
@@ -148,9 +148,9 @@ module _ {J R : Type 0} where
     pub busy : (k w : ℕ) → put r.faces i c' k ≡ held w → (p : ℕ) × (status h' p ≡ Claimed w)
     pub loose : (u : ℕ) → u ≢ worker → (r.faces i ≢ held u) × (c' ≢ held u) × (c' ≢ plain (Claimed u))
 
-  pub turned : (root : Option J) (crew : ℕ) (s : State (Slot J R) (View J R)) (r : IsRow root crew s) (worker i : ℕ) (h' : List (Event J R)) (c' : Face) (homes' : Homes J R) → IsTurn root crew s r worker i h' c' homes'
-      → IsNext root crew s r worker h' (put r.faces i c') (set s.words i (code c')) homes'
-  turned root crew s r worker i h' c' homes' t = record {
+  pub turned : (root : Option J) (workers : ℕ) (s : State (Slot J R) (View J R)) (r : IsRow root workers s) (worker i : ℕ) (h' : List (Event J R)) (c' : Face) (homes' : Homes J R) → IsTurn root workers s r worker i h' c' homes'
+      → IsNext root workers s r worker h' (put r.faces i c') (set s.words i (code c')) homes'
+  turned root workers s r worker i h' c' homes' t = record {
     long = t.long;
     wide = length-set s.words i (code c');
     legal = t.legal;

@@ -1,11 +1,14 @@
 -- What holds of every legal history.
-use Rattle.std.specs.Prelude.{◌≡◌, ℕ, ◌≤◌, List, [], ◌∷◌, length, Option, Some, None, ◌↔◌}
+use Rattle.std.specs.Prelude.{◌≡◌, ◌≢◌, ℕ, ◌≤◌, List, [], ◌∷◌, length, IsPermutation, flat_map, sum_by, Option, Some, None, ◌↔◌}
+use Rattle.std.specs.List.{enumerate_from, range_with_len}
 use Rattle.lc_board.specs.State.{Status, Absent, Open, Claimed, Returned, Faulted, status}
 use Rattle.lc_board.specs.Part.{part}
 use Rattle.lc_board.specs.LegalHistory.{posts_under, IsLegal, IsOver}
 use Rattle.lc_board.specs.Holding.{holding, posted, job_held, posts_held}
-use Rattle.lc_board.specs.RowsInPlace.{job_got, row_given}
-use Rattle.lc_board.specs.Numbers.{posts_of, claims_of, ends_of}
+use Rattle.lc_board.specs.RowsInPlace.{job_got, row_given, InPlace}
+use Rattle.lc_board.specs.Numbers.{HasNumbers, posts_of, claims_of, ends_of}
+use Rattle.lc_board.specs.Ends.{ends}
+use Rattle.lc_board.specs.Growth.{GoesOn}
 use Rattle.lc_board.specs.declared.event.Event.{Event}
 use Rattle.lc_board.specs.declared.event.Event.TheVariants.{Over}
 use Rattle.lc_board.specs.declared.answers.Ended.{Ended}
@@ -70,3 +73,32 @@ GivenAs {R} Faulted o = (r : R) × (o ≡ Some (ended.Faulted r))
 -- a number has a row exactly where it has ended, of the kind that it ended by
 abbrev pub EndedHasRow : Type 0 → Type 0 → Type 0
 EndedHasRow J R = (capacity workers : ℕ) (h : List (Event J R)) → IsLegal capacity workers h → (k : ℕ) → GivenAs (status h k) (row_given h k)
+
+-- what is said of a number that has ended stays, however the history goes on: its posts, its job and its row
+abbrev pub EndedStays : Type 0 → Type 0 → Type 0
+EndedStays J R = (capacity workers : ℕ) (h g : List (Event J R)) → IsLegal capacity workers h → GoesOn h g → (i : ℕ) (r : Ended R) → row_given g i ≡ Some r → SaysSame i g h
+
+-- 0 was never posted, and each other number that is there was posted once
+abbrev pub PostedOnce : Type 0 → Type 0 → Type 0
+PostedOnce J R = (capacity workers : ℕ) (h : List (Event J R)) → IsLegal capacity workers h → (posts_of 0 h ≡ 0) × ((k : ℕ) → k ≢ 0 → status h k ≢ Absent → posts_of k h ≡ 1)
+
+-- a history that is legal is so under a larger capacity
+abbrev pub StaysLegal : Type 0 → Type 0 → Type 0
+StaysLegal J R = (capacity larger workers : ℕ) (h : List (Event J R)) → capacity ≤ larger → IsLegal capacity workers h → IsLegal larger workers h
+
+-- there are no more numbers, and no more ends, than the capacity
+abbrev pub FewNumbers : Type 0 → Type 0 → Type 0
+FewNumbers J R = (capacity workers n : ℕ) (h : List (Event J R)) → 1 ≤ capacity → IsLegal capacity workers h → HasNumbers n h → n ≤ capacity
+
+abbrev pub FewEnds : Type 0 → Type 0 → Type 0
+FewEnds J R = (capacity workers : ℕ) (h : List (Event J R)) → 1 ≤ capacity → IsLegal capacity workers h → length (ends h) ≤ capacity
+
+-- the ends of all workers, one worker after the other, are the rows in place with their numbers, in some order
+abbrev pub RowsAreEnds : Type 0 → Type 0 → Type 0
+RowsAreEnds J R = (capacity workers : ℕ) (root : J) (h : List (Event J R)) (rows : List (Ended R)) → IsLegal capacity workers h → IsOver h → HasNumbers (length rows) h → InPlace root h rows
+    → IsPermutation (flat_map (λ w. ends (part w h)) (range_with_len 0 workers)) (enumerate_from 0 rows)
+
+-- a sum over the rows in place is the sum of the workers' own sums
+abbrev pub SumsOfRows : Type 0 → Type 0 → Type 0
+SumsOfRows J R = (capacity workers : ℕ) (root : J) (h : List (Event J R)) (rows : List (Ended R)) → IsLegal capacity workers h → IsOver h → HasNumbers (length rows) h → InPlace root h rows
+    → (f : ℕ × Ended R → ℕ) → sum_by f (enumerate_from 0 rows) ≡ sum_by (λ w. sum_by f (ends (part w h))) (range_with_len 0 workers)

@@ -5,6 +5,7 @@ pub mod LegalHistory
 pub mod Holding
 pub mod RowsInPlace
 pub mod Numbers
+pub mod Ends
 pub mod NewestFirst
 pub mod Pass
 pub mod ClosedBoard

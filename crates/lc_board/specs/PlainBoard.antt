@@ -20,8 +20,8 @@ status_ended (ended.Returned r) = Returned
 status_ended (ended.Faulted r) = Faulted
 
 module _ {J R : Type 0} where
-  abbrev pub workers : Board J R → ℕ
-  workers b = length b.held
+  abbrev pub workers_of : Board J R → ℕ
+  workers_of b = length b.held
 
   -- the number that a worker has claimed
   abbrev pub held_by : Board J R → ℕ → Option ℕ
@@ -53,7 +53,7 @@ module _ {J R : Type 0} where
 
   -- the board is the state after the history
   pub record IsAfter (root : J) (h : List (Event J R)) (b : Board J R) : Type 0 where
-    pub legal : IsLegal b.capacity (workers b) h
+    pub legal : IsLegal b.capacity (workers_of b) h
     pub fits : (k : ℕ) → Fits root h k (cell_at b k)
 
   -- one event more: whatever the history was, it goes on with this event

@@ -2,7 +2,7 @@
 use Rattle.std.specs.Prelude.{◌≡◌, ◌≢◌, ℕ, ◌<◌, Bool, true, false, List, ◌∷◌, map, Some, None, Result, Ok, Err, slice_get}
 use Rattle.lc_board.specs.Part.{part}
 use Rattle.lc_board.specs.Bare.{bare}
-use Rattle.lc_board.specs.PlainBoard.{Board, workers, held_by, posts_by, Adds}
+use Rattle.lc_board.specs.PlainBoard.{Board, workers_of, held_by, posts_by, Adds}
 use Rattle.lc_board.specs.PlainCalls.{AnswersClaim, AnswersPost, IsLeftLeast, NoneLeft}
 use Rattle.lc_board.specs.Pass.{Pass}
 use Rattle.lc_board.specs.ClosedBoard.{Promises}
@@ -28,11 +28,11 @@ module _ {J R : Type 0} where
 
   -- a worker of the board that has claimed nothing
   abbrev pub MayClaim : ℕ → Board J R → Type 0
-  MayClaim w b = (w < workers b) × (held_by b w ≡ None)
+  MayClaim w b = (w < workers_of b) × (held_by b w ≡ None)
 
   -- a worker of the board that has claimed this number
   abbrev pub Holds : ℕ → ℕ → Board J R → Type 0
-  Holds w p b = (w < workers b) × (held_by b w ≡ Some p)
+  Holds w p b = (w < workers_of b) × (held_by b w ≡ Some p)
 
   -- a claim answers as the board of one thread does, where the worker may claim; else Later. Later and Memory change nothing
   abbrev pub RecordsClaim : ℕ → Record J R → Claim J → Record J R → Type 0
@@ -63,10 +63,10 @@ module _ {J R : Type 0} where
 
   -- a close answers Memory only so, or where the board is of another size than it is closed as
   abbrev pub RefusesMemory : Record J R → ℕ → ℕ → List (Pass J R) → Type 0
-  RefusesMemory r capacity crew passes = r.board.capacity ≡ capacity → workers r.board ≡ crew → IsReady r passes
+  RefusesMemory r capacity workers passes = r.board.capacity ≡ capacity → workers_of r.board ≡ workers → IsReady r passes
 
   -- why it is not closed: the least number that has not ended; else a worker of whom the history has something else; else memory
   abbrev pub RefusesRecorded : Record J R → ℕ → ℕ → List (Pass J R) → CloseFault → Type 0
-  RefusesRecorded r capacity crew passes (close.Unfinished n) = IsLeftLeast r.board n
-  RefusesRecorded r capacity crew passes (close.Mismatch w) = NoneLeft r.board × ((p : Pass J R) → slice_get passes w ≡ Some p → part w r.history ≢ map bare p.mine)
-  RefusesRecorded r capacity crew passes close.Memory = RefusesMemory r capacity crew passes
+  RefusesRecorded r capacity workers passes (close.Unfinished n) = IsLeftLeast r.board n
+  RefusesRecorded r capacity workers passes (close.Mismatch w) = NoneLeft r.board × ((p : Pass J R) → slice_get passes w ≡ Some p → part w r.history ≢ map bare p.mine)
+  RefusesRecorded r capacity workers passes close.Memory = RefusesMemory r capacity workers passes

@@ -50,10 +50,10 @@ module _ {J R : Type 0} where
   HasTaken slots passes n v = (w : ℕ) (p : Pass J R) → n ≤ w → slice_get passes w ≡ Some p → Tells v w p.mine × (p.full ≡ true → slots ≤ v.front)
 
   -- the words and slots of a closed board: one legal history, whose parts are the passes' events, with each row in its slot
-  pub record IsClosedRow (root : Option J) (crew : ℕ) (passes : List (Pass J R)) (ws : List ℕ) (xs : List (Slot J R)) : Type 0 where
+  pub record IsClosedRow (root : Option J) (workers : ℕ) (passes : List (Pass J R)) (ws : List ℕ) (xs : List (Slot J R)) : Type 0 where
     pub history : List (Event J R)
     pub faces : ℕ → Face
-    pub legal : IsLegal (length xs) crew history
+    pub legal : IsLegal (length xs) workers history
     pub matched : IsMatched root history
     pub parts : HasParts history passes
     pub shows : (k : ℕ) → k < length xs → slice_index ws k ≡ code (faces k)

@@ -59,10 +59,10 @@ module _ {J R : Type 0} where
     pub idle : (k : ℕ) → faces k ≢ held u
 
   -- what the pass at the seat j knows
-  pub record Knows (root : Option J) (crew : ℕ) (h : List (Event J R)) (faces : ℕ → Face) (owner : ℕ → Option ℕ) (j : ℕ) (v : View J R) : Type 0 where
+  pub record Knows (root : Option J) (workers : ℕ) (h : List (Event J R)) (faces : ℕ → Face) (owner : ℕ → Option ℕ) (j : ℕ) (v : View J R) : Type 0 where
     pub root_is : v.root ≡ root
-    pub crew_is : v.crew ≡ crew
-    pub member : v.worker < crew
+    pub workers_are : v.workers ≡ workers
+    pub member : v.worker < workers
     pub mine : part v.worker h ≡ v.mine
     pub seen : GoesOn h v.seen
     pub owns : owner v.worker ≡ Some j
@@ -74,11 +74,11 @@ module _ {J R : Type 0} where
     pub joins : (n u : ℕ) (m : List (Event J R)) → get_elem? v.joined n ≡ some (u, m) → HasJoined h faces owner j v.worker u m
 
   -- the words show the state of one legal history, of which each pass has seen a beginning and has its worker's part
-  pub record IsRow (root : Option J) (crew : ℕ) (s : State (Slot J R) (View J R)) : Type 0 where
+  pub record IsRow (root : Option J) (workers : ℕ) (s : State (Slot J R) (View J R)) : Type 0 where
     pub history : List (Event J R)
     pub faces : ℕ → Face
     pub owner : ℕ → Option ℕ
-    pub legal : IsLegal (length s.homes) crew history
+    pub legal : IsLegal (length s.homes) workers history
     pub matched : IsMatched root history
     pub wide : length s.words ≡ length s.homes
     pub shows : (k : ℕ) → k < length s.homes → slice_index s.words k ≡ code (faces k)
@@ -88,4 +88,4 @@ module _ {J R : Type 0} where
     pub lies : (k : ℕ) → k < length s.homes → Lies root history s.homes k (faces k)
     pub busy : (k w : ℕ) → faces k ≡ held w → (p : ℕ) × (status history p ≡ Claimed w)
     pub idle : (u : ℕ) → owner u ≡ None → (part u history ≡ []) × ((k : ℕ) → (faces k ≢ held u) × (faces k ≢ plain (Claimed u)))
-    pub each_seat : (j : ℕ) (v : View J R) → get_elem? s.views j ≡ some v → v.live ≡ true → Knows root crew history faces owner j v
+    pub each_seat : (j : ℕ) (v : View J R) → get_elem? s.views j ≡ some v → v.live ≡ true → Knows root workers history faces owner j v

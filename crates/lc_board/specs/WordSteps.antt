@@ -39,7 +39,7 @@ larger a b = cond (ltb a b) b a
 module _ {J R : Type 0} where
   -- what a pass keeps over each of its steps
   abbrev pub Same : View J R → View J R → Type 0
-  Same v w = (w.live ≡ v.live) × (w.root ≡ v.root) × (w.crew ≡ v.crew) × (w.worker ≡ v.worker) × (w.made ≡ v.made) × (w.joined ≡ v.joined)
+  Same v w = (w.live ≡ v.live) × (w.root ≡ v.root) × (w.workers ≡ v.workers) × (w.worker ≡ v.worker) × (w.made ≡ v.made) × (w.joined ≡ v.joined)
 
   -- what another pass is told when it takes this one in
   abbrev pub IsSameTold : View J R → View J R → Type 0
@@ -47,7 +47,7 @@ module _ {J R : Type 0} where
 
   -- the history seen is legal, each job got in it is the one posted there, and its part of the worker is the worker's own
   abbrev pub IsFair : ℕ → View J R → Type 0
-  IsFair cap w = IsLegal cap w.crew w.seen × IsMatched w.root w.seen × (part w.worker w.seen ≡ w.mine)
+  IsFair cap w = IsLegal cap w.workers w.seen × IsMatched w.root w.seen × (part w.worker w.seen ≡ w.mine)
 
   -- the history goes on from what was seen
   abbrev pub Sees : View J R → View J R → Type 0
@@ -113,16 +113,16 @@ module _ {J R : Type 0} where
 
   -- the first pass, which makes the others
   abbrev pub dealer : Option J → ℕ → View J R
-  dealer root crew = record { live = true; root = root; crew = crew; worker = 0; seen = []; mine = []; drawn = 0; low = 0; front = 1; made = 1; joined = [] }
+  dealer root workers = record { live = true; root = root; workers = workers; worker = 0; seen = []; mine = []; drawn = 0; low = 0; front = 1; made = 1; joined = [] }
 
   abbrev pub dealt : View J R → View J R
   dealt v = record v { made = v.made + 1 }
 
   abbrev pub newcomer : View J R → View J R
-  newcomer v = record { live = true; root = v.root; crew = v.crew; worker = v.made; seen = []; mine = []; drawn = 0; low = 0; front = v.front; made = 0; joined = [] }
+  newcomer v = record { live = true; root = v.root; workers = v.workers; worker = v.made; seen = []; mine = []; drawn = 0; low = 0; front = v.front; made = 0; joined = [] }
 
   abbrev pub merged : View J R → View J R → View J R
   merged v w = record v { joined = v.joined ++ (w.worker, w.mine) ∷ w.joined; front = larger v.front w.front }
 
 abbrev pub spent : {J R : Type 0} → View J R
-spent = record { live = false; root = None; crew = 0; worker = 0; seen = []; mine = []; drawn = 0; low = 0; front = 0; made = 0; joined = [] }
+spent = record { live = false; root = None; workers = 0; worker = 0; seen = []; mine = []; drawn = 0; low = 0; front = 0; made = 0; joined = [] }

@@ -1,5 +1,6 @@
 //! What holds of every legal history, for those who reason about boards. A law has no code: its contract is what it says.
 ghost use Rattle.lc_board.specs.Laws.{NumbersOnce, PartSaysWhole, PartTellsClaim, PostedNothing, OverStays, EndedHasRow};
+ghost use Rattle.lc_board.specs.Laws.{EndedStays, PostedOnce, StaysLegal, FewNumbers, FewEnds, RowsAreEnds, SumsOfRows};
 ghost use Rattle.lc_board.specs.Scripts.{ScriptsAreLegal};
 
 /// No number is handed out twice: each is posted, claimed and ended at most once.
@@ -31,6 +32,38 @@ pub fn over_stays<J, R>()
 #[tactic(auto, using(crate::proofs::NumbersOnce::ended_has_row))]
 pub fn ended_has_row<J, R>()
     ensures { EndedHasRow J R }
+{}
+
+/// The posts, the job and the row of a number that has ended stay.
+#[tactic(auto, using(crate::proofs::EndedNumbers::ended_stays))]
+pub fn ended_stays<J, R>()
+    ensures { EndedStays J R }
+{}
+
+/// Each number but 0 was posted once, and 0 never.
+#[tactic(auto, using(crate::proofs::RowsOfWorkers::posted_once))]
+pub fn posted_once<J, R>()
+    ensures { PostedOnce J R }
+{}
+
+/// A larger board allows whatever a smaller one does.
+#[tactic(auto, using(crate::proofs::RowsOfWorkers::stays_legal))]
+pub fn stays_legal<J, R>()
+    ensures { StaysLegal J R }
+{}
+
+/// There are no more numbers, and no more ends, than the capacity.
+#[tactic(auto, using(crate::proofs::RowsOfWorkers::few_numbers, crate::proofs::RowsOfWorkers::few_ends))]
+pub fn few_numbers<J, R>()
+    ensures numbers { FewNumbers J R }
+    ensures ends { FewEnds J R }
+{}
+
+/// The rows in place are what the workers gave, each once: so a sum over the rows is the sum of the workers' own sums.
+#[tactic(auto, using(crate::proofs::RowsOfWorkers::rows_are_ends, crate::proofs::RowsOfWorkers::sums_of_rows))]
+pub fn rows_are_ends<J, R>()
+    ensures rows { RowsAreEnds J R }
+    ensures sums { SumsOfRows J R }
 {}
 
 /// The definitions, computed on short histories.

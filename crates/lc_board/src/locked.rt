@@ -5,7 +5,7 @@
 ghost use Rattle.std.specs.Prelude.{◌≡◌, ◌≢◌, ℕ, ◌≤◌, Some, IfOk, IfErr, map, slice_get, vec_len};
 ghost use Rattle.lc_board.specs.ClosedBoard.{Settled, RefusesClose};
 ghost use Rattle.lc_board.specs.RecordedCalls.{locked_promises};
-ghost use Rattle.lc_board.specs.declared.limits.TheConstants.{MOST_NUMBERS, MOST_WORKERS};
+ghost use Rattle.lc_board.specs.declared.limits.TheConstants.{MAX_CAPACITY, MAX_WORKERS};
 
 use crate::answers::{Claim, CloseFault, Closed, PostFault};
 use crate::shared::{Shared, Token};
@@ -27,17 +27,17 @@ pub struct Locked<J, R> {
     capacity: u32,
     workers: u32,
     recorded: Mutex<Recorded<J, R>>,
-    ghost small: { (capacity ≤ MOST_NUMBERS) × (workers ≤ MOST_WORKERS) },
+    ghost small: { (capacity ≤ MAX_CAPACITY) × (workers ≤ MAX_WORKERS) },
 }
 
-impl<J: Drop, R: Drop> Shared<J, R> for Locked<J, R> {
+impl<J: Drop + Send, R: Drop + Send> Shared<J, R> for Locked<J, R> {
     type Pass = LockedPass<J, R>;
 
-    ghost room = { λ b. b.capacity };
+    ghost capacity_of = { λ b. b.capacity };
 
-    ghost crew = { λ b. b.workers };
+    ghost workers_of = { λ b. b.workers };
 
-    ghost top = { λ b root. Unit {0} };
+    ghost is_root = { λ b root. Unit {0} };
 
     ghost owns = { λ b p. Unit {0} };
 

@@ -2,12 +2,12 @@
 ghost use Rattle.std.specs.Prelude.{◌≡◌, ◌≢◌, ℕ, ◌<◌, ◌≤◌, ◌^◌, [], None, IfOk, IfErr, IfSome, IfNone, map, slice_set, true, false};
 ghost use Rattle.lc_board.specs.LegalHistory.{IsOver};
 ghost use Rattle.lc_board.specs.RowsInPlace.{InPlace};
-ghost use Rattle.lc_board.specs.PlainBoard.{IsAfter, Adds, first_board, workers, held_by, posts_by, cell_at};
+ghost use Rattle.lc_board.specs.PlainBoard.{IsAfter, Adds, first_board, workers_of, held_by, posts_by, cell_at};
 ghost use Rattle.lc_board.specs.PlainCalls.{AnswersClaim, AnswersPost, RefusesRows, NoneOpen, NoneHeld, IsLeftLeast, NoneLeft, IsLeft, cell_of};
 ghost use Rattle.lc_board.specs.declared.event.Event.TheVariants.{Return, Fault};
 
 use crate::answers::{Claim, CloseFault, Closed, Ended, PostFault};
-use crate::limits::{MOST_NUMBERS, MOST_WORKERS};
+use crate::limits::{MAX_CAPACITY, MAX_WORKERS};
 use std::alloc::{AllocError, Global};
 use std::marker::Model;
 
@@ -48,8 +48,8 @@ impl<J: Drop, R: Drop> Plain<J, R> {
         workers: u32,
         root: J,
     ) -> Result<Plain<J, R>, AllocError>
-        requires capacity { (1 ≤ capacity) × (capacity ≤ MOST_NUMBERS) }
-        requires workers { (1 ≤ workers) × (workers ≤ MOST_WORKERS) }
+        requires capacity { (1 ≤ capacity) × (capacity ≤ MAX_CAPACITY) }
+        requires workers { (1 ≤ workers) × (workers ≤ MAX_WORKERS) }
         ensures { IfOk result (λ b. (b ≡ first_board capacity workers root) × IsAfter root [] b) }
     {
         let mut held = Vec::with_capacity(alloc, workers as usize)?;
@@ -68,7 +68,7 @@ impl<J: Drop, R: Drop> Plain<J, R> {
 
     /// Claims the least open number for a worker that has claimed none. It takes no memory, and never answers Memory.
     pub fn claim(&mut self, worker: u32) -> Claim<J>
-        requires worker { worker < workers self.old }
+        requires worker { worker < workers_of self.old }
         requires free { held_by self.old worker ≡ None }
         ensures { AnswersClaim worker self.old result self.new }
     {
@@ -87,7 +87,7 @@ impl<J: Drop, R: Drop> Plain<J, R> {
 
     /// Posts a job at the least unused number, under the claim of the worker.
     pub fn post(&mut self, worker: u32, job: J) -> Result<u32, PostFault<J>>
-        requires worker { worker < workers self.old }
+        requires worker { worker < workers_of self.old }
         requires holds { held_by self.old worker ≢ None }
         ensures { AnswersPost worker self.old job result self.new }
     {
@@ -108,7 +108,7 @@ impl<J: Drop, R: Drop> Plain<J, R> {
 
     /// Ends the claim of the worker by a row. It takes no memory.
     pub fn give(&mut self, worker: u32, row: R)
-        requires worker { worker < workers self.old }
+        requires worker { worker < workers_of self.old }
         requires holds { held_by self.old worker ≢ None }
         ensures event { IfSome (held_by self.old worker) (λ i. Adds self.old (Return worker i row) self.new) }
         ensures free { self.new.held ≡ slice_set self.old.held worker None }
@@ -122,7 +122,7 @@ impl<J: Drop, R: Drop> Plain<J, R> {
 
     /// Ends the claim of the worker, which has posted nothing under it, by the row of a fault. It takes no memory.
     pub fn fault(&mut self, worker: u32, row: R)
-        requires worker { worker < workers self.old }
+        requires worker { worker < workers_of self.old }
         requires holds { held_by self.old worker ≢ None }
         requires none { posts_by self.old worker ≡ 0 }
         ensures event { IfSome (held_by self.old worker) (λ i. Adds self.old (Fault worker i row) self.new) }
@@ -168,8 +168,8 @@ impl<J: Drop, R: Drop> Plain<J, R> {
     }
 
     pub(crate) fn workers(&self) -> u32
-        requires { workers self.now < 2 ^ 32 }
-        ensures { result ≡ workers self.now }
+        requires { workers_of self.now < 2 ^ 32 }
+        ensures { result ≡ workers_of self.now }
     {
         self.held.len() as u32
     }
@@ -182,7 +182,7 @@ impl<J: Drop, R: Drop> Plain<J, R> {
 
     /// The number that a worker has claimed.
     pub(crate) fn held_by(&self, worker: u32) -> Option<u32>
-        requires { worker < workers self.now }
+        requires { worker < workers_of self.now }
         ensures { result ≡ held_by self.now worker }
     {
         self.held[worker as usize]
@@ -190,7 +190,7 @@ impl<J: Drop, R: Drop> Plain<J, R> {
 
     /// The posts under the claim of a worker.
     pub(crate) fn posts_by(&self, worker: u32) -> u32
-        requires worker { worker < workers self.now }
+        requires worker { worker < workers_of self.now }
         requires holds { held_by self.now worker ≢ None }
         ensures { result ≡ posts_by self.now worker }
     {

@@ -7,7 +7,7 @@ ghost use Rattle.lc_board.specs.Pass.{Pass, holding, posted, new_pass, after_cla
 ghost use Rattle.lc_board.specs.ClosedBoard.{Promises, Settled, RefusesClose};
 
 use crate::answers::{Claim, CloseFault, Closed, PostFault};
-use crate::limits::{MOST_NUMBERS, MOST_WORKERS};
+use crate::limits::{MAX_CAPACITY, MAX_WORKERS};
 use std::alloc::{AllocError, Global};
 use std::sync::Wait;
 
@@ -29,18 +29,19 @@ pub trait Token<J, R> {
         ensures { result ≡ posted (view self.now) };
 }
 
-/// A board that workers share. A call that may wait promises only if it returns.
-pub trait Shared<J, R>: Sized {
+/// A board that workers share. A call that may wait promises only if it returns. What every caller needs of the type to move it between
+/// threads and to let it go stands here, so that a worker asks for `B: Shared<J, R>` alone.
+pub trait Shared<J, R>: Sized + Sync + Drop {
     type Pass: Token<J, R> + Send + Drop;
 
     /// Its capacity.
-    ghost room: { Self → ℕ };
+    ghost capacity_of: { Self → ℕ };
 
     /// How many workers share it.
-    ghost crew: { Self → ℕ };
+    ghost workers_of: { Self → ℕ };
 
     /// The job of number 0, as far as the board tells it.
-    ghost top: { Self → J → Type 0 };
+    ghost is_root: { Self → J → Type 0 };
 
     /// The pass is this board's.
     ghost owns: { Self → Self.Pass → Type 0 };
@@ -56,9 +57,9 @@ pub trait Shared<J, R>: Sized {
         workers: u32,
         root: J,
     ) -> Result<(Self, Vec<Self::Pass>), AllocError>
-        requires capacity { (1 ≤ capacity) × (capacity ≤ MOST_NUMBERS) }
-        requires workers { (1 ≤ workers) × (workers ≤ MOST_WORKERS) }
-        ensures board { IfOk result (λ b. (Self.room b.0 ≡ capacity) × (Self.crew b.0 ≡ workers) × Self.top b.0 root) }
+        requires capacity { (1 ≤ capacity) × (capacity ≤ MAX_CAPACITY) }
+        requires workers { (1 ≤ workers) × (workers ≤ MAX_WORKERS) }
+        ensures board { IfOk result (λ b. (Self.capacity_of b.0 ≡ capacity) × (Self.workers_of b.0 ≡ workers) × Self.is_root b.0 root) }
         ensures count { IfOk result (λ b. vec_len b.1 ≡ workers) }
         ensures passes { IfOk result (λ b. (w : ℕ) (p : Self.Pass) → slice_get b.1.items w ≡ Some p → owns b.0 p × (Self.Pass.view p ≡ new_pass w)) };
 
@@ -95,8 +96,8 @@ pub trait Shared<J, R>: Sized {
     /// The rows, once each number has ended. It takes all passes of the board, in their workers' order. Where it is refused the rows
     /// are dropped.
     fn close(self, passes: Vec<Self::Pass>) -> Result<Closed<R>, CloseFault>
-        requires all { vec_len passes ≡ Self.crew self }
+        requires all { vec_len passes ≡ Self.workers_of self }
         requires each { (w : ℕ) (p : Self.Pass) → slice_get passes.items w ≡ Some p → owns self p × ((Self.Pass.view p).worker ≡ w) }
-        ensures settled { IfOk result (λ c. (root : J) → Self.top self root → Settled (Self.room self) (Self.crew self) root promises (map (λ p. Self.Pass.view p) passes.items) c.rows.items) }
-        ensures fault { IfErr result (RefusesClose (Self.room self) (Self.crew self) promises (map (λ p. Self.Pass.view p) passes.items)) };
+        ensures settled { IfOk result (λ c. (root : J) → Self.is_root self root → Settled (Self.capacity_of self) (Self.workers_of self) root promises (map (λ p. Self.Pass.view p) passes.items) c.rows.items) }
+        ensures fault { IfErr result (RefusesClose (Self.capacity_of self) (Self.workers_of self) promises (map (λ p. Self.Pass.view p) passes.items)) };
 }

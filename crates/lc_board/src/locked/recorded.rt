@@ -7,7 +7,7 @@ ghost use Rattle.lc_board.specs.declared.event.Event.TheVariants.{Return, Fault}
 
 use crate::answers::{Claim, CloseFault, Closed, PostFault};
 use crate::event::{BareEvent, Event};
-use crate::limits::{MOST_NUMBERS, MOST_WORKERS};
+use crate::limits::{MAX_CAPACITY, MAX_WORKERS};
 use crate::locked::compare::first_mismatch;
 use crate::locked::pass::LockedPass;
 use crate::plain::Plain;
@@ -42,8 +42,8 @@ impl<J: Drop, R: Drop> Recorded<J, R> {
         workers: u32,
         root: J,
     ) -> Result<Recorded<J, R>, AllocError>
-        requires capacity { (1 ≤ capacity) × (capacity ≤ MOST_NUMBERS) }
-        requires workers { (1 ≤ workers) × (workers ≤ MOST_WORKERS) }
+        requires capacity { (1 ≤ capacity) × (capacity ≤ MAX_CAPACITY) }
+        requires workers { (1 ≤ workers) × (workers ≤ MAX_WORKERS) }
         ensures { IfOk result (λ r. (r.board ≡ first_board capacity workers root) × (r.history ≡ [])) }
     {
         let plain = Plain::start(alloc, capacity, workers, root)?;
@@ -57,11 +57,11 @@ impl<J: Drop, R: Drop> Recorded<J, R> {
     pub fn claim(&mut self, worker: u32) -> Claim<J>
         ensures { RecordsClaim worker self.old result self.new }
     {
-        let crew = self.plain.workers();
-        if worker >= crew || self.plain.held_by(worker).is_some() {
+        let workers = self.plain.workers();
+        if worker >= workers || self.plain.held_by(worker).is_some() {
             return Claim::Later;
         }
-        if self.history.reserve(crew as usize + 1).is_err() {
+        if self.history.reserve(workers as usize + 1).is_err() {
             return Claim::Memory;
         }
         let answer = self.plain.claim(worker);
@@ -85,8 +85,8 @@ impl<J: Drop, R: Drop> Recorded<J, R> {
         if !self.holds(worker, parent) {
             return Err(PostFault::Full(job));
         }
-        let crew = self.plain.workers();
-        if self.history.reserve(crew as usize + 1).is_err() {
+        let workers = self.plain.workers();
+        if self.history.reserve(workers as usize + 1).is_err() {
             return Err(PostFault::Memory(job));
         }
         match self.plain.post(worker, job) {
@@ -150,7 +150,7 @@ impl<J: Drop, R: Drop> Recorded<J, R> {
         workers: u32,
         passes: &[LockedPass<J, R>],
     ) -> Result<Closed<R>, CloseFault>
-        requires workers { workers ≤ MOST_WORKERS }
+        requires workers { workers ≤ MAX_WORKERS }
         requires all { length passes.now ≡ workers }
         ensures settled { IfOk result (λ c. (root : J) → Settled capacity workers root locked_promises (map ⟦<LockedPass<J, R> as Token<J, R>>⟧.view passes.now) c.rows.items) }
         ensures fault { IfErr result (RefusesClose capacity workers locked_promises (map ⟦<LockedPass<J, R> as Token<J, R>>⟧.view passes.now)) }

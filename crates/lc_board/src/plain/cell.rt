@@ -5,7 +5,7 @@ ghost use Rattle.lc_board.specs.PlainCalls.{IsOpen, IsHeld, IsLeft, cell_of};
 ghost use Rattle.lc_board.specs.declared.plain.cell.Cell.TheVariants.{Waiting, Held};
 
 use crate::answers::Ended;
-use crate::limits::MOST_NUMBERS;
+use crate::limits::MAX_CAPACITY;
 use std::mem;
 
 /// What a board keeps of a number.
@@ -35,7 +35,7 @@ pub fn take_job<J, R: Drop>(cell: &mut Cell<J, R>, worker: u32) -> J
 /// Counts a post under a claim.
 pub fn count_post<J: Drop, R: Drop>(cell: &mut Cell<J, R>)
     requires held { IsHeld (Some cell.old) }
-    requires few { posts_in (Some cell.old) < MOST_NUMBERS }
+    requires few { posts_in (Some cell.old) < MAX_CAPACITY }
     ensures { (w n : ℕ) × (cell.old ≡ Held w n) × (cell.new ≡ Held w (n + 1)) }
 {
     match cell {

@@ -3,7 +3,7 @@ ghost use Rattle.std.specs.Prelude.{◌≡◌, ◌≢◌, ℕ, ◌<◌, ◌≤�
 ghost use Rattle.lc_board.specs.PlainCalls.{IsLeft, cell_of};
 
 use crate::answers::Ended;
-use crate::limits::MOST_NUMBERS;
+use crate::limits::MAX_CAPACITY;
 use crate::plain::cell::{Cell, is_left, row_in};
 use std::alloc::{AllocError, Global};
 
@@ -22,7 +22,7 @@ pub fn is_any_held(held: &[Option<u32>]) -> bool
 
 /// The least number that has not ended.
 pub fn first_left<J, R>(cells: &[Cell<J, R>]) -> Option<u32>
-    requires { length cells.now ≤ MOST_NUMBERS }
+    requires { length cells.now ≤ MAX_CAPACITY }
     ensures some { IfSome result (λ n. IsLeft (slice_get cells.now n) × ((k : ℕ) → k < n → ¬ IsLeft (slice_get cells.now k))) }
     ensures none { IfNone result ((k : ℕ) → ¬ IsLeft (slice_get cells.now k)) }
 {

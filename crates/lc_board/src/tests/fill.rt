@@ -1,105 +1,176 @@
-//! Workers on threads, who fill a board.
-ghost use Rattle.std.specs.Prelude.{◌≡◌, ◌≤◌, ◌<◌, ℕ, Some, None, IfOk, slice_get, slice_index_or, vec_len};
+//! Workers on threads, who fill a board with jobs that share what lies behind two `Arc`s.
+ghost use Rattle.std.specs.Prelude.{◌≡◌, ◌≢◌, ◌≤◌, ◌<◌, ℕ, None, IfOk, slice_index_or, vec_len};
 ghost use Rattle.lc_board.specs.Pass.{holding};
 
-use crate::answers::{CloseFault, Ended};
-use crate::limits::{MOST_NUMBERS, MOST_WORKERS};
+use crate::answers::{Claim, CloseFault, Ended, PostFault};
+use crate::limits::{MAX_CAPACITY, MAX_WORKERS};
 use crate::locked::Locked;
 use crate::shared::{Shared, Token};
-use crate::tests::script::{Call, ROOT, Told};
-use crate::tests::shared_scripts::tell;
 use crate::words::Words;
 use std::alloc::{AllocError, Global};
 use std::process::Abort;
-use std::sync::Wait;
+use std::sync::{Arc, Wait};
 use std::test::Fail;
 use std::thread;
 use std::thread::Threads;
 
 /// How many jobs a worker posts under a claim, as long as there are numbers.
-const CHILDREN: u32 = 3;
+const CHILDREN: u8 = 3;
 
-/// Makes a call until there is memory for it.
-fn insist<B: Shared<u32, u32>, W: Wait>(rt: &W, board: &B, pass: &mut B::Pass, call: Call) -> Told
-    requires { B.owns board.now pass.old }
+/// What all directories share.
+#[derive(Drop)]
+struct Rules {
+    lines: Vec<u8>,
+}
+
+/// A directory to be read.
+#[derive(Drop)]
+struct Job {
+    path: Vec<u8>,
+    ignored: Arc<Rules>,
+    attributes: Arc<Rules>,
+}
+
+/// A directory that was read, under its number.
+#[derive(Drop)]
+struct Row {
+    number: u32,
+    job: Job,
+}
+
+impl Job {
+    fn top(alloc: Global) -> Result<Job, AllocError> {
+        let ignored = Arc::new(
+            alloc,
+            Rules {
+                lines: Vec::new(alloc),
+            },
+        )?;
+        let attributes = Arc::new(
+            alloc,
+            Rules {
+                lines: Vec::new(alloc),
+            },
+        )?;
+        Ok(Job {
+            path: Vec::new(alloc),
+            ignored,
+            attributes,
+        })
+    }
+
+    /// The job of the child of this name.
+    fn child(&self, name: u8) -> Result<Job, AllocError> {
+        let mut path = self.path.clone()?;
+        path.push(name)?;
+        Ok(Job {
+            path,
+            ignored: self.ignored.clone()?,
+            attributes: self.attributes.clone()?,
+        })
+    }
+}
+
+/// Posts the child of this name until there is memory for it, or no number is left.
+fn post_child<B: Shared<Job, Row>, W: Wait>(
+    rt: &W,
+    board: &B,
+    pass: &mut B::Pass,
+    job: &Job,
+    name: u8,
+)
+    requires pass { B.owns board.now pass.old }
+    requires holds { holding (B.Pass.view pass.old) ≢ None }
     ensures pass { B.owns board.now pass.new }
     ensures worker { (B.Pass.view pass.new).worker ≡ (B.Pass.view pass.old).worker }
+    ensures holds { holding (B.Pass.view pass.new) ≡ holding (B.Pass.view pass.old) }
 {
     for _ in rt.forever() {
-        match tell(rt, board, pass, call) {
-            Told::NoClaim => {}
-            Told::NoPost(_) => {}
-            answer => return answer,
+        let Ok(child) = job.child(name) else {
+            continue;
+        };
+        match board.post(rt, pass, child) {
+            Err(PostFault::Memory(_)) => {}
+            _ => return,
         }
     }
-    unreachable!()
 }
 
-/// Posts under a number, with the number as the job.
-fn post_children<B: Shared<u32, u32>, W: Wait>(rt: &W, board: &B, pass: &mut B::Pass, number: u32)
-    requires { B.owns board.now pass.old }
+/// Posts under the claim of the pass.
+fn post_children<B: Shared<Job, Row>, W: Wait>(rt: &W, board: &B, pass: &mut B::Pass, job: &Job)
+    requires pass { B.owns board.now pass.old }
+    requires holds { holding (B.Pass.view pass.old) ≢ None }
     ensures pass { B.owns board.now pass.new }
     ensures worker { (B.Pass.view pass.new).worker ≡ (B.Pass.view pass.old).worker }
+    ensures holds { holding (B.Pass.view pass.new) ≡ holding (B.Pass.view pass.old) }
 {
-    for _ in 0..CHILDREN {
-        let _ = insist(rt, board, pass, Call::Post(0, number));
+    for name in 0..CHILDREN {
+        post_child(rt, board, pass, job, name);
     }
 }
 
-/// One worker: it posts under each number that it gets, and returns the number as its row.
-fn work<B: Shared<u32, u32>, W: Wait>(rt: &W, board: &B, pass: B::Pass) -> B::Pass
-    requires { B.owns board.now pass }
+/// One worker: it posts under each number that it gets, and returns the number with its job as its row.
+fn work<B: Shared<Job, Row>, W: Wait>(rt: &W, board: &B, pass: B::Pass) -> B::Pass
+    requires pass { B.owns board.now pass }
+    requires free { holding (B.Pass.view pass) ≡ None }
     ensures pass { B.owns board.now result }
     ensures worker { (B.Pass.view result).worker ≡ (B.Pass.view pass).worker }
 {
     let mut pass = pass;
     for _ in rt.forever() {
-        match insist(rt, board, &mut pass, Call::Claim(0)) {
-            Told::Got(number, _) => {
-                post_children(rt, board, &mut pass, number);
-                let _ = insist(rt, board, &mut pass, Call::Give(0, number));
+        match board.claim(rt, &mut pass) {
+            Claim::Got(number, job) => {
+                post_children(rt, board, &mut pass, &job);
+                board.give(rt, &mut pass, Row { number, job });
             }
-            Told::Later => thread::yield_now(),
-            _ => break,
+            Claim::Later => thread::yield_now(),
+            Claim::Memory => {}
+            Claim::Over => break,
         }
     }
     pass
 }
 
 /// A thread for each pass.
-fn work_all<B: Shared<u32, u32> + Sync, R: Threads + Wait + Sync>(
+fn work_all<B: Shared<Job, Row>, R: Threads + Wait + Sync>(
     rt: &R,
     board: &B,
     passes: Vec<B::Pass>,
 ) -> Result<Vec<B::Pass>, AllocError>
-    requires { (i : ℕ) (p : _) → i < vec_len passes → p ≡ slice_index_or passes.items i p → B.owns board.now p }
+    requires { (i : ℕ) (p : _) → i < vec_len passes → p ≡ slice_index_or passes.items i p → B.owns board.now p × (holding (B.Pass.view p) ≡ None) }
     ensures len { IfOk result (λ v. vec_len v ≡ vec_len passes) }
     ensures each { IfOk result (λ v. (i : ℕ) (p : _) (q : _) → i < vec_len passes → B.owns board.now (slice_index_or v.items i q) × ((B.Pass.view (slice_index_or v.items i q)).worker ≡ (B.Pass.view (slice_index_or passes.items i p)).worker)) }
 {
     let run = |pass: B::Pass| -> B::Pass
-        requires { B.owns board.now pass }
+        requires { B.owns board.now pass × (holding (B.Pass.view pass) ≡ None) }
         ensures { B.owns board.entry.now result × ((B.Pass.view result).worker ≡ (B.Pass.view pass).worker) }
     { work(rt, board, pass) };
     thread::map_vec(rt, passes, &run)
 }
 
-/// Fills a board by so many workers: each number ends with its own row.
-fn fill<B: Shared<u32, u32> + Sync + Drop, R: Threads + Wait + Abort + Sync>(
+/// Fills a board by so many workers: each number ends with its own row, and the first children have the first paths.
+fn fill<B: Shared<Job, Row>, R: Threads + Wait + Abort + Sync>(
     rt: &R,
     alloc: Global,
     capacity: u32,
     workers: u32,
 ) -> Result<(), AllocError>
-    requires capacity { (1 ≤ capacity) × (capacity ≤ MOST_NUMBERS) }
-    requires workers { (1 ≤ workers) × (workers ≤ MOST_WORKERS) }
+    requires capacity { (1 ≤ capacity) × (capacity ≤ MAX_CAPACITY) }
+    requires workers { (1 ≤ workers) × (workers ≤ MAX_WORKERS) }
 {
-    let (board, passes) = B::start(alloc, capacity, workers, ROOT)?;
+    let root = Job::top(alloc)?;
+    let (board, passes) = B::start(alloc, capacity, workers, root)?;
     let passes = work_all(rt, &board, passes)?;
     match board.close(passes) {
         Ok(closed) => {
             assert_eq!(rt; closed.rows.len(), capacity as usize);
             for (number, row) in closed.rows.iter().enumerate() {
-                assert_eq!(rt; *row, Ended::Returned(number as u32));
+                let Ended::Returned(row) = row else {
+                    assert!(rt; false, "{number}");
+                    continue;
+                };
+                assert_eq!(rt; row.number as usize, number);
+                assert_eq!(rt; row.job.path.is_empty(), number == 0);
             }
         }
         Err(CloseFault::Memory) => return Err(AllocError),
@@ -110,18 +181,18 @@ fn fill<B: Shared<u32, u32> + Sync + Drop, R: Threads + Wait + Abort + Sync>(
 
 #[test]
 fn sixteen_threads_fill_locked(rt: HostRuntime) -> Result<(), Fail> {
-    fill::<Locked<u32, u32>, HostRuntime>(&rt, rt.alloc(), 65_536, 16)?;
+    fill::<Locked<Job, Row>, HostRuntime>(&rt, rt.alloc(), 65_536, 16)?;
     Ok(())
 }
 
 #[test]
 fn two_threads_fill_words(rt: HostRuntime) -> Result<(), Fail> {
-    fill::<Words<u32, u32>, HostRuntime>(&rt, rt.alloc(), 65_536, 2)?;
+    fill::<Words<Job, Row>, HostRuntime>(&rt, rt.alloc(), 65_536, 2)?;
     Ok(())
 }
 
 #[test]
 fn sixteen_threads_fill_words(rt: HostRuntime) -> Result<(), Fail> {
-    fill::<Words<u32, u32>, HostRuntime>(&rt, rt.alloc(), 65_536, 16)?;
+    fill::<Words<Job, Row>, HostRuntime>(&rt, rt.alloc(), 65_536, 16)?;
     Ok(())
 }

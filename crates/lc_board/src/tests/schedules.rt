@@ -17,7 +17,7 @@ use std::sync::Wait;
 use std::test::Fail;
 
 /// How many steps of each schedule are made in an order of its own. The rest are made in turns.
-const NAMED: u32 = 16;
+const NAMED: u32 = 14;
 
 const STEPS: u32 = 72;
 
@@ -166,7 +166,7 @@ fn step<B: Shared<u32, u32>, C: Claims<B>, W: Wait>(
 
 /// Makes the steps in the order of the schedule. The board ends with the root's job, a job posted under the root, and one posted under
 /// either of these.
-fn follow<B: Shared<u32, u32> + Drop, C: Claims<B>, R: Wait + Abort>(
+fn follow<B: Shared<u32, u32>, C: Claims<B>, R: Wait + Abort>(
     rt: &R,
     alloc: Global,
     schedule: u32,
@@ -207,7 +207,7 @@ fn follow<B: Shared<u32, u32> + Drop, C: Claims<B>, R: Wait + Abort>(
 }
 
 /// Every schedule.
-fn follow_all<B: Shared<u32, u32> + Drop, C: Claims<B>, R: Wait + Abort>(
+fn follow_all<B: Shared<u32, u32>, C: Claims<B>, R: Wait + Abort>(
     rt: &R,
     alloc: Global,
 ) -> Result<(), AllocError> {

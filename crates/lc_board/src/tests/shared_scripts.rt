@@ -2,7 +2,7 @@
 ghost use Rattle.std.specs.Prelude.{◌≡◌, ◌≤◌, ◌<◌, Some};
 
 use crate::answers::{CloseFault, Closed, Ended};
-use crate::limits::{MOST_NUMBERS, MOST_WORKERS};
+use crate::limits::{MAX_CAPACITY, MAX_WORKERS};
 use crate::locked::Locked;
 use crate::shared::{Shared, Token};
 use crate::tests::script::{Call, FAULT, FULL, OWN_POST, ROOT, TWO_WORKERS, Told};
@@ -50,15 +50,15 @@ pub fn tell<B: Shared<u32, u32>, W: Wait>(rt: &W, board: &B, pass: &mut B::Pass,
 }
 
 /// Makes the calls on a new board, compares the answers, and closes the board.
-fn run<B: Shared<u32, u32> + Drop, R: Wait + Abort>(
+fn run<B: Shared<u32, u32>, R: Wait + Abort>(
     rt: &R,
     alloc: Global,
     capacity: u32,
     workers: u32,
     script: &[(Call, Told)],
 ) -> Result<Result<Closed<u32>, CloseFault>, AllocError>
-    requires capacity { (1 ≤ capacity) × (capacity ≤ MOST_NUMBERS) }
-    requires workers { (1 ≤ workers) × (workers ≤ MOST_WORKERS) }
+    requires capacity { (1 ≤ capacity) × (capacity ≤ MAX_CAPACITY) }
+    requires workers { (1 ≤ workers) × (workers ≤ MAX_WORKERS) }
 {
     let (board, mut passes) = B::start(alloc, capacity, workers, ROOT)?;
     for (call, told) in script {
@@ -74,7 +74,7 @@ fn run<B: Shared<u32, u32> + Drop, R: Wait + Abort>(
 }
 
 /// The script ends with these rows.
-fn ends_with<B: Shared<u32, u32> + Drop, R: Wait + Abort>(
+fn ends_with<B: Shared<u32, u32>, R: Wait + Abort>(
     rt: &R,
     alloc: Global,
     capacity: u32,
@@ -82,8 +82,8 @@ fn ends_with<B: Shared<u32, u32> + Drop, R: Wait + Abort>(
     script: &[(Call, Told)],
     rows: &[Ended<u32>],
 ) -> Result<(), AllocError>
-    requires capacity { (1 ≤ capacity) × (capacity ≤ MOST_NUMBERS) }
-    requires workers { (1 ≤ workers) × (workers ≤ MOST_WORKERS) }
+    requires capacity { (1 ≤ capacity) × (capacity ≤ MAX_CAPACITY) }
+    requires workers { (1 ≤ workers) × (workers ≤ MAX_WORKERS) }
 {
     match run::<B, R>(rt, alloc, capacity, workers, script)? {
         Ok(closed) => assert_eq!(rt; closed.rows.as_slice(), rows),
@@ -94,7 +94,7 @@ fn ends_with<B: Shared<u32, u32> + Drop, R: Wait + Abort>(
 }
 
 /// The scripts, on a board of this type.
-fn scripts_on<B: Shared<u32, u32> + Drop, R: Wait + Abort>(
+fn scripts_on<B: Shared<u32, u32>, R: Wait + Abort>(
     rt: &R,
     alloc: Global,
 ) -> Result<(), AllocError> {

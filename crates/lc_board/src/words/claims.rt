@@ -1,7 +1,7 @@
 //! One number is looked at, claimed, or ended.
 ghost use Rattle.std.specs.Prelude.{◌≡◌, ℕ, ◌+◌, ◌*◌, ◌<◌, MatchResult, IfSome, IsSome, ◌≢◌};
 ghost use Rattle.lc_board.specs.declared.event.Event.TheVariants.{Claim, Return, Fault};
-ghost use Rattle.lc_board.specs.declared.limits.TheConstants.{MOST_NUMBERS};
+ghost use Rattle.lc_board.specs.declared.limits.TheConstants.{MAX_CAPACITY};
 ghost use Rattle.lc_board.specs.WordSteps.{AddsEvent, Missed, low_after, taken_after};
 ghost use Rattle.lc_board.specs.WordsBoard.{IsPassOf, IsSamePass, known};
 
@@ -23,7 +23,7 @@ fn next_low(capacity: u32, number: u32, low: u32, found: u64) -> u32
 }
 
 fn next_taken(number: u32, taken: u32, found: u64) -> u32
-    requires { number < MOST_NUMBERS }
+    requires { number < MAX_CAPACITY }
     ensures { result ≡ taken_after number taken found }
 {
     if taken == number && is_taken(found) {

@@ -7,7 +7,7 @@ use std::snapshot::Snapshot;
 #[derive(Drop)]
 pub struct Origin<J> {
     pub root: Snapshot<J>,
-    pub crew: u32,
+    pub workers: u32,
 }
 
 /// The words show the state of one legal history.
@@ -18,9 +18,9 @@ impl<J, R> TableRule<Slot<J, R>, View<J, R>, Origin<J>> for OneHistory {
     ghost use Rattle.lc_board.specs.WordSteps.{dealer};
     ghost use Rattle.std.specs.Prelude.{Some};
 
-    ghost holds = { λ key. IsRow (Some key.root.value) key.crew };
+    ghost holds = { λ key. IsRow (Some key.root.value) key.workers };
 
-    ghost first = { λ key. dealer (Some key.root.value) key.crew };
+    ghost first = { λ key. dealer (Some key.root.value) key.workers };
 }
 
 pub struct Look;

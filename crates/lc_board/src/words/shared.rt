@@ -10,7 +10,7 @@ ghost use Rattle.lc_board.specs.declared.answers.PostFault.TheVariants.{Full};
 ghost use Rattle.lc_board.specs.declared.event.Event.TheVariants.{Post, Return, Fault};
 
 use crate::answers::{Claim, CloseFault, Closed, PostFault};
-use crate::limits::{MOST_NUMBERS, MOST_WORKERS};
+use crate::limits::{MAX_CAPACITY, MAX_WORKERS};
 use crate::shared::{Shared, Token};
 use crate::words::Words;
 use crate::words::close::{count_ended, drain, take_rows};
@@ -21,11 +21,11 @@ use std::sync::Wait;
 impl<J: Drop + Send, R: Drop + Send> Shared<J, R> for Words<J, R> {
     type Pass = WordsPass<J, R>;
 
-    ghost room = { λ b. b.capacity };
+    ghost capacity_of = { λ b. b.capacity };
 
-    ghost crew = { λ b. b.workers };
+    ghost workers_of = { λ b. b.workers };
 
-    ghost top = { λ b root. b.table.shared.key.root.value ≡ root };
+    ghost is_root = { λ b root. b.table.shared.key.root.value ≡ root };
 
     ghost owns = { IsPassOf };
 
@@ -37,8 +37,8 @@ impl<J: Drop + Send, R: Drop + Send> Shared<J, R> for Words<J, R> {
         workers: u32,
         root: J,
     ) -> Result<(Words<J, R>, Vec<WordsPass<J, R>>), AllocError>
-        requires capacity { (1 ≤ capacity) × (capacity ≤ MOST_NUMBERS) }
-        requires workers { (1 ≤ workers) × (workers ≤ MOST_WORKERS) }
+        requires capacity { (1 ≤ capacity) × (capacity ≤ MAX_CAPACITY) }
+        requires workers { (1 ≤ workers) × (workers ≤ MAX_WORKERS) }
         ensures board { IfOk result (λ b. (b.0.capacity ≡ capacity) × (b.0.workers ≡ workers) × (b.0.table.shared.key.root.value ≡ root)) }
         ensures count { IfOk result (λ b. vec_len b.1 ≡ workers) }
         ensures passes { IfOk result (λ b. (w : ℕ) (p : WordsPass _ _) → slice_get b.1.items w ≡ Some p → IsPassOf b.0 p × (told p ≡ new_pass w)) }

@@ -4,7 +4,7 @@ ghost use Rattle.lc_board.specs.declared.words.view.Slot.TheVariants.{Empty, Job
 ghost use Rattle.lc_board.specs.WordSteps.{dealer, dealt, newcomer};
 ghost use Rattle.lc_board.specs.WordsBoard.{IsPassOf, IsSamePass, known};
 
-use crate::limits::{MOST_NUMBERS, MOST_WORKERS};
+use crate::limits::{MAX_CAPACITY, MAX_WORKERS};
 use crate::words::Words;
 use crate::words::coding::{ABSENT, OPEN};
 use crate::words::pass::WordsPass;
@@ -48,14 +48,14 @@ impl<J: Drop, R: Drop> Words<J, R> {
         workers: u32,
         root: J,
     ) -> Result<(Words<J, R>, WordsPass<J, R>), AllocError>
-        requires capacity { (1 ≤ capacity) × (capacity ≤ MOST_NUMBERS) }
-        requires workers { (1 ≤ workers) × (workers ≤ MOST_WORKERS) }
+        requires capacity { (1 ≤ capacity) × (capacity ≤ MAX_CAPACITY) }
+        requires workers { (1 ≤ workers) × (workers ≤ MAX_WORKERS) }
         ensures board { IfOk result (λ b. (b.0.capacity ≡ capacity) × (b.0.workers ≡ workers) × (b.0.table.shared.key.root.value ≡ root)) }
         ensures pass { IfOk result (λ b. IsPassOf b.0 b.1 × (b.1.worker ≡ 0) × (b.1.holding ≡ None) × (b.1.full ≡ false) × (known b.1 ≡ dealer (Some root) workers)) }
     {
         let origin = Origin {
             root: Snapshot::of(&root),
-            crew: workers,
+            workers,
         };
         let words = word_row(alloc, capacity - 1)?;
         let slots = slot_row(alloc, root, capacity - 1)?;
@@ -90,7 +90,7 @@ impl<J, R> Words<J, R> {
     /// One more pass, of the next worker.
     pub(crate) fn another(&self, pass: &mut WordsPass<J, R>, worker: u32) -> WordsPass<J, R>
         requires board { IsPassOf self.now pass.old }
-        requires next { (0 < worker) × (worker < self.now.workers) × ((known pass.old).made ≡ worker) × ((known pass.old).crew ≡ self.now.workers) }
+        requires next { (0 < worker) × (worker < self.now.workers) × ((known pass.old).made ≡ worker) × ((known pass.old).workers ≡ self.now.workers) }
         ensures same { IsSamePass pass.old pass.new × (pass.new.holding ≡ pass.old.holding) × (known pass.new ≡ dealt (known pass.old)) }
         ensures other { IsPassOf self.now result × (result.worker ≡ worker) × (result.holding ≡ None) × (result.full ≡ false) × (known result ≡ newcomer (known pass.old)) }
     {

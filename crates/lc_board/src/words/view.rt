@@ -16,7 +16,7 @@ pub struct View<J, R> {
     pub live: bool,
     pub root: Option<J>,
     /// How many workers share the board.
-    pub crew: u32,
+    pub workers: u32,
     pub worker: u32,
     /// A history of the board that was seen.
     pub seen: LinkedList<Event<J, R>>,

@@ -1,4 +1,5 @@
-use Rattle.std.proofs.Common.{◌≡◌}
+use Rattle.std.proofs.Common.{◌≡◌, None}
+use Rattle.lc_board.specs.Pass.{holding}
 use Rattle.lc_board.proofs.tests.fill.work.Given as goal
 
 abbrev pub invariant-loop : goal.invariant-loop
@@ -7,3 +8,4 @@ invariant-loop g l =
     × (goal.iterator-loop g).is_finite l.iterator'
     × g.B.Shared.owns l.board l.pass
     × ((g.B.Pass.Token.view l.pass).worker ≡ (g.B.Pass.Token.view l.fn.pass).worker)
+    × (holding (g.B.Pass.Token.view l.pass) ≡ None)

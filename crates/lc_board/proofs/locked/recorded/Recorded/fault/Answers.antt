@@ -20,5 +20,5 @@ invariant_of-self g c =
     record {
       recorded = rw c.push_reserved.ensures.items (records _ _ (Fault c.args.worker c.args.number c.args.row) c.self.inside.history.items c.self.invariant.recorded adds);
       ends_fit = omega (arith, freed, held, c.self.invariant.ends_fit);
-      crew = omega (arith, adds.workers, c.self.invariant.crew);
+      few = omega (arith, adds.workers, c.self.invariant.few);
     }

@@ -14,8 +14,8 @@ another-pass-requires-clause-next g c =
     let inv = c.loop-worker.invariant in
     let low : 0 < length c.loop-worker.passes.items = omega (arith, c.loop-worker.passes.ok.0, inv.0) in
     let m = inv.2 _ (slice_get_read _ _ _ _ refl low c.index_mut.ensures.value) in
-    let crew = c.in_ok-board.ensures.board.1 in
-    (omega (arith, inv.0, low), omega (arith, c.loop-worker-test.true, crew), m.0, m.1 ∙ sym crew)
+    let all = c.in_ok-board.ensures.board.1 in
+    (omega (arith, inv.0, low), omega (arith, c.loop-worker-test.true, all), m.0, m.1 ∙ sym all)
 
 pub loop-worker-preserved : goal.loop-worker-preserved
 loop-worker-preserved g c =

@@ -7,4 +7,4 @@ abbrev pub invariant-loop-worker : goal.invariant-loop-worker
 invariant-loop-worker g l =
     (vec_len l.passes ≡ l.worker)
     × ((w : ℕ) (p : _) → slice_get l.passes.items w ≡ Some p → IsPassOf l.board p × (told p ≡ new_pass w) × ((known p).seen ≡ []))
-    × ((p : _) → slice_get l.passes.items 0 ≡ Some p → ((known p).made ≡ l.worker) × ((known p).crew ≡ l.fn.workers))
+    × ((p : _) → slice_get l.passes.items 0 ≡ Some p → ((known p).made ≡ l.worker) × ((known p).workers ≡ l.fn.workers))
