@@ -1,5 +1,5 @@
-pub mod Bridges
 pub mod Broken
+pub mod ChainFiles
 pub mod Composed
 pub mod Core
 pub mod Ends

@@ -1,5 +1,5 @@
 -- What is too deep for a walk.
-use Rattle.std.specs.Prelude.{Bool, false, not, ◌&&◌, ◌||◌, nat_lt, List, length, Result, Ok, Err, bytes_eq, codes}
+use Rattle.std.specs.Prelude.{Bool, true, false, not, ◌&&◌, ◌||◌, nat_lt, List, length, Result, Ok, Err, bytes_eq, codes}
 use Rattle.std.specs.List.{list_any}
 use Rattle.lc_walk.specs.Listing.{DirEntry}
 use Rattle.lc_walk.specs.EntryLooks.{is_dir}

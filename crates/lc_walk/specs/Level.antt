@@ -1,7 +1,6 @@
 -- One level of the walk: what one directory gives.
 use Rattle.std.specs.Prelude.{ℕ, Bool, true, false, not, ◌&&◌, cond, List, [], ◌∷◌, flat_map, Option, Some, None, Result, Ok, Err, bytes_eq, codes}
 use Rattle.lc_rules.specs.Attributes.{AttrState, set, unset, value, unspecified}
-use Rattle.lc_rules.specs.AttrStates.{as_text}
 use Rattle.lc_rules.specs.Verdicts.{joined, verdict_of}
 use Rattle.lc_rules.specs.declared.verdicts.Verdict.{Verdict}
 use Rattle.lc_rules.specs.declared.verdicts.Verdict.TheVariants.{Ignored, Included, NoRule}
@@ -9,7 +8,7 @@ use Rattle.lc_rules.specs.declared.states.TextState.{TextState}
 use Rattle.lc_census.specs.declared.totals.Count.{Count}
 use Rattle.lc_walk.specs.declared.report.fault_word.FaultWord.{FaultWord}
 use Rattle.lc_glob.specs.Path.{path_in}
-use Rattle.lc_walk.specs.AttrFiles.{state_with_info}
+use Rattle.lc_rules.specs.AttrStates.{state_of, as_text}
 use Rattle.lc_walk.specs.Answers.{Item, file_item, directory_item, other_item, Items, Answers}
 use Rattle.lc_walk.specs.Job.{JobAt}
 use Rattle.lc_walk.specs.ReportLines.{FaultAt}
@@ -46,14 +45,14 @@ is_set unspecified = false
 abbrev pub is_kept : Bool → JobAt → List ℕ → Bool → Bool
 is_kept archive j path is_dir =
     not (is_ignored (verdict_of (joined j.ignore) path is_dir))
-    && not (archive && is_set (state_with_info j.attributes path is_dir (codes "export-ignore")))
+    && not (archive && is_set (state_of j.attributes path is_dir (codes "export-ignore")))
 
 -- the entry of this name is not `.git`, and the rules leave it in
 abbrev pub is_taken : Bool → JobAt → List ℕ → Bool → Bool
 is_taken archive j name is_dir = not (bytes_eq name (codes ".git")) && is_kept archive j (path_in j.path name) is_dir
 
 abbrev pub text_of : JobAt → List ℕ → TextState
-text_of j path = as_text (state_with_info j.attributes path false (codes "text"))
+text_of j path = as_text (state_of j.attributes path false (codes "text"))
 
 abbrev pub child_job : JobAt → List ℕ → JobAt
 child_job j name = record { path = path_in j.path name; ignore = j.ignore; attributes = j.attributes }

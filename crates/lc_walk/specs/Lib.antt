@@ -1,8 +1,8 @@
 pub mod Answers
 pub mod Assembled
-pub mod AttrFiles
 pub mod Deep
 pub mod EntryLooks
+pub mod Examples
 pub mod Extension
 pub mod FileReads
 pub mod Found

@@ -1,20 +1,23 @@
 //! A directory to be walked.
 use lc_rules::{AttrChain, Chain};
+use std::alloc::Global;
 use std::marker::Model;
+use std::sync::Arc;
 
-/// A directory to be walked: its path, and both chains of its parent.
+/// A directory to be walked: its path, and both chains of its parent. The chains are shared by all that stand under the
+/// same rule files.
 #[derive(Drop)]
 pub struct Job {
-    pub path: Vec<u8>,
-    pub ignore: Chain,
-    pub attributes: AttrChain,
+    pub(crate) path: Vec<u8>,
+    pub(crate) ignore: Arc<Chain, Global>,
+    pub(crate) attributes: Arc<AttrChain, Global>,
 }
 
 impl Model for Job {
-    ghost use Rattle.std.specs.Prelude.{None};
+    ghost use Rattle.std.specs.Arc.{arc_value};
     ghost use Rattle.lc_walk.specs.Job.{JobAt};
 
     ghost Value = { JobAt };
 
-    ghost view = { λ j. record { path = j.path.items; ignore = j.ignore; attributes = record { tree = j.attributes; info = None } } };
+    ghost view = { λ j. record { path = j.path.items; ignore = arc_value j.ignore; attributes = arc_value j.attributes } };
 }

@@ -1,6 +1,7 @@
 //! Laws of the definitions that the contracts cite. The functions do nothing: their contracts are what is proved.
 ghost use Rattle.std.specs.Prelude.{List};
 ghost use Rattle.std.specs.List.Sorted.{IsPermutation};
+ghost use Rattle.lc_walk.specs.Examples.{ExamplesHold};
 ghost use Rattle.lc_walk.specs.Laws.{CoreLaw, NumbersLaw, OneAnswerLaw, PartLaw, PathsOnceLaw};
 ghost use Rattle.lc_walk.specs.Tally.{Held, CountedFile, StandsFor};
 ghost use Rattle.lc_walk.specs.WalkReport.{ReportLaw};
@@ -35,4 +36,9 @@ pub fn paths_stand_once()
 /// A report tells nothing of the order in which things were found.
 pub fn a_report_has_no_order()
     ensures { ReportLaw }
+{}
+
+/// The definitions of a level, computed on a small directory.
+pub fn examples_hold()
+    ensures { ExamplesHold }
 {}

@@ -8,6 +8,7 @@
 //! - `laws`: what is true of the definitions that the contracts cite
 #![tactic(auto)]
 
+mod closing;
 mod job;
 mod laws;
 mod level;
@@ -18,10 +19,11 @@ mod tally;
 mod tree;
 mod walk_fault;
 
+pub use closing::finish;
 pub use job::Job;
 pub use laws::{
-    a_report_has_no_order, a_tally_has_no_order, lawful_in_part_is_lawful, paths_stand_once,
-    rows_are_the_walk_of_one_tree, rows_are_the_walk_of_their_tree,
+    a_report_has_no_order, a_tally_has_no_order, examples_hold, lawful_in_part_is_lawful,
+    paths_stand_once, rows_are_the_walk_of_one_tree, rows_are_the_walk_of_their_tree,
 };
 pub use report::{FaultLine, FaultWord, FileLine, Report, assemble};
 pub use row::{BrokenRow, Cause, Child, Counted, FaultedRow, FileFault, ListedRow, Place, Row};

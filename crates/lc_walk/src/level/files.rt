@@ -6,7 +6,7 @@ ghost use Rattle.lc_walk.specs.Trees.{MayCount, MayReadRules};
 use crate::level::unread::Unread;
 use crate::report::FaultWord;
 use crate::tree::{ReadFault, Tree};
-use lc_census::{CensusFault, Count, MOST_TURNS, WholeFault, count_in, read_whole};
+use lc_census::{CensusFault, Count, MAX_TURNS, WholeFault, count_in, read_whole};
 use lc_rules::MAX_RULE_BYTES;
 use std::alloc::Global;
 
@@ -26,7 +26,7 @@ pub(crate) fn count_file<T: Tree>(
         Err(ReadFault::Memory) => return Err(Unread::Memory),
         Err(_) => return Err(Unread::Fault(FaultWord::Read)),
     };
-    match count_in(buffer, &mut file, MOST_TURNS) {
+    match count_in(buffer, &mut file, MAX_TURNS) {
         Ok(count) => Ok(count),
         Err(CensusFault::Read) => Err(Unread::Fault(FaultWord::Read)),
         Err(CensusFault::Endless) => Err(Unread::Fault(FaultWord::Endless)),

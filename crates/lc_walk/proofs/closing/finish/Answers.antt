@@ -1,0 +1,25 @@
+use Rattle.std.proofs.Common.{map, sym, ◌∙◌, subst, arith, Err}
+use Rattle.lc_walk.specs.Passes.{asked}
+use Rattle.lc_walk.specs.TreeAnswers.{MayAnswer}
+use Rattle.lc_walk.specs.WalkAnswers.{WalkAnswers}
+use Rattle.lc_walk.proofs.WalkOn.{assembled_walk, refused_walk, few_rows, mapped}
+use Rattle.lc_walk.proofs.closing.finish.Goals as goal
+
+pub assemble-requires : goal.assemble-requires
+assemble-requires g c =
+    let few = few_rows _ _ _ _ _ c.in-Ok.closed.rows.items c.requires.room.0 (c.in-Ok.ensures.settled c.requires.top.0 c.requires.top.1) in
+    omega (arith, few, c.requires.room.1)
+
+pub returns-in-Ok : goal.returns-in-Ok
+returns-in-Ok g c root is at_top =
+    assembled_walk (asked c.args.files c.args.archive) (MayAnswer (g.T.Tree.lists c.args.tree.now) (g.T.Tree.gives c.args.tree.now)) (g.B.Shared.capacity_of c.args.board) (g.B.Shared.workers_of c.args.board) root g.B.Shared.promises
+    (map (λ p. g.B.Pass.Token.view p) c.args.passes.items) c.requires.room.0 (mapped (λ p. g.B.Pass.Token.view p) c.args.passes.items ∙ sym c.args.passes.ok.0 ∙ c.requires.all) at_top
+    c.requires.worked.given c.requires.worked.lawful c.in-Ok.closed.rows.items (c.in-Ok.ensures.settled root is) c.args.tally c.requires.worked.tallied c.assemble.result c.assemble.ensures
+
+pub returns-in-Err : goal.returns-in-Err
+returns-in-Err g c root is at_top =
+    subst (λ f. WalkAnswers (MayAnswer (g.T.Tree.lists c.args.tree.now) (g.T.Tree.gives c.args.tree.now)) (asked c.args.files c.args.archive) (g.B.Shared.capacity_of c.args.board) (g.B.Shared.workers_of c.args.board) root g.B.Shared.promises (Err f))
+    (sym c.from.ensures)
+    (refused_walk (asked c.args.files c.args.archive) (MayAnswer (g.T.Tree.lists c.args.tree.now) (g.T.Tree.gives c.args.tree.now)) (g.B.Shared.capacity_of c.args.board) (g.B.Shared.workers_of c.args.board) root g.B.Shared.promises
+    (map (λ p. g.B.Pass.Token.view p) c.args.passes.items) c.requires.room.0 (mapped (λ p. g.B.Pass.Token.view p) c.args.passes.items ∙ sym c.args.passes.ok.0 ∙ c.requires.all) at_top
+    c.requires.crew c.requires.worked.ended c.in-Err.fault c.in-Err.ensures.fault)

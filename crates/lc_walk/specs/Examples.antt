@@ -1,0 +1,32 @@
+-- The definitions of a level, computed on a small directory.
+use Rattle.std.specs.Prelude.{◌≡◌, false, List, [], ◌∷◌, Ok, None, map, codes}
+use Rattle.lc_census.specs.declared.totals.Count.{Count}
+use Rattle.lc_census.specs.declared.totals.Eol.TheVariants.{Lf}
+use Rattle.lc_walk.specs.Answers.{file_item, directory_item, other_item, Answers}
+use Rattle.lc_walk.specs.Found.{children_at}
+use Rattle.lc_walk.specs.Job.{JobAt}
+use Rattle.lc_walk.specs.Lawful.{files_at}
+
+-- the census of an empty file with one line
+abbrev pub one_line : Count
+one_line = record { lines = 1; blank = 1; bytes = 1; eol = Lf }
+
+abbrev pub top_job : JobAt
+top_job = record { path = []; ignore = []; attributes = record { tree = []; info = None } }
+
+-- a `.gitignore` of `*.o`, `.git/info/exclude` of `!k.o` and `b/`, and files and directories
+abbrev pub small_directory : Answers
+small_directory = record {
+  here = Ok (
+    directory_item (codes ".git") ∷ file_item (codes ".gitignore") (Ok one_line) (Ok (codes "*.o")) ∷ file_item (codes "a.o") (Ok one_line) (Ok [])
+    ∷ directory_item (codes "b") ∷ file_item (codes "c") (Ok one_line) (Ok []) ∷ directory_item (codes "d") ∷ file_item (codes "k.o") (Ok one_line) (Ok [])
+    ∷ other_item (codes "l") ∷ []
+  );
+  git = Ok (directory_item (codes "info") ∷ []);
+  info = Ok (file_item (codes "exclude") (Ok one_line) (Ok (codes "!k.o\nb/")) ∷ []);
+}
+
+-- the rules of the directory's own file go before those of `.git/info`, and nothing of `.git` is counted
+pub record ExamplesHold : Type 0 where
+  pub counted : map (λ f. f.name) (files_at false top_job small_directory) ≡ codes ".gitignore" ∷ codes "c" ∷ []
+  pub below : map (λ c. c.0) (children_at false top_job small_directory) ≡ codes "d" ∷ []

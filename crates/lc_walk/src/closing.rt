@@ -1,0 +1,58 @@
+//! The end of a walk over any shared board: the board is closed, and its rows are assembled.
+ghost use Rattle.std.specs.Prelude.{◌≡◌, ℕ, ◌≤◌, [], Some, slice_get, vec_len, map};
+ghost use Rattle.lc_walk.specs.Passes.{HaveWorked, asked};
+ghost use Rattle.lc_walk.specs.TreeAnswers.{MayAnswer};
+ghost use Rattle.lc_walk.specs.WalkAnswers.{WalkAnswers};
+ghost use Rattle.lc_walk.specs.WalkOn.{fault_of_close};
+ghost use Rattle.lc_walk.specs.Job.{JobAt};
+
+use crate::job::Job;
+use crate::report::{Report, assemble};
+use crate::row::Row;
+use crate::tally::Tally;
+use crate::tree::Tree;
+use crate::walk_fault::WalkFault;
+use lc_board::{CloseFault, Shared};
+use std::alloc::Global;
+
+impl From<CloseFault> for WalkFault {
+    ghost use Rattle.std.specs.Prelude.{◌≡◌};
+    ghost use Rattle.lc_walk.specs.WalkOn.{fault_of_close};
+
+    ghost from_gives = { λ fault result. result ≡ fault_of_close fault };
+
+    fn from(fault: CloseFault) -> WalkFault {
+        match fault {
+            CloseFault::Unfinished(number) => WalkFault::Torn(number),
+            CloseFault::Mismatch(worker) => WalkFault::Mismatch(worker),
+            CloseFault::Memory => WalkFault::Memory,
+        }
+    }
+}
+
+/// Closes the board of workers that have all found it over, and assembles its rows.
+pub fn finish<B: Shared<Job, Row>, T: Tree>(
+    alloc: Global,
+    tree: &T,
+    board: B,
+    passes: Vec<B::Pass>,
+    files: bool,
+    archive: bool,
+    tally: Tally,
+) -> Result<Report, WalkFault>
+    requires room { (1 ≤ B.capacity_of board) × (B.capacity_of board ≤ 1048576) }
+    requires crew { 1 ≤ B.workers_of board }
+    requires top { (root : JobAt) × B.is_root board root × (root.path ≡ []) }
+    requires all { vec_len passes ≡ B.workers_of board }
+    requires each { (w : ℕ) (p : B.Pass) → slice_get passes.items w ≡ Some p → B.owns board p × ((B.Pass.view p).worker ≡ w) }
+    requires worked { HaveWorked (asked files archive) (MayAnswer (T.lists tree.now) (T.gives tree.now)) (map (λ p. B.Pass.view p) passes.items) tally }
+    ensures { (root : JobAt) → B.is_root board root → root.path ≡ [] →
+        WalkAnswers (MayAnswer (T.lists tree.entry.now) (T.gives tree.entry.now)) (asked files archive) (B.capacity_of board) (B.workers_of board) root B.promises result }
+{
+    let _tree = tree;
+    let _archive = archive;
+    match board.close(passes) {
+        Ok(closed) => assemble(alloc, closed, files, tally),
+        Err(fault) => Err(WalkFault::from(fault)),
+    }
+}
