@@ -11,6 +11,7 @@ pub mod Job
 pub mod Key
 pub mod Lawful
 pub mod Laws
+pub mod LeftIn
 pub mod Level
 pub mod Listing
 pub mod Marks

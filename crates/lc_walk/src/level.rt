@@ -8,6 +8,7 @@ mod desk;
 mod entry_looks;
 mod files;
 mod git_info;
+mod left_in;
 mod path_buffer;
 mod rule_files;
 mod rule_pair;
