@@ -1,7 +1,7 @@
 pub mod Broken
-pub mod ChainFiles
 pub mod Composed
 pub mod Core
+pub mod Depths
 pub mod Ends
 pub mod Entries
 pub mod Filtered
@@ -19,6 +19,7 @@ pub mod Levels
 pub mod Listings
 pub mod Marking
 pub mod Moves
+pub mod OpenLevels
 pub mod Parents
 pub mod PathsApart
 pub mod PathsOnce

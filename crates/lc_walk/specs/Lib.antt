@@ -15,6 +15,7 @@ pub mod LeftIn
 pub mod Level
 pub mod Listing
 pub mod Marks
+pub mod Opens
 pub mod Passes
 pub mod PathBuffers
 pub mod Paths

@@ -19,5 +19,9 @@ impl Model for Job {
 
     ghost Value = { JobAt };
 
+    ghost use Rattle.std.specs.Prelude.{◌≤◌, length};
+
+    ghost invariant = { λ j. length j.path.items ≤ 4096 };
+
     ghost view = { λ j. record { path = j.path.items; ignore = arc_value j.ignore; attributes = arc_value j.attributes } };
 }
