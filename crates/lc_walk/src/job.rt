@@ -1,4 +1,6 @@
 //! A directory to be walked.
+ghost use Rattle.std.specs.Prelude.{◌≡◌};
+
 use lc_rules::{AttrChain, Chain};
 use std::alloc::Global;
 use std::marker::Model;
@@ -24,4 +26,13 @@ impl Model for Job {
     ghost invariant = { λ j. length j.path.items ≤ 4096 };
 
     ghost view = { λ j. record { path = j.path.items; ignore = arc_value j.ignore; attributes = arc_value j.attributes } };
+}
+
+impl Job {
+    /// The path of the directory: at most 4,096 bytes.
+    pub fn path(&self) -> &[u8]
+        ensures { result.now ≡ self.now.path }
+    {
+        &self.path
+    }
 }

@@ -74,6 +74,14 @@ impl Listing {
         Ok(Listing { entries })
     }
 
+    /// All entries, in the order of their names' bytes, to be moved out one by one.
+    pub fn into_entries(self) -> Vec<Entry>
+        ensures same { result.items ≡ self }
+        ensures listing { IsListing result.items }
+    {
+        self.entries
+    }
+
     /// All entries, in the order of their names' bytes.
     pub fn entries(&self) -> &[Entry]
         ensures same { result.now ≡ self.now }
