@@ -3,7 +3,7 @@ use Rattle.std.proofs.Common.{◌||◌, nat_lt, ◌≡◌, ◌≤◌, ◌+◌, �
 use Rattle.std.specs.List.{onto_first}
 use Rattle.lc_glob.specs.Tokens.{TokenModel}
 use Rattle.lc_glob.specs.Patterns.{SegmentModel, plain, double_star, PatternModel}
-use Rattle.lc_glob.specs.Strides.{tokens_with_ends, bytes_with_ends}
+use Rattle.lc_glob.specs.Costs.{tokens_with_ends, bytes_with_ends, full_cost}
 use Rattle.lc_glob.specs.Path.{segments_of}
 use Rattle.lc_glob.specs.Reading.{LexemeModel, separator, one, lexeme, put, put_on, parts, pattern_of, pattern_from, segment_from, is_double_star, without_last, without_first, begins_empty, ends_empty, some_empty}
 use Rattle.lc_glob.specs.Patterns.{dead}
@@ -103,7 +103,7 @@ from_size (Some ps) n h =
 pub pattern_size : (bytes : List ℕ) → tokens_with_ends (pattern_of bytes).segments ≤ length bytes + 1
 pattern_size bytes = let h = from_size (parts 0 bytes) (suc (length bytes)) (parts_size bytes 0) in omega (arith, h)
 
-pub whole_bound : (bytes path : List ℕ) (p : PatternModel) (n : ℕ) → n ≤ tokens_with_ends p.segments * bytes_with_ends (segments_of path) → p ≡ pattern_of bytes → n ≤ (length bytes + 1) * (length path + 1)
+pub whole_bound : (bytes path : List ℕ) (p : PatternModel) (n : ℕ) → n ≤ full_cost p.segments (segments_of path) → p ≡ pattern_of bytes → n ≤ (length bytes + 1) * (length path + 1)
 whole_bound bytes path p n h e =
     let w : tokens_with_ends p.segments ≡ tokens_with_ends (pattern_of bytes).segments = ap (λ (q : PatternModel). tokens_with_ends q.segments) e in
     let a : tokens_with_ends p.segments ≤ length bytes + 1 = omega (arith, w, pattern_size bytes) in

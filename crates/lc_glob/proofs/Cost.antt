@@ -2,7 +2,8 @@
 use Rattle.std.proofs.Common.{◌≡◌, ◌≤◌, ◌+◌, ◌*◌, ℕ, List, [], ◌∷◌, length, refl, ap, ◌∙◌, arith}
 use Rattle.lc_glob.specs.Tokens.{TokenModel}
 use Rattle.lc_glob.specs.Patterns.{SegmentModel, plain, double_star}
-use Rattle.lc_glob.specs.Strides.{front_cost, tokens_with_ends, bytes_with_ends}
+use Rattle.lc_glob.specs.PathSteps.{front_cost}
+use Rattle.lc_glob.specs.Costs.{tokens_with_ends, bytes_with_ends, full_cost}
 
 -- the segments up to a double star at the names from here on, one at one
 abbrev pub straight : List SegmentModel → List (List ℕ) → ℕ
@@ -49,7 +50,7 @@ full_again (double_star ∷ r) n ns = full_more r n ns
 full_again (plain us ∷ r) n [] = omega (arith, full_parts r [], straight_none r)
 full_again (plain us ∷ r) n (m ∷ ns) = omega (arith, full_again r m ns)
 
-pub full_total : (s : List SegmentModel) (path : List (List ℕ)) → full s path ≤ tokens_with_ends s * bytes_with_ends path
+pub full_total : (s : List SegmentModel) (path : List (List ℕ)) → full s path ≤ full_cost s path
 full_total [] path = omega arith
 full_total (double_star ∷ r) path = full_total r path
 full_total (plain us ∷ r) [] = omega (arith, full_total r [])
@@ -91,5 +92,5 @@ block_cost s b p q n ns t t' all e paid cost =
     let a : again b q ≡ again b (n ∷ ns) = ap (λ (l : List (List ℕ)). again b l) e in
     omega (arith, a, front_straight s p, full_parts b ns, full_again b n ns)
 
-pub end_cost : (s s0 : List SegmentModel) (p p0 : List (List ℕ)) (t t' t0 r : ℕ) → t' ≤ t + front_cost s p → t + (straight s p + r) ≤ t0 + full s0 p0 → t' ≤ t0 + tokens_with_ends s0 * bytes_with_ends p0
+pub end_cost : (s s0 : List SegmentModel) (p p0 : List (List ℕ)) (t t' t0 r : ℕ) → t' ≤ t + front_cost s p → t + (straight s p + r) ≤ t0 + full s0 p0 → t' ≤ t0 + full_cost s0 p0
 end_cost s s0 p p0 t t' t0 r paid cost = omega (arith, front_straight s p, full_total s0 p0)

@@ -1,7 +1,7 @@
 -- The first and the last of the parts.
 use Rattle.std.proofs.lemmas.List.{map-append}
 use Rattle.std.specs.Global.{Global}
-use Rattle.lc_glob.specs.Views.{tokens_model}
+use Rattle.lc_glob.specs.Views.{part_model}
 use Rattle.lc_glob.specs.declared.token.Token.{Token}
 use Rattle.std.proofs.Common.{arith, take, ◌-◌, suc, Vec, map, ◌≡◌, ℕ, Bool, not, ◌&&◌, List, [], ◌∷◌, ◌++◌, length, refl, sym, ◌∙◌, ap}
 use Rattle.lc_glob.specs.Tokens.{TokenModel}
@@ -19,17 +19,17 @@ last_off [] q = refl
 last_off (p ∷ []) q = refl
 last_off (p ∷ r ∷ ps) q = ap (λ (l : List (List TokenModel)). p ∷ l) (last_off (r ∷ ps) q)
 
-pub ends_of : (all rest : List (Vec Token Global)) (last : Vec Token Global) (r : Bool) → all ≡ rest ++ last ∷ [] → (length rest ≡ 0 → ⊥) → r ≡ is_empty (tokens_model last) → r ≡ ends_empty (map tokens_model all)
+pub ends_of : (all rest : List (Vec Token Global)) (last : Vec Token Global) (r : Bool) → all ≡ rest ++ last ∷ [] → (length rest ≡ 0 → ⊥) → r ≡ is_empty (part_model last) → r ≡ ends_empty (map part_model all)
 ends_of all [] last r e some is = absurd (some refl)
 ends_of all (p ∷ ps) last r e some is =
-    is ∙ sym (ap (λ (l : List (Vec Token Global)). ends_empty (map tokens_model l)) e ∙ ap ends_empty (map-append tokens_model (p ∷ ps) (last ∷ [])) ∙ ends_last (map tokens_model (p ∷ ps)) (tokens_model last))
+    is ∙ sym (ap (λ (l : List (Vec Token Global)). ends_empty (map part_model l)) e ∙ ap ends_empty (map-append part_model (p ∷ ps) (last ∷ [])) ∙ ends_last (map part_model (p ∷ ps)) (part_model last))
 
-kept_off : (all : List (Vec Token Global)) → map tokens_model (take (length all - 1) all) ≡ without_last (map tokens_model all)
+kept_off : (all : List (Vec Token Global)) → map part_model (take (length all - 1) all) ≡ without_last (map part_model all)
 kept_off [] = refl
 kept_off (p ∷ []) = refl
 kept_off (p ∷ q ∷ ps) =
     let e : length (p ∷ q ∷ ps) - 1 ≡ suc (length (q ∷ ps) - 1) = omega arith in
-    ap (λ (n : ℕ). map tokens_model (take n (p ∷ q ∷ ps))) e ∙ ap (λ (l : List (List TokenModel)). tokens_model p ∷ l) (kept_off (q ∷ ps))
+    ap (λ (n : ℕ). map part_model (take n (p ∷ q ∷ ps))) e ∙ ap (λ (l : List (List TokenModel)). part_model p ∷ l) (kept_off (q ∷ ps))
 
-pub kept_part : (all new : List (Vec Token Global)) (n : ℕ) → new ≡ take n all → n ≡ length all - 1 → map tokens_model new ≡ without_last (map tokens_model all)
-kept_part all new n e k = ap (map tokens_model) e ∙ ap (λ (m : ℕ). map tokens_model (take m all)) k ∙ kept_off all
+pub kept_part : (all new : List (Vec Token Global)) (n : ℕ) → new ≡ take n all → n ≡ length all - 1 → map part_model new ≡ without_last (map part_model all)
+kept_part all new n e k = ap (map part_model) e ∙ ap (λ (m : ℕ). map part_model (take m all)) k ∙ kept_off all

@@ -1,8 +1,11 @@
 -- The parts of a pattern, lexeme by lexeme.
-use Rattle.std.proofs.Common.{◌-◌, ◌≡◌, ℕ, zero, suc, List, [], ◌∷◌, ◌++◌, length, take, drop, Option, Some, None, refl, sym, ◌∙◌, ap, append_assoc}
+use Rattle.std.proofs.Common.{Bool, true, false, not, ◌&&◌, cond, nat_eq, map, ◌-◌, ◌≡◌, ℕ, zero, suc, List, [], ◌∷◌, ◌++◌, length, take, drop, Option, Some, None, refl, sym, ◌∙◌, ap, append_assoc}
 use Rattle.std.proofs.lemmas.List.{take_rest, append-nil}
 use Rattle.lc_glob.specs.Tokens.{TokenModel}
-use Rattle.lc_glob.specs.Reading.{LexemeModel, separator, one, lexeme, put, put_on, parts}
+use Rattle.std.specs.List.{list_all}
+use Rattle.lc_glob.specs.Tokens.{literal}
+use Rattle.lc_glob.specs.Patterns.{plain}
+use Rattle.lc_glob.specs.Reading.{LexemeModel, separator, one, lexeme, put, put_on, parts, is_ordinary, pattern_from, pattern_of}
 
 -- parts that are done and tokens of the part at hand, before those found
 abbrev pub join : List (List TokenModel) → List TokenModel → Option (List (List TokenModel)) → Option (List (List TokenModel))
@@ -53,3 +56,37 @@ join_start (b ∷ bs) = join_put_on (lexeme b bs) (λ j. parts j bs)
 
 pub joined : (all o : Option (List (List TokenModel))) (d e : List (List TokenModel)) (c f : List TokenModel) → all ≡ join d c o → e ≡ d → f ≡ c → all ≡ join e f o
 joined all o d e c f same de cf = same ∙ ap (λ (l : List (List TokenModel)). join l c o) (sym de) ∙ ap (λ (l : List TokenModel). join e l o) (sym cf)
+
+-- bytes that mean themselves are one part
+abbrev alone : LexemeModel → Option (LexemeModel × ℕ)
+alone l = Some (l, 0)
+
+chosen : (s k o a q : Bool) (x y z w : Option (LexemeModel × ℕ)) (t u : LexemeModel) → (not s && (not k && (not o && (not a && not q)))) ≡ true → cond k x (cond o y (cond a z (cond q w (alone (cond s t u))))) ≡ alone u
+chosen false false false false false x y z w t u e = refl
+chosen true k o a q x y z w t u e = cc
+chosen false true o a q x y z w t u e = cc
+chosen false false true a q x y z w t u e = cc
+chosen false false false true q x y z w t u e = cc
+chosen false false false false true x y z w t u e = cc
+
+ordinary_lexeme : (b : ℕ) (bs : List ℕ) → is_ordinary b ≡ true → lexeme b bs ≡ alone (one (literal b))
+ordinary_lexeme b bs e = chosen (nat_eq b 47) (nat_eq b 92) (nat_eq b 91) (nat_eq b 42) (nat_eq b 63) _ _ _ _ _ _ e
+
+ordinary_parts : (bs : List ℕ) → list_all is_ordinary bs ≡ true → parts 0 bs ≡ Some (map literal bs ∷ [])
+ordinary_parts [] e = refl
+ordinary_parts (b ∷ bs) e =
+    at_lexeme b bs (one (literal b)) 0 (ordinary_lexeme b bs (and_left (is_ordinary b) _ e))
+    ∙ ap (put (one (literal b))) (ordinary_parts bs (and_right (is_ordinary b) _ e))
+  where
+    and_left : (a b : Bool) → (a && b) ≡ true → a ≡ true
+    and_left true b e = refl
+    and_left false b e = e
+
+    and_right : (a b : Bool) → (a && b) ≡ true → b ≡ true
+    and_right true b e = e
+    and_right false b e = cc
+
+-- so they are one plain segment, which is not anchored
+pub ordinary_pattern : (bytes : List ℕ) → (length bytes ≡ 0 → ⊥) → list_all is_ordinary bytes ≡ true → record { is_dead = false; is_dir_only = false; is_anchored = false; segments = plain (map literal bytes) ∷ [] } ≡ pattern_of bytes
+ordinary_pattern [] some e = absurd (some refl)
+ordinary_pattern (b ∷ bs) some e = sym (ap pattern_from (ordinary_parts (b ∷ bs) e))

@@ -1,14 +1,15 @@
 -- Trying a star's cuts from the shortest on, with one place to go back to.
-use Rattle.std.proofs.Common.{drop, ◌≤◌, ◌+◌, ◌*◌, arith, length, Some, None, Option, ◌≡◌, ◌↔◌, ◌⊎◌, IsTrue, map, ℕ, true, false, List, [], ◌∷◌, inl, inr, refl, sym, ◌∙◌, subst, ap}
+use Rattle.std.proofs.Common.{◌≤◌, ◌+◌, ◌*◌, arith, length, Some, None, Option, ◌≡◌, ◌↔◌, ◌⊎◌, IsTrue, map, ℕ, true, false, List, [], ◌∷◌, inl, inr, refl, sym, ◌∙◌, subst, ap}
 use Rattle.lc_glob.specs.Tokens.{TokenModel, literal, any_byte, star, class, takes, is_star}
 use Rattle.lc_glob.specs.Fits.{Fits}
 use Rattle.std.proofs.lemmas.List.{length-map}
+use Rattle.std.proofs.Common.{length-append, ◌++◌}
 use Rattle.std.proofs.Math.Nat.{mul-le-mul_right}
 use Rattle.lc_glob.specs.declared.token.Token.{Token}
 use Rattle.lc_glob.proofs.Fitting.{fits_one, fits_one_empty, when_one}
 use Rattle.lc_glob.proofs.After.{Later, later_after, after_split, after_join, after_after, after_drop}
 use Rattle.lc_glob.specs.Views.{token_model}
-use Rattle.lc_glob.specs.declared.match_segment.Back.{Back}
+use Rattle.lc_glob.specs.declared.match_segment.Place.{Place}
 
 -- what comes after a byte that is taken
 star_drop : (us : List TokenModel) (u : TokenModel) (x : ℕ) (xs : List ℕ) → is_star u ≡ false → Fits (star ∷ u ∷ us) (x ∷ xs) → Fits (star ∷ us) xs
@@ -21,30 +22,30 @@ star_is any_byte e = cc
 star_is (class n rs) e = cc
 
 -- what is still to be tried where the tokens here don't fit
-abbrev pub LaterOf : Option Back → Type 0
+abbrev pub LaterOf : Option Place → Type 0
 LaterOf None = ⊥
-LaterOf (Some b) = Later (Fits (map token_model b.tokens.now)) b.name.bytes.now
+LaterOf (Some b) = Later (Fits (map token_model b.tokens.now)) b.segment.bytes.now
 
 -- whatever cut the star is given, the tokens here come at what is left or after it
-abbrev pub Covers : Option Back → List TokenModel → List ℕ → Type 0
+abbrev pub Covers : Option Place → List TokenModel → List ℕ → Type 0
 Covers None us name = Unit {0}
-Covers (Some b) us name = Fits (star ∷ map token_model b.tokens.now) b.name.bytes.now → Fits (star ∷ us) name
+Covers (Some b) us name = Fits (star ∷ map token_model b.tokens.now) b.segment.bytes.now → Fits (star ∷ us) name
 
 -- how long the name was where the star was tried last
-abbrev pub span : Option Back → ℕ → ℕ
+abbrev pub span : Option Place → ℕ → ℕ
 span None n = n
-span (Some b) n = length b.name.bytes.now
+span (Some b) n = length b.segment.bytes.now
 
-abbrev pub IsWithin : Option Back → ℕ → Type 0
+abbrev pub IsWithin : Option Place → ℕ → Type 0
 IsWithin None n = Unit {0}
 IsWithin (Some b) n = length b.tokens.now ≤ n
 
-later_fits : (back : Option Back) (us : List TokenModel) (name : List ℕ) → Covers back (star ∷ us) name → LaterOf back → Fits (star ∷ us) name
+later_fits : (back : Option Place) (us : List TokenModel) (name : List ℕ) → Covers back (star ∷ us) name → LaterOf back → Fits (star ∷ us) name
 later_fits None us name c l = absurd l
-later_fits (Some b) us name c l = after_after (Fits us) name (c (later_after (Fits (map token_model b.tokens.now)) b.name.bytes.now l))
+later_fits (Some b) us name c l = after_after (Fits us) name (c (later_after (Fits (map token_model b.tokens.now)) b.segment.bytes.now l))
 
 -- at a star: it becomes the place to go back to
-pub at_star : (T : Type 0) (back : Option Back) (tokens us : List TokenModel) (u : TokenModel) (name : List ℕ) → tokens ≡ u ∷ us → is_star u ≡ true → Covers back tokens name → T ↔ (Fits tokens name ⊎ LaterOf back) → T ↔ (Fits us name ⊎ Later (Fits us) name)
+pub at_star : (T : Type 0) (back : Option Place) (tokens us : List TokenModel) (u : TokenModel) (name : List ℕ) → tokens ≡ u ∷ us → is_star u ≡ true → Covers back tokens name → T ↔ (Fits tokens name ⊎ LaterOf back) → T ↔ (Fits us name ⊎ Later (Fits us) name)
 at_star T back tokens us u name e s c t =
     let is : tokens ≡ star ∷ us = e ∙ ap (λ (v : TokenModel). v ∷ us) (star_is u s) in
     let t' : T ↔ (Fits (star ∷ us) name ⊎ LaterOf back) = subst (λ (l : List TokenModel). T ↔ (Fits l name ⊎ LaterOf back)) is t in
@@ -54,22 +55,23 @@ at_star T back tokens us u name e s c t =
     )
 
 -- at a byte that is taken
-pub at_byte : (T : Type 0) (back : Option Back) (tokens us : List TokenModel) (u : TokenModel) (name : List ℕ) (x : ℕ) (xs : List ℕ) → tokens ≡ u ∷ us → name ≡ x ∷ xs → is_star u ≡ false → IsTrue (takes u x) → T ↔ (Fits tokens name ⊎ LaterOf back) → T ↔ (Fits us xs ⊎ LaterOf back)
+pub at_byte : (T : Type 0) (back : Option Place) (tokens us : List TokenModel) (u : TokenModel) (name : List ℕ) (x : ℕ) (xs : List ℕ) → tokens ≡ u ∷ us → name ≡ x ∷ xs → is_star u ≡ false → IsTrue (takes u x) → T ↔ (Fits tokens name ⊎ LaterOf back) → T ↔ (Fits us xs ⊎ LaterOf back)
 at_byte T back tokens us u name x xs e n s k t =
     let one = when_one tokens us u name x xs e n s in (
       λ h. elim (t.0 h) [ inl f ↦ inl (one.0 f).1 | inr l ↦ inr l ],
       λ w. t.1 (elim w [ inl f ↦ inl (one.1 (k, f)) | inr l ↦ inr l ]),
     )
 
-pub covers_byte : (back : Option Back) (tokens us : List TokenModel) (u : TokenModel) (name : List ℕ) (x : ℕ) (xs : List ℕ) → tokens ≡ u ∷ us → name ≡ x ∷ xs → is_star u ≡ false → Covers back tokens name → Covers back us xs
+pub covers_byte : (back : Option Place) (tokens us : List TokenModel) (u : TokenModel) (name : List ℕ) (x : ℕ) (xs : List ℕ) → tokens ≡ u ∷ us → name ≡ x ∷ xs → is_star u ≡ false → Covers back tokens name → Covers back us xs
 covers_byte None tokens us u name x xs e n s c = tt
 covers_byte (Some b) tokens us u name x xs e n s c =
     λ f. star_drop us u x xs s (subst (λ (l : List ℕ). Fits (star ∷ u ∷ us) l) n (subst (λ (l : List TokenModel). Fits (star ∷ l) name) e (c f)))
 
 -- where the tokens here don't fit
-pub at_back : (T : Type 0) (us : List TokenModel) (b : List ℕ) (name : List ℕ) (x : ℕ) (H : Type 0) → name ≡ x ∷ b → (H → ⊥) → T ↔ (H ⊎ Later (Fits us) name) → T ↔ (Fits us b ⊎ Later (Fits us) b)
-at_back T us b name x H n never t =
-    let t' : T ↔ (H ⊎ Fits (star ∷ us) b) = subst (λ (l : List ℕ). T ↔ (H ⊎ Later (Fits us) l)) n t in (
+pub at_back : (T : Type 0) (us ts : List TokenModel) (b : List ℕ) (name : List ℕ) (x : ℕ) (H : Type 0) → name ≡ x ∷ b → ts ≡ us → (H → ⊥) → T ↔ (H ⊎ Later (Fits us) name) → T ↔ (Fits ts b ⊎ Later (Fits ts) b)
+at_back T us ts b name x H n e never t =
+    let t' : T ↔ (H ⊎ Fits (star ∷ us) b) = subst (λ (l : List ℕ). T ↔ (H ⊎ Later (Fits us) l)) n t in
+    subst (λ (l : List TokenModel). T ↔ (Fits l b ⊎ Later (Fits l) b)) (sym e) (
       λ h. after_split (Fits us) b (elim (t'.0 h) [ inl f ↦ absurd (never f) | inr l ↦ l ]),
       λ w. t'.1 (inr (after_join (Fits us) b w)),
     )
@@ -88,9 +90,14 @@ paid_back a b p h g t s all ab hp st paid =
     let e : b * (p + 1) ≡ (a + 1) * (p + 1) = ap (λ (n : ℕ). n * (p + 1)) (sym ab) in
     omega (arith, e)
 
-pub with_first : (name rest : List ℕ) → (length name ≡ 0 → ⊥) → rest ≡ drop 1 name → (x : ℕ) × (name ≡ x ∷ rest)
-with_first [] rest some e = absurd (some refl)
-with_first (x ∷ xs) rest some e = (x, ap (λ (l : List ℕ). x ∷ l) (sym (e ∙ drop-one x xs)))
-  where
-    drop-one : (x : ℕ) (xs : List ℕ) → drop 1 (x ∷ xs) ≡ xs
-    drop-one x xs = refl
+-- from the end
+pub shorter_end : (here before : List Token) (u : TokenModel) → map token_model here ≡ map token_model before ++ u ∷ [] → length here ≡ length before + 1
+shorter_end here before u e =
+    let l : length (map token_model here) ≡ length (map token_model before ++ u ∷ []) = ap length e in
+    let h = length-map here token_model in let b = length-map before token_model in let a = length-append (map token_model before) (u ∷ []) in omega (arith, l, h, b, a)
+
+pub length_end : (bytes before : List ℕ) (x : ℕ) → bytes ≡ before ++ x ∷ [] → length bytes ≡ length before + 1
+length_end bytes before x e = ap length e ∙ length-append before (x ∷ [])
+
+pub paid_end : (h b n m t s all : ℕ) → h ≡ b + 1 → n ≡ m + 1 → s ≤ t + 1 → t + (h + 1) * (n + 1) ≤ all → s + (b + 1) * (m + 1) ≤ all
+paid_end h b n m t s all hb nm st paid = omega (arith, rw (hb, nm) at paid)

@@ -8,39 +8,39 @@ use Rattle.lc_glob.specs.Leads.{Leads}
 use Rattle.lc_glob.specs.Views.{segment_model}
 use Rattle.lc_glob.specs.Path.{segments_left}
 use Rattle.lc_glob.specs.declared.segment.Segment.{Segment}
-use Rattle.lc_glob.specs.declared.match_path.BackPath.{BackPath}
+use Rattle.lc_glob.specs.declared.match_path.PathPlace.{PathPlace}
 use Rattle.lc_glob.proofs.After.{After, Later, later_after, after_split, after_join, after_after, after_drop}
 use Rattle.lc_glob.proofs.Cost.{again}
 
 -- what is still to be tried where the segments here don't spell the segments that are left
-abbrev pub LaterOf : Option BackPath → Type 0
+abbrev pub LaterOf : Option PathPlace → Type 0
 LaterOf None = ⊥
-LaterOf (Some b) = Later (Leads (map segment_model b.segments.now)) (segments_left b.path.rest)
+LaterOf (Some b) = Later (Leads (map segment_model b.segments.now)) (segments_left b.left.rest)
 
 -- whatever run the double star is given, the segments here come at the segments left or after them
-abbrev pub Covers : Option BackPath → List SegmentModel → List (List ℕ) → Type 0
+abbrev pub Covers : Option PathPlace → List SegmentModel → List (List ℕ) → Type 0
 Covers None s path = Unit {0}
-Covers (Some b) s path = After (Leads (map segment_model b.segments.now)) (segments_left b.path.rest) → After (Leads s) path
+Covers (Some b) s path = After (Leads (map segment_model b.segments.now)) (segments_left b.left.rest) → After (Leads s) path
 
-abbrev pub span : Option BackPath → ℕ → ℕ
+abbrev pub span : Option PathPlace → ℕ → ℕ
 span None n = n
-span (Some b) n = length (segments_left b.path.rest)
+span (Some b) n = length (segments_left b.left.rest)
 
-abbrev pub IsWithin : Option BackPath → ℕ → Type 0
+abbrev pub IsWithin : Option PathPlace → ℕ → Type 0
 IsWithin None n = Unit {0}
 IsWithin (Some b) n = length b.segments.now ≤ n
 
 -- what a later start may still cost; at first all but the straight try
-abbrev pub reserve : Option BackPath → ℕ → ℕ
+abbrev pub reserve : Option PathPlace → ℕ → ℕ
 reserve None n = n
-reserve (Some b) n = again (map segment_model b.segments.now) (segments_left b.path.rest)
+reserve (Some b) n = again (map segment_model b.segments.now) (segments_left b.left.rest)
 
-later_comes : (back : Option BackPath) (s : List SegmentModel) (path : List (List ℕ)) → Covers back s path → LaterOf back → After (Leads s) path
+later_comes : (back : Option PathPlace) (s : List SegmentModel) (path : List (List ℕ)) → Covers back s path → LaterOf back → After (Leads s) path
 later_comes None s path c l = absurd l
-later_comes (Some b) s path c l = c (later_after (Leads (map segment_model b.segments.now)) (segments_left b.path.rest) l)
+later_comes (Some b) s path c l = c (later_after (Leads (map segment_model b.segments.now)) (segments_left b.left.rest) l)
 
 -- at a double star: it becomes the place to go back to
-pub at_double : (T : Type 0) (back : Option BackPath) (segments rest : List SegmentModel) (path : List (List ℕ)) → segments ≡ double_star ∷ rest → Covers back segments path → T ↔ (Leads segments path ⊎ LaterOf back) → T ↔ (Leads rest path ⊎ Later (Leads rest) path)
+pub at_double : (T : Type 0) (back : Option PathPlace) (segments rest : List SegmentModel) (path : List (List ℕ)) → segments ≡ double_star ∷ rest → Covers back segments path → T ↔ (Leads segments path ⊎ LaterOf back) → T ↔ (Leads rest path ⊎ Later (Leads rest) path)
 at_double T back segments rest path e c t =
     let P = Leads rest in
     let t' : T ↔ (After P path ⊎ LaterOf back) = subst (λ (l : List SegmentModel). T ↔ (Leads l path ⊎ LaterOf back)) e t in
@@ -57,16 +57,17 @@ at_name T L segments rest us path n ns e p f t =
       λ w. t'.1 (elim w [ inl g ↦ inl (f, g) | inr l ↦ inr l ]),
     )
 
-pub covers_name : (back : Option BackPath) (segments rest : List SegmentModel) (us : List TokenModel) (path : List (List ℕ)) (n : List ℕ) (ns : List (List ℕ)) → segments ≡ plain us ∷ rest → path ≡ n ∷ ns → Covers back segments path → Covers back rest ns
+pub covers_name : (back : Option PathPlace) (segments rest : List SegmentModel) (us : List TokenModel) (path : List (List ℕ)) (n : List ℕ) (ns : List (List ℕ)) → segments ≡ plain us ∷ rest → path ≡ n ∷ ns → Covers back segments path → Covers back rest ns
 covers_name None segments rest us path n ns e p c = tt
 covers_name (Some b) segments rest us path n ns e p c =
     λ f. after_drop (Leads (plain us ∷ rest)) (Leads rest) (λ h. h) (λ x xs h. h.1) n ns
     (subst (λ (l : List (List ℕ)). After (Leads (plain us ∷ rest)) l) p (subst (λ (l : List SegmentModel). After (Leads l) path) e (c f)))
 
 -- where the segments here don't spell the segments left
-pub at_block : (T H : Type 0) (s : List SegmentModel) (path : List (List ℕ)) (n : List ℕ) (ns : List (List ℕ)) → path ≡ n ∷ ns → (H → ⊥) → T ↔ (H ⊎ Later (Leads s) path) → T ↔ (Leads s ns ⊎ Later (Leads s) ns)
-at_block T H s path n ns e never t =
-    let t' : T ↔ (H ⊎ After (Leads s) ns) = subst (λ (l : List (List ℕ)). T ↔ (H ⊎ Later (Leads s) l)) e t in (
+pub at_block : (T H : Type 0) (s r : List SegmentModel) (path : List (List ℕ)) (n : List ℕ) (ns : List (List ℕ)) → path ≡ n ∷ ns → r ≡ s → (H → ⊥) → T ↔ (H ⊎ Later (Leads s) path) → T ↔ (Leads r ns ⊎ Later (Leads r) ns)
+at_block T H s r path n ns e q never t =
+    let t' : T ↔ (H ⊎ After (Leads s) ns) = subst (λ (l : List (List ℕ)). T ↔ (H ⊎ Later (Leads s) l)) e t in
+    subst (λ (l : List SegmentModel). T ↔ (Leads l ns ⊎ Later (Leads l) ns)) (sym q) (
       λ h. after_split (Leads s) ns (elim (t'.0 h) [ inl f ↦ absurd (never f) | inr l ↦ l ]),
       λ w. t'.1 (inr (after_join (Leads s) ns w)),
     )

@@ -9,21 +9,27 @@ abbrev pub named : Bool → List (ℕ × ℕ) → Option (List (ℕ × ℕ)) →
 named true ranges others = Some ranges
 named false ranges others = others
 
--- the bytes of a class, in ASCII, where the upper letters are 65 to 90, the lower 97 to 122 and the digits 48 to 57
+-- ranges by their ends, two by two
+abbrev pub spans : List ℕ → List (ℕ × ℕ)
+spans [] = []
+spans (a ∷ []) = []
+spans (a ∷ b ∷ ends) = (a, b) ∷ spans ends
+
+-- the bytes of a class, in ASCII; 9 is the tab, and 9 to 13 are the tab, the line's ends and what stands between them
 abbrev pub class_of : List ℕ → Option (List (ℕ × ℕ))
 class_of name =
-    named (bytes_eq name (codes "alpha")) ((65, 90) ∷ (97, 122) ∷ [])
-    (named (bytes_eq name (codes "lower")) ((97, 122) ∷ [])
-    (named (bytes_eq name (codes "upper")) ((65, 90) ∷ [])
-    (named (bytes_eq name (codes "digit")) ((48, 57) ∷ [])
-    (named (bytes_eq name (codes "xdigit")) ((48, 57) ∷ (65, 70) ∷ (97, 102) ∷ [])
-    (named (bytes_eq name (codes "alnum")) ((48, 57) ∷ (65, 90) ∷ (97, 122) ∷ [])
-    (named (bytes_eq name (codes "blank")) ((32, 32) ∷ (9, 9) ∷ [])
-    (named (bytes_eq name (codes "space")) ((32, 32) ∷ (9, 13) ∷ [])
+    named (bytes_eq name (codes "alpha")) (spans (codes "AZaz"))
+    (named (bytes_eq name (codes "lower")) (spans (codes "az"))
+    (named (bytes_eq name (codes "upper")) (spans (codes "AZ"))
+    (named (bytes_eq name (codes "digit")) (spans (codes "09"))
+    (named (bytes_eq name (codes "xdigit")) (spans (codes "09AFaf"))
+    (named (bytes_eq name (codes "alnum")) (spans (codes "09AZaz"))
+    (named (bytes_eq name (codes "blank")) (spans (codes "  ") ++ (9, 9) ∷ [])
+    (named (bytes_eq name (codes "space")) (spans (codes "  ") ++ (9, 13) ∷ [])
     (named (bytes_eq name (codes "cntrl")) ((0, 31) ∷ (127, 127) ∷ [])
-    (named (bytes_eq name (codes "graph")) ((33, 126) ∷ [])
-    (named (bytes_eq name (codes "print")) ((32, 126) ∷ [])
-    (named (bytes_eq name (codes "punct")) ((33, 47) ∷ (58, 64) ∷ (91, 96) ∷ (123, 126) ∷ [])
+    (named (bytes_eq name (codes "graph")) (spans (codes "!~"))
+    (named (bytes_eq name (codes "print")) (spans (codes " ~"))
+    (named (bytes_eq name (codes "punct")) (spans (codes "!/:@[`{~"))
     None)))))))))))
 
 -- the element that begins with the byte b, and how many of the bytes after b it takes: a byte, or one that is quoted
@@ -69,12 +75,16 @@ colon_item p rest plain =
     then (if is_class rest p then class_item (p + 2) (class_of (take (p - 1) rest)) else plain)
     else None
 
+-- the place of the first close, or the length where there is none
+abbrev pub first_close : List ℕ → ℕ
+first_close bytes = position_or_len (λ d. d == closing) bytes
+
 -- the ranges of an item that begins with the byte b, and how many of the bytes after b it takes
 abbrev pub item : ℕ → List ℕ → Option (List (ℕ × ℕ) × ℕ)
 item b [] = plain_item b []
 item b (c ∷ cs) =
     if b == opening && (c == colon)
-    then colon_item (position_or_len (λ d. d == closing) cs) cs (plain_item b (c ∷ cs))
+    then colon_item (first_close cs) cs (plain_item b (c ∷ cs))
     else plain_item b (c ∷ cs)
 
 -- the ranges of one item before those of the items after it, and one byte more

@@ -10,9 +10,10 @@ pub mod IsMatch
 pub mod Brackets
 pub mod Reading
 pub mod Views
+pub mod ByteTests
 pub mod BracketSteps
 pub mod Steps
-pub mod Strides
+pub mod Costs
 pub mod Leads
-pub mod Endings
+pub mod PathSteps
 pub mod Words

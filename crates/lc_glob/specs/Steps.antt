@@ -1,15 +1,31 @@
 -- What one step along a segment found.
-use Rattle.std.specs.Prelude.{ℕ, true, false, ◌≡◌, List, [], ◌∷◌, map, IsTrue}
+use Rattle.std.specs.Prelude.{ℕ, true, false, ◌≡◌, List, [], ◌∷◌, ◌++◌, map, Option, Some, None, IsTrue}
 use Rattle.lc_glob.specs.Tokens.{TokenModel, takes, is_star}
 use Rattle.lc_glob.specs.Fits.{Fits}
 use Rattle.lc_glob.specs.Views.{token_model}
-use Rattle.lc_glob.specs.declared.match_segment.Step.{Step}
-use Rattle.lc_glob.specs.declared.match_segment.Step.TheVariants.{Star, Taken, Fitted, Stuck}
+use Rattle.lc_glob.specs.declared.match_segment.Place.{Place}
+use Rattle.lc_glob.specs.declared.match_segment.FrontStep.{FrontStep}
+use Rattle.lc_glob.specs.declared.match_segment.FrontStep.TheVariants as front
+use Rattle.lc_glob.specs.declared.match_segment.EndStep.{EndStep}
+use Rattle.lc_glob.specs.declared.match_segment.EndStep.TheVariants as end
+
+-- the last token is a star; or it stands for the last byte, and what is before both is left; or neither tokens nor bytes
+-- are left; or the tokens don't fit the segment
+abbrev pub EndStepIs : EndStep → List TokenModel → List ℕ → Type 0
+EndStepIs end.Star tokens segment = Unit {0}
+EndStepIs (end.Taken before) tokens segment = (u : TokenModel) × (x : ℕ) × (tokens ≡ map token_model before.tokens.now ++ u ∷ []) × (segment ≡ before.segment.bytes.now ++ x ∷ []) × (is_star u ≡ false) × IsTrue (takes u x)
+EndStepIs end.Fitted tokens segment = (tokens ≡ []) × (segment ≡ [])
+EndStepIs end.Stuck tokens segment = Fits tokens segment → ⊥
 
 -- the first token is a star, and what is after it is left; or it stands for the first byte, and what is after both is left;
--- or neither tokens nor bytes are left; or the tokens don't fit the name
-abbrev pub StepIs : Step → List TokenModel → List ℕ → Type 0
-StepIs (Star rest) tokens name = (u : TokenModel) × (tokens ≡ u ∷ map token_model rest.now) × (is_star u ≡ true)
-StepIs (Taken rest others) tokens name = (u : TokenModel) × (x : ℕ) × (tokens ≡ u ∷ map token_model rest.now) × (name ≡ x ∷ others.bytes.now) × (is_star u ≡ false) × IsTrue (takes u x)
-StepIs Fitted tokens name = (tokens ≡ []) × (name ≡ [])
-StepIs Stuck tokens name = Fits tokens name → ⊥
+-- or neither tokens nor bytes are left; or the tokens don't fit the segment
+abbrev pub FrontStepIs : FrontStep → List TokenModel → List ℕ → Type 0
+FrontStepIs (front.Star rest) tokens segment = (u : TokenModel) × (tokens ≡ u ∷ map token_model rest.now) × (is_star u ≡ true)
+FrontStepIs (front.Taken after) tokens segment = (u : TokenModel) × (x : ℕ) × (tokens ≡ u ∷ map token_model after.tokens.now) × (segment ≡ x ∷ after.segment.bytes.now) × (is_star u ≡ false) × IsTrue (takes u x)
+FrontStepIs front.Fitted tokens segment = (tokens ≡ []) × (segment ≡ [])
+FrontStepIs front.Stuck tokens segment = Fits tokens segment → ⊥
+
+-- the same tokens one byte later, where there is one
+abbrev pub RetryIs : Place → Option Place → Type 0
+RetryIs here None = here.segment.bytes.now ≡ []
+RetryIs here (Some next) = (x : ℕ) × (here.segment.bytes.now ≡ x ∷ next.segment.bytes.now) × (next.tokens.now ≡ here.tokens.now)

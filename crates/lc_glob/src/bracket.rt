@@ -1,9 +1,8 @@
 //! What stands between brackets, read from its bytes.
 
 ghost use Rattle.std.specs.Prelude.{◌≡◌, ◌<◌, ◌≤◌, ◌+◌, length, [], ◌∷◌, MatchOption, IfOk, IfSome, Some, None, true, not, ◌&&◌, ◌==◌};
-ghost use Rattle.std.specs.List.{position_or_len};
 ghost use Rattle.lc_glob.specs.Bytes.{opening, closing};
-ghost use Rattle.lc_glob.specs.Brackets.{element, range_from, class_of, item, plain_item, colon_item, items, bracket};
+ghost use Rattle.lc_glob.specs.Brackets.{element, first_close, range_from, class_of, item, plain_item, colon_item, items, bracket};
 ghost use Rattle.lc_glob.specs.BracketSteps.{ColonIs, PushesItem};
 ghost use Rattle.lc_glob.specs.Tokens.{class};
 
@@ -29,16 +28,16 @@ fn range_at(x: u8, taken: usize, rest: &[u8]) -> Option<((u8, u8), usize)>
     ensures is { MatchOption result (range_from x taken rest.now ≡ None) (λ r. range_from x taken rest.now ≡ Some (r.0 ∷ [], r.1)) }
     ensures within { IfSome result (λ r. (r.1 ≤ taken + length rest.now) × (r.1 ≤ 4)) }
 {
-    let Some((d, after)) = rest.split_first() else {
+    let Some((hyphen, after_hyphen)) = rest.split_first() else {
         return Some(((x, x), taken));
     };
-    let Some((c, others)) = after.split_first() else {
+    let Some((end, after_end)) = after_hyphen.split_first() else {
         return Some(((x, x), taken));
     };
-    if *d != b'-' || *c == b']' {
+    if *hyphen != b'-' || *end == b']' {
         return Some(((x, x), taken));
     }
-    let (y, more) = element_at(*c, others)?;
+    let (y, more) = element_at(*end, after_end)?;
     Some(((x, x.max(y)), taken + 2 + more))
 }
 
@@ -85,18 +84,18 @@ enum Colon {
     Ordinary,
 }
 
-/// What begins with the `[:` that `rest` follows, whose first close is at `place`.
-fn colon_at(rest: &[u8], place: usize) -> Colon
-    requires { place < length rest.now }
-    ensures { ColonIs result rest.now place }
+/// What begins with a `[:`, by the bytes after these two, whose first close is at `close`.
+fn colon_at(after_colon: &[u8], close: usize) -> Colon
+    requires { close < length after_colon.now }
+    ensures { ColonIs result after_colon.now close }
 {
-    if place == 0 || rest[place - 1] != b':' {
+    if close == 0 || after_colon[close - 1] != b':' {
         return Colon::Ordinary;
     }
-    let Some(ranges) = class_at(&rest[..place - 1]) else {
+    let Some(ranges) = class_at(&after_colon[..close - 1]) else {
         return Colon::Unknown;
     };
-    Colon::Class(ranges, place + 2)
+    Colon::Class(ranges, close + 2)
 }
 
 /// Pushes the range of an item that is an element or a range, and says how many bytes after `b` it takes.
@@ -116,7 +115,7 @@ fn push_plain(b: u8, rest: &[u8], ranges: &mut Vec<(u8, u8)>) -> Result<Option<u
 
 /// The place of the first close, or the length.
 fn first_close(bytes: &[u8]) -> usize
-    ensures is { result ≡ position_or_len (λ d. d == closing) bytes.now }
+    ensures is { result ≡ first_close bytes.now }
     ensures within { result ≤ length bytes.now }
 {
     match memchr(b']', bytes) {
@@ -125,27 +124,27 @@ fn first_close(bytes: &[u8]) -> usize
     }
 }
 
-/// Pushes the ranges of an item `[:`, which `rest` begins after the bracket, and says how many bytes of it are taken.
+/// Pushes the ranges of an item that begins with `[:`, and says how many bytes after the `[` it takes.
 fn push_colon(
-    rest: &[u8],
-    after: &[u8],
+    after_bracket: &[u8],
+    after_colon: &[u8],
     ranges: &mut Vec<(u8, u8)>,
 ) -> Result<Option<usize>, AllocError>
-    requires { length after.now + 1 ≡ length rest.now }
-    ensures is { IfOk result (λ r. PushesItem (colon_item (position_or_len (λ d. d == closing) after.now) after.now (plain_item opening rest.now)) ranges.old.items ranges.new.items r) }
-    ensures within { IfOk result (λ r. IfSome r (λ k. k ≤ length rest.now)) }
+    requires { length after_colon.now + 1 ≡ length after_bracket.now }
+    ensures is { IfOk result (λ r. PushesItem (colon_item (first_close after_colon.now) after_colon.now (plain_item opening after_bracket.now)) ranges.old.items ranges.new.items r) }
+    ensures within { IfOk result (λ r. IfSome r (λ k. k ≤ length after_bracket.now)) }
 {
-    let place = first_close(after);
-    if place == after.len() {
+    let close = first_close(after_colon);
+    if close == after_colon.len() {
         return Ok(None);
     }
-    match colon_at(after, place) {
+    match colon_at(after_colon, close) {
         Colon::Class(class, taken) => {
             ranges.extend_from_slice(class)?;
             Ok(Some(taken))
         }
         Colon::Unknown => Ok(None),
-        Colon::Ordinary => push_plain(b'[', rest, ranges),
+        Colon::Ordinary => push_plain(b'[', after_bracket, ranges),
     }
 }
 
@@ -155,11 +154,11 @@ fn push_item(b: u8, rest: &[u8], ranges: &mut Vec<(u8, u8)>) -> Result<Option<us
     ensures is { IfOk result (λ r. PushesItem (item b rest.now) ranges.old.items ranges.new.items r) }
     ensures within { IfOk result (λ r. IfSome r (λ k. k ≤ length rest.now)) }
 {
-    let Some((c, after)) = rest.split_first() else {
+    let Some((c, after_colon)) = rest.split_first() else {
         return push_plain(b, rest, ranges);
     };
     if b == b'[' && *c == b':' {
-        push_colon(rest, after, ranges)
+        push_colon(rest, after_colon, ranges)
     } else {
         push_plain(b, rest, ranges)
     }

@@ -1,8 +1,8 @@
 //! The bytes that a bracket stands for.
 
-ghost use Rattle.std.specs.Prelude.{◌≡◌, ◌≤◌};
+ghost use Rattle.std.specs.Prelude.{◌≡◌, ◌≤◌, ◌<◌, ◌&&◌, ◌||◌, nat_le, ℕ, false, slice_index_or};
 ghost use Rattle.lc_glob.specs.Tokens.{in_ranges, takes, class};
-ghost use Rattle.lc_glob.specs.Words.{bit, word_of, words_of};
+ghost use Rattle.lc_glob.specs.Words.{AreMembers, GainsRange, word_of, words_of};
 
 /// The bytes of some ranges, or all but those and the slash.
 #[derive(Debug, Drop)]
@@ -16,15 +16,17 @@ pub(crate) struct ByteSet {
 }
 
 impl ByteSet {
+    /// It goes once over the ranges.
     pub(crate) fn new(negated: bool, ranges: Vec<(u8, u8)>) -> Self
         ensures negated { result.negated ≡ negated }
         ensures ranges { result.ranges ≡ ranges }
     {
+        let members = members_of(&ranges);
         let words = [
-            word_at(&ranges, 0),
-            word_at(&ranges, 64),
-            word_at(&ranges, 128),
-            word_at(&ranges, 192),
+            word_at(&members, 0),
+            word_at(&members, 64),
+            word_at(&members, 128),
+            word_at(&members, 192),
         ];
         ByteSet {
             negated,
@@ -47,28 +49,35 @@ impl ByteSet {
     }
 }
 
+/// Whether each byte is in one of the ranges.
+fn members_of(ranges: &[(u8, u8)]) -> [bool; 256]
+    ensures { AreMembers (in_ranges ranges.now) result }
+{
+    let mut members = [false; 256];
+    for (first, last) in ranges {
+        add_range(&mut members, *first, *last);
+    }
+    members
+}
+
+fn add_range(members: &mut [bool; 256], first: u8, last: u8)
+    ensures { GainsRange first last members.old members.new }
+{
+    for b in usize::from(first)..usize::from(last) + 1 {
+        members[b] = true;
+    }
+}
+
 /// The bits of the 64 bytes from `low` on.
-fn word_at(ranges: &[(u8, u8)], low: u8) -> u64
+fn word_at(members: &[bool; 256], low: usize) -> u64
     requires { low ≤ 192 }
-    ensures { result ≡ word_of (in_ranges ranges.now) low 64 }
+    ensures { result ≡ word_of (λ b. slice_index_or members.now b false) low 64 }
 {
     let mut word = 0;
     let mut left = 64;
     'bits: while 0 < left {
         left -= 1;
-        word = 2 * word + bit_of(in_some_range(ranges, low + left));
+        word = 2 * word + u64::from(members[low + left]);
     }
     word
-}
-
-fn bit_of(is_set: bool) -> u64
-    ensures { result ≡ bit is_set }
-{
-    if is_set { 1 } else { 0 }
-}
-
-fn in_some_range(ranges: &[(u8, u8)], b: u8) -> bool
-    ensures { result ≡ in_ranges ranges.now b }
-{
-    ranges.iter().any(|r| r.0 <= b && b <= r.1)
 }

@@ -1,7 +1,8 @@
-//! One segment of a path, whose bytes are seen only through a test that is counted.
+//! One segment of a path, whose bytes are seen only through tests that are counted.
 
-ghost use Rattle.std.specs.Prelude.{◌≡◌, ◌↔◌, ◌<◌, ◌+◌, ◌^◌, ◌-◌, min, IsTrue, length, slice_index, drop};
-ghost use Rattle.lc_glob.specs.Tokens.{takes};
+ghost use Rattle.std.specs.Prelude.{◌≡◌, ◌↔◌, ◌==◌, nat_le, nat_lt, if◌then◌else◌, IsTrue, length, bytes_eq, nat_eq};
+ghost use Rattle.std.specs.List.{ends_with};
+ghost use Rattle.lc_glob.specs.ByteTests.{tests_after, SkipsFirst, StripsFirst, StripsLast};
 ghost use Rattle.lc_glob.specs.Views.{token_model};
 
 use crate::token::Token;
@@ -19,10 +20,10 @@ impl ByteTests {
         ByteTests { made: 0 }
     }
 
-    fn add_one(&mut self)
-        ensures { self.new.made ≡ min (self.old.made + 1) (2 ^ 64 - 1) }
+    fn add(&mut self, count: usize)
+        ensures { self.new.made ≡ tests_after self.old.made count }
     {
-        self.made = self.made.saturating_add(1);
+        self.made = self.made.saturating_add(count as u64);
     }
 
     pub(crate) fn made(&self) -> u64
@@ -32,7 +33,7 @@ impl ByteTests {
     }
 }
 
-/// A segment of a path, or what is left of one. Only the two byte tests, which are counted, look at its bytes.
+/// A segment of a path, or what is left of one. Only the byte tests, which are counted, look at its bytes.
 #[derive(Clone, Copy, Debug)]
 pub(crate) struct PathSegment<'a> {
     bytes: &'a [u8],
@@ -51,33 +52,63 @@ impl<'a> PathSegment<'a> {
         self.bytes.is_empty()
     }
 
-    /// The name without its first byte.
-    pub(crate) fn rest(self) -> Self
-        requires { 0 < length self.bytes.now }
-        ensures { result.bytes.now ≡ drop 1 self.entry.bytes.now }
+    /// The segment without its first byte, which is not looked at.
+    pub(crate) fn skip_first(self) -> Option<Self>
+        ensures { SkipsFirst self.entry.bytes.now result }
     {
-        PathSegment {
-            bytes: &self.bytes[1..],
+        let (_, bytes) = self.bytes.split_first()?;
+        Some(PathSegment { bytes })
+    }
+
+    /// The segment without its first byte, where a token that is no star stands for that one.
+    pub(crate) fn strip_first(self, token: &Token, tests: &mut ByteTests) -> Option<Self>
+        ensures strips { StripsFirst (token_model token.now) self.entry.bytes.now result }
+        ensures counted { tests.new.made ≡ (if nat_lt 0 (length self.entry.bytes.now) then tests_after tests.old.made 1 else tests.old.made) }
+    {
+        let (b, bytes) = self.bytes.split_first()?;
+        tests.add(1);
+        if token.takes(*b) {
+            Some(PathSegment { bytes })
+        } else {
+            None
         }
     }
 
-    /// A byte test: whether a token that is no star stands for the last byte.
-    pub(crate) fn back_is_taken(self, token: &Token, tests: &mut ByteTests) -> bool
-        requires { 0 < length self.bytes.now }
-        ensures taken { result ≡ takes (token_model token.now) (slice_index self.entry.bytes.now (length self.entry.bytes.now - 1)) }
-        ensures counted { tests.new.made ≡ min (tests.old.made + 1) (2 ^ 64 - 1) }
+    /// The segment without its last byte, where a token that is no star stands for that one.
+    pub(crate) fn strip_last(self, token: &Token, tests: &mut ByteTests) -> Option<Self>
+        ensures strips { StripsLast (token_model token.now) self.entry.bytes.now result }
+        ensures counted { tests.new.made ≡ (if nat_lt 0 (length self.entry.bytes.now) then tests_after tests.old.made 1 else tests.old.made) }
     {
-        tests.add_one();
-        token.takes(self.bytes[self.bytes.len() - 1])
+        let (b, bytes) = self.bytes.split_last()?;
+        tests.add(1);
+        if token.takes(*b) {
+            Some(PathSegment { bytes })
+        } else {
+            None
+        }
     }
 
-    /// A byte test: whether a token that is no star stands for the first byte.
-    pub(crate) fn front_is_taken(self, token: &Token, tests: &mut ByteTests) -> bool
-        requires { 0 < length self.bytes.now }
-        ensures taken { result ≡ takes (token_model token.now) (slice_index self.entry.bytes.now 0) }
-        ensures counted { tests.new.made ≡ min (tests.old.made + 1) (2 ^ 64 - 1) }
+    /// Whether its bytes are these literals: a test for each, where there are as many.
+    pub(crate) fn is(self, literals: &[u8], tests: &mut ByteTests) -> bool
+        ensures same { result ≡ bytes_eq self.entry.bytes.now literals.now }
+        ensures counted { tests.new.made ≡ (if length self.entry.bytes.now == length literals.now then tests_after tests.old.made (length literals.now) else tests.old.made) }
     {
-        tests.add_one();
-        token.takes(self.bytes[0])
+        if self.bytes.len() != literals.len() {
+            return false;
+        }
+        tests.add(literals.len());
+        self.bytes == literals
+    }
+
+    /// Whether its bytes end with these literals: a test for each, where there are enough.
+    pub(crate) fn ends_with(self, literals: &[u8], tests: &mut ByteTests) -> bool
+        ensures ends { result ≡ ends_with nat_eq self.entry.bytes.now literals.now }
+        ensures counted { tests.new.made ≡ (if nat_le (length literals.now) (length self.entry.bytes.now) then tests_after tests.old.made (length literals.now) else tests.old.made) }
+    {
+        if self.bytes.len() < literals.len() {
+            return false;
+        }
+        tests.add(literals.len());
+        self.bytes.ends_with(literals)
     }
 }

@@ -5,13 +5,14 @@ ghost use Rattle.lc_glob.specs.IsMatch.{is_match, IsMatchDecides};
 ghost use Rattle.lc_glob.specs.Matches.{Matches};
 ghost use Rattle.lc_glob.specs.Path.{segments_of};
 ghost use Rattle.lc_glob.specs.Reading.{pattern_of};
-ghost use Rattle.lc_glob.specs.Strides.{tokens_with_ends, bytes_with_ends};
+ghost use Rattle.lc_glob.specs.Costs.{full_cost};
 
 use crate::candidate::Candidate;
-use crate::match_path::{fits_last, spells};
+use crate::match_path::spells;
+use crate::match_segment::fits;
 use crate::path_segment::ByteTests;
 use crate::reading::read_pattern;
-use crate::segment::Segment;
+use crate::segment::{Segment, Tokens};
 use std::alloc::{AllocError, Global};
 use std::marker::Model;
 
@@ -24,21 +25,29 @@ use std::marker::Model;
 /// ```
 #[derive(Debug, Drop)]
 pub struct Pattern {
-    pub(crate) is_dead: bool,
     pub(crate) is_dir_only: bool,
-    pub(crate) is_anchored: bool,
-    pub(crate) segments: Vec<Segment>,
+    pub(crate) kind: PatternKind,
+}
+
+/// What of a path a pattern is matched with.
+#[derive(Debug, Drop)]
+pub(crate) enum PatternKind {
+    /// Nothing, since it couldn't be read.
+    Dead,
+    /// The last segment alone.
+    LastSegment(Tokens),
+    /// All segments.
+    WholePath(Vec<Segment>),
 }
 
 impl Model for Pattern {
-    ghost use Rattle.std.specs.Prelude.{map};
     ghost use Rattle.lc_glob.specs.Patterns.{PatternModel};
 
     ghost Value = { PatternModel };
 
-    ghost use Rattle.lc_glob.specs.Views.{segment_model};
+    ghost use Rattle.lc_glob.specs.Views.{is_dead_kind, is_anchored_kind, segments_model};
 
-    ghost view = { λ p. record { is_dead = p.is_dead; is_dir_only = p.is_dir_only; is_anchored = p.is_anchored; segments = map segment_model p.segments.items } };
+    ghost view = { λ p. record { is_dead = is_dead_kind p.kind; is_dir_only = p.is_dir_only; is_anchored = is_anchored_kind p.kind; segments = segments_model p.kind } };
 }
 
 impl Pattern {
@@ -60,7 +69,7 @@ impl Pattern {
     pub fn is_dead(&self) -> bool
         ensures { result ≡ self.now.is_dead }
     {
-        self.is_dead
+        matches!(self.kind, PatternKind::Dead)
     }
 
     /// Whether the pattern matches directories only, as `build/`. A dead pattern answers false.
@@ -75,7 +84,7 @@ impl Pattern {
     pub fn is_anchored(&self) -> bool
         ensures { result ≡ self.now.is_anchored }
     {
-        self.is_anchored
+        matches!(self.kind, PatternKind::WholePath(_))
     }
 
     /// Whether the pattern matches the path.
@@ -111,7 +120,7 @@ impl Pattern {
     ///
     /// ```
     /// let (found, tests) = Pattern::read(alloc, b"*.o")?.matches_counted(b"main.c", false);
-    /// assert!(rt; !found && tests == 1);
+    /// assert!(rt; !found && tests == 2);
     /// ```
     pub fn matches_counted(&self, path: &[u8], is_dir: bool) -> (bool, u64)
         ensures meaning { IsTrue result.0 ↔ Matches self.now path.now is_dir }
@@ -125,14 +134,15 @@ impl Pattern {
 
     fn matched(&self, path: &Candidate, is_dir: bool, tests: &mut ByteTests) -> bool
         ensures meaning { IsTrue result ↔ Matches self.now path.now is_dir }
-        ensures cost { tests.new.made ≤ tests.old.made + tokens_with_ends self.now.segments * bytes_with_ends (segments_of path.now) }
+        ensures cost { tests.new.made ≤ tests.old.made + full_cost self.now.segments (segments_of path.now) }
     {
-        if self.is_dead || self.is_dir_only && !is_dir {
-            false
-        } else if self.is_anchored {
-            spells(&self.segments, path, tests)
-        } else {
-            fits_last(&self.segments, path, tests)
+        if self.is_dir_only && !is_dir {
+            return false;
+        }
+        match &self.kind {
+            PatternKind::Dead => false,
+            PatternKind::LastSegment(tokens) => fits(tokens, path.last, tests),
+            PatternKind::WholePath(segments) => spells(segments, path, tests),
         }
     }
 }

@@ -1,15 +1,17 @@
 //! Bytes read as a pattern: their tokens, the parts that separators cut, and what those make.
 
-ghost use Rattle.std.specs.Prelude.{◌≡◌, ◌≤◌, length, MatchOption, IfOk, IfSome, Some, None, map};
+ghost use Rattle.std.specs.Prelude.{◌≡◌, ◌<◌, ◌≤◌, ◌-◌, IsTrue, true, length, MatchOption, IfOk, IfSome, Some, None, map};
+ghost use Rattle.std.specs.List.{list_all};
 ghost use Rattle.lc_glob.specs.Lists.{is_empty};
 ghost use Rattle.lc_glob.specs.Patterns.{dead};
-ghost use Rattle.lc_glob.specs.Reading.{lexeme, literal_lexeme, parts, segment_from, is_double_star, ends_empty, without_last, begins_empty, some_empty, cut_at_front, pattern_of};
-ghost use Rattle.lc_glob.specs.Views.{lexeme_model, token_model, tokens_model, segment_model};
+ghost use Rattle.lc_glob.specs.Reading.{lexeme, literal_lexeme, parts, segment_from, ends_empty, without_last, begins_empty, is_ordinary, some_empty, cut_at_front, pattern_of};
+ghost use Rattle.lc_glob.specs.Views.{lexeme_model, token_model, part_model, tokens_model, segment_model};
 
 use crate::bracket::read_bracket;
-use crate::pattern::Pattern;
-use crate::segment::Segment;
+use crate::pattern::{Pattern, PatternKind};
+use crate::segment::{Segment, Tokens, is_double};
 use crate::token::Token;
+use smallvec::SmallVec;
 use std::alloc::{AllocError, Global};
 use std::mem;
 
@@ -61,7 +63,8 @@ fn read_lexeme(alloc: Global, b: u8, rest: &[u8]) -> Result<Option<(Lexeme, usiz
 
 /// The tokens of the parts that separators cut, or `None` where the pattern is dead.
 fn read_parts(alloc: Global, bytes: &[u8]) -> Result<Option<Vec<Vec<Token>>>, AllocError>
-    ensures { IfOk result (λ r. MatchOption r (parts 0 bytes.now ≡ None) (λ v. parts 0 bytes.now ≡ Some (map tokens_model v.items))) }
+    ensures parts { IfOk result (λ r. MatchOption r (parts 0 bytes.now ≡ None) (λ v. parts 0 bytes.now ≡ Some (map part_model v.items))) }
+    ensures some { IfOk result (λ r. IfSome r (λ v. 0 < length v.items)) }
 {
     let mut done = Vec::new(alloc);
     let mut current = Vec::new(alloc);
@@ -82,47 +85,35 @@ fn read_parts(alloc: Global, bytes: &[u8]) -> Result<Option<Vec<Vec<Token>>>, Al
     }
 }
 
-/// Makes the segments of the parts.
-fn segments_from(
-    alloc: Global,
-    parts: Vec<Vec<Token>>,
-    anchored: bool,
-) -> Result<Vec<Segment>, AllocError>
-    ensures { IfOk result (λ v. map segment_model v.items ≡ map (segment_from anchored) (map tokens_model parts.items)) }
+/// Makes the segments of an anchored pattern's parts.
+fn segments_from(alloc: Global, parts: Vec<Vec<Token>>) -> Result<Vec<Segment>, AllocError>
+    ensures { IfOk result (λ v. map segment_model v.items ≡ map (segment_from true) (map part_model parts.items)) }
 {
-    let mut segments = Vec::new(alloc);
+    let mut segments = Vec::with_capacity(alloc, parts.len())?;
     let mut parts = parts;
     parts.reverse();
     'parts: while let Some(part) = parts.pop() {
-        segments.push(segment_from_part(anchored, part))?;
+        let segment = segment_from(alloc, part)?;
+        segments.push(segment)?;
     }
     Ok(segments)
 }
 
-/// Whether a part is two stars and nothing else.
-fn is_double(part: &[Token]) -> bool
-    ensures { result ≡ is_double_star (map token_model part.now) }
-{
-    match part {
-        [Token::Star, Token::Star] => true,
-        _ => false,
-    }
-}
-
 /// In an anchored pattern two stars alone are a double star.
-fn segment_from_part(anchored: bool, part: Vec<Token>) -> Segment
-    ensures { segment_model result ≡ segment_from anchored (tokens_model part) }
+fn segment_from(alloc: Global, part: Vec<Token>) -> Result<Segment, AllocError>
+    ensures { IfOk result (λ segment. segment_model segment ≡ segment_from true (part_model part)) }
 {
-    if anchored && is_double(&part) {
-        Segment::DoubleStar
-    } else {
-        Segment::Plain(part)
+    if is_double(&part) {
+        return Ok(Segment::DoubleStar);
     }
+    let tokens = Tokens::of(alloc, part)?;
+    Ok(Segment::Plain(tokens))
 }
 
 /// Whether the last lexeme is a separator.
 fn ends_in_empty(parts: &[Vec<Token>]) -> bool
-    ensures { result ≡ ends_empty (map tokens_model parts.now) }
+    ensures ends { result ≡ ends_empty (map part_model parts.now) }
+    ensures some { IsTrue result → 1 < length parts.now }
 {
     let Some((last, rest)) = parts.split_last() else {
         return false;
@@ -141,7 +132,7 @@ fn is_empty_part(part: &[Token]) -> bool
 
 /// Whether the first lexeme is a separator.
 fn begins_with_empty(parts: &[Vec<Token>]) -> bool
-    ensures { result ≡ begins_empty (map tokens_model parts.now) }
+    ensures { result ≡ begins_empty (map part_model parts.now) }
 {
     let Some((first, rest)) = parts.split_first() else {
         return false;
@@ -151,7 +142,7 @@ fn begins_with_empty(parts: &[Vec<Token>]) -> bool
 
 /// Whether a part is empty, which makes the pattern dead.
 fn has_empty(parts: &[Vec<Token>]) -> bool
-    ensures { result ≡ some_empty (map tokens_model parts.now) }
+    ensures { result ≡ some_empty (map part_model parts.now) }
 {
     for part in parts {
         if part.is_empty() {
@@ -161,12 +152,33 @@ fn has_empty(parts: &[Vec<Token>]) -> bool
     false
 }
 
+/// Whether a byte means itself wherever it stands.
+fn is_ordinary(b: u8) -> bool
+    ensures { result ≡ is_ordinary b }
+{
+    b != b'/' && b != b'\\' && b != b'[' && b != b'*' && b != b'?'
+}
+
+/// Whether the bytes are literals alone, with no separator.
+fn are_literals(bytes: &[u8]) -> bool
+    ensures { result ≡ list_all is_ordinary bytes.now }
+{
+    bytes.iter().all(|b| is_ordinary(*b))
+}
+
 /// Reads bytes as a pattern. Any bytes are one, perhaps a dead one.
 pub(crate) fn read_pattern(alloc: Global, bytes: &[u8]) -> Result<Pattern, AllocError>
     ensures { IfOk result (λ p. p ≡ pattern_of bytes.now) }
 {
+    if !bytes.is_empty() && are_literals(bytes) {
+        let literals = SmallVec::from_slice(alloc, bytes)?;
+        return Ok(Pattern {
+            is_dir_only: false,
+            kind: PatternKind::LastSegment(Tokens::Literal(literals)),
+        });
+    }
     let Some(parts) = read_parts(alloc, bytes)? else {
-        return Ok(dead_pattern(alloc));
+        return Ok(dead_pattern());
     };
     if ends_in_empty(&parts) {
         return read_front(alloc, without_last_part(parts), true);
@@ -176,7 +188,8 @@ pub(crate) fn read_pattern(alloc: Global, bytes: &[u8]) -> Result<Pattern, Alloc
 
 /// The parts without the last, so without the separator before it.
 fn without_last_part(parts: Vec<Vec<Token>>) -> Vec<Vec<Token>>
-    ensures { map tokens_model result.items ≡ without_last (map tokens_model parts.items) }
+    ensures parts { map part_model result.items ≡ without_last (map part_model parts.items) }
+    ensures len { length result.items ≡ length parts.items - 1 }
 {
     let mut parts = parts;
     let kept = parts.len().saturating_sub(1);
@@ -190,7 +203,8 @@ fn read_front(
     parts: Vec<Vec<Token>>,
     is_dir_only: bool,
 ) -> Result<Pattern, AllocError>
-    ensures { IfOk result (λ p. p ≡ cut_at_front is_dir_only (map tokens_model parts.items)) }
+    requires { 0 < length parts.items }
+    ensures { IfOk result (λ p. p ≡ cut_at_front is_dir_only (map part_model parts.items)) }
 {
     let mut parts = parts;
     let leads = begins_with_empty(&parts);
@@ -199,24 +213,30 @@ fn read_front(
         let _ = parts.remove(0);
     }
     if has_empty(&parts) {
-        return Ok(dead_pattern(alloc));
+        return Ok(dead_pattern());
     }
-    let segments = segments_from(alloc, parts, is_anchored)?;
+    if is_anchored {
+        let segments = segments_from(alloc, parts)?;
+        return Ok(Pattern {
+            is_dir_only,
+            kind: PatternKind::WholePath(segments),
+        });
+    }
+    let Some(part) = parts.pop() else {
+        return Ok(dead_pattern());
+    };
+    let tokens = Tokens::of(alloc, part)?;
     Ok(Pattern {
-        is_dead: false,
         is_dir_only,
-        is_anchored,
-        segments,
+        kind: PatternKind::LastSegment(tokens),
     })
 }
 
-fn dead_pattern(alloc: Global) -> Pattern
+fn dead_pattern() -> Pattern
     ensures { result ≡ dead }
 {
     Pattern {
-        is_dead: true,
         is_dir_only: false,
-        is_anchored: false,
-        segments: Vec::new(alloc),
+        kind: PatternKind::Dead,
     }
 }

@@ -50,8 +50,35 @@ fn a_path_is_asked_of_several_patterns(rt: HostRuntime) -> Result<(), Fail> {
 }
 
 #[test]
-fn the_last_byte_alone_refuses_most_names(rt: HostRuntime) -> Result<(), Fail> {
-    let (found, tests) = Pattern::read(rt.alloc(), b"*.o")?.matches_counted(b"src/main.c", false);
-    assert!(rt; !found && tests == 1);
+fn literals_are_compared_as_bytes(rt: HostRuntime) -> Result<(), Fail> {
+    // A pattern, a path, whether it matches, and the byte tests: none where the lengths differ.
+    let counted: [(&'static [u8], &'static [u8], bool, u64); 6] = [
+        (b"*.o", b"src/main.o", true, 2),
+        (b"*.o", b"src/main.c", false, 2),
+        (b"*.o", b"o", false, 0),
+        (b"Makefile", b"src/Makefile", true, 8),
+        (b"Makefile", b"src/makefile", false, 8),
+        (b"Makefile", b"src/Makefile.in", false, 0),
+    ];
+    for (pattern, path, found, tests) in &counted {
+        let answer = Pattern::read(rt.alloc(), pattern)?.matches_counted(path, false);
+        assert!(rt; answer == (*found, *tests), "{pattern:?} {path:?}");
+    }
+    Ok(())
+}
+
+#[test]
+fn literals_after_the_last_star_are_compared_once(rt: HostRuntime) -> Result<(), Fail> {
+    let path = vec![in rt.alloc(); b'a'; 4096]?;
+    for front in [b"*".as_slice(), b"a*a*"] {
+        let mut bytes = Vec::with_capacity(rt.alloc(), 1100)?;
+        bytes.extend_from_slice(front)?;
+        bytes.extend_from_slice(&path[..1000])?;
+        let (found, tests) = Pattern::read(rt.alloc(), &bytes)?.matches_counted(&path, false);
+        assert!(rt; found && tests <= 1002);
+        bytes.push(b'b')?;
+        let (found, tests) = Pattern::read(rt.alloc(), &bytes)?.matches_counted(&path, false);
+        assert!(rt; !found && tests <= 1001);
+    }
     Ok(())
 }

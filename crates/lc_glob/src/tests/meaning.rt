@@ -1,201 +1,205 @@
-//! Worked examples of what patterns match, and how many bytes the matcher tests.
+//! Worked examples of what patterns match.
 
-use crate::Pattern;
+use crate::{Candidate, Pattern};
 use std::alloc::{AllocError, Global};
 use std::test::Fail;
 
 /// A pattern, a path, and whether that is a directory.
-type Case = (&'static [u8], &'static [u8], bool);
+type Case = (&'static str, &'static str, bool);
 
-/// Whether each of the patterns gives this answer for its path.
-fn all_answer(alloc: Global, cases: &[Case], answer: bool) -> Result<bool, AllocError> {
-    for (pattern, path, is_dir) in cases {
-        if Pattern::read(alloc, pattern)?.matches(path, *is_dir) != answer {
-            return Ok(false);
+/// The first case whose pattern gives another answer for its path.
+fn wrong(alloc: Global, cases: &[Case], answer: bool) -> Result<Option<Case>, AllocError> {
+    for case in cases {
+        let (pattern, path, is_dir) = *case;
+        let pattern = Pattern::read(alloc, pattern.as_bytes())?;
+        if pattern.matches(path.as_bytes(), is_dir) != answer {
+            return Ok(Some(*case));
         }
     }
-    Ok(true)
+    Ok(None)
 }
 
 #[test]
 fn star_stops_at_slash(rt: HostRuntime) -> Result<(), Fail> {
     let yes: [Case; 3] = [
-        (b"foo/*", b"foo/test.json", false),
-        (b"foo/*", b"foo/bar", true),
-        (b"f*o", b"fo", false),
+        ("foo/*", "foo/test.json", false),
+        ("foo/*", "foo/bar", true),
+        ("f*o", "fo", false),
     ];
-    let no: [Case; 2] = [
-        (b"foo/*", b"foo/bar/hello.c", false),
-        (b"f*o", b"f/o", false),
-    ];
-    assert!(rt; all_answer(rt.alloc(), &yes, true)?);
-    assert!(rt; all_answer(rt.alloc(), &no, false)?);
+    let no: [Case; 2] = [("foo/*", "foo/bar/hello.c", false), ("f*o", "f/o", false)];
+    assert_eq!(rt; wrong(rt.alloc(), &yes, true)?, None);
+    assert_eq!(rt; wrong(rt.alloc(), &no, false)?, None);
     Ok(())
 }
 
 #[test]
 fn last_double_star_matches_what_is_below(rt: HostRuntime) -> Result<(), Fail> {
     let yes: [Case; 4] = [
-        (b"abc/**", b"abc/x", false),
-        (b"abc/**", b"abc/x/y", false),
-        (b"/**", b"a", false),
-        (b"/**", b"a/b", false),
+        ("abc/**", "abc/x", false),
+        ("abc/**", "abc/x/y", false),
+        ("/**", "a", false),
+        ("/**", "a/b", false),
     ];
-    assert!(rt; all_answer(rt.alloc(), &yes, true)?);
-    assert!(rt; all_answer(rt.alloc(), &[(b"abc/**", b"abc", true)], false)?);
+    assert_eq!(rt; wrong(rt.alloc(), &yes, true)?, None);
+    let no: [Case; 1] = [("abc/**", "abc", true)];
+    assert_eq!(rt; wrong(rt.alloc(), &no, false)?, None);
     Ok(())
 }
 
 #[test]
 fn double_star_matches_any_depth(rt: HostRuntime) -> Result<(), Fail> {
     let yes: [Case; 6] = [
-        (b"a/**/b", b"a/b", false),
-        (b"a/**/b", b"a/x/b", false),
-        (b"a/**/b", b"a/x/y/b", false),
-        (b"**/foo", b"foo", false),
-        (b"**/foo", b"a/b/foo", false),
-        (b"a/**/b/**/c", b"a/x/b/b/y/c", false),
+        ("a/**/b", "a/b", false),
+        ("a/**/b", "a/x/b", false),
+        ("a/**/b", "a/x/y/b", false),
+        ("**/foo", "foo", false),
+        ("**/foo", "a/b/foo", false),
+        ("a/**/b/**/c", "a/x/b/b/y/c", false),
     ];
     let no: [Case; 3] = [
-        (b"a/**/b", b"x/a/b", false),
-        (b"a/**/b", b"a/b/c", false),
-        (b"a/**/b/**/c", b"a/x/y/c", false),
+        ("a/**/b", "x/a/b", false),
+        ("a/**/b", "a/b/c", false),
+        ("a/**/b/**/c", "a/x/y/c", false),
     ];
-    assert!(rt; all_answer(rt.alloc(), &yes, true)?);
-    assert!(rt; all_answer(rt.alloc(), &no, false)?);
+    assert_eq!(rt; wrong(rt.alloc(), &yes, true)?, None);
+    assert_eq!(rt; wrong(rt.alloc(), &no, false)?, None);
     Ok(())
 }
 
 #[test]
 fn other_runs_of_stars_are_one_star(rt: HostRuntime) -> Result<(), Fail> {
     let yes: [Case; 4] = [
-        (b"x**/b", b"x/b", false),
-        (b"x**/b", b"xyz/b", false),
-        (b"***/b", b"q/b", false),
-        (b"**", b"a/b", false),
+        ("x**/b", "x/b", false),
+        ("x**/b", "xyz/b", false),
+        ("***/b", "q/b", false),
+        ("**", "a/b", false),
     ];
-    let no: [Case; 2] = [(b"x**/b", b"x/y/b", false), (b"***/b", b"q/r/b", false)];
-    assert!(rt; all_answer(rt.alloc(), &yes, true)?);
-    assert!(rt; all_answer(rt.alloc(), &no, false)?);
+    let no: [Case; 2] = [("x**/b", "x/y/b", false), ("***/b", "q/r/b", false)];
+    assert_eq!(rt; wrong(rt.alloc(), &yes, true)?, None);
+    assert_eq!(rt; wrong(rt.alloc(), &no, false)?, None);
     Ok(())
 }
 
 #[test]
 fn last_separator_asks_for_directory(rt: HostRuntime) -> Result<(), Fail> {
     let yes: [Case; 3] = [
-        (b"doc/frotz/", b"doc/frotz", true),
-        (b"frotz/", b"frotz", true),
-        (b"frotz/", b"a/frotz", true),
+        ("doc/frotz/", "doc/frotz", true),
+        ("frotz/", "frotz", true),
+        ("frotz/", "a/frotz", true),
     ];
     let no: [Case; 3] = [
-        (b"doc/frotz/", b"doc/frotz", false),
-        (b"doc/frotz/", b"a/doc/frotz", true),
-        (b"frotz/", b"frotz", false),
+        ("doc/frotz/", "doc/frotz", false),
+        ("doc/frotz/", "a/doc/frotz", true),
+        ("frotz/", "frotz", false),
     ];
-    assert!(rt; all_answer(rt.alloc(), &yes, true)?);
-    assert!(rt; all_answer(rt.alloc(), &no, false)?);
+    assert_eq!(rt; wrong(rt.alloc(), &yes, true)?, None);
+    assert_eq!(rt; wrong(rt.alloc(), &no, false)?, None);
     Ok(())
 }
 
 #[test]
 fn bracket_stands_for_members(rt: HostRuntime) -> Result<(), Fail> {
-    let yes: [Case; 13] = [
-        (b"[]a]", b"]", false),
-        (b"[]a]", b"a", false),
-        (b"[!a-c]", b"d", false),
-        (b"[^a-c]", b"d", false),
-        (b"[z-a]", b"z", false),
-        (b"[a/b]", b"a", false),
-        (b"[a/b]", b"x/a", false),
-        (b"[[:digit:]-]", b"7", false),
-        (b"[[:digit:]-]", b"-", false),
-        (b"[[:]", b"[", false),
-        (b"[[:]", b":", false),
-        (b"[a-]", b"-", false),
-        (b"[\\]]", b"]", false),
+    let yes: [Case; 15] = [
+        ("[]a]", "]", false),
+        ("[]a]", "a", false),
+        ("[!a-c]", "d", false),
+        ("[^a-c]", "d", false),
+        ("[z-a]", "z", false),
+        ("[a/b]", "a", false),
+        ("[a/b]", "b", false),
+        ("[a/b]", "x/a", false),
+        ("[[:digit:]-]", "7", false),
+        ("[[:digit:]-]", "-", false),
+        ("[[:]", "[", false),
+        ("[[:]", ":", false),
+        ("[a-]", "a", false),
+        ("[a-]", "-", false),
+        ("[\\]]", "]", false),
     ];
-    assert!(rt; all_answer(rt.alloc(), &yes, true)?);
+    assert_eq!(rt; wrong(rt.alloc(), &yes, true)?, None);
     Ok(())
 }
 
 #[test]
 fn bracket_stands_for_nothing_else(rt: HostRuntime) -> Result<(), Fail> {
     let no: [Case; 7] = [
-        (b"[]a]", b"b", false),
-        (b"[!a-c]", b"b", false),
-        (b"[^a-c]", b"b", false),
-        (b"[z-a]", b"a", false),
-        (b"[[:digit:]-]", b"a", false),
-        (b"[a-]", b"b", false),
-        (b"a[!b]c", b"a/c", false),
+        ("[]a]", "b", false),
+        ("[!a-c]", "b", false),
+        ("[^a-c]", "b", false),
+        ("[z-a]", "a", false),
+        ("[[:digit:]-]", "a", false),
+        ("[a-]", "b", false),
+        ("a[!b]c", "a/c", false),
     ];
-    assert!(rt; all_answer(rt.alloc(), &no, false)?);
+    assert_eq!(rt; wrong(rt.alloc(), &no, false)?, None);
     Ok(())
 }
 
 #[test]
 fn classes_are_ascii(rt: HostRuntime) -> Result<(), Fail> {
     let yes: [Case; 12] = [
-        (b"[[:alpha:]]", b"Z", false),
-        (b"[[:lower:]]", b"z", false),
-        (b"[[:upper:]]", b"A", false),
-        (b"[[:digit:]]", b"0", false),
-        (b"[[:xdigit:]]", b"F", false),
-        (b"[[:alnum:]]", b"9", false),
-        (b"[[:blank:]]", b"\t", false),
-        (b"[[:space:]]", b"\r", false),
-        (b"[[:cntrl:]]", b"\x7f", false),
-        (b"[[:graph:]]", b"~", false),
-        (b"[[:print:]]", b" ", false),
-        (b"[[:punct:]]", b"@", false),
+        ("[[:alpha:]]", "Z", false),
+        ("[[:lower:]]", "z", false),
+        ("[[:upper:]]", "A", false),
+        ("[[:digit:]]", "0", false),
+        ("[[:xdigit:]]", "F", false),
+        ("[[:alnum:]]", "9", false),
+        ("[[:blank:]]", "\t", false),
+        ("[[:space:]]", "\r", false),
+        ("[[:cntrl:]]", "\x7f", false),
+        ("[[:graph:]]", "~", false),
+        ("[[:print:]]", " ", false),
+        ("[[:punct:]]", "@", false),
     ];
-    let no: [Case; 3] = [
-        (b"[[:alpha:]]", b"\xe4", false),
-        (b"[[:lower:]]", b"Z", false),
-        (b"[[:punct:]]", b"a", false),
-    ];
-    assert!(rt; all_answer(rt.alloc(), &yes, true)?);
-    assert!(rt; all_answer(rt.alloc(), &no, false)?);
+    let no: [Case; 2] = [("[[:lower:]]", "Z", false), ("[[:punct:]]", "a", false)];
+    assert_eq!(rt; wrong(rt.alloc(), &yes, true)?, None);
+    assert_eq!(rt; wrong(rt.alloc(), &no, false)?, None);
+    assert!(rt; !Pattern::read(rt.alloc(), b"[[:alpha:]]")?.matches(b"\xe4", false));
     Ok(())
 }
 
 #[test]
 fn backslash_quotes(rt: HostRuntime) -> Result<(), Fail> {
     let yes: [Case; 6] = [
-        (b"\\#a", b"#a", false),
-        (b"\\!b", b"!b", false),
-        (b"\\*", b"*", false),
-        (b"a\\\\", b"a\\", false),
-        (b"p\\/q", b"p/q", false),
-        (b"[[:upper:]]?", b"Q1", false),
+        ("\\#a", "#a", false),
+        ("\\!b", "!b", false),
+        ("\\*", "*", false),
+        ("a\\\\", "a\\", false),
+        ("p\\/q", "p/q", false),
+        ("[[:upper:]]?", "Q1", false),
     ];
     let no: [Case; 3] = [
-        (b"\\*", b"a", false),
-        (b"p\\/q", b"x/p/q", false),
-        (b"[[:upper:]]?", b"q1", false),
+        ("\\*", "a", false),
+        ("p\\/q", "x/p/q", false),
+        ("[[:upper:]]?", "q1", false),
     ];
-    assert!(rt; all_answer(rt.alloc(), &yes, true)?);
-    assert!(rt; all_answer(rt.alloc(), &no, false)?);
+    assert_eq!(rt; wrong(rt.alloc(), &yes, true)?, None);
+    assert_eq!(rt; wrong(rt.alloc(), &no, false)?, None);
     Ok(())
 }
 
 #[test]
 fn dead_patterns_are_told(rt: HostRuntime) -> Result<(), Fail> {
-    let dead: [&'static [u8]; 9] = [
-        b"[[:foo:]]",
-        b"[ab",
-        b"[a\\",
-        b"[[:a",
-        b"a\\",
-        b"a//b",
-        b"//",
-        b"/",
-        b"",
+    let dead: [&'static str; 9] = [
+        "[[:foo:]]",
+        "[ab",
+        "[a\\",
+        "[[:a",
+        "a\\",
+        "a//b",
+        "//",
+        "/",
+        "",
     ];
-    for bytes in &dead {
-        let pattern = Pattern::read(rt.alloc(), bytes)?;
-        assert!(rt; pattern.is_dead() && !pattern.is_dir_only() && !pattern.is_anchored());
-        assert!(rt; !pattern.matches(b"a", true));
+    for text in &dead {
+        let pattern = Pattern::read(rt.alloc(), text.as_bytes())?;
+        let told = (
+            pattern.is_dead(),
+            pattern.is_dir_only(),
+            pattern.is_anchored(),
+        );
+        assert_eq!(rt; (*text, told), (*text, (true, false, false)));
+        assert!(rt; !pattern.matches(b"a", true), "{text}");
     }
     Ok(())
 }
@@ -203,19 +207,56 @@ fn dead_patterns_are_told(rt: HostRuntime) -> Result<(), Fail> {
 #[test]
 fn separators_anchor_and_ask_for_directory(rt: HostRuntime) -> Result<(), Fail> {
     // A pattern, whether it is for directories only, and whether it is anchored.
-    let told: [(&'static [u8], bool, bool); 7] = [
-        (b"a", false, false),
-        (b"a/", true, false),
-        (b"/a", false, true),
-        (b"/a/", true, true),
-        (b"a/b", false, true),
-        (b"\\/a", false, true),
-        (b"[a/b]", false, false),
+    let told: [(&'static str, bool, bool); 7] = [
+        ("a", false, false),
+        ("a/", true, false),
+        ("/a", false, true),
+        ("/a/", true, true),
+        ("a/b", false, true),
+        ("\\/a", false, true),
+        ("[a/b]", false, false),
     ];
-    for (bytes, is_dir_only, is_anchored) in &told {
-        let pattern = Pattern::read(rt.alloc(), bytes)?;
-        assert!(rt; !pattern.is_dead());
-        assert!(rt; pattern.is_dir_only() == *is_dir_only && pattern.is_anchored() == *is_anchored);
+    for (text, is_dir_only, is_anchored) in &told {
+        let pattern = Pattern::read(rt.alloc(), text.as_bytes())?;
+        let found = (
+            pattern.is_dead(),
+            pattern.is_dir_only(),
+            pattern.is_anchored(),
+        );
+        assert_eq!(rt;
+            (*text, found),
+            (*text, (false, *is_dir_only, *is_anchored))
+        );
     }
+    Ok(())
+}
+
+/// The examples of the crate's documentation.
+#[test]
+fn documented_examples(rt: HostRuntime) -> Result<(), Fail> {
+    let yes: [Case; 5] = [
+        ("/build/**/*.o", "build/x86/main.o", false),
+        ("frotz/", "a/frotz", true),
+        ("*.[oa]", "main.a", false),
+        ("*.o", "src/main.o", false),
+        ("[a-z]", "m", false),
+    ];
+    let no: [Case; 3] = [
+        ("/build/**/*.o", "src/build/main.o", false),
+        ("*.[oa]", "main.c", false),
+        ("[!a-z]", "m", false),
+    ];
+    assert_eq!(rt; wrong(rt.alloc(), &yes, true)?, None);
+    assert_eq!(rt; wrong(rt.alloc(), &no, false)?, None);
+    let patterns = [
+        Pattern::read(rt.alloc(), b"*.c")?,
+        Pattern::read(rt.alloc(), b"/src")?,
+    ];
+    let candidate = Candidate::new(b"src/main.c");
+    let last = patterns
+        .iter()
+        .rev()
+        .position(|pattern| pattern.matches_candidate(&candidate, false));
+    assert_eq!(rt; last, Some(1));
     Ok(())
 }

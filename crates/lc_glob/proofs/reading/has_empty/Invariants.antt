@@ -1,7 +1,7 @@
 use Rattle.std.proofs.Common.{◌≡◌, drop, map}
 use Rattle.lc_glob.specs.Reading.{some_empty}
-use Rattle.lc_glob.specs.Views.{tokens_model}
+use Rattle.lc_glob.specs.Views.{part_model}
 use Rattle.lc_glob.proofs.reading.has_empty.Given as goal
 
 abbrev pub invariant-loop-part : goal.invariant-loop-part
-invariant-loop-part l = some_empty (map tokens_model l.parts) ≡ some_empty (map tokens_model (drop l.part-index l.parts))
+invariant-loop-part l = some_empty (map part_model l.parts) ≡ some_empty (map part_model (drop l.part-index l.parts))

@@ -1,7 +1,7 @@
-use Rattle.std.proofs.Common.{ap, arith, length, sym, ◌∙◌}
-use Rattle.lc_glob.proofs.Stepping.{at_star, at_byte, at_back, covers_byte, shorter, paid_forward, paid_back, with_first}
-use Rattle.std.proofs.lemmas.Bool.{false≢true}
-use Rattle.lc_glob.proofs.match_segment.fits_stepping.Goals as goal
+use Rattle.std.proofs.Common.{ap, arith, length, map}
+use Rattle.lc_glob.specs.Views.{token_model}
+use Rattle.lc_glob.proofs.Stepping.{at_star, at_byte, at_back, covers_byte, shorter, paid_forward, paid_back}
+use Rattle.lc_glob.proofs.match_segment.Place.fits_from_front.Goals as goal
 
 pub steps-preserved-in-Star : goal.steps-preserved-in-Star
 steps-preserved-in-Star c =
@@ -38,13 +38,14 @@ steps-preserved c =
     let same = rw c.in-Some.is at inv.same in
     let within = rw c.in-Some.is at inv.star_within in
     let cost = rw c.in-Some.is at inv.cost in
-    let first = with_first _ _ (λ e. false≢true (sym c.if-is_empty.false ∙ c.is_empty.ensures.1 e)) c.rest-left.ensures in
-    let len = ap length first.1 in
+    let next = c.in-Some-retry.ensures in
+    let len = ap length next.1 in
+    let tokens_len = ap length next.2 in
     record {
-      same = at_back _ _ _ _ _ _ first.1 c.in-Stuck.ensures.is same;
+      same = at_back _ _ _ _ _ _ _ next.1 (ap (map token_model) next.2) c.in-Stuck.ensures.is same;
       covers = λ f. f;
-      here_within = within;
-      star_within = within;
+      here_within = omega (arith, within, tokens_len);
+      star_within = omega (arith, within, tokens_len);
       left_within = omega arith;
-      cost = paid_back _ _ _ _ _ _ _ _ (omega (arith, len)) within c.in-Stuck.ensures.cost cost;
+      cost = paid_back _ _ _ _ _ _ _ _ (omega (arith, len)) (omega (arith, within, tokens_len)) c.in-Stuck.ensures.cost cost;
     }

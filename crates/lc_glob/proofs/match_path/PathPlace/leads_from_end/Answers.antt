@@ -1,10 +1,10 @@
 use Rattle.std.proofs.Common.{arith}
 use Rattle.lc_glob.proofs.Leading.{when_end}
-use Rattle.lc_glob.proofs.match_path.leads_from_end.Goals as goal
+use Rattle.lc_glob.proofs.match_path.PathPlace.leads_from_end.Goals as goal
 
-pub endings-preserved : goal.endings-preserved
-endings-preserved c =
-    let inv = c.endings.invariant in
+pub ends-preserved : goal.ends-preserved
+ends-preserved c =
+    let inv = c.ends.invariant in
     let is = c.in-Taken.ensures.is in
     let end = when_end _ _ _ _ _ _ is.2 is.3 in
     record {

@@ -1,0 +1,23 @@
+-- Byte tests, each of which is counted, and what the first and the last byte of a segment tell.
+use Rattle.std.specs.Prelude.{ℕ, ◌≡◌, ◌+◌, ◌-◌, ◌^◌, min, List, [], ◌∷◌, ◌++◌, Option, Some, None, IsTrue, IsFalse}
+use Rattle.lc_glob.specs.Tokens.{TokenModel, takes}
+use Rattle.lc_glob.specs.declared.path_segment.PathSegment.{PathSegment}
+
+-- the number of tests made, after more of them; it stops at the greatest u64
+abbrev pub tests_after : ℕ → ℕ → ℕ
+tests_after made more = min (made + more) (2 ^ 64 - 1)
+
+-- the bytes without the first, where there is one
+abbrev pub SkipsFirst : List ℕ → Option PathSegment → Type 0
+SkipsFirst bytes None = bytes ≡ []
+SkipsFirst bytes (Some rest) = (x : ℕ) × (bytes ≡ x ∷ rest.bytes.now)
+
+-- the bytes without the first, where the token stands for it
+abbrev pub StripsFirst : TokenModel → List ℕ → Option PathSegment → Type 0
+StripsFirst u bytes None = (x : ℕ) (rest : List ℕ) → bytes ≡ x ∷ rest → IsFalse (takes u x)
+StripsFirst u bytes (Some rest) = (x : ℕ) × (bytes ≡ x ∷ rest.bytes.now) × IsTrue (takes u x)
+
+-- the bytes without the last, where the token stands for it
+abbrev pub StripsLast : TokenModel → List ℕ → Option PathSegment → Type 0
+StripsLast u bytes None = (x : ℕ) (rest : List ℕ) → bytes ≡ rest ++ x ∷ [] → IsFalse (takes u x)
+StripsLast u bytes (Some rest) = (x : ℕ) × (bytes ≡ rest.bytes.now ++ x ∷ []) × IsTrue (takes u x)

@@ -1,0 +1,18 @@
+-- What a pattern and a path weigh in the most byte tests of a match.
+use Rattle.std.specs.Prelude.{ℕ, ◌+◌, ◌*◌, List, [], ◌∷◌, length}
+use Rattle.lc_glob.specs.Patterns.{SegmentModel, plain, double_star}
+
+-- the tokens of the plain segments, and one for each of these
+abbrev pub tokens_with_ends : List SegmentModel → ℕ
+tokens_with_ends [] = 0
+tokens_with_ends (double_star ∷ r) = tokens_with_ends r
+tokens_with_ends (plain us ∷ r) = (length us + 1) + tokens_with_ends r
+
+-- the bytes of a path's segments, and one for each of these
+abbrev pub bytes_with_ends : List (List ℕ) → ℕ
+bytes_with_ends [] = 0
+bytes_with_ends (n ∷ ns) = (length n + 1) + bytes_with_ends ns
+
+-- each token, and each end, at each byte and each end
+abbrev pub full_cost : List SegmentModel → List (List ℕ) → ℕ
+full_cost segments path = tokens_with_ends segments * bytes_with_ends path

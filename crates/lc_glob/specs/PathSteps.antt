@@ -1,0 +1,50 @@
+-- What one step along the segments of a pattern and of a path found, and what it may cost.
+use Rattle.std.specs.Prelude.{ℕ, ◌≡◌, ◌+◌, ◌*◌, List, [], ◌∷◌, ◌++◌, map, length, Option, Some, None}
+use Rattle.lc_glob.specs.Tokens.{TokenModel}
+use Rattle.lc_glob.specs.Fits.{Fits}
+use Rattle.lc_glob.specs.Patterns.{SegmentModel, plain, double_star}
+use Rattle.lc_glob.specs.Leads.{Leads}
+use Rattle.lc_glob.specs.Views.{segment_model}
+use Rattle.lc_glob.specs.Path.{segments_left}
+use Rattle.lc_glob.specs.Costs.{full_cost}
+use Rattle.lc_glob.specs.declared.match_path.PathPlace.{PathPlace}
+use Rattle.lc_glob.specs.declared.match_path.PathFrontStep.{PathFrontStep}
+use Rattle.lc_glob.specs.declared.match_path.PathFrontStep.TheVariants as front
+use Rattle.lc_glob.specs.declared.match_path.PathEndStep.{PathEndStep}
+use Rattle.lc_glob.specs.declared.match_path.PathEndStep.TheVariants as end
+
+-- a double star is last; or the last segment fits the path's last, and what is before them is left; or neither has any; or
+-- the segments don't lead to the end
+abbrev pub PathEndStepIs : PathEndStep → List SegmentModel → List (List ℕ) → Type 0
+PathEndStepIs end.DoubleStar segments path = Unit {0}
+PathEndStepIs (end.Taken before) segments path = (us : List TokenModel) × (n : List ℕ) × (segments ≡ map segment_model before.segments.now ++ plain us ∷ []) × (path ≡ segments_left before.left.rest ++ n ∷ []) × Fits us n
+PathEndStepIs end.Arrived segments path = (segments ≡ []) × (path ≡ [])
+PathEndStepIs end.Stuck segments path = Leads segments path → ⊥
+
+-- what may still be paid after a step from the end, where `all` might be before it
+abbrev pub cost_after : PathEndStep → ℕ → ℕ
+cost_after end.DoubleStar all = all
+cost_after (end.Taken before) all = full_cost (map segment_model before.segments.now) (segments_left before.left.rest)
+cost_after end.Arrived all = 0
+cost_after end.Stuck all = 0
+
+-- a double star stands in front, and perhaps alone; or the first segment fits the path's first, and what is after them is
+-- left; or neither has any; or the segments don't lead to the end
+abbrev pub PathFrontStepIs : PathFrontStep → List SegmentModel → List (List ℕ) → Type 0
+PathFrontStepIs (front.DoubleStar rest) segments path = segments ≡ double_star ∷ map segment_model rest.now
+PathFrontStepIs front.LastDoubleStar segments path = segments ≡ double_star ∷ []
+PathFrontStepIs (front.Taken after) segments path = (us : List TokenModel) × (n : List ℕ) × (segments ≡ plain us ∷ map segment_model after.segments.now) × (path ≡ n ∷ segments_left after.left.rest) × Fits us n
+PathFrontStepIs front.Arrived segments path = (segments ≡ []) × (path ≡ [])
+PathFrontStepIs front.Stuck segments path = Leads segments path → ⊥
+
+-- the same segments one of the path's later, where there is one
+abbrev pub PathRetryIs : PathPlace → Option PathPlace → Type 0
+PathRetryIs here None = segments_left here.left.rest ≡ []
+PathRetryIs here (Some next) = (n : List ℕ) × (segments_left here.left.rest ≡ n ∷ segments_left next.left.rest) × (next.segments.now ≡ here.segments.now)
+
+-- the most byte tests of the first segment at the path's first
+abbrev pub front_cost : List SegmentModel → List (List ℕ) → ℕ
+front_cost [] path = 0
+front_cost (double_star ∷ r) path = 0
+front_cost (plain us ∷ r) [] = 0
+front_cost (plain us ∷ r) (n ∷ ns) = (length us + 1) * (length n + 1)
