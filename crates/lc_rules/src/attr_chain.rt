@@ -1,21 +1,20 @@
 //! Chains of attribute files.
 
 ghost use Rattle.std.specs.Prelude.{◌≡◌, [], false, IfOk, IfNone, codes};
-ghost use Rattle.lc_rules.specs.AttrViews.{seen_state, shown_state};
+ghost use Rattle.lc_rules.specs.Models.{seen_state, state_model};
 ghost use Rattle.lc_rules.specs.AttrStates.{macros_of, top_macros, info_macros, by_lines, tree_assignments, info_assignments, assignments_of, state_of, as_text};
 ghost use Rattle.lc_rules.specs.AttrChains.{no_files, with_tree_file, with_info_file};
 ghost use Rattle.lc_rules.specs.Chains.{lent};
-ghost use Rattle.lc_rules.specs.Deciding.{is_marked, Moves, names_in};
+ghost use Rattle.lc_rules.specs.Resolving.{is_marked, Reads, names_in};
 ghost use Rattle.lc_rules.specs.KnownMacros.{known_macros, defined_in, macros_for};
 
 use crate::attr_file::AttrFile;
 use crate::chain_files::{ChainFiles, FilesLeft, share};
-use crate::deciding::{Deciding, decide_by_lines};
+use crate::known_macros::KnownMacros;
 use crate::macro_table::MacroTable;
-use crate::macros::Macros;
 use crate::paths::PathBelow;
+use crate::resolver::{Query, Resolver, decide_by_lines};
 use crate::states::{State, TextState};
-use crate::wanted::Wanted;
 use lc_glob::Candidate;
 use std::alloc::{AllocError, Global};
 use std::marker::Model;
@@ -23,78 +22,78 @@ use std::sync::Arc;
 
 /// Reads the lines of a file, unless none of them can decide the attribute.
 fn decide_by_file<'a>(
-    wanted: Wanted<'_, 'a>,
+    query: Query<'_, 'a>,
     file: &'a AttrFile,
     path: &[u8],
     is_dir: bool,
-    deciding: &mut Deciding<'a>,
+    resolver: &mut Resolver<'a>,
 ) -> Result<Option<State<'a>>, AllocError>
-    requires open { is_marked (names_in deciding.old.decided) wanted.name.now ≡ false }
-    requires empty { deciding.old.pending.items ≡ [] }
-    ensures moves { IfOk result (λ r. Moves (macros_for wanted.entry) wanted.entry.name.now (by_lines file.now.lines path.now is_dir) (names_in deciding.old.decided) (seen_state r) [] (names_in deciding.new.decided)) }
-    ensures empty { IfOk result (λ r. IfNone r (deciding.new.pending.items ≡ [])) }
+    requires open { is_marked (names_in resolver.old.decided) query.name.now ≡ false }
+    requires empty { resolver.old.pending.items ≡ [] }
+    ensures moves { IfOk result (λ r. Reads query.entry (by_lines file.now.lines path.now is_dir) resolver.old r [] resolver.new) }
+    ensures empty { IfOk result (λ r. IfNone r (resolver.new.pending.items ≡ [])) }
 {
     let lines = file.lines();
-    if !lines.can_decide(wanted) {
+    if !lines.can_decide(query) {
         return Ok(None);
     }
     let found = decide_by_lines(
-        wanted,
+        query,
         lines.as_slice(),
         &Candidate::new(path),
         is_dir,
-        deciding,
+        resolver,
     )?;
     Ok(found)
 }
 
 /// Reads the lines of the files, the nearest to the path first.
 fn decide_by_files<'a>(
-    wanted: Wanted<'_, 'a>,
+    query: Query<'_, 'a>,
     files: FilesLeft<'a, AttrFile>,
     path: PathBelow,
     is_dir: bool,
-    deciding: &mut Deciding<'a>,
+    resolver: &mut Resolver<'a>,
 ) -> Result<Option<State<'a>>, AllocError>
-    requires open { is_marked (names_in deciding.old.decided) wanted.name.now ≡ false }
-    requires empty { deciding.old.pending.items ≡ [] }
-    ensures moves { IfOk result (λ r. Moves (macros_for wanted.entry) wanted.entry.name.now (tree_assignments files.entry path.entry.path.now is_dir) (names_in deciding.old.decided) (seen_state r) [] (names_in deciding.new.decided)) }
-    ensures empty { IfOk result (λ r. IfNone r (deciding.new.pending.items ≡ [])) }
+    requires open { is_marked (names_in resolver.old.decided) query.name.now ≡ false }
+    requires empty { resolver.old.pending.items ≡ [] }
+    ensures moves { IfOk result (λ r. Reads query.entry (tree_assignments files.entry path.entry.path.now is_dir) resolver.old r [] resolver.new) }
+    ensures empty { IfOk result (λ r. IfNone r (resolver.new.pending.items ≡ [])) }
 {
     let Some((depth, file, nearer)) = files.split_first() else {
         return Ok(None);
     };
     let inner = path.at(depth);
-    if let Some(state) = decide_by_files(wanted, nearer, inner, is_dir, deciding)? {
+    if let Some(state) = decide_by_files(query, nearer, inner, is_dir, resolver)? {
         return Ok(Some(state));
     }
-    let found = decide_by_file(wanted, file, inner.rest, is_dir, deciding)?;
+    let found = decide_by_file(query, file, inner.rest, is_dir, resolver)?;
     Ok(found)
 }
 
 /// Reads the lines of the file of `.git/info`, if there is one.
 fn decide_by_info<'a>(
-    wanted: Wanted<'_, 'a>,
+    query: Query<'_, 'a>,
     info: &'a Option<Arc<AttrFile, Global>>,
     path: &[u8],
     is_dir: bool,
-    deciding: &mut Deciding<'a>,
+    resolver: &mut Resolver<'a>,
 ) -> Result<Option<State<'a>>, AllocError>
-    requires open { is_marked (names_in deciding.old.decided) wanted.name.now ≡ false }
-    requires empty { deciding.old.pending.items ≡ [] }
-    ensures moves { IfOk result (λ r. Moves (macros_for wanted.entry) wanted.entry.name.now (info_assignments (lent info.now) path.now is_dir) (names_in deciding.old.decided) (seen_state r) [] (names_in deciding.new.decided)) }
-    ensures empty { IfOk result (λ r. IfNone r (deciding.new.pending.items ≡ [])) }
+    requires open { is_marked (names_in resolver.old.decided) query.name.now ≡ false }
+    requires empty { resolver.old.pending.items ≡ [] }
+    ensures moves { IfOk result (λ r. Reads query.entry (info_assignments (lent info.now) path.now is_dir) resolver.old r [] resolver.new) }
+    ensures empty { IfOk result (λ r. IfNone r (resolver.new.pending.items ≡ [])) }
 {
     let Some(file) = info else {
         return Ok(None);
     };
-    let found = decide_by_file(wanted, file, path, is_dir, deciding)?;
+    let found = decide_by_file(query, file, path, is_dir, resolver)?;
     Ok(found)
 }
 
 /// The attribute files that speak of a directory's entries: those of the tree from the top down, each with the depth of
 /// its directory, and that of `.git/info`. A later one overrides those before it, and that of `.git/info` overrides all.
-/// Macros are `binary`, which is built in, those of the first file, where it was read as top-level, and those of
+/// KnownMacros are `binary`, which is built in, those of the first file, where it was read as top-level, and those of
 /// `.git/info`; a later one overrides one of its name before it.
 #[derive(Drop)]
 pub struct AttrChain {
@@ -103,10 +102,10 @@ pub struct AttrChain {
 }
 
 impl Model for AttrChain {
-    ghost use Rattle.lc_rules.specs.AttrStates.{AttributeFiles};
+    ghost use Rattle.lc_rules.specs.AttrStates.{AttrChainModel};
     ghost use Rattle.lc_rules.specs.Chains.{lent};
 
-    ghost Value = { AttributeFiles };
+    ghost Value = { AttrChainModel };
 
     ghost view = { λ c. record { tree = c.files; info = lent c.info } };
 }
@@ -162,14 +161,14 @@ impl AttrChain {
         is_dir: bool,
         name: &[u8],
     ) -> Result<State<'_>, AllocError>
-        ensures { IfOk result (λ state. shown_state state ≡ state_of self.now path.now is_dir name.now) }
+        ensures { IfOk result (λ state. state_model state ≡ state_of self.now path.now is_dir name.now) }
     {
-        let wanted = Wanted {
+        let query = Query {
             name,
             macros: self.macros(),
         };
-        let mut deciding = Deciding::new(alloc);
-        match self.decide(wanted, path, is_dir, &mut deciding)? {
+        let mut resolver = Resolver::new(alloc);
+        match self.decide(query, path, is_dir, &mut resolver)? {
             Some(state) => Ok(state),
             None => Ok(State::Unspecified),
         }
@@ -194,28 +193,28 @@ impl AttrChain {
     /// Reads the lines of the files, that of `.git/info` first.
     fn decide<'a>(
         &'a self,
-        wanted: Wanted<'_, 'a>,
+        query: Query<'_, 'a>,
         path: &[u8],
         is_dir: bool,
-        deciding: &mut Deciding<'a>,
+        resolver: &mut Resolver<'a>,
     ) -> Result<Option<State<'a>>, AllocError>
-        requires open { is_marked (names_in deciding.old.decided) wanted.name.now ≡ false }
-        requires empty { deciding.old.pending.items ≡ [] }
-        ensures moves { IfOk result (λ r. Moves (macros_for wanted.entry) wanted.entry.name.now (assignments_of self.now path.now is_dir) (names_in deciding.old.decided) (seen_state r) [] (names_in deciding.new.decided)) }
-        ensures empty { IfOk result (λ r. IfNone r (deciding.new.pending.items ≡ [])) }
+        requires open { is_marked (names_in resolver.old.decided) query.name.now ≡ false }
+        requires empty { resolver.old.pending.items ≡ [] }
+        ensures moves { IfOk result (λ r. Reads query.entry (assignments_of self.now path.now is_dir) resolver.old r [] resolver.new) }
+        ensures empty { IfOk result (λ r. IfNone r (resolver.new.pending.items ≡ [])) }
     {
-        if let Some(state) = decide_by_info(wanted, &self.info, path, is_dir, deciding)? {
+        if let Some(state) = decide_by_info(query, &self.info, path, is_dir, resolver)? {
             return Ok(Some(state));
         }
         let whole = PathBelow::new(path);
-        let found = decide_by_files(wanted, self.files.left(), whole, is_dir, deciding)?;
+        let found = decide_by_files(query, self.files.left(), whole, is_dir, resolver)?;
         Ok(found)
     }
 
-    fn macros(&self) -> Macros
+    fn macros(&self) -> KnownMacros
         ensures { known_macros result ≡ macros_of self.now }
     {
-        Macros {
+        KnownMacros {
             top: top_macros(self.files.left()),
             info: info_macros(&self.info),
         }

@@ -21,9 +21,9 @@ pub struct Chain {
 
 impl Model for Chain {
     ghost use Rattle.std.specs.Prelude.{ℕ, List};
-    ghost use Rattle.lc_rules.specs.IgnoreRules.{IgnoreRule};
+    ghost use Rattle.lc_rules.specs.IgnoreRules.{RuleModel};
 
-    ghost Value = { List (ℕ × List IgnoreRule) };
+    ghost Value = { List (ℕ × List RuleModel) };
 
     ghost view = { λ c. c.files };
 }

@@ -2,9 +2,11 @@
 
 ghost use Rattle.std.specs.Prelude.{◌≡◌};
 ghost use Rattle.std.specs.List.{after_first};
-ghost use Rattle.lc_rules.specs.Verdicts.{is_slash, below};
+ghost use Rattle.lc_glob.specs.Bytes.{slash};
+ghost use Rattle.lc_glob.specs.Pieces.{is_byte};
+ghost use Rattle.lc_rules.specs.Verdicts.{below};
 
-use memchr::memchr;
+use lc_glob::cut_at_first;
 
 /// A path, and what of it is below the depth that was asked for last. Files that are asked from the top down go on where
 /// the one before stood, so that a path is walked through once for all of them.
@@ -61,10 +63,10 @@ fn below<'a>(path: &'a [u8], depth: u32) -> &'a [u8]
 }
 
 fn after_slash<'a>(path: &'a [u8]) -> &'a [u8]
-    ensures { result.now ≡ after_first is_slash path.now }
+    ensures { result.now ≡ after_first (is_byte slash) path.now }
 {
-    match memchr(b'/', path) {
+    match cut_at_first(b'/', path).1 {
         None => &[],
-        Some(i) => &path[i + 1..],
+        Some(rest) => rest,
     }
 }

@@ -1,7 +1,7 @@
 //! Attribute files. Each table stands, with the test's name as its topic, in `docs/cases/attributes.tsv`;
 //! `docs/cases/check` says where the two differ.
 
-use crate::{AttrChain, AttrFile, MAX_RULE_BYTES, RuleFault, State, TextState};
+use crate::{AttrChain, AttrFile, RuleFault, State, TextState};
 use std::alloc::{AllocError, Global};
 use std::process::Abort;
 use std::sync::Arc;
@@ -273,7 +273,7 @@ fn macros_of_info_override_those_of_the_top(rt: HostRuntime) -> Result<(), Fail>
 
 #[test]
 fn at_most_a_mebibyte(rt: HostRuntime) -> Result<(), Fail> {
-    let bytes = vec![in rt.alloc(); b'a'; MAX_RULE_BYTES + 1]?;
+    let bytes = vec![in rt.alloc(); b'a'; 1_048_577]?;
     assert!(rt;
         matches!(
             AttrFile::read(rt.alloc(), &bytes, true),

@@ -1,5 +1,4 @@
-use Rattle.std.proofs.Common.{◌∙◌, sym, ap, ℕ, List}
-use Rattle.lc_rules.specs.IgnoreRules.{IgnoreRule}
+use Rattle.std.proofs.Common.{◌∙◌, sym, ap}
 use Rattle.lc_rules.specs.Verdicts.{verdict_of, at_depth, below, joined}
 use Rattle.lc_rules.specs.declared.verdicts.Verdict.TheVariants.{NoRule}
 use Rattle.lc_rules.proofs.LastRule.{file_below, nearer_decides, decided_stays}

@@ -1,5 +1,5 @@
 use Rattle.std.proofs.Common.{refl, subst, List}
-use Rattle.lc_rules.specs.Attributes.{Macro}
+use Rattle.lc_rules.specs.Attributes.{MacroModel}
 use Rattle.lc_rules.specs.KnownMacros.{defined_in}
 use Rattle.lc_rules.specs.LineNames.{NameNone}
 use Rattle.lc_rules.proofs.NamedLines.{none_named}
@@ -9,5 +9,5 @@ pub returns : goal.returns
 returns c = λ e.
     let lines = c.args.self.now in
     none_named lines (defined_in c.args.macros.top) (defined_in c.args.macros.info) (c.if-may_name.ensures refl)
-    (subst (λ (ms : List Macro). NameNone lines ms) c.macros_in.ensures (c.if-may_name_some_in.ensures refl))
-    (subst (λ (ms : List Macro). NameNone lines ms) c.macros_in-2.ensures (c.may_name_some_in-2.ensures e))
+    (subst (λ (ms : List MacroModel). NameNone lines ms) c.macros_in.ensures (c.if-may_name_some_in.ensures refl))
+    (subst (λ (ms : List MacroModel). NameNone lines ms) c.macros_in-2.ensures (c.may_name_some_in-2.ensures e))
