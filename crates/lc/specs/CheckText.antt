@@ -53,3 +53,7 @@ checked_line verdict line =
 -- the lines of the paths, each with its word
 abbrev pub check_text_of : (List ℕ → Bool → Verdict) → List ℕ → List ℕ
 check_text_of verdict paths = flat_map (checked_line verdict) (lines_of paths)
+
+-- the same with the rules of one file
+abbrev pub text_by : List IgnoreRule → List ℕ → List ℕ
+text_by rules paths = check_text_of (file_verdict rules) paths

@@ -10,6 +10,7 @@ mod print;
 mod program;
 mod rules_file;
 mod sink;
+mod table;
 #[cfg(test)]
 mod tests;
 
