@@ -57,3 +57,8 @@ module _ {I O : Type 0} (may_give : I → ℕ → Answer → I → Type 0) (may_
   HasChecked input out read wrote =
       ((rules : List IgnoreRule) × AnswersCheck may_give may_take no_rules (text_by rules) input out (Ok tt) read wrote)
       ⊎ AnswersCheck may_give may_take rules_part joined_text input out (Ok tt) read wrote
+
+  -- a check was done, or the input was left alone and a text was written, as help is
+  abbrev pub HasAnswered : I → O → I → O → Type 0
+  HasAnswered input out read wrote =
+      HasChecked input out read wrote ⊎ ((read ≡ input) × ((text : List ℕ) × Writes may_take out text wrote))
