@@ -27,7 +27,7 @@ test-memory: rt
 
 # the built program with files, pipes and words as a shell gives them, and the tables of cases beside the tests
 test-program: lc
-	docs/cases/check
+	tools/cases
 	tools/test-program
 
 install: lc

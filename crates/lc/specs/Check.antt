@@ -5,8 +5,8 @@ use Rattle.lc_census.specs.declared.whole.WholeFault.{WholeFault}
 use Rattle.lc_census.specs.declared.whole.WholeFault.TheVariants as whole
 use Rattle.lc_census.specs.Reads.{Answer}
 use Rattle.lc_census.specs.Whole.{AnswersWhole}
-use Rattle.lc_rules.specs.IgnoreRules.{IgnoreRule}
-use Rattle.lc_rules.specs.declared.faults.TheConstants.{MAX_RULE_BYTES}
+use Rattle.lc_rules.specs.IgnoreRules.{RuleModel}
+use Rattle.lc_rules.specs.Limits.{max_rule_bytes}
 use Rattle.lc.specs.CheckText.{text_by}
 use Rattle.lc.specs.Joined.{rules_part, joined_text}
 use Rattle.lc.specs.Writes.{Writes, StopsWriting}
@@ -30,7 +30,7 @@ module _ {I O : Type 0} (may_give : I → ℕ → Answer → I → Type 0) (may_
     (rules_in text_of : List ℕ → List ℕ) where
   -- the input was read whole, and its rules are no longer than a rule file may be
   abbrev pub HasRead : I → List ℕ → I → Type 0
-  HasRead input bytes read = AnswersInput may_give input (Ok tt) bytes read × (length (rules_in bytes) ≤ MAX_RULE_BYTES)
+  HasRead input bytes read = AnswersInput may_give input (Ok tt) bytes read × (length (rules_in bytes) ≤ max_rule_bytes)
 
   abbrev pub AnswersCheck : I → O → Result (Unit {0}) CheckFault → I → O → Type 0
   -- the text was written whole
@@ -43,7 +43,7 @@ module _ {I O : Type 0} (may_give : I → ℕ → Answer → I → Type 0) (may_
       ((bytes : List ℕ) × AnswersInput may_give input (Err whole.TooLong) bytes read) × (wrote ≡ out)
   -- the input was read whole, and its rules are too long
   AnswersCheck input out (Err RulesTooLong) read wrote =
-      ((bytes : List ℕ) × AnswersInput may_give input (Ok tt) bytes read × (MAX_RULE_BYTES < length (rules_in bytes)))
+      ((bytes : List ℕ) × AnswersInput may_give input (Ok tt) bytes read × (max_rule_bytes < length (rules_in bytes)))
       × (wrote ≡ out)
   -- nothing was written
   AnswersCheck input out (Err Memory) read wrote = wrote ≡ out
@@ -55,7 +55,7 @@ module _ {I O : Type 0} (may_give : I → ℕ → Answer → I → Type 0) (may_
 module _ {I O : Type 0} (may_give : I → ℕ → Answer → I → Type 0) (may_take : O → List ℕ → Result ℕ Failed → O → Type 0) where
   abbrev pub HasChecked : I → O → I → O → Type 0
   HasChecked input out read wrote =
-      ((rules : List IgnoreRule) × AnswersCheck may_give may_take no_rules (text_by rules) input out (Ok tt) read wrote)
+      ((rules : List RuleModel) × AnswersCheck may_give may_take no_rules (text_by rules) input out (Ok tt) read wrote)
       ⊎ AnswersCheck may_give may_take rules_part joined_text input out (Ok tt) read wrote
 
   -- a check was done, or the input was left alone and a text was written, as help is

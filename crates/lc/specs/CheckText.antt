@@ -2,7 +2,7 @@
 use Rattle.std.specs.Prelude.{◌≡◌, ◌<◌, ◌≤◌, ℕ, Bool, true, false, ◌&&◌, nat_eq, cond, List, ◌++◌, length, take, slice_index, codes}
 use Rattle.std.specs.List.{list_any, range_with_len, flat_map}
 use Rattle.lc_glob.specs.Bytes.{slash}
-use Rattle.lc_rules.specs.IgnoreRules.{IgnoreRule}
+use Rattle.lc_rules.specs.IgnoreRules.{RuleModel}
 use Rattle.lc_rules.specs.Verdicts.{verdict_of, at_depth}
 use Rattle.lc_rules.specs.declared.verdicts.Verdict.{Verdict}
 use Rattle.lc_rules.specs.declared.verdicts.Verdict.TheVariants.{Ignored, Included, NoRule}
@@ -11,7 +11,7 @@ use Rattle.lc.specs.Lines.{lines_of}
 use Rattle.lc.specs.PathLines.{is_bad_path, is_dir_line, path_of}
 
 -- what the rules of one file say of a path, or of a directory
-abbrev pub file_verdict : List IgnoreRule → List ℕ → Bool → Verdict
+abbrev pub file_verdict : List RuleModel → List ℕ → Bool → Verdict
 file_verdict rules path is_dir = verdict_of (at_depth 0 rules) path is_dir
 
 abbrev pub is_ignored : Verdict → Bool
@@ -55,5 +55,5 @@ abbrev pub check_text_of : (List ℕ → Bool → Verdict) → List ℕ → List
 check_text_of verdict paths = flat_map (checked_line verdict) (lines_of paths)
 
 -- the same with the rules of one file
-abbrev pub text_by : List IgnoreRule → List ℕ → List ℕ
+abbrev pub text_by : List RuleModel → List ℕ → List ℕ
 text_by rules paths = check_text_of (file_verdict rules) paths

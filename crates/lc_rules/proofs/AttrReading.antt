@@ -6,31 +6,32 @@ use Rattle.std.specs.List.{position_or_len, before_first, after_first, list_all}
 use Rattle.std.proofs.lemmas.List.{take_rest, append-nil}
 use Rattle.std.proofs.lemmas.Bool.{false_from_ne_true}
 use Rattle.memchr.specs.Find.{IsFirstByte, is_byte}
-use Rattle.lc_rules.specs.Attributes.{Assign, set, value}
-use Rattle.lc_rules.specs.AttrWords.{assign, assigns, both, is_equals, plain_assign, named, is_name, is_name_byte}
+use Rattle.lc_rules.specs.Attributes.{AssignmentModel, set, value}
+use Rattle.lc_rules.specs.AttrWords.{assign, assigns, both, plain_assign, named, is_name, is_name_byte}
 use Rattle.lc_rules.specs.AttrQuotes.{unquoted, put_byte, put_escape, escape}
+use Rattle.lc_glob.specs.Pieces.{is_byte as at_byte}
 use Rattle.lc_glob.proofs.FirstByte.{place_none, place_some, place_below}
 
 -- assignments before others
-abbrev pub onto_all : List Assign → Option (List Assign) → Option (List Assign)
+abbrev pub onto_all : List AssignmentModel → Option (List AssignmentModel) → Option (List AssignmentModel)
 onto_all found None = None
 onto_all found (Some others) = Some (found ++ others)
 
-pub onto_none : (o : Option (List Assign)) → o ≡ onto_all [] o
+pub onto_none : (o : Option (List AssignmentModel)) → o ≡ onto_all [] o
 onto_none None = refl
 onto_none (Some x) = refl
 
-pub onto_end : (found : List Assign) → onto_all found (Some []) ≡ Some found
+pub onto_end : (found : List AssignmentModel) → onto_all found (Some []) ≡ Some found
 onto_end found = ap (λ l. Some l) (append-nil found)
 
-onto_more : (found : List Assign) (a : Assign) (o : Option (List Assign)) → onto_all found (both (Some a) o) ≡ onto_all (found ++ (a ∷ [])) o
+onto_more : (found : List AssignmentModel) (a : AssignmentModel) (o : Option (List AssignmentModel)) → onto_all found (both (Some a) o) ≡ onto_all (found ++ (a ∷ [])) o
 onto_more found a None = refl
 onto_more found a (Some x) = ap (λ l. Some l) (sym (append_assoc found (a ∷ []) x))
 
-pub onto_word : (found : List Assign) (w : List ℕ) (ws : List (List ℕ)) (a : Assign) → assign w ≡ Some a → onto_all found (assigns (w ∷ ws)) ≡ onto_all (found ++ (a ∷ [])) (assigns ws)
+pub onto_word : (found : List AssignmentModel) (w : List ℕ) (ws : List (List ℕ)) (a : AssignmentModel) → assign w ≡ Some a → onto_all found (assigns (w ∷ ws)) ≡ onto_all (found ++ (a ∷ [])) (assigns ws)
 onto_word found w ws a e = ap (λ o. onto_all found (both o (assigns ws))) e ∙ onto_more found a (assigns ws)
 
-pub onto_bad : (found : List Assign) (w : List ℕ) (ws : List (List ℕ)) → assign w ≡ None → onto_all found (assigns (w ∷ ws)) ≡ None
+pub onto_bad : (found : List AssignmentModel) (w : List ℕ) (ws : List (List ℕ)) → assign w ≡ None → onto_all found (assigns (w ∷ ws)) ≡ None
 onto_bad found w ws e = ap (λ o. onto_all found (both o (assigns ws))) e
 
 -- text before the rest of a quoted text
@@ -74,12 +75,12 @@ whole_take [] = refl
 whole_take (x ∷ xs) = ap (λ l. x ∷ l) (whole_take xs)
 
 pub plain_none : (w : List ℕ) → IsFirstByte (is_byte 61) w None → plain_assign w ≡ named w set
-plain_none w h = ap (λ t. cond t (named (before_first is_equals w) (value (after_first is_equals w))) (named w set)) (le-ltb (position_or_len is_equals w) (length w) (omega (arith, place_none 61 w h)))
+plain_none w h = ap (λ t. cond t (named (before_first (at_byte 61) w) (value (after_first (at_byte 61) w))) (named w set)) (le-ltb (position_or_len (at_byte 61) w) (length w) (omega (arith, place_none 61 w h)))
 
 pub plain_some : (w : List ℕ) (i : ℕ) → IsFirstByte (is_byte 61) w (Some i) → plain_assign w ≡ named (take i w) (value (take (length w - (i + 1)) (drop (i + 1) w)))
 plain_some w i h =
     let below : i < length w = place_below 61 w i h in
-    ap (λ t. cond t (named (before_first is_equals w) (value (after_first is_equals w))) (named w set)) (lt-ltb (position_or_len is_equals w) (length w) (omega (arith, place_some 61 w i h)))
+    ap (λ t. cond t (named (before_first (at_byte 61) w) (value (after_first (at_byte 61) w))) (named w set)) (lt-ltb (position_or_len (at_byte 61) w) (length w) (omega (arith, place_some 61 w i h)))
     ∙ rw take_rest (ap (λ n. named (take n w) (value (drop (n + 1) w))) (place_some 61 w i h))
 
 pub name_is : (name rest : List ℕ) (b : ℕ) → name ≡ b ∷ rest → (b ≡ 45 → ⊥) → is_name name ≡ list_all is_name_byte name

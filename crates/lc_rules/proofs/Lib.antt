@@ -1,3 +1,4 @@
+pub mod ChainOrder
 pub mod Cuts
 pub mod LineEnds
 pub mod LastRule

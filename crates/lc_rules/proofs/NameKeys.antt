@@ -16,7 +16,7 @@ use Rattle.std.specs.Global.{Global}
 use Rattle.std.proofs.lemmas.Map.Text.{is_eq-slice_cmp}
 use Rattle.lc_rules.specs.Attributes.{set}
 use Rattle.lc_rules.specs.Decision.{decided}
-use Rattle.lc_rules.specs.Deciding.{marked, is_marked, names_in}
+use Rattle.lc_rules.specs.Resolving.{marked, is_marked, names_in}
 use Rattle.lc_rules.specs.LineNames.{has_name}
 use Rattle.lc_rules.specs.MacroPlaces.{place_in}
 use Rattle.lc_rules.proofs.DecisionLaws.{same_bytes, bytes_self}

@@ -5,47 +5,39 @@ use Rattle.std.specs.List.{list_any}
 use Rattle.std.proofs.lemmas.List.{append-nil, reverse-append, map-append}
 use Rattle.std.proofs.lemmas.List.Folds.{list_any-append}
 use Rattle.lc_glob.specs.IsMatch.{is_match}
-use Rattle.lc_rules.specs.Attributes.{Assign}
-use Rattle.lc_rules.specs.AttrLines.{AttrLine, AttributeFile}
-use Rattle.lc_rules.specs.AttrStates.{AttributeFiles, by_line, by_lines, assignments_of}
-use Rattle.lc_rules.specs.AttrViews.{assign_of, line_of}
-use Rattle.lc_rules.specs.Verdicts.{below}
+use Rattle.lc_rules.specs.Attributes.{AssignmentModel}
+use Rattle.lc_rules.specs.AttrLines.{PatternLineModel}
+use Rattle.lc_rules.specs.AttrStates.{by_line, by_lines}
+use Rattle.lc_rules.specs.Models.{assignment_model, pattern_line_model}
 use Rattle.lc_rules.specs.declared.assignment.Assignment.{Assignment}
-use Rattle.lc_rules.specs.declared.assignment.Line.{Line}
+use Rattle.lc_rules.specs.declared.assignment.PatternLine.{PatternLine}
 
 reverse_last : {A B : Type 0} (f : A → B) (whole before : List A) (x : A) → whole ≡ before ++ (x ∷ []) → reverse (map f whole) ≡ (f x ∷ []) ++ reverse (map f before)
 reverse_last f whole before x e = ap (λ l. reverse (map f l)) e ∙ ap reverse (map-append f before (x ∷ [])) ∙ reverse-append (map f before) (f x ∷ [])
 
-pub assigns_last : (whole before : List Assignment) (x : Assignment) → whole ≡ before ++ (x ∷ []) → reverse (map assign_of whole) ≡ (assign_of x ∷ []) ++ reverse (map assign_of before)
-assigns_last whole before x e = reverse_last assign_of whole before x e
+pub assigns_last : (whole before : List Assignment) (x : Assignment) → whole ≡ before ++ (x ∷ []) → reverse (map assignment_model whole) ≡ (assignment_model x ∷ []) ++ reverse (map assignment_model before)
+assigns_last whole before x e = reverse_last assignment_model whole before x e
 
-by_lines_more : (ls : List AttrLine) (l : AttrLine) (path : List ℕ) (is_dir : Bool) → by_lines (ls ++ (l ∷ [])) path is_dir ≡ by_line l path is_dir ++ by_lines ls path is_dir
+by_lines_more : (ls : List PatternLineModel) (l : PatternLineModel) (path : List ℕ) (is_dir : Bool) → by_lines (ls ++ (l ∷ [])) path is_dir ≡ by_line l path is_dir ++ by_lines ls path is_dir
 by_lines_more [] l path is_dir = sym (append-nil (by_line l path is_dir))
 by_lines_more (x ∷ xs) l path is_dir = ap (λ t. t ++ by_line x path is_dir) (by_lines_more xs l path is_dir) ∙ append_assoc (by_line l path is_dir) (by_lines xs path is_dir) (by_line x path is_dir)
 
-pub lines_last : (whole before : List Line) (l : Line) (path : List ℕ) (is_dir : Bool) → whole ≡ before ++ (l ∷ []) → by_lines (map line_of whole) path is_dir ≡ by_line (line_of l) path is_dir ++ by_lines (map line_of before) path is_dir
-lines_last whole before l path is_dir e = ap (λ t. by_lines (map line_of t) path is_dir) e ∙ ap (λ t. by_lines t path is_dir) (map-append line_of before (l ∷ [])) ∙ by_lines_more (map line_of before) (line_of l) path is_dir
-
-assignments_of_more : (fs : AttributeFiles) (f : ℕ × AttributeFile) (path : List ℕ) (is_dir : Bool) → assignments_of (fs ++ (f ∷ [])) path is_dir ≡ by_lines f.1.lines (below f.0 path) is_dir ++ assignments_of fs path is_dir
-assignments_of_more [] f path is_dir = sym (append-nil (by_lines f.1.lines (below f.0 path) is_dir))
-assignments_of_more (x ∷ xs) f path is_dir = ap (λ t. t ++ by_lines x.1.lines (below x.0 path) is_dir) (assignments_of_more xs f path is_dir) ∙ append_assoc (by_lines f.1.lines (below f.0 path) is_dir) (assignments_of xs path is_dir) (by_lines x.1.lines (below x.0 path) is_dir)
-
-pub files_last : (whole before : AttributeFiles) (f : ℕ × AttributeFile) (path : List ℕ) (is_dir : Bool) → whole ≡ before ++ (f ∷ []) → assignments_of whole path is_dir ≡ by_lines f.1.lines (below f.0 path) is_dir ++ assignments_of before path is_dir
-files_last whole before f path is_dir e = ap (λ t. assignments_of t path is_dir) e ∙ assignments_of_more before f path is_dir
+pub lines_last : (whole before : List PatternLine) (l : PatternLine) (path : List ℕ) (is_dir : Bool) → whole ≡ before ++ (l ∷ []) → by_lines (map pattern_line_model whole) path is_dir ≡ by_line (pattern_line_model l) path is_dir ++ by_lines (map pattern_line_model before) path is_dir
+lines_last whole before l path is_dir e = ap (λ t. by_lines (map pattern_line_model t) path is_dir) e ∙ ap (λ t. by_lines t path is_dir) (map-append pattern_line_model before (l ∷ [])) ∙ by_lines_more (map pattern_line_model before) (pattern_line_model l) path is_dir
 
 -- where none of some assignments passes a test, none that is read does
-reverse_none : (test : Assign → Bool) (assigns : List Assign) → list_any test assigns ≡ false → list_any test (reverse assigns) ≡ false
+reverse_none : (test : AssignmentModel → Bool) (assigns : List AssignmentModel) → list_any test assigns ≡ false → list_any test (reverse assigns) ≡ false
 reverse_none test [] h = h
 reverse_none test (a ∷ r) h =
     ap (list_any test) (reverse-append (a ∷ []) r)
     ∙ list_any-append test (reverse r) (a ∷ [])
     ∙ or_from (list_any test (reverse r)) (list_any test (a ∷ [])) (reverse_none test r ((or_parts (test a) (list_any test r) h).1)) (or_from (test a) false ((or_parts (test a) (list_any test r) h).0) refl)
 
-pub line_none : (test : Assign → Bool) (l : AttrLine) (path : List ℕ) (is_dir : Bool) → list_any test l.assigns ≡ false → list_any test (by_line l path is_dir) ≡ false
+pub line_none : (test : AssignmentModel → Bool) (l : PatternLineModel) (path : List ℕ) (is_dir : Bool) → list_any test l.assigns ≡ false → list_any test (by_line l path is_dir) ≡ false
 line_none test l path is_dir h =
     elim (is_match l.pattern path is_dir) as (λ b. list_any test (cond b (reverse l.assigns) []) ≡ false) [ true ↦ reverse_none test l.assigns h | false ↦ refl ]
 
-pub lines_none : (test : Assign → Bool) (ls : List AttrLine) (path : List ℕ) (is_dir : Bool) → list_any (λ l. list_any test l.assigns) ls ≡ false → list_any test (by_lines ls path is_dir) ≡ false
+pub lines_none : (test : AssignmentModel → Bool) (ls : List PatternLineModel) (path : List ℕ) (is_dir : Bool) → list_any (λ l. list_any test l.assigns) ls ≡ false → list_any test (by_lines ls path is_dir) ≡ false
 lines_none test [] path is_dir h = refl
 lines_none test (l ∷ ls) path is_dir h =
     list_any-append test (by_lines ls path is_dir) (by_line l path is_dir)

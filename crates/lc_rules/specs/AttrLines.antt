@@ -6,27 +6,27 @@ use Rattle.lc_glob.specs.Patterns.{PatternModel}
 use Rattle.lc_glob.specs.Reading.{pattern_of}
 use Rattle.lc_rules.specs.Bytes.{hash, quotation_mark}
 use Rattle.lc_rules.specs.RuleLines.{lines_of}
-use Rattle.lc_rules.specs.Attributes.{Assign, Macro}
+use Rattle.lc_rules.specs.Attributes.{AssignmentModel, MacroModel}
 use Rattle.lc_rules.specs.AttrWords.{is_white, is_some_word, words, is_name, assigns}
 use Rattle.lc_rules.specs.AttrQuotes.{unquoted}
 
 -- a line with a pattern: what it says of the paths that the pattern matches
-pub record AttrLine : Type 0 where
+pub record PatternLineModel : Type 0 where
   pub pattern : PatternModel
-  pub assigns : List Assign
+  pub assigns : List AssignmentModel
 
 -- what a line gives
-pub data Given : Type 0 where
-  macro_line : Macro → Given
-  pattern_line : AttrLine → Given
+pub data AttrLineModel : Type 0 where
+  macro_line : MacroModel → AttrLineModel
+  pattern_line : PatternLineModel → AttrLineModel
 
 -- a macro with some assignments, where all words are and the name is one
-abbrev pub as_macro : List ℕ → Option (List Assign) → Option Given
+abbrev pub as_macro : List ℕ → Option (List AssignmentModel) → Option AttrLineModel
 as_macro name None = None
 as_macro name (Some body) = if is_name name then Some (macro_line (name, body)) else None
 
 -- a pattern with some assignments, where all words are
-abbrev pub as_pattern : List ℕ → Option (List Assign) → Option Given
+abbrev pub as_pattern : List ℕ → Option (List AssignmentModel) → Option AttrLineModel
 as_pattern bytes None = None
 as_pattern bytes (Some a) = Some (pattern_line (record { pattern = pattern_of bytes; assigns = a }))
 
@@ -36,7 +36,7 @@ is_negated [] = false
 is_negated (b ∷ bs) = b == exclamation_mark
 
 -- a line with a pattern and some words; one whose pattern begins with an exclamation mark gives nothing
-abbrev pub by_pattern : List ℕ → Option (List Assign) → Option Given
+abbrev pub by_pattern : List ℕ → Option (List AssignmentModel) → Option AttrLineModel
 by_pattern bytes a = if is_negated bytes then None else as_pattern bytes a
 
 -- what follows `[attr]`, the bytes 91 97 116 116 114 93, in a first word that is longer
@@ -46,17 +46,17 @@ macro_word (a ∷ b ∷ c ∷ d ∷ e ∷ f ∷ rest) =
 macro_word w = None
 
 -- a macro line gives something in a top-level file alone
-abbrev pub by_macro : Bool → Option (List ℕ) → List ℕ → Option (List Assign) → Option Given
+abbrev pub by_macro : Bool → Option (List ℕ) → List ℕ → Option (List AssignmentModel) → Option AttrLineModel
 by_macro top None word a = by_pattern word a
 by_macro top (Some name) word a = if top then as_macro name a else None
 
 -- a line that is not quoted
-abbrev pub by_words : Bool → List (List ℕ) → Option Given
+abbrev pub by_words : Bool → List (List ℕ) → Option AttrLineModel
 by_words top [] = None
 by_words top (w ∷ ws) = by_macro top (macro_word w) w (assigns ws)
 
 -- a line whose pattern is quoted; the words follow the closing quotation mark, with white space before them or not
-abbrev pub by_quote : Option (List ℕ × List ℕ) → Option Given
+abbrev pub by_quote : Option (List ℕ × List ℕ) → Option AttrLineModel
 by_quote None = None
 by_quote (Some r) = by_pattern r.0 (assigns (words r.1))
 
@@ -66,7 +66,7 @@ trimmed [] = []
 trimmed (b ∷ bs) = if is_white b then trimmed bs else b ∷ bs
 
 -- what a line gives: none of an empty one and of a comment
-abbrev pub given_by : Bool → List ℕ → Option Given
+abbrev pub given_by : Bool → List ℕ → Option AttrLineModel
 given_by top [] = None
 given_by top (b ∷ bs) =
     if b == hash then None
@@ -74,30 +74,30 @@ given_by top (b ∷ bs) =
     else by_words top (words (b ∷ bs))
 
 -- what some lines give
-abbrev pub given_lines : Bool → List (List ℕ) → List Given
+abbrev pub given_lines : Bool → List (List ℕ) → List AttrLineModel
 given_lines top ls = filter_map (λ l. given_by top (trimmed l)) ls
 
 -- what the lines of a file give, in order; `top` says whether the file is top-level
-abbrev pub attribute_lines_of : Bool → List ℕ → List Given
+abbrev pub attribute_lines_of : Bool → List ℕ → List AttrLineModel
 attribute_lines_of top bytes = given_lines top (lines_of bytes)
 
 -- the macro of a line, or its pattern with what it says
-abbrev pub macro_in : Given → Option Macro
+abbrev pub macro_in : AttrLineModel → Option MacroModel
 macro_in (macro_line m) = Some m
 macro_in (pattern_line l) = None
 
-abbrev pub line_in : Given → Option AttrLine
+abbrev pub line_in : AttrLineModel → Option PatternLineModel
 line_in (macro_line m) = None
 line_in (pattern_line l) = Some l
 
 -- an attribute file: whether it is top-level, its macros and its lines with a pattern, both in order
-pub record AttributeFile : Type 0 where
+pub record AttrFileModel : Type 0 where
   pub is_top : Bool
-  pub macros : List Macro
-  pub lines : List AttrLine
+  pub macros : List MacroModel
+  pub lines : List PatternLineModel
 
 -- the attribute file that some bytes are
-abbrev pub attribute_file_of : Bool → List ℕ → AttributeFile
+abbrev pub attribute_file_of : Bool → List ℕ → AttrFileModel
 attribute_file_of top bytes = record {
   is_top = top;
   macros = filter_map macro_in (attribute_lines_of top bytes);

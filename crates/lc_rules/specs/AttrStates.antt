@@ -1,53 +1,68 @@
 -- What a chain of attribute files says of a path: gitattributes(5), DESCRIPTION, on the order of precedence.
-use Rattle.std.specs.Prelude.{ℕ, Bool, if◌then◌else◌, List, [], ◌∷◌, ◌++◌, reverse, unwrap_or, codes}
+use Rattle.std.specs.Prelude.{ℕ, Bool, if◌then◌else◌, List, [], ◌∷◌, ◌++◌, reverse, Option, Some, None, unwrap_or, codes}
 use Rattle.std.specs.Str.{bytes_eq}
 use Rattle.lc_glob.specs.IsMatch.{is_match}
-use Rattle.lc_rules.specs.Attributes.{AttrState, set, unset, value, unspecified, Assign, Macro}
-use Rattle.lc_rules.specs.AttrLines.{AttrLine, AttributeFile}
+use Rattle.lc_rules.specs.Attributes.{StateModel, set, unset, value, unspecified, AssignmentModel, MacroModel}
+use Rattle.lc_rules.specs.AttrLines.{PatternLineModel, AttrFileModel}
 use Rattle.lc_rules.specs.Decision.{decided, decide}
 use Rattle.lc_rules.specs.Verdicts.{below}
 use Rattle.lc_rules.specs.declared.states.TextState.{TextState}
 use Rattle.lc_rules.specs.declared.states.TextState.TheVariants.{Set, Unset, Auto, Other, Unspecified}
 
 -- the macro that is built in
-abbrev pub binary : Macro
+abbrev pub binary : MacroModel
 binary = (codes "binary", (codes "diff", unset) ∷ (codes "merge", unset) ∷ (codes "text", unset) ∷ [])
 
--- the files of a chain from the top down, each with its depth
-abbrev pub AttributeFiles : Type 0
-AttributeFiles = List (ℕ × AttributeFile)
+-- the files of a chain: those of the tree from the top down, each with its depth, and that of `.git/info`, which overrides
+-- them all
+pub record AttrChainModel : Type 0 where
+  pub tree : List (ℕ × AttrFileModel)
+  pub info : Option AttrFileModel
 
--- the macros that the first file defines, where it is top-level
-abbrev pub top_macros : AttributeFiles → List Macro
+-- the macros that the first file of a tree defines, where it is top-level
+abbrev pub top_macros : List (ℕ × AttrFileModel) → List MacroModel
 top_macros [] = []
 top_macros (f ∷ fs) = if f.1.is_top then f.1.macros else []
 
--- the macros: `binary` as built in, then those of the top file
-abbrev pub macros_of : AttributeFiles → List Macro
-macros_of files = binary ∷ top_macros files
+-- those that the file of `.git/info` defines
+abbrev pub info_macros : Option AttrFileModel → List MacroModel
+info_macros None = []
+info_macros (Some f) = f.macros
+
+-- the macros: `binary` as built in, then those of the top file, then those of `.git/info`
+abbrev pub macros_of : AttrChainModel → List MacroModel
+macros_of files = binary ∷ top_macros files.tree ++ info_macros files.info
 
 -- the assignments of a line, from right to left, where it matches
-abbrev pub by_line : AttrLine → List ℕ → Bool → List Assign
+abbrev pub by_line : PatternLineModel → List ℕ → Bool → List AssignmentModel
 by_line l path is_dir = if is_match l.pattern path is_dir then reverse l.assigns else []
 
 -- those of some lines, from the last to the first
-abbrev pub by_lines : List AttrLine → List ℕ → Bool → List Assign
+abbrev pub by_lines : List PatternLineModel → List ℕ → Bool → List AssignmentModel
 by_lines [] path is_dir = []
 by_lines (l ∷ ls) path is_dir = by_lines ls path is_dir ++ by_line l path is_dir
 
--- the assignments of all lines that match, highest precedence first: those of the file nearest to the path before those
--- of a farther one
-abbrev pub assignments_of : AttributeFiles → List ℕ → Bool → List Assign
-assignments_of [] path is_dir = []
-assignments_of (f ∷ fs) path is_dir = assignments_of fs path is_dir ++ by_lines f.1.lines (below f.0 path) is_dir
+-- those of a tree's files: of the file nearest to the path before those of a farther one
+abbrev pub tree_assignments : List (ℕ × AttrFileModel) → List ℕ → Bool → List AssignmentModel
+tree_assignments [] path is_dir = []
+tree_assignments (f ∷ fs) path is_dir = tree_assignments fs path is_dir ++ by_lines f.1.lines (below f.0 path) is_dir
+
+-- those of the file of `.git/info`, which sees the whole path
+abbrev pub info_assignments : Option AttrFileModel → List ℕ → Bool → List AssignmentModel
+info_assignments None path is_dir = []
+info_assignments (Some f) path is_dir = by_lines f.lines path is_dir
+
+-- the assignments of all lines that match, highest precedence first: those of `.git/info`, then those of the tree
+abbrev pub assignments_of : AttrChainModel → List ℕ → Bool → List AssignmentModel
+assignments_of files path is_dir = info_assignments files.info path is_dir ++ tree_assignments files.tree path is_dir
 
 -- what an attribute is for a path: what the decision of all names has for its name
-abbrev pub state_of : AttributeFiles → List ℕ → Bool → List ℕ → AttrState
+abbrev pub state_of : AttrChainModel → List ℕ → Bool → List ℕ → StateModel
 state_of files path is_dir name =
     unwrap_or (decided (decide (macros_of files) (assignments_of files path is_dir) []) name) unspecified
 
 -- the attribute `text`, by its state
-abbrev pub as_text : AttrState → TextState
+abbrev pub as_text : StateModel → TextState
 as_text set = Set
 as_text unset = Unset
 as_text (value v) = if bytes_eq v (codes "auto") then Auto else Other

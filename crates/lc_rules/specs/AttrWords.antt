@@ -2,8 +2,9 @@
 use Rattle.std.specs.Prelude.{ℕ, Bool, false, not, ◌==◌, ◌&&◌, ◌||◌, nat_lt, nat_le, if◌then◌else◌, List, [], ◌∷◌, length, filter, Option, Some, None}
 use Rattle.std.specs.List.{slice_split, list_all, before_first, after_first, position_or_len}
 use Rattle.lc_glob.specs.Bytes.{exclamation_mark, hyphen}
+use Rattle.lc_glob.specs.Pieces.{is_byte}
 use Rattle.lc_rules.specs.Bytes.{space, tab, carriage_return, equals_sign}
-use Rattle.lc_rules.specs.Attributes.{AttrState, set, unset, value, unspecified, Assign}
+use Rattle.lc_rules.specs.Attributes.{StateModel, set, unset, value, unspecified, AssignmentModel}
 
 -- white space
 abbrev pub is_white : ℕ → Bool
@@ -27,34 +28,30 @@ is_name [] = false
 is_name (b ∷ bs) = not (b == hyphen) && list_all is_name_byte (b ∷ bs)
 
 -- an assignment, if the name is one
-abbrev pub named : List ℕ → AttrState → Option Assign
+abbrev pub named : List ℕ → StateModel → Option AssignmentModel
 named name state = if is_name name then Some (name, state) else None
 
--- what ends the name of an assignment
-abbrev pub is_equals : ℕ → Bool
-is_equals b = b == equals_sign
-
 -- `name=value`, whose value is all that follows the first equals sign, or `name`
-abbrev pub plain_assign : List ℕ → Option Assign
+abbrev pub plain_assign : List ℕ → Option AssignmentModel
 plain_assign w =
-    if nat_lt (position_or_len is_equals w) (length w) then named (before_first is_equals w) (value (after_first is_equals w))
+    if nat_lt (position_or_len (is_byte equals_sign) w) (length w) then named (before_first (is_byte equals_sign) w) (value (after_first (is_byte equals_sign) w))
     else named w set
 
 -- the assignment of a word: `-name` unsets, `!name` makes unspecified, and a value after either has no effect
-abbrev pub assign : List ℕ → Option Assign
+abbrev pub assign : List ℕ → Option AssignmentModel
 assign [] = None
 assign (b ∷ bs) =
-    if b == hyphen then named (before_first is_equals bs) unset
-    else if b == exclamation_mark then named (before_first is_equals bs) unspecified
+    if b == hyphen then named (before_first (is_byte equals_sign) bs) unset
+    else if b == exclamation_mark then named (before_first (is_byte equals_sign) bs) unspecified
     else plain_assign (b ∷ bs)
 
 -- an assignment before others, where all are
-abbrev pub both : Option Assign → Option (List Assign) → Option (List Assign)
+abbrev pub both : Option AssignmentModel → Option (List AssignmentModel) → Option (List AssignmentModel)
 both None others = None
 both (Some a) None = None
 both (Some a) (Some others) = Some (a ∷ others)
 
 -- the assignments of all words, in order; none where one word is no assignment
-abbrev pub assigns : List (List ℕ) → Option (List Assign)
+abbrev pub assigns : List (List ℕ) → Option (List AssignmentModel)
 assigns [] = Some []
 assigns (w ∷ ws) = both (assign w) (assigns ws)

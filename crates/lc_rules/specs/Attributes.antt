@@ -2,16 +2,16 @@
 use Rattle.std.specs.Prelude.{ℕ, List}
 
 -- what an attribute is; a name that nothing decides is unspecified, too
-pub data AttrState : Type 0 where
-  set : AttrState
-  unset : AttrState
-  value : List ℕ → AttrState
-  unspecified : AttrState
+pub data StateModel : Type 0 where
+  set : StateModel
+  unset : StateModel
+  value : List ℕ → StateModel
+  unspecified : StateModel
 
 -- an assignment: a name and its state
-abbrev pub Assign : Type 0
-Assign = List ℕ × AttrState
+abbrev pub AssignmentModel : Type 0
+AssignmentModel = List ℕ × StateModel
 
 -- a macro: its name, and its assignments in the order of its line
-abbrev pub Macro : Type 0
-Macro = List ℕ × List Assign
+abbrev pub MacroModel : Type 0
+MacroModel = List ℕ × List AssignmentModel

@@ -9,12 +9,17 @@ abbrev pub with_file : {R A : Type 0} → List (ℕ × R) → ℕ → Option (Ar
 with_file chain depth None = chain
 with_file chain depth (Some file) = chain ++ ((depth, arc_value file) ∷ [])
 
--- what a place of a chain shows: a blank one shows a file without anything
-abbrev pub shown : {R A : Type 0} → R → Option (Arc R A) → R
-shown blank None = blank
-shown blank (Some file) = arc_value file
+-- the file that a chain's place shares, if it has one
+abbrev pub lent : {R A : Type 0} → Option (Arc R A) → Option R
+lent None = None
+lent (Some file) = Some (arc_value file)
 
--- the files of a chain, to which none may have been put
+-- the file of a place with its depth; a blank place has none
+abbrev pub placed : {R : Type 0} → ℕ × Option R → Option (ℕ × R)
+placed (depth, None) = None
+placed (depth, Some file) = Some (depth, file)
+
+-- the places of a chain, in which no file may have been put
 abbrev pub put_files : {F : Type 0} → Option (SmallVec F) → List F
 put_files None = []
 put_files (Some files) = files.items

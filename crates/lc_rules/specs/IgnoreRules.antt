@@ -8,7 +8,7 @@ use Rattle.lc_rules.specs.Bytes.{carriage_return, space, hash}
 use Rattle.lc_rules.specs.RuleLines.{lines_of}
 
 -- a rule: whether it includes again what an earlier rule ignored, and its pattern, perhaps a dead one
-pub record IgnoreRule : Type 0 where
+pub record RuleModel : Type 0 where
   pub is_negated : Bool
   pub pattern : PatternModel
 
@@ -32,23 +32,23 @@ without_spaces (b ∷ c ∷ cs) =
     if b == backslash then b ∷ c ∷ without_spaces cs else byte_before b (without_spaces (c ∷ cs))
 
 -- a rule that ignores, and one that includes again
-abbrev pub plain_rule : List ℕ → IgnoreRule
+abbrev pub plain_rule : List ℕ → RuleModel
 plain_rule bytes = record { is_negated = false; pattern = pattern_of bytes }
 
-abbrev pub negated_rule : List ℕ → IgnoreRule
+abbrev pub negated_rule : List ℕ → RuleModel
 negated_rule bytes = record { is_negated = true; pattern = pattern_of bytes }
 
 -- the rule of a line without its trailing spaces: none of an empty line and of a comment, which begins with a hash; an
 -- exclamation mark negates the pattern after it
-abbrev pub rule_from : List ℕ → Option IgnoreRule
+abbrev pub rule_from : List ℕ → Option RuleModel
 rule_from [] = None
 rule_from (b ∷ bs) =
     if b == hash then None else Some (if b == exclamation_mark then negated_rule bs else plain_rule (b ∷ bs))
 
 -- the rule that a line gives
-abbrev pub rule_of_line : List ℕ → Option IgnoreRule
+abbrev pub rule_of_line : List ℕ → Option RuleModel
 rule_of_line line = rule_from (without_spaces (without_return line))
 
 -- the rules of an ignore file, in the order of their lines
-abbrev pub rules_of : List ℕ → List IgnoreRule
+abbrev pub rules_of : List ℕ → List RuleModel
 rules_of bytes = filter_map rule_of_line (lines_of bytes)

@@ -1,41 +1,47 @@
 -- The macros that the code knows while it decides one attribute.
-use Rattle.std.specs.Prelude.{ℕ, Bool, ◌||◌, List, [], ◌∷◌, map, reverse, Option, Some, None, is_some}
+use Rattle.std.specs.Prelude.{ℕ, Bool, ◌||◌, List, [], ◌∷◌, ◌++◌, map, reverse, Option, Some, None, is_some}
 use Rattle.std.specs.Str.{bytes_eq}
+use Rattle.std.specs.List.{list_any}
 use Rattle.std.specs.Borrow.{Bor}
-use Rattle.lc_rules.specs.Attributes.{AttrState, set, unset, value, unspecified, Assign, Macro}
+use Rattle.lc_rules.specs.Attributes.{StateModel, set, unset, value, unspecified, AssignmentModel, MacroModel}
+use Rattle.lc_rules.specs.AttrLines.{PatternLineModel}
 use Rattle.lc_rules.specs.AttrStates.{binary}
-use Rattle.lc_rules.specs.AttrViews.{assign_of}
+use Rattle.lc_rules.specs.Models.{assignment_model}
 use Rattle.lc_rules.specs.Decision.{macro_of}
-use Rattle.lc_rules.specs.declared.macros.Macros.{Macros}
-use Rattle.lc_rules.specs.declared.macros.Body.{Body}
-use Rattle.lc_rules.specs.declared.macros.Body.TheVariants.{Defined, Binary}
-use Rattle.lc_rules.specs.declared.wanted.Wanted.{Wanted}
+use Rattle.lc_rules.specs.declared.known_macros.KnownMacros.{KnownMacros}
+use Rattle.lc_rules.specs.declared.known_macros.MacroBody.{MacroBody}
+use Rattle.lc_rules.specs.declared.known_macros.MacroBody.TheVariants.{Defined, Binary}
+use Rattle.lc_rules.specs.declared.resolver.Query.{Query}
 
 -- the macros of a table that may be there
-abbrev pub defined_in : Option (Bor (List Macro)) → List Macro
+abbrev pub defined_in : Option (Bor (List MacroModel)) → List MacroModel
 defined_in None = []
 defined_in (Some table) = table.now
 
--- `binary` and those of the table
-abbrev pub known_macros : Macros → List Macro
-known_macros m = binary ∷ defined_in m.defined
+-- `binary` and those of both tables
+abbrev pub known_macros : KnownMacros → List MacroModel
+known_macros m = binary ∷ defined_in m.top ++ defined_in m.info
 
 -- the assignments of a macro
-abbrev pub body_of : Body → List Assign
-body_of (Defined assignments) = map assign_of assignments.now
-body_of Binary = binary.1
+abbrev pub macro_body_model : MacroBody → List AssignmentModel
+macro_body_model (Defined assignments) = map assignment_model assignments.now
+macro_body_model Binary = binary.1
 
 -- what is read of a macro's assignments where its name is decided as this state
-abbrev pub expanded : List Assign → AttrState → List Assign
+abbrev pub expanded : List AssignmentModel → StateModel → List AssignmentModel
 expanded body set = reverse body
 expanded body unset = []
 expanded body (value v) = []
 expanded body unspecified = []
 
 -- whether an assignment of a name can decide the attribute, itself or by what it expands to
-abbrev pub matters : List Macro → List ℕ → List ℕ → Bool
+abbrev pub matters : List MacroModel → List ℕ → List ℕ → Bool
 matters ms wanted name = bytes_eq name wanted || is_some (macro_of ms name)
 
+-- whether an assignment of some lines can
+abbrev pub some_matters : List MacroModel → List ℕ → List PatternLineModel → Bool
+some_matters ms wanted lines = list_any (λ l. list_any (λ a. matters ms wanted a.0) l.assigns) lines
+
 -- the macros that may lead to the attribute
-abbrev pub macros_for : Wanted → List Macro
+abbrev pub macros_for : Query → List MacroModel
 macros_for w = known_macros w.macros

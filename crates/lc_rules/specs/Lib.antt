@@ -1,8 +1,7 @@
 pub mod Bytes
+pub mod Limits
 pub mod RuleLines
-pub mod LinesLeft
 pub mod IgnoreRules
-pub mod RuleView
 pub mod Verdicts
 pub mod Chains
 pub mod Attributes
@@ -11,9 +10,9 @@ pub mod AttrQuotes
 pub mod AttrLines
 pub mod Decision
 pub mod AttrStates
-pub mod AttrViews
-pub mod ReadLines
+pub mod AttrChains
+pub mod Models
 pub mod MacroPlaces
 pub mod LineNames
 pub mod KnownMacros
-pub mod Deciding
+pub mod Resolving

@@ -1,5 +1,5 @@
 -- The names that lines assign.
-use Rattle.std.specs.Prelude.{◌≡◌, ℕ, Bool, true, List, Vec}
+use Rattle.std.specs.Prelude.{◌≡◌, ℕ, Bool, true, false, List, Vec, is_some}
 use Rattle.std.specs.List.{list_any}
 use Rattle.std.specs.Str.{bytes_eq}
 use Rattle.std.specs.Ordering.{nat_cmp}
@@ -7,15 +7,16 @@ use Rattle.std.specs.Cmp.Lexicographic.{slice_cmp}
 use Rattle.std.specs.BTreeSet as tree
 use Rattle.std.specs.BTreeSet.{BTreeSet}
 use Rattle.std.specs.Global.{Global}
-use Rattle.lc_rules.specs.Attributes.{Assign}
-use Rattle.lc_rules.specs.AttrLines.{AttrLine}
+use Rattle.lc_rules.specs.Attributes.{AssignmentModel, MacroModel}
+use Rattle.lc_rules.specs.Decision.{macro_of}
+use Rattle.lc_rules.specs.AttrLines.{PatternLineModel}
 
 -- whether some assignment is of a name
-abbrev pub assigns_name : List Assign → List ℕ → Bool
+abbrev pub assigns_name : List AssignmentModel → List ℕ → Bool
 assigns_name assigns name = list_any (λ a. bytes_eq a.0 name) assigns
 
 -- whether some line assigns a name
-abbrev pub lines_name : List AttrLine → List ℕ → Bool
+abbrev pub lines_name : List PatternLineModel → List ℕ → Bool
 lines_name lines name = list_any (λ l. assigns_name l.assigns name) lines
 
 -- whether a set of names has one
@@ -23,5 +24,9 @@ abbrev pub has_name : BTreeSet (Vec ℕ Global) → List ℕ → Bool
 has_name names name = tree.contains_by (λ k. slice_cmp nat_cmp name k.items) names
 
 -- the set has all names that the lines assign
-abbrev pub HasNames : List AttrLine → BTreeSet (Vec ℕ Global) → Type 0
+abbrev pub HasNames : List PatternLineModel → BTreeSet (Vec ℕ Global) → Type 0
 HasNames lines names = (name : List ℕ) → lines_name lines name ≡ true → has_name names name ≡ true
+
+-- no line assigns the name of a macro
+abbrev pub NameNone : List PatternLineModel → List MacroModel → Type 0
+NameNone lines ms = (name : List ℕ) → is_some (macro_of ms name) ≡ true → lines_name lines name ≡ false

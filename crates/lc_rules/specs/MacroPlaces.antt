@@ -6,7 +6,7 @@ use Rattle.std.specs.Cmp.Lexicographic.{slice_cmp}
 use Rattle.std.specs.BTreeMap as tree
 use Rattle.std.specs.BTreeMap.{BTreeMap}
 use Rattle.std.specs.Global.{Global}
-use Rattle.lc_rules.specs.Attributes.{Macro}
+use Rattle.lc_rules.specs.Attributes.{MacroModel}
 
 -- a place in a list with one element more at its front; none behind it leaves the front
 abbrev pub place_behind : Option ℕ → Option ℕ → Option ℕ
@@ -14,7 +14,7 @@ place_behind (Some i) front = Some (suc i)
 place_behind None front = front
 
 -- the place of the last macro of a name
-abbrev pub last_place : List Macro → List ℕ → Option ℕ
+abbrev pub last_place : List MacroModel → List ℕ → Option ℕ
 last_place [] name = None
 last_place (m ∷ ms) name = place_behind (last_place ms name) (if bytes_eq m.0 name then Some 0 else None)
 
@@ -23,5 +23,5 @@ abbrev pub place_in : BTreeMap (Vec ℕ Global) ℕ → List ℕ → Option ℕ
 place_in places name = tree.get_by (λ k. slice_cmp nat_cmp name k.items) places
 
 -- the map has the last place of each name, and of no other
-abbrev pub HasPlaces : List Macro → BTreeMap (Vec ℕ Global) ℕ → Type 0
+abbrev pub HasPlaces : List MacroModel → BTreeMap (Vec ℕ Global) ℕ → Type 0
 HasPlaces ms places = (name : List ℕ) → place_in places name ≡ last_place ms name

@@ -1,44 +1,41 @@
 -- What the rules of a chain's files say of a path: gitignore(5), DESCRIPTION, on the order of precedence.
-use Rattle.std.specs.Prelude.{ℕ, zero, suc, Bool, ◌==◌, if◌then◌else◌, List, [], ◌∷◌, ◌++◌, map, filter}
+use Rattle.std.specs.Prelude.{ℕ, zero, suc, Bool, if◌then◌else◌, List, [], ◌∷◌, ◌++◌, map, filter}
 use Rattle.std.specs.List.{after_first}
 use Rattle.lc_glob.specs.Bytes.{slash}
+use Rattle.lc_glob.specs.Pieces.{is_byte}
 use Rattle.lc_glob.specs.IsMatch.{is_match}
-use Rattle.lc_rules.specs.IgnoreRules.{IgnoreRule}
+use Rattle.lc_rules.specs.IgnoreRules.{RuleModel}
 use Rattle.lc_rules.specs.declared.verdicts.Verdict.{Verdict}
 use Rattle.lc_rules.specs.declared.verdicts.Verdict.TheVariants.{Ignored, Included, NoRule}
-
--- what ends a segment of a path
-abbrev pub is_slash : ℕ → Bool
-is_slash b = b == slash
 
 -- a path without its first segments, as a file in the directory at this depth sees it
 abbrev pub below : ℕ → List ℕ → List ℕ
 below zero path = path
-below (suc depth) path = below depth (after_first is_slash path)
+below (suc depth) path = below depth (after_first (is_byte slash) path)
 
 -- whether a rule, with the depth of its file, matches a path
-abbrev pub rule_matches : List ℕ → Bool → (ℕ × IgnoreRule) → Bool
+abbrev pub rule_matches : List ℕ → Bool → (ℕ × RuleModel) → Bool
 rule_matches path is_dir rule = is_match rule.1.pattern (below rule.0 path) is_dir
 
 -- what a rule says where it matches
-abbrev pub verdict_by : IgnoreRule → Verdict
+abbrev pub verdict_by : RuleModel → Verdict
 verdict_by rule = if rule.is_negated then Included else Ignored
 
 -- the last of these rules decides
-abbrev pub by_last : List (ℕ × IgnoreRule) → Verdict
+abbrev pub by_last : List (ℕ × RuleModel) → Verdict
 by_last [] = NoRule
 by_last (r ∷ []) = verdict_by r.1
 by_last (r ∷ s ∷ rs) = by_last (s ∷ rs)
 
 -- the verdict: the last rule that matches decides
-abbrev pub verdict_of : List (ℕ × IgnoreRule) → List ℕ → Bool → Verdict
+abbrev pub verdict_of : List (ℕ × RuleModel) → List ℕ → Bool → Verdict
 verdict_of rules path is_dir = by_last (filter (rule_matches path is_dir) rules)
 
 -- the rules of a file, each with the file's depth
-abbrev pub at_depth : ℕ → List IgnoreRule → List (ℕ × IgnoreRule)
+abbrev pub at_depth : ℕ → List RuleModel → List (ℕ × RuleModel)
 at_depth depth rules = map (λ r. (depth, r)) rules
 
 -- all rules of a chain's files in one list, file by file from the top down
-abbrev pub joined : List (ℕ × List IgnoreRule) → List (ℕ × IgnoreRule)
+abbrev pub joined : List (ℕ × List RuleModel) → List (ℕ × RuleModel)
 joined [] = []
 joined (f ∷ fs) = at_depth f.0 f.1 ++ joined fs

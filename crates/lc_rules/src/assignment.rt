@@ -1,7 +1,7 @@
 //! The assignments of attribute lines.
 
 ghost use Rattle.std.specs.Prelude.{◌≡◌, IfOk};
-ghost use Rattle.lc_rules.specs.AttrViews.{shown_state, assigned_state, assign_of, word_of};
+ghost use Rattle.lc_rules.specs.Models.{state_model, owned_state_model, assignment_model, assignment_ref_model};
 
 use crate::states::State;
 use lc_glob::Pattern;
@@ -9,22 +9,22 @@ use std::alloc::AllocError;
 
 /// What an assignment makes of its name.
 #[derive(Debug, Drop)]
-pub(crate) enum Assigned {
+pub(crate) enum OwnedState {
     Set,
     Unset,
     Value(Vec<u8>),
     Unspecified,
 }
 
-impl Assigned {
+impl OwnedState {
     fn state(&self) -> State
-        ensures { shown_state result ≡ assigned_state self.now }
+        ensures { state_model result ≡ owned_state_model self.now }
     {
         match self {
-            Assigned::Set => State::Set,
-            Assigned::Unset => State::Unset,
-            Assigned::Value(value) => State::Value(value.as_slice()),
-            Assigned::Unspecified => State::Unspecified,
+            OwnedState::Set => State::Set,
+            OwnedState::Unset => State::Unset,
+            OwnedState::Value(value) => State::Value(value.as_slice()),
+            OwnedState::Unspecified => State::Unspecified,
         }
     }
 }
@@ -33,21 +33,21 @@ impl Assigned {
 #[derive(Debug, Drop)]
 pub(crate) struct Assignment {
     pub(crate) name: Vec<u8>,
-    pub(crate) state: Assigned,
+    pub(crate) state: OwnedState,
 }
 
 /// An assignment that is lent.
 #[derive(Clone, Copy)]
-pub(crate) struct Word<'a> {
+pub(crate) struct AssignmentRef<'a> {
     pub(crate) name: &'a [u8],
     pub(crate) state: State<'a>,
 }
 
 impl Assignment {
-    pub(crate) fn word(&self) -> Word
-        ensures { word_of result ≡ assign_of self.now }
+    pub(crate) fn lend(&self) -> AssignmentRef
+        ensures { assignment_ref_model result ≡ assignment_model self.now }
     {
-        Word {
+        AssignmentRef {
             name: self.name.as_slice(),
             state: self.state.state(),
         }
@@ -70,7 +70,7 @@ pub(crate) struct Macro {
 
 /// A line with a pattern.
 #[derive(Debug, Drop)]
-pub(crate) struct Line {
+pub(crate) struct PatternLine {
     pub(crate) pattern: Pattern,
     pub(crate) assignments: Vec<Assignment>,
 }

@@ -1,165 +1,156 @@
 //! Chains of attribute files.
 
-ghost use Rattle.std.specs.Prelude.{◌≡◌, ◌∷◌, [], false, IfOk, IfNone, codes};
-ghost use Rattle.lc_rules.specs.AttrViews.{seen_state, shown_state};
-ghost use Rattle.lc_rules.specs.AttrLines.{attribute_file_of};
-ghost use Rattle.lc_rules.specs.AttrStates.{macros_of, by_lines, assignments_of, state_of, as_text};
-ghost use Rattle.lc_rules.specs.Chains.{with_file};
-ghost use Rattle.lc_rules.specs.Deciding.{is_marked, Moves, names_in};
-ghost use Rattle.lc_rules.specs.KnownMacros.{known_macros, macros_for};
-ghost use Rattle.lc_rules.specs.Verdicts.{below};
+ghost use Rattle.std.specs.Prelude.{◌≡◌, [], false, IfOk, IfNone, codes};
+ghost use Rattle.lc_rules.specs.Models.{seen_state, state_model};
+ghost use Rattle.lc_rules.specs.AttrStates.{macros_of, top_macros, info_macros, by_lines, tree_assignments, info_assignments, assignments_of, state_of, as_text};
+ghost use Rattle.lc_rules.specs.AttrChains.{no_files, with_tree_file, with_info_file};
+ghost use Rattle.lc_rules.specs.Chains.{lent};
+ghost use Rattle.lc_rules.specs.Resolving.{is_marked, Reads, names_in};
+ghost use Rattle.lc_rules.specs.KnownMacros.{known_macros, defined_in, macros_for};
 
 use crate::attr_file::AttrFile;
-use crate::deciding::{Deciding, decide_by_lines};
-use crate::macros::Macros;
-use crate::paths::below;
+use crate::chain_files::{ChainFiles, FilesLeft, share};
+use crate::known_macros::KnownMacros;
+use crate::macro_table::MacroTable;
+use crate::paths::PathBelow;
+use crate::resolver::{Query, Resolver, decide_by_lines};
 use crate::states::{State, TextState};
-use crate::wanted::Wanted;
 use lc_glob::Candidate;
-use smallvec::SmallVec;
 use std::alloc::{AllocError, Global};
 use std::marker::Model;
 use std::sync::Arc;
 
-/// An attribute file at the depth of its directory. The blank place that a `SmallVec` fills its room with has no lines.
-#[derive(Default, Drop)]
-struct AttrChainFile {
-    depth: u32,
-    file: Option<Arc<AttrFile, Global>>,
-}
-
-impl Model for AttrChainFile {
-    ghost use Rattle.std.specs.Prelude.{ℕ, false, []};
-    ghost use Rattle.lc_rules.specs.AttrLines.{AttributeFile};
-    ghost use Rattle.lc_rules.specs.Chains.{shown};
-
-    ghost Value = { ℕ × AttributeFile };
-
-    ghost view = { λ f. (f.depth, shown (record { is_top = false; macros = []; lines = [] }) f.file) };
-}
-
-impl AttrChainFile {
-    fn share(&self) -> Result<AttrChainFile, AllocError>
-        ensures { IfOk result (λ f. f ≡ self.now) }
-    {
-        let file = match &self.file {
-            None => None,
-            Some(file) => Some(Arc::try_clone(file)?),
-        };
-        Ok(AttrChainFile {
-            depth: self.depth,
-            file,
-        })
-    }
-
-    /// Reads the lines of the file, unless none of them can decide the attribute.
-    fn decide<'a>(
-        &'a self,
-        wanted: Wanted<'_, 'a>,
-        path: &[u8],
-        is_dir: bool,
-        deciding: &mut Deciding<'a>,
-    ) -> Result<Option<State<'a>>, AllocError>
-        requires open { is_marked (names_in deciding.old.decided) wanted.name.now ≡ false }
-        requires empty { deciding.old.pending.items ≡ [] }
-        ensures moves { IfOk result (λ r. Moves (macros_for wanted.entry) wanted.entry.name.now (by_lines self.now.1.lines (below self.now.0 path.now) is_dir) (names_in deciding.old.decided) (seen_state r) [] (names_in deciding.new.decided)) }
-        ensures empty { IfOk result (λ r. IfNone r (deciding.new.pending.items ≡ [])) }
-    {
-        let Some(file) = &self.file else {
-            return Ok(None);
-        };
-        let lines = file.lines();
-        if !lines.can_decide(wanted) {
-            return Ok(None);
-        }
-        let inner = Candidate::new(below(path, self.depth));
-        let found = decide_by_lines(wanted, lines.as_slice(), &inner, is_dir, deciding)?;
-        Ok(found)
-    }
-}
-
-/// The macros that these files know: those of the first, if it is top-level.
-fn macros_of(files: &[AttrChainFile]) -> Macros
-    ensures { known_macros result ≡ macros_of files.now }
+/// Reads the lines of a file, unless none of them can decide the attribute.
+fn decide_by_file<'a>(
+    query: Query<'_, 'a>,
+    file: &'a AttrFile,
+    path: &[u8],
+    is_dir: bool,
+    resolver: &mut Resolver<'a>,
+) -> Result<Option<State<'a>>, AllocError>
+    requires open { is_marked (names_in resolver.old.decided) query.name.now ≡ false }
+    requires empty { resolver.old.pending.items ≡ [] }
+    ensures moves { IfOk result (λ r. Reads query.entry (by_lines file.now.lines path.now is_dir) resolver.old r [] resolver.new) }
+    ensures empty { IfOk result (λ r. IfNone r (resolver.new.pending.items ≡ [])) }
 {
-    let Some(first) = files.first() else {
-        return Macros { defined: None };
-    };
-    let Some(file) = &first.file else {
-        return Macros { defined: None };
-    };
-    if file.is_top() {
-        Macros {
-            defined: Some(file.macros()),
-        }
-    } else {
-        Macros { defined: None }
+    let lines = file.lines();
+    if !lines.can_decide(query) {
+        return Ok(None);
     }
+    let found = decide_by_lines(
+        query,
+        lines.as_slice(),
+        &Candidate::new(path),
+        is_dir,
+        resolver,
+    )?;
+    Ok(found)
 }
 
 /// Reads the lines of the files, the nearest to the path first.
 fn decide_by_files<'a>(
-    wanted: Wanted<'_, 'a>,
-    files: &'a [AttrChainFile],
-    path: &[u8],
+    query: Query<'_, 'a>,
+    files: FilesLeft<'a, AttrFile>,
+    path: PathBelow,
     is_dir: bool,
-    deciding: &mut Deciding<'a>,
+    resolver: &mut Resolver<'a>,
 ) -> Result<Option<State<'a>>, AllocError>
-    requires open { is_marked (names_in deciding.old.decided) wanted.name.now ≡ false }
-    requires empty { deciding.old.pending.items ≡ [] }
-    ensures moves { IfOk result (λ r. Moves (macros_for wanted.entry) wanted.entry.name.now (assignments_of files.now path.now is_dir) (names_in deciding.old.decided) (seen_state r) [] (names_in deciding.new.decided)) }
-    ensures empty { IfOk result (λ r. IfNone r (deciding.new.pending.items ≡ [])) }
+    requires open { is_marked (names_in resolver.old.decided) query.name.now ≡ false }
+    requires empty { resolver.old.pending.items ≡ [] }
+    ensures moves { IfOk result (λ r. Reads query.entry (tree_assignments files.entry path.entry.path.now is_dir) resolver.old r [] resolver.new) }
+    ensures empty { IfOk result (λ r. IfNone r (resolver.new.pending.items ≡ [])) }
 {
-    let mut left = files;
-    'files: while let Some((last, before)) = left.split_last() {
-        if let Some(state) = last.decide(wanted, path, is_dir, deciding)? {
-            return Ok(Some(state));
-        }
-        left = before;
+    let Some((depth, file, nearer)) = files.split_first() else {
+        return Ok(None);
+    };
+    let inner = path.at(depth);
+    if let Some(state) = decide_by_files(query, nearer, inner, is_dir, resolver)? {
+        return Ok(Some(state));
     }
-    Ok(None)
+    let found = decide_by_file(query, file, inner.rest, is_dir, resolver)?;
+    Ok(found)
 }
 
-/// The attribute files that speak of a directory's entries, from the top down, each with the depth of its directory. A
-/// later one overrides those before it. Macros are those of the first file, where it was read as top-level, and
-/// `binary`, which is built in.
+/// Reads the lines of the file of `.git/info`, if there is one.
+fn decide_by_info<'a>(
+    query: Query<'_, 'a>,
+    info: &'a Option<Arc<AttrFile, Global>>,
+    path: &[u8],
+    is_dir: bool,
+    resolver: &mut Resolver<'a>,
+) -> Result<Option<State<'a>>, AllocError>
+    requires open { is_marked (names_in resolver.old.decided) query.name.now ≡ false }
+    requires empty { resolver.old.pending.items ≡ [] }
+    ensures moves { IfOk result (λ r. Reads query.entry (info_assignments (lent info.now) path.now is_dir) resolver.old r [] resolver.new) }
+    ensures empty { IfOk result (λ r. IfNone r (resolver.new.pending.items ≡ [])) }
+{
+    let Some(file) = info else {
+        return Ok(None);
+    };
+    let found = decide_by_file(query, file, path, is_dir, resolver)?;
+    Ok(found)
+}
+
+/// The attribute files that speak of a directory's entries: those of the tree from the top down, each with the depth of
+/// its directory, and that of `.git/info`. A later one overrides those before it, and that of `.git/info` overrides all.
+/// KnownMacros are `binary`, which is built in, those of the first file, where it was read as top-level, and those of
+/// `.git/info`; a later one overrides one of its name before it.
 #[derive(Drop)]
 pub struct AttrChain {
-    /// None where no file was put, so that the top takes no allocator.
-    files: Option<SmallVec<AttrChainFile, 8>>,
+    files: ChainFiles<AttrFile>,
+    info: Option<Arc<AttrFile, Global>>,
 }
 
 impl Model for AttrChain {
-    ghost use Rattle.lc_rules.specs.AttrStates.{AttributeFiles};
-    ghost use Rattle.lc_rules.specs.Chains.{put_files};
+    ghost use Rattle.lc_rules.specs.AttrStates.{AttrChainModel};
+    ghost use Rattle.lc_rules.specs.Chains.{lent};
 
-    ghost Value = { AttributeFiles };
+    ghost Value = { AttrChainModel };
 
-    ghost view = { λ c. put_files c.files };
+    ghost view = { λ c. record { tree = c.files; info = lent c.info } };
 }
 
 impl AttrChain {
     /// The chain without a file. It knows the macro `binary` alone.
     pub fn top() -> AttrChain
-        ensures { result ≡ [] }
+        ensures { result ≡ no_files }
     {
-        AttrChain { files: None }
+        AttrChain {
+            files: ChainFiles::new(),
+            info: None,
+        }
     }
 
-    /// The chain with one file more, or an equal one. The file is that of a directory with `depth` segments.
+    /// The chain with one file more of the tree, or an equal one. The file is that of a directory with `depth` segments.
     pub fn below(
         &self,
         alloc: Global,
         depth: u32,
         file: Option<Arc<AttrFile, Global>>,
     ) -> Result<AttrChain, AllocError>
-        ensures { IfOk result (λ chain. chain ≡ with_file self.now depth file) }
+        ensures { IfOk result (λ chain. chain ≡ with_tree_file self.now depth file) }
     {
-        let mut files = share_files(alloc, self.files())?;
-        if file.is_some() {
-            files.push(AttrChainFile { depth, file })?;
-        }
-        Ok(AttrChain { files: Some(files) })
+        let files = self.files.with(alloc, depth, file)?;
+        let info = share(&self.info)?;
+        Ok(AttrChain { files, info })
+    }
+
+    /// The chain with the file of `.git/info/attributes`, or an equal one. The file was read as a top-level one; it
+    /// stands above every file that the chain has or gains later, and in place of one that it had.
+    pub fn with_info(
+        &self,
+        alloc: Global,
+        file: Option<Arc<AttrFile, Global>>,
+    ) -> Result<AttrChain, AllocError>
+        ensures { IfOk result (λ chain. chain ≡ with_info_file self.now file) }
+    {
+        let files = self.files.with(alloc, 0, None)?;
+        let Some(file) = file else {
+            let info = share(&self.info)?;
+            return Ok(AttrChain { files, info });
+        };
+        let info = Some(file);
+        Ok(AttrChain { files, info })
     }
 
     /// What an attribute is for a path. A name that no assignment decides is unspecified.
@@ -170,15 +161,14 @@ impl AttrChain {
         is_dir: bool,
         name: &[u8],
     ) -> Result<State<'_>, AllocError>
-        ensures { IfOk result (λ state. shown_state state ≡ state_of self.now path.now is_dir name.now) }
+        ensures { IfOk result (λ state. state_model state ≡ state_of self.now path.now is_dir name.now) }
     {
-        let files = self.files();
-        let wanted = Wanted {
+        let query = Query {
             name,
-            macros: macros_of(files),
+            macros: self.macros(),
         };
-        let mut deciding = Deciding::new(alloc);
-        match decide_by_files(wanted, files, path, is_dir, &mut deciding)? {
+        let mut resolver = Resolver::new(alloc);
+        match self.decide(query, path, is_dir, &mut resolver)? {
             Some(state) => Ok(state),
             None => Ok(State::Unspecified),
         }
@@ -200,25 +190,54 @@ impl AttrChain {
         }
     }
 
-    fn files(&self) -> &[AttrChainFile]
-        ensures { result.now ≡ self.now }
+    /// Reads the lines of the files, that of `.git/info` first.
+    fn decide<'a>(
+        &'a self,
+        query: Query<'_, 'a>,
+        path: &[u8],
+        is_dir: bool,
+        resolver: &mut Resolver<'a>,
+    ) -> Result<Option<State<'a>>, AllocError>
+        requires open { is_marked (names_in resolver.old.decided) query.name.now ≡ false }
+        requires empty { resolver.old.pending.items ≡ [] }
+        ensures moves { IfOk result (λ r. Reads query.entry (assignments_of self.now path.now is_dir) resolver.old r [] resolver.new) }
+        ensures empty { IfOk result (λ r. IfNone r (resolver.new.pending.items ≡ [])) }
     {
-        match &self.files {
-            None => &[],
-            Some(files) => files.as_slice(),
+        if let Some(state) = decide_by_info(query, &self.info, path, is_dir, resolver)? {
+            return Ok(Some(state));
+        }
+        let whole = PathBelow::new(path);
+        let found = decide_by_files(query, self.files.left(), whole, is_dir, resolver)?;
+        Ok(found)
+    }
+
+    fn macros(&self) -> KnownMacros
+        ensures { known_macros result ≡ macros_of self.now }
+    {
+        KnownMacros {
+            top: top_macros(self.files.left()),
+            info: info_macros(&self.info),
         }
     }
 }
 
-fn share_files(
-    alloc: Global,
-    files: &[AttrChainFile],
-) -> Result<SmallVec<AttrChainFile, 8>, AllocError>
-    ensures { IfOk result (λ shared. shared.items ≡ files.now) }
+/// The macros of the first file, if it is top-level.
+fn top_macros<'a>(files: FilesLeft<'a, AttrFile>) -> Option<&'a MacroTable>
+    ensures { defined_in result ≡ top_macros files.entry }
 {
-    let mut shared = SmallVec::new(alloc);
-    for file in files {
-        shared.push(file.share()?)?;
+    let (_, file, _) = files.split_first()?;
+    if file.is_top() {
+        Some(file.macros())
+    } else {
+        None
     }
-    Ok(shared)
+}
+
+fn info_macros<'a>(info: &'a Option<Arc<AttrFile, Global>>) -> Option<&'a MacroTable>
+    ensures { defined_in result ≡ info_macros (lent info.now) }
+{
+    match info {
+        None => None,
+        Some(file) => Some(file.macros()),
+    }
 }

@@ -2,9 +2,9 @@
 
 ghost use Rattle.std.specs.Prelude.{◌≡◌, ◌↔◌, ◌<◌, length, IfOk};
 ghost use Rattle.lc_rules.specs.AttrLines.{attribute_file_of};
-ghost use Rattle.lc_rules.specs.declared.faults.TheConstants.{MAX_RULE_BYTES};
+ghost use Rattle.lc_rules.specs.Limits.{max_rule_bytes};
 
-use crate::attr_line::{Read, read_line};
+use crate::attr_line::{AttrLine, read_line};
 use crate::faults::{MAX_RULE_BYTES, RuleFault};
 use crate::line_table::LineTable;
 use crate::lines::Lines;
@@ -21,9 +21,9 @@ pub struct AttrFile {
 }
 
 impl Model for AttrFile {
-    ghost use Rattle.lc_rules.specs.AttrLines.{AttributeFile};
+    ghost use Rattle.lc_rules.specs.AttrLines.{AttrFileModel};
 
-    ghost Value = { AttributeFile };
+    ghost Value = { AttrFileModel };
 
     ghost view = { λ f. record { is_top = f.is_top; macros = f.macros; lines = f.lines } };
 }
@@ -33,7 +33,7 @@ impl AttrFile {
     /// the file of the tree's top directory, which `top` says it is, defines macros.
     pub fn read(alloc: Global, bytes: &[u8], top: bool) -> Result<AttrFile, RuleFault>
         ensures ok { IfOk result (λ file. file ≡ attribute_file_of top bytes.now) }
-        ensures too_long { (result ≡ Err RuleFault.TooLong) ↔ (MAX_RULE_BYTES < length bytes.now) }
+        ensures too_long { (result ≡ Err RuleFault.TooLong) ↔ (max_rule_bytes < length bytes.now) }
     {
         if bytes.len() > MAX_RULE_BYTES {
             return Err(RuleFault::TooLong);
@@ -71,8 +71,8 @@ fn read_file(alloc: Global, bytes: &[u8], top: bool) -> Result<AttrFile, AllocEr
     'lines: while let Some((line, others)) = left.split_first() {
         match read_line(alloc, top, line)? {
             None => {}
-            Some(Read::Macro(found)) => macros.push(found)?,
-            Some(Read::Line(found)) => lines.push(found)?,
+            Some(AttrLine::Macro(found)) => macros.push(found)?,
+            Some(AttrLine::Pattern(found)) => lines.push(found)?,
         }
         left = others;
     }

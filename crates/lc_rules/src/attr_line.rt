@@ -4,9 +4,9 @@ ghost use Rattle.std.specs.Prelude.{◌≡◌, IfOk, MatchOption, Some, None};
 ghost use Rattle.lc_rules.specs.AttrLines.{as_macro, by_pattern, is_negated, macro_word, by_words, by_quote, trimmed, given_by};
 ghost use Rattle.lc_rules.specs.AttrWords.{assigns, words};
 ghost use Rattle.lc_rules.specs.AttrQuotes.{unquoted};
-ghost use Rattle.lc_rules.specs.ReadLines.{seen_line};
+ghost use Rattle.lc_rules.specs.Models.{seen_line};
 
-use crate::assignment::{Line, Macro};
+use crate::assignment::{Macro, PatternLine};
 use crate::attr_quotes::unquoted;
 use crate::attr_words::{is_name, read_assignments, split_word, trimmed};
 use lc_glob::Pattern;
@@ -14,12 +14,12 @@ use std::alloc::{AllocError, Global};
 
 /// What a line gives.
 #[derive(Drop)]
-pub(crate) enum Read {
+pub(crate) enum AttrLine {
     Macro(Macro),
-    Line(Line),
+    Pattern(PatternLine),
 }
 
-fn read_macro(alloc: Global, name: &[u8], rest: &[u8]) -> Result<Option<Read>, AllocError>
+fn read_macro(alloc: Global, name: &[u8], rest: &[u8]) -> Result<Option<AttrLine>, AllocError>
     ensures { IfOk result (λ r. seen_line r ≡ as_macro name.now (assigns (words rest.now))) }
 {
     let Some(assignments) = read_assignments(alloc, rest)? else {
@@ -29,7 +29,7 @@ fn read_macro(alloc: Global, name: &[u8], rest: &[u8]) -> Result<Option<Read>, A
         return Ok(None);
     }
     let name = name.to_vec(alloc)?;
-    Ok(Some(Read::Macro(Macro { name, assignments })))
+    Ok(Some(AttrLine::Macro(Macro { name, assignments })))
 }
 
 fn is_negated(pattern: &[u8]) -> bool
@@ -41,7 +41,11 @@ fn is_negated(pattern: &[u8]) -> bool
     *first == b'!'
 }
 
-fn read_pattern_line(alloc: Global, pattern: &[u8], rest: &[u8]) -> Result<Option<Read>, AllocError>
+fn read_pattern_line(
+    alloc: Global,
+    pattern: &[u8],
+    rest: &[u8],
+) -> Result<Option<AttrLine>, AllocError>
     ensures { IfOk result (λ r. seen_line r ≡ by_pattern pattern.now (assigns (words rest.now))) }
 {
     if is_negated(pattern) {
@@ -51,7 +55,7 @@ fn read_pattern_line(alloc: Global, pattern: &[u8], rest: &[u8]) -> Result<Optio
         return Ok(None);
     };
     let pattern = Pattern::read(alloc, pattern)?;
-    Ok(Some(Read::Line(Line {
+    Ok(Some(AttrLine::Pattern(PatternLine {
         pattern,
         assignments,
     })))
@@ -69,7 +73,7 @@ fn macro_word<'a>(word: &'a [u8]) -> Option<&'a [u8]>
     }
 }
 
-fn read_words(alloc: Global, is_top: bool, line: &[u8]) -> Result<Option<Read>, AllocError>
+fn read_words(alloc: Global, is_top: bool, line: &[u8]) -> Result<Option<AttrLine>, AllocError>
     ensures { IfOk result (λ r. seen_line r ≡ by_words is_top (words line.now)) }
 {
     let Some((first, rest)) = split_word(line) else {
@@ -86,7 +90,7 @@ fn read_words(alloc: Global, is_top: bool, line: &[u8]) -> Result<Option<Read>, 
     Ok(found)
 }
 
-fn read_quoted(alloc: Global, bytes: &[u8]) -> Result<Option<Read>, AllocError>
+fn read_quoted(alloc: Global, bytes: &[u8]) -> Result<Option<AttrLine>, AllocError>
     ensures { IfOk result (λ r. seen_line r ≡ by_quote (unquoted 0 bytes.now)) }
 {
     let Some((pattern, rest)) = unquoted(alloc, bytes)? else {
@@ -101,7 +105,7 @@ pub(crate) fn read_line(
     alloc: Global,
     is_top: bool,
     line: &[u8],
-) -> Result<Option<Read>, AllocError>
+) -> Result<Option<AttrLine>, AllocError>
     ensures { IfOk result (λ r. seen_line r ≡ given_by is_top (trimmed line.now)) }
 {
     let line = trimmed(line);

@@ -2,11 +2,14 @@
 
 ghost use Rattle.std.specs.Prelude.{◌≡◌, ◌≤◌, ◌<◌, ◌∷◌, [], length, map, IfOk, IfSome, MatchOption, Some, None};
 ghost use Rattle.std.specs.List.{before_first, list_all, position_or_len};
+ghost use Rattle.lc_glob.specs.Pieces.{is_byte};
+ghost use Rattle.lc_rules.specs.Bytes.{equals_sign};
 ghost use Rattle.lc_rules.specs.AttrLines.{trimmed};
-ghost use Rattle.lc_rules.specs.AttrWords.{is_white, words, is_name_byte, is_name, is_equals, named, assign, assigns, plain_assign};
-ghost use Rattle.lc_rules.specs.AttrViews.{assign_of, assigned_state, seen_assign};
+ghost use Rattle.lc_rules.specs.AttrWords.{is_white, words, is_name_byte, is_name, named, assign, assigns, plain_assign};
+ghost use Rattle.lc_rules.specs.Models.{assignment_model, owned_state_model, seen_assign};
 
-use crate::assignment::{Assigned, Assignment};
+use crate::assignment::{Assignment, OwnedState};
+use lc_glob::cut_at_first;
 use memchr::memchr;
 use std::alloc::{AllocError, Global};
 
@@ -84,8 +87,8 @@ fn has_name_bytes(name: &[u8]) -> bool
 }
 
 /// An assignment, where its name is one.
-fn named(alloc: Global, name: &[u8], state: Assigned) -> Result<Option<Assignment>, AllocError>
-    ensures { IfOk result (λ r. seen_assign r ≡ named name.now (assigned_state state)) }
+fn named(alloc: Global, name: &[u8], state: OwnedState) -> Result<Option<Assignment>, AllocError>
+    ensures { IfOk result (λ r. seen_assign r ≡ named name.now (owned_state_model state)) }
 {
     if !is_name(name) {
         return Ok(None);
@@ -95,23 +98,20 @@ fn named(alloc: Global, name: &[u8], state: Assigned) -> Result<Option<Assignmen
 }
 
 fn before_equals<'a>(word: &'a [u8]) -> &'a [u8]
-    ensures { result.now ≡ before_first is_equals word.now }
+    ensures { result.now ≡ before_first (is_byte equals_sign) word.now }
 {
-    match memchr(b'=', word) {
-        None => word,
-        Some(i) => &word[..i],
-    }
+    cut_at_first(b'=', word).0
 }
 
 fn read_plain(alloc: Global, word: &[u8]) -> Result<Option<Assignment>, AllocError>
     ensures { IfOk result (λ r. seen_assign r ≡ plain_assign word.now) }
 {
     let Some(i) = memchr(b'=', word) else {
-        let found = named(alloc, word, Assigned::Set)?;
+        let found = named(alloc, word, OwnedState::Set)?;
         return Ok(found);
     };
     let value = (&word[i + 1..]).to_vec(alloc)?;
-    let found = named(alloc, &word[..i], Assigned::Value(value))?;
+    let found = named(alloc, &word[..i], OwnedState::Value(value))?;
     Ok(found)
 }
 
@@ -122,8 +122,8 @@ fn read_assignment(alloc: Global, word: &[u8]) -> Result<Option<Assignment>, All
         return Ok(None);
     };
     match first {
-        b'-' => named(alloc, before_equals(rest), Assigned::Unset),
-        b'!' => named(alloc, before_equals(rest), Assigned::Unspecified),
+        b'-' => named(alloc, before_equals(rest), OwnedState::Unset),
+        b'!' => named(alloc, before_equals(rest), OwnedState::Unspecified),
         _ => read_plain(alloc, word),
     }
 }
@@ -133,7 +133,7 @@ pub(crate) fn read_assignments(
     alloc: Global,
     bytes: &[u8],
 ) -> Result<Option<Vec<Assignment>>, AllocError>
-    ensures { IfOk result (λ r. MatchOption r (assigns (words bytes.now) ≡ None) (λ v. assigns (words bytes.now) ≡ Some (map assign_of v.items))) }
+    ensures { IfOk result (λ r. MatchOption r (assigns (words bytes.now) ≡ None) (λ v. assigns (words bytes.now) ≡ Some (map assignment_model v.items))) }
 {
     let mut found = Vec::new(alloc);
     let mut left = bytes;

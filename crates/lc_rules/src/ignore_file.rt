@@ -2,9 +2,9 @@
 
 ghost use Rattle.std.specs.Prelude.{◌≡◌, ◌↔◌, ◌<◌, [], length, map, IfOk, IsTrue};
 ghost use Rattle.lc_rules.specs.IgnoreRules.{rules_of};
-ghost use Rattle.lc_rules.specs.RuleView.{rule_view};
+ghost use Rattle.lc_rules.specs.Models.{rule_model};
 ghost use Rattle.lc_rules.specs.Verdicts.{at_depth, verdict_of};
-ghost use Rattle.lc_rules.specs.declared.faults.TheConstants.{MAX_RULE_BYTES};
+ghost use Rattle.lc_rules.specs.Limits.{max_rule_bytes};
 
 use crate::faults::{MAX_RULE_BYTES, RuleFault};
 use crate::ignore_line::{Rule, read_rule};
@@ -22,19 +22,19 @@ pub struct IgnoreFile {
 
 impl Model for IgnoreFile {
     ghost use Rattle.std.specs.Prelude.{List, map};
-    ghost use Rattle.lc_rules.specs.IgnoreRules.{IgnoreRule};
-    ghost use Rattle.lc_rules.specs.RuleView.{rule_view};
+    ghost use Rattle.lc_rules.specs.IgnoreRules.{RuleModel};
+    ghost use Rattle.lc_rules.specs.Models.{rule_model};
 
-    ghost Value = { List IgnoreRule };
+    ghost Value = { List RuleModel };
 
-    ghost view = { λ f. map rule_view f.rules.items };
+    ghost view = { λ f. map rule_model f.rules.items };
 }
 
 impl IgnoreFile {
     /// Reads the bytes of a file. Any bytes are an ignore file, if there are not over `MAX_RULE_BYTES` of them.
     pub fn read(alloc: Global, bytes: &[u8]) -> Result<IgnoreFile, RuleFault>
         ensures ok { IfOk result (λ file. file ≡ rules_of bytes.now) }
-        ensures too_long { (result ≡ Err RuleFault.TooLong) ↔ (MAX_RULE_BYTES < length bytes.now) }
+        ensures too_long { (result ≡ Err RuleFault.TooLong) ↔ (max_rule_bytes < length bytes.now) }
     {
         if bytes.len() > MAX_RULE_BYTES {
             return Err(RuleFault::TooLong);
@@ -65,7 +65,7 @@ impl IgnoreFile {
 }
 
 fn read_rules(alloc: Global, bytes: &[u8]) -> Result<Vec<Rule>, AllocError>
-    ensures { IfOk result (λ rules. map rule_view rules.items ≡ rules_of bytes.now) }
+    ensures { IfOk result (λ rules. map rule_model rules.items ≡ rules_of bytes.now) }
 {
     let mut rules = Vec::new(alloc);
     let mut left = Lines::of(bytes);
@@ -80,7 +80,7 @@ fn read_rules(alloc: Global, bytes: &[u8]) -> Result<Vec<Rule>, AllocError>
 
 /// What the last of the rules that matches a path says, from the newest to the oldest.
 fn last_verdict(rules: &[Rule], path: &Candidate, is_dir: bool) -> Verdict
-    ensures { result ≡ verdict_of (at_depth 0 (map rule_view rules.now)) path.now is_dir }
+    ensures { result ≡ verdict_of (at_depth 0 (map rule_model rules.now)) path.now is_dir }
 {
     let mut left = rules;
     'rules: while let Some((rule, older)) = left.split_last() {

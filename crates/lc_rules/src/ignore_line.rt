@@ -2,7 +2,7 @@
 
 ghost use Rattle.std.specs.Prelude.{◌≡◌, IfOk, MatchOption, Some, None};
 ghost use Rattle.lc_rules.specs.IgnoreRules.{without_return, without_spaces, rule_of_line};
-ghost use Rattle.lc_rules.specs.RuleView.{rule_view};
+ghost use Rattle.lc_rules.specs.Models.{rule_model};
 ghost use Rattle.lc_rules.specs.Verdicts.{verdict_by};
 
 use crate::verdicts::Verdict;
@@ -19,7 +19,7 @@ pub(crate) struct Rule {
 impl Rule {
     /// What this rule says where its pattern matches.
     pub(crate) fn verdict(&self) -> Verdict
-        ensures { result ≡ verdict_by (rule_view self.now) }
+        ensures { result ≡ verdict_by (rule_model self.now) }
     {
         if self.is_negated {
             Verdict::Included
@@ -61,7 +61,7 @@ fn without_spaces<'a>(line: &'a [u8]) -> &'a [u8]
 
 /// The rule of a line, or none of an empty line or a comment.
 pub(crate) fn read_rule(alloc: Global, line: &[u8]) -> Result<Option<Rule>, AllocError>
-    ensures { IfOk result (λ r. MatchOption r (rule_of_line line.now ≡ None) (λ rule. rule_of_line line.now ≡ Some (rule_view rule))) }
+    ensures { IfOk result (λ r. MatchOption r (rule_of_line line.now ≡ None) (λ rule. rule_of_line line.now ≡ Some (rule_model rule))) }
 {
     let text = without_spaces(without_return(line));
     let Some((first, rest)) = text.split_first() else {

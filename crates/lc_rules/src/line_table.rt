@@ -2,14 +2,13 @@
 
 ghost use Rattle.std.specs.Prelude.{◌≡◌, ◌∷◌, [], ◌++◌, true, false, ℕ, List, length, map, is_some, IfOk, OnOk};
 ghost use Rattle.std.specs.List.{list_any};
-ghost use Rattle.lc_rules.specs.AttrViews.{assign_of, line_of};
-ghost use Rattle.lc_rules.specs.Decision.{macro_of};
-ghost use Rattle.lc_rules.specs.KnownMacros.{known_macros, macros_for, matters};
-ghost use Rattle.lc_rules.specs.LineNames.{assigns_name, lines_name, has_name};
+ghost use Rattle.lc_rules.specs.Models.{assignment_model, pattern_line_model, macro_model};
+ghost use Rattle.lc_rules.specs.KnownMacros.{known_macros, macros_for, some_matters};
+ghost use Rattle.lc_rules.specs.LineNames.{assigns_name, lines_name, has_name, NameNone};
 
-use crate::assignment::{Assignment, Line, copied};
-use crate::macros::Macros;
-use crate::wanted::Wanted;
+use crate::assignment::{Assignment, Macro, PatternLine, copied};
+use crate::known_macros::{KnownMacros, macros_in};
+use crate::resolver::Query;
 use std::alloc::{AllocError, Global};
 use std::collections::BTreeSet;
 use std::marker::Model;
@@ -17,21 +16,21 @@ use std::marker::Model;
 /// Lines in their order, and the names that they assign, so that a file that can't decide an attribute is skipped whole.
 #[derive(Debug, Drop)]
 pub(crate) struct LineTable {
-    lines: Vec<Line>,
+    lines: Vec<PatternLine>,
     names: BTreeSet<Vec<u8>>,
 }
 
 impl Model for LineTable {
     ghost use Rattle.std.specs.Prelude.{List, map};
-    ghost use Rattle.lc_rules.specs.AttrLines.{AttrLine};
-    ghost use Rattle.lc_rules.specs.AttrViews.{line_of};
+    ghost use Rattle.lc_rules.specs.AttrLines.{PatternLineModel};
+    ghost use Rattle.lc_rules.specs.Models.{pattern_line_model};
     ghost use Rattle.lc_rules.specs.LineNames.{HasNames};
 
-    ghost Value = { List AttrLine };
+    ghost Value = { List PatternLineModel };
 
-    ghost view = { λ t. map line_of t.lines.items };
+    ghost view = { λ t. map pattern_line_model t.lines.items };
 
-    ghost invariant = { λ t. HasNames (map line_of t.lines.items) t.names };
+    ghost invariant = { λ t. HasNames (map pattern_line_model t.lines.items) t.names };
 }
 
 impl LineTable {
@@ -44,8 +43,8 @@ impl LineTable {
         }
     }
 
-    pub(crate) fn push(&mut self, line: Line) -> Result<(), AllocError>
-        ensures { OnOk result (self.new ≡ self.old ++ line_of line ∷ []) }
+    pub(crate) fn push(&mut self, line: PatternLine) -> Result<(), AllocError>
+        ensures { OnOk result (self.new ≡ self.old ++ pattern_line_model line ∷ []) }
     {
         self.lines.reserve(1)?;
         add_names(&mut self.names, line.assignments.as_slice())?;
@@ -53,17 +52,17 @@ impl LineTable {
         Ok(())
     }
 
-    pub(crate) fn as_slice(&self) -> &[Line]
-        ensures { map line_of result.now ≡ self.now }
+    pub(crate) fn as_slice(&self) -> &[PatternLine]
+        ensures { map pattern_line_model result.now ≡ self.now }
     {
         self.lines.as_slice()
     }
 
     /// Whether some line may decide the attribute, by its name or by a macro.
-    pub(crate) fn can_decide(&self, wanted: Wanted) -> bool
-        ensures { result ≡ false → list_any (λ l. list_any (λ a. matters (macros_for wanted.entry) wanted.entry.name.now a.0) l.assigns) self.now ≡ false }
+    pub(crate) fn can_decide(&self, query: Query) -> bool
+        ensures { result ≡ false → some_matters (macros_for query.entry) query.entry.name.now self.now ≡ false }
     {
-        self.may_name(wanted.name) || self.may_name_some(wanted.macros)
+        self.may_name(query.name) || self.may_name_some(query.macros)
     }
 
     fn may_name(&self, name: &[u8]) -> bool
@@ -72,14 +71,23 @@ impl LineTable {
         self.names.contains(name)
     }
 
-    /// Whether some line may name a macro. It is not looked for where there are more macros than names.
-    fn may_name_some(&self, macros: Macros) -> bool
-        ensures { result ≡ false → (name : List ℕ) → is_some (macro_of (known_macros macros.entry) name) ≡ true → lines_name self.now name ≡ false }
+    /// Whether some line may name a macro.
+    fn may_name_some(&self, macros: KnownMacros) -> bool
+        ensures { result ≡ false → NameNone self.now (known_macros macros.entry) }
     {
         if self.may_name(b"binary") {
             return true;
         }
-        let defined = macros.as_slice();
+        if self.may_name_some_in(macros_in(macros.top)) {
+            return true;
+        }
+        self.may_name_some_in(macros_in(macros.info))
+    }
+
+    /// Whether some line may name one of these macros. They are not looked for where they are more than the names.
+    fn may_name_some_in(&self, defined: &[Macro]) -> bool
+        ensures { result ≡ false → NameNone self.now (map macro_model defined.now) }
+    {
         if defined.len() > self.names.len() {
             return true;
         }
@@ -95,7 +103,7 @@ impl LineTable {
 /// Adds the names of assignments to a set of names.
 fn add_names(names: &mut BTreeSet<Vec<u8>>, assignments: &[Assignment]) -> Result<(), AllocError>
     ensures keeps { (name : List ℕ) → has_name names.old name ≡ true → has_name names.new name ≡ true }
-    ensures adds { OnOk result ((name : List ℕ) → assigns_name (map assign_of assignments.now) name ≡ true → has_name names.new name ≡ true) }
+    ensures adds { OnOk result ((name : List ℕ) → assigns_name (map assignment_model assignments.now) name ≡ true → has_name names.new name ≡ true) }
 {
     for assignment in assignments {
         if !names.contains(assignment.name.as_slice()) {

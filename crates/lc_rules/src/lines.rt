@@ -1,10 +1,9 @@
 //! The lines of a file of rules.
 
 ghost use Rattle.std.specs.Prelude.{◌≡◌, MatchOption, List, ℕ, ◌∷◌, []};
-ghost use Rattle.lc_rules.specs.RuleLines.{without_mark, lines_of};
-ghost use Rattle.lc_rules.specs.LinesLeft.{lines_left};
+ghost use Rattle.lc_rules.specs.RuleLines.{without_mark, lines_of, lines_left};
 
-use memchr::memchr;
+use lc_glob::cut_at_first;
 
 /// The lines that are left.
 #[derive(Clone, Copy)]
@@ -15,7 +14,7 @@ pub(crate) struct Lines<'a> {
 impl<'a> Lines<'a> {
     /// The lines of a file, without its byte order mark.
     pub(crate) fn of(bytes: &'a [u8]) -> Self
-        ensures { lines_left result ≡ lines_of bytes.now }
+        ensures { lines_left result.rest ≡ lines_of bytes.now }
     {
         Lines {
             rest: Some(without_mark(bytes)),
@@ -24,18 +23,10 @@ impl<'a> Lines<'a> {
 
     /// The first line, and the others.
     pub(crate) fn split_first(self) -> Option<(&'a [u8], Lines<'a>)>
-        ensures { MatchOption result (lines_left self.entry ≡ []) (λ p. lines_left self.entry ≡ p.0.now ∷ lines_left p.1) }
+        ensures { MatchOption result (lines_left self.entry.rest ≡ []) (λ p. lines_left self.entry.rest ≡ p.0.now ∷ lines_left p.1.rest) }
     {
-        let bytes = self.rest?;
-        match memchr(b'\n', bytes) {
-            None => Some((bytes, Lines { rest: None })),
-            Some(i) => Some((
-                &bytes[..i],
-                Lines {
-                    rest: Some(&bytes[i + 1..]),
-                },
-            )),
-        }
+        let (line, rest) = cut_at_first(b'\n', self.rest?);
+        Some((line, Lines { rest }))
     }
 }
 

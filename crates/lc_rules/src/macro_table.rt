@@ -1,7 +1,7 @@
 //! The macros of a top-level attribute file.
 
 ghost use Rattle.std.specs.Prelude.{◌≡◌, ◌∷◌, [], ◌++◌, length, map, OnOk, MatchOption, Some, None};
-ghost use Rattle.lc_rules.specs.AttrViews.{assign_of, macro_view};
+ghost use Rattle.lc_rules.specs.Models.{assignment_model, macro_model};
 ghost use Rattle.lc_rules.specs.Decision.{macro_of};
 
 use crate::assignment::{Assignment, Macro, copied};
@@ -9,7 +9,7 @@ use std::alloc::{AllocError, Global};
 use std::collections::BTreeMap;
 use std::marker::Model;
 
-/// Macros in the order of their lines, and of each name the place of its last macro, so that a file of many macros is
+/// KnownMacros in the order of their lines, and of each name the place of its last macro, so that a file of many macros is
 /// searched in the logarithm of their number.
 #[derive(Debug, Drop)]
 pub(crate) struct MacroTable {
@@ -19,15 +19,15 @@ pub(crate) struct MacroTable {
 
 impl Model for MacroTable {
     ghost use Rattle.std.specs.Prelude.{List, map};
-    ghost use Rattle.lc_rules.specs.Attributes.{Macro as AttrMacro};
-    ghost use Rattle.lc_rules.specs.AttrViews.{macro_view};
+    ghost use Rattle.lc_rules.specs.Attributes.{MacroModel};
+    ghost use Rattle.lc_rules.specs.Models.{macro_model};
     ghost use Rattle.lc_rules.specs.MacroPlaces.{HasPlaces};
 
-    ghost Value = { List AttrMacro };
+    ghost Value = { List MacroModel };
 
-    ghost view = { λ t. map macro_view t.defined.items };
+    ghost view = { λ t. map macro_model t.defined.items };
 
-    ghost invariant = { λ t. HasPlaces (map macro_view t.defined.items) t.places };
+    ghost invariant = { λ t. HasPlaces (map macro_model t.defined.items) t.places };
 }
 
 impl MacroTable {
@@ -41,7 +41,7 @@ impl MacroTable {
     }
 
     pub(crate) fn push(&mut self, added: Macro) -> Result<(), AllocError>
-        ensures { OnOk result (self.new ≡ self.old ++ macro_view added ∷ []) }
+        ensures { OnOk result (self.new ≡ self.old ++ macro_model added ∷ []) }
     {
         let name = copied(&added.name)?;
         self.defined.reserve(1)?;
@@ -52,7 +52,7 @@ impl MacroTable {
 
     /// What the last macro of this name stands for.
     pub(crate) fn find(&self, name: &[u8]) -> Option<&[Assignment]>
-        ensures { MatchOption result (macro_of self.now name.now ≡ None) (λ body. macro_of self.now name.now ≡ Some (map assign_of body.now)) }
+        ensures { MatchOption result (macro_of self.now name.now ≡ None) (λ body. macro_of self.now name.now ≡ Some (map assignment_model body.now)) }
     {
         match self.places.get(name) {
             None => None,
@@ -61,7 +61,7 @@ impl MacroTable {
     }
 
     pub(crate) fn as_slice(&self) -> &[Macro]
-        ensures { map macro_view result.now ≡ self.now }
+        ensures { map macro_model result.now ≡ self.now }
     {
         self.defined.as_slice()
     }

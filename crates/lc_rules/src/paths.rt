@@ -2,21 +2,55 @@
 
 ghost use Rattle.std.specs.Prelude.{◌≡◌};
 ghost use Rattle.std.specs.List.{after_first};
-ghost use Rattle.lc_rules.specs.Verdicts.{is_slash, below};
+ghost use Rattle.lc_glob.specs.Bytes.{slash};
+ghost use Rattle.lc_glob.specs.Pieces.{is_byte};
+ghost use Rattle.lc_rules.specs.Verdicts.{below};
 
-use memchr::memchr;
+use lc_glob::cut_at_first;
 
-fn after_slash<'a>(path: &'a [u8]) -> &'a [u8]
-    ensures { result.now ≡ after_first is_slash path.now }
-{
-    match memchr(b'/', path) {
-        None => &[],
-        Some(i) => &path[i + 1..],
+/// A path, and what of it is below the depth that was asked for last. Files that are asked from the top down go on where
+/// the one before stood, so that a path is walked through once for all of them.
+#[derive(Clone, Copy)]
+pub(crate) struct PathBelow<'a> {
+    pub(crate) path: &'a [u8],
+    pub(crate) depth: u32,
+    pub(crate) rest: &'a [u8],
+    ghost cut: { rest.now ≡ below depth path.now },
+}
+
+impl<'a> PathBelow<'a> {
+    pub(crate) fn new(path: &'a [u8]) -> PathBelow<'a>
+        ensures { result.path.now ≡ path.now }
+    {
+        PathBelow {
+            path,
+            depth: 0,
+            rest: path,
+        }
+    }
+
+    /// The same path, seen by a file of a directory with `depth` segments.
+    pub(crate) fn at(self, depth: u32) -> PathBelow<'a>
+        ensures path { result.path.now ≡ self.entry.path.now }
+        ensures depth { result.depth ≡ depth }
+    {
+        if depth < self.depth {
+            return PathBelow {
+                path: self.path,
+                depth,
+                rest: below(self.path, depth),
+            };
+        }
+        PathBelow {
+            path: self.path,
+            depth,
+            rest: below(self.rest, depth - self.depth),
+        }
     }
 }
 
 /// A path without its first segments.
-pub(crate) fn below<'a>(path: &'a [u8], depth: u32) -> &'a [u8]
+fn below<'a>(path: &'a [u8], depth: u32) -> &'a [u8]
     ensures { result.now ≡ below depth path.now }
 {
     let mut left = depth;
@@ -26,4 +60,13 @@ pub(crate) fn below<'a>(path: &'a [u8], depth: u32) -> &'a [u8]
         left -= 1;
     }
     rest
+}
+
+fn after_slash<'a>(path: &'a [u8]) -> &'a [u8]
+    ensures { result.now ≡ after_first (is_byte slash) path.now }
+{
+    match cut_at_first(b'/', path).1 {
+        None => &[],
+        Some(rest) => rest,
+    }
 }

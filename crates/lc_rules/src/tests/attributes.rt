@@ -1,7 +1,7 @@
 //! Attribute files. Each table stands, with the test's name as its topic, in `docs/cases/attributes.tsv`;
 //! `docs/cases/check` says where the two differ.
 
-use crate::{AttrChain, AttrFile, MAX_RULE_BYTES, RuleFault, State, TextState};
+use crate::{AttrChain, AttrFile, RuleFault, State, TextState};
 use std::alloc::{AllocError, Global};
 use std::process::Abort;
 use std::sync::Arc;
@@ -14,14 +14,21 @@ fn read(alloc: Global, bytes: &[u8], top: bool) -> Result<AttrFile, AllocError> 
     AttrFile::read(alloc, bytes, top).map_err(|_| AllocError)
 }
 
+fn file(
+    alloc: Global,
+    bytes: &[u8],
+    top: bool,
+) -> Result<Option<Arc<AttrFile, Global>>, AllocError> {
+    Ok(Some(Arc::new(alloc, read(alloc, bytes, top)?)?))
+}
+
 fn below(
     chain: &AttrChain,
     alloc: Global,
     depth: u32,
     bytes: &[u8],
 ) -> Result<AttrChain, AllocError> {
-    let file = Arc::new(alloc, read(alloc, bytes, depth == 0)?)?;
-    chain.below(alloc, depth, Some(file))
+    chain.below(alloc, depth, file(alloc, bytes, depth == 0)?)
 }
 
 fn is_same(a: State, b: State) -> bool {
@@ -232,8 +239,41 @@ fn macros_of_the_top_file_alone(rt: HostRuntime) -> Result<(), Fail> {
 }
 
 #[test]
+fn info_attributes_override_the_tree(rt: HostRuntime) -> Result<(), Fail> {
+    let alloc = rt.alloc();
+    let info = AttrChain::top().with_info(alloc, file(alloc, b"*.c text", true)?)?;
+    let top = below(&info, alloc, 0, b"*.c -text")?;
+    let chain = below(&top, alloc, 1, b"*.c !text")?;
+    assert!(rt; chain.text(alloc, b"t/a.c")? == TextState::Set);
+    Ok(())
+}
+
+#[test]
+fn info_attributes_put_last(rt: HostRuntime) -> Result<(), Fail> {
+    let alloc = rt.alloc();
+    let top = below(&AttrChain::top(), alloc, 0, b"*.c -text")?;
+    let same = top.with_info(alloc, None)?;
+    assert!(rt; same.text(alloc, b"a.c")? == TextState::Unset);
+    let info = same.with_info(alloc, file(alloc, b"*.c text", true)?)?;
+    assert!(rt; info.text(alloc, b"a.c")? == TextState::Set);
+    Ok(())
+}
+
+#[test]
+fn macros_of_info_override_those_of_the_top(rt: HostRuntime) -> Result<(), Fail> {
+    let alloc = rt.alloc();
+    let info = file(alloc, b"[attr]m -text\n[attr]src text", true)?;
+    let top = below(&AttrChain::top(), alloc, 0, b"[attr]m text\n*.c m")?;
+    let chain = below(&top.with_info(alloc, info)?, alloc, 1, b"*.d src")?;
+    assert!(rt; top.text(alloc, b"a.c")? == TextState::Set);
+    assert!(rt; chain.text(alloc, b"a.c")? == TextState::Unset);
+    assert!(rt; chain.text(alloc, b"t/a.d")? == TextState::Set);
+    Ok(())
+}
+
+#[test]
 fn at_most_a_mebibyte(rt: HostRuntime) -> Result<(), Fail> {
-    let bytes = vec![in rt.alloc(); b'a'; MAX_RULE_BYTES + 1]?;
+    let bytes = vec![in rt.alloc(); b'a'; 1_048_577]?;
     assert!(rt;
         matches!(
             AttrFile::read(rt.alloc(), &bytes, true),

@@ -1,7 +1,7 @@
 //! Ignore files. Each table stands, with the test's name as its topic, in `docs/cases/ignore.tsv`; `docs/cases/check`
 //! says where the two differ.
 
-use crate::{IgnoreFile, MAX_RULE_BYTES, RuleFault, Verdict};
+use crate::{IgnoreFile, RuleFault, Verdict};
 use std::alloc::{AllocError, Global};
 use std::process::Abort;
 use std::test::Fail;
@@ -248,7 +248,7 @@ fn dead_patterns(rt: HostRuntime) -> Result<(), Fail> {
 
 #[test]
 fn at_most_a_mebibyte(rt: HostRuntime) -> Result<(), Fail> {
-    let bytes = vec![in rt.alloc(); b'a'; MAX_RULE_BYTES + 1]?;
+    let bytes = vec![in rt.alloc(); b'a'; 1_048_577]?;
     assert!(rt;
         matches!(
             IgnoreFile::read(rt.alloc(), &bytes),
@@ -262,7 +262,7 @@ fn at_most_a_mebibyte(rt: HostRuntime) -> Result<(), Fail> {
 
 #[test]
 fn a_million_empty_lines(rt: HostRuntime) -> Result<(), Fail> {
-    let bytes = vec![in rt.alloc(); b'\n'; MAX_RULE_BYTES]?;
+    let bytes = vec![in rt.alloc(); b'\n'; 1_048_576]?;
     assert!(rt; read(rt.alloc(), &bytes)?.is_empty());
     Ok(())
 }

@@ -1,14 +1,13 @@
-use Rattle.std.proofs.Common.{refl, ◌∙◌, sym, ap, map, take, is_some}
-use Rattle.lc_rules.specs.AttrViews.{macro_view}
-use Rattle.lc_rules.specs.Decision.{macro_of}
-use Rattle.lc_rules.specs.LineNames.{lines_name}
-use Rattle.lc_rules.proofs.LastMacro.{macros-more}
-use Rattle.lc_rules.proofs.NamedLines.{no_macro_more}
+use Rattle.std.proofs.Common.{refl, subst, List}
+use Rattle.lc_rules.specs.Attributes.{MacroModel}
+use Rattle.lc_rules.specs.KnownMacros.{defined_in}
+use Rattle.lc_rules.specs.LineNames.{NameNone}
+use Rattle.lc_rules.proofs.NamedLines.{none_named}
 use Rattle.lc_rules.proofs.line_table.LineTable.may_name_some.Goals as goal
 
-pub loop-found-preserved : goal.loop-found-preserved
-loop-found-preserved c = λ n e.
-    let more = macros-more c.as_slice-defined.result.now c.loop-found.found-index c.found-item.result c.loop-found-test.true c.found-item.is in
-    no_macro_more c.args.self.now (map macro_view (take c.loop-found.found-index c.as_slice-defined.result.now)) (macro_view c.found-item.result) n c.loop-found.invariant
-    (ap (lines_name c.args.self.now) (sym c.as_slice.ensures.value) ∙ c.if-may_name-2.ensures refl)
-    (ap (λ l. is_some (macro_of l n)) (sym more) ∙ e)
+pub returns : goal.returns
+returns c = λ e.
+    let lines = c.args.self.now in
+    none_named lines (defined_in c.args.macros.top) (defined_in c.args.macros.info) (c.if-may_name.ensures refl)
+    (subst (λ (ms : List MacroModel). NameNone lines ms) c.macros_in.ensures (c.if-may_name_some_in.ensures refl))
+    (subst (λ (ms : List MacroModel). NameNone lines ms) c.macros_in-2.ensures (c.may_name_some_in-2.ensures e))

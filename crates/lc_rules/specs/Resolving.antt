@@ -1,0 +1,53 @@
+-- How far the code has decided one attribute.
+use Rattle.std.specs.Prelude.{◌≡◌, ℕ, ◌+◌, Bool, false, List, [], ◌∷◌, ◌++◌, length, map, reverse, Option, Some, MatchOption}
+use Rattle.std.specs.Borrow.{Bor}
+use Rattle.std.specs.BTreeSet.{BTreeSet}
+use Rattle.lc_rules.specs.Attributes.{StateModel, set, AssignmentModel, MacroModel}
+use Rattle.lc_rules.specs.Decision.{decided, has, unread, decide}
+use Rattle.lc_rules.specs.Models.{assignment_ref_model, seen_state}
+use Rattle.lc_rules.specs.KnownMacros.{macros_for}
+use Rattle.lc_rules.specs.declared.resolver.Query.{Query}
+use Rattle.lc_rules.specs.declared.resolver.Resolver.{Resolver}
+use Rattle.lc_rules.specs.declared.states.State.{State}
+use Rattle.lc_rules.specs.declared.assignment.AssignmentRef.{AssignmentRef}
+
+-- these names are decided, in whatever state
+abbrev pub marked : List (List ℕ) → List AssignmentModel
+marked [] = []
+marked (n ∷ ns) = (n, set) ∷ marked ns
+
+-- whether a name is among these
+abbrev pub is_marked : List (List ℕ) → List ℕ → Bool
+is_marked ns n = has (marked ns) n
+
+-- what is decided for one name where these names of macros are decided: the decision of all names with a smaller start
+abbrev pub answer : List MacroModel → List ℕ → List AssignmentModel → List (List ℕ) → Option StateModel
+answer ms wanted todo ns = decided (decide ms todo (marked ns)) wanted
+
+-- reading these assignments decides the name, or leaves others to be read and other names of macros decided
+abbrev pub Moves : List MacroModel → List ℕ → List AssignmentModel → List (List ℕ) → Option StateModel → List AssignmentModel → List (List ℕ) → Type 0
+Moves ms wanted todo before found left after =
+    MatchOption found
+    ((is_marked after wanted ≡ false) × ((rest : List AssignmentModel) → answer ms wanted (todo ++ rest) before ≡ answer ms wanted (left ++ rest) after))
+    (λ s. (rest : List AssignmentModel) → answer ms wanted (todo ++ rest) before ≡ Some s)
+
+-- how many assignments may still be read
+abbrev pub to_read : List MacroModel → List AssignmentModel → List (List ℕ) → ℕ
+to_read ms todo ns = length todo + unread ms (marked ns)
+
+-- the names of the macros that are decided
+abbrev pub names_in : BTreeSet (Bor (List ℕ)) → List (List ℕ)
+names_in names = map (λ n. n.now) names.keys
+
+-- what a stack of assignments leaves to be read
+abbrev pub stacked : List AssignmentRef → List AssignmentModel
+stacked words = reverse (map assignment_ref_model words)
+
+-- reading these assignments for a query takes one resolver to another, finds a state or not, and leaves others to be read
+abbrev pub Reads : Query → List AssignmentModel → Resolver → Option State → List AssignmentModel → Resolver → Type 0
+Reads query todo old found left new =
+    Moves (macros_for query) query.name.now todo (names_in old.decided) (seen_state found) left (names_in new.decided)
+
+-- how many assignments a resolver may still read for a query
+abbrev pub still_to_read : Query → Resolver → ℕ
+still_to_read query r = to_read (macros_for query) (stacked r.pending.items) (names_in r.decided)

@@ -1,0 +1,105 @@
+//! The macros that a chain of attribute files knows.
+
+ghost use Rattle.std.specs.Prelude.{◌≡◌, ◌++◌, map, MatchOption, Some, None, IfOk};
+ghost use Rattle.lc_rules.specs.Models.{assignment_model, macro_model, assignment_ref_model};
+ghost use Rattle.lc_rules.specs.AttrStates.{binary};
+ghost use Rattle.lc_rules.specs.Decision.{macro_of};
+ghost use Rattle.lc_rules.specs.KnownMacros.{macro_body_model, defined_in, known_macros};
+
+use crate::assignment::{Assignment, AssignmentRef, Macro};
+use crate::macro_table::MacroTable;
+use crate::states::State;
+use std::alloc::AllocError;
+
+/// What a macro stands for.
+#[derive(Clone, Copy)]
+pub(crate) enum MacroBody<'a> {
+    Defined(&'a [Assignment]),
+    Binary,
+}
+
+/// The macros of a chain: `binary`, then those of its top file, then those of the file of `.git/info`.
+#[derive(Clone, Copy)]
+pub(crate) struct KnownMacros<'a> {
+    pub(crate) top: Option<&'a MacroTable>,
+    pub(crate) info: Option<&'a MacroTable>,
+}
+
+impl<'a> KnownMacros<'a> {
+    /// What the macro of this name stands for.
+    pub(crate) fn find(self, name: &[u8]) -> Option<MacroBody<'a>>
+        ensures { MatchOption result (macro_of (known_macros self.entry) name.now ≡ None) (λ body. macro_of (known_macros self.entry) name.now ≡ Some (macro_body_model body)) }
+    {
+        if let Some(assignments) = find_in(self.info, name) {
+            return Some(MacroBody::Defined(assignments));
+        }
+        if let Some(assignments) = find_in(self.top, name) {
+            return Some(MacroBody::Defined(assignments));
+        }
+        if name == b"binary".as_slice() {
+            return Some(MacroBody::Binary);
+        }
+        None
+    }
+}
+
+fn find_in<'a>(table: Option<&'a MacroTable>, name: &[u8]) -> Option<&'a [Assignment]>
+    ensures { MatchOption result (macro_of (defined_in table.entry) name.now ≡ None) (λ body. macro_of (defined_in table.entry) name.now ≡ Some (map assignment_model body.now)) }
+{
+    match table {
+        None => None,
+        Some(table) => table.find(name),
+    }
+}
+
+/// The macros of a table that may be there.
+pub(crate) fn macros_in<'a>(table: Option<&'a MacroTable>) -> &'a [Macro]
+    ensures { map macro_model result.now ≡ defined_in table.entry }
+{
+    match table {
+        None => &[],
+        Some(table) => table.as_slice(),
+    }
+}
+
+impl<'a> MacroBody<'a> {
+    /// Puts the assignments on a stack, the last on top.
+    pub(crate) fn stack(self, words: &mut Vec<AssignmentRef<'a>>) -> Result<(), AllocError>
+        ensures { IfOk result (λ _. map assignment_ref_model words.new.items ≡ map assignment_ref_model words.old.items ++ macro_body_model self.entry) }
+    {
+        match self {
+            MacroBody::Defined(assignments) => stack_all(assignments, words),
+            MacroBody::Binary => stack_binary(words),
+        }
+    }
+}
+
+fn stack_all<'a>(
+    assignments: &'a [Assignment],
+    words: &mut Vec<AssignmentRef<'a>>,
+) -> Result<(), AllocError>
+    ensures { IfOk result (λ _. map assignment_ref_model words.new.items ≡ map assignment_ref_model words.old.items ++ map assignment_model assignments.now) }
+{
+    for assignment in assignments {
+        words.push(assignment.lend())?;
+    }
+    Ok(())
+}
+
+fn stack_binary<'a>(words: &mut Vec<AssignmentRef<'a>>) -> Result<(), AllocError>
+    ensures { IfOk result (λ _. map assignment_ref_model words.new.items ≡ map assignment_ref_model words.old.items ++ binary.1) }
+{
+    words.push(AssignmentRef {
+        name: b"diff",
+        state: State::Unset,
+    })?;
+    words.push(AssignmentRef {
+        name: b"merge",
+        state: State::Unset,
+    })?;
+    words.push(AssignmentRef {
+        name: b"text",
+        state: State::Unset,
+    })?;
+    Ok(())
+}
