@@ -5,9 +5,9 @@ use Rattle.lc_census.specs.declared.whole.WholeFault.{WholeFault}
 use Rattle.lc_census.specs.declared.whole.WholeFault.TheVariants as whole
 use Rattle.lc_census.specs.Reads.{Answer}
 use Rattle.lc_census.specs.Whole.{AnswersWhole}
-use Rattle.lc_rules.specs.IgnoreRules.{IgnoreRule}
-use Rattle.lc_rules.specs.declared.faults.TheConstants.{MAX_RULE_BYTES}
-use Rattle.lc.specs.CheckText.{file_verdict, check_text_of}
+use Rattle.lc_rules.specs.IgnoreRules.{RuleModel}
+use Rattle.lc_rules.specs.Limits.{max_rule_bytes}
+use Rattle.lc.specs.CheckText.{text_by}
 use Rattle.lc.specs.Joined.{rules_part, joined_text}
 use Rattle.lc.specs.Writes.{Writes, StopsWriting}
 use Rattle.lc.specs.declared.check.CheckFault.{CheckFault}
@@ -21,30 +21,44 @@ max_input = 16777216
 abbrev pub AnswersInput : {I : Type 0} → (I → ℕ → Answer → I → Type 0) → I → Result (Unit {0}) WholeFault → List ℕ → I → Type 0
 AnswersInput may_give old answer bytes new = AnswersWhole may_give max_input old answer bytes new
 
+-- an input with no rules in it
+abbrev pub no_rules : List ℕ → List ℕ
+no_rules bytes = []
+
 -- what a check answers, where the input's bytes have these rules in them and give this text
 module _ {I O : Type 0} (may_give : I → ℕ → Answer → I → Type 0) (may_take : O → List ℕ → Result ℕ Failed → O → Type 0)
     (rules_in text_of : List ℕ → List ℕ) where
   -- the input was read whole, and its rules are no longer than a rule file may be
   abbrev pub HasRead : I → List ℕ → I → Type 0
-  HasRead input bytes read = AnswersInput may_give input (Ok tt) bytes read × (length (rules_in bytes) ≤ MAX_RULE_BYTES)
+  HasRead input bytes read = AnswersInput may_give input (Ok tt) bytes read × (length (rules_in bytes) ≤ max_rule_bytes)
 
   abbrev pub AnswersCheck : I → O → Result (Unit {0}) CheckFault → I → O → Type 0
   -- the text was written whole
   AnswersCheck input out (Ok _) read wrote = (bytes : List ℕ) × HasRead input bytes read × Writes may_take out (text_of bytes) wrote
   -- a read of the input failed
-  AnswersCheck input out (Err Read) read wrote = ((bytes : List ℕ) × AnswersInput may_give input (Err whole.Read) bytes read) × (wrote ≡ out)
+  AnswersCheck input out (Err Read) read wrote =
+      ((bytes : List ℕ) × AnswersInput may_give input (Err whole.Read) bytes read) × (wrote ≡ out)
   -- the input is too long
-  AnswersCheck input out (Err InputTooLong) read wrote = ((bytes : List ℕ) × AnswersInput may_give input (Err whole.TooLong) bytes read) × (wrote ≡ out)
+  AnswersCheck input out (Err InputTooLong) read wrote =
+      ((bytes : List ℕ) × AnswersInput may_give input (Err whole.TooLong) bytes read) × (wrote ≡ out)
   -- the input was read whole, and its rules are too long
   AnswersCheck input out (Err RulesTooLong) read wrote =
-      ((bytes : List ℕ) × AnswersInput may_give input (Ok tt) bytes read × (MAX_RULE_BYTES < length (rules_in bytes))) × (wrote ≡ out)
+      ((bytes : List ℕ) × AnswersInput may_give input (Ok tt) bytes read × (max_rule_bytes < length (rules_in bytes)))
+      × (wrote ≡ out)
   -- nothing was written
   AnswersCheck input out (Err Memory) read wrote = wrote ≡ out
   -- a prefix of the text was written
-  AnswersCheck input out (Err Write) read wrote = (bytes : List ℕ) × HasRead input bytes read × StopsWriting may_take out (text_of bytes) wrote
+  AnswersCheck input out (Err Write) read wrote =
+      (bytes : List ℕ) × HasRead input bytes read × StopsWriting may_take out (text_of bytes) wrote
 
 -- a check was done: with the rules of some file, or with those of its input
-abbrev pub HasChecked : {I O : Type 0} → (I → ℕ → Answer → I → Type 0) → (O → List ℕ → Result ℕ Failed → O → Type 0) → I → O → I → O → Type 0
-HasChecked may_give may_take input out read wrote =
-    ((rules : List IgnoreRule) × AnswersCheck may_give may_take (λ _. []) (check_text_of (file_verdict rules)) input out (Ok tt) read wrote)
-    ⊎ AnswersCheck may_give may_take rules_part joined_text input out (Ok tt) read wrote
+module _ {I O : Type 0} (may_give : I → ℕ → Answer → I → Type 0) (may_take : O → List ℕ → Result ℕ Failed → O → Type 0) where
+  abbrev pub HasChecked : I → O → I → O → Type 0
+  HasChecked input out read wrote =
+      ((rules : List RuleModel) × AnswersCheck may_give may_take no_rules (text_by rules) input out (Ok tt) read wrote)
+      ⊎ AnswersCheck may_give may_take rules_part joined_text input out (Ok tt) read wrote
+
+  -- a check was done, or the input was left alone and a text was written, as help is
+  abbrev pub HasAnswered : I → O → I → O → Type 0
+  HasAnswered input out read wrote =
+      HasChecked input out read wrote ⊎ ((read ≡ input) × ((text : List ℕ) × Writes may_take out text wrote))

@@ -2,7 +2,7 @@
 use Rattle.std.specs.Prelude.{◌≡◌, ◌<◌, ◌≤◌, ℕ, Bool, true, false, ◌&&◌, nat_eq, cond, List, ◌++◌, length, take, slice_index, codes}
 use Rattle.std.specs.List.{list_any, range_with_len, flat_map}
 use Rattle.lc_glob.specs.Bytes.{slash}
-use Rattle.lc_rules.specs.RuleModels.{RuleModel}
+use Rattle.lc_rules.specs.IgnoreRules.{RuleModel}
 use Rattle.lc_rules.specs.Verdicts.{verdict_of, at_depth}
 use Rattle.lc_rules.specs.declared.verdicts.Verdict.{Verdict}
 use Rattle.lc_rules.specs.declared.verdicts.Verdict.TheVariants.{Ignored, Included, NoRule}
@@ -53,3 +53,7 @@ checked_line verdict line =
 -- the lines of the paths, each with its word
 abbrev pub check_text_of : (List ℕ → Bool → Verdict) → List ℕ → List ℕ
 check_text_of verdict paths = flat_map (checked_line verdict) (lines_of paths)
+
+-- the same with the rules of one file
+abbrev pub text_by : List RuleModel → List ℕ → List ℕ
+text_by rules paths = check_text_of (file_verdict rules) paths

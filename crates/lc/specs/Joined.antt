@@ -4,7 +4,7 @@ use Rattle.std.specs.List.{list_any, flat_map, before_first, after_first, join_w
 use Rattle.lc_glob.specs.Pieces.{pieces_of}
 use Rattle.lc_rules.specs.Bytes.{line_feed}
 use Rattle.lc_rules.specs.IgnoreRules.{rules_of}
-use Rattle.lc.specs.CheckText.{file_verdict, check_text_of}
+use Rattle.lc.specs.CheckText.{text_by}
 
 -- two dashes, perhaps with a carriage return after them
 abbrev pub is_dashes : List ℕ → Bool
@@ -25,4 +25,4 @@ paths_part bytes =
 
 -- the text of a joined check: what the one part says of the other
 abbrev pub joined_text : List ℕ → List ℕ
-joined_text bytes = check_text_of (file_verdict (rules_of (rules_part bytes))) (paths_part bytes)
+joined_text bytes = text_by (rules_of (rules_part bytes)) (paths_part bytes)

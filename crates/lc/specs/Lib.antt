@@ -6,3 +6,4 @@ pub mod Joined
 pub mod Writes
 pub mod Check
 pub mod CheckFaults
+pub mod TableText

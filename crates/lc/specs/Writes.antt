@@ -31,7 +31,8 @@ StopsWriting {S} may_take old text new =
     × TakesCounts may_take old text counts mid rest × TakesNothing may_take mid rest new
 
 -- what a call answers that writes a text: it was written whole; a write stopped it; nothing was written
-abbrev pub AnswersPrint : {S : Type 0} → (S → List ℕ → Result ℕ Failed → S → Type 0) → S → List ℕ → Result (Unit {0}) PrintFault → S → Type 0
+abbrev pub AnswersPrint : {S : Type 0} → (S → List ℕ → Result ℕ Failed → S → Type 0)
+    → S → List ℕ → Result (Unit {0}) PrintFault → S → Type 0
 AnswersPrint may_take old text (Ok _) new = Writes may_take old text new
 AnswersPrint may_take old text (Err Write) new = StopsWriting may_take old text new
 AnswersPrint may_take old text (Err Memory) new = new ≡ old

@@ -1,9 +1,9 @@
 //! The check of paths: its input is read whole, then answered, then written.
 
-ghost use Rattle.std.specs.Prelude.{◌≡◌, [], IfOk};
-ghost use Rattle.lc.specs.Check.{AnswersCheck, AnswersInput, max_input};
+ghost use Rattle.std.specs.Prelude.{◌≡◌};
+ghost use Rattle.lc.specs.Check.{AnswersCheck, no_rules};
 ghost use Rattle.lc.specs.CheckFaults.{input_fault, rules_fault, print_fault};
-ghost use Rattle.lc.specs.CheckText.{file_verdict, check_text_of};
+ghost use Rattle.lc.specs.CheckText.{text_by};
 ghost use Rattle.lc.specs.declared.check.CheckFault.TheVariants.{Memory};
 ghost use Rattle.lc.specs.Joined.{rules_part, joined_text};
 
@@ -96,7 +96,7 @@ pub fn check<S: Source, O: Sink>(
     input: &mut S,
     out: &mut O,
 ) -> Result<(), CheckFault>
-    ensures { AnswersCheck S.may_give O.may_take (λ _. []) (check_text_of (file_verdict rules.now)) input.old out.old result input.new out.new }
+    ensures { AnswersCheck S.may_give O.may_take no_rules (text_by rules.now) input.old out.old result input.new out.new }
 {
     let mut buffer = new_buffer(alloc)?;
     let mut paths = Vec::new(alloc);

@@ -64,6 +64,17 @@ pub(crate) fn push_escaped(text: &mut Vec<u8>, bytes: &[u8]) -> Result<(), Alloc
     }
 }
 
+/// Appends a path as [`escape`] has it.
+pub(crate) fn push_path(text: &mut Vec<u8>, path: &[u8]) -> Result<(), AllocError>
+    ensures { OnOk result (text.new.items ≡ text.old.items ++ escape_path path.now) }
+{
+    if path.is_empty() {
+        text.extend_from_slice(b".")
+    } else {
+        push_escaped(text, path)
+    }
+}
+
 /// A path as it is printed, on one line and without a tab, whatever its bytes; the top's empty path is a dot.
 ///
 /// `t`, the byte 1 and `.c` are printed `t\x01.c`, and `a\b` is printed `a\\b`.
@@ -71,10 +82,6 @@ pub fn escape(alloc: Global, path: &[u8]) -> Result<Vec<u8>, AllocError>
     ensures { IfOk result (λ text. text.items ≡ escape_path path.now) }
 {
     let mut text = Vec::new(alloc);
-    if path.is_empty() {
-        text.extend_from_slice(b".")?;
-    } else {
-        push_escaped(&mut text, path)?;
-    }
+    push_path(&mut text, path)?;
     Ok(text)
 }

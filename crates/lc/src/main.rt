@@ -10,6 +10,7 @@ mod print;
 mod program;
 mod rules_file;
 mod sink;
+mod table;
 #[cfg(test)]
 mod tests;
 
@@ -24,7 +25,7 @@ fn main(rt: HostRuntime) -> ExitCode {
     let mut err = StdSink(rt.stderr());
     // A word that is not text names nothing that the program could be asked for.
     let Ok(words) = env::args(&rt) else {
-        return ExitCode::from(program::misuse(&mut err));
+        return ExitCode::from(program::misuse("lc: a word is not UTF-8\n", &mut err));
     };
     let words: Result<Vec<String>, AllocError> = words.skip(1).collect(rt.alloc());
     let Ok(words) = words else {

@@ -1,5 +1,7 @@
 //! What no clause says: worked cases, that calls succeed where there is memory, and streams that misbehave.
 
+mod narrow;
 mod programs;
 mod sinks;
+mod tables;
 mod texts;

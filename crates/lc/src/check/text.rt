@@ -1,7 +1,7 @@
 //! The text of a check.
 
 ghost use Rattle.std.specs.Prelude.{◌≡◌, ◌++◌, OnOk, IfOk};
-ghost use Rattle.lc.specs.CheckText.{file_verdict, checked_line, check_text_of};
+ghost use Rattle.lc.specs.CheckText.{file_verdict, checked_line, text_by};
 
 use crate::check::checker::Checker;
 use crate::check::lines::split_line;
@@ -35,7 +35,7 @@ fn push_checked<'a>(
 /// - `below`: some directory above it is ignored, so that nothing can include it again (gitignore(5), PATTERN FORMAT);
 /// - `ignored`, `included` or `none`: what the last rule that matches says.
 pub fn check_text(alloc: Global, rules: &IgnoreFile, paths: &[u8]) -> Result<Vec<u8>, AllocError>
-    ensures { IfOk result (λ text. text.items ≡ check_text_of (file_verdict rules.now) paths.now) }
+    ensures { IfOk result (λ text. text.items ≡ text_by rules.now paths.now) }
 {
     let mut checker = Checker::new(rules);
     let mut text = Vec::new(alloc);

@@ -13,15 +13,9 @@ type Case = (
     &'static [u8],
 );
 
-const USAGE: &[u8] = b"usage: lc check FILE < PATHS, or lc < RULES-THEN-PATHS\n";
-
 const CASES: &[Case] = &[
     (&[], b"a\n--\na\n", 0, b"ignored\ta\n", b""),
     (&["check", "/dev/null"], b"a\n", 0, b"none\ta\n", b""),
-    (&["check"], b"a\n", 2, b"", USAGE),
-    (&["check", "/dev/null", "b"], b"a\n", 2, b"", USAGE),
-    (&["count", "."], b"", 2, b"", USAGE),
-    (&["--help"], b"", 2, b"", USAGE),
     (
         &["check", "/no/such/file"],
         b"a\n",
@@ -52,7 +46,7 @@ fn statuses(rt: HostRuntime) -> Result<(), Fail> {
     for (words, bytes, status, text, errors) in CASES {
         let mut input: &[u8] = bytes;
         let mut out = Vec::with_capacity(rt.alloc(), text.len())?;
-        let mut err = Vec::with_capacity(rt.alloc(), USAGE.len())?;
+        let mut err = Vec::with_capacity(rt.alloc(), 64)?;
         let found = program(&rt, words, &mut input, &mut out, &mut err);
         if err.as_slice() == b"lc: out of memory\n".as_slice() {
             assert!(rt; found == 3 && out.is_empty());
@@ -61,6 +55,35 @@ fn statuses(rt: HostRuntime) -> Result<(), Fail> {
         assert!(rt; found == *status);
         assert!(rt; out.as_slice() == *text);
         assert!(rt; err.as_slice() == *errors);
+    }
+    Ok(())
+}
+
+/// Words that want a text on standard output, or are refused with one on standard error.
+const TEXTS: &[(&[&str], u8)] = &[
+    (&["--help"], 0),
+    (&["check", "--help"], 0),
+    (&["--version"], 0),
+    (&["check"], 2),
+    (&["check", "/dev/null", "b"], 2),
+    (&["count", "."], 2),
+    (&["--no-such-option"], 2),
+];
+
+#[test]
+fn help_and_refused_words(rt: HostRuntime) -> Result<(), Fail> {
+    for (words, status) in TEXTS {
+        let mut input: &[u8] = b"a\n";
+        let mut out = Vec::with_capacity(rt.alloc(), 4_096)?;
+        let mut err = Vec::with_capacity(rt.alloc(), 4_096)?;
+        let found = program(&rt, words, &mut input, &mut out, &mut err);
+        if err.as_slice() == b"lc: out of memory\n".as_slice() {
+            assert!(rt; found == 3 && out.is_empty());
+            return Err(AllocError.into());
+        }
+        assert!(rt; found == *status);
+        assert!(rt; out.is_empty() == (*status == 2) && err.is_empty() == (*status == 0));
+        assert!(rt; input == b"a\n".as_slice());
     }
     Ok(())
 }

@@ -1,40 +1,11 @@
 //! Writers that take little or fail, and readers that fail.
 
 use crate::check::{CheckFault, check, check_joined};
-use crate::sink::Sink;
+use crate::tests::narrow::Narrow;
 use lc_census::{Failed, Source};
 use lc_rules::IgnoreFile;
 use std::alloc::{AllocError, Global};
 use std::test::Fail;
-
-/// A writer that takes at most so many bytes at once, and gives this answer where it has no room left.
-#[derive(Drop)]
-struct Narrow {
-    taken: Vec<u8>,
-    step: usize,
-    room: usize,
-    at_end: Result<usize, Failed>,
-}
-
-impl Sink for Narrow {
-    ghost may_take = { λ _ _ _ _. Unit {0} };
-
-    fn write(&mut self, bytes: &[u8]) -> Result<usize, Failed> {
-        let left = self.room.saturating_sub(self.taken.len());
-        let count = bytes.len().min(self.step).min(left);
-        if count == 0 {
-            return match self.at_end {
-                Ok(_) => Ok(0),
-                Err(failed) => Err(failed),
-            };
-        }
-        // The room was taken beforehand.
-        match self.taken.extend_from_slice(&bytes[..count]) {
-            Ok(()) => Ok(count),
-            Err(_) => Err(Failed),
-        }
-    }
-}
 
 /// A reader that gives one byte a read, and then fails.
 #[derive(Drop)]
@@ -79,12 +50,7 @@ const TEXT: &[u8] = b"ignored\ta\nnone\tb\n";
 fn writes_stop_at_every_place(rt: HostRuntime) -> Result<(), Fail> {
     for at_end in [Ok(0), Err(Failed)] {
         for room in 0..=TEXT.len() {
-            let mut out = Narrow {
-                taken: Vec::with_capacity(rt.alloc(), TEXT.len())?,
-                step: room % 5 + 1,
-                room,
-                at_end,
-            };
+            let mut out = Narrow::new(rt.alloc(), room % 5 + 1, room, at_end)?;
             let mut input: &[u8] = INPUT;
             let answer = check_joined(rt.alloc(), &mut input, &mut out);
             if answer == Err(CheckFault::Memory) {
