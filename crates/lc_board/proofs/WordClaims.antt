@@ -76,7 +76,7 @@ abbrev pub St : Type 0 → Type 0 → Type 0
 St J R = State (Slot J R) (View J R)
 
 module _ {J R : Type 0} where
-  abbrev updated : View J R → List (Event J R) → View J R
+  abbrev pub updated : View J R → List (Event J R) → View J R
   updated v h = record v { seen = h }
 
   pub knows_more : (root : Option J) (workers cap : ℕ) (h : List (Event J R)) (faces : ℕ → Face) (owner : ℕ → Option ℕ) (me : ℕ) (v : View J R) → IsLegal cap workers h → Knows root workers h faces owner me v → Knows root workers h faces owner me (record v { seen = h })
@@ -86,6 +86,7 @@ module _ {J R : Type 0} where
     member = k.member;
     mine = k.mine;
     seen = whole h;
+    own = k.mine;
     owns = k.owns;
     drew = k.drew;
     draws = k.draws;
@@ -182,6 +183,7 @@ module _ {J R : Type 0} where
       member = km.member;
       mine = km.mine;
       seen = whole r.history;
+      own = km.mine;
       owns = km.owns;
       drew = km.drew;
       draws = km.draws;
@@ -230,6 +232,7 @@ module _ {J R : Type 0} where
         member = km.member;
         mine = part_own v.worker r.history (Over v.worker) refl ∙ ap (λ z. Over v.worker ∷ z) km.mine;
         seen = whole (Over v.worker ∷ r.history);
+        own = part_own v.worker r.history (Over v.worker) refl ∙ ap (λ z. Over v.worker ∷ z) km.mine;
         owns = km.owns;
         drew = km.drew;
         draws = km.draws;
@@ -334,6 +337,7 @@ module _ {J R : Type 0} where
         member = k.member;
         mine = part_own v.worker h e refl ∙ ap (λ z. e ∷ z) k.mine;
         seen = whole (e ∷ h);
+        own = part_own v.worker h e refl ∙ ap (λ z. e ∷ z) k.mine;
         owns = k.owns;
         drew = λ z. at_put r.faces i (plain (Claimed v.worker)) (λ y f. f ≡ held v.worker → v.drawn ≡ y + 1) z (λ x. absurd (cc)) (λ _ x. k.drew z x);
         draws = λ z is. let x = k.draws z is in put_else r.faces i (plain (Claimed v.worker)) z (λ (o : z ≡ i). let y : held v.worker ≡ plain Open = sym x ∙ (ap r.faces o ∙ open_there) in cc) ∙ x;

@@ -79,6 +79,7 @@ module _ {J R : Type 0} where
       member = k.member;
       mine = part_own v.worker r.history e by_me ∙ ap (λ z. e ∷ z) k.mine;
       seen = whole (e ∷ r.history);
+      own = part_own v.worker r.history e by_me ∙ ap (λ z. e ∷ z) k.mine;
       owns = k.owns;
       drew = λ z. at_put r.faces i (plain m) (λ y f. f ≡ held v.worker → v.drawn ≡ y + 1) z (λ y. absurd (cc)) (λ _ y. k.drew z y);
       draws = λ z is. absurd (omega arith);

@@ -13,15 +13,16 @@ use Rattle.lc_board.specs.LegalHistory.{IsLegal}
 use Rattle.lc_board.specs.Holding.{holding}
 use Rattle.lc_board.specs.Growth.{put, job_at}
 use Rattle.lc_board.specs.WordRow.{held, plain, shown, code, Seated, Lies, Knows, IsRow}
-use Rattle.lc_board.specs.WordSteps.{IsFair, AddsEvent, drew, opened}
+use Rattle.lc_board.specs.WordSteps.{IsFair, AddsEvent, drew, stepped_over, opened}
 use Rattle.lc_board.specs.declared.event.Event.{Event}
 use Rattle.lc_board.specs.declared.event.Event.TheVariants.{Post}
 use Rattle.lc_board.specs.declared.words.view.Slot.{Slot}
 use Rattle.lc_board.specs.declared.words.view.Slot.TheVariants.{Empty, Job}
 use Rattle.lc_board.specs.declared.words.view.View.{View}
 use Rattle.lc_board.proofs.Growths.{at_put, put_here, put_else, whole, part_own, part_else}
+use Rattle.lc_board.proofs.Places.{at_same, at_other}
 use Rattle.lc_board.proofs.WordsMoved.{agree_put, held_is, rebuilt, IsTurn, turned}
-use Rattle.lc_board.proofs.WordClaims.{St, is_absent, knows_more, next_same, fair, low_stays, adds}
+use Rattle.lc_board.proofs.WordClaims.{St, is_absent, updated, knows_more, next_same, fair, low_stays, adds}
 
 held_same : (a b : ℕ) → held a ≡ held b → a ≡ b
 held_same a b e = cc
@@ -70,6 +71,7 @@ module _ {J R : Type 0} where
         member = k.member;
         mine = k.mine;
         seen = whole r.history;
+        own = k.mine;
         owns = k.owns;
         drew = λ z. at_put r.faces i (held v.worker) (λ y f. f ≡ held v.worker → i + 1 ≡ y + 1) z (λ _. refl) (λ _ x. absurd (let y = k.drew z x in omega arith));
         draws = λ z is. let e : i ≡ z = omega arith in subst (λ y. put r.faces i (held v.worker) y ≡ held v.worker) e (put_here r.faces i (held v.worker));
@@ -91,6 +93,7 @@ module _ {J R : Type 0} where
       member = k.member;
       mine = k.mine;
       seen = whole r.history;
+      own = k.mine;
       owns = k.owns;
       drew = k.drew;
       draws = k.draws;
@@ -136,6 +139,42 @@ module _ {J R : Type 0} where
           (k0.seen, refl, subst (λ c. IsFair c w) len (fair root workers (length s.homes) r.history r.faces r.owner me w refl r.legal r.matched k')),
           (λ hit. absurd (miss hit)),
           (λ _. (refl, refl)),
+        ),
+      ))
+
+  pub steps_over : (root : Option J) (workers slots me : ℕ) (m : Seated J R) (i q : ℕ) → m.0.live ≡ true → i < slots → m.0.drawn ≡ 0 → m.0.front ≡ i → holding m.0.mine ≡ Some q
+      → Allows (IsRow root workers) slots me m i (λ n. n) (stepped_over (step slots i 0 0 none) m)
+  steps_over root workers slots me m i q lives near empty front claim s r len at fits = let v = m.0 in let z : ℕ = get_or s.words i 0 in
+      let near' : i < length s.homes = omega arith in let k0 = r.each_seat me v at lives in
+      dite (ℕ_discrete z 0)
+      (λ (hit : z ≡ 0). let w = updated v r.history in let k' = knows_more root workers (length s.homes) r.history r.faces r.owner me v r.legal k0 in (
+        w,
+        keeps,
+        tt,
+        subst (λ (ws : List ℕ). IsRow root workers record { words = ws; homes = s.homes; views = set s.views me w }) (sym (set-get_or s.words i 0))
+            (rebuilt root workers s r me v at lives r.history r.faces s.words s.homes w (next_same root workers s r v.worker) k'),
+        (
+          refl,
+          (refl, refl, refl, refl, refl, refl),
+          refl,
+          refl,
+          sym (at_same z 0 v.front (i + 1) hit),
+          (k0.seen, refl, subst (λ c. IsFair c w) len (fair root workers (length s.homes) r.history r.faces r.owner me w refl r.legal r.matched k')),
+        ),
+      ))
+      (λ (miss : z ≢ 0). let w = passed_view v r.history i in let k' = pass_knows root workers me i v lives empty front q claim s r at near' (λ e. miss (r.shows i near' ∙ ap code e)) in (
+        w,
+        keeps,
+        tt,
+        subst (λ (ws : List ℕ). IsRow root workers record { words = ws; homes = s.homes; views = set s.views me w }) (sym (set-get_or s.words i 0))
+            (rebuilt root workers s r me v at lives r.history r.faces s.words s.homes w (next_same root workers s r v.worker) k'),
+        (
+          refl,
+          (refl, refl, refl, refl, refl, refl),
+          refl,
+          refl,
+          sym (at_other z 0 v.front (i + 1) miss),
+          (k0.seen, refl, subst (λ c. IsFair c w) len (fair root workers (length s.homes) r.history r.faces r.owner me w refl r.legal r.matched k')),
         ),
       ))
 
@@ -187,6 +226,7 @@ module _ {J R : Type 0} where
       member = ko.member;
       mine = part_own v.worker r.history post refl ∙ ap (λ z. post ∷ z) ko.mine;
       seen = whole (post ∷ r.history);
+      own = part_own v.worker r.history post refl ∙ ap (λ z. post ∷ z) ko.mine;
       owns = ko.owns;
       drew = λ z. at_put r.faces i (plain Open) (λ y f. f ≡ held v.worker → 0 ≡ y + 1) z (λ x. absurd (cc)) (λ ne x. absurd (let y = ko.drew z x in ne (omega arith)));
       draws = λ z is. absurd (omega arith);

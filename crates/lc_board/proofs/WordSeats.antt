@@ -85,6 +85,7 @@ module _ {J R : Type 0} where
     member = k.member;
     mine = k.mine;
     seen = k.seen;
+    own = k.own;
     owns = a;
     drew = k.drew;
     draws = k.draws;
@@ -112,6 +113,7 @@ module _ {J R : Type 0} where
         member = k.member;
         mine = k.mine;
         seen = k.seen;
+        own = k.own;
         owns = k.owns;
         drew = k.drew;
         draws = k.draws;
@@ -131,6 +133,7 @@ module _ {J R : Type 0} where
         member = room;
         mine = unused.0;
         seen = (r.history, sym (append-nil r.history));
+        own = refl;
         owns = put_here r.owner v.made (Some n);
         drew = λ q f. absurd ((unused.1 q).0 f);
         draws = λ q f. absurd (omega arith);
@@ -156,6 +159,7 @@ module _ {J R : Type 0} where
         member = k.member;
         mine = k.mine;
         seen = k.seen;
+        own = k.own;
         owns = mine_stays v.worker k.owns;
         drew = k.drew;
         draws = k.draws;
@@ -250,6 +254,7 @@ module _ (J R : Type 0) (root : J) (workers n : ℕ) (some_worker : 0 < workers)
         member = some_worker;
         mine = refl;
         seen = ([], refl);
+        own = refl;
         owns = refl;
         drew = λ k. at_put (λ _. plain Absent) 0 (plain Open) (λ z f. f ≡ held 0 → 0 ≡ z + 1) k (λ e. absurd cc) (λ _ e. absurd cc);
         draws = λ k e. absurd (omega arith);

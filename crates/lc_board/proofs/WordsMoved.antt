@@ -67,6 +67,7 @@ module _ {J R : Type 0} where
     member = k.member;
     mine = same ∙ k.mine;
     seen = goes_trans h' h d.seen longer k.seen;
+    own = k.own;
     owns = k.owns;
     drew = λ i e. k.drew i (apart.held_from i e);
     draws = λ i e. apart.held_to i (k.draws i e);

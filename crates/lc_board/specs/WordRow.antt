@@ -65,6 +65,7 @@ module _ {J R : Type 0} where
     pub member : v.worker < workers
     pub mine : part v.worker h ≡ v.mine
     pub seen : GoesOn h v.seen
+    pub own : part v.worker v.seen ≡ v.mine
     pub owns : owner v.worker ≡ Some j
     pub drew : (k : ℕ) → faces k ≡ held v.worker → v.drawn ≡ k + 1
     pub draws : (k : ℕ) → v.drawn ≡ k + 1 → faces k ≡ held v.worker

@@ -94,6 +94,10 @@ module _ {J R : Type 0} where
       × (r ≡ 0 → (m'.1 ≡ (st.word, Empty) ∷ m.1) × (m'.0.drawn ≡ st.word + 1) × ((p : ℕ) → holding m.0.mine ≡ Some p → p < st.word))
       × (r ≢ 0 → (m'.1 ≡ m.1) × (m'.0.drawn ≡ m.0.drawn))
 
+  -- a look at the front: where that number is used, the front goes on
+  abbrev pub stepped_over : Step (Slot J R) → Seated J R → ℕ → Seated J R → Type 0
+  stepped_over st m r m' = (m'.1 ≡ m.1) × Same m.0 m'.0 × (m'.0.drawn ≡ m.0.drawn) × (m'.0.low ≡ m.0.low) × (m'.0.front ≡ cond (r == 0) m.0.front (st.word + 1)) × Looks st.slots m.0 m'.0
+
   -- a slot goes home
   abbrev pub Leaves : Seated J R → Seated J R → Type 0
   Leaves m m' = Same m.0 m'.0 × (m'.0.drawn ≡ 0) × (m'.0.low ≡ m.0.low) × (m'.0.front ≡ m.0.front) × (m'.1 ≡ rest m.1)

@@ -5,7 +5,7 @@
 ghost use Rattle.std.specs.Prelude.{◌≡◌, ◌≢◌, ℕ, ◌≤◌, Some, IfOk, IfErr, map, slice_get, vec_len};
 ghost use Rattle.lc_board.specs.ClosedBoard.{Settled, RefusesClose};
 ghost use Rattle.lc_board.specs.RecordedCalls.{locked_promises};
-ghost use Rattle.lc_board.specs.declared.limits.TheConstants.{MAX_CAPACITY, MAX_WORKERS};
+ghost use Rattle.lc_board.specs.Limits.{capacity_limit, workers_limit};
 
 use crate::answers::{Claim, CloseFault, Closed, PostFault};
 use crate::shared::{Shared, Token};
@@ -27,7 +27,7 @@ pub struct Locked<J, R> {
     capacity: u32,
     workers: u32,
     recorded: Mutex<Recorded<J, R>>,
-    ghost small: { (capacity ≤ MAX_CAPACITY) × (workers ≤ MAX_WORKERS) },
+    ghost small: { (capacity ≤ capacity_limit) × (workers ≤ workers_limit) },
 }
 
 impl<J: Drop + Send, R: Drop + Send> Shared<J, R> for Locked<J, R> {

@@ -1,6 +1,6 @@
 //! What another worker meets while a number is drawn and not open yet.
 ghost use Rattle.std.specs.Prelude.{◌≡◌, ◌<◌, ℕ, Some, IsSome};
-ghost use Rattle.lc_board.specs.WordsBoard.{IsPassOf};
+ghost use Rattle.lc_board.specs.WordsBoard.{Owns};
 
 use crate::answers::{CloseFault, Ended};
 use crate::shared::{Shared, Token};
@@ -24,10 +24,10 @@ fn post_slowly<W: Wait>(
     job: u32,
     calls: [Call; 2],
 ) -> [Told; 2]
-    requires board { IsPassOf board.now pass.old × IsPassOf board.now other.old }
+    requires board { Owns board.now pass.old × Owns board.now other.old }
     requires holds { IsSome pass.old.holding }
     requires near { pass.old.front < board.now.capacity }
-    ensures board { IsPassOf board.now pass.new × IsPassOf board.now other.new }
+    ensures board { Owns board.now pass.new × Owns board.now other.new }
     ensures workers { (pass.new.worker ≡ pass.old.worker) × (other.new.worker ≡ other.old.worker) }
 {
     let shared = &board.table.shared;
