@@ -95,12 +95,17 @@ impl<J: Drop + Send, R: Drop + Send> Shared<J, R> for Locked<J, R> {
             pass.fill();
             return Err(PostFault::Full(job));
         }
+        let mut recorded = self.recorded.lock(rt);
+        if recorded.is_full() {
+            pass.fill();
+            return Err(PostFault::Full(job));
+        }
         if pass.make_room().is_err() {
             return Err(PostFault::Memory(job));
         }
         let worker = pass.worker();
         let shown = Snapshot::of(&job);
-        let answer = self.recorded.lock(rt).post(worker, parent, job);
+        let answer = recorded.post(worker, parent, job);
         match &answer {
             Ok(number) => pass.note_post(*number, shown),
             Err(PostFault::Full(_)) => pass.fill(),

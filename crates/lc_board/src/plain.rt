@@ -1,8 +1,8 @@
 //! The board of one thread. A call names the worker for whom it acts.
-ghost use Rattle.std.specs.Prelude.{◌≡◌, ◌≢◌, ℕ, ◌<◌, ◌≤◌, ◌^◌, [], None, IfOk, IfErr, IfSome, IfNone, map, slice_set, true, false};
+ghost use Rattle.std.specs.Prelude.{◌≡◌, ◌≢◌, ℕ, ◌<◌, ◌≤◌, ◌^◌, [], None, IfOk, IfErr, IfSome, IfNone, MatchBool, map, slice_set, true, false};
 ghost use Rattle.lc_board.specs.LegalHistory.{IsOver};
 ghost use Rattle.lc_board.specs.RowsInPlace.{InPlace};
-ghost use Rattle.lc_board.specs.PlainBoard.{IsAfter, Adds, first_board, workers_of, held_by, posts_by, cell_at};
+ghost use Rattle.lc_board.specs.PlainBoard.{IsAfter, IsFull, Adds, first_board, workers_of, held_by, posts_by, cell_at};
 ghost use Rattle.lc_board.specs.PlainCalls.{AnswersClaim, AnswersPost, RefusesRows, NoneOpen, NoneHeld, IsLeftLeast, NoneLeft, IsLeft, cell_of};
 ghost use Rattle.lc_board.specs.declared.event.Event.TheVariants.{Return, Fault};
 ghost use Rattle.lc_board.specs.Limits.{capacity_limit, workers_limit};
@@ -172,6 +172,13 @@ impl<J: Drop, R: Drop> Plain<J, R> {
         ensures { result ≡ workers_of self.now }
     {
         self.held.len() as u32
+    }
+
+    /// All numbers are used.
+    pub(crate) fn is_full(&self) -> bool
+        ensures { MatchBool result (IsFull self.now) (¬ IsFull self.now) }
+    {
+        self.cells.len() >= self.capacity as usize
     }
 
     pub(crate) fn capacity(&self) -> u32

@@ -1,6 +1,6 @@
 //! What lies under the lock: a board of one thread beside the history of its events.
 ghost use Rattle.std.specs.Prelude.{◌≡◌, ℕ, ◌≤◌, [], IfOk, IfErr, MatchBool, map, length};
-ghost use Rattle.lc_board.specs.PlainBoard.{first_board};
+ghost use Rattle.lc_board.specs.PlainBoard.{first_board, IsFull};
 ghost use Rattle.lc_board.specs.RecordedCalls.{Holds, MayFault, RecordsClaim, RecordsPost, RecordsEnd, RefusesRecorded, locked_promises};
 ghost use Rattle.lc_board.specs.ClosedBoard.{Settled, RefusesClose};
 ghost use Rattle.lc_board.specs.declared.event.Event.TheVariants.{Return, Fault};
@@ -78,11 +78,18 @@ impl<J: Drop, R: Drop> Recorded<J, R> {
         answer
     }
 
-    /// Posts under the claim that the worker has of the parent, and keeps the room for the ends.
+    /// All numbers are used.
+    pub(crate) fn is_full(&self) -> bool
+        ensures { MatchBool result (IsFull self.now.board) (¬ IsFull self.now.board) }
+    {
+        self.plain.is_full()
+    }
+
+    /// Posts under the claim that the worker has of the parent, and keeps the room for the ends. Full comes before Memory.
     pub fn post(&mut self, worker: u32, parent: u32, job: J) -> Result<u32, PostFault<J>>
         ensures { RecordsPost worker parent self.old job result self.new }
     {
-        if !self.holds(worker, parent) {
+        if !self.holds(worker, parent) || self.plain.is_full() {
             return Err(PostFault::Full(job));
         }
         let workers = self.plain.workers();
