@@ -15,7 +15,7 @@ use std::sync::{Mutex, Wait};
 
 mod compare;
 pub mod pass;
-pub mod recorded;
+mod recorded;
 
 use pass::LockedPass;
 use recorded::Recorded;

@@ -11,11 +11,11 @@ use crate::answers::{Claim, CloseFault, Closed, Ended, PostFault};
 use std::alloc::{AllocError, Global};
 use std::marker::Model;
 
-pub mod cell;
-mod cells;
+mod cell;
+mod scans;
 
 use cell::Cell;
-use cells::{all_ended, first_left, is_any_held};
+use scans::{all_ended, first_left, is_any_held};
 
 /// A board of one thread. Contracts see it as its capacity, what each worker has claimed, and the cells of its numbers.
 #[derive(Drop)]

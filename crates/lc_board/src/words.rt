@@ -11,7 +11,6 @@ use atomic_table::Table;
 use std::alloc::Global;
 
 mod claim;
-mod claims;
 pub(crate) mod close;
 pub(crate) mod coding;
 pub mod pass;
@@ -19,6 +18,7 @@ mod posts;
 pub mod rule;
 mod shared;
 mod start;
+mod steps;
 pub mod view;
 
 /// A board of words. It keeps values: the rows that it gives back are in place.

@@ -1,6 +1,6 @@
 use Rattle.std.proofs.Common.{rules, ◌≡◌, ◌++◌, ◌∷◌, [], suc, append_assoc}
 use Rattle.std.proofs.lemmas.List.{map-append}
-use Rattle.lc_board.proofs.plain.cells.all_ended.Goals as goal
+use Rattle.lc_board.proofs.plain.scans.all_ended.Goals as goal
 
 pub loop-cell-preserved : goal.loop-cell-preserved
 loop-cell-preserved g c = record {
