@@ -64,7 +64,7 @@ module _ {J R : Type 0} where
   abbrev pub OthersHeld : View J R → View J R → Type 0
   OthersHeld v w = (h : List (Event J R)) × (p u : ℕ) × GoesOn h v.seen × GoesOn w.seen h × (u ≢ w.worker) × (status h p ≡ Claimed u)
 
-  -- no number that had been seen posted is open, and another worker held a claim meanwhile
+  -- no number that had been seen posted is open, and another worker had a claim meanwhile
   abbrev pub Waits : ℕ → View J R → View J R → Type 0
   Waits cap v w = Looks cap v w × ((k : ℕ) → status v.seen k ≢ Absent → status w.seen k ≢ Open) × OthersHeld v w
 

@@ -35,7 +35,7 @@ module _ {J R : Type 0} where
   IsSamePass old new =
       (new.seat.table_id ≡ old.seat.table_id) × (new.worker ≡ old.worker) × (new.full ≡ old.full) × ((known new).workers ≡ (known old).workers) × ((known new).root ≡ (known old).root)
 
-  -- what a claim answers: the event that it added, or that another worker held a claim meanwhile. It never wants memory
+  -- what a claim answers: the event that it added, or that another worker had a claim meanwhile. It never wants memory
   abbrev pub AnswersWords : ℕ → View J R → View J R → Option ℕ → Claim J → Type 0
   AnswersWords cap v w holding (answer.Got i j) = (holding ≡ Some i) × AddsEvent cap v (event.Claim v.worker i j) w
   AnswersWords cap v w holding answer.Later = (holding ≡ None) × Waits cap v w

@@ -7,7 +7,7 @@ use crate::shared::{Shared, Token};
 use crate::tests::script::{Call, ROOT, Told};
 use crate::tests::shared_scripts::tell;
 use crate::words::Words;
-use crate::words::coding::{ABSENT, OPEN, held_by};
+use crate::words::coding::{ABSENT, OPEN, drawn_by};
 use crate::words::pass::WordsPass;
 use crate::words::rule::{Draw, Open};
 use crate::words::view::Slot;
@@ -33,7 +33,7 @@ fn post_slowly<W: Wait>(
     let shared = &board.table.shared;
     let number = pass.front;
     let word = number as usize;
-    let new = held_by(pass.worker);
+    let new = drawn_by(pass.worker);
     let found = shared.compare_exchange::<Draw>(&mut pass.seat, word, ABSENT, new);
     pass.front = number + 1;
     if found != ABSENT {

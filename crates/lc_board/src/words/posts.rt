@@ -7,7 +7,7 @@ ghost use Rattle.lc_board.specs.WordsBoard.{IsPassOf, IsSamePass, known};
 
 use crate::answers::PostFault;
 use crate::words::Words;
-use crate::words::coding::{ABSENT, OPEN, held_by};
+use crate::words::coding::{ABSENT, OPEN, drawn_by};
 use crate::words::pass::WordsPass;
 use crate::words::rule::{Draw, Open, StepOver};
 use crate::words::view::Slot;
@@ -45,7 +45,7 @@ impl<J, R> Words<J, R> {
         let shared = &self.table.shared;
         let number = pass.front;
         let word = number as usize;
-        let new = held_by(pass.worker);
+        let new = drawn_by(pass.worker);
         let found = shared.compare_exchange::<Draw>(&mut pass.seat, word, ABSENT, new);
         pass.front = number + 1;
         if found != ABSENT {

@@ -13,7 +13,7 @@ pub compare_exchange-found-requires : goal.compare_exchange-found-requires
 compare_exchange-found-requires g c = let p = c.args.pass.now in let t = p.ties in let sq = c.args.self.now.square in let near = c.requires.near in let h = holds_some p.holding c.requires.holds in (
   c.requires.board,
   omega arith,
-  draws _ _ _ _ _ _ _ h.0 t.live (omega arith) t.idle t.fronted (t.holds ∙ h.1) (c.held_by-new.ensures ∙ ap (λ (n : ℕ). 4 + 2 * n) (sym t.numbered)),
+  draws _ _ _ _ _ _ _ h.0 t.live (omega arith) t.idle t.fronted (t.holds ∙ h.1) (c.drawn_by-new.ensures ∙ ap (λ (n : ℕ). 4 + 2 * n) (sym t.numbered)),
 )
 
 pub swap-requires : goal.swap-requires
