@@ -2,7 +2,7 @@
 use Rattle.std.proofs.Common.{◌≡◌, ◌≢◌, ℕ, zero, suc, ◌<◌, ◌≤◌, ◌+◌, List, [], ◌∷◌, ◌++◌, length, slice_get, slice_set, slice_index_or, replicate, Option, Some, None, refl, sym, ◌∙◌, ap, subst, arith, length-append}
 use Rattle.std.proofs.lemmas.List.{length-set}
 use Rattle.std.proofs.lemmas.Option.{slice_get_past, slice_get_within}
-use Rattle.lc_board.specs.declared.limits.TheConstants.{MAX_CAPACITY}
+use Rattle.lc_board.specs.Limits.{capacity_limit}
 use Rattle.lc_board.specs.PlainBoard.{Board, held_by, cell_at, first_board}
 use Rattle.lc_board.specs.PlainCalls.{IsOpen}
 use Rattle.lc_board.specs.PlainFields.{IsSound, IsHeldBy}
@@ -130,7 +130,7 @@ module _ {J R : Type 0} where
   first_owned root zero w n e = absurd (cc e)
   first_owned root (suc k) w n e = absurd (cc e)
 
-  pub sound_first : (capacity workers : ℕ) (root : J) → 1 ≤ capacity → capacity ≤ MAX_CAPACITY → IsSound {R = R} 0 (first_board capacity workers root)
+  pub sound_first : (capacity workers : ℕ) (root : J) → 1 ≤ capacity → capacity ≤ capacity_limit → IsSound {R = R} 0 (first_board capacity workers root)
   sound_first capacity workers root one small = record {
     small = small;
     fits = one;

@@ -15,7 +15,7 @@ use Rattle.lc_board.specs.Part.{part}
 use Rattle.lc_board.specs.LegalHistory.{IsAllowed, IsLegal}
 use Rattle.lc_board.specs.Holding.{holding}
 use Rattle.lc_board.specs.Growth.{rank, put, job_at, IsMatched}
-use Rattle.lc_board.specs.WordRow.{Face, held, plain, shown, code, Seated, Lies, Knows, IsRow}
+use Rattle.lc_board.specs.WordRow.{WordState, drawn_by, plain, shown, code, Seated, Lies, Knows, IsRow}
 use Rattle.lc_board.specs.WordSteps.{IsFair, Looks, AddsEvent, Finds, Missed, looked, claimed, low_after, last_look}
 use Rattle.lc_board.specs.declared.event.Event.{Event}
 use Rattle.lc_board.specs.declared.event.Event.TheVariants.{Claim, Over}
@@ -26,40 +26,40 @@ use Rattle.lc_board.proofs.HeldClaims.{part_tells_claim}
 use Rattle.lc_board.proofs.Growths.{at_put, put_else, longer, whole, rank_most, rank_from, part_own, part_else}
 use Rattle.lc_board.proofs.WordsMoved.{apart_same, agree_put, held_is, IsNext, rebuilt, lies_stay, IsTurn, turned}
 
-pub is_absent : (c : Face) → code c ≡ 0 → c ≡ plain Absent
-is_absent (held w) e = absurd (omega arith)
+pub is_absent : (c : WordState) → code c ≡ 0 → c ≡ plain Absent
+is_absent (drawn_by w) e = absurd (omega arith)
 is_absent (plain Absent) e = refl
 is_absent (plain Open) e = absurd (omega arith)
 is_absent (plain (Claimed w)) e = absurd (omega arith)
 is_absent (plain Returned) e = absurd (omega arith)
 is_absent (plain Faulted) e = absurd (omega arith)
 
-is_open : (c : Face) → code c ≡ 1 → c ≡ plain Open
-is_open (held w) e = absurd (omega arith)
+is_open : (c : WordState) → code c ≡ 1 → c ≡ plain Open
+is_open (drawn_by w) e = absurd (omega arith)
 is_open (plain Absent) e = absurd (omega arith)
 is_open (plain Open) e = refl
 is_open (plain (Claimed w)) e = absurd (omega arith)
 is_open (plain Returned) e = absurd (omega arith)
 is_open (plain Faulted) e = absurd (omega arith)
 
-pub is_ended : (c : Face) → 2 ≤ code c → code c < 4 → rank (shown c) ≡ 3
-is_ended (held w) a b = absurd (omega arith)
+pub is_ended : (c : WordState) → 2 ≤ code c → code c < 4 → rank (shown c) ≡ 3
+is_ended (drawn_by w) a b = absurd (omega arith)
 is_ended (plain Absent) a b = absurd (omega arith)
 is_ended (plain Open) a b = absurd (omega arith)
 is_ended (plain (Claimed w)) a b = absurd (omega arith)
 is_ended (plain Returned) a b = refl
 is_ended (plain Faulted) a b = refl
 
-pub is_busy : (c : Face) → 4 ≤ code c → (w : ℕ) × ((c ≡ held w) ⊎ (c ≡ plain (Claimed w)))
-is_busy (held w) a = (w, inl refl)
+pub is_busy : (c : WordState) → 4 ≤ code c → (w : ℕ) × ((c ≡ drawn_by w) ⊎ (c ≡ plain (Claimed w)))
+is_busy (drawn_by w) a = (w, inl refl)
 is_busy (plain Absent) a = absurd (omega arith)
 is_busy (plain Open) a = absurd (omega arith)
 is_busy (plain (Claimed w)) a = (w, inr refl)
 is_busy (plain Returned) a = absurd (omega arith)
 is_busy (plain Faulted) a = absurd (omega arith)
 
-is_claimed : (c : Face) → 4 ≤ code c → code c % 2 ≡ 1 → rank (shown c) ≡ 2
-is_claimed (held w) a b = absurd (omega arith)
+is_claimed : (c : WordState) → 4 ≤ code c → code c % 2 ≡ 1 → rank (shown c) ≡ 2
+is_claimed (drawn_by w) a b = absurd (omega arith)
 is_claimed (plain Absent) a b = absurd (omega arith)
 is_claimed (plain Open) a b = absurd (omega arith)
 is_claimed (plain (Claimed w)) a b = refl
@@ -76,16 +76,17 @@ abbrev pub St : Type 0 → Type 0 → Type 0
 St J R = State (Slot J R) (View J R)
 
 module _ {J R : Type 0} where
-  abbrev updated : View J R → List (Event J R) → View J R
+  abbrev pub updated : View J R → List (Event J R) → View J R
   updated v h = record v { seen = h }
 
-  pub knows_more : (root : Option J) (workers cap : ℕ) (h : List (Event J R)) (faces : ℕ → Face) (owner : ℕ → Option ℕ) (me : ℕ) (v : View J R) → IsLegal cap workers h → Knows root workers h faces owner me v → Knows root workers h faces owner me (record v { seen = h })
+  pub knows_more : (root : Option J) (workers cap : ℕ) (h : List (Event J R)) (faces : ℕ → WordState) (owner : ℕ → Option ℕ) (me : ℕ) (v : View J R) → IsLegal cap workers h → Knows root workers h faces owner me v → Knows root workers h faces owner me (record v { seen = h })
   knows_more root workers cap h faces owner me v l k = record {
     root_is = k.root_is;
     workers_are = k.workers_are;
     member = k.member;
     mine = k.mine;
     seen = whole h;
+    own = k.mine;
     owns = k.owns;
     drew = k.drew;
     draws = k.draws;
@@ -114,7 +115,7 @@ module _ {J R : Type 0} where
     more = λ k e. e;
   }
 
-  pub fair : (root : Option J) (workers cap : ℕ) (h : List (Event J R)) (faces : ℕ → Face) (owner : ℕ → Option ℕ) (me : ℕ) (w : View J R) → w.seen ≡ h → IsLegal cap workers h → IsMatched root h → Knows root workers h faces owner me w → IsFair cap w
+  pub fair : (root : Option J) (workers cap : ℕ) (h : List (Event J R)) (faces : ℕ → WordState) (owner : ℕ → Option ℕ) (me : ℕ) (w : View J R) → w.seen ≡ h → IsLegal cap workers h → IsMatched root h → Knows root workers h faces owner me w → IsFair cap w
   fair root workers cap h faces owner me w same l m k = (
     subst (λ (z : ℕ × List (Event J R)). IsLegal cap z.0 z.1) (λ i. (sym k.workers_are i, sym same i)) l,
     subst (λ (z : Option J × List (Event J R)). IsMatched z.0 z.1) (λ i. (sym k.root_is i, sym same i)) m,
@@ -122,11 +123,11 @@ module _ {J R : Type 0} where
   )
 
   -- the low mark stays where one event is added
-  pub low_stays : (root : Option J) (workers cap : ℕ) (h : List (Event J R)) (faces : ℕ → Face) (owner : ℕ → Option ℕ) (me : ℕ) (v : View J R) (e : Event J R) → IsLegal cap workers (e ∷ h) → Knows root workers h faces owner me v
+  pub low_stays : (root : Option J) (workers cap : ℕ) (h : List (Event J R)) (faces : ℕ → WordState) (owner : ℕ → Option ℕ) (me : ℕ) (v : View J R) (e : Event J R) → IsLegal cap workers (e ∷ h) → Knows root workers h faces owner me v
       → (k : ℕ) → k < v.low → rank (status (e ∷ h) k) ≡ 3
   low_stays root workers cap h faces owner me v e l k i below = let a = k.low i below in let b = rank_from cap workers (e ∷ h) v.seen l (longer h v.seen e k.seen) i in let c = rank_most (status (e ∷ h) i) in omega arith
 
-  pub adds : (root : Option J) (workers cap : ℕ) (h : List (Event J R)) (faces : ℕ → Face) (owner : ℕ → Option ℕ) (me : ℕ) (v : View J R) (e : Event J R) (f : ℕ → Face) (w : View J R) → w.seen ≡ e ∷ h → w.mine ≡ e ∷ v.mine
+  pub adds : (root : Option J) (workers cap : ℕ) (h : List (Event J R)) (faces : ℕ → WordState) (owner : ℕ → Option ℕ) (me : ℕ) (v : View J R) (e : Event J R) (f : ℕ → WordState) (w : View J R) → w.seen ≡ e ∷ h → w.mine ≡ e ∷ v.mine
       → IsLegal cap workers (e ∷ h) → IsMatched root (e ∷ h) → Knows root workers h faces owner me v → Knows root workers (e ∷ h) f owner me w → AddsEvent cap v e w
   adds root workers cap h faces owner me v e f w same own l m k k' = ((h, k.seen, same), own, fair root workers cap (e ∷ h) f owner me w same l m k')
 
@@ -148,7 +149,7 @@ module _ {J R : Type 0} where
         (λ a b. ap rank (same i ∙ r.agrees i) ∙ is_ended (r.faces i) (omega arith) (omega arith)),
         (λ a odd. ap rank (same i ∙ r.agrees i) ∙ is_claimed (r.faces i) (omega arith) (ap (λ n. n % 2) face ∙ odd)),
         (λ a. let b = is_busy (r.faces i) (omega arith) in ⊎_elim
-            (λ (e : r.faces i ≡ held b.0). let p = r.busy i b.0 e in (inl (same i ∙ (r.agrees i ∙ ap shown e)), mine p.0 b.0 p.1))
+            (λ (e : r.faces i ≡ drawn_by b.0). let p = r.busy i b.0 e in (inl (same i ∙ (r.agrees i ∙ ap shown e)), mine p.0 b.0 p.1))
             (λ (e : r.faces i ≡ plain (Claimed b.0)). (inr (ap rank (same i ∙ (r.agrees i ∙ ap shown e))), mine i b.0 (r.agrees i ∙ ap shown e))) b.1),
       )
 
@@ -182,6 +183,7 @@ module _ {J R : Type 0} where
       member = km.member;
       mine = km.mine;
       seen = whole r.history;
+      own = km.mine;
       owns = km.owns;
       drew = km.drew;
       draws = km.draws;
@@ -230,6 +232,7 @@ module _ {J R : Type 0} where
         member = km.member;
         mine = part_own v.worker r.history (Over v.worker) refl ∙ ap (λ z. Over v.worker ∷ z) km.mine;
         seen = whole (Over v.worker ∷ r.history);
+        own = part_own v.worker r.history (Over v.worker) refl ∙ ap (λ z. Over v.worker ∷ z) km.mine;
         owns = km.owns;
         drew = km.drew;
         draws = km.draws;
@@ -322,7 +325,7 @@ module _ {J R : Type 0} where
         jobs_else = λ z ne. refl;
         rows_else = λ z ne. refl;
         lies_here = tt;
-        busy = λ z w is. let o = at_put r.faces i (plain (Claimed v.worker)) (λ y f. f ≡ held w → r.faces y ≡ held w) z (λ x. absurd (cc)) (λ _ x. x) is in let p = r.busy z w o in
+        busy = λ z w is. let o = at_put r.faces i (plain (Claimed v.worker)) (λ y f. f ≡ drawn_by w → r.faces y ≡ drawn_by w) z (λ x. absurd (cc)) (λ _ x. x) is in let p = r.busy z w o in
             (p.0, (put_else (status h) i (Claimed v.worker) p.0 (λ (x : p.0 ≡ i). let y : Claimed w ≡ Open = sym p.1 ∙ (ap (status h) x ∙ was) in cc) ∙ p.1));
         loose = λ u ne. ((λ x. let y = sym open_there ∙ x in cc), (λ x. cc), (λ (x : plain (Claimed v.worker) ≡ plain (Claimed u)). let y : v.worker ≡ u = cc in ne (sym y)));
       }
@@ -334,9 +337,10 @@ module _ {J R : Type 0} where
         member = k.member;
         mine = part_own v.worker h e refl ∙ ap (λ z. e ∷ z) k.mine;
         seen = whole (e ∷ h);
+        own = part_own v.worker h e refl ∙ ap (λ z. e ∷ z) k.mine;
         owns = k.owns;
-        drew = λ z. at_put r.faces i (plain (Claimed v.worker)) (λ y f. f ≡ held v.worker → v.drawn ≡ y + 1) z (λ x. absurd (cc)) (λ _ x. k.drew z x);
-        draws = λ z is. let x = k.draws z is in put_else r.faces i (plain (Claimed v.worker)) z (λ (o : z ≡ i). let y : held v.worker ≡ plain Open = sym x ∙ (ap r.faces o ∙ open_there) in cc) ∙ x;
+        drew = λ z. at_put r.faces i (plain (Claimed v.worker)) (λ y f. f ≡ drawn_by v.worker → v.drawn ≡ y + 1) z (λ x. absurd (cc)) (λ _ x. k.drew z x);
+        draws = λ z is. let x = k.draws z is in put_else r.faces i (plain (Claimed v.worker)) z (λ (o : z ≡ i). let y : drawn_by v.worker ≡ plain Open = sym x ∙ (ap r.faces o ∙ open_there) in cc) ∙ x;
         low = low_stays root workers (length s.homes) h r.faces r.owner me v e claim_legal k;
         front = λ z below. at_put r.faces i (plain (Claimed v.worker)) (λ y f. y < v.front → f ≢ plain Absent) z (λ _ x. cc) (λ _. k.front z) below;
         deals = k.deals;
@@ -344,7 +348,7 @@ module _ {J R : Type 0} where
           owned = x.owned;
           other = x.other;
           events = part_else u h e (λ w. x.other (sym w)) ∙ x.events;
-          idle = λ z. at_put r.faces i (plain (Claimed v.worker)) (λ y f. f ≢ held u) z (λ y. cc) (λ _. x.idle z);
+          idle = λ z. at_put r.faces i (plain (Claimed v.worker)) (λ y f. f ≢ drawn_by u) z (λ y. cc) (λ _. x.idle z);
         };
       }
 

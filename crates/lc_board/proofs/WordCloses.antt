@@ -16,7 +16,7 @@ use Rattle.lc_board.specs.Laws.{GivenAs}
 use Rattle.lc_board.specs.Pass.{Pass}
 use Rattle.lc_board.specs.ClosedBoard.{Shows, IsUnended, Settled, Unfinished, Finished}
 use Rattle.lc_board.specs.Growth.{rank, job_at, IsMatched}
-use Rattle.lc_board.specs.WordRow.{Face, held, plain, shown, code, Homes, Lies, Knows, IsRow}
+use Rattle.lc_board.specs.WordRow.{WordState, drawn_by, plain, shown, code, Homes, Lies, Knows, IsRow}
 use Rattle.lc_board.specs.WordSteps.{merged, larger}
 use Rattle.lc_board.specs.WordClose.{words_promises, ended_as, row_of, Tells, HasTaken, IsClosedRow, EndedBelow, HasRows}
 use Rattle.lc_board.specs.declared.event.Event.{Event}
@@ -136,16 +136,16 @@ not_unended (Claimed w) e x = absurd (omega arith)
 not_unended Returned e x = x
 not_unended Faulted e x = x
 
-row_says : {R : Type 0} (c : Face) (r : R) → 2 ≤ code c → code c < 4 → ended_as (shown c) r ≡ Some (row_of (code c) r)
-row_says (held w) r a b = absurd (omega arith)
+row_says : {R : Type 0} (c : WordState) (r : R) → 2 ≤ code c → code c < 4 → ended_as (shown c) r ≡ Some (row_of (code c) r)
+row_says (drawn_by w) r a b = absurd (omega arith)
 row_says (plain Absent) r a b = absurd (omega arith)
 row_says (plain Open) r a b = absurd (omega arith)
 row_says (plain (Claimed w)) r a b = absurd (omega arith)
 row_says (plain Returned) r a b = refl
 row_says (plain Faulted) r a b = refl
 
-open_face : (c : Face) → ((u : ℕ) → c ≢ held u) → (code c ≡ 1) ⊎ (4 ≤ code c) → IsUnended (shown c)
-open_face (held w) n e = absurd (n w refl)
+open_face : (c : WordState) → ((u : ℕ) → c ≢ drawn_by u) → (code c ≡ 1) ⊎ (4 ≤ code c) → IsUnended (shown c)
+open_face (drawn_by w) n e = absurd (n w refl)
 open_face (plain Absent) n e = absurd (⊎_elim (λ x. omega arith) (λ x. omega arith) e)
 open_face (plain Open) n e = tt
 open_face (plain (Claimed w)) n e = tt
@@ -231,7 +231,7 @@ module _ {J R : Type 0} (root : J) (workers : ℕ) (passes : List (Pass J R)) (w
       record {
         history = r.history;
         legal = r.legal;
-        left = subst IsUnended (sym (r.agrees n)) (open_face (r.faces n) (r.unheld n) face);
+        left = subst IsUnended (sym (r.agrees n)) (open_face (r.faces n) (r.undrawn n) face);
         least = λ k below. not_unended (status r.history k) (ended_at n k (omega (arith, low)) e below);
         parts = λ _. r.parts;
       }
@@ -301,20 +301,20 @@ module _ {J R : Type 0} where
       let is : p ≡ q = cc x in
       subst (λ (z : Pass J R). Tells v u z.mine × (z.full ≡ true → slots ≤ v.front)) is (inl (same ∙ sym num, sym own), full)
 
-  ended_lies : (root : Option J) (h : List (Event J R)) (hs : Homes J R) (k : ℕ) (c : Face) → Lies root h hs k c → rank (shown c) ≡ 3 → (r : R) × (get_elem? hs k ≡ some (some (Row r))) × (row_given h k ≡ ended_as (shown c) r)
-  ended_lies root h hs k (held w) l e = absurd (omega arith)
+  ended_lies : (root : Option J) (h : List (Event J R)) (hs : Homes J R) (k : ℕ) (c : WordState) → Lies root h hs k c → rank (shown c) ≡ 3 → (r : R) × (get_elem? hs k ≡ some (some (Row r))) × (row_given h k ≡ ended_as (shown c) r)
+  ended_lies root h hs k (drawn_by w) l e = absurd (omega arith)
   ended_lies root h hs k (plain Absent) l e = absurd (omega arith)
   ended_lies root h hs k (plain Open) l e = absurd (omega arith)
   ended_lies root h hs k (plain (Claimed w)) l e = absurd (omega arith)
   ended_lies root h hs k (plain Returned) l e = l
   ended_lies root h hs k (plain Faulted) l e = l
 
-  part_told : (root : Option J) (workers : ℕ) (h : List (Event J R)) (faces : ℕ → Face) (owner : ℕ → Option ℕ) (id : ℕ) (v : View J R) → Knows root workers h faces owner id v → (u : ℕ) (m : List (Event J R)) → Tells v u m → part u h ≡ m
+  part_told : (root : Option J) (workers : ℕ) (h : List (Event J R)) (faces : ℕ → WordState) (owner : ℕ → Option ℕ) (id : ℕ) (v : View J R) → Knows root workers h faces owner id v → (u : ℕ) (m : List (Event J R)) → Tells v u m → part u h ≡ m
   part_told root workers h faces owner id v k u m t = ⊎_elim (λ (x : (u ≡ v.worker) × (v.mine ≡ m)). ap (λ z. part z h) x.0 ∙ (k.mine ∙ x.1)) (λ (x : (n : ℕ) × (get_elem? v.joined n ≡ some (u, m))). (k.joins x.0 u m x.1).events) t
 
-  not_held : (root : Option J) (workers : ℕ) (h : List (Event J R)) (faces : ℕ → Face) (owner : ℕ → Option ℕ) (id : ℕ) (v : View J R) → Knows root workers h faces owner id v → v.drawn ≡ 0 → (u : ℕ) (m : List (Event J R)) → Tells v u m → (q : ℕ) → faces q ≢ held u
+  not_held : (root : Option J) (workers : ℕ) (h : List (Event J R)) (faces : ℕ → WordState) (owner : ℕ → Option ℕ) (id : ℕ) (v : View J R) → Knows root workers h faces owner id v → v.drawn ≡ 0 → (u : ℕ) (m : List (Event J R)) → Tells v u m → (q : ℕ) → faces q ≢ drawn_by u
   not_held root workers h faces owner id v k none u m t q f = ⊎_elim
-      (λ (x : (u ≡ v.worker) × (v.mine ≡ m)). let d = k.drew q (f ∙ ap held x.0) in absurd (omega (arith, d, none)))
+      (λ (x : (u ≡ v.worker) × (v.mine ≡ m)). let d = k.drew q (f ∙ ap drawn_by x.0) in absurd (omega (arith, d, none)))
       (λ (x : (n : ℕ) × (get_elem? v.joined n ≡ some (u, m))). (k.joins x.0 u m x.1).idle q f) t
 
   -- a closed row, by the pass that stayed
@@ -331,7 +331,7 @@ module _ {J R : Type 0} where
         agrees = r.agrees;
         beyond = λ q l. r.beyond q (subst (λ z. z ≤ q) (sym size) l);
         together = r.together;
-        unheld = λ q u e.
+        undrawn = λ q u e.
             let b = r.busy q u e in
             let low = claimed_member (length s.homes) workers r.history r.legal b.0 u b.1 in
             let p = get_there passes u (omega (arith, low, len)) in

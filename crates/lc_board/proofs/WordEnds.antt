@@ -13,7 +13,7 @@ use Rattle.lc_board.specs.LegalHistory.{posts_under, IsAllowed, IsLegal}
 use Rattle.lc_board.specs.Holding.{holding, posted}
 use Rattle.lc_board.specs.RowsInPlace.{row_given}
 use Rattle.lc_board.specs.Growth.{put, job_at, IsRight}
-use Rattle.lc_board.specs.WordRow.{held, plain, shown, Homes, Seated, Lies, Knows, IsRow}
+use Rattle.lc_board.specs.WordRow.{drawn_by, plain, shown, Homes, Seated, Lies, Knows, IsRow}
 use Rattle.lc_board.specs.WordSteps.{AddsEvent, returned, faulted, put_down}
 use Rattle.lc_board.specs.declared.event.Event.{Event}
 use Rattle.lc_board.specs.declared.event.Event.TheVariants.{Return, Fault}
@@ -64,10 +64,10 @@ module _ {J R : Type 0} where
       jobs_else = λ z ne. jobs r.history z;
       rows_else = λ z ne. rows r.history z ∙ put_else (row_given r.history) i (Some o) z ne;
       lies_here = lies (e ∷ r.history) (set s.homes i (some (Row x))) (set_here s.homes i (some (Row x)) near) (rows r.history i ∙ put_here (row_given r.history) i (Some o));
-      busy = λ z w is. let f = at_put r.faces i (plain m) (λ y f. f ≡ held w → r.faces y ≡ held w) z (λ y. absurd (cc)) (λ _ y. y) is in let b = r.busy z w f in (
+      busy = λ z w is. let f = at_put r.faces i (plain m) (λ y f. f ≡ drawn_by w → r.faces y ≡ drawn_by w) z (λ y. absurd (cc)) (λ _ y. y) is in let b = r.busy z w f in (
         b.0,
         moves r.history b.0 ∙ (put_else (status r.history) i m b.0 (λ (y : b.0 ≡ i).
-            let u : w ≡ v.worker = taken_same w v.worker (sym b.1 ∙ (ap (status r.history) y ∙ was)) in let d = k.drew z (f ∙ ap held u) in absurd (omega arith)) ∙ b.1),
+            let u : w ≡ v.worker = taken_same w v.worker (sym b.1 ∙ (ap (status r.history) y ∙ was)) in let d = k.drew z (f ∙ ap drawn_by u) in absurd (omega arith)) ∙ b.1),
       );
       loose = λ u ne. ((λ y. let z = sym had ∙ y in cc), (λ y. cc), (λ y. apart u (ap shown y)));
     }
@@ -79,8 +79,9 @@ module _ {J R : Type 0} where
       member = k.member;
       mine = part_own v.worker r.history e by_me ∙ ap (λ z. e ∷ z) k.mine;
       seen = whole (e ∷ r.history);
+      own = part_own v.worker r.history e by_me ∙ ap (λ z. e ∷ z) k.mine;
       owns = k.owns;
-      drew = λ z. at_put r.faces i (plain m) (λ y f. f ≡ held v.worker → v.drawn ≡ y + 1) z (λ y. absurd (cc)) (λ _ y. k.drew z y);
+      drew = λ z. at_put r.faces i (plain m) (λ y f. f ≡ drawn_by v.worker → v.drawn ≡ y + 1) z (λ y. absurd (cc)) (λ _ y. k.drew z y);
       draws = λ z is. absurd (omega arith);
       low = low_stays root workers (length s.homes) r.history r.faces r.owner me v e end_legal k;
       front = λ z below. at_put r.faces i (plain m) (λ y f. y < v.front → f ≢ plain Absent) z (λ _ y. there (ap shown y)) (λ _. k.front z) below;
@@ -89,7 +90,7 @@ module _ {J R : Type 0} where
         owned = y.owned;
         other = y.other;
         events = part_else u r.history e (λ w. y.other (sym w ∙ by_me)) ∙ y.events;
-        idle = λ z. at_put r.faces i (plain m) (λ q f. f ≢ held u) z (λ q. cc) (λ _. y.idle z);
+        idle = λ z. at_put r.faces i (plain m) (λ q f. f ≢ drawn_by u) z (λ q. cc) (λ _. y.idle z);
       };
     }
 

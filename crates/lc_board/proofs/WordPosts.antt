@@ -12,18 +12,19 @@ use Rattle.lc_board.specs.State.{Absent, Open, Claimed, status}
 use Rattle.lc_board.specs.LegalHistory.{IsLegal}
 use Rattle.lc_board.specs.Holding.{holding}
 use Rattle.lc_board.specs.Growth.{put, job_at}
-use Rattle.lc_board.specs.WordRow.{held, plain, shown, code, Seated, Lies, Knows, IsRow}
-use Rattle.lc_board.specs.WordSteps.{IsFair, AddsEvent, drew, opened}
+use Rattle.lc_board.specs.WordRow.{drawn_by, plain, shown, code, Seated, Lies, Knows, IsRow}
+use Rattle.lc_board.specs.WordSteps.{IsFair, AddsEvent, drew, stepped_over, opened}
 use Rattle.lc_board.specs.declared.event.Event.{Event}
 use Rattle.lc_board.specs.declared.event.Event.TheVariants.{Post}
 use Rattle.lc_board.specs.declared.words.view.Slot.{Slot}
 use Rattle.lc_board.specs.declared.words.view.Slot.TheVariants.{Empty, Job}
 use Rattle.lc_board.specs.declared.words.view.View.{View}
 use Rattle.lc_board.proofs.Growths.{at_put, put_here, put_else, whole, part_own, part_else}
+use Rattle.lc_board.proofs.Places.{at_same, at_other}
 use Rattle.lc_board.proofs.WordsMoved.{agree_put, held_is, rebuilt, IsTurn, turned}
-use Rattle.lc_board.proofs.WordClaims.{St, is_absent, knows_more, next_same, fair, low_stays, adds}
+use Rattle.lc_board.proofs.WordClaims.{St, is_absent, updated, knows_more, next_same, fair, low_stays, adds}
 
-held_same : (a b : ℕ) → held a ≡ held b → a ≡ b
+held_same : (a b : ℕ) → drawn_by a ≡ drawn_by b → a ≡ b
 held_same a b e = cc
 
 module _ {J R : Type 0} where
@@ -43,7 +44,7 @@ module _ {J R : Type 0} where
       below_it : (p : ℕ) → holding v.mine ≡ Some p → p < i
       below_it p is = dite (dec_le i p) (λ le. let x : Absent ≡ Claimed v.worker = sym (r.agrees p ∙ ap shown (r.together i p le gone)) ∙ (held_is root workers s r me v k p).0 is in absurd (cc)) (λ no. omega arith)
 
-      draw_turn : IsTurn root workers s r v.worker i r.history (held v.worker) (set s.homes i none)
+      draw_turn : IsTurn root workers s r v.worker i r.history (drawn_by v.worker) (set s.homes i none)
       draw_turn = record {
         near = near;
         long = length-set s.homes i none;
@@ -51,36 +52,37 @@ module _ {J R : Type 0} where
         matched = r.matched;
         grows = whole r.history;
         parts = λ u ne. refl;
-        agrees = λ z. at_put r.faces i (held v.worker) (λ y f. status r.history y ≡ shown f) z (r.agrees i ∙ ap shown gone) (λ _. r.agrees z);
+        agrees = λ z. at_put r.faces i (drawn_by v.worker) (λ y f. status r.history y ≡ shown f) z (r.agrees i ∙ ap shown gone) (λ _. r.agrees z);
         filled = λ _ z below. k.front z (omega arith);
         some_face = λ is. cc;
         homes_else = λ z ne. set_else s.homes i z none ne;
         jobs_else = λ z ne. refl;
         rows_else = λ z ne. refl;
         lies_here = tt;
-        busy = λ z w. at_put r.faces i (held v.worker) (λ y f. f ≡ held w → (p : ℕ) × (status r.history p ≡ Claimed w)) z
+        busy = λ z w. at_put r.faces i (drawn_by v.worker) (λ y f. f ≡ drawn_by w → (p : ℕ) × (status r.history p ≡ Claimed w)) z
             (λ is. (q, (held_is root workers s r me v k q).0 claim ∙ ap Claimed (held_same v.worker w is))) (λ _ is. r.busy z w is);
-        loose = λ u ne. ((λ x. let y = sym gone ∙ x in cc), (λ (x : held v.worker ≡ held u). ne (sym (held_same v.worker u x))), (λ x. cc));
+        loose = λ u ne. ((λ x. let y = sym gone ∙ x in cc), (λ (x : drawn_by v.worker ≡ drawn_by u). ne (sym (held_same v.worker u x))), (λ x. cc));
       }
 
-      draw_knows : Knows root workers r.history (put r.faces i (held v.worker)) r.owner me (drawn_view v r.history i)
+      draw_knows : Knows root workers r.history (put r.faces i (drawn_by v.worker)) r.owner me (drawn_view v r.history i)
       draw_knows = let k' = knows_more root workers (length s.homes) r.history r.faces r.owner me v r.legal k in record {
         root_is = k.root_is;
         workers_are = k.workers_are;
         member = k.member;
         mine = k.mine;
         seen = whole r.history;
+        own = k.mine;
         owns = k.owns;
-        drew = λ z. at_put r.faces i (held v.worker) (λ y f. f ≡ held v.worker → i + 1 ≡ y + 1) z (λ _. refl) (λ _ x. absurd (let y = k.drew z x in omega arith));
-        draws = λ z is. let e : i ≡ z = omega arith in subst (λ y. put r.faces i (held v.worker) y ≡ held v.worker) e (put_here r.faces i (held v.worker));
+        drew = λ z. at_put r.faces i (drawn_by v.worker) (λ y f. f ≡ drawn_by v.worker → i + 1 ≡ y + 1) z (λ _. refl) (λ _ x. absurd (let y = k.drew z x in omega arith));
+        draws = λ z is. let e : i ≡ z = omega arith in subst (λ y. put r.faces i (drawn_by v.worker) y ≡ drawn_by v.worker) e (put_here r.faces i (drawn_by v.worker));
         low = k'.low;
-        front = λ z. at_put r.faces i (held v.worker) (λ y f. y < i + 1 → f ≢ plain Absent) z (λ _ x. cc) (λ ne l. k.front z (omega arith));
+        front = λ z. at_put r.faces i (drawn_by v.worker) (λ y f. y < i + 1 → f ≢ plain Absent) z (λ _ x. cc) (λ ne l. k.front z (omega arith));
         deals = k.deals;
         joins = λ n u m is. let x = k.joins n u m is in record {
           owned = x.owned;
           other = x.other;
           events = x.events;
-          idle = λ z. at_put r.faces i (held v.worker) (λ y f. f ≢ held u) z (λ y. x.other (sym (held_same v.worker u y))) (λ _. x.idle z);
+          idle = λ z. at_put r.faces i (drawn_by v.worker) (λ y f. f ≢ drawn_by u) z (λ y. x.other (sym (held_same v.worker u y))) (λ _. x.idle z);
         };
       }
 
@@ -91,6 +93,7 @@ module _ {J R : Type 0} where
       member = k.member;
       mine = k.mine;
       seen = whole r.history;
+      own = k.mine;
       owns = k.owns;
       drew = k.drew;
       draws = k.draws;
@@ -112,13 +115,13 @@ module _ {J R : Type 0} where
         takes i Empty,
         l,
         subst (λ x. IsRow root workers (stepped s i x me m.1 w (takes i Empty))) (sym is)
-            (rebuilt root workers s r me v at lives r.history (put r.faces i (held v.worker)) (set s.words i (4 + 2 * v.worker)) (set s.homes i none) w
-            (turned root workers s r v.worker i r.history (held v.worker) (set s.homes i none) (draw_turn root workers me i v lives empty front q claim s r at near' gone)) k'),
+            (rebuilt root workers s r me v at lives r.history (put r.faces i (drawn_by v.worker)) (set s.words i (4 + 2 * v.worker)) (set s.homes i none) w
+            (turned root workers s r v.worker i r.history (drawn_by v.worker) (set s.homes i none) (draw_turn root workers me i v lives empty front q claim s r at near' gone)) k'),
         (
           (refl, refl, refl, refl, refl, refl),
           refl,
           refl,
-          (k0.seen, refl, subst (λ c. IsFair c w) len (fair root workers (length s.homes) r.history (put r.faces i (held v.worker)) r.owner me w refl r.legal r.matched k')),
+          (k0.seen, refl, subst (λ c. IsFair c w) len (fair root workers (length s.homes) r.history (put r.faces i (drawn_by v.worker)) r.owner me w refl r.legal r.matched k')),
           (λ _. (refl, refl, below_it root workers me i v lives empty front q claim s r at near' gone)),
           (λ miss. absurd (miss hit)),
         ),
@@ -139,7 +142,43 @@ module _ {J R : Type 0} where
         ),
       ))
 
-  -- the number that is held is opened with the job
+  pub steps_over : (root : Option J) (workers slots me : ℕ) (m : Seated J R) (i q : ℕ) → m.0.live ≡ true → i < slots → m.0.drawn ≡ 0 → m.0.front ≡ i → holding m.0.mine ≡ Some q
+      → Allows (IsRow root workers) slots me m i (λ n. n) (stepped_over (step slots i 0 0 none) m)
+  steps_over root workers slots me m i q lives near empty front claim s r len at fits = let v = m.0 in let z : ℕ = get_or s.words i 0 in
+      let near' : i < length s.homes = omega arith in let k0 = r.each_seat me v at lives in
+      dite (ℕ_discrete z 0)
+      (λ (hit : z ≡ 0). let w = updated v r.history in let k' = knows_more root workers (length s.homes) r.history r.faces r.owner me v r.legal k0 in (
+        w,
+        keeps,
+        tt,
+        subst (λ (ws : List ℕ). IsRow root workers record { words = ws; homes = s.homes; views = set s.views me w }) (sym (set-get_or s.words i 0))
+            (rebuilt root workers s r me v at lives r.history r.faces s.words s.homes w (next_same root workers s r v.worker) k'),
+        (
+          refl,
+          (refl, refl, refl, refl, refl, refl),
+          refl,
+          refl,
+          sym (at_same z 0 v.front (i + 1) hit),
+          (k0.seen, refl, subst (λ c. IsFair c w) len (fair root workers (length s.homes) r.history r.faces r.owner me w refl r.legal r.matched k')),
+        ),
+      ))
+      (λ (miss : z ≢ 0). let w = passed_view v r.history i in let k' = pass_knows root workers me i v lives empty front q claim s r at near' (λ e. miss (r.shows i near' ∙ ap code e)) in (
+        w,
+        keeps,
+        tt,
+        subst (λ (ws : List ℕ). IsRow root workers record { words = ws; homes = s.homes; views = set s.views me w }) (sym (set-get_or s.words i 0))
+            (rebuilt root workers s r me v at lives r.history r.faces s.words s.homes w (next_same root workers s r v.worker) k'),
+        (
+          refl,
+          (refl, refl, refl, refl, refl, refl),
+          refl,
+          refl,
+          sym (at_other z 0 v.front (i + 1) miss),
+          (k0.seen, refl, subst (λ c. IsFair c w) len (fair root workers (length s.homes) r.history r.faces r.owner me w refl r.legal r.matched k')),
+        ),
+      ))
+
+  -- the number that is drawn is opened with the job
   abbrev opened_view : View J R → List (Event J R) → Event J R → View J R
   opened_view v h e = record v { seen = e ∷ h; mine = e ∷ v.mine; drawn = 0 }
 
@@ -151,7 +190,7 @@ module _ {J R : Type 0} where
     abbrev post : Event J R
     post = Post v.worker p i j
 
-    has : r.faces i ≡ held v.worker
+    has : r.faces i ≡ drawn_by v.worker
     has = ko.draws i full
 
     is_new : status r.history i ≡ Absent
@@ -175,7 +214,7 @@ module _ {J R : Type 0} where
       jobs_else = λ z ne. put_else (job_at root r.history) i (Some j) z ne;
       rows_else = λ z ne. refl;
       lies_here = (j, set_here s.homes i (some (Job j)) near, put_here (job_at root r.history) i (Some j));
-      busy = λ z w is. let o = at_put r.faces i (plain Open) (λ y f. f ≡ held w → r.faces y ≡ held w) z (λ x. absurd (cc)) (λ _ x. x) is in let b = r.busy z w o in
+      busy = λ z w is. let o = at_put r.faces i (plain Open) (λ y f. f ≡ drawn_by w → r.faces y ≡ drawn_by w) z (λ x. absurd (cc)) (λ _ x. x) is in let b = r.busy z w o in
           (b.0, (put_else (status r.history) i Open b.0 (λ (x : b.0 ≡ i). let y : Claimed w ≡ Absent = sym b.1 ∙ (ap (status r.history) x ∙ is_new) in cc) ∙ b.1));
       loose = λ u ne. ((λ x. ne (sym (held_same v.worker u (sym has ∙ x)))), (λ x. cc), (λ x. cc));
     }
@@ -187,8 +226,9 @@ module _ {J R : Type 0} where
       member = ko.member;
       mine = part_own v.worker r.history post refl ∙ ap (λ z. post ∷ z) ko.mine;
       seen = whole (post ∷ r.history);
+      own = part_own v.worker r.history post refl ∙ ap (λ z. post ∷ z) ko.mine;
       owns = ko.owns;
-      drew = λ z. at_put r.faces i (plain Open) (λ y f. f ≡ held v.worker → 0 ≡ y + 1) z (λ x. absurd (cc)) (λ ne x. absurd (let y = ko.drew z x in ne (omega arith)));
+      drew = λ z. at_put r.faces i (plain Open) (λ y f. f ≡ drawn_by v.worker → 0 ≡ y + 1) z (λ x. absurd (cc)) (λ ne x. absurd (let y = ko.drew z x in ne (omega arith)));
       draws = λ z is. absurd (omega arith);
       low = low_stays root workers (length s.homes) r.history r.faces r.owner me v post post_legal ko;
       front = λ z below. at_put r.faces i (plain Open) (λ y f. y < v.front → f ≢ plain Absent) z (λ _ x. cc) (λ _. ko.front z) below;
@@ -197,7 +237,7 @@ module _ {J R : Type 0} where
         owned = x.owned;
         other = x.other;
         events = part_else u r.history post (λ w. x.other (sym w)) ∙ x.events;
-        idle = λ z. at_put r.faces i (plain Open) (λ y f. f ≢ held u) z (λ y. cc) (λ _. x.idle z);
+        idle = λ z. at_put r.faces i (plain Open) (λ y f. f ≢ drawn_by u) z (λ y. cc) (λ _. x.idle z);
       };
     }
 

@@ -59,6 +59,9 @@ module _ {J R : Type 0} where
   pub sees_trans : (v u w : View J R) → Sees v u → Sees u w → Sees v w
   sees_trans v u w a b = (goes_trans w.seen u.seen v.seen b.0 a.0, b.1 ∙ a.1)
 
+  pub looks_trans : (cap : ℕ) (v u w : View J R) → Looks cap v u → Looks cap u w → Looks cap v w
+  looks_trans cap v u w a b = let sees = sees_trans v u w (a.0, a.1) (b.0, b.1) in (sees.0, sees.1, b.2)
+
   pub sees_self : (v : View J R) → Sees v v
   sees_self v = (whole v.seen, refl)
 

@@ -10,7 +10,7 @@ use Rattle.atomic_table.proofs.Lists.{at_set, set_else}
 use Rattle.lc_board.specs.State.{Absent, Open, Claimed, status}
 use Rattle.lc_board.specs.Part.{part}
 use Rattle.lc_board.specs.Growth.{put}
-use Rattle.lc_board.specs.WordRow.{Face, held, plain, code, Homes, Lies, HasJoined, Knows, IsRow}
+use Rattle.lc_board.specs.WordRow.{WordState, drawn_by, plain, code, Homes, Lies, HasJoined, Knows, IsRow}
 use Rattle.lc_board.specs.WordSteps.{dealer, dealt, newcomer, merged, spent}
 use Rattle.lc_board.specs.declared.event.Event.{Event}
 use Rattle.lc_board.specs.declared.words.view.Slot.{Slot}
@@ -57,7 +57,7 @@ redirect_else o id j x e n = ap (redirect o id) e ∙ ap (λ b. cond b (Some id)
 module _ {J R : Type 0} where
   -- the rule stays where only the views and the owners change
   reseated : (root : Option J) (workers : ℕ) (s : State (Slot J R) (View J R)) (r : IsRow root workers s) (views : List (View J R)) (owner : ℕ → Option ℕ)
-      → ((u : ℕ) → owner u ≡ None → (part u r.history ≡ []) × ((k : ℕ) → (r.faces k ≢ held u) × (r.faces k ≢ plain (Claimed u))))
+      → ((u : ℕ) → owner u ≡ None → (part u r.history ≡ []) × ((k : ℕ) → (r.faces k ≢ drawn_by u) × (r.faces k ≢ plain (Claimed u))))
       → ((j : ℕ) (v : View J R) → get_elem? views j ≡ some v → v.live ≡ true → Knows root workers r.history r.faces owner j v) → IsRow root workers record { words = s.words; homes = s.homes; views = views }
   reseated root workers s r views owner idle seats = record {
     history = r.history;
@@ -76,7 +76,7 @@ module _ {J R : Type 0} where
     each_seat = seats;
   }
 
-  reknown : (root : Option J) (workers : ℕ) (h : List (Event J R)) (faces : ℕ → Face) (owner owner' : ℕ → Option ℕ) (j : ℕ) (d : View J R) → Knows root workers h faces owner j d → owner' d.worker ≡ Some j
+  reknown : (root : Option J) (workers : ℕ) (h : List (Event J R)) (faces : ℕ → WordState) (owner owner' : ℕ → Option ℕ) (j : ℕ) (d : View J R) → Knows root workers h faces owner j d → owner' d.worker ≡ Some j
       → (0 < d.made → (j ≡ 0) × ((u : ℕ) → d.made ≤ u → owner' u ≡ None))
       → ((n u : ℕ) (m : List (Event J R)) → get_elem? d.joined n ≡ some (u, m) → owner' u ≡ Some j) → Knows root workers h faces owner' j d
   reknown root workers h faces owner owner' j d k a b c = record {
@@ -85,6 +85,7 @@ module _ {J R : Type 0} where
     member = k.member;
     mine = k.mine;
     seen = k.seen;
+    own = k.own;
     owns = a;
     drew = k.drew;
     draws = k.draws;
@@ -102,7 +103,7 @@ module _ {J R : Type 0} where
       let kept : (u j : ℕ) → r.owner u ≡ Some j → owner' u ≡ Some j = (λ u j e. put_else r.owner v.made (Some n) u (other u j e) ∙ e) in
       let unused = r.idle v.made fresh in
       reseated root workers s r (set s.views id (dealt v) ++ newcomer v ∷ []) owner'
-      (λ u. at_put r.owner v.made (Some n) (λ z o. o ≡ None → (part z r.history ≡ []) × ((q : ℕ) → (r.faces q ≢ held z) × (r.faces q ≢ plain (Claimed z)))) u (λ e. absurd cc) (λ _ e. r.idle u e))
+      (λ u. at_put r.owner v.made (Some n) (λ z o. o ≡ None → (part z r.history ≡ []) × ((q : ℕ) → (r.faces q ≢ drawn_by z) × (r.faces q ≢ plain (Claimed z)))) u (λ e. absurd cc) (λ _ e. r.idle u e))
       (λ j d e live. ⊎_elim
       (λ (x : get_elem? (set s.views id (dealt v)) j ≡ some d). ⊎_elim
       (λ (y : (j ≡ id) × (dealt v ≡ d)). subst (λ (z : ℕ × View J R). Knows root workers r.history r.faces owner' z.0 z.1) (λ i. (sym y.0 i, y.1 i))
@@ -112,6 +113,7 @@ module _ {J R : Type 0} where
         member = k.member;
         mine = k.mine;
         seen = k.seen;
+        own = k.own;
         owns = k.owns;
         drew = k.drew;
         draws = k.draws;
@@ -131,6 +133,7 @@ module _ {J R : Type 0} where
         member = room;
         mine = unused.0;
         seen = (r.history, sym (append-nil r.history));
+        own = refl;
         owns = put_here r.owner v.made (Some n);
         drew = λ q f. absurd ((unused.1 q).0 f);
         draws = λ q f. absurd (omega arith);
@@ -156,6 +159,7 @@ module _ {J R : Type 0} where
         member = k.member;
         mine = k.mine;
         seen = k.seen;
+        own = k.own;
         owns = mine_stays v.worker k.owns;
         drew = k.drew;
         draws = k.draws;
@@ -206,7 +210,7 @@ long_zeros : (n : ℕ) → length (blank n) ≡ n
 long_zeros zero = refl
 long_zeros (suc n) = ap suc (long_zeros n)
 
-abbrev first_faces : ℕ → Face
+abbrev first_faces : ℕ → WordState
 first_faces = put (λ _. plain Absent) 0 (plain Open)
 
 module _ (J R : Type 0) (root : J) (workers n : ℕ) (some_worker : 0 < workers) where
@@ -238,8 +242,8 @@ module _ (J R : Type 0) (root : J) (workers n : ℕ) (some_worker : 0 < workers)
     beyond = λ k l. put_else (λ _. plain Absent) 0 (plain Open) k (λ e. let x = counted in absurd (omega arith));
     together = λ k l le e. at_put (λ _. plain Absent) 0 (plain Open) (λ z f. f ≡ plain Absent → z ≤ l → first_faces l ≡ plain Absent) k (λ x. absurd cc) (λ ne _ y. put_else (λ _. plain Absent) 0 (plain Open) l (λ z. absurd (ne (omega arith)))) e le;
     lies = λ k l. first_lies k (subst (λ z. k < z) counted l);
-    busy = λ k w. at_put (λ _. plain Absent) 0 (plain Open) (λ z f. f ≡ held w → (p : ℕ) × (status {J = J} {R = R} [] p ≡ Claimed w)) k (λ e. absurd cc) (λ _ e. absurd cc);
-    idle = λ u e. (refl, λ k. (at_put (λ _. plain Absent) 0 (plain Open) (λ z f. f ≢ held u) k (λ x. cc) (λ _ x. cc), at_put (λ _. plain Absent) 0 (plain Open) (λ z f. f ≢ plain (Claimed u)) k (λ x. cc) (λ _ x. cc)));
+    busy = λ k w. at_put (λ _. plain Absent) 0 (plain Open) (λ z f. f ≡ drawn_by w → (p : ℕ) × (status {J = J} {R = R} [] p ≡ Claimed w)) k (λ e. absurd cc) (λ _ e. absurd cc);
+    idle = λ u e. (refl, λ k. (at_put (λ _. plain Absent) 0 (plain Open) (λ z f. f ≢ drawn_by u) k (λ x. cc) (λ _ x. cc), at_put (λ _. plain Absent) 0 (plain Open) (λ z f. f ≢ plain (Claimed u)) k (λ x. cc) (λ _ x. cc)));
     each_seat = first_seats;
   }
     where
@@ -250,8 +254,9 @@ module _ (J R : Type 0) (root : J) (workers n : ℕ) (some_worker : 0 < workers)
         member = some_worker;
         mine = refl;
         seen = ([], refl);
+        own = refl;
         owns = refl;
-        drew = λ k. at_put (λ _. plain Absent) 0 (plain Open) (λ z f. f ≡ held 0 → 0 ≡ z + 1) k (λ e. absurd cc) (λ _ e. absurd cc);
+        drew = λ k. at_put (λ _. plain Absent) 0 (plain Open) (λ z f. f ≡ drawn_by 0 → 0 ≡ z + 1) k (λ e. absurd cc) (λ _ e. absurd cc);
         draws = λ k e. absurd (omega arith);
         low = λ k l. absurd (omega arith);
         front = λ k l. subst (λ z. first_faces z ≢ plain Absent) (let e : 0 ≡ k = omega arith in e) (λ x. cc);

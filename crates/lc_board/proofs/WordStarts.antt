@@ -3,7 +3,7 @@ use Rattle.std.proofs.Common.{◌≡◌, ◌<◌, ◌+◌, ◌++◌, ◌∷◌, 
 use Rattle.std.proofs.lemmas.List.{length-set}
 use Rattle.lc_board.specs.Pass.{new_pass}
 use Rattle.lc_board.specs.WordSteps.{dealt, newcomer}
-use Rattle.lc_board.specs.WordsBoard.{IsPassOf, IsSamePass, known, told}
+use Rattle.lc_board.specs.WordsBoard.{IsPassOf, Owns, IsSamePass, known, told}
 use Rattle.lc_board.specs.declared.words.Words.{Words}
 use Rattle.lc_board.specs.declared.words.pass.WordsPass.{WordsPass}
 use Rattle.lc_board.specs.declared.words.view.View.{View}
@@ -11,7 +11,7 @@ use Rattle.lc_board.proofs.Places.{each_set, each_push, get_push_other, get_set_
 
 module _ {J R : Type 0} where
   abbrev IsNew : Words J R → ℕ → WordsPass J R → Type 0
-  IsNew b w p = IsPassOf b p × (told p ≡ new_pass w) × ((known p).seen ≡ [])
+  IsNew b w p = Owns b p × (told p ≡ new_pass w) × ((known p).seen ≡ [])
 
   pub one_more : (b : Words J R) (items : List (WordsPass J R)) (n workers : ℕ) (first first' other : WordsPass J R) → slice_get items 0 ≡ Some first → length items ≡ n → 0 < n
       → IsSamePass first first' → known first' ≡ dealt (known first) → IsPassOf b other → other.worker ≡ n → other.full ≡ false → known other ≡ newcomer (known first)
@@ -28,9 +28,10 @@ module _ {J R : Type 0} where
       let mine_other : (known other).mine ≡ [] = ap (λ (v : View J R). v.mine) new in
       let worker_other : other.worker ≡ length (slice_set items 0 first') = number ∙ sym size in
       let told_other : told other ≡ new_pass (length (slice_set items 0 first')) = (λ i. record { worker = worker_other i; mine = mine_other i; full = empty i; refused = false }) in
-      let board_first : IsPassOf b first' = same.0 ∙ was.0 in (
+      let board_first : Owns b first' = (same.0 ∙ was.0.0, (same.3 ∙ was.0.1.0, same.4 ∙ was.0.1.1)) in
+      let board_other : Owns b other = (own, (ap (λ (v : View J R). v.workers) new ∙ was.0.1.0, ap (λ (v : View J R). v.root) new ∙ was.0.1.1)) in (
         each_push (λ w o. (p : WordsPass J R) → o ≡ Some p → IsNew b w p) (slice_set items 0 first') other
-            (λ p e. let is : other ≡ p = cc e in subst (λ q. IsNew b (length (slice_set items 0 first')) q) is (own, told_other, ap (λ (v : View J R). v.seen) new))
+            (λ p e. let is : other ≡ p = cc e in subst (λ q. IsNew b (length (slice_set items 0 first')) q) is (board_other, told_other, ap (λ (v : View J R). v.seen) new))
             (λ k _. each_set (λ w o. (p : WordsPass J R) → o ≡ Some p → IsNew b w p) items 0 first' low
             (λ p e. let is : first' ≡ p = cc e in subst (λ q. IsNew b 0 q) is (board_first, told_first ∙ was.1, ap (λ (v : View J R). v.seen) me ∙ was.2))
             (λ q off p e. each q p e) k),

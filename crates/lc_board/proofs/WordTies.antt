@@ -6,13 +6,14 @@ use Rattle.std.proofs.lemmas.Bool.Decides.{nat_tests}
 use Rattle.atomic_table.specs.Table.{Step, rest}
 use Rattle.lc_board.specs.Holding.{holding, posted}
 use Rattle.lc_board.specs.WordRow.{Seated}
-use Rattle.lc_board.specs.WordSteps.{AddsEvent, Looks, Missed, low_after, last_look, Leaves, claimed, drew, opened}
+use Rattle.lc_board.specs.WordSteps.{AddsEvent, Looks, Missed, low_after, last_look, Leaves, claimed, drew, stepped_over, opened}
 use Rattle.lc_board.specs.WordPass.{IsTied, kind, tag, tags_as, carried_as}
 use Rattle.lc_board.specs.declared.event.Event.{Event}
 use Rattle.lc_board.specs.declared.event.Event.TheVariants.{Over}
 use Rattle.lc_board.specs.declared.words.view.Slot.{Slot}
 use Rattle.lc_board.specs.declared.words.view.Slot.TheVariants.{Empty, Job, Row}
 use Rattle.lc_board.specs.declared.words.view.View.{View}
+use Rattle.lc_board.proofs.Places.{at_same, at_other}
 
 pub holds_some : (o : Option ℕ) → IsSome o → (i : ℕ) × (o ≡ Some i)
 holds_some None h = absurd cc
@@ -113,6 +114,42 @@ module _ {J R : Type 0} where
     holds = ap holding did.3.1 ∙ t.holds;
     counts = ap posted did.3.1 ∙ t.counts;
     carries = ap (map tag) miss.0 ∙ t.carries;
+    near = let x = t.near in omega arith;
+    within = omega arith;
+    inside = t.inside;
+    lower = t.lower;
+  }
+
+  -- a look at the front, which is absent
+  pub tied_seen : (slots r worker : ℕ) (claim : Option ℕ) (st : Step (Slot J R)) (posts front low : ℕ) (m m1 : Seated J R) → r ≡ 0 → stepped_over st m r m1
+      → IsTied slots worker claim posts front low m → IsTied slots worker claim posts front low m1
+  tied_seen slots r worker claim st posts front low m m1 none did t = record {
+    live = did.1.0 ∙ t.live;
+    idle = did.2 ∙ t.idle;
+    numbered = did.1.3 ∙ t.numbered;
+    fronted = did.4 ∙ at_same r 0 m.0.front (st.word + 1) none ∙ t.fronted;
+    lowered = did.3 ∙ t.lowered;
+    holds = ap holding did.5.1 ∙ t.holds;
+    counts = ap posted did.5.1 ∙ t.counts;
+    carries = ap (map tag) did.0 ∙ t.carries;
+    near = t.near;
+    within = t.within;
+    inside = t.inside;
+    lower = t.lower;
+  }
+
+  -- a look at the front, which is used
+  pub tied_stepped : (slots i r worker : ℕ) (claim : Option ℕ) (st : Step (Slot J R)) (posts low : ℕ) (m m1 : Seated J R) → st.word ≡ i → i < slots → r ≢ 0 → stepped_over st m r m1
+      → IsTied slots worker claim posts i low m → IsTied slots worker claim posts (i + 1) low m1
+  tied_stepped slots i r worker claim st posts low m m1 at near other did t = record {
+    live = did.1.0 ∙ t.live;
+    idle = did.2 ∙ t.idle;
+    numbered = did.1.3 ∙ t.numbered;
+    fronted = did.4 ∙ at_other r 0 m.0.front (st.word + 1) other ∙ ap (λ k. k + 1) at;
+    lowered = did.3 ∙ t.lowered;
+    holds = ap holding did.5.1 ∙ t.holds;
+    counts = ap posted did.5.1 ∙ t.counts;
+    carries = ap (map tag) did.0 ∙ t.carries;
     near = let x = t.near in omega arith;
     within = omega arith;
     inside = t.inside;

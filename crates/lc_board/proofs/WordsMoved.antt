@@ -11,7 +11,7 @@ use Rattle.lc_board.specs.LegalHistory.{IsLegal}
 use Rattle.lc_board.specs.Holding.{holding}
 use Rattle.lc_board.specs.RowsInPlace.{row_given}
 use Rattle.lc_board.specs.Growth.{GoesOn, put, job_at, IsMatched}
-use Rattle.lc_board.specs.WordRow.{Face, held, plain, shown, code, Homes, Lies, HasJoined, Knows, IsRow}
+use Rattle.lc_board.specs.WordRow.{WordState, drawn_by, plain, shown, code, Homes, Lies, HasJoined, Knows, IsRow}
 use Rattle.lc_board.specs.declared.event.Event.{Event}
 use Rattle.lc_board.specs.declared.words.view.Slot.{Slot}
 use Rattle.lc_board.specs.declared.words.view.View.{View}
@@ -19,29 +19,29 @@ use Rattle.lc_board.proofs.HeldClaims.{part_tells_claim}
 use Rattle.lc_board.proofs.Growths.{at_put, put_else, goes_trans}
 
 -- a number is the same for the worker u
-pub record IsApart (u : ℕ) (faces faces' : ℕ → Face) : Type 0 where
-  pub held_to : (k : ℕ) → faces k ≡ held u → faces' k ≡ held u
-  pub held_from : (k : ℕ) → faces' k ≡ held u → faces k ≡ held u
+pub record IsApart (u : ℕ) (faces faces' : ℕ → WordState) : Type 0 where
+  pub drawn_to : (k : ℕ) → faces k ≡ drawn_by u → faces' k ≡ drawn_by u
+  pub drawn_from : (k : ℕ) → faces' k ≡ drawn_by u → faces k ≡ drawn_by u
   pub taken_from : (k : ℕ) → faces' k ≡ plain (Claimed u) → faces k ≡ plain (Claimed u)
 
-pub of_shown : (c : Face) (w : ℕ) → shown c ≡ Claimed w → c ≡ plain (Claimed w)
-of_shown (held u) w e = cc
+pub of_shown : (c : WordState) (w : ℕ) → shown c ≡ Claimed w → c ≡ plain (Claimed w)
+of_shown (drawn_by u) w e = cc
 of_shown (plain m) w e = ap plain e
 
-apart_at : (u : ℕ) (faces : ℕ → Face) (i : ℕ) (c' : Face) → faces i ≢ held u → c' ≢ held u → c' ≢ plain (Claimed u) → IsApart u faces (put faces i c')
+apart_at : (u : ℕ) (faces : ℕ → WordState) (i : ℕ) (c' : WordState) → faces i ≢ drawn_by u → c' ≢ drawn_by u → c' ≢ plain (Claimed u) → IsApart u faces (put faces i c')
 apart_at u faces i c' a c d = record {
-  held_to = λ k e. at_put faces i c' (λ z f. z ≡ k → f ≡ held u) k (λ x. absurd (a (ap faces x ∙ e))) (λ _ _. e) refl;
-  held_from = λ k. at_put faces i c' (λ z f. f ≡ held u → faces z ≡ held u) k (λ e. absurd (c e)) (λ _ e. e);
+  drawn_to = λ k e. at_put faces i c' (λ z f. z ≡ k → f ≡ drawn_by u) k (λ x. absurd (a (ap faces x ∙ e))) (λ _ _. e) refl;
+  drawn_from = λ k. at_put faces i c' (λ z f. f ≡ drawn_by u → faces z ≡ drawn_by u) k (λ e. absurd (c e)) (λ _ e. e);
   taken_from = λ k. at_put faces i c' (λ z f. f ≡ plain (Claimed u) → faces z ≡ plain (Claimed u)) k (λ e. absurd (d e)) (λ _ e. e);
 }
 
-pub apart_same : (u : ℕ) (faces : ℕ → Face) → IsApart u faces faces
-apart_same u faces = record { held_to = λ k e. e; held_from = λ k e. e; taken_from = λ k e. e }
+pub apart_same : (u : ℕ) (faces : ℕ → WordState) → IsApart u faces faces
+apart_same u faces = record { drawn_to = λ k e. e; drawn_from = λ k e. e; taken_from = λ k e. e }
 
-pub agree_put : (s : ℕ → Status) (faces : ℕ → Face) (i : ℕ) (m : Status) (c' : Face) → m ≡ shown c' → ((k : ℕ) → s k ≡ shown (faces k)) → (k : ℕ) → put s i m k ≡ shown (put faces i c' k)
+pub agree_put : (s : ℕ → Status) (faces : ℕ → WordState) (i : ℕ) (m : Status) (c' : WordState) → m ≡ shown c' → ((k : ℕ) → s k ≡ shown (faces k)) → (k : ℕ) → put s i m k ≡ shown (put faces i c' k)
 agree_put s faces i m c' is old k = elim (eqb k i) as (λ b. cond b m (s k) ≡ shown (cond b c' (faces k))) [ true ↦ is | false ↦ old k ]
 
-more_at : (faces : ℕ → Face) (i : ℕ) (c' : Face) → c' ≢ plain Absent → (k : ℕ) → put faces i c' k ≡ plain Absent → (k ≢ i) × (faces k ≡ plain Absent)
+more_at : (faces : ℕ → WordState) (i : ℕ) (c' : WordState) → c' ≢ plain Absent → (k : ℕ) → put faces i c' k ≡ plain Absent → (k ≢ i) × (faces k ≡ plain Absent)
 more_at faces i c' ne k = at_put faces i c' (λ z f. f ≡ plain Absent → (z ≢ i) × (faces z ≡ plain Absent)) k (λ e. absurd (ne e)) (λ o e. (o, e))
 
 pub same_some : {a b : ℕ} → Path (Option ℕ) (Some a) (Some b) → a ≡ b
@@ -55,10 +55,10 @@ module _ {J R : Type 0} where
       let t = part_tells_claim (length s.homes) workers r.history r.legal v.worker in
       subst (λ m. (holding m ≡ Some i) ↔ (status r.history i ≡ Claimed v.worker)) k.mine (t.claimed i)
 
-  still_joined : (h h' : List (Event J R)) (faces faces' : ℕ → Face) (owner : ℕ → Option ℕ) (j worker u : ℕ) (m : List (Event J R)) → part u h' ≡ part u h → IsApart u faces faces' → HasJoined h faces owner j worker u m → HasJoined h' faces' owner j worker u m
-  still_joined h h' faces faces' owner j worker u m same apart x = record { owned = x.owned; other = x.other; events = same ∙ x.events; idle = λ k e. x.idle k (apart.held_from k e) }
+  still_joined : (h h' : List (Event J R)) (faces faces' : ℕ → WordState) (owner : ℕ → Option ℕ) (j worker u : ℕ) (m : List (Event J R)) → part u h' ≡ part u h → IsApart u faces faces' → HasJoined h faces owner j worker u m → HasJoined h' faces' owner j worker u m
+  still_joined h h' faces faces' owner j worker u m same apart x = record { owned = x.owned; other = x.other; events = same ∙ x.events; idle = λ k e. x.idle k (apart.drawn_from k e) }
 
-  others_know : (root : Option J) (workers : ℕ) (h h' : List (Event J R)) (faces faces' : ℕ → Face) (owner : ℕ → Option ℕ) (j : ℕ) (d : View J R)
+  others_know : (root : Option J) (workers : ℕ) (h h' : List (Event J R)) (faces faces' : ℕ → WordState) (owner : ℕ → Option ℕ) (j : ℕ) (d : View J R)
       → part d.worker h' ≡ part d.worker h → ((n u : ℕ) (m : List (Event J R)) → get_elem? d.joined n ≡ some (u, m) → (part u h' ≡ part u h) × IsApart u faces faces') → GoesOn h' h → IsApart d.worker faces faces'
       → ((k : ℕ) → faces' k ≡ plain Absent → faces k ≡ plain Absent) → Knows root workers h faces owner j d → Knows root workers h' faces' owner j d
   others_know root workers h h' faces faces' owner j d same sames longer apart more k = record {
@@ -67,9 +67,10 @@ module _ {J R : Type 0} where
     member = k.member;
     mine = same ∙ k.mine;
     seen = goes_trans h' h d.seen longer k.seen;
+    own = k.own;
     owns = k.owns;
-    drew = λ i e. k.drew i (apart.held_from i e);
-    draws = λ i e. apart.held_to i (k.draws i e);
+    drew = λ i e. k.drew i (apart.drawn_from i e);
+    draws = λ i e. apart.drawn_to i (k.draws i e);
     low = k.low;
     front = λ i l e. k.front i l (more i e);
     deals = k.deals;
@@ -77,10 +78,10 @@ module _ {J R : Type 0} where
   }
 
   -- passes at other seats are other workers'
-  pub other_worker : (root : Option J) (workers : ℕ) (h : List (Event J R)) (faces : ℕ → Face) (owner : ℕ → Option ℕ) (me j : ℕ) (v d : View J R) → Knows root workers h faces owner me v → Knows root workers h faces owner j d → j ≢ me → d.worker ≢ v.worker
+  pub other_worker : (root : Option J) (workers : ℕ) (h : List (Event J R)) (faces : ℕ → WordState) (owner : ℕ → Option ℕ) (me j : ℕ) (v d : View J R) → Knows root workers h faces owner me v → Knows root workers h faces owner j d → j ≢ me → d.worker ≢ v.worker
   other_worker root workers h faces owner me j v d a b ne e = ne (same_some (sym b.owns ∙ (ap owner e ∙ a.owns)))
 
-  pub record IsNext (root : Option J) (workers : ℕ) (s : State (Slot J R) (View J R)) (r : IsRow root workers s) (worker : ℕ) (h' : List (Event J R)) (faces' : ℕ → Face) (words' : List ℕ) (homes' : Homes J R) : Type 0 where
+  pub record IsNext (root : Option J) (workers : ℕ) (s : State (Slot J R) (View J R)) (r : IsRow root workers s) (worker : ℕ) (h' : List (Event J R)) (faces' : ℕ → WordState) (words' : List ℕ) (homes' : Homes J R) : Type 0 where
     pub long : length homes' ≡ length s.homes
     pub wide : length words' ≡ length s.words
     pub legal : IsLegal (length s.homes) workers h'
@@ -92,12 +93,12 @@ module _ {J R : Type 0} where
     pub beyond : (k : ℕ) → length s.homes ≤ k → faces' k ≡ plain Absent
     pub together : (k l : ℕ) → k ≤ l → faces' k ≡ plain Absent → faces' l ≡ plain Absent
     pub lies : (k : ℕ) → k < length s.homes → Lies root h' homes' k (faces' k)
-    pub busy : (k w : ℕ) → faces' k ≡ held w → (p : ℕ) × (status h' p ≡ Claimed w)
+    pub busy : (k w : ℕ) → faces' k ≡ drawn_by w → (p : ℕ) × (status h' p ≡ Claimed w)
     pub apart : (u : ℕ) → u ≢ worker → IsApart u r.faces faces'
     pub more : (k : ℕ) → faces' k ≡ plain Absent → r.faces k ≡ plain Absent
 
   pub rebuilt : (root : Option J) (workers : ℕ) (s : State (Slot J R) (View J R)) (r : IsRow root workers s) (me : ℕ) (v : View J R) → get_elem? s.views me ≡ some v → v.live ≡ true
-      → (h' : List (Event J R)) (faces' : ℕ → Face) (words' : List ℕ) (homes' : Homes J R) (w : View J R) → IsNext root workers s r v.worker h' faces' words' homes' → Knows root workers h' faces' r.owner me w
+      → (h' : List (Event J R)) (faces' : ℕ → WordState) (words' : List ℕ) (homes' : Homes J R) (w : View J R) → IsNext root workers s r v.worker h' faces' words' homes' → Knows root workers h' faces' r.owner me w
       → IsRow root workers record { words = words'; homes = homes'; views = set s.views me w }
   rebuilt root workers s r me v at lives h' faces' words' homes' w n mine = let len : length s.homes ≡ length homes' = sym n.long in record {
     history = h';
@@ -113,7 +114,7 @@ module _ {J R : Type 0} where
     lies = λ k l. n.lies k (subst (λ z. k < z) n.long l);
     busy = n.busy;
     idle = λ u none. let old = r.idle u none in let ne : u ≢ v.worker = (λ e. let x : Path (Option ℕ) None (Some me) = sym none ∙ (ap r.owner e ∙ (r.each_seat me v at lives).owns) in cc) in
-        (n.parts u ne ∙ old.0, λ k. ((λ e. (old.1 k).0 ((n.apart u ne).held_from k e)), (λ e. (old.1 k).1 ((n.apart u ne).taken_from k e))));
+        (n.parts u ne ∙ old.0, λ k. ((λ e. (old.1 k).0 ((n.apart u ne).drawn_from k e)), (λ e. (old.1 k).1 ((n.apart u ne).taken_from k e))));
     each_seat = λ j d e live. ⊎_elim (λ (x : (j ≡ me) × (w ≡ d)). subst (λ (y : ℕ × View J R). Knows root workers h' faces' r.owner y.0 y.1) (λ i. (sym x.0 i, x.1 i)) mine)
         (λ (x : (j ≢ me) × (get_elem? s.views j ≡ some d)). let kd = r.each_seat j d x.1 live in let km = r.each_seat me v at lives in let ne = other_worker root workers r.history r.faces r.owner me j v d km kd x.0 in
         others_know root workers r.history h' r.faces faces' r.owner j d (n.parts d.worker ne)
@@ -122,8 +123,8 @@ module _ {J R : Type 0} where
         (at_set s.views me j w d e);
   }
 
-  pub lies_stay : (root : Option J) (h h' : List (Event J R)) (hs hs' : Homes J R) (k : ℕ) → get_elem? hs' k ≡ get_elem? hs k → job_at root h' k ≡ job_at root h k → row_given h' k ≡ row_given h k → (c : Face) → Lies root h hs k c → Lies root h' hs' k c
-  lies_stay root h h' hs hs' k a b d (held w) l = tt
+  pub lies_stay : (root : Option J) (h h' : List (Event J R)) (hs hs' : Homes J R) (k : ℕ) → get_elem? hs' k ≡ get_elem? hs k → job_at root h' k ≡ job_at root h k → row_given h' k ≡ row_given h k → (c : WordState) → Lies root h hs k c → Lies root h' hs' k c
+  lies_stay root h h' hs hs' k a b d (drawn_by w) l = tt
   lies_stay root h h' hs hs' k a b d (plain Absent) l = a ∙ l
   lies_stay root h h' hs hs' k a b d (plain Open) l = (l.0, a ∙ l.1, b ∙ l.2)
   lies_stay root h h' hs hs' k a b d (plain (Claimed w)) l = tt
@@ -131,7 +132,7 @@ module _ {J R : Type 0} where
   lies_stay root h h' hs hs' k a b d (plain Faulted) l = (l.0, a ∙ l.1, d ∙ l.2)
 
   -- what a step on the number i owes
-  pub record IsTurn (root : Option J) (workers : ℕ) (s : State (Slot J R) (View J R)) (r : IsRow root workers s) (worker i : ℕ) (h' : List (Event J R)) (c' : Face) (homes' : Homes J R) : Type 0 where
+  pub record IsTurn (root : Option J) (workers : ℕ) (s : State (Slot J R) (View J R)) (r : IsRow root workers s) (worker i : ℕ) (h' : List (Event J R)) (c' : WordState) (homes' : Homes J R) : Type 0 where
     pub near : i < length s.homes
     pub long : length homes' ≡ length s.homes
     pub legal : IsLegal (length s.homes) workers h'
@@ -145,10 +146,10 @@ module _ {J R : Type 0} where
     pub jobs_else : (k : ℕ) → k ≢ i → job_at root h' k ≡ job_at root r.history k
     pub rows_else : (k : ℕ) → k ≢ i → row_given h' k ≡ row_given r.history k
     pub lies_here : Lies root h' homes' i c'
-    pub busy : (k w : ℕ) → put r.faces i c' k ≡ held w → (p : ℕ) × (status h' p ≡ Claimed w)
-    pub loose : (u : ℕ) → u ≢ worker → (r.faces i ≢ held u) × (c' ≢ held u) × (c' ≢ plain (Claimed u))
+    pub busy : (k w : ℕ) → put r.faces i c' k ≡ drawn_by w → (p : ℕ) × (status h' p ≡ Claimed w)
+    pub loose : (u : ℕ) → u ≢ worker → (r.faces i ≢ drawn_by u) × (c' ≢ drawn_by u) × (c' ≢ plain (Claimed u))
 
-  pub turned : (root : Option J) (workers : ℕ) (s : State (Slot J R) (View J R)) (r : IsRow root workers s) (worker i : ℕ) (h' : List (Event J R)) (c' : Face) (homes' : Homes J R) → IsTurn root workers s r worker i h' c' homes'
+  pub turned : (root : Option J) (workers : ℕ) (s : State (Slot J R) (View J R)) (r : IsRow root workers s) (worker i : ℕ) (h' : List (Event J R)) (c' : WordState) (homes' : Homes J R) → IsTurn root workers s r worker i h' c' homes'
       → IsNext root workers s r worker h' (put r.faces i c') (set s.words i (code c')) homes'
   turned root workers s r worker i h' c' homes' t = record {
     long = t.long;

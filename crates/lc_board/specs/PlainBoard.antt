@@ -23,6 +23,10 @@ module _ {J R : Type 0} where
   abbrev pub workers_of : Board J R → ℕ
   workers_of b = length b.held
 
+  -- all numbers are used
+  abbrev pub IsFull : Board J R → Type 0
+  IsFull b = length b.cells ≡ b.capacity
+
   -- the number that a worker has claimed
   abbrev pub held_by : Board J R → ℕ → Option ℕ
   held_by b w = slice_index_or b.held w None

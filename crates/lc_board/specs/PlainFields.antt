@@ -4,7 +4,7 @@ use Rattle.lc_board.specs.PlainBoard.{Board, held_by, cell_at}
 use Rattle.lc_board.specs.PlainCalls.{IsOpen}
 use Rattle.lc_board.specs.declared.plain.cell.Cell.{Cell}
 use Rattle.lc_board.specs.declared.plain.cell.Cell.TheVariants.{Waiting, Held, Done}
-use Rattle.lc_board.specs.declared.limits.TheConstants.{MAX_CAPACITY}
+use Rattle.lc_board.specs.Limits.{capacity_limit}
 
 module _ {J R : Type 0} where
   abbrev pub IsHeldBy : ℕ → Option (Cell J R) → Type 0
@@ -15,7 +15,7 @@ module _ {J R : Type 0} where
 
   -- the numbers below the next one are claimed or ended, those from it on are open; a claimed number is its worker's
   pub record IsSound (next : ℕ) (b : Board J R) : Type 0 where
-    pub small : b.capacity ≤ MAX_CAPACITY
+    pub small : b.capacity ≤ capacity_limit
     pub fits : length b.cells ≤ b.capacity
     pub reached : next ≤ length b.cells
     pub below : (k : ℕ) → k < next → ¬ IsOpen (cell_at b k)

@@ -5,7 +5,7 @@ use Rattle.lc_board.specs.Numbers.{HasNumbers}
 use Rattle.lc_board.specs.NewestFirst.{newest_first}
 use Rattle.lc_board.specs.PlainBoard.{Board, workers_of, IsAfter}
 use Rattle.lc_board.specs.declared.event.Event.{Event}
-use Rattle.lc_board.specs.declared.limits.TheConstants.{MAX_WORKERS}
+use Rattle.lc_board.specs.Limits.{workers_limit}
 
 -- the board, and its history, newest first, without jobs and rows
 pub record Record (J R : Type 0) : Type 0 where
@@ -31,4 +31,4 @@ module _ {J R : Type 0} where
   pub record KeepsRoom (board : Board J R) (events : List BareEvent) (len room : ℕ) : Type 0 where
     pub recorded : IsRecorded board (newest_first events)
     pub ends_fit : len + held_count board.held ≤ room
-    pub few : workers_of board ≤ MAX_WORKERS
+    pub few : workers_of board ≤ workers_limit

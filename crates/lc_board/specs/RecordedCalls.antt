@@ -2,7 +2,7 @@
 use Rattle.std.specs.Prelude.{◌≡◌, ◌≢◌, ℕ, ◌<◌, Bool, true, false, List, ◌∷◌, map, Some, None, Result, Ok, Err, slice_get}
 use Rattle.lc_board.specs.Part.{part}
 use Rattle.lc_board.specs.Bare.{bare}
-use Rattle.lc_board.specs.PlainBoard.{Board, workers_of, held_by, posts_by, Adds}
+use Rattle.lc_board.specs.PlainBoard.{Board, IsFull, workers_of, held_by, posts_by, Adds}
 use Rattle.lc_board.specs.PlainCalls.{AnswersClaim, AnswersPost, IsLeftLeast, NoneLeft}
 use Rattle.lc_board.specs.Pass.{Pass}
 use Rattle.lc_board.specs.ClosedBoard.{Promises}
@@ -41,11 +41,12 @@ module _ {J R : Type 0} where
   RecordsClaim w old answer.Over new = AnswersClaim w old.board answer.Over new.board × Records old (event.Over w) new
   RecordsClaim w old answer.Memory new = (new ≡ old) × MayClaim w old.board
 
-  -- a post answers as the board of one thread does, where the worker has claimed the parent; else Full. A refusal changes nothing
+  -- a post answers as the board of one thread does, where the worker has claimed the parent; else Full. A refusal changes nothing, and
+  -- Memory comes only where a number is left
   abbrev pub RecordsPost : ℕ → ℕ → Record J R → J → Result ℕ (PostFault J) → Record J R → Type 0
   RecordsPost w p old j (Ok i) new = AnswersPost w old.board j (Ok i) new.board × Records old (event.Post w p i j) new
   RecordsPost w p old j (Err (refusal.Full k)) new = (k ≡ j) × (new ≡ old) × (Holds w p old.board → AnswersPost w old.board j (Err (refusal.Full k)) old.board)
-  RecordsPost w p old j (Err (refusal.Memory k)) new = (k ≡ j) × (new ≡ old) × Holds w p old.board
+  RecordsPost w p old j (Err (refusal.Memory k)) new = (k ≡ j) × (new ≡ old) × Holds w p old.board × ¬ IsFull old.board
 
   -- a claim is ended exactly where the worker may end it; else nothing changes
   abbrev pub RecordsEnd : Type 0 → Record J R → Event J R → Bool → Record J R → Type 0

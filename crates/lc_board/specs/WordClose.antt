@@ -6,7 +6,7 @@ use Rattle.lc_board.specs.State.{Status, Absent, Open, Claimed, Returned, Faulte
 use Rattle.lc_board.specs.LegalHistory.{IsLegal}
 use Rattle.lc_board.specs.RowsInPlace.{row_given}
 use Rattle.lc_board.specs.Growth.{rank, IsMatched}
-use Rattle.lc_board.specs.WordRow.{Face, held, plain, shown, code}
+use Rattle.lc_board.specs.WordRow.{WordState, drawn_by, plain, shown, code}
 use Rattle.lc_board.specs.Pass.{Pass}
 use Rattle.lc_board.specs.ClosedBoard.{Promises, HasParts}
 use Rattle.lc_board.specs.declared.event.Event.{Event}
@@ -52,7 +52,7 @@ module _ {J R : Type 0} where
   -- the words and slots of a closed board: one legal history, whose parts are the passes' events, with each row in its slot
   pub record IsClosedRow (root : Option J) (workers : ℕ) (passes : List (Pass J R)) (ws : List ℕ) (xs : List (Slot J R)) : Type 0 where
     pub history : List (Event J R)
-    pub faces : ℕ → Face
+    pub faces : ℕ → WordState
     pub legal : IsLegal (length xs) workers history
     pub matched : IsMatched root history
     pub parts : HasParts history passes
@@ -60,6 +60,6 @@ module _ {J R : Type 0} where
     pub agrees : (k : ℕ) → status history k ≡ shown (faces k)
     pub beyond : (k : ℕ) → length xs ≤ k → faces k ≡ plain Absent
     pub together : (k l : ℕ) → k ≤ l → faces k ≡ plain Absent → faces l ≡ plain Absent
-    pub unheld : (k u : ℕ) → faces k ≢ held u
+    pub undrawn : (k u : ℕ) → faces k ≢ drawn_by u
     pub placed : (k : ℕ) → k < length xs → rank (status history k) ≡ 3 → (r : R) × (get_elem? xs k ≡ some (Row r)) × (row_given history k ≡ ended_as (status history k) r)
     pub used : (w : ℕ) (p : Pass J R) → slice_get passes w ≡ Some p → p.full ≡ true → (k : ℕ) → k < length xs → faces k ≢ plain Absent

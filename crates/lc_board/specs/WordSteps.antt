@@ -64,7 +64,7 @@ module _ {J R : Type 0} where
   abbrev pub OthersHeld : View J R → View J R → Type 0
   OthersHeld v w = (h : List (Event J R)) × (p u : ℕ) × GoesOn h v.seen × GoesOn w.seen h × (u ≢ w.worker) × (status h p ≡ Claimed u)
 
-  -- no number that had been seen posted is open, and another worker held a claim meanwhile
+  -- no number that had been seen posted is open, and another worker had a claim meanwhile
   abbrev pub Waits : ℕ → View J R → View J R → Type 0
   Waits cap v w = Looks cap v w × ((k : ℕ) → status v.seen k ≢ Absent → status w.seen k ≢ Open) × OthersHeld v w
 
@@ -93,6 +93,10 @@ module _ {J R : Type 0} where
   drew st m r m' = Same m.0 m'.0 × (m'.0.low ≡ m.0.low) × (m'.0.front ≡ st.word + 1) × Looks st.slots m.0 m'.0
       × (r ≡ 0 → (m'.1 ≡ (st.word, Empty) ∷ m.1) × (m'.0.drawn ≡ st.word + 1) × ((p : ℕ) → holding m.0.mine ≡ Some p → p < st.word))
       × (r ≢ 0 → (m'.1 ≡ m.1) × (m'.0.drawn ≡ m.0.drawn))
+
+  -- a look at the front: where that number is used, the front goes on
+  abbrev pub stepped_over : Step (Slot J R) → Seated J R → ℕ → Seated J R → Type 0
+  stepped_over st m r m' = (m'.1 ≡ m.1) × Same m.0 m'.0 × (m'.0.drawn ≡ m.0.drawn) × (m'.0.low ≡ m.0.low) × (m'.0.front ≡ cond (r == 0) m.0.front (st.word + 1)) × Looks st.slots m.0 m'.0
 
   -- a slot goes home
   abbrev pub Leaves : Seated J R → Seated J R → Type 0

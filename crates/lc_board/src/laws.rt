@@ -2,6 +2,10 @@
 ghost use Rattle.lc_board.specs.Laws.{NumbersOnce, PartSaysWhole, PartTellsClaim, PostedNothing, OverStays, EndedHasRow};
 ghost use Rattle.lc_board.specs.Laws.{EndedStays, PostedOnce, StaysLegal, FewNumbers, FewEnds, RowsAreEnds, SumsOfRows};
 ghost use Rattle.lc_board.specs.Scripts.{ScriptsAreLegal};
+ghost use Rattle.std.specs.Prelude.{◌≡◌};
+ghost use Rattle.lc_board.specs.Limits.{capacity_limit, workers_limit};
+
+use crate::limits::{MAX_CAPACITY, MAX_WORKERS};
 
 /// No number is handed out twice: each is posted, claimed and ended at most once.
 #[tactic(auto, using(crate::proofs::NumbersOnce::numbers_once))]
@@ -64,6 +68,12 @@ pub fn few_numbers<J, R>()
 pub fn rows_are_ends<J, R>()
     ensures rows { RowsAreEnds J R }
     ensures sums { SumsOfRows J R }
+{}
+
+/// The constants are the limits.
+pub fn limits_are()
+    ensures capacity { MAX_CAPACITY ≡ capacity_limit }
+    ensures workers { MAX_WORKERS ≡ workers_limit }
 {}
 
 /// The definitions, computed on short histories.

@@ -8,10 +8,10 @@ mod answers;
 mod event;
 pub mod laws;
 pub mod limits;
-pub mod locked;
-pub mod plain;
-pub mod shared;
-pub mod words;
+mod locked;
+mod plain;
+mod shared;
+mod words;
 
 pub use answers::{Claim, CloseFault, Closed, Ended, PostFault};
 pub use event::{BareEvent, Event};

@@ -5,7 +5,7 @@
 ghost use Rattle.std.specs.Prelude.{◌≡◌, ◌≢◌, ℕ, ◌≤◌, Some, IfOk, IfErr, map, slice_get, vec_len};
 ghost use Rattle.lc_board.specs.ClosedBoard.{Settled, RefusesClose};
 ghost use Rattle.lc_board.specs.RecordedCalls.{locked_promises};
-ghost use Rattle.lc_board.specs.declared.limits.TheConstants.{MAX_CAPACITY, MAX_WORKERS};
+ghost use Rattle.lc_board.specs.Limits.{capacity_limit, workers_limit};
 
 use crate::answers::{Claim, CloseFault, Closed, PostFault};
 use crate::shared::{Shared, Token};
@@ -15,7 +15,7 @@ use std::sync::{Mutex, Wait};
 
 mod compare;
 pub mod pass;
-pub mod recorded;
+mod recorded;
 
 use pass::LockedPass;
 use recorded::Recorded;
@@ -27,7 +27,7 @@ pub struct Locked<J, R> {
     capacity: u32,
     workers: u32,
     recorded: Mutex<Recorded<J, R>>,
-    ghost small: { (capacity ≤ MAX_CAPACITY) × (workers ≤ MAX_WORKERS) },
+    ghost small: { (capacity ≤ capacity_limit) × (workers ≤ workers_limit) },
 }
 
 impl<J: Drop + Send, R: Drop + Send> Shared<J, R> for Locked<J, R> {
@@ -95,12 +95,17 @@ impl<J: Drop + Send, R: Drop + Send> Shared<J, R> for Locked<J, R> {
             pass.fill();
             return Err(PostFault::Full(job));
         }
+        let mut recorded = self.recorded.lock(rt);
+        if recorded.is_full() {
+            pass.fill();
+            return Err(PostFault::Full(job));
+        }
         if pass.make_room().is_err() {
             return Err(PostFault::Memory(job));
         }
         let worker = pass.worker();
         let shown = Snapshot::of(&job);
-        let answer = self.recorded.lock(rt).post(worker, parent, job);
+        let answer = recorded.post(worker, parent, job);
         match &answer {
             Ok(number) => pass.note_post(*number, shown),
             Err(PostFault::Full(_)) => pass.fill(),

@@ -1,21 +1,21 @@
 //! The board of one thread. A call names the worker for whom it acts.
-ghost use Rattle.std.specs.Prelude.{◌≡◌, ◌≢◌, ℕ, ◌<◌, ◌≤◌, ◌^◌, [], None, IfOk, IfErr, IfSome, IfNone, map, slice_set, true, false};
+ghost use Rattle.std.specs.Prelude.{◌≡◌, ◌≢◌, ℕ, ◌<◌, ◌≤◌, ◌^◌, [], None, IfOk, IfErr, IfSome, IfNone, MatchBool, map, slice_set, true, false};
 ghost use Rattle.lc_board.specs.LegalHistory.{IsOver};
 ghost use Rattle.lc_board.specs.RowsInPlace.{InPlace};
-ghost use Rattle.lc_board.specs.PlainBoard.{IsAfter, Adds, first_board, workers_of, held_by, posts_by, cell_at};
+ghost use Rattle.lc_board.specs.PlainBoard.{IsAfter, IsFull, Adds, first_board, workers_of, held_by, posts_by, cell_at};
 ghost use Rattle.lc_board.specs.PlainCalls.{AnswersClaim, AnswersPost, RefusesRows, NoneOpen, NoneHeld, IsLeftLeast, NoneLeft, IsLeft, cell_of};
 ghost use Rattle.lc_board.specs.declared.event.Event.TheVariants.{Return, Fault};
+ghost use Rattle.lc_board.specs.Limits.{capacity_limit, workers_limit};
 
 use crate::answers::{Claim, CloseFault, Closed, Ended, PostFault};
-use crate::limits::{MAX_CAPACITY, MAX_WORKERS};
 use std::alloc::{AllocError, Global};
 use std::marker::Model;
 
-pub mod cell;
-mod cells;
+mod cell;
+mod scans;
 
-use cell::{Cell, count_post, posts_of, take_job};
-use cells::{all_ended, first_left, is_any_held};
+use cell::Cell;
+use scans::{all_ended, first_left, is_any_held};
 
 /// A board of one thread. Contracts see it as its capacity, what each worker has claimed, and the cells of its numbers.
 #[derive(Drop)]
@@ -48,8 +48,8 @@ impl<J: Drop, R: Drop> Plain<J, R> {
         workers: u32,
         root: J,
     ) -> Result<Plain<J, R>, AllocError>
-        requires capacity { (1 ≤ capacity) × (capacity ≤ MAX_CAPACITY) }
-        requires workers { (1 ≤ workers) × (workers ≤ MAX_WORKERS) }
+        requires capacity { (1 ≤ capacity) × (capacity ≤ capacity_limit) }
+        requires workers { (1 ≤ workers) × (workers ≤ workers_limit) }
         ensures { IfOk result (λ b. (b ≡ first_board capacity workers root) × IsAfter root [] b) }
     {
         let mut held = Vec::with_capacity(alloc, workers as usize)?;
@@ -74,7 +74,7 @@ impl<J: Drop, R: Drop> Plain<J, R> {
     {
         let number = self.next;
         if (number as usize) < self.cells.len() {
-            let job = take_job(&mut self.cells[number as usize], worker);
+            let job = self.cells[number as usize].take_job(worker);
             self.held[worker as usize] = Some(number);
             self.next = number + 1;
             return Claim::Got(number, job);
@@ -101,7 +101,7 @@ impl<J: Drop, R: Drop> Plain<J, R> {
         if self.cells.reserve(1).is_err() {
             return Err(PostFault::Memory(job));
         }
-        count_post(&mut self.cells[parent as usize]);
+        self.cells[parent as usize].count_post();
         self.cells.push_reserved(Cell::Waiting(job));
         Ok(number as u32)
     }
@@ -174,6 +174,13 @@ impl<J: Drop, R: Drop> Plain<J, R> {
         self.held.len() as u32
     }
 
+    /// All numbers are used.
+    pub(crate) fn is_full(&self) -> bool
+        ensures { MatchBool result (IsFull self.now) (¬ IsFull self.now) }
+    {
+        self.cells.len() >= self.capacity as usize
+    }
+
     pub(crate) fn capacity(&self) -> u32
         ensures { result ≡ self.now.capacity }
     {
@@ -197,7 +204,7 @@ impl<J: Drop, R: Drop> Plain<J, R> {
         let Some(number) = self.held[worker as usize] else {
             unreachable!()
         };
-        posts_of(&self.cells[number as usize])
+        self.cells[number as usize].posts()
     }
 
     /// The least number that has not ended.

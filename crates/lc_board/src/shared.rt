@@ -5,9 +5,9 @@
 ghost use Rattle.std.specs.Prelude.{◌≡◌, ◌≢◌, ℕ, ◌≤◌, Some, None, IfOk, IfErr, slice_get, vec_len, map};
 ghost use Rattle.lc_board.specs.Pass.{Pass, holding, posted, new_pass, after_claim, after_post, after_give, after_fault, job_back};
 ghost use Rattle.lc_board.specs.ClosedBoard.{Promises, Settled, RefusesClose};
+ghost use Rattle.lc_board.specs.Limits.{capacity_limit, workers_limit};
 
 use crate::answers::{Claim, CloseFault, Closed, PostFault};
-use crate::limits::{MAX_CAPACITY, MAX_WORKERS};
 use std::alloc::{AllocError, Global};
 use std::sync::Wait;
 
@@ -57,8 +57,8 @@ pub trait Shared<J, R>: Sized + Sync + Drop {
         workers: u32,
         root: J,
     ) -> Result<(Self, Vec<Self::Pass>), AllocError>
-        requires capacity { (1 ≤ capacity) × (capacity ≤ MAX_CAPACITY) }
-        requires workers { (1 ≤ workers) × (workers ≤ MAX_WORKERS) }
+        requires capacity { (1 ≤ capacity) × (capacity ≤ capacity_limit) }
+        requires workers { (1 ≤ workers) × (workers ≤ workers_limit) }
         ensures board { IfOk result (λ b. (Self.capacity_of b.0 ≡ capacity) × (Self.workers_of b.0 ≡ workers) × Self.is_root b.0 root) }
         ensures count { IfOk result (λ b. vec_len b.1 ≡ workers) }
         ensures passes { IfOk result (λ b. (w : ℕ) (p : Self.Pass) → slice_get b.1.items w ≡ Some p → owns b.0 p × (Self.Pass.view p ≡ new_pass w)) };

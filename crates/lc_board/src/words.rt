@@ -3,7 +3,7 @@
 //! Its own calls `claim`, `post`, `give` and `fault` wait for nobody and take no memory. A slot holds the job of its number, later its
 //! row. Both are moved by the thread that changed the word, so that jobs and rows that are boxes make slots of 16 bytes.
 ghost use Rattle.std.specs.Prelude.{◌≡◌, ◌≤◌};
-ghost use Rattle.lc_board.specs.declared.limits.TheConstants.{MAX_CAPACITY, MAX_WORKERS};
+ghost use Rattle.lc_board.specs.Limits.{capacity_limit, workers_limit};
 
 use crate::words::rule::{OneHistory, Origin};
 use crate::words::view::{Slot, View};
@@ -11,7 +11,6 @@ use atomic_table::Table;
 use std::alloc::Global;
 
 mod claim;
-mod claims;
 pub(crate) mod close;
 pub(crate) mod coding;
 pub mod pass;
@@ -19,6 +18,7 @@ mod posts;
 pub mod rule;
 mod shared;
 mod start;
+mod steps;
 pub mod view;
 
 /// A board of words. It keeps values: the rows that it gives back are in place.
@@ -29,6 +29,6 @@ pub struct Words<J, R> {
     pub(crate) workers: u32,
     pub(crate) alloc: Global,
     ghost square: { (table.shared.table_id.words ≡ capacity) × (table.shared.table_id.slots ≡ capacity) },
-    ghost small: { (1 ≤ capacity) × (capacity ≤ MAX_CAPACITY) × (1 ≤ workers) × (workers ≤ MAX_WORKERS) },
+    ghost small: { (1 ≤ capacity) × (capacity ≤ capacity_limit) × (1 ≤ workers) × (workers ≤ workers_limit) },
     ghost origin: { table.shared.key.workers ≡ workers },
 }

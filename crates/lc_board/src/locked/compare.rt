@@ -4,9 +4,9 @@ ghost use Rattle.lc_board.specs.Part.{worker_of};
 ghost use Rattle.lc_board.specs.Bare.{bare};
 ghost use Rattle.lc_board.specs.Notes.{valued};
 ghost use Rattle.lc_board.specs.ComparedPass.{IsSame};
+ghost use Rattle.lc_board.specs.Limits.{workers_limit};
 
 use crate::event::{BareEvent, Event};
-use crate::limits::MAX_WORKERS;
 use crate::locked::pass::LockedPass;
 use std::snapshot::Snapshot;
 
@@ -92,7 +92,7 @@ fn matches<J, R>(
 
 /// The first worker of whom the history has something else than its pass.
 pub fn first_mismatch<J, R>(history: &[BareEvent], passes: &[LockedPass<J, R>]) -> Option<u32>
-    requires { length passes.now ≤ MAX_WORKERS }
+    requires { length passes.now ≤ workers_limit }
     ensures some { IfSome result (λ w. (p : _) × (slice_get passes.now w ≡ Some p) × (¬ IsSame w history.now p.notes.items)) }
     ensures none { IfNone result ((w : ℕ) (p : _) → slice_get passes.now w ≡ Some p → IsSame w history.now p.notes.items) }
 {

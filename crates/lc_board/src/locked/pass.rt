@@ -4,9 +4,9 @@ ghost use Rattle.lc_board.specs.Holding as events;
 ghost use Rattle.lc_board.specs.Pass.{holding, posted, new_pass, filled, refusing, after_claim, after_post, after_give, after_fault};
 ghost use Rattle.lc_board.specs.declared.answers.Claim.TheVariants as answer;
 ghost use Rattle.lc_board.specs.Notes.{mine_of};
+ghost use Rattle.lc_board.specs.Limits.{capacity_limit};
 
 use crate::event::Event;
-use crate::limits::MAX_CAPACITY;
 use crate::shared::Token;
 use std::alloc::{AllocError, Global};
 use std::snapshot::Snapshot;
@@ -116,7 +116,7 @@ impl<J, R> LockedPass<J, R> {
     #[tactic(auto, using(crate::proofs::NewestFirst::mine_push))]
     pub(crate) fn note_post(&mut self, number: u32, job: Snapshot<J>)
         requires room { vec_len self.old.notes + 2 ≤ vec_capacity self.old.notes }
-        requires posts { self.old.posts < MAX_CAPACITY }
+        requires posts { self.old.posts < capacity_limit }
         requires held { holding (⟦<LockedPass<J, R> as Token<J, R>>⟧.view self.old) ≢ None }
         ensures { ⟦<LockedPass<J, R> as Token<J, R>>⟧.view self.new ≡ after_post (⟦<LockedPass<J, R> as Token<J, R>>⟧.view self.old) job.value (Ok number) }
     {

@@ -1,13 +1,13 @@
 //! What lies under the lock: a board of one thread beside the history of its events.
 ghost use Rattle.std.specs.Prelude.{◌≡◌, ℕ, ◌≤◌, [], IfOk, IfErr, MatchBool, map, length};
-ghost use Rattle.lc_board.specs.PlainBoard.{first_board};
+ghost use Rattle.lc_board.specs.PlainBoard.{first_board, IsFull};
 ghost use Rattle.lc_board.specs.RecordedCalls.{Holds, MayFault, RecordsClaim, RecordsPost, RecordsEnd, RefusesRecorded, locked_promises};
 ghost use Rattle.lc_board.specs.ClosedBoard.{Settled, RefusesClose};
 ghost use Rattle.lc_board.specs.declared.event.Event.TheVariants.{Return, Fault};
+ghost use Rattle.lc_board.specs.Limits.{capacity_limit, workers_limit};
 
 use crate::answers::{Claim, CloseFault, Closed, PostFault};
 use crate::event::{BareEvent, Event};
-use crate::limits::{MAX_CAPACITY, MAX_WORKERS};
 use crate::locked::compare::first_mismatch;
 use crate::locked::pass::LockedPass;
 use crate::plain::Plain;
@@ -42,8 +42,8 @@ impl<J: Drop, R: Drop> Recorded<J, R> {
         workers: u32,
         root: J,
     ) -> Result<Recorded<J, R>, AllocError>
-        requires capacity { (1 ≤ capacity) × (capacity ≤ MAX_CAPACITY) }
-        requires workers { (1 ≤ workers) × (workers ≤ MAX_WORKERS) }
+        requires capacity { (1 ≤ capacity) × (capacity ≤ capacity_limit) }
+        requires workers { (1 ≤ workers) × (workers ≤ workers_limit) }
         ensures { IfOk result (λ r. (r.board ≡ first_board capacity workers root) × (r.history ≡ [])) }
     {
         let plain = Plain::start(alloc, capacity, workers, root)?;
@@ -78,11 +78,18 @@ impl<J: Drop, R: Drop> Recorded<J, R> {
         answer
     }
 
-    /// Posts under the claim that the worker has of the parent, and keeps the room for the ends.
+    /// All numbers are used.
+    pub(crate) fn is_full(&self) -> bool
+        ensures { MatchBool result (IsFull self.now.board) (¬ IsFull self.now.board) }
+    {
+        self.plain.is_full()
+    }
+
+    /// Posts under the claim that the worker has of the parent, and keeps the room for the ends. Full comes before Memory.
     pub fn post(&mut self, worker: u32, parent: u32, job: J) -> Result<u32, PostFault<J>>
         ensures { RecordsPost worker parent self.old job result self.new }
     {
-        if !self.holds(worker, parent) {
+        if !self.holds(worker, parent) || self.plain.is_full() {
             return Err(PostFault::Full(job));
         }
         let workers = self.plain.workers();
@@ -150,7 +157,7 @@ impl<J: Drop, R: Drop> Recorded<J, R> {
         workers: u32,
         passes: &[LockedPass<J, R>],
     ) -> Result<Closed<R>, CloseFault>
-        requires workers { workers ≤ MAX_WORKERS }
+        requires workers { workers ≤ workers_limit }
         requires all { length passes.now ≡ workers }
         ensures settled { IfOk result (λ c. (root : J) → Settled capacity workers root locked_promises (map ⟦<LockedPass<J, R> as Token<J, R>>⟧.view passes.now) c.rows.items) }
         ensures fault { IfErr result (RefusesClose capacity workers locked_promises (map ⟦<LockedPass<J, R> as Token<J, R>>⟧.view passes.now)) }

@@ -1,13 +1,13 @@
 //! What another worker meets while a number is drawn and not open yet.
 ghost use Rattle.std.specs.Prelude.{◌≡◌, ◌<◌, ℕ, Some, IsSome};
-ghost use Rattle.lc_board.specs.WordsBoard.{IsPassOf};
+ghost use Rattle.lc_board.specs.WordsBoard.{Owns};
 
 use crate::answers::{CloseFault, Ended};
 use crate::shared::{Shared, Token};
 use crate::tests::script::{Call, ROOT, Told};
 use crate::tests::shared_scripts::tell;
 use crate::words::Words;
-use crate::words::coding::{ABSENT, OPEN, held_by};
+use crate::words::coding::{ABSENT, OPEN, drawn_by};
 use crate::words::pass::WordsPass;
 use crate::words::rule::{Draw, Open};
 use crate::words::view::Slot;
@@ -24,16 +24,16 @@ fn post_slowly<W: Wait>(
     job: u32,
     calls: [Call; 2],
 ) -> [Told; 2]
-    requires board { IsPassOf board.now pass.old × IsPassOf board.now other.old }
+    requires board { Owns board.now pass.old × Owns board.now other.old }
     requires holds { IsSome pass.old.holding }
     requires near { pass.old.front < board.now.capacity }
-    ensures board { IsPassOf board.now pass.new × IsPassOf board.now other.new }
+    ensures board { Owns board.now pass.new × Owns board.now other.new }
     ensures workers { (pass.new.worker ≡ pass.old.worker) × (other.new.worker ≡ other.old.worker) }
 {
     let shared = &board.table.shared;
     let number = pass.front;
     let word = number as usize;
-    let new = held_by(pass.worker);
+    let new = drawn_by(pass.worker);
     let found = shared.compare_exchange::<Draw>(&mut pass.seat, word, ABSENT, new);
     pass.front = number + 1;
     if found != ABSENT {

@@ -1,9 +1,9 @@
 //! Workers on threads, who fill a board with jobs that share what lies behind two `Arc`s.
 ghost use Rattle.std.specs.Prelude.{◌≡◌, ◌≢◌, ◌≤◌, ◌<◌, ℕ, None, IfOk, slice_index_or, vec_len};
 ghost use Rattle.lc_board.specs.Pass.{holding};
+ghost use Rattle.lc_board.specs.Limits.{capacity_limit, workers_limit};
 
 use crate::answers::{Claim, CloseFault, Ended, PostFault};
-use crate::limits::{MAX_CAPACITY, MAX_WORKERS};
 use crate::locked::Locked;
 use crate::shared::{Shared, Token};
 use crate::words::Words;
@@ -155,8 +155,8 @@ fn fill<B: Shared<Job, Row>, R: Threads + Wait + Abort + Sync>(
     capacity: u32,
     workers: u32,
 ) -> Result<(), AllocError>
-    requires capacity { (1 ≤ capacity) × (capacity ≤ MAX_CAPACITY) }
-    requires workers { (1 ≤ workers) × (workers ≤ MAX_WORKERS) }
+    requires capacity { (1 ≤ capacity) × (capacity ≤ capacity_limit) }
+    requires workers { (1 ≤ workers) × (workers ≤ workers_limit) }
 {
     let root = Job::top(alloc)?;
     let (board, passes) = B::start(alloc, capacity, workers, root)?;

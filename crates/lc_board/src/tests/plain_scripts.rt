@@ -1,9 +1,9 @@
 //! The scripts on a board of one thread.
 ghost use Rattle.std.specs.Prelude.{◌≡◌, ◌≤◌, ◌<◌, length};
 ghost use Rattle.lc_board.specs.PlainBoard.{workers_of};
+ghost use Rattle.lc_board.specs.Limits.{capacity_limit, workers_limit};
 
 use crate::answers::{CloseFault, Closed, Ended};
-use crate::limits::{MAX_CAPACITY, MAX_WORKERS};
 use crate::plain::Plain;
 use crate::tests::script::{Call, FAULT, FULL, OWN_POST, ROOT, TWO_WORKERS, Told};
 use std::alloc::{AllocError, Global};
@@ -12,7 +12,7 @@ use std::test::Fail;
 
 /// Makes a call, if it is the worker's turn.
 fn tell(board: &mut Plain<u32, u32>, call: Call) -> Told
-    requires { workers_of board.old ≤ MAX_WORKERS }
+    requires { workers_of board.old ≤ workers_limit }
     ensures { workers_of board.new ≡ workers_of board.old }
 {
     let worker = call.worker();
@@ -58,8 +58,8 @@ fn run<R: Abort>(
     workers: u32,
     script: &[(Call, Told)],
 ) -> Result<Result<Closed<u32>, CloseFault>, AllocError>
-    requires capacity { (1 ≤ capacity) × (capacity ≤ MAX_CAPACITY) }
-    requires workers { (1 ≤ workers) × (workers ≤ MAX_WORKERS) }
+    requires capacity { (1 ≤ capacity) × (capacity ≤ capacity_limit) }
+    requires workers { (1 ≤ workers) × (workers ≤ workers_limit) }
 {
     let mut board = Plain::<u32, u32>::start(alloc, capacity, workers, ROOT)?;
     assert!(rt; !board.is_over());
@@ -82,8 +82,8 @@ fn ends_with<R: Abort>(
     script: &[(Call, Told)],
     rows: &[Ended<u32>],
 ) -> Result<(), AllocError>
-    requires capacity { (1 ≤ capacity) × (capacity ≤ MAX_CAPACITY) }
-    requires workers { (1 ≤ workers) × (workers ≤ MAX_WORKERS) }
+    requires capacity { (1 ≤ capacity) × (capacity ≤ capacity_limit) }
+    requires workers { (1 ≤ workers) × (workers ≤ workers_limit) }
 {
     match run(rt, alloc, capacity, workers, script)? {
         Ok(closed) => assert_eq!(rt; closed.rows.as_slice(), rows),

@@ -1,8 +1,8 @@
 //! The scripts on a board that workers share.
 ghost use Rattle.std.specs.Prelude.{◌≡◌, ◌≤◌, ◌<◌, Some};
+ghost use Rattle.lc_board.specs.Limits.{capacity_limit, workers_limit};
 
 use crate::answers::{CloseFault, Closed, Ended};
-use crate::limits::{MAX_CAPACITY, MAX_WORKERS};
 use crate::locked::Locked;
 use crate::shared::{Shared, Token};
 use crate::tests::script::{Call, FAULT, FULL, OWN_POST, ROOT, TWO_WORKERS, Told};
@@ -57,8 +57,8 @@ fn run<B: Shared<u32, u32>, R: Wait + Abort>(
     workers: u32,
     script: &[(Call, Told)],
 ) -> Result<Result<Closed<u32>, CloseFault>, AllocError>
-    requires capacity { (1 ≤ capacity) × (capacity ≤ MAX_CAPACITY) }
-    requires workers { (1 ≤ workers) × (workers ≤ MAX_WORKERS) }
+    requires capacity { (1 ≤ capacity) × (capacity ≤ capacity_limit) }
+    requires workers { (1 ≤ workers) × (workers ≤ workers_limit) }
 {
     let (board, mut passes) = B::start(alloc, capacity, workers, ROOT)?;
     for (call, told) in script {
@@ -82,8 +82,8 @@ fn ends_with<B: Shared<u32, u32>, R: Wait + Abort>(
     script: &[(Call, Told)],
     rows: &[Ended<u32>],
 ) -> Result<(), AllocError>
-    requires capacity { (1 ≤ capacity) × (capacity ≤ MAX_CAPACITY) }
-    requires workers { (1 ≤ workers) × (workers ≤ MAX_WORKERS) }
+    requires capacity { (1 ≤ capacity) × (capacity ≤ capacity_limit) }
+    requires workers { (1 ≤ workers) × (workers ≤ workers_limit) }
 {
     match run::<B, R>(rt, alloc, capacity, workers, script)? {
         Ok(closed) => assert_eq!(rt; closed.rows.as_slice(), rows),

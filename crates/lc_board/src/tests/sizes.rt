@@ -1,4 +1,5 @@
-//! How much room a number takes on a board of words.
+//! How large a board may be, and how much room a number takes on a board of words.
+use crate::limits::{MAX_CAPACITY, MAX_WORKERS};
 use crate::words::view::Slot;
 use std::mem::size_of;
 use std::test::Fail;
@@ -7,5 +8,11 @@ use std::test::Fail;
 fn a_slot_of_boxes_is_two_words(rt: HostRuntime) -> Result<(), Fail> {
     let bytes = size_of::<Slot<Box<[u64; 100]>, Box<[u64; 50]>>>();
     assert_eq!(rt; bytes, 16);
+    Ok(())
+}
+
+#[test]
+fn limits_of_a_board(rt: HostRuntime) -> Result<(), Fail> {
+    assert_eq!(rt; (MAX_CAPACITY, MAX_WORKERS), (1_048_576, 16));
     Ok(())
 }

@@ -14,11 +14,11 @@ pub const RETURNED: u64 = 2;
 /// Faulted, with its row in the slot.
 pub const FAULTED: u64 = 3;
 
-/// From here on a word names a worker: it holds the number (an even word), or has claimed it (an odd one).
+/// From here on a word names a worker: it has drawn the number (an even word), or has claimed it (an odd one).
 pub const BUSY: u64 = 4;
 
 /// The word of a number that the worker is about to open.
-pub fn held_by(worker: u32) -> u64
+pub fn drawn_by(worker: u32) -> u64
     ensures { result ≡ 4 + 2 * worker }
 {
     4 + 2 * worker as u64
@@ -44,7 +44,7 @@ pub fn is_taken(word: u64) -> bool
     word > OPEN && (word < BUSY || word % 2 == 1)
 }
 
-/// Open, held or claimed.
+/// Open, drawn or claimed.
 pub fn is_unended(word: u64) -> bool
     ensures { MatchBool result ((word ≡ 1) ⊎ (4 ≤ word)) ((word ≢ 1) × (word < 4)) }
 {

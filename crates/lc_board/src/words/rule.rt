@@ -31,6 +31,15 @@ impl<J, R> Play<Slot<J, R>, View<J, R>> for Look {
     ghost then = { looked };
 }
 
+/// A look before a draw.
+pub struct StepOver;
+
+impl<J, R> Play<Slot<J, R>, View<J, R>> for StepOver {
+    ghost use Rattle.lc_board.specs.WordSteps.{stepped_over};
+
+    ghost then = { stepped_over };
+}
+
 pub struct Draw;
 
 impl<J, R> Play<Slot<J, R>, View<J, R>> for Draw {

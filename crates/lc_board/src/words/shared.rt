@@ -4,13 +4,13 @@ ghost use Rattle.lc_board.specs.ClosedBoard.{Settled, RefusesClose};
 ghost use Rattle.lc_board.specs.WordClose.{words_promises};
 ghost use Rattle.lc_board.specs.Pass.{holding, posted, new_pass, after_claim, after_post, after_give, after_fault, job_back};
 ghost use Rattle.lc_board.specs.WordSteps.{AddsEvent, Sees};
-ghost use Rattle.lc_board.specs.WordsBoard.{AnswersWords, IsPassOf, known, told};
+ghost use Rattle.lc_board.specs.WordsBoard.{AnswersWords, Owns, known, told};
 ghost use Rattle.lc_board.specs.declared.words.pass.WordsPass.{WordsPass};
 ghost use Rattle.lc_board.specs.declared.answers.PostFault.TheVariants.{Full};
 ghost use Rattle.lc_board.specs.declared.event.Event.TheVariants.{Post, Return, Fault};
+ghost use Rattle.lc_board.specs.Limits.{capacity_limit, workers_limit};
 
 use crate::answers::{Claim, CloseFault, Closed, PostFault};
-use crate::limits::{MAX_CAPACITY, MAX_WORKERS};
 use crate::shared::{Shared, Token};
 use crate::words::Words;
 use crate::words::close::{count_ended, drain, take_rows};
@@ -27,7 +27,7 @@ impl<J: Drop + Send, R: Drop + Send> Shared<J, R> for Words<J, R> {
 
     ghost is_root = { λ b root. b.table.shared.key.root.value ≡ root };
 
-    ghost owns = { IsPassOf };
+    ghost owns = { Owns };
 
     ghost promises = { words_promises };
 
@@ -37,11 +37,11 @@ impl<J: Drop + Send, R: Drop + Send> Shared<J, R> for Words<J, R> {
         workers: u32,
         root: J,
     ) -> Result<(Words<J, R>, Vec<WordsPass<J, R>>), AllocError>
-        requires capacity { (1 ≤ capacity) × (capacity ≤ MAX_CAPACITY) }
-        requires workers { (1 ≤ workers) × (workers ≤ MAX_WORKERS) }
+        requires capacity { (1 ≤ capacity) × (capacity ≤ capacity_limit) }
+        requires workers { (1 ≤ workers) × (workers ≤ workers_limit) }
         ensures board { IfOk result (λ b. (b.0.capacity ≡ capacity) × (b.0.workers ≡ workers) × (b.0.table.shared.key.root.value ≡ root)) }
         ensures count { IfOk result (λ b. vec_len b.1 ≡ workers) }
-        ensures passes { IfOk result (λ b. (w : ℕ) (p : WordsPass _ _) → slice_get b.1.items w ≡ Some p → IsPassOf b.0 p × (told p ≡ new_pass w)) }
+        ensures passes { IfOk result (λ b. (w : ℕ) (p : WordsPass _ _) → slice_get b.1.items w ≡ Some p → Owns b.0 p × (told p ≡ new_pass w)) }
         ensures unseen { IfOk result (λ b. (w : ℕ) (p : WordsPass _ _) → slice_get b.1.items w ≡ Some p → (known p).seen ≡ []) }
     {
         let mut passes = Vec::with_capacity(alloc, workers as usize)?;
@@ -56,9 +56,9 @@ impl<J: Drop + Send, R: Drop + Send> Shared<J, R> for Words<J, R> {
 
     /// As `Words::claim`.
     fn claim<W: Wait>(&self, _rt: &W, pass: &mut WordsPass<J, R>) -> Claim<J>
-        requires pass { IsPassOf self.now pass.old }
+        requires pass { Owns self.now pass.old }
         requires free { holding (told pass.old) ≡ None }
-        ensures pass { IsPassOf self.now pass.new }
+        ensures pass { Owns self.now pass.new }
         ensures mine { told pass.new ≡ after_claim (told pass.old) result }
         ensures rule { AnswersWords self.now.capacity (known pass.old) (known pass.new) pass.new.holding result }
     {
@@ -77,9 +77,9 @@ impl<J: Drop + Send, R: Drop + Send> Shared<J, R> for Words<J, R> {
         pass: &mut WordsPass<J, R>,
         job: J,
     ) -> Result<u32, PostFault<J>>
-        requires pass { IsPassOf self.now pass.old }
+        requires pass { Owns self.now pass.old }
         requires holds { holding (told pass.old) ≢ None }
-        ensures pass { IsPassOf self.now pass.new }
+        ensures pass { Owns self.now pass.new }
         ensures mine { told pass.new ≡ after_post (told pass.old) job result }
         ensures back { IfErr result (λ f. job_back f ≡ job) }
         ensures posted { IfOk result (λ i. IfSome pass.old.holding (λ p. AddsEvent self.now.capacity (known pass.old) (Post pass.old.worker p i job) (known pass.new))) }
@@ -97,9 +97,9 @@ impl<J: Drop + Send, R: Drop + Send> Shared<J, R> for Words<J, R> {
 
     /// As `Words::give`.
     fn give<W: Wait>(&self, _rt: &W, pass: &mut WordsPass<J, R>, row: R)
-        requires pass { IsPassOf self.now pass.old }
+        requires pass { Owns self.now pass.old }
         requires holds { holding (told pass.old) ≢ None }
-        ensures pass { IsPassOf self.now pass.new }
+        ensures pass { Owns self.now pass.new }
         ensures mine { told pass.new ≡ after_give (told pass.old) row }
         ensures rule { IfSome pass.old.holding (λ i. AddsEvent self.now.capacity (known pass.old) (Return pass.old.worker i row) (known pass.new)) }
     {
@@ -108,10 +108,10 @@ impl<J: Drop + Send, R: Drop + Send> Shared<J, R> for Words<J, R> {
 
     /// As `Words::fault`.
     fn fault<W: Wait>(&self, _rt: &W, pass: &mut WordsPass<J, R>, row: R)
-        requires pass { IsPassOf self.now pass.old }
+        requires pass { Owns self.now pass.old }
         requires holds { holding (told pass.old) ≢ None }
         requires none { posted (told pass.old) ≡ 0 }
-        ensures pass { IsPassOf self.now pass.new }
+        ensures pass { Owns self.now pass.new }
         ensures mine { told pass.new ≡ after_fault (told pass.old) row }
         ensures rule { IfSome pass.old.holding (λ i. AddsEvent self.now.capacity (known pass.old) (Fault pass.old.worker i row) (known pass.new)) }
     {
@@ -120,7 +120,7 @@ impl<J: Drop + Send, R: Drop + Send> Shared<J, R> for Words<J, R> {
 
     fn close(self, passes: Vec<WordsPass<J, R>>) -> Result<Closed<R>, CloseFault>
         requires all { vec_len passes ≡ self.workers }
-        requires each { (w : ℕ) (p : _) → slice_get passes.items w ≡ Some p → IsPassOf self p × ((⟦<WordsPass<J, R> as Token<J, R>>⟧.view p).worker ≡ w) }
+        requires each { (w : ℕ) (p : _) → slice_get passes.items w ≡ Some p → Owns self p × ((⟦<WordsPass<J, R> as Token<J, R>>⟧.view p).worker ≡ w) }
         ensures settled { IfOk result (λ c. (root : J) → self.table.shared.key.root.value ≡ root → Settled self.capacity self.workers root words_promises (map ⟦<WordsPass<J, R> as Token<J, R>>⟧.view passes.items) c.rows.items) }
         ensures fault { IfErr result (RefusesClose self.capacity self.workers words_promises (map ⟦<WordsPass<J, R> as Token<J, R>>⟧.view passes.items)) }
     {

@@ -3,8 +3,8 @@ ghost use Rattle.std.specs.Prelude.{◌≡◌, ◌<◌, ◌≤◌, ◌∷◌, fa
 ghost use Rattle.lc_board.specs.declared.words.view.Slot.TheVariants.{Empty, Job};
 ghost use Rattle.lc_board.specs.WordSteps.{dealer, dealt, newcomer};
 ghost use Rattle.lc_board.specs.WordsBoard.{IsPassOf, IsSamePass, known};
+ghost use Rattle.lc_board.specs.Limits.{capacity_limit, workers_limit};
 
-use crate::limits::{MAX_CAPACITY, MAX_WORKERS};
 use crate::words::Words;
 use crate::words::coding::{ABSENT, OPEN};
 use crate::words::pass::WordsPass;
@@ -48,8 +48,8 @@ impl<J: Drop, R: Drop> Words<J, R> {
         workers: u32,
         root: J,
     ) -> Result<(Words<J, R>, WordsPass<J, R>), AllocError>
-        requires capacity { (1 ≤ capacity) × (capacity ≤ MAX_CAPACITY) }
-        requires workers { (1 ≤ workers) × (workers ≤ MAX_WORKERS) }
+        requires capacity { (1 ≤ capacity) × (capacity ≤ capacity_limit) }
+        requires workers { (1 ≤ workers) × (workers ≤ workers_limit) }
         ensures board { IfOk result (λ b. (b.0.capacity ≡ capacity) × (b.0.workers ≡ workers) × (b.0.table.shared.key.root.value ≡ root)) }
         ensures pass { IfOk result (λ b. IsPassOf b.0 b.1 × (b.1.worker ≡ 0) × (b.1.holding ≡ None) × (b.1.full ≡ false) × (known b.1 ≡ dealer (Some root) workers)) }
     {

@@ -22,7 +22,7 @@ pub struct View<J, R> {
     pub seen: LinkedList<Event<J, R>>,
     /// The events of the worker.
     pub mine: LinkedList<Event<J, R>>,
-    /// 0, or 1 more than the number that is held.
+    /// 0, or 1 more than the number that it has drawn.
     pub drawn: u64,
     /// Each number below it has ended.
     pub low: u64,

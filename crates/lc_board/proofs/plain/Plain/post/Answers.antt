@@ -1,5 +1,5 @@
 use Rattle.std.proofs.Common.{◌≡◌, ◌<◌, length, Some, arith, sym, ap, subst, ◌∙◌}
-use Rattle.lc_board.specs.declared.limits.TheConstants.{MAX_CAPACITY}
+use Rattle.lc_board.specs.Limits.{capacity_limit}
 use Rattle.lc_board.specs.PlainBoard.{posts_in}
 use Rattle.lc_board.specs.PlainCalls.{IsHeld}
 use Rattle.lc_board.proofs.PlainSound.{sound_post}
@@ -27,8 +27,8 @@ count_post-requires-clause-few g c =
     let had = holder _ _ _ _ low c.index.ensures c.in-Some.is in
     let here = held_here _ _ _ _ c.self.invariant had in
     let is = read _ _ _ here.2 (rw c.reserve.ensures.items at c.index_mut.ensures.value) in
-    let few : here.0 < MAX_CAPACITY = omega (arith, here.3, c.self.invariant.fits, c.self.invariant.small) in
-    subst (λ o. posts_in o < MAX_CAPACITY) (sym here.1 ∙ is) few
+    let few : here.0 < capacity_limit = omega (arith, here.3, c.self.invariant.fits, c.self.invariant.small) in
+    subst (λ o. posts_in o < capacity_limit) (sym here.1 ∙ is) few
 
 pub invariant_of-self-2 : goal.invariant_of-self-2
 invariant_of-self-2 g c =

@@ -10,8 +10,8 @@ index-requires-2 g c =
     let here = held_here _ _ _ _ c.self.invariant had in
     omega (arith, here.2, c.self.inside.cells.ok.0)
 
-pub posts_of-requires : goal.posts_of-requires
-posts_of-requires g c =
+pub posts-requires : goal.posts-requires
+posts-requires g c =
     let low = rw (← c.self.view_is) at c.requires.worker in
     let had = holder _ _ _ _ low c.index.ensures c.in-Some.is in
     let here = held_here _ _ _ _ c.self.invariant had in
@@ -24,4 +24,4 @@ returns g c =
     let had = holder _ _ _ _ low c.index.ensures c.in-Some.is in
     let here = held_here _ _ _ _ c.self.invariant had in
     let is = read _ _ _ here.2 c.index-2.ensures in
-    rw (← c.self.view_is, had, is) c.posts_of.ensures
+    rw (← c.self.view_is, had, is) c.posts.ensures

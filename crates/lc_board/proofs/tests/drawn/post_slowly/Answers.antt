@@ -10,15 +10,15 @@ use Rattle.lc_board.proofs.tests.drawn.post_slowly.Goals as goal
 
 pub compare_exchange-found-requires : goal.compare_exchange-found-requires
 compare_exchange-found-requires g c = let p = c.args.pass.now in let t = p.ties in let sq = c.args.board.now.square in let near = c.requires.near in let h = holds_some p.holding c.requires.holds in (
-  c.requires.board.0,
+  c.requires.board.0.0,
   omega arith,
-  draws _ _ _ _ _ _ _ h.0 t.live (omega arith) t.idle t.fronted (t.holds ∙ h.1) (c.held_by-new.ensures ∙ ap (λ (n : ℕ). 4 + 2 * n) (sym t.numbered)),
+  draws _ _ _ _ _ _ _ h.0 t.live (omega arith) t.idle t.fronted (t.holds ∙ h.1) (c.drawn_by-new.ensures ∙ ap (λ (n : ℕ). 4 + 2 * n) (sym t.numbered)),
 )
 
 pub swap-requires : goal.swap-requires
 swap-requires g c = let p = c.args.pass.now in let t = p.ties in let sq = c.args.board.now.square in let near = c.requires.near in let h = holds_some p.holding c.requires.holds in
     let drew = c.compare_exchange-found.ensures.2 in let hit = drew.4 c.if-found-ne-ABSENT.false in let now = c.exchange.ensures.3 in let me = ap (λ m. m.0) now in let claim = t.holds ∙ h.1 in (
-      c.exchange.ensures.0 ∙ (c.compare_exchange-found.ensures.0 ∙ c.requires.board.0),
+      c.exchange.ensures.0 ∙ (c.compare_exchange-found.ensures.0 ∙ c.requires.board.0.0),
       omega arith,
       opens _ _ _ _ _ _ h.0 c.args.job (ap (λ v. v.live) me ∙ (drew.0.0 ∙ t.live)) (omega arith) (ap (λ v. v.drawn) me ∙ hit.1) (ap (λ v. holding v.mine) me ∙ (ap holding drew.3.1 ∙ claim)) (hit.2 h.0 claim)
           (ap (λ m. m.1) now ∙ ap (λ m. (p.front, Job c.args.job) ∷ rest m.1) (sym now)),

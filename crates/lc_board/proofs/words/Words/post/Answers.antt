@@ -16,6 +16,8 @@ loop-pass-preserved g c = let inv = c.loop-pass.invariant in let same = c.in-Err
   own = same.0.0 ∙ inv.own;
   worker = same.0.1 ∙ inv.worker;
   full = same.0.2 ∙ inv.full;
+  workers = same.0.3 ∙ inv.workers;
+  root = same.0.4 ∙ inv.root;
   holding = same.1 ∙ inv.holding;
   posted = told.1 ∙ inv.posted;
   sees = sees_trans c.args.pass.now.seat.me.0 c.loop-pass.pass.seat.me.0 c.try_post.new.pass.seat.me.0 inv.sees (told.2.0, told.2.1);

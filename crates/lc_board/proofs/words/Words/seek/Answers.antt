@@ -40,6 +40,8 @@ loop-number-preserved g c = let told = c.in-Err.ensures.rule in let inv = c.loop
       own = same.0 ∙ inv.own;
       worker = same.1 ∙ inv.worker;
       full = same.2 ∙ inv.full;
+      workers = same.3 ∙ inv.workers;
+      root = same.4 ∙ inv.root;
       holding = told.0;
       from = let x = inv.from in omega arith;
       scan = scan_next c.args.self.now.capacity c.args.pass.now.taken c.loop-number.number c.in-Err.found c.loop-number.busy c.next_busy-busy.result v u w inv.from inv.scan told.2

@@ -26,6 +26,8 @@ loop-job-preserved g c = let told = c.in-Err.ensures.rule in let inv = c.loop-jo
       own = same.0 ∙ inv.own;
       worker = same.1 ∙ inv.worker;
       full = same.2 ∙ inv.full;
+      workers = same.3 ∙ inv.workers;
+      root = same.4 ∙ inv.root;
       holding = told.0;
       sees = on.0;
     }

@@ -7,7 +7,7 @@ pub another-pass-requires-clause-board : goal.another-pass-requires-clause-board
 another-pass-requires-clause-board g c =
     let inv = c.loop-worker.invariant in
     let low : 0 < length c.loop-worker.passes.items = omega (arith, c.loop-worker.passes.ok.0, inv.0) in
-    (inv.1 0 _ (slice_get_read _ _ _ _ refl low c.index_mut.ensures.value)).0
+    (inv.1 0 _ (slice_get_read _ _ _ _ refl low c.index_mut.ensures.value)).0.0
 
 pub another-pass-requires-clause-next : goal.another-pass-requires-clause-next
 another-pass-requires-clause-next g c =

@@ -1,9 +1,9 @@
 //! One number is looked at, claimed, or ended.
 ghost use Rattle.std.specs.Prelude.{◌≡◌, ℕ, ◌+◌, ◌*◌, ◌<◌, MatchResult, IfSome, IsSome, ◌≢◌};
 ghost use Rattle.lc_board.specs.declared.event.Event.TheVariants.{Claim, Return, Fault};
-ghost use Rattle.lc_board.specs.declared.limits.TheConstants.{MAX_CAPACITY};
 ghost use Rattle.lc_board.specs.WordSteps.{AddsEvent, Missed, low_after, taken_after};
 ghost use Rattle.lc_board.specs.WordsBoard.{IsPassOf, IsSamePass, known};
+ghost use Rattle.lc_board.specs.Limits.{capacity_limit};
 
 use crate::words::Words;
 use crate::words::coding::{FAULTED, OPEN, RETURNED, claimed_by, has_ended, is_taken};
@@ -23,7 +23,7 @@ fn next_low(capacity: u32, number: u32, low: u32, found: u64) -> u32
 }
 
 fn next_taken(number: u32, taken: u32, found: u64) -> u32
-    requires { number < MAX_CAPACITY }
+    requires { number < capacity_limit }
     ensures { result ≡ taken_after number taken found }
 {
     if taken == number && is_taken(found) {

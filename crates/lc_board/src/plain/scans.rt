@@ -1,10 +1,10 @@
 //! All cells of a board of one thread, and who holds them.
 ghost use Rattle.std.specs.Prelude.{◌≡◌, ◌≢◌, ℕ, ◌<◌, ◌≤◌, false, true, Some, IfOk, IfSome, IfNone, length, map, slice_get};
 ghost use Rattle.lc_board.specs.PlainCalls.{IsLeft, cell_of};
+ghost use Rattle.lc_board.specs.Limits.{capacity_limit};
 
 use crate::answers::Ended;
-use crate::limits::MAX_CAPACITY;
-use crate::plain::cell::{Cell, is_left, row_in};
+use crate::plain::cell::Cell;
 use std::alloc::{AllocError, Global};
 
 /// Some worker holds a number.
@@ -22,12 +22,12 @@ pub fn is_any_held(held: &[Option<u32>]) -> bool
 
 /// The least number that has not ended.
 pub fn first_left<J, R>(cells: &[Cell<J, R>]) -> Option<u32>
-    requires { length cells.now ≤ MAX_CAPACITY }
+    requires { length cells.now ≤ capacity_limit }
     ensures some { IfSome result (λ n. IsLeft (slice_get cells.now n) × ((k : ℕ) → k < n → ¬ IsLeft (slice_get cells.now k))) }
     ensures none { IfNone result ((k : ℕ) → ¬ IsLeft (slice_get cells.now k)) }
 {
     for at in 0..cells.len() {
-        if is_left(&cells[at]) {
+        if cells[at].is_left() {
             return Some(at as u32);
         }
     }
@@ -44,7 +44,7 @@ pub fn all_ended<J: Drop, R: Drop>(
 {
     let mut rows = Vec::with_capacity(alloc, cells.len())?;
     for cell in cells {
-        rows.push(row_in(cell))?;
+        rows.push(cell.into_row())?;
     }
     Ok(rows)
 }

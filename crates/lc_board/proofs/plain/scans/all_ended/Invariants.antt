@@ -1,7 +1,7 @@
 use Rattle.std.proofs.Common.{◌≡◌, ℕ, ◌++◌, map, slice_get}
 use Rattle.std.specs.Vec.Iter.{into_iter_items}
 use Rattle.lc_board.specs.PlainCalls.{cell_of, IsLeft}
-use Rattle.lc_board.proofs.plain.cells.all_ended.Given as goal
+use Rattle.lc_board.proofs.plain.scans.all_ended.Given as goal
 
 abbrev pub invariant-loop-cell : goal.invariant-loop-cell
 invariant-loop-cell g l = record {
