@@ -5,11 +5,11 @@ use Rattle.lc_census.specs.declared.totals.Eol.{Eol}
 use Rattle.lc_census.specs.declared.totals.Eol.TheVariants.{NoEnd, Lf, CrLf, Cr, Mixed, Nul}
 use Rattle.lc_rules.specs.declared.states.TextState.{TextState}
 use Rattle.lc_rules.specs.declared.states.TextState.TheVariants as text
-use Rattle.lc_walk.specs.Rows.{Row}
-use Rattle.lc_walk.specs.ReportLines.{FileAt, FaultAt}
-use Rattle.lc_walk.specs.declared.sums.Sums.{Sums}
-use Rattle.lc_walk.specs.declared.fault_word.FaultWord.{FaultWord}
-use Rattle.lc_walk.specs.declared.fault_word.FaultWord.TheVariants as fault
+use Rattle.lc_walk.specs.TallyRows.{TallyRowModel}
+use Rattle.lc_walk.specs.ReportLines.{FileLineModel, FaultLineModel}
+use Rattle.lc_walk.specs.declared.tally.sums.Sums.{Sums}
+use Rattle.lc_walk.specs.declared.report.fault_word.FaultWord.{FaultWord}
+use Rattle.lc_walk.specs.declared.report.fault_word.FaultWord.TheVariants as fault
 use Rattle.lc_walk.specs.declared.report.Report.{Report}
 use Rattle.lc.specs.Escape.{escape_bytes, escape_path}
 
@@ -55,7 +55,7 @@ sums_fields s = decimal s.files ∷ decimal s.lines ∷ decimal s.blank ∷ deci
 abbrev pub header_line : List ℕ
 header_line = codes "ext\ttext\teol\tfiles\tlines\tblank\tbytes\n"
 
-abbrev pub row_line : Row → List ℕ
+abbrev pub row_line : TallyRowModel → List ℕ
 row_line r = line_with (extension_word r.key.extension ∷ text_word r.key.text ∷ eol_word r.key.eol ∷ sums_fields r.sums)
 
 abbrev pub totals_line : Sums → List ℕ
@@ -64,12 +64,12 @@ totals_line s = line_with (codes "total" ∷ codes "*" ∷ codes "*" ∷ sums_fi
 abbrev pub directories_line : ℕ → List ℕ
 directories_line n = line_with (codes "directories" ∷ decimal n ∷ [])
 
-abbrev pub file_line : FileAt → List ℕ
+abbrev pub file_line : FileLineModel → List ℕ
 file_line f =
     line_with (codes "file" ∷ text_word f.text ∷ eol_word f.count.eol
     ∷ decimal f.count.lines ∷ decimal f.count.blank ∷ decimal f.count.bytes ∷ escape_path f.path ∷ [])
 
-abbrev pub fault_line : FaultAt → List ℕ
+abbrev pub fault_line : FaultLineModel → List ℕ
 fault_line f = line_with (codes "fault" ∷ fault_word f.word ∷ escape_path f.path ∷ [])
 
 -- the table of a report

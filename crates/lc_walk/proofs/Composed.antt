@@ -10,13 +10,13 @@ use Rattle.lc_board.specs.declared.event.Event.{Event}
 use Rattle.lc_board.specs.declared.event.Event.TheVariants.{Post, Claim, Return, Fault, Over}
 use Rattle.lc_board.specs.declared.answers.Ended.{Ended}
 use Rattle.lc_board.specs.declared.answers.Ended.TheVariants as ended
-use Rattle.lc_walk.specs.Tally.{Held, CountedFile, StandsFor}
+use Rattle.lc_walk.specs.Tally.{TallyModel, CountedFile, StandsFor}
 use Rattle.lc_walk.specs.ReportLines.{file_paths, fault_paths, AreApart}
 use Rattle.lc_walk.specs.Report.{IsReport}
 use Rattle.lc_walk.proofs.Joining.{stands_permuted}
 use Rattle.lc_walk.specs.declared.report.Report.{Report}
 use Rattle.lc_walk.specs.Answers.{Answers, no_answers}
-use Rattle.lc_walk.specs.Job.{JobAt}
+use Rattle.lc_walk.specs.Job.{JobModel}
 use Rattle.lc_walk.specs.Found.{Found, found_of, found_at, children_at}
 use Rattle.lc_walk.specs.Rows.{row_of, job_of, IsWhole}
 use Rattle.lc_walk.specs.Lawful.{Asked, IsLawful, Says, IsCause, IsTidy, files_at}
@@ -31,7 +31,7 @@ use Rattle.std.specs.List.{IsDistinct}
 use Rattle.std.specs.List.Sorted.{IsStrictlySortedBy}
 use Rattle.lc_walk.specs.Listing.{IsListing}
 use Rattle.lc_walk.specs.Walk.{walk_of}
-use Rattle.lc_walk.specs.RowViews.{ChildAt}
+use Rattle.lc_walk.specs.RowViews.{ChildModel}
 use Rattle.lc_walk.proofs.Reports.{report_law}
 use Rattle.lc_walk.proofs.PathsApart.{paths_once_law, file_lines_apart, fault_lines_apart}
 use Rattle.lc_walk.specs.declared.row.Cause.{Cause}
@@ -46,12 +46,12 @@ use Rattle.lc_walk.proofs.Listings.{flat_twice, tallied_went, files_went, faults
 
 -- ---- a row that is lawful where posts may have been refused is so wherever they may have been
 
-fuller_cause : (ask : Asked) (full fuller : Bool) (j : JobAt) (a : Answers) (c : Cause) → (full ≡ true → fuller ≡ true) → IsCause ask full j a c → IsCause ask fuller j a c
+fuller_cause : (ask : Asked) (full fuller : Bool) (j : JobModel) (a : Answers) (c : Cause) → (full ≡ true → fuller ≡ true) → IsCause ask full j a c → IsCause ask fuller j a c
 fuller_cause ask full fuller j a Memory f c = tt
 fuller_cause ask full fuller j a TooManyDirs f c = f c
 fuller_cause ask full fuller j a TooDeep f c = c
 
-fuller_says : (ask : Asked) (full fuller : Bool) (e : Ended Row) (a : Answers) (posts : List (ℕ × JobAt)) → (full ≡ true → fuller ≡ true) → Says ask full e a posts → Says ask fuller e a posts
+fuller_says : (ask : Asked) (full fuller : Bool) (e : Ended Row) (a : Answers) (posts : List (ℕ × JobModel)) → (full ≡ true → fuller ≡ true) → Says ask full e a posts → Says ask fuller e a posts
 fuller_says ask full fuller (ended.Returned (Listed r)) a posts f s = s
 fuller_says ask full fuller (ended.Returned (Faulted r)) a posts f s = s
 fuller_says ask full fuller (ended.Returned (Broken r)) a posts f s = record { posted = s.posted; posts_are = s.posts_are; cause_is = fuller_cause ask full fuller r.job a r.cause f s.cause_is }
@@ -59,7 +59,7 @@ fuller_says ask full fuller (ended.Faulted (Listed r)) a posts f s = s
 fuller_says ask full fuller (ended.Faulted (Faulted r)) a posts f s = s
 fuller_says ask full fuller (ended.Faulted (Broken r)) a posts f s = s
 
-fuller_row : (ask : Asked) (full fuller : Bool) (h : List (Event JobAt Row)) (i : ℕ) (e : Ended Row) (a : Answers) → (full ≡ true → fuller ≡ true) → IsLawful ask full h i e a → IsLawful ask fuller h i e a
+fuller_row : (ask : Asked) (full fuller : Bool) (h : List (Event JobModel Row)) (i : ℕ) (e : Ended Row) (a : Answers) → (full ≡ true → fuller ≡ true) → IsLawful ask full h i e a → IsLawful ask fuller h i e a
 fuller_row ask full fuller h i e a f l = record { job_is = l.job_is; tidy = l.tidy; says = fuller_says ask full fuller e a _ f l.says }
 
 or_left : (a b : Bool) → a ≡ true → (a || b) ≡ true
@@ -70,11 +70,11 @@ or_right : (a b : Bool) → b ≡ true → (a || b) ≡ true
 or_right true b e = refl
 or_right false b e = e
 
-pub some_full : (passes : List (Pass JobAt Row)) (w : ℕ) (p : Pass JobAt Row) → slice_get passes w ≡ Some p → p.full ≡ true → list_any (λ q. q.full) passes ≡ true
+pub some_full : (passes : List (Pass JobModel Row)) (w : ℕ) (p : Pass JobModel Row) → slice_get passes w ≡ Some p → p.full ≡ true → list_any (λ q. q.full) passes ≡ true
 some_full [] w p is f = cc
-some_full (q ∷ qs) zero p is f = let same : q ≡ p = one q p is in or_left q.full (list_any (λ q. q.full) qs) (ap (λ (x : Pass JobAt Row). x.full) same ∙ f)
+some_full (q ∷ qs) zero p is f = let same : q ≡ p = one q p is in or_left q.full (list_any (λ q. q.full) qs) (ap (λ (x : Pass JobModel Row). x.full) same ∙ f)
   where
-    one : (x y : Pass JobAt Row) → Some x ≡ Some y → x ≡ y
+    one : (x y : Pass JobModel Row) → Some x ≡ Some y → x ≡ y
     one x y e = cc
 some_full (q ∷ qs) (suc w) p is f = or_right q.full (list_any (λ q. q.full) qs) (some_full qs w p is f)
 
@@ -82,11 +82,11 @@ abbrev or_no_answers : Option (Ended Row) → Answers → Answers
 or_no_answers None a = no_answers
 or_no_answers (Some e) a = a
 
-module _ (ask : Asked) (MayAnswer : List ℕ → Answers → Type 0) (capacity workers : ℕ) (top : JobAt) (promises : Promises) (passes : List (Pass JobAt Row)) (rows : List (Ended Row))
+module _ (ask : Asked) (MayAnswer : List ℕ → Answers → Type 0) (capacity workers : ℕ) (top : JobModel) (promises : Promises) (passes : List (Pass JobModel Row)) (rows : List (Ended Row))
     (room : 1 ≤ capacity) (keeps : promises.keeps ≡ true) (count : length passes ≡ workers)
     (settled : Settled capacity workers top promises passes rows) (given : ℕ → List Answers)
-    (lawful : (w : ℕ) (p : Pass JobAt Row) → slice_get passes w ≡ Some p → AreLawful ask p.full MayAnswer p.mine (given w)) where
-  abbrev pub history : List (Event JobAt Row)
+    (lawful : (w : ℕ) (p : Pass JobModel Row) → slice_get passes w ≡ Some p → AreLawful ask p.full MayAnswer p.mine (given w)) where
+  abbrev pub history : List (Event JobModel Row)
   history = settled.history
 
   -- by number, what each worker's answers are
@@ -102,7 +102,7 @@ module _ (ask : Asked) (MayAnswer : List ℕ → Answers → Type 0) (capacity w
   answers i = or_no_answers (slice_get rows i) (by (ender history i) i)
 
   abbrev pub full : Bool
-  full = list_any (λ (p : Pass JobAt Row). p.full) passes
+  full = list_any (λ (p : Pass JobModel Row). p.full) passes
 
   in_place : InPlace top history rows
   in_place = settled.in_place keeps
@@ -149,7 +149,7 @@ module _ (ask : Asked) (MayAnswer : List ℕ → Answers → Type 0) (capacity w
   abbrev by_row : ℕ → List CountedFile
   by_row i = by_end (slice_get rows i) (answers i)
 
-  one_event : (e : Event JobAt Row) → IsTold history e → contributes ask answers e ≡ flat_map by_row (ended_by e)
+  one_event : (e : Event JobModel Row) → IsTold history e → contributes ask answers e ≡ flat_map by_row (ended_by e)
   one_event (Post w p i j) t = refl
   one_event (Claim w i j) t = refl
   one_event (Return w i r) t = sym (append-nil (by_row i) ∙ ap (λ o. by_end o (answers i)) (in_place.given i ∙ t.0))
@@ -164,7 +164,7 @@ module _ (ask : Asked) (MayAnswer : List ℕ → Answers → Type 0) (capacity w
       flat_map-on (contributes ask answers) (λ e. flat_map by_row (ended_by e)) history (each-map (IsTold history) (λ e. contributes ask answers e ≡ flat_map by_row (ended_by e)) one_event history told)
       ∙ sym (flat_twice by_row ended_by history)
 
-  own_event : (w : ℕ) (e : Event JobAt Row) → IsTold history e × (worker_of e ≡ w) → contributes ask (by w) e ≡ contributes ask answers e
+  own_event : (w : ℕ) (e : Event JobModel Row) → IsTold history e × (worker_of e ≡ w) → contributes ask (by w) e ≡ contributes ask answers e
   own_event w (Post v p i j) t = refl
   own_event w (Claim v i j) t = refl
   own_event w (Return v i r) t =
@@ -173,7 +173,7 @@ module _ (ask : Asked) (MayAnswer : List ℕ → Answers → Type 0) (capacity w
   own_event w (Fault v i r) t = refl
   own_event w (Over v) t = refl
 
-  one_pass : (w : ℕ) (p : Pass JobAt Row) → slice_get passes w ≡ Some p → files_of_pass ask (given w) (slice_get passes w) ≡ flat_map (contributes ask answers) (part w history)
+  one_pass : (w : ℕ) (p : Pass JobModel Row) → slice_get passes w ≡ Some p → files_of_pass ask (given w) (slice_get passes w) ≡ flat_map (contributes ask answers) (part w history)
   one_pass w p is =
       ap (files_of_pass ask (given w)) is
       ∙ ap (λ m. files_given ask m (given w)) (sym (settled.parts w p is))
@@ -198,7 +198,7 @@ module _ (ask : Asked) (MayAnswer : List ℕ → Answers → Type 0) (capacity w
       pub faults : faults_of (found_at ask.archive (job_of (row_of e)) a) ≡ faults_by_row (row_of e)
       pub directories : directories_of (found_at ask.archive (job_of (row_of e)) a) ≡ directories_by_row (row_of e)
 
-    row_finds : (e : Ended Row) (a : Answers) (posts : List (ℕ × JobAt)) → Says ask full e a posts → IsWhole (row_of e) → RowFinds e a
+    row_finds : (e : Ended Row) (a : Answers) (posts : List (ℕ × JobModel)) → Says ask full e a posts → IsWhole (row_of e) → RowFinds e a
     row_finds (ended.Returned (Listed r)) a posts s w =
         let l = s.level_is in
         let f = found_of r.job in record {
@@ -268,7 +268,7 @@ module _ (ask : Asked) (MayAnswer : List ℕ → Answers → Type 0) (capacity w
         (λ i e is. at_row directory_in i e is ∙ (finds_here i e is).directories)
 
     -- the report of what the rows found
-    pub report_of_rows : (t : Held) → StandsFor t (files_of_passes ask given passes) → (r : Report) →
+    pub report_of_rows : (t : TallyModel) → StandsFor t (files_of_passes ask given passes) → (r : Report) →
         IsReport t (length (directories_in_rows rows)) (cond ask.files (files_in_rows rows) []) (faults_in_rows rows) r → IsReportOf ask.files found r
     report_of_rows t stood r is =
         let stands = stands_permuted t (files_of_passes ask given passes) (tallied_of found) files_found stood in
@@ -295,7 +295,7 @@ module _ (ask : Asked) (MayAnswer : List ℕ → Answers → Type 0) (capacity w
     tidy_at : (i : ℕ) → IsTidy (answers i)
     tidy_at i = tidy_or i (slice_get rows i) refl
 
-    tidy_from : (children : ℕ → List ChildAt) (i : ℕ) (place : List (List ℕ)) → IsTidy (tree_from no_answers answers children i place)
+    tidy_from : (children : ℕ → List ChildModel) (i : ℕ) (place : List (List ℕ)) → IsTidy (tree_from no_answers answers children i place)
     tidy_from children i [] = tidy_at i
     tidy_from children i (n ∷ place) = at (child_number n (children i)) (λ k. tidy_from children k place)
       where
@@ -323,7 +323,7 @@ module _ (ask : Asked) (MayAnswer : List ℕ → Answers → Type 0) (capacity w
 
     -- ---- the report of the walk
 
-    pub report_of_walk : top.path ≡ [] → (t : Held) → StandsFor t (files_of_passes ask given passes) → (r : Report) →
+    pub report_of_walk : top.path ≡ [] → (t : TallyModel) → StandsFor t (files_of_passes ask given passes) → (r : Report) →
         IsReport t (length (directories_in_rows rows)) (cond ask.files (files_in_rows rows) []) (faults_in_rows rows) r → IsWalkReport MayAnswer ask capacity workers top r
     report_of_walk at_top t stood r is =
         let ours = report_of_rows t stood r is in

@@ -7,9 +7,9 @@ use Rattle.lc_board.specs.State.{Absent, status}
 use Rattle.lc_board.specs.LegalHistory.{posts_under, IsLegal}
 use Rattle.lc_board.specs.RowsInPlace.{job_posted}
 use Rattle.lc_board.specs.declared.event.Event.{Event}
-use Rattle.lc_walk.specs.Job.{JobAt}
+use Rattle.lc_walk.specs.Job.{JobModel}
 use Rattle.lc_walk.specs.Walk.{walks_below, walk_by}
-use Rattle.lc_walk.specs.RowViews.{ChildAt}
+use Rattle.lc_walk.specs.RowViews.{ChildModel}
 use Rattle.lc_walk.specs.Lawful.{jobs_of, named}
 use Rattle.lc_walk.specs.TreeOfRows.{child_number, tree_from}
 use Rattle.lc_walk.proofs.Weights.{Each, each-map}
@@ -28,19 +28,19 @@ pub same_tail : {A : Type 0} (x y : A) (xs ys : List A) → x ∷ xs ≡ y ∷ y
 same_tail x y xs ys e = cc
 
 -- under the name of each child the tree at i is the tree at the post's number
-abbrev pub Under : {A : Type 0} → (ℕ → List (List ℕ) → A) → ℕ → List (List ℕ × JobAt) → List (ℕ × JobAt) → Type 0
+abbrev pub Under : {A : Type 0} → (ℕ → List (List ℕ) → A) → ℕ → List (List ℕ × JobModel) → List (ℕ × JobModel) → Type 0
 Under trees i [] ps = Unit {0}
 Under trees i (c ∷ cs) [] = Unit {0}
 Under {A} trees i (c ∷ cs) (p ∷ ps) = ((λ (q : List (List ℕ)). trees i (c.0 ∷ q)) ≡ trees p.0) × Under trees i cs ps
 
 -- a tree for each number: at i it answers as the number's answers do, and under a child's name it is the tree of that child
-pub record Grows {A X R : Type 0} (found : JobAt → A → List X) (children : JobAt → A → List (List ℕ × JobAt)) (h : List (Event JobAt R)) (job : ℕ → JobAt) (answers : ℕ → A) (trees : ℕ → List (List ℕ) → A) : Type 0 where
+pub record Grows {A X R : Type 0} (found : JobModel → A → List X) (children : JobModel → A → List (List ℕ × JobModel)) (h : List (Event JobModel R)) (job : ℕ → JobModel) (answers : ℕ → A) (trees : ℕ → List (List ℕ) → A) : Type 0 where
   pub same_found : (i : ℕ) → status h i ≢ Absent → found (job i) (trees i []) ≡ found (job i) (answers i)
   pub same_children : (i : ℕ) → status h i ≢ Absent → children (job i) (trees i []) ≡ children (job i) (answers i)
   pub under : (i : ℕ) → status h i ≢ Absent → Under trees i (children (job i) (answers i)) (posts_under i h)
 
-module _ {A X R : Type 0} (found : JobAt → A → List X) (children : JobAt → A → List (List ℕ × JobAt)) (c n : ℕ) (top : JobAt) (h : List (Event JobAt R))
-    (job : ℕ → JobAt) (answers : ℕ → A) (trees : ℕ → List (List ℕ) → A) (legal : IsLegal c n h)
+module _ {A X R : Type 0} (found : JobModel → A → List X) (children : JobModel → A → List (List ℕ × JobModel)) (c n : ℕ) (top : JobModel) (h : List (Event JobModel R))
+    (job : ℕ → JobModel) (answers : ℕ → A) (trees : ℕ → List (List ℕ) → A) (legal : IsLegal c n h)
     (posted : (i : ℕ) → status h i ≢ Absent → job_posted top h i ≡ Some (job i))
     (jobs : (i : ℕ) → status h i ≢ Absent → jobs_of (posts_under i h) ≡ jobs_of (children (job i) (answers i)))
     (grows : Grows found children h job answers trees) where
@@ -49,7 +49,7 @@ module _ {A X R : Type 0} (found : JobAt → A → List X) (children : JobAt →
   gives i = found (job i) (answers i)
 
   below_is : (k i : ℕ) → ((m : ℕ) → status h m ≢ Absent → walk_by found children k (job m) (trees m) ≡ flat_map gives (reach h k m)) →
-      (cs : List (List ℕ × JobAt)) (ps : List (ℕ × JobAt)) → Under trees i cs ps → jobs_of ps ≡ jobs_of cs →
+      (cs : List (List ℕ × JobModel)) (ps : List (ℕ × JobModel)) → Under trees i cs ps → jobs_of ps ≡ jobs_of cs →
       Each (λ p. (job p.0 ≡ p.1) × (status h p.0 ≢ Absent)) ps →
       walks_below found children (walk_by found children k) (trees i) cs ≡ flat_map gives (flat_map (λ p. reach h k p.0) ps)
   below_is k i rec [] [] u e a = refl
@@ -59,7 +59,7 @@ module _ {A X R : Type 0} (found : JobAt → A → List X) (children : JobAt →
       let this : p.1 ≡ c.1 = same_head p.1 c.1 (jobs_of ps) (jobs_of cs) e in
       let one : walk_by found children k c.1 (λ q. trees i (c.0 ∷ q)) ≡ flat_map gives (reach h k p.0) =
       ap (λ (t : List (List ℕ) → A). walk_by found children k c.1 t) u.0
-      ∙ ap (λ (j : JobAt). walk_by found children k j (trees p.0)) (sym this ∙ sym a.0.0)
+      ∙ ap (λ (j : JobModel). walk_by found children k j (trees p.0)) (sym this ∙ sym a.0.0)
       ∙ rec p.0 a.0.1 in
       ap (λ (xs : List X). xs ++ walks_below found children (walk_by found children k) (trees i) cs) one
       ∙ ap (λ (xs : List X). flat_map gives (reach h k p.0) ++ xs) (below_is k i rec cs ps u.1 (same_tail p.1 c.1 (jobs_of ps) (jobs_of cs) e) a.1)
@@ -75,13 +75,13 @@ module _ {A X R : Type 0} (found : JobAt → A → List X) (children : JobAt →
   walk_is zero i a = refl
   walk_is (suc k) i a =
       ap (λ (xs : List X). xs ++ walks_below found children (walk_by found children k) (trees i) (children (job i) (trees i []))) (grows.same_found i a)
-      ∙ ap (λ (cs : List (List ℕ × JobAt)). gives i ++ walks_below found children (walk_by found children k) (trees i) cs) (grows.same_children i a)
+      ∙ ap (λ (cs : List (List ℕ × JobModel)). gives i ++ walks_below found children (walk_by found children k) (trees i) cs) (grows.same_children i a)
       ∙ ap (λ (xs : List X). gives i ++ xs) (below_is k i (walk_is k) (children (job i) (answers i)) (posts_under i h) (grows.under i a) (jobs i a) (own i))
 
 -- ---- the tree of rows grows so
 
 -- each child's name leads to its post's number
-abbrev pub Finds : (List ℕ → Option ℕ) → List (List ℕ × JobAt) → List (ℕ × JobAt) → Type 0
+abbrev pub Finds : (List ℕ → Option ℕ) → List (List ℕ × JobModel) → List (ℕ × JobModel) → Type 0
 Finds look [] ps = Unit {0}
 Finds look (c ∷ cs) [] = Unit {0}
 Finds look (c ∷ cs) (p ∷ ps) = (look c.0 ≡ Some p.0) × Finds look cs ps
@@ -94,14 +94,14 @@ hit : (b : Bool) (x y : Option ℕ) → b ≡ true → cond b x y ≡ x
 hit true x y e = refl
 hit false x y e = cc
 
-find_more : (k : ChildAt) (ks : List ChildAt) (cs : List (List ℕ × JobAt)) (ps : List (ℕ × JobAt)) →
+find_more : (k : ChildModel) (ks : List ChildModel) (cs : List (List ℕ × JobModel)) (ps : List (ℕ × JobModel)) →
     Each (λ d. bytes_eq d.0 k.name ≡ false) cs → Finds (λ m. child_number m ks) cs ps → Finds (λ m. child_number m (k ∷ ks)) cs ps
 find_more k ks [] ps a f = tt
 find_more k ks (c ∷ cs) [] a f = tt
 find_more k ks (c ∷ cs) (p ∷ ps) a f =
     (past (bytes_eq c.0 k.name) (Some k.number) (child_number c.0 ks) (Some p.0) a.0 f.0, find_more k ks cs ps a.1 f.1)
 
-pub finds : (cs : List (List ℕ × JobAt)) (ps : List (ℕ × JobAt)) → IsApart cs → Finds (λ m. child_number m (named cs ps)) cs ps
+pub finds : (cs : List (List ℕ × JobModel)) (ps : List (ℕ × JobModel)) → IsApart cs → Finds (λ m. child_number m (named cs ps)) cs ps
 finds [] ps a = tt
 finds (c ∷ cs) [] a = tt
 finds (c ∷ cs) (p ∷ ps) a = (
@@ -109,12 +109,12 @@ finds (c ∷ cs) (p ∷ ps) a = (
   find_more (record { name = c.0; number = p.0 }) (named cs ps) cs ps a.0 (finds cs ps a.1),
 )
 
-open_child : {A : Type 0} (blank : A) (answers : ℕ → A) (children : ℕ → List ChildAt) (o : Option ℕ) (k : ℕ) → o ≡ Some k →
+open_child : {A : Type 0} (blank : A) (answers : ℕ → A) (children : ℕ → List ChildModel) (o : Option ℕ) (k : ℕ) → o ≡ Some k →
     (λ (p : List (List ℕ)). elim o [ None ↦ blank | Some d ↦ tree_from blank answers children d p ]) ≡ tree_from blank answers children k
 open_child {A} blank answers children o k e =
     ap {B = List (List ℕ) → A} (λ (x : Option ℕ) (p : List (List ℕ)). elim x [ None ↦ blank | Some d ↦ tree_from blank answers children d p ]) e
 
-pub under_rows : {A : Type 0} (blank : A) (answers : ℕ → A) (children : ℕ → List ChildAt) (i : ℕ) (cs : List (List ℕ × JobAt)) (ps : List (ℕ × JobAt)) →
+pub under_rows : {A : Type 0} (blank : A) (answers : ℕ → A) (children : ℕ → List ChildModel) (i : ℕ) (cs : List (List ℕ × JobModel)) (ps : List (ℕ × JobModel)) →
     Finds (λ m. child_number m (children i)) cs ps → Under (tree_from blank answers children) i cs ps
 under_rows blank answers children i [] ps f = tt
 under_rows blank answers children i (c ∷ cs) [] f = tt
@@ -124,12 +124,12 @@ under_rows blank answers children i (c ∷ cs) (p ∷ ps) f =
 -- ---- a tree that answers each place once
 
 -- the place of each child is its parent's place and its name
-abbrev pub PlacedUnder : (ℕ → List (List ℕ)) → ℕ → List (List ℕ × JobAt) → List (ℕ × JobAt) → Type 0
+abbrev pub PlacedUnder : (ℕ → List (List ℕ)) → ℕ → List (List ℕ × JobModel) → List (ℕ × JobModel) → Type 0
 PlacedUnder place i [] ps = Unit {0}
 PlacedUnder place i (c ∷ cs) [] = Unit {0}
 PlacedUnder place i (c ∷ cs) (p ∷ ps) = (place p.0 ≡ place i ++ c.0 ∷ []) × PlacedUnder place i cs ps
 
-pub under_places : {A : Type 0} (t : List (List ℕ) → A) (place : ℕ → List (List ℕ)) (i : ℕ) (cs : List (List ℕ × JobAt)) (ps : List (ℕ × JobAt)) →
+pub under_places : {A : Type 0} (t : List (List ℕ) → A) (place : ℕ → List (List ℕ)) (i : ℕ) (cs : List (List ℕ × JobModel)) (ps : List (ℕ × JobModel)) →
     PlacedUnder place i cs ps → Under (λ k p. t (place k ++ p)) i cs ps
 under_places t place i [] ps f = tt
 under_places t place i (c ∷ cs) [] f = tt

@@ -7,17 +7,17 @@ use Rattle.std.proofs.lemmas.List.Sums.{AllPass-from_list_all, list_all-from_All
 use Rattle.std.proofs.lemmas.List.Sorted.{All-permutation, IsPermutation-map, IsPermutation-sym}
 use Rattle.std.proofs.lemmas.Map.Keys.{IsDistinct-IsPermutation, IsDistinct-from_sorted}
 use Rattle.lc_glob.specs.Path.{is_good_name}
-use Rattle.lc_walk.specs.Listing.{DirEntry, names, name_cmp, have_good_names, HaveDistinctNames}
+use Rattle.lc_walk.specs.Listing.{EntryModel, names, name_cmp, have_good_names, HaveDistinctNames}
 
-pub good_names_moved : (es fs : List DirEntry) → IsPermutation es fs → IsTrue (have_good_names es) → IsTrue (have_good_names fs)
+pub good_names_moved : (es fs : List EntryModel) → IsPermutation es fs → IsTrue (have_good_names es) → IsTrue (have_good_names fs)
 good_names_moved es fs moved good =
-    let test = λ (e : DirEntry). is_good_name e.name in
-    list_all-from_AllPass test fs (All-permutation (λ (e : DirEntry). test e ≡ true) es fs moved (AllPass-from_list_all test es good))
+    let test = λ (e : EntryModel). is_good_name e.name in
+    list_all-from_AllPass test fs (All-permutation (λ (e : EntryModel). test e ≡ true) es fs moved (AllPass-from_list_all test es good))
 
-pub distinct_names_moved : (es fs : List DirEntry) → IsPermutation es fs → HaveDistinctNames es → HaveDistinctNames fs
+pub distinct_names_moved : (es fs : List EntryModel) → IsPermutation es fs → HaveDistinctNames es → HaveDistinctNames fs
 distinct_names_moved es fs moved =
-    IsDistinct-IsPermutation _ ((eq_by_cmp_equiv nat_list_cmp_total).symm) (names es) (names fs) (IsPermutation-map (λ (e : DirEntry). e.name) es fs moved)
+    IsDistinct-IsPermutation _ ((eq_by_cmp_equiv nat_list_cmp_total).symm) (names es) (names fs) (IsPermutation-map (λ (e : EntryModel). e.name) es fs moved)
 
 -- entries whose names rise once they are sorted have distinct names
-pub distinct_from_sorted : (es fs : List DirEntry) → IsPermutation es fs → IsStrictlySortedBy name_cmp (names fs) → HaveDistinctNames es
+pub distinct_from_sorted : (es fs : List EntryModel) → IsPermutation es fs → IsStrictlySortedBy name_cmp (names fs) → HaveDistinctNames es
 distinct_from_sorted es fs moved rising = distinct_names_moved fs es (IsPermutation-sym es fs moved) (IsDistinct-from_sorted name_cmp (names fs) rising)

@@ -5,8 +5,8 @@ use Rattle.lc_glob.specs.Path.{path_in}
 use Rattle.lc_walk.specs.Answers.{Item, Items, Answers}
 use Rattle.lc_walk.specs.EntryLooks.{has_file, has_dir}
 use Rattle.lc_walk.specs.GitInfo.{ListsFor, MayAnswerGit, ReadsGit}
-use Rattle.lc_walk.specs.Listing.{DirEntry}
-use Rattle.lc_walk.specs.ReportLines.{FaultAt}
+use Rattle.lc_walk.specs.Listing.{EntryModel}
+use Rattle.lc_walk.specs.ReportLines.{FaultLineModel}
 use Rattle.lc_walk.specs.RuleFiles.{Pair, has_directory, and_then, listing, info_items, info_bytes}
 use Rattle.lc_walk.specs.RulePairs.{AreFilesOf, ReadsBoth}
 use Rattle.lc_walk.specs.Rows.{place_path}
@@ -40,24 +40,24 @@ module _ (lists : List ℕ → Listings) (gives : List ℕ → Contents)
   any_rules path n = (some_rules (path_in path n)).0
 
   -- a listing with some items
-  pub listed : (path : List ℕ) (es : List DirEntry) (given : AsRules) → ((n : List ℕ) → MayReadRules (gives (path_in path n)) (given n)) → lists path (Ok es) →
+  pub listed : (path : List ℕ) (es : List EntryModel) (given : AsRules) → ((n : List ℕ) → MayReadRules (gives (path_in path n)) (given n)) → lists path (Ok es) →
       MayList lists gives path (Ok (items_at (any_count path) given es))
   listed path es given may l = (
-    subst (λ (ds : List DirEntry). lists path (Ok ds)) (sym (entries_items (any_count path) given es)) l,
+    subst (λ (ds : List EntryModel). lists path (Ok ds)) (sym (entries_items (any_count path) given es)) l,
     may_items lists gives path (any_count path) given (λ n. (some_count (path_in path n)).1) may es,
   )
 
-  abbrev git_items : List DirEntry → List Item
+  abbrev git_items : List EntryModel → List Item
   git_items es = items_at (any_count (codes ".git")) (any_rules (codes ".git")) es
 
-  may_git : (es : List DirEntry) → lists (codes ".git") (Ok es) → MayList lists gives (codes ".git") (Ok (git_items es))
+  may_git : (es : List EntryModel) → lists (codes ".git") (Ok es) → MayList lists gives (codes ".git") (Ok (git_items es))
   may_git es l = listed (codes ".git") es (any_rules (codes ".git")) (λ n. (some_rules (path_in (codes ".git") n)).1) l
 
-  has_info : (es : List DirEntry) → has_directory (codes "info") (git_items es) ≡ has_dir (codes "info") es
+  has_info : (es : List EntryModel) → has_directory (codes "info") (git_items es) ≡ has_dir (codes "info") es
   has_info es = directory_items (any_count (codes ".git")) (any_rules (codes ".git")) (codes "info") es
 
   -- reading goes on by what stands in `.git/info`
-  by_info : (es : List DirEntry) (info : Items) (b : Bool) → has_dir (codes "info") es ≡ b →
+  by_info : (es : List EntryModel) (info : Items) (b : Bool) → has_dir (codes "info") es ≡ b →
       and_then (info_items true (asked (Ok (git_items es)) info)) info_bytes ≡ and_then (listing b (codes ".git/info") info) info_bytes
   by_info es info b e = ap (λ t. and_then (listing t (codes ".git/info") info) info_bytes) (has_info es ∙ e)
 
@@ -87,7 +87,7 @@ module _ (lists : List ℕ → Listings) (gives : List ℕ → Contents)
   git_refused there (Broken TooManyDirs) e l = absurd l
   git_refused there (Broken TooDeep) e l = absurd l
 
-  pub no_info : (there : Bool) (es : List DirEntry) (files : RulePair) → there ≡ true → lists (codes ".git") (Ok es) → has_dir (codes "info") es ≡ false →
+  pub no_info : (there : Bool) (es : List EntryModel) (files : RulePair) → there ≡ true → lists (codes ".git") (Ok es) → has_dir (codes "info") es ≡ false →
       files ≡ record { rules = None; attributes = None } → ReadsGit lists gives there (Ok files)
   no_info there es files e l absent none =
       at_true there (Ok files) e (
@@ -96,7 +96,7 @@ module _ (lists : List ℕ → Listings) (gives : List ℕ → Contents)
         (record { rules = None; attributes = None }, no_files files none, by_info es (Ok []) false absent),
       )
 
-  pub info_fault : (there : Bool) (es : List DirEntry) (place : Place) (word : FaultWord) → there ≡ true → lists (codes ".git") (Ok es) → has_dir (codes "info") es ≡ true →
+  pub info_fault : (there : Bool) (es : List EntryModel) (place : Place) (word : FaultWord) → there ≡ true → lists (codes ".git") (Ok es) → has_dir (codes "info") es ≡ true →
       place ≡ GitInfo → lists (codes ".git/info") (Err word) → ReadsGit lists gives there (Err (Faulted place word))
   info_fault there es place word e l present is m =
       at_true there (Err (Faulted place word)) e (
@@ -105,7 +105,7 @@ module _ (lists : List ℕ → Listings) (gives : List ℕ → Contents)
         λ directory. by_info es (Err word) true present ∙ ap (λ (p : Place). Err (record { path = place_path directory p; word = word })) (sym is),
       )
 
-  pub info_refused : (there : Bool) (es : List DirEntry) (u : Unlisted) → there ≡ true → lists (codes ".git") (Ok es) → has_dir (codes "info") es ≡ true →
+  pub info_refused : (there : Bool) (es : List EntryModel) (u : Unlisted) → there ≡ true → lists (codes ".git") (Ok es) → has_dir (codes "info") es ≡ true →
       ListsFor (lists (codes ".git/info")) GitInfo (Err u) → ReadsGit lists gives there (Err u)
   info_refused there es (Faulted place word) e l present (is, m) = info_fault there es place word e l present is m
   info_refused there es (Broken Memory) e l present m = tt
@@ -115,13 +115,13 @@ module _ (lists : List ℕ → Listings) (gives : List ℕ → Contents)
   abbrev in_info : List ℕ → Contents
   in_info n = gives (path_in (codes ".git/info") n)
 
-  abbrev info_of : List DirEntry → AsRules → Items
+  abbrev info_of : List EntryModel → AsRules → Items
   info_of fs given = Ok (items_at (any_count (codes ".git/info")) given fs)
 
-  abbrev InfoGiven : List DirEntry → Result RulePair Unlisted → Type 0
+  abbrev InfoGiven : List EntryModel → Result RulePair Unlisted → Type 0
   InfoGiven fs r = PairGiven in_info (codes "exclude") (codes "attributes") refl fs (any_rules (codes ".git/info")) (λ n. (some_rules (path_in (codes ".git/info") n)).1) true ExcludeFile InfoAttributes r
 
-  pub both_files : (there : Bool) (es fs : List DirEntry) (r : Result RulePair Unlisted) → there ≡ true → lists (codes ".git") (Ok es) → has_dir (codes "info") es ≡ true →
+  pub both_files : (there : Bool) (es fs : List EntryModel) (r : Result RulePair Unlisted) → there ≡ true → lists (codes ".git") (Ok es) → has_dir (codes "info") es ≡ true →
       lists (codes ".git/info") (Ok fs) →
       ReadsBoth (gives (codes ".git/info/exclude")) (gives (codes ".git/info/attributes")) (has_file (codes "exclude") fs) (has_file (codes "attributes") fs) true ExcludeFile InfoAttributes r →
       ReadsGit lists gives there r

@@ -5,7 +5,7 @@ use Rattle.lc_census.specs.declared.totals.Count.{Count}
 use Rattle.lc_glob.specs.Path.{path_in}
 use Rattle.lc_walk.specs.Answers.{Item, file_item, directory_item, other_item, entry_of, entries_of}
 use Rattle.lc_walk.specs.EntryLooks.{is_file, is_dir, has_file, has_dir}
-use Rattle.lc_walk.specs.Listing.{DirEntry}
+use Rattle.lc_walk.specs.Listing.{EntryModel}
 use Rattle.lc_walk.specs.RuleFiles.{file_named, has_directory}
 use Rattle.lc_walk.specs.RuleReads.{MayGive}
 use Rattle.lc_walk.specs.TreeAnswers.{MayHave}
@@ -27,10 +27,10 @@ item_of counted rules name File = file_item name (counted name) (rules name)
 item_of counted rules name Dir = directory_item name
 item_of counted rules name Other = other_item name
 
-abbrev pub item_at : Counted → AsRules → DirEntry → Item
+abbrev pub item_at : Counted → AsRules → EntryModel → Item
 item_at counted rules e = item_of counted rules e.name e.kind
 
-abbrev pub items_at : Counted → AsRules → List DirEntry → List Item
+abbrev pub items_at : Counted → AsRules → List EntryModel → List Item
 items_at counted rules es = map (item_at counted rules) es
 
 entry_item : (counted : Counted) (rules : AsRules) (name : List ℕ) (kind : Kind) → entry_of (item_of counted rules name kind) ≡ record { name = name; kind = kind }
@@ -39,10 +39,10 @@ entry_item counted rules name Dir = refl
 entry_item counted rules name Other = refl
 
 -- they are items of these entries
-pub entries_items : (counted : Counted) (rules : AsRules) (es : List DirEntry) → entries_of (items_at counted rules es) ≡ es
+pub entries_items : (counted : Counted) (rules : AsRules) (es : List EntryModel) → entries_of (items_at counted rules es) ≡ es
 entries_items counted rules [] = refl
 entries_items counted rules (e ∷ es) =
-    ap (λ (d : DirEntry). d ∷ entries_of (items_at counted rules es)) (entry_item counted rules e.name e.kind) ∙ ap (λ l. e ∷ l) (entries_items counted rules es)
+    ap (λ (d : EntryModel). d ∷ entries_of (items_at counted rules es)) (entry_item counted rules e.name e.kind) ∙ ap (λ l. e ∷ l) (entries_items counted rules es)
 
 -- the file of a name gives what files of that name give, if it is there
 named_one : (counted : Counted) (rules : AsRules) (n m : List ℕ) (kind : Kind) (any : Bool) (items : List Item) →
@@ -55,7 +55,7 @@ named_one counted rules n m File any items e = at (bytes_eq m n) refl
 named_one counted rules n m Dir any items e = e
 named_one counted rules n m Other any items e = e
 
-pub file_items : (counted : Counted) (rules : AsRules) (n : List ℕ) (es : List DirEntry) → file_named n (items_at counted rules es) ≡ cond (has_file n es) (Some (rules n)) None
+pub file_items : (counted : Counted) (rules : AsRules) (n : List ℕ) (es : List EntryModel) → file_named n (items_at counted rules es) ≡ cond (has_file n es) (Some (rules n)) None
 file_items counted rules n [] = refl
 file_items counted rules n (e ∷ es) = named_one counted rules n e.name e.kind (has_file n es) (items_at counted rules es) (file_items counted rules n es)
 
@@ -65,7 +65,7 @@ directory_one counted rules n m File any items e = e
 directory_one counted rules n m Dir any items e = ap (λ b. bytes_eq m n || b) e
 directory_one counted rules n m Other any items e = e
 
-pub directory_items : (counted : Counted) (rules : AsRules) (n : List ℕ) (es : List DirEntry) → has_directory n (items_at counted rules es) ≡ has_dir n es
+pub directory_items : (counted : Counted) (rules : AsRules) (n : List ℕ) (es : List EntryModel) → has_directory n (items_at counted rules es) ≡ has_dir n es
 directory_items counted rules n [] = refl
 directory_items counted rules n (e ∷ es) = directory_one counted rules n e.name e.kind (has_dir n es) (items_at counted rules es) (directory_items counted rules n es)
 
@@ -77,7 +77,7 @@ module _ (lists : List ℕ → Listings) (gives : List ℕ → Contents) (path :
   may_one name Dir = tt
   may_one name Other = tt
 
-  pub may_items : (es : List DirEntry) → AllByRecursion (MayHave lists gives path) (items_at counted rules es)
+  pub may_items : (es : List EntryModel) → AllByRecursion (MayHave lists gives path) (items_at counted rules es)
   may_items [] = tt
   may_items (e ∷ es) = (may_one e.name e.kind, may_items es)
 
@@ -104,7 +104,7 @@ may_but gives name there read rules may all n = at read may (bytes_eq n name) re
     at (Some x) m false e = all n
 
 -- the file of the name gave this
-pub given_items : (gives : Contents) (counted : Counted) (rules : AsRules) (name : List ℕ) (read : Option (Result (List ℕ) FaultWord)) (es : List DirEntry) →
+pub given_items : (gives : Contents) (counted : Counted) (rules : AsRules) (name : List ℕ) (read : Option (Result (List ℕ) FaultWord)) (es : List EntryModel) →
     MayGive gives (has_file name es) read → ((x : Result (List ℕ) FaultWord) → read ≡ Some x → rules name ≡ x) → file_named name (items_at counted rules es) ≡ read
 given_items gives counted rules name None es may is = file_items counted rules name es ∙ ap (λ b. cond b (Some (rules name)) None) may
 given_items gives counted rules name (Some x) es may is = file_items counted rules name es ∙ ap (λ b. cond b (Some (rules name)) None) may.0 ∙ ap Some (is x refl)

@@ -2,8 +2,8 @@
 use Rattle.std.proofs.Common.{◌≡◌, ℕ, Bool, true, false, ◌⊎◌, inl, inr, List, refl, sym, ◌∙◌, ap, subst, Option, Some, None, Result, Ok, Err, bytes_eq, option_map}
 use Rattle.lc_glob.specs.Path.{path_in}
 use Rattle.lc_walk.specs.EntryLooks.{has_file}
-use Rattle.lc_walk.specs.Listing.{DirEntry}
-use Rattle.lc_walk.specs.ReportLines.{FaultAt}
+use Rattle.lc_walk.specs.Listing.{EntryModel}
+use Rattle.lc_walk.specs.ReportLines.{FaultLineModel}
 use Rattle.lc_walk.specs.RuleFiles.{Pair, file_named, both_read}
 use Rattle.lc_walk.specs.RulePairs.{AreFilesOf, ReadsBoth}
 use Rattle.lc_walk.specs.RuleReads.{MayGive}
@@ -27,10 +27,10 @@ second_fault p q None word = refl
 second_fault p q (Some x) word = refl
 
 -- the answers of the tree below the directory, by name; the two names; the entries; what other files give as rules
-module _ (gives : List ℕ → Contents) (first_name second_name : List ℕ) (apart : bytes_eq first_name second_name ≡ false) (es : List DirEntry)
+module _ (gives : List ℕ → Contents) (first_name second_name : List ℕ) (apart : bytes_eq first_name second_name ≡ false) (es : List EntryModel)
     (rules : AsRules) (may_read : (n : List ℕ) → MayReadRules (gives n) (rules n)) where
   -- what reading the two gives of these items
-  abbrev read_of : List ℕ → List ℕ → AsRules → Counted → Result Pair FaultAt
+  abbrev read_of : List ℕ → List ℕ → AsRules → Counted → Result Pair FaultLineModel
   read_of p q given counted = both_read p (file_named first_name (items_at counted given es)) q (file_named second_name (items_at counted given es))
 
   -- what all files give as rules, so that reading the two gives what was answered

@@ -13,11 +13,11 @@ use Rattle.lc_board.specs.declared.answers.Ended.TheVariants as ended
 use Rattle.lc_board.proofs.PartsOfWhole.{part_says_whole}
 use Rattle.lc_walk.specs.Paths.{segments}
 use Rattle.lc_walk.specs.Answers.{Answers, no_answers, Tree}
-use Rattle.lc_walk.specs.Job.{JobAt}
+use Rattle.lc_walk.specs.Job.{JobModel}
 use Rattle.lc_walk.specs.Level.{level}
 use Rattle.lc_walk.specs.Found.{Found, found_of, found_at, children_of, children_at}
 use Rattle.lc_walk.specs.Walk.{walk_of}
-use Rattle.lc_walk.specs.RowViews.{ChildAt}
+use Rattle.lc_walk.specs.RowViews.{ChildModel}
 use Rattle.lc_walk.specs.Rows.{row_of, job_of, children_in, IsWhole}
 use Rattle.lc_walk.specs.Lawful.{Asked, Says, named, jobs_of}
 use Rattle.lc_walk.specs.TreeOfRows.{child_number, tree_from, children_at_row, children_by_rows, tree_of_rows, numbers_below}
@@ -38,11 +38,11 @@ same_some x y e = cc
 -- ---- the row of a number
 
 -- what a row that is not Broken says of its directory
-pub record Parts (ask : Asked) (e : Ended Row) (a : Answers) (posts : List (ℕ × JobAt)) : Type 0 where
+pub record Parts (ask : Asked) (e : Ended Row) (a : Answers) (posts : List (ℕ × JobModel)) : Type 0 where
   pub jobs : jobs_of posts ≡ jobs_of (children_at ask.archive (job_of (row_of e)) a)
   pub children : children_in (row_of e) ≡ named (children_at ask.archive (job_of (row_of e)) a) posts
 
-pub parts : (ask : Asked) (full : Bool) (e : Ended Row) (a : Answers) (posts : List (ℕ × JobAt)) → Says ask full e a posts → IsWhole (row_of e) → Parts ask e a posts
+pub parts : (ask : Asked) (full : Bool) (e : Ended Row) (a : Answers) (posts : List (ℕ × JobModel)) → Says ask full e a posts → IsWhole (row_of e) → Parts ask e a posts
 parts ask full (ended.Returned (Listed r)) a posts s w = record { jobs = s.posts_are; children = s.children_are }
 parts ask full (ended.Returned (Faulted r)) a posts s w = absurd s
 parts ask full (ended.Returned (Broken r)) a posts s w = absurd w
@@ -61,13 +61,13 @@ row_here [] i l = absurd (omega arith)
 row_here (e ∷ es) zero l = record { row = e; is = refl }
 row_here (e ∷ es) (suc i) l = let r = row_here es i (omega arith) in record { row = r.row; is = r.is }
 
-abbrev pub job_or : JobAt → Option (Ended Row) → JobAt
+abbrev pub job_or : JobModel → Option (Ended Row) → JobModel
 job_or top None = top
 job_or top (Some e) = job_of (row_of e)
 
-module _ (ask : Asked) (full : Bool) (capacity workers : ℕ) (top : JobAt) (h : List (Event JobAt Row)) (rows : List (Ended Row)) (answers : ℕ → Answers)
+module _ (ask : Asked) (full : Bool) (capacity workers : ℕ) (top : JobModel) (h : List (Event JobModel Row)) (rows : List (Ended Row)) (answers : ℕ → Answers)
     (walked : Walked ask full capacity workers top h rows answers) where
-  abbrev pub job_at : ℕ → JobAt
+  abbrev pub job_at : ℕ → JobModel
   job_at i = job_or top (slice_get rows i)
 
   pub inside : (i : ℕ) → status h i ≢ Absent → i < length rows
@@ -96,7 +96,7 @@ module _ (ask : Asked) (full : Bool) (capacity workers : ℕ) (top : JobAt) (h :
       (posts_under i h) (known capacity workers top h walked.legal i)
 
   module _ (whole : AreWhole rows) where
-    abbrev children_of_number : ℕ → List (List ℕ × JobAt)
+    abbrev children_of_number : ℕ → List (List ℕ × JobModel)
     children_of_number i = children_at ask.archive (job_at i) (answers i)
 
     pub record Fits (i : ℕ) : Type 0 where
@@ -116,7 +116,7 @@ module _ (ask : Asked) (full : Bool) (capacity workers : ℕ) (top : JobAt) (h :
         record {
           jobs = p.jobs ∙ ap (λ j. jobs_of (children_at ask.archive j (answers i))) job;
           children = children;
-          looked = subst (λ (cs : List ChildAt). Finds (λ m. child_number m cs) (children_of_number i) (posts_under i h)) (sym children)
+          looked = subst (λ (cs : List ChildModel). Finds (λ m. child_number m cs) (children_of_number i) (posts_under i h)) (sym children)
               (finds (children_of_number i) (posts_under i h) (apart_level ask.archive (job_at i) (answers i) lawful.tidy));
           named_so = good_level ask.archive (job_at i) (answers i) lawful.tidy;
         }
@@ -166,10 +166,10 @@ module _ (ask : Asked) (full : Bool) (capacity workers : ℕ) (top : JobAt) (h :
 
     -- ---- each number once
 
-    abbrev number_found : JobAt → (ℕ × Answers) → List ℕ
+    abbrev number_found : JobModel → (ℕ × Answers) → List ℕ
     number_found j a = a.0 ∷ []
 
-    abbrev number_children : JobAt → (ℕ × Answers) → List (List ℕ × JobAt)
+    abbrev number_children : JobModel → (ℕ × Answers) → List (List ℕ × JobModel)
     number_children j a = children_at ask.archive j a.1
 
     numbers_grow : Grows number_found number_children h job_at (λ i. (i, answers i)) (tree_from (0, no_answers) (λ i. (i, answers i)) (children_by_rows rows))
@@ -198,14 +198,14 @@ module _ (ask : Asked) (full : Bool) (capacity workers : ℕ) (top : JobAt) (h :
     abbrev pub place_at : ℕ → List (List ℕ)
     place_at i = segments (job_at i).path
 
-    place_under : (i : ℕ) (cs : List (List ℕ × JobAt)) (ps : List (ℕ × JobAt)) → Each (IsChild (job_at i).path) cs → jobs_of ps ≡ jobs_of cs →
+    place_under : (i : ℕ) (cs : List (List ℕ × JobModel)) (ps : List (ℕ × JobModel)) → Each (IsChild (job_at i).path) cs → jobs_of ps ≡ jobs_of cs →
         Each (λ p. job_at p.0 ≡ p.1) ps → PlacedUnder place_at i cs ps
     place_under i [] ps a e k = tt
     place_under i (c ∷ cs) [] a e k = tt
     place_under i (c ∷ cs) (p ∷ ps) a e k =
         let this : p.1 ≡ c.1 = same_head p.1 c.1 (jobs_of ps) (jobs_of cs) e in
         let rest : jobs_of ps ≡ jobs_of cs = same_tail p.1 c.1 (jobs_of ps) (jobs_of cs) e in (
-          ap (λ (j : JobAt). segments j.path) (k.0 ∙ this) ∙ ap segments a.0.1 ∙ segments-path_in (job_at i).path c.0 a.0.0,
+          ap (λ (j : JobModel). segments j.path) (k.0 ∙ this) ∙ ap segments a.0.1 ∙ segments-path_in (job_at i).path c.0 a.0.0,
           place_under i cs ps a.1 rest k.1,
         )
 
@@ -241,7 +241,7 @@ module _ (ask : Asked) (full : Bool) (capacity workers : ℕ) (top : JobAt) (h :
         }
 
         whole_tree : (λ (p : List (List ℕ)). t (place_at 0 ++ p)) ≡ t
-        whole_tree = ap {B = List (List ℕ) → Answers} (λ (x : List (List ℕ)) (p : List (List ℕ)). t (x ++ p)) (ap (λ (j : JobAt). segments j.path) top_job ∙ ap segments at_top)
+        whole_tree = ap {B = List (List ℕ) → Answers} (λ (x : List (List ℕ)) (p : List (List ℕ)). t (x ++ p)) (ap (λ (j : JobModel). segments j.path) top_job ∙ ap segments at_top)
 
 pub core_law : CoreLaw
 core_law ask full capacity workers top h rows answers walked whole depth deep = of_rows ask full capacity workers top h rows answers walked whole depth deep

@@ -5,8 +5,8 @@ use Rattle.lc_walk.specs.Listing.{IsListing}
 use Rattle.lc_walk.specs.declared.report.fault_word.FaultWord.{FaultWord}
 use Rattle.lc_glob.specs.Path.{path_in}
 use Rattle.lc_walk.specs.Answers.{Item, file_item, directory_item, other_item, Items, Answers, name_of}
-use Rattle.lc_walk.specs.Job.{JobAt}
-use Rattle.lc_walk.specs.ReportLines.{FaultAt}
+use Rattle.lc_walk.specs.Job.{JobModel}
+use Rattle.lc_walk.specs.ReportLines.{FaultLineModel}
 use Rattle.lc_walk.specs.RuleFiles.{Pair, RuleBytes, extended, file_named, has_directory, is_top, has_git, and_then, reading, both_read, info_items, info_bytes, own_bytes, rule_bytes}
 use Rattle.lc_walk.specs.Level.{Level, faulted_level, level, level_of, level_after, level_of_items, is_taken, child_job, children_by}
 use Rattle.lc_walk.specs.Found.{children_of, children_at}
@@ -15,11 +15,11 @@ use Rattle.lc_walk.proofs.Weights.{Each}
 use Rattle.lc_walk.proofs.Tidy.{IsGoodName, good_one, Spread, spread}
 
 -- what holds of each fault, and of the level of the items with any chains, holds of the level
-pub level_keeps : (P : Level → Type 0) (archive : Bool) (j : JobAt) (a : Answers) → ((p : List ℕ) (w : FaultWord) → P (faulted_level p w)) →
+pub level_keeps : (P : Level → Type 0) (archive : Bool) (j : JobModel) (a : Answers) → ((p : List ℕ) (w : FaultWord) → P (faulted_level p w)) →
     ((items : List Item) → a.here ≡ Ok items → (b : RuleBytes) → P (level_of_items archive items (extended j b))) → P (level archive j a)
 level_keeps P archive j a faults items_keep = at a.here refl
   where
-    after : (items : List Item) → a.here ≡ Ok items → (r : Result RuleBytes FaultAt) → P (level_after archive j items r)
+    after : (items : List Item) → a.here ≡ Ok items → (r : Result RuleBytes FaultLineModel) → P (level_after archive j items r)
     after items e (Ok b) = items_keep items e b
     after items e (Err f) = faults f.path f.word
 
@@ -38,11 +38,11 @@ top_is [] e = refl
 top_is (b ∷ bs) e = cc
 
 -- what holds of the fault, if there is one
-abbrev IfFault : {A : Type 0} → (List ℕ → Type 0) → Result A FaultAt → Type 0
+abbrev IfFault : {A : Type 0} → (List ℕ → Type 0) → Result A FaultLineModel → Type 0
 IfFault P (Ok x) = Unit {0}
 IfFault P (Err f) = P f.path
 
-fault_of_and_then : {A B : Type 0} (P : List ℕ → Type 0) (r : Result A FaultAt) (next : A → Result B FaultAt) → IfFault P r → ((x : A) → IfFault P (next x)) → IfFault P (and_then r next)
+fault_of_and_then : {A B : Type 0} (P : List ℕ → Type 0) (r : Result A FaultLineModel) (next : A → Result B FaultLineModel) → IfFault P r → ((x : A) → IfFault P (next x)) → IfFault P (and_then r next)
 fault_of_and_then P (Ok x) next first rest = rest x
 fault_of_and_then P (Err f) next first rest = first
 
@@ -61,7 +61,7 @@ no_git : (P : List ℕ → Type 0) (a : Answers) (there : Bool) → (there ≡ t
 no_git P a false k = tt
 no_git P a true k = any (and_then (info_items true a) info_bytes)
   where
-    any : (r : Result Pair FaultAt) → IfFault P r
+    any : (r : Result Pair FaultLineModel) → IfFault P r
     any (Ok x) = tt
     any (Err f) = k refl f.path
 
@@ -82,11 +82,11 @@ fault_place path items a =
     (λ o. tt))
 
 -- the same, where the fault may be known to lie in the directory
-pub own_level_keeps : (P : Level → Type 0) (archive : Bool) (j : JobAt) (a : Answers) → ((p : List ℕ) (w : FaultWord) → IsOwnPlace j.path p → P (faulted_level p w)) →
+pub own_level_keeps : (P : Level → Type 0) (archive : Bool) (j : JobModel) (a : Answers) → ((p : List ℕ) (w : FaultWord) → IsOwnPlace j.path p → P (faulted_level p w)) →
     ((items : List Item) → a.here ≡ Ok items → (b : RuleBytes) → P (level_of_items archive items (extended j b))) → P (level archive j a)
 own_level_keeps P archive j a faults items_keep = at a.here refl
   where
-    after : (items : List Item) → a.here ≡ Ok items → (r : Result RuleBytes FaultAt) → IfFault (IsOwnPlace j.path) r → P (level_after archive j items r)
+    after : (items : List Item) → a.here ≡ Ok items → (r : Result RuleBytes FaultLineModel) → IfFault (IsOwnPlace j.path) r → P (level_after archive j items r)
     after items e (Ok b) o = items_keep items e b
     after items e (Err f) o = faults f.path f.word o
 
@@ -97,20 +97,20 @@ own_level_keeps P archive j a faults items_keep = at a.here refl
 -- ---- the child directories
 
 -- no two have one name
-abbrev pub IsApart : List (List ℕ × JobAt) → Type 0
+abbrev pub IsApart : List (List ℕ × JobModel) → Type 0
 IsApart [] = Unit {0}
 IsApart (c ∷ cs) = Each (λ d. bytes_eq d.0 c.0 ≡ false) cs × IsApart cs
 
 -- a child has a good name, and its path is the directory's with that name
-abbrev pub IsChild : List ℕ → (List ℕ × JobAt) → Type 0
+abbrev pub IsChild : List ℕ → (List ℕ × JobModel) → Type 0
 IsChild p c = IsGoodName c.0 × (c.1.path ≡ path_in p c.0)
 
-each_cond : (P : List ℕ × JobAt → Type 0) (b : Bool) (c : List ℕ × JobAt) (cs : List (List ℕ × JobAt)) → P c → Each P cs → Each P (cond b (c ∷ []) [] ++ cs)
+each_cond : (P : List ℕ × JobModel → Type 0) (b : Bool) (c : List ℕ × JobModel) (cs : List (List ℕ × JobModel)) → P c → Each P cs → Each P (cond b (c ∷ []) [] ++ cs)
 each_cond P true c cs a e = (a, e)
 each_cond P false c cs a e = e
 
 -- what holds of the names of all directories among some items holds of their children
-pub each_child : (archive : Bool) (j : JobAt) (P : List ℕ × JobAt → Type 0) (Q : List ℕ → Type 0) → ((n : List ℕ) → Q n → P (n, child_job j n)) →
+pub each_child : (archive : Bool) (j : JobModel) (P : List ℕ × JobModel → Type 0) (Q : List ℕ → Type 0) → ((n : List ℕ) → Q n → P (n, child_job j n)) →
     (es : List Item) → Each (λ e. Q (name_of e)) es → Each P (flat_map (children_by archive j) es)
 each_child archive j P Q f [] a = tt
 each_child archive j P Q f (file_item n c r ∷ es) a = each_child archive j P Q f es a.1
@@ -118,11 +118,11 @@ each_child archive j P Q f (other_item n ∷ es) a = each_child archive j P Q f 
 each_child archive j P Q f (directory_item n ∷ es) a =
     each_cond P (is_taken archive j n true) (n, child_job j n) (flat_map (children_by archive j) es) (f n a.0) (each_child archive j P Q f es a.1)
 
-apart_cond : (b : Bool) (c : List ℕ × JobAt) (cs : List (List ℕ × JobAt)) → Each (λ d. bytes_eq d.0 c.0 ≡ false) cs → IsApart cs → IsApart (cond b (c ∷ []) [] ++ cs)
+apart_cond : (b : Bool) (c : List ℕ × JobModel) (cs : List (List ℕ × JobModel)) → Each (λ d. bytes_eq d.0 c.0 ≡ false) cs → IsApart cs → IsApart (cond b (c ∷ []) [] ++ cs)
 apart_cond true c cs a b = (a, b)
 apart_cond false c cs a b = b
 
-apart_children : (archive : Bool) (j : JobAt) (es : List Item) → Spread es → IsApart (flat_map (children_by archive j) es)
+apart_children : (archive : Bool) (j : JobModel) (es : List Item) → Spread es → IsApart (flat_map (children_by archive j) es)
 apart_children archive j [] t = tt
 apart_children archive j (file_item n c r ∷ es) t = apart_children archive j es t.2
 apart_children archive j (other_item n ∷ es) t = apart_children archive j es t.2
@@ -137,12 +137,12 @@ good_names (e ∷ es) t = (t.1, good_names es t.2)
 pub tidy_items : (a : Answers) → IsTidy a → (es : List Item) → a.here ≡ Ok es → Spread es
 tidy_items a t es e = spread es (subst (λ (o : Items). IsListing (listed_in o)) e t)
 
-pub apart_level : (archive : Bool) (j : JobAt) (a : Answers) → IsTidy a → IsApart (children_at archive j a)
+pub apart_level : (archive : Bool) (j : JobModel) (a : Answers) → IsTidy a → IsApart (children_at archive j a)
 apart_level archive j a t =
     level_keeps (λ l. IsApart (children_of l)) archive j a (λ p w. tt)
     (λ es e b. apart_children archive (extended j b) es (tidy_items a t es e))
 
-pub good_level : (archive : Bool) (j : JobAt) (a : Answers) → IsTidy a → Each (IsChild j.path) (children_at archive j a)
+pub good_level : (archive : Bool) (j : JobModel) (a : Answers) → IsTidy a → Each (IsChild j.path) (children_at archive j a)
 good_level archive j a t =
     level_keeps (λ l. Each (IsChild j.path) (children_of l)) archive j a (λ p w. tt)
     (λ es e b. each_child archive (extended j b) (IsChild j.path) IsGoodName (λ n g. (g, refl)) es (good_names es (tidy_items a t es e)))

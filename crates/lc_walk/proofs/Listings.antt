@@ -4,8 +4,8 @@ use Rattle.std.specs.List.{flat_map}
 use Rattle.std.proofs.lemmas.Grind.{flat_map-append}
 use Rattle.std.proofs.lemmas.List.Folds.{flat_map-map}
 use Rattle.std.proofs.lemmas.List.Concat.{flat_map_single}
-use Rattle.lc_walk.specs.Job.{JobAt}
-use Rattle.lc_walk.specs.Level.{CountedAt, FileFaultAt, listed_level}
+use Rattle.lc_walk.specs.Job.{JobModel}
+use Rattle.lc_walk.specs.Level.{CountedModel, FileFaultModel, listed_level}
 use Rattle.lc_walk.specs.Found.{Found, found_file, found_directory, fault_of, found_of}
 use Rattle.lc_walk.specs.WalkReport.{tallied, line_of, tallied_in, file_in, fault_in, directory_in, tallied_of, files_of, faults_of, directories_of}
 use Rattle.lc_walk.specs.Assembled.{fault_line}
@@ -20,7 +20,7 @@ pub flat_none : {A B : Type 0} (f : A → List B) (xs : List A) → ((x : A) →
 flat_none f [] e = refl
 flat_none f (x ∷ xs) e = ap (λ l. l ++ flat_map f xs) (e x) ∙ flat_none f xs e
 
-went : {B : Type 0} (g : Found → List B) (j : JobAt) (fs : List CountedAt) (xs : List FileFaultAt) (cs : List (List ℕ × JobAt)) →
+went : {B : Type 0} (g : Found → List B) (j : JobModel) (fs : List CountedModel) (xs : List FileFaultModel) (cs : List (List ℕ × JobModel)) →
     flat_map g (found_of j (listed_level fs xs cs)) ≡ g (found_directory j.path) ++ (flat_map (λ f. g (found_file j.path f)) fs ++ flat_map (λ x. g (fault_of j.path x)) xs)
 went g j fs xs cs =
     ap (λ l. g (found_directory j.path) ++ l)
@@ -28,22 +28,22 @@ went g j fs xs cs =
     ∙ ap (λ l. l ++ flat_map g (map (fault_of j.path) xs)) (flat_map-map g (found_file j.path) fs)
     ∙ ap (λ l. flat_map (λ f. g (found_file j.path f)) fs ++ l) (flat_map-map g (fault_of j.path) xs))
 
-pub tallied_went : (j : JobAt) (fs : List CountedAt) (xs : List FileFaultAt) (cs : List (List ℕ × JobAt)) → tallied_of (found_of j (listed_level fs xs cs)) ≡ map tallied fs
+pub tallied_went : (j : JobModel) (fs : List CountedModel) (xs : List FileFaultModel) (cs : List (List ℕ × JobModel)) → tallied_of (found_of j (listed_level fs xs cs)) ≡ map tallied fs
 tallied_went j fs xs cs =
     went tallied_in j fs xs cs ∙ ap (λ l. flat_map (λ f. tallied f ∷ []) fs ++ l) (flat_none (λ x. tallied_in (fault_of j.path x)) xs (λ x. refl))
     ∙ append-nil (flat_map (λ f. tallied f ∷ []) fs) ∙ flat_map_single tallied fs
 
-pub files_went : (j : JobAt) (fs : List CountedAt) (xs : List FileFaultAt) (cs : List (List ℕ × JobAt)) → files_of (found_of j (listed_level fs xs cs)) ≡ map (line_of j.path) fs
+pub files_went : (j : JobModel) (fs : List CountedModel) (xs : List FileFaultModel) (cs : List (List ℕ × JobModel)) → files_of (found_of j (listed_level fs xs cs)) ≡ map (line_of j.path) fs
 files_went j fs xs cs =
     went file_in j fs xs cs ∙ ap (λ l. flat_map (λ f. line_of j.path f ∷ []) fs ++ l) (flat_none (λ x. file_in (fault_of j.path x)) xs (λ x. refl))
     ∙ append-nil (flat_map (λ f. line_of j.path f ∷ []) fs) ∙ flat_map_single (line_of j.path) fs
 
-pub faults_went : (j : JobAt) (fs : List CountedAt) (xs : List FileFaultAt) (cs : List (List ℕ × JobAt)) → faults_of (found_of j (listed_level fs xs cs)) ≡ map (fault_line j.path) xs
+pub faults_went : (j : JobModel) (fs : List CountedModel) (xs : List FileFaultModel) (cs : List (List ℕ × JobModel)) → faults_of (found_of j (listed_level fs xs cs)) ≡ map (fault_line j.path) xs
 faults_went j fs xs cs =
     went fault_in j fs xs cs ∙ ap (λ l. l ++ flat_map (λ x. fault_line j.path x ∷ []) xs) (flat_none (λ f. fault_in (found_file j.path f)) fs (λ f. refl))
     ∙ flat_map_single (fault_line j.path) xs
 
-pub directories_went : (j : JobAt) (fs : List CountedAt) (xs : List FileFaultAt) (cs : List (List ℕ × JobAt)) → directories_of (found_of j (listed_level fs xs cs)) ≡ j.path ∷ []
+pub directories_went : (j : JobModel) (fs : List CountedModel) (xs : List FileFaultModel) (cs : List (List ℕ × JobModel)) → directories_of (found_of j (listed_level fs xs cs)) ≡ j.path ∷ []
 directories_went j fs xs cs =
     went directory_in j fs xs cs
     ∙ ap (λ l. j.path ∷ (l ++ flat_map (λ x. directory_in (fault_of j.path x)) xs)) (flat_none (λ f. directory_in (found_file j.path f)) fs (λ f. refl))

@@ -5,7 +5,7 @@ use Rattle.std.proofs.lemmas.Bool.{eqb-true, cases_lt}
 use Rattle.lc_board.proofs.Places.{get_set_same, get_set_other}
 use Rattle.lc_board.specs.declared.answers.Ended.{Ended}
 use Rattle.lc_glob.specs.Path.{path_in}
-use Rattle.lc_walk.specs.RowViews.{ChildAt}
+use Rattle.lc_walk.specs.RowViews.{ChildModel}
 use Rattle.lc_walk.specs.Rows.{row_of, job_of, children_in}
 use Rattle.lc_walk.specs.Assembled.{IsEdge, HangsOnce, IsPlaced}
 use Rattle.lc_walk.specs.Marks.{Seen, HangsSeen, Marks, IsNext, IsPathAt}
@@ -39,24 +39,24 @@ no_length [] e = refl
 no_length (x ∷ xs) e = absurd (omega arith)
 
 module _ (rows : List (Ended Row)) where
-  abbrev next_edge : (at j : ℕ) (child : ChildAt) → IsNext rows at j child → IsEdge rows at j child.number
+  abbrev next_edge : (at j : ℕ) (child : ChildModel) → IsNext rows at j child → IsEdge rows at j child.number
   next_edge at j child n = record { above = n.above; is = n.is; child = child; here = n.here; number = refl }
 
   -- the child at a place has one number
-  one_number : (at j k : ℕ) (child : ChildAt) → IsNext rows at j child → IsEdge rows at j k → child.number ≡ k
+  one_number : (at j k : ℕ) (child : ChildModel) → IsNext rows at j child → IsEdge rows at j k → child.number ≡ k
   one_number at j k child n e =
       let row : n.above ≡ e.above = some_row n.above e.above (sym n.is ∙ e.is) in
       let same : child ≡ e.child = some_child child e.child (sym n.here ∙ ap (λ r. slice_get (children_in (row_of r)) j) row ∙ e.here) in
-      ap (λ (c : ChildAt). c.number) same ∙ e.number
+      ap (λ (c : ChildModel). c.number) same ∙ e.number
     where
       some_row : (x y : Ended Row) → Some x ≡ Some y → x ≡ y
       some_row x y e = cc
 
-      some_child : (x y : ChildAt) → Some x ≡ Some y → x ≡ y
+      some_child : (x y : ChildModel) → Some x ≡ Some y → x ≡ y
       some_child x y e = cc
 
   -- one child more, of another number
-  other_hangs : (at j k : ℕ) (child : ChildAt) → IsNext rows at j child → child.number ≢ k → HangsSeen rows at j k → HangsSeen rows at (j + 1) k
+  other_hangs : (at j k : ℕ) (child : ChildModel) → IsNext rows at j child → child.number ≢ k → HangsSeen rows at j k → HangsSeen rows at (j + 1) k
   other_hangs at j k child n o h = record {
     row = h.row;
     its = h.its;
@@ -73,7 +73,7 @@ module _ (rows : List (Ended Row)) where
       only p i e (inl s) = h.only p i s e
       only p i e (inr x) = absurd (o (one_number at j k child n (subst (λ y. IsEdge rows at y k) x.1 (subst (λ y. IsEdge rows y i k) x.0 e))))
 
-  other_unnamed : (at j k : ℕ) (child : ChildAt) → IsNext rows at j child → child.number ≢ k →
+  other_unnamed : (at j k : ℕ) (child : ChildModel) → IsNext rows at j child → child.number ≢ k →
       ((p i : ℕ) → Seen at j p i → IsEdge rows p i k → ⊥) → (p i : ℕ) → Seen at (j + 1) p i → IsEdge rows p i k → ⊥
   other_unnamed at j k child n o u p i s e = at_place (seen_more at j p i s)
     where
@@ -81,7 +81,7 @@ module _ (rows : List (Ended Row)) where
       at_place (inl t) = u p i t e
       at_place (inr x) = o (one_number at j k child n (subst (λ y. IsEdge rows at y k) x.1 (subst (λ y. IsEdge rows y i k) x.0 e)))
 
-  pub marks_skip : (at j : ℕ) (child : ChildAt) (hung : List Bool) → IsNext rows at j child → (child.number ≡ 0) ⊎ (length rows ≤ child.number) → Marks rows at j hung → Marks rows at (j + 1) hung
+  pub marks_skip : (at j : ℕ) (child : ChildModel) (hung : List Bool) → IsNext rows at j child → (child.number ≡ 0) ⊎ (length rows ≤ child.number) → Marks rows at j hung → Marks rows at (j + 1) hung
   marks_skip at j child hung n out m = record {
     long = m.long;
     unnamed = λ k some is. other_unnamed at j k child n (apart k some (slice_get_within hung k false is) out) (m.unnamed k some is);
@@ -97,7 +97,7 @@ module _ (rows : List (Ended Row)) where
   placed_at zero e some is p = absurd (omega arith)
   placed_at (suc k) e some is p = p e is
 
-  pub torn_twice : (at j : ℕ) (child : ChildAt) (hung : List Bool) → IsNext rows at j child → 1 ≤ child.number →
+  pub torn_twice : (at j : ℕ) (child : ChildModel) (hung : List Bool) → IsNext rows at j child → 1 ≤ child.number →
       slice_get hung child.number ≡ Some true → Marks rows at j hung → IsPlaced rows child.number → ⊥
   torn_twice at j child hung n some is m p =
       let s = m.hangs child.number some is in
@@ -106,7 +106,7 @@ module _ (rows : List (Ended Row)) where
       let theirs = h.only s.parent s.place s.edge in
       not_seen at j s.parent s.place s.seen (theirs.0 ∙ sym mine.0) (theirs.1 ∙ sym mine.1)
 
-  pub torn_low : (at j : ℕ) (child : ChildAt) → IsNext rows at j child → 1 ≤ child.number → child.number < length rows → child.number ≤ at → IsPlaced rows child.number → ⊥
+  pub torn_low : (at j : ℕ) (child : ChildModel) → IsNext rows at j child → 1 ≤ child.number → child.number < length rows → child.number ≤ at → IsPlaced rows child.number → ⊥
   torn_low at j child n some low high p =
       let r = got_here rows child.number low in
       let h = placed_at child.number r.0 some r.1 p in
@@ -114,7 +114,7 @@ module _ (rows : List (Ended Row)) where
       let up = h.lower in
       omega arith
 
-  pub torn_path : (at j : ℕ) (child : ChildAt) (d x : List ℕ) → IsNext rows at j child → IsPathAt rows at d → IsPathAt rows child.number x → 1 ≤ child.number →
+  pub torn_path : (at j : ℕ) (child : ChildModel) (d x : List ℕ) → IsNext rows at j child → IsPathAt rows at d → IsPathAt rows child.number x → 1 ≤ child.number →
       (x ≡ path_in d child.name → ⊥) → IsPlaced rows child.number → ⊥
   torn_path at j child d x n up its some other p =
       let h = placed_at child.number its.row some its.is p in
@@ -122,16 +122,16 @@ module _ (rows : List (Ended Row)) where
       let dir : (job_of (row_of n.above)).path ≡ d = ap (λ r. (job_of (row_of r)).path) (one_row n.above up.row (sym n.is ∙ up.is)) ∙ up.path_is in
       let above : n.above ≡ h.edge.above = one_row n.above h.edge.above (sym n.is ∙ ap (slice_get rows) mine.0 ∙ h.edge.is) in
       let child_is : child ≡ h.edge.child = one_child child h.edge.child (sym n.here ∙ ap (λ r. slice_get (children_in (row_of r)) j) above ∙ ap (slice_get (children_in (row_of h.edge.above))) mine.1 ∙ h.edge.here) in
-      other (sym its.path_is ∙ h.path ∙ ap (λ r. path_in (job_of (row_of r)).path h.edge.child.name) (sym above) ∙ ap (λ (c : ChildAt). path_in (job_of (row_of n.above)).path c.name) (sym child_is) ∙ ap (λ x. path_in x child.name) dir)
+      other (sym its.path_is ∙ h.path ∙ ap (λ r. path_in (job_of (row_of r)).path h.edge.child.name) (sym above) ∙ ap (λ (c : ChildModel). path_in (job_of (row_of n.above)).path c.name) (sym child_is) ∙ ap (λ x. path_in x child.name) dir)
     where
       one_row : (x y : Ended Row) → Some x ≡ Some y → x ≡ y
       one_row x y e = cc
 
-      one_child : (x y : ChildAt) → Some x ≡ Some y → x ≡ y
+      one_child : (x y : ChildModel) → Some x ≡ Some y → x ≡ y
       one_child x y e = cc
 
   -- the child's number gets its mark
-  pub marks_set : (at j : ℕ) (child : ChildAt) (d x : List ℕ) (hung : List Bool) → IsNext rows at j child → IsPathAt rows at d → IsPathAt rows child.number x → 1 ≤ child.number → child.number < length rows → at < child.number →
+  pub marks_set : (at j : ℕ) (child : ChildModel) (d x : List ℕ) (hung : List Bool) → IsNext rows at j child → IsPathAt rows at d → IsPathAt rows child.number x → 1 ≤ child.number → child.number < length rows → at < child.number →
       slice_get hung child.number ≡ Some false → x ≡ path_in d child.name →
       Marks rows at j hung → Marks rows at (j + 1) (slice_set hung child.number true)
   marks_set at j child d x hung n dir its some low up unmarked path m = record {

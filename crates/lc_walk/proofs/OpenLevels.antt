@@ -8,13 +8,13 @@ use Rattle.lc_walk.specs.Answers.{Item, Items, Answers, entry_of, entries_of}
 use Rattle.lc_walk.specs.Deep.{is_too_deep, some_too_deep, has_too_deep}
 use Rattle.lc_walk.specs.EntryLooks.{has_file, has_dir}
 use Rattle.lc_walk.specs.GitInfo.{ListsFor, MayAnswerGit, ReadsGit}
-use Rattle.lc_walk.specs.Job.{JobAt}
+use Rattle.lc_walk.specs.Job.{JobModel}
 use Rattle.lc_walk.specs.Lawful.{IsTidy}
 use Rattle.lc_walk.specs.Level.{faulted_level, level, level_after}
-use Rattle.lc_walk.specs.Listing.{DirEntry, IsListing}
+use Rattle.lc_walk.specs.Listing.{EntryModel, IsListing}
 use Rattle.lc_walk.specs.LeftIn.{kept_file, kept_directory, bytes_of, LeavesIn}
 use Rattle.lc_walk.specs.Opens.{IsOpened, OpensLevel}
-use Rattle.lc_walk.specs.ReportLines.{FaultAt}
+use Rattle.lc_walk.specs.ReportLines.{FaultLineModel}
 use Rattle.lc_walk.specs.RuleFiles.{Pair, RuleBytes, has_directory, has_git, is_top, and_then, info_items, info_bytes, own_bytes, rule_bytes, extended}
 use Rattle.lc_walk.specs.RulePairs.{AreFilesOf, ReadsBoth}
 use Rattle.lc_walk.specs.Rows.{place_path}
@@ -35,13 +35,13 @@ use Rattle.lc_walk.proofs.GivenPairs.{PairGiven, pair_given}
 use Rattle.lc_walk.proofs.Tidy.{clash}
 
 -- what follows a reading, by what it gave
-and_then_ok : {A B : Type 0} (r : Result A FaultAt) (x : A) (next : A → Result B FaultAt) → r ≡ Ok x → and_then r next ≡ next x
+and_then_ok : {A B : Type 0} (r : Result A FaultLineModel) (x : A) (next : A → Result B FaultLineModel) → r ≡ Ok x → and_then r next ≡ next x
 and_then_ok r x next e = ap (λ s. and_then s next) e
 
-and_then_err : {A B : Type 0} (r : Result A FaultAt) (f : FaultAt) (next : A → Result B FaultAt) → r ≡ Err f → and_then r next ≡ Err f
+and_then_err : {A B : Type 0} (r : Result A FaultLineModel) (f : FaultLineModel) (next : A → Result B FaultLineModel) → r ≡ Err f → and_then r next ≡ Err f
 and_then_err r f next e = ap (λ s. and_then s next) e
 
-any_of_map : (p : DirEntry → Bool) (items : List Item) → list_any (λ i. p (entry_of i)) items ≡ list_any p (entries_of items)
+any_of_map : (p : EntryModel → Bool) (items : List Item) → list_any (λ i. p (entry_of i)) items ≡ list_any p (entries_of items)
 any_of_map p [] = refl
 any_of_map p (i ∷ is) = ap (λ b. p (entry_of i) || b) (any_of_map p is)
 
@@ -54,7 +54,7 @@ no_top true e = cc
 no_top false e = cc
 
 -- the directory was not listed
-pub list_refused : (lists : List ℕ → Listings) (gives : List ℕ → Contents) (archive : Bool) (j : JobAt) (u : Unlisted) → ListsFor (lists j.path) Directory (Err u) → OpensLevel lists gives archive j (Err u)
+pub list_refused : (lists : List ℕ → Listings) (gives : List ℕ → Contents) (archive : Bool) (j : JobModel) (u : Unlisted) → ListsFor (lists j.path) Directory (Err u) → OpensLevel lists gives archive j (Err u)
 list_refused lists gives archive j (Faulted place word) (is, l) =
     let a : Answers = record { here = Err word; git = Ok []; info = Ok [] } in (
       a,
@@ -69,7 +69,7 @@ list_refused lists gives archive j (Broken TooDeep) l = absurd l
 module _ (lists : List ℕ → Listings) (gives : List ℕ → Contents)
     (some_count : (path : List ℕ) → (r : Result Count FaultWord) × MayCount (gives path) r)
     (some_rules : (path : List ℕ) → (r : Result (List ℕ) FaultWord) × MayReadRules (gives path) r)
-    (archive : Bool) (j : JobAt) (es : List DirEntry) (may_list : lists j.path (Ok es)) (is_listing : IsListing es) where
+    (archive : Bool) (j : JobModel) (es : List EntryModel) (may_list : lists j.path (Ok es)) (is_listing : IsListing es) where
   abbrev own_items : AsRules → List Item
   own_items given = items_at (any_count lists gives some_count some_rules j.path) given es
 
@@ -98,7 +98,7 @@ module _ (lists : List ℕ → Listings) (gives : List ℕ → Contents)
   is_tidy given a = subst IsListing (sym (entries_items (any_count lists gives some_count some_rules j.path) given es)) is_listing
 
   -- what reading the rule files gives, by the two parts of it
-  bytes_by : (given : AsRules) (a : Answers) (r : Result Pair FaultAt) → and_then (info_items there a) info_bytes ≡ r →
+  bytes_by : (given : AsRules) (a : Answers) (r : Result Pair FaultLineModel) → and_then (info_items there a) info_bytes ≡ r →
       rule_bytes j.path (own_items given) (answers given a) ≡ and_then r (λ i. and_then (own_bytes j.path (own_items given)) (λ o. Ok (record { info = i; own = o })))
   bytes_by given a r e =
       ap (λ b. and_then (and_then (info_items b a) info_bytes) (λ i. and_then (own_bytes j.path (own_items given)) (λ o. Ok (record { info = i; own = o })))) (git_there given)
@@ -183,16 +183,16 @@ module _ (lists : List ℕ → Listings) (gives : List ℕ → Contents)
       }
 
   -- one of the entries is too deep
-  pub deep_opens : (info own : RulePair) → HasRead info own → (k : JobAt) → ((i o : Pair) → AreFilesOf true info i → AreFilesOf (is_top j.path) own o → k ≡ extended j (record { info = i; own = o })) →
+  pub deep_opens : (info own : RulePair) → HasRead info own → (k : JobModel) → ((i o : Pair) → AreFilesOf true info i → AreFilesOf (is_top j.path) own o → k ≡ extended j (record { info = i; own = o })) →
       list_any (is_too_deep archive k) es ≡ true → OpensLevel lists gives archive j (Err (Broken TooDeep))
   deep_opens info own r k inside deep =
       let items = own_items r.given in
       let files : RuleBytes = record { info = r.info_bytes; own = r.own_bytes } in
       let same : list_any (λ i. is_too_deep archive (extended j files) (entry_of i)) items ≡ list_any (is_too_deep archive (extended j files)) es =
       any_of_map (is_too_deep archive (extended j files)) items
-      ∙ ap (λ (ds : List DirEntry). list_any (is_too_deep archive (extended j files)) ds) (entries_items (any_count lists gives some_count some_rules j.path) r.given es) in
+      ∙ ap (λ (ds : List EntryModel). list_any (is_too_deep archive (extended j files)) ds) (entries_items (any_count lists gives some_count some_rules j.path) r.given es) in
       let here : list_any (is_too_deep archive (extended j files)) es ≡ true =
-      subst (λ (l : JobAt). list_any (is_too_deep archive l) es ≡ true) (inside r.info_bytes r.own_bytes r.info_are r.own_are) deep in (
+      subst (λ (l : JobModel). list_any (is_too_deep archive l) es ≡ true) (inside r.info_bytes r.own_bytes r.info_are r.own_are) deep in (
         answers r.given r.git_answers,
         may_answer r.given r.may r.git_answers r.git,
         is_tidy r.given r.git_answers,
@@ -215,12 +215,12 @@ module _ (lists : List ℕ → Listings) (gives : List ℕ → Contents)
         bytes = record { info = r.info_bytes; own = r.own_bytes };
         read = r.read;
         inside = inside r.info_bytes r.own_bytes r.info_are r.own_are;
-        files = subst (λ (ds : List DirEntry). bytes_of o.files.items ≡ flat_map (kept_file archive o.job) ds) are files;
-        children = subst (λ (ds : List DirEntry). bytes_of o.children.items ≡ flat_map (kept_directory archive o.job) ds) are children;
+        files = subst (λ (ds : List EntryModel). bytes_of o.files.items ≡ flat_map (kept_file archive o.job) ds) are files;
+        children = subst (λ (ds : List EntryModel). bytes_of o.children.items ≡ flat_map (kept_directory archive o.job) ds) are children;
       }
 
   -- the entries were not taken
-  pub left_refused : (info own : RulePair) → HasRead info own → (k : JobAt) → ((i o : Pair) → AreFilesOf true info i → AreFilesOf (is_top j.path) own o → k ≡ extended j (record { info = i; own = o })) →
+  pub left_refused : (info own : RulePair) → HasRead info own → (k : JobModel) → ((i o : Pair) → AreFilesOf true info i → AreFilesOf (is_top j.path) own o → k ≡ extended j (record { info = i; own = o })) →
       (cause : Cause) → LeavesIn archive k es (Err cause) → OpensLevel lists gives archive j (Err (Broken cause))
   left_refused info own r k inside Memory l = tt
   left_refused info own r k inside TooManyDirs l = absurd l

@@ -5,9 +5,9 @@ use Rattle.std.specs.Ordering.{eq_by_cmp}
 use Rattle.std.proofs.lemmas.Cmp.{nat_list_cmp_total, eq_by_cmp_equiv}
 use Rattle.std.proofs.lemmas.Map.Keys.{IsDistinct-IsPermutation}
 use Rattle.std.proofs.lemmas.Map.Text.{is_eq-slice_cmp}
-use Rattle.lc_walk.specs.ReportLines.{FileAt, FaultAt, file_paths, fault_paths, path_cmp, AreApart}
+use Rattle.lc_walk.specs.ReportLines.{FileLineModel, FaultLineModel, file_paths, fault_paths, path_cmp, AreApart}
 use Rattle.lc_glob.specs.Path.{path_in}
-use Rattle.lc_walk.specs.Level.{CountedAt, FileFaultAt, level_of_items, files_by, faults_by, children_by}
+use Rattle.lc_walk.specs.Level.{CountedModel, FileFaultModel, level_of_items, files_by, faults_by, children_by}
 use Rattle.lc_walk.specs.Found.{Found, found_of}
 use Rattle.lc_walk.specs.Walk.{walk_of}
 use Rattle.lc_walk.specs.WalkReport.{line_of, file_in, fault_in, files_of, faults_of}
@@ -40,25 +40,25 @@ map_map g f [] = refl
 map_map g f (x ∷ xs) = ap (λ l. g (f x) ∷ l) (map_map g f xs)
 
 abbrev file_path : Found → List (List ℕ)
-file_path x = map (λ (f : FileAt). f.path) (file_in x)
+file_path x = map (λ (f : FileLineModel). f.path) (file_in x)
 
 abbrev fault_path : Found → List (List ℕ)
-fault_path x = map (λ (f : FaultAt). f.path) (fault_in x)
+fault_path x = map (λ (f : FaultLineModel). f.path) (fault_in x)
 
 pub file_paths_are : (xs : List Found) → file_paths (files_of xs) ≡ flat_map file_path xs
-file_paths_are xs = map_flat (λ (f : FileAt). f.path) file_in xs
+file_paths_are xs = map_flat (λ (f : FileLineModel). f.path) file_in xs
 
 pub fault_paths_are : (xs : List Found) → fault_paths (faults_of xs) ≡ flat_map fault_path xs
-fault_paths_are xs = map_flat (λ (f : FaultAt). f.path) fault_in xs
+fault_paths_are xs = map_flat (λ (f : FaultLineModel). f.path) fault_in xs
 
 file_kind : (archive : Bool) → Kind archive file_path (counts_it archive)
 file_kind archive = record {
   own = λ j es.
       sym (file_paths_are (found_of j (level_of_items archive es j)))
       ∙ ap file_paths (files_went j (flat_map (files_by archive j) es) (flat_map (faults_by archive j) es) (flat_map (children_by archive j) es))
-      ∙ map_map (λ (f : FileAt). f.path) (line_of j.path) (flat_map (files_by archive j) es)
-      ∙ sym (map_map (path_in j.path) (λ (f : CountedAt). f.name) (flat_map (files_by archive j) es))
-      ∙ ap (map (path_in j.path)) (by_item (λ (f : CountedAt). f.name) (files_by archive j) (counts_it archive j) (counted_name archive j) es);
+      ∙ map_map (λ (f : FileLineModel). f.path) (line_of j.path) (flat_map (files_by archive j) es)
+      ∙ sym (map_map (path_in j.path) (λ (f : CountedModel). f.name) (flat_map (files_by archive j) es))
+      ∙ ap (map (path_in j.path)) (by_item (λ (f : CountedModel). f.name) (files_by archive j) (counts_it archive j) (counted_name archive j) es);
   fault = λ j p w. inl refl;
   never = count_never archive;
 }
@@ -68,9 +68,9 @@ fault_kind archive = record {
   own = λ j es.
       sym (fault_paths_are (found_of j (level_of_items archive es j)))
       ∙ ap fault_paths (faults_went j (flat_map (files_by archive j) es) (flat_map (faults_by archive j) es) (flat_map (children_by archive j) es))
-      ∙ map_map (λ (f : FaultAt). f.path) (fault_line j.path) (flat_map (faults_by archive j) es)
-      ∙ sym (map_map (path_in j.path) (λ (f : FileFaultAt). f.name) (flat_map (faults_by archive j) es))
-      ∙ ap (map (path_in j.path)) (by_item (λ (f : FileFaultAt). f.name) (faults_by archive j) (fails_it archive j) (fault_name archive j) es);
+      ∙ map_map (λ (f : FaultLineModel). f.path) (fault_line j.path) (flat_map (faults_by archive j) es)
+      ∙ sym (map_map (path_in j.path) (λ (f : FileFaultModel). f.name) (flat_map (faults_by archive j) es))
+      ∙ ap (map (path_in j.path)) (by_item (λ (f : FileFaultModel). f.name) (faults_by archive j) (fails_it archive j) (fault_name archive j) es);
   fault = λ j p w. inr refl;
   never = fail_never archive;
 }

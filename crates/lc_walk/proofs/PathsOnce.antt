@@ -7,9 +7,9 @@ use Rattle.lc_walk.specs.declared.report.fault_word.FaultWord.{FaultWord}
 use Rattle.lc_glob.specs.Path.{path_in}
 use Rattle.lc_walk.specs.Paths.{segments}
 use Rattle.lc_walk.specs.Answers.{Item, file_item, directory_item, other_item, Tree, name_of}
-use Rattle.lc_walk.specs.Job.{JobAt}
+use Rattle.lc_walk.specs.Job.{JobModel}
 use Rattle.lc_walk.specs.RuleFiles.{extended}
-use Rattle.lc_walk.specs.Level.{CountedAt, FileFaultAt, faulted_level, level_of_items, is_taken, counted_by, fault_by, files_by, faults_by, children_by, child_job}
+use Rattle.lc_walk.specs.Level.{CountedModel, FileFaultModel, faulted_level, level_of_items, is_taken, counted_by, fault_by, files_by, faults_by, children_by, child_job}
 use Rattle.lc_walk.specs.Found.{Found, found_fault, found_of, found_at, children_of, children_at}
 use Rattle.lc_walk.specs.Walk.{walks_below, walk_by}
 use Rattle.lc_walk.specs.Lawful.{IsTidy}
@@ -115,18 +115,18 @@ names_apart one two never (e ∷ es) s = at (one e) refl (two e) refl (names_apa
 
 -- ---- the tests
 
-abbrev pub counts_it : Bool → JobAt → Item → Bool
+abbrev pub counts_it : Bool → JobModel → Item → Bool
 counts_it archive j (file_item n c r) = is_taken archive j n false && is_ok c
 counts_it archive j (directory_item n) = false
 counts_it archive j (other_item n) = false
 
-abbrev pub fails_it : Bool → JobAt → Item → Bool
+abbrev pub fails_it : Bool → JobModel → Item → Bool
 fails_it archive j (file_item n (Ok c) r) = false
 fails_it archive j (file_item n (Err w) r) = is_taken archive j n false
 fails_it archive j (directory_item n) = false
 fails_it archive j (other_item n) = false
 
-abbrev enters_it : Bool → JobAt → Item → Bool
+abbrev enters_it : Bool → JobModel → Item → Bool
 enters_it archive j (file_item n c r) = false
 enters_it archive j (directory_item n) = is_taken archive j n true
 enters_it archive j (other_item n) = false
@@ -140,49 +140,49 @@ pub by_item : {A : Type 0} (name : A → List ℕ) (g : Item → List A) (keep :
 by_item name g keep one [] = refl
 by_item name g keep one (e ∷ es) = map_append name (g e) (flat_map g es) ∙ ap (λ l. l ++ map name (flat_map g es)) (one e) ∙ ap (λ l. cond (keep e) (name_of e ∷ []) [] ++ l) (by_item name g keep one es)
 
-pub counted_name : (archive : Bool) (j : JobAt) (e : Item) → map (λ (f : CountedAt). f.name) (files_by archive j e) ≡ cond (counts_it archive j e) (name_of e ∷ []) []
+pub counted_name : (archive : Bool) (j : JobModel) (e : Item) → map (λ (f : CountedModel). f.name) (files_by archive j e) ≡ cond (counts_it archive j e) (name_of e ∷ []) []
 counted_name archive j (file_item n (Ok c) r) = at (is_taken archive j n false)
   where
-    at : (b : Bool) → map (λ (f : CountedAt). f.name) (cond b (counted_by j n (Ok c)) []) ≡ cond (b && true) (n ∷ []) []
+    at : (b : Bool) → map (λ (f : CountedModel). f.name) (cond b (counted_by j n (Ok c)) []) ≡ cond (b && true) (n ∷ []) []
     at true = refl
     at false = refl
 counted_name archive j (file_item n (Err w) r) = at (is_taken archive j n false)
   where
-    at : (b : Bool) → map (λ (f : CountedAt). f.name) (cond b (counted_by j n (Err w)) []) ≡ cond (b && false) (n ∷ []) []
+    at : (b : Bool) → map (λ (f : CountedModel). f.name) (cond b (counted_by j n (Err w)) []) ≡ cond (b && false) (n ∷ []) []
     at true = refl
     at false = refl
 counted_name archive j (directory_item n) = refl
 counted_name archive j (other_item n) = refl
 
-pub fault_name : (archive : Bool) (j : JobAt) (e : Item) → map (λ (f : FileFaultAt). f.name) (faults_by archive j e) ≡ cond (fails_it archive j e) (name_of e ∷ []) []
+pub fault_name : (archive : Bool) (j : JobModel) (e : Item) → map (λ (f : FileFaultModel). f.name) (faults_by archive j e) ≡ cond (fails_it archive j e) (name_of e ∷ []) []
 fault_name archive j (file_item n (Ok c) r) = at (is_taken archive j n false)
   where
-    at : (b : Bool) → map (λ (f : FileFaultAt). f.name) (cond b (fault_by n (Ok c)) []) ≡ []
+    at : (b : Bool) → map (λ (f : FileFaultModel). f.name) (cond b (fault_by n (Ok c)) []) ≡ []
     at true = refl
     at false = refl
 fault_name archive j (file_item n (Err w) r) = at (is_taken archive j n false)
   where
-    at : (b : Bool) → map (λ (f : FileFaultAt). f.name) (cond b (fault_by n (Err w)) []) ≡ cond b (n ∷ []) []
+    at : (b : Bool) → map (λ (f : FileFaultModel). f.name) (cond b (fault_by n (Err w)) []) ≡ cond b (n ∷ []) []
     at true = refl
     at false = refl
 fault_name archive j (directory_item n) = refl
 fault_name archive j (other_item n) = refl
 
-child_name : (archive : Bool) (j : JobAt) (e : Item) → map (λ (c : List ℕ × JobAt). c.0) (children_by archive j e) ≡ cond (enters_it archive j e) (name_of e ∷ []) []
+child_name : (archive : Bool) (j : JobModel) (e : Item) → map (λ (c : List ℕ × JobModel). c.0) (children_by archive j e) ≡ cond (enters_it archive j e) (name_of e ∷ []) []
 child_name archive j (file_item n c r) = refl
 child_name archive j (directory_item n) = at (is_taken archive j n true)
   where
-    at : (b : Bool) → map (λ (c : List ℕ × JobAt). c.0) (cond b ((n, child_job j n) ∷ []) []) ≡ cond b (n ∷ []) []
+    at : (b : Bool) → map (λ (c : List ℕ × JobModel). c.0) (cond b ((n, child_job j n) ∷ []) []) ≡ cond b (n ∷ []) []
     at true = refl
     at false = refl
 child_name archive j (other_item n) = refl
 
-pub count_never : (archive : Bool) (j : JobAt) (e : Item) → counts_it archive j e ≡ true → enters_it archive j e ≡ true → ⊥
+pub count_never : (archive : Bool) (j : JobModel) (e : Item) → counts_it archive j e ≡ true → enters_it archive j e ≡ true → ⊥
 count_never archive j (file_item n c r) a b = cc
 count_never archive j (directory_item n) a b = cc
 count_never archive j (other_item n) a b = cc
 
-pub fail_never : (archive : Bool) (j : JobAt) (e : Item) → fails_it archive j e ≡ true → enters_it archive j e ≡ true → ⊥
+pub fail_never : (archive : Bool) (j : JobModel) (e : Item) → fails_it archive j e ≡ true → enters_it archive j e ≡ true → ⊥
 fail_never archive j (file_item n c r) a b = cc
 fail_never archive j (directory_item n) a b = cc
 fail_never archive j (other_item n) a b = cc
@@ -190,22 +190,22 @@ fail_never archive j (other_item n) a b = cc
 -- ---- a walk, for paths of one kind
 
 -- a kind of what is found, with the names of a level's items that it has, and its path where a level is at fault
-pub record Kind (archive : Bool) (pick : Found → List (List ℕ)) (keep : JobAt → Item → Bool) : Type 0 where
-  pub own : (j : JobAt) (es : List Item) → flat_map pick (found_of j (level_of_items archive es j)) ≡ map (path_in j.path) (names_if (keep j) es)
-  pub fault : (j : JobAt) (p : List ℕ) (w : FaultWord) → (pick (found_fault p w) ≡ []) ⊎ (pick (found_fault p w) ≡ p ∷ [])
-  pub never : (j : JobAt) (e : Item) → keep j e ≡ true → enters_it archive j e ≡ true → ⊥
+pub record Kind (archive : Bool) (pick : Found → List (List ℕ)) (keep : JobModel → Item → Bool) : Type 0 where
+  pub own : (j : JobModel) (es : List Item) → flat_map pick (found_of j (level_of_items archive es j)) ≡ map (path_in j.path) (names_if (keep j) es)
+  pub fault : (j : JobModel) (p : List ℕ) (w : FaultWord) → (pick (found_fault p w) ≡ []) ⊎ (pick (found_fault p w) ≡ p ∷ [])
+  pub never : (j : JobModel) (e : Item) → keep j e ≡ true → enters_it archive j e ≡ true → ⊥
 
-module _ (archive : Bool) (pick : Found → List (List ℕ)) (keep : JobAt → Item → Bool) (kind : Kind archive pick keep) where
+module _ (archive : Bool) (pick : Found → List (List ℕ)) (keep : JobModel → Item → Bool) (kind : Kind archive pick keep) where
   abbrev paths : List Found → List (List ℕ)
   paths xs = flat_map pick xs
 
   abbrev IsFine : List ℕ → List (List ℕ) → Type 0
   IsFine d ps = Each (Below d) ps × Distinct ps
 
-  abbrev walk : ℕ → JobAt → Tree → List Found
+  abbrev walk : ℕ → JobModel → Tree → List Found
   walk k j t = walk_by (found_at archive) (children_at archive) k j t
 
-  below_groups : (k : ℕ) (t : Tree) (cs : List (List ℕ × JobAt)) →
+  below_groups : (k : ℕ) (t : Tree) (cs : List (List ℕ × JobModel)) →
       paths (walks_below (found_at archive) (children_at archive) (walk k) t cs) ≡ flat_map (λ (g : Group). g.1) (map (λ c. (c.0, paths (walk k c.1 (λ p. t (c.0 ∷ p))))) cs)
   below_groups k t [] = refl
   below_groups k t (c ∷ cs) =
@@ -220,8 +220,8 @@ module _ (archive : Bool) (pick : Found → List (List ℕ)) (keep : JobAt → I
   own_are d [] a = tt
   own_are d (n ∷ ns) a = (((([], segments-path_in d n a.0), tt), (tt, tt)), own_are d ns a.1)
 
-  children_are : (k : ℕ) (d : List ℕ) (t : Tree) (cs : List (List ℕ × JobAt)) → Each (IsChild d) cs →
-      ((j : JobAt) (u : List ℕ) → IsFine j.path (paths (walk k j (λ p. t (u ∷ p))))) →
+  children_are : (k : ℕ) (d : List ℕ) (t : Tree) (cs : List (List ℕ × JobModel)) → Each (IsChild d) cs →
+      ((j : JobModel) (u : List ℕ) → IsFine j.path (paths (walk k j (λ p. t (u ∷ p))))) →
       Each (IsGroup d) (map (λ c. (c.0, paths (walk k c.1 (λ p. t (c.0 ∷ p))))) cs)
   children_are k d t [] a rec = tt
   children_are k d t (c ∷ cs) a rec =
@@ -238,7 +238,7 @@ module _ (archive : Bool) (pick : Found → List (List ℕ)) (keep : JobAt → I
   names_first [] d = refl
   names_first (n ∷ ns) d = ap (λ l. n ∷ l) (names_first ns d)
 
-  names_after : (k : ℕ) (t : Tree) (cs : List (List ℕ × JobAt)) → map (λ (g : Group). g.0) (map (λ c. (c.0, paths (walk k c.1 (λ p. t (c.0 ∷ p))))) cs) ≡ map (λ c. c.0) cs
+  names_after : (k : ℕ) (t : Tree) (cs : List (List ℕ × JobModel)) → map (λ (g : Group). g.0) (map (λ c. (c.0, paths (walk k c.1 (λ p. t (c.0 ∷ p))))) cs) ≡ map (λ c. c.0) cs
   names_after k t [] = refl
   names_after k t (c ∷ cs) = ap (λ l. c.0 ∷ l) (names_after k t cs)
 
@@ -247,11 +247,11 @@ module _ (archive : Bool) (pick : Found → List (List ℕ)) (keep : JobAt → I
   good_names (e ∷ es) s = (s.1, good_names es s.2)
 
   -- a level of items, with the walks of its children
-  of_items : (k : ℕ) (j : JobAt) (t : Tree) (es : List Item) → Spread es →
-      ((i : JobAt) (u : List ℕ) → IsFine i.path (paths (walk k i (λ p. t (u ∷ p))))) →
+  of_items : (k : ℕ) (j : JobModel) (t : Tree) (es : List Item) → Spread es →
+      ((i : JobModel) (u : List ℕ) → IsFine i.path (paths (walk k i (λ p. t (u ∷ p))))) →
       IsFine j.path (paths (found_of j (level_of_items archive es j) ++ walks_below (found_at archive) (children_at archive) (walk k) t (flat_map (children_by archive j) es)))
   of_items k j t es s rec =
-      let cs : List (List ℕ × JobAt) = flat_map (children_by archive j) es in
+      let cs : List (List ℕ × JobModel) = flat_map (children_by archive j) es in
       let ns : List (List ℕ) = names_if (keep j) es in
       let owns : List Group = map (λ n. (n, path_in j.path n ∷ [])) ns in
       let kids : List Group = map (λ c. (c.0, paths (walk k c.1 (λ p. t (c.0 ∷ p))))) cs in
@@ -263,7 +263,7 @@ module _ (archive : Bool) (pick : Found → List (List ℕ)) (keep : JobAt → I
       let is_child : Each (IsChild j.path) cs = each_child archive j (IsChild j.path) IsGoodName (λ n g. (g, refl)) es (good_names es s) in
       let groups : Each (IsGroup j.path) (owns ++ kids) =
       each-append (IsGroup j.path) owns kids (own_are j.path ns (each_if IsGoodName (keep j) es (good_names es s))) (children_are k j.path t cs is_child rec) in
-      let child_names : map (λ (c : List ℕ × JobAt). c.0) cs ≡ names_if (enters_it archive j) es = by_item (λ c. c.0) (children_by archive j) (enters_it archive j) (child_name archive j) es in
+      let child_names : map (λ (c : List ℕ × JobModel). c.0) cs ≡ names_if (enters_it archive j) es = by_item (λ c. c.0) (children_by archive j) (enters_it archive j) (child_name archive j) es in
       let all_names : map (λ (g : Group). g.0) (owns ++ kids) ≡ ns ++ names_if (enters_it archive j) es =
       map_append (λ (g : Group). g.0) owns kids ∙ ap (λ l. l ++ map (λ (g : Group). g.0) kids) (names_first ns j.path) ∙ ap (λ l. ns ++ l) (names_after k t cs ∙ child_names) in
       let distinct : Distinct (map (λ (g : Group). g.0) (owns ++ kids)) =
@@ -279,7 +279,7 @@ module _ (archive : Bool) (pick : Found → List (List ℕ)) (keep : JobAt → I
   of_fault d p ps o (inl e) = subst (λ l. IsFine d (l ++ [])) (sym e) (tt, tt)
   of_fault d p ps o (inr e) = subst (λ l. IsFine d (l ++ [])) (sym e) ((own_below d p o, tt), (tt, tt))
 
-  pub fine : (k : ℕ) (j : JobAt) (t : Tree) → ((p : List (List ℕ)) → IsTidy (t p)) → IsFine j.path (paths (walk k j t))
+  pub fine : (k : ℕ) (j : JobModel) (t : Tree) → ((p : List (List ℕ)) → IsTidy (t p)) → IsFine j.path (paths (walk k j t))
   fine zero j t tidy = (tt, tt)
   fine (suc k) j t tidy =
       own_level_keeps

@@ -7,9 +7,9 @@ use Rattle.lc_board.specs.declared.answers.Ended.{Ended}
 use Rattle.std.proofs.lemmas.Option.{slice_get_within}
 use Rattle.lc_glob.specs.Path.{path_in}
 use Rattle.lc_walk.specs.Answers.{Answers}
-use Rattle.lc_walk.specs.Job.{JobAt}
+use Rattle.lc_walk.specs.Job.{JobModel}
 use Rattle.lc_walk.specs.Found.{children_at}
-use Rattle.lc_walk.specs.RowViews.{ChildAt}
+use Rattle.lc_walk.specs.RowViews.{ChildModel}
 use Rattle.lc_walk.specs.Rows.{row_of, job_of, children_in}
 use Rattle.lc_walk.specs.Lawful.{Asked, named}
 use Rattle.lc_walk.specs.TreeOfRows.{children_at_row}
@@ -20,12 +20,12 @@ use Rattle.lc_walk.proofs.Histories.{start}
 use Rattle.lc_walk.proofs.Law.{row_here, job_or, job_at, inside, there, top_job, own_jobs, fits}
 use Rattle.lc_walk.proofs.Parents.{IsIn, parent, one_parent, posts_once, posted_above, child_posted, one_place, posted_child}
 
-module _ (ask : Asked) (full : Bool) (capacity workers : ℕ) (top : JobAt) (h : List (Event JobAt Row)) (rows : List (Ended Row)) (answers : ℕ → Answers)
+module _ (ask : Asked) (full : Bool) (capacity workers : ℕ) (top : JobModel) (h : List (Event JobModel Row)) (rows : List (Ended Row)) (answers : ℕ → Answers)
     (walked : Walked ask full capacity workers top h rows answers) (whole : AreWhole rows) (at_top : top.path ≡ []) where
-  abbrev job : ℕ → JobAt
+  abbrev job : ℕ → JobModel
   job i = job_at ask full capacity workers top h rows answers walked i
 
-  abbrev children_of_number : ℕ → List (List ℕ × JobAt)
+  abbrev children_of_number : ℕ → List (List ℕ × JobModel)
   children_of_number i = children_at ask.archive (job i) (answers i)
 
   job_here : (i : ℕ) (e : Ended Row) → slice_get rows i ≡ Some e → job_of (row_of e) ≡ job i
@@ -36,7 +36,7 @@ module _ (ask : Asked) (full : Bool) (capacity workers : ℕ) (top : JobAt) (h :
   named_here p e is =
       ap children_at_row (sym is) ∙ (fits ask full capacity workers top h rows answers walked whole p (there ask full capacity workers top h rows answers walked p (slice_get_within rows p e is))).children
 
-  in_posts : (p k : ℕ) (e : Ended Row) (i : ℕ) (c : ChildAt) → slice_get rows p ≡ Some e → slice_get (children_in (row_of e)) i ≡ Some c → c.number ≡ k → IsIn k (posts_under p h)
+  in_posts : (p k : ℕ) (e : Ended Row) (i : ℕ) (c : ChildModel) → slice_get rows p ≡ Some e → slice_get (children_in (row_of e)) i ≡ Some c → c.number ≡ k → IsIn k (posts_under p h)
   in_posts p k e i c is here n =
       subst (λ m. IsIn m (posts_under p h)) n (child_posted (children_of_number p) (posts_under p h) i c (ap (λ cs. slice_get cs i) (sym (named_here p e is)) ∙ here))
 
@@ -50,7 +50,7 @@ module _ (ask : Asked) (full : Bool) (capacity workers : ℕ) (top : JobAt) (h :
         at = c.at;
         lower = posted_above capacity workers top h walked.legal p k i;
         edge = record { above = r.row; is = r.is; child = c.child; here = ap (λ cs. slice_get cs c.at) (named_here p r.row r.is) ∙ c.here; number = c.number };
-        path = ap (λ (j : JobAt). j.path) (job_here k e is) ∙ c.path ∙ ap (λ (j : JobAt). path_in j.path c.child.name) (sym (job_here p r.row r.is));
+        path = ap (λ (j : JobModel). j.path) (job_here k e is) ∙ c.path ∙ ap (λ (j : JobModel). path_in j.path c.child.name) (sym (job_here p r.row r.is));
         only = λ q n edge.
             let same : q ≡ p = one_parent capacity workers top h walked.legal q p k (in_posts q k edge.above n edge.child edge.is edge.here edge.number) i in
             let theirs : slice_get (named (children_of_number q) (posts_under q h)) n ≡ Some edge.child = ap (λ cs. slice_get cs n) (sym (named_here q edge.above edge.is)) ∙ edge.here in (
@@ -63,7 +63,7 @@ module _ (ask : Asked) (full : Bool) (capacity workers : ℕ) (top : JobAt) (h :
   top_placed : IsPlaced rows 0
   top_placed =
       let r = row_here rows 0 (inside ask full capacity workers top h rows answers walked 0 (start h)) in
-      (r.row, r.is, ap (λ (j : JobAt). j.path) (job_here 0 r.row r.is ∙ top_job ask full capacity workers top h rows answers walked) ∙ at_top)
+      (r.row, r.is, ap (λ (j : JobModel). j.path) (job_here 0 r.row r.is ∙ top_job ask full capacity workers top h rows answers walked) ∙ at_top)
 
   below_placed : (k : ℕ) (e : Ended Row) → slice_get rows (suc k) ≡ Some e → HangsOnce rows (suc k) (row_of e)
   below_placed k e is = at (parent capacity workers h walked.legal (suc k) (there ask full capacity workers top h rows answers walked (suc k) (slice_get_within rows (suc k) e is)))

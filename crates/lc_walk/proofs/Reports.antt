@@ -1,7 +1,7 @@
 -- A report tells nothing of the order in which things were found.
 use Rattle.std.proofs.Common.{Bool, true, false, cond, List, [], sym, ◌∙◌, IsPermutation}
 use Rattle.std.proofs.lemmas.List.Sorted.{IsPermutation-sym, IsPermutation-trans, IsPermutation-refl, length_permutation}
-use Rattle.lc_walk.specs.Tally.{Held, StandsFor}
+use Rattle.lc_walk.specs.Tally.{TallyModel, StandsFor}
 use Rattle.lc_walk.proofs.Joining.{stands_permuted}
 use Rattle.lc_walk.specs.WalkReport.{tallied_in, file_in, fault_in, directory_in, tallied_of, files_of, directories_of, ReportLaw}
 use Rattle.lc_walk.proofs.Moves.{lists_moved}
@@ -12,7 +12,7 @@ cond_moved false xs ys m = IsPermutation-refl []
 
 pub report_law : ReportLaw
 report_law files xs ys r moved is =
-    let held : Held = record { rows = r.rows.items; totals = r.totals } in
+    let held : TallyModel = record { rows = r.rows.items; totals = r.totals } in
     let stood : StandsFor held (tallied_of xs) = record { tally = is.tally; totals = is.totals } in
     let stands = stands_permuted held (tallied_of xs) (tallied_of ys) (lists_moved tallied_in xs ys moved) stood in
     record {

@@ -12,10 +12,10 @@ use Rattle.lc_board.specs.declared.answers.CloseFault.TheVariants as close
 use Rattle.lc_board.specs.declared.answers.Ended.{Ended}
 use Rattle.lc_board.specs.declared.answers.Ended.TheVariants as ended
 use Rattle.lc_board.proofs.OverHistories.{over_stays}
-use Rattle.lc_walk.specs.Tally.{Held, StandsFor}
+use Rattle.lc_walk.specs.Tally.{TallyModel, StandsFor}
 use Rattle.lc_walk.specs.declared.report.Report.{Report}
 use Rattle.lc_walk.specs.Answers.{Answers}
-use Rattle.lc_walk.specs.Job.{JobAt}
+use Rattle.lc_walk.specs.Job.{JobModel}
 use Rattle.lc_walk.specs.Rows.{row_of, job_of}
 use Rattle.lc_walk.specs.Lawful.{Asked, Says, IsCause}
 use Rattle.lc_walk.specs.Assembled.{IsBrokenBy, Assembles}
@@ -35,7 +35,7 @@ use Rattle.lc_walk.proofs.Placing.{placed}
 use Rattle.lc_walk.proofs.Listings.{got_here}
 
 -- what a Broken row says of its cause
-cause_said : (ask : Asked) (f : Bool) (c : Cause) (e : Ended Row) (a : Answers) (posts : List (ℕ × JobAt)) → Says ask f e a posts → IsBrokenBy c (row_of e) → IsCause ask f (job_of (row_of e)) a c
+cause_said : (ask : Asked) (f : Bool) (c : Cause) (e : Ended Row) (a : Answers) (posts : List (ℕ × JobModel)) → Says ask f e a posts → IsBrokenBy c (row_of e) → IsCause ask f (job_of (row_of e)) a c
 cause_said ask f c (ended.Returned (Listed r)) a posts s b = absurd b
 cause_said ask f c (ended.Returned (Faulted r)) a posts s b = absurd b
 cause_said ask f c (ended.Returned (Broken r)) a posts s b = subst (IsCause ask f r.job a) b s.cause_is
@@ -44,34 +44,34 @@ cause_said ask f c (ended.Faulted (Faulted r)) a posts s b = absurd b
 cause_said ask f c (ended.Faulted (Broken r)) a posts s b = absurd s
 
 -- some pass was answered Full
-record SomeFull (passes : List (Pass JobAt Row)) : Type 0 where
+record SomeFull (passes : List (Pass JobModel Row)) : Type 0 where
   worker : ℕ
-  pass : Pass JobAt Row
+  pass : Pass JobModel Row
   is : slice_get passes worker ≡ Some pass
   was : pass.full ≡ true
 
-full_pass : (passes : List (Pass JobAt Row)) → list_any (λ (p : Pass JobAt Row). p.full) passes ≡ true → SomeFull passes
+full_pass : (passes : List (Pass JobModel Row)) → list_any (λ (p : Pass JobModel Row). p.full) passes ≡ true → SomeFull passes
 full_pass [] e = cc
 full_pass (p ∷ ps) e = at p.full refl e (full_pass ps)
   where
-    at : (b : Bool) → p.full ≡ b → (b || list_any (λ (q : Pass JobAt Row). q.full) ps) ≡ true → (list_any (λ (q : Pass JobAt Row). q.full) ps ≡ true → SomeFull ps) → SomeFull (p ∷ ps)
+    at : (b : Bool) → p.full ≡ b → (b || list_any (λ (q : Pass JobModel Row). q.full) ps) ≡ true → (list_any (λ (q : Pass JobModel Row). q.full) ps ≡ true → SomeFull ps) → SomeFull (p ∷ ps)
     at true f e rec = record { worker = 0; pass = p; is = refl; was = f }
     at false f e rec = let r = rec e in record { worker = suc r.worker; pass = r.pass; is = r.is; was = r.was }
 
-module _ (ask : Asked) (MayAnswer : List ℕ → Answers → Type 0) (capacity workers : ℕ) (top : JobAt) (promises : Promises) (passes : List (Pass JobAt Row))
+module _ (ask : Asked) (MayAnswer : List ℕ → Answers → Type 0) (capacity workers : ℕ) (top : JobModel) (promises : Promises) (passes : List (Pass JobModel Row))
     (room : 1 ≤ capacity) (count : length passes ≡ workers) (at_top : top.path ≡ []) where
   -- the board was closed
-  module _ (given : ℕ → List Answers) (lawful : (w : ℕ) (p : Pass JobAt Row) → slice_get passes w ≡ Some p → AreLawful ask p.full MayAnswer p.mine (given w))
+  module _ (given : ℕ → List Answers) (lawful : (w : ℕ) (p : Pass JobModel Row) → slice_get passes w ≡ Some p → AreLawful ask p.full MayAnswer p.mine (given w))
       (rows : List (Ended Row)) (settled : Settled capacity workers top promises passes rows) where
     abbrev rows_so : promises.keeps ≡ true → SomeRows MayAnswer ask capacity workers top
     rows_so keeps = some_rows ask MayAnswer capacity workers top promises passes rows room keeps count settled given lawful
 
     cause_here : (keeps : promises.keeps ≡ true) (c : Cause) (i : ℕ) (e : Ended Row) → slice_get rows i ≡ Some e → IsBrokenBy c (row_of e) →
-        IsCause ask (list_any (λ (p : Pass JobAt Row). p.full) passes) (job_of (row_of e)) (answers ask MayAnswer capacity workers top promises passes rows room keeps count settled given lawful i) c
+        IsCause ask (list_any (λ (p : Pass JobModel Row). p.full) passes) (job_of (row_of e)) (answers ask MayAnswer capacity workers top promises passes rows room keeps count settled given lawful i) c
     cause_here keeps c i e is b =
         cause_said ask _ c e _ _ (lawful_here ask MayAnswer capacity workers top promises passes rows room keeps count settled given lawful i e is).0.says b
 
-    pub assembled_walk : (t : Held) → StandsFor t (files_of_passes ask given passes) → (result : Result Report WalkFault) → Assembles ask.files t rows result →
+    pub assembled_walk : (t : TallyModel) → StandsFor t (files_of_passes ask given passes) → (result : Result Report WalkFault) → Assembles ask.files t rows result →
         WalkAnswers MayAnswer ask capacity workers top promises result
     assembled_walk t stood (Ok r) a = λ keeps.
         report_of_walk ask MayAnswer capacity workers top promises passes rows room keeps count settled given lawful a.whole at_top t stood r a.report
@@ -83,7 +83,7 @@ module _ (ask : Asked) (MayAnswer : List ℕ → Answers → Type 0) (capacity w
     assembled_walk t stood (Err fault.TooDeep) a = λ keeps.
         record { found = rows_so keeps; number = a.0.0; row = a.0.1.0; is = a.0.1.1; deep = cause_here keeps TooDeep a.0.0 a.0.1.0 a.0.1.1 a.0.1.2 }
     assembled_walk t stood (Err (fault.Torn n)) a = λ keeps compares.
-        a.1 (placed ask (list_any (λ (p : Pass JobAt Row). p.full) passes) capacity workers top settled.history rows
+        a.1 (placed ask (list_any (λ (p : Pass JobModel Row). p.full) passes) capacity workers top settled.history rows
         (answers ask MayAnswer capacity workers top promises passes rows room keeps count settled given lawful)
         (walked ask MayAnswer capacity workers top promises passes rows room keeps count settled given lawful) a.0 at_top n)
     assembled_walk t stood (Err (fault.Mismatch w)) a = absurd a
@@ -96,7 +96,7 @@ module _ (ask : Asked) (MayAnswer : List ℕ → Answers → Type 0) (capacity w
   unended Returned u n m = u
   unended Faulted u n m = u
 
-  pub refused_walk : 1 ≤ workers → ((w : ℕ) (p : Pass JobAt Row) → slice_get passes w ≡ Some p → (p.worker ≡ w) × HasEnded p) →
+  pub refused_walk : 1 ≤ workers → ((w : ℕ) (p : Pass JobModel Row) → slice_get passes w ≡ Some p → (p.worker ≡ w) × HasEnded p) →
       (f : CloseFault) → RefusesClose capacity workers promises passes f → WalkAnswers MayAnswer ask capacity workers top promises (Err (fault_of_close f))
   refused_walk some ended_so (close.Unfinished n) u = λ keeps compares.
       let p = got_here passes 0 (omega arith) in
@@ -108,7 +108,7 @@ module _ (ask : Asked) (MayAnswer : List ℕ → Answers → Type 0) (capacity w
   refused_walk some ended_so close.Memory u = tt
 
 -- there are no more rows than numbers
-pub few_rows : (capacity workers : ℕ) (top : JobAt) (promises : Promises) (passes : List (Pass JobAt Row)) (rows : List (Ended Row)) → 1 ≤ capacity → Settled capacity workers top promises passes rows → length rows ≤ capacity
+pub few_rows : (capacity workers : ℕ) (top : JobModel) (promises : Promises) (passes : List (Pass JobModel Row)) (rows : List (Ended Row)) → 1 ≤ capacity → Settled capacity workers top promises passes rows → length rows ≤ capacity
 few_rows capacity workers top promises passes rows room settled = at (cases_lt capacity (length rows))
   where
     at : (capacity < length rows) ⊎ (length rows ≤ capacity) → length rows ≤ capacity

@@ -1,7 +1,7 @@
 -- What a tree answers for one directory. Nothing is said of its child directories but their names.
 use Rattle.std.specs.Prelude.{ℕ, List, [], map, Result, Ok}
 use Rattle.lc_census.specs.declared.totals.Count.{Count}
-use Rattle.lc_walk.specs.Listing.{DirEntry}
+use Rattle.lc_walk.specs.Listing.{EntryModel}
 use Rattle.lc_walk.specs.declared.tree.entry.Kind.TheVariants.{File, Dir, Other}
 use Rattle.lc_walk.specs.declared.report.fault_word.FaultWord.{FaultWord}
 
@@ -11,12 +11,12 @@ pub data Item : Type 0 where
   directory_item : (name : List ℕ) → Item
   other_item : (name : List ℕ) → Item
 
-abbrev pub entry_of : Item → DirEntry
+abbrev pub entry_of : Item → EntryModel
 entry_of (file_item name counted rules) = record { name = name; kind = File }
 entry_of (directory_item name) = record { name = name; kind = Dir }
 entry_of (other_item name) = record { name = name; kind = Other }
 
-abbrev pub entries_of : List Item → List DirEntry
+abbrev pub entries_of : List Item → List EntryModel
 entries_of items = map entry_of items
 
 abbrev pub name_of : Item → List ℕ

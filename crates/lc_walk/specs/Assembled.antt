@@ -1,13 +1,13 @@
 -- What is made of the rows of a closed board.
 use Rattle.std.specs.Prelude.{◌≡◌, ℕ, zero, suc, ◌<◌, Bool, cond, List, [], ◌∷◌, length, map, flat_map, slice_get, Some, Result, Ok, Err}
 use Rattle.lc_board.specs.declared.answers.Ended.{Ended}
-use Rattle.lc_walk.specs.Tally.{Held}
-use Rattle.lc_walk.specs.ReportLines.{FileAt, FaultAt}
+use Rattle.lc_walk.specs.Tally.{TallyModel}
+use Rattle.lc_walk.specs.ReportLines.{FileLineModel, FaultLineModel}
 use Rattle.lc_walk.specs.Report.{IsReport}
 use Rattle.lc_walk.specs.declared.report.Report.{Report}
 use Rattle.lc_glob.specs.Path.{path_in}
-use Rattle.lc_walk.specs.Level.{FileFaultAt}
-use Rattle.lc_walk.specs.RowViews.{ChildAt}
+use Rattle.lc_walk.specs.Level.{FileFaultModel}
+use Rattle.lc_walk.specs.RowViews.{ChildModel}
 use Rattle.lc_walk.specs.Rows.{row_of, job_of, children_in, place_path}
 use Rattle.lc_walk.specs.WalkReport.{line_of}
 use Rattle.lc_walk.specs.Walked.{AreWhole}
@@ -25,15 +25,15 @@ directories_by_row (Listed r) = r.job.path ∷ []
 directories_by_row (Faulted r) = []
 directories_by_row (Broken r) = []
 
-abbrev pub files_by_row : Row → List FileAt
+abbrev pub files_by_row : Row → List FileLineModel
 files_by_row (Listed r) = map (line_of r.job.path) r.files
 files_by_row (Faulted r) = []
 files_by_row (Broken r) = []
 
-abbrev pub fault_line : List ℕ → FileFaultAt → FaultAt
+abbrev pub fault_line : List ℕ → FileFaultModel → FaultLineModel
 fault_line directory f = record { path = path_in directory f.name; word = f.word }
 
-abbrev pub faults_by_row : Row → List FaultAt
+abbrev pub faults_by_row : Row → List FaultLineModel
 faults_by_row (Listed r) = map (fault_line r.job.path) r.faults
 faults_by_row (Faulted r) = record { path = place_path r.job.path r.place; word = r.word } ∷ []
 faults_by_row (Broken r) = []
@@ -42,10 +42,10 @@ faults_by_row (Broken r) = []
 abbrev pub directories_in_rows : List (Ended Row) → List (List ℕ)
 directories_in_rows rows = flat_map (λ e. directories_by_row (row_of e)) rows
 
-abbrev pub files_in_rows : List (Ended Row) → List FileAt
+abbrev pub files_in_rows : List (Ended Row) → List FileLineModel
 files_in_rows rows = flat_map (λ e. files_by_row (row_of e)) rows
 
-abbrev pub faults_in_rows : List (Ended Row) → List FaultAt
+abbrev pub faults_in_rows : List (Ended Row) → List FaultLineModel
 faults_in_rows rows = flat_map (λ e. faults_by_row (row_of e)) rows
 
 -- ---- whether they make a tree
@@ -54,7 +54,7 @@ faults_in_rows rows = flat_map (λ e. faults_by_row (row_of e)) rows
 pub record IsEdge (rows : List (Ended Row)) (parent at k : ℕ) : Type 0 where
   pub above : Ended Row
   pub is : slice_get rows parent ≡ Some above
-  pub child : ChildAt
+  pub child : ChildModel
   pub here : slice_get (children_in (row_of above)) at ≡ Some child
   pub number : child.number ≡ k
 
@@ -75,7 +75,7 @@ IsPlaced rows (suc k) = (e : Ended Row) → slice_get rows (suc k) ≡ Some e �
 -- ---- what `assemble` answers
 
 -- the rows make a tree, none is Broken, and the report is that of the tally and of the rows
-pub record IsAssembled (files : Bool) (tally : Held) (rows : List (Ended Row)) (r : Report) : Type 0 where
+pub record IsAssembled (files : Bool) (tally : TallyModel) (rows : List (Ended Row)) (r : Report) : Type 0 where
   pub whole : AreWhole rows
   pub placed : (k : ℕ) → IsPlaced rows k
   pub report : IsReport tally (length (directories_in_rows rows)) (cond files (files_in_rows rows) []) (faults_in_rows rows) r
@@ -97,6 +97,6 @@ RefusesRows rows fault.TooDeep = SomeBroken TooDeep rows × ¬ SomeBroken Memory
 RefusesRows rows (fault.Torn n) = AreWhole rows × ¬ IsPlaced rows n
 RefusesRows rows (fault.Mismatch w) = ⊥
 
-abbrev pub Assembles : Bool → Held → List (Ended Row) → Result Report WalkFault → Type 0
+abbrev pub Assembles : Bool → TallyModel → List (Ended Row) → Result Report WalkFault → Type 0
 Assembles files tally rows (Ok r) = IsAssembled files tally rows r
 Assembles files tally rows (Err f) = RefusesRows rows f

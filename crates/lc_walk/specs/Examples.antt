@@ -4,14 +4,14 @@ use Rattle.lc_census.specs.declared.totals.Count.{Count}
 use Rattle.lc_census.specs.declared.totals.Eol.TheVariants.{Lf}
 use Rattle.lc_walk.specs.Answers.{file_item, directory_item, other_item, Answers}
 use Rattle.lc_walk.specs.Found.{children_at}
-use Rattle.lc_walk.specs.Job.{JobAt}
+use Rattle.lc_walk.specs.Job.{JobModel}
 use Rattle.lc_walk.specs.Lawful.{files_at}
 
 -- the census of an empty file with one line
 abbrev pub one_line : Count
 one_line = record { lines = 1; blank = 1; bytes = 1; eol = Lf }
 
-abbrev pub top_job : JobAt
+abbrev pub top_job : JobModel
 top_job = record { path = []; ignore = []; attributes = record { tree = []; info = None } }
 
 -- a `.gitignore` of `*.o`, `.git/info/exclude` of `!k.o` and `b/`, and files and directories

@@ -3,29 +3,29 @@ use Rattle.std.specs.Prelude.{ℕ, Bool, List, [], ◌∷◌, ◌++◌, map}
 use Rattle.lc_walk.specs.declared.report.fault_word.FaultWord.{FaultWord}
 use Rattle.lc_glob.specs.Path.{path_in}
 use Rattle.lc_walk.specs.Answers.{Answers}
-use Rattle.lc_walk.specs.Job.{JobAt}
-use Rattle.lc_walk.specs.Level.{CountedAt, FileFaultAt, Level, faulted_level, listed_level, level}
+use Rattle.lc_walk.specs.Job.{JobModel}
+use Rattle.lc_walk.specs.Level.{CountedModel, FileFaultModel, Level, faulted_level, listed_level, level}
 
 -- a counted file of the directory at a path, a fault at a path, a listed directory at a path
 pub data Found : Type 0 where
-  found_file : (directory : List ℕ) → CountedAt → Found
+  found_file : (directory : List ℕ) → CountedModel → Found
   found_fault : (path : List ℕ) → FaultWord → Found
   found_directory : (path : List ℕ) → Found
 
-abbrev pub fault_of : List ℕ → FileFaultAt → Found
+abbrev pub fault_of : List ℕ → FileFaultModel → Found
 fault_of directory f = found_fault (path_in directory f.name) f.word
 
-abbrev pub found_of : JobAt → Level → List Found
+abbrev pub found_of : JobModel → Level → List Found
 found_of j (faulted_level path word) = found_fault path word ∷ []
 found_of j (listed_level files faults children) = found_directory j.path ∷ (map (found_file j.path) files ++ map (fault_of j.path) faults)
 
-abbrev pub children_of : Level → List (List ℕ × JobAt)
+abbrev pub children_of : Level → List (List ℕ × JobModel)
 children_of (faulted_level path word) = []
 children_of (listed_level files faults children) = children
 
 -- what a directory of these answers gives
-abbrev pub found_at : Bool → JobAt → Answers → List Found
+abbrev pub found_at : Bool → JobModel → Answers → List Found
 found_at archive j a = found_of j (level archive j a)
 
-abbrev pub children_at : Bool → JobAt → Answers → List (List ℕ × JobAt)
+abbrev pub children_at : Bool → JobModel → Answers → List (List ℕ × JobModel)
 children_at archive j a = children_of (level archive j a)

@@ -1,7 +1,7 @@
 -- What reading the rule files of `.git/info` answers.
 use Rattle.std.specs.Prelude.{◌≡◌, ℕ, Bool, true, List, [], Result, Ok, Err, codes}
 use Rattle.lc_walk.specs.Answers.{Answers}
-use Rattle.lc_walk.specs.Listing.{DirEntry}
+use Rattle.lc_walk.specs.Listing.{EntryModel}
 use Rattle.lc_walk.specs.RuleFiles.{Pair, has_directory, and_then, info_items, info_bytes}
 use Rattle.lc_walk.specs.RulePairs.{AreFilesOf}
 use Rattle.lc_walk.specs.Rows.{place_path}
@@ -14,7 +14,7 @@ use Rattle.lc_walk.specs.declared.row.Cause.TheVariants.{Memory, TooManyDirs, To
 use Rattle.lc_walk.specs.declared.row.place.Place.{Place}
 
 -- the answer to listing a directory for the sake of its rule files: a fault is one of this place
-abbrev pub ListsFor : Listings → Place → Result (List DirEntry) Unlisted → Type 0
+abbrev pub ListsFor : Listings → Place → Result (List EntryModel) Unlisted → Type 0
 ListsFor may place (Ok entries) = may (Ok entries)
 ListsFor may place (Err (Faulted at word)) = (at ≡ place) × may (Err word)
 ListsFor may place (Err (Broken Memory)) = Unit {0}

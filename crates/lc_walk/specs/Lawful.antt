@@ -5,13 +5,13 @@ use Rattle.lc_board.specs.RowsInPlace.{job_got}
 use Rattle.lc_board.specs.declared.event.Event.{Event}
 use Rattle.lc_board.specs.declared.answers.Ended.{Ended}
 use Rattle.lc_board.specs.declared.answers.Ended.TheVariants as ended
-use Rattle.lc_walk.specs.Listing.{DirEntry, IsListing}
+use Rattle.lc_walk.specs.Listing.{EntryModel, IsListing}
 use Rattle.lc_walk.specs.Answers.{Answers, Items, entries_of}
-use Rattle.lc_walk.specs.Job.{JobAt}
-use Rattle.lc_walk.specs.Level.{CountedAt, Level, faulted_level, listed_level, level}
+use Rattle.lc_walk.specs.Job.{JobModel}
+use Rattle.lc_walk.specs.Level.{CountedModel, Level, faulted_level, listed_level, level}
 use Rattle.lc_walk.specs.Found.{children_at}
 use Rattle.lc_walk.specs.Deep.{has_too_deep}
-use Rattle.lc_walk.specs.RowViews.{ChildAt, ListedAt}
+use Rattle.lc_walk.specs.RowViews.{ChildModel, ListedRowModel}
 use Rattle.lc_walk.specs.Rows.{row_of, job_of, place_path}
 use Rattle.lc_walk.specs.declared.row.Cause.{Cause}
 use Rattle.lc_walk.specs.declared.row.Cause.TheVariants.{Memory, TooManyDirs, TooDeep}
@@ -25,15 +25,15 @@ pub record Asked : Type 0 where
   pub files : Bool
   pub archive : Bool
 
-abbrev pub files_of : Level → List CountedAt
+abbrev pub files_of : Level → List CountedModel
 files_of (faulted_level path word) = []
 files_of (listed_level files faults children) = files
 
 -- the counted files of a directory of these answers
-abbrev pub files_at : Bool → JobAt → Answers → List CountedAt
+abbrev pub files_at : Bool → JobModel → Answers → List CountedModel
 files_at archive j a = files_of (level archive j a)
 
-abbrev pub listed_in : Items → List DirEntry
+abbrev pub listed_in : Items → List EntryModel
 listed_in (Ok es) = entries_of es
 listed_in (Err word) = []
 
@@ -42,41 +42,41 @@ abbrev pub IsTidy : Answers → Type 0
 IsTidy a = IsListing (listed_in a.here)
 
 -- the jobs, of children or of posts
-abbrev pub jobs_of : {A : Type 0} → List (A × JobAt) → List JobAt
+abbrev pub jobs_of : {A : Type 0} → List (A × JobModel) → List JobModel
 jobs_of cs = map (λ c. c.1) cs
 
 -- the children's names with the numbers of their posts
-abbrev pub named : List (List ℕ × JobAt) → List (ℕ × JobAt) → List ChildAt
+abbrev pub named : List (List ℕ × JobModel) → List (ℕ × JobModel) → List ChildModel
 named [] posts = []
 named (c ∷ cs) [] = []
 named (c ∷ cs) (p ∷ ps) = record { name = c.0; number = p.0 } ∷ named cs ps
 
 -- a directory that was listed: its files, faults and children are those of one level
-pub record SaysListed (ask : Asked) (r : ListedAt) (a : Answers) (posts : List (ℕ × JobAt)) : Type 0 where
+pub record SaysListed (ask : Asked) (r : ListedRowModel) (a : Answers) (posts : List (ℕ × JobModel)) : Type 0 where
   pub level_is : level ask.archive r.job a ≡ listed_level (files_at ask.archive r.job a) r.faults (children_at ask.archive r.job a)
   pub files_are : r.files ≡ cond ask.files (files_at ask.archive r.job a) []
   pub posts_are : jobs_of posts ≡ jobs_of (children_at ask.archive r.job a)
   pub children_are : r.children ≡ named (children_at ask.archive r.job a) posts
 
 -- a directory at fault: nothing was posted
-pub record SaysFaulted (ask : Asked) (r : FaultedRow) (a : Answers) (posts : List (ℕ × JobAt)) : Type 0 where
+pub record SaysFaulted (ask : Asked) (r : FaultedRow) (a : Answers) (posts : List (ℕ × JobModel)) : Type 0 where
   pub level_is : level ask.archive r.job a ≡ faulted_level (place_path r.job.path r.place) r.word
   pub posts_are : posts ≡ []
 
 -- why a directory was given up; `full` says whether a post of the row's pass was answered Full
-abbrev pub IsCause : Asked → Bool → JobAt → Answers → Cause → Type 0
+abbrev pub IsCause : Asked → Bool → JobModel → Answers → Cause → Type 0
 IsCause ask full j a Memory = Unit {0}
 IsCause ask full j a TooManyDirs = full ≡ true
 IsCause ask full j a TooDeep = has_too_deep ask.archive j a ≡ true
 
 -- a directory that was given up: the first of its children were posted
-pub record SaysBroken (ask : Asked) (full : Bool) (r : BrokenRow) (a : Answers) (posts : List (ℕ × JobAt)) : Type 0 where
+pub record SaysBroken (ask : Asked) (full : Bool) (r : BrokenRow) (a : Answers) (posts : List (ℕ × JobModel)) : Type 0 where
   pub posted : ℕ
   pub posts_are : jobs_of posts ≡ take posted (jobs_of (children_at ask.archive r.job a))
   pub cause_is : IsCause ask full r.job a r.cause
 
 -- a Faulted row is given by Fault, the others by Return
-abbrev pub Says : Asked → Bool → Ended Row → Answers → List (ℕ × JobAt) → Type 0
+abbrev pub Says : Asked → Bool → Ended Row → Answers → List (ℕ × JobModel) → Type 0
 Says ask full (ended.Returned (Listed r)) a posts = SaysListed ask r a posts
 Says ask full (ended.Returned (Faulted r)) a posts = ⊥
 Says ask full (ended.Returned (Broken r)) a posts = SaysBroken ask full r a posts
@@ -85,7 +85,7 @@ Says ask full (ended.Faulted (Faulted r)) a posts = SaysFaulted ask r a posts
 Says ask full (ended.Faulted (Broken r)) a posts = ⊥
 
 -- the row of a number is lawful with these answers in a history, which may be one pass's own list
-pub record IsLawful (ask : Asked) (full : Bool) (h : List (Event JobAt Row)) (i : ℕ) (e : Ended Row) (a : Answers) : Type 0 where
+pub record IsLawful (ask : Asked) (full : Bool) (h : List (Event JobModel Row)) (i : ℕ) (e : Ended Row) (a : Answers) : Type 0 where
   pub job_is : job_got h i ≡ Some (job_of (row_of e))
   pub tidy : IsTidy a
   pub says : Says ask full e a (posts_under i h)

@@ -7,7 +7,7 @@ use Rattle.lc_board.specs.declared.event.Event.{Event}
 use Rattle.lc_board.specs.declared.answers.Ended.{Ended}
 use Rattle.lc_walk.specs.Paths.{segments}
 use Rattle.lc_walk.specs.Answers.{Answers, no_answers, Tree}
-use Rattle.lc_walk.specs.Job.{JobAt}
+use Rattle.lc_walk.specs.Job.{JobModel}
 use Rattle.lc_walk.specs.Level.{level}
 use Rattle.lc_walk.specs.Found.{children_at}
 use Rattle.lc_walk.specs.Walk.{walk_by, walk_of}
@@ -22,12 +22,12 @@ use Rattle.lc_walk.specs.declared.row.Row.{Row}
 -- what a walk of the tree of rows finds is what the rows found, for every depth that the capacity allows
 abbrev pub CoreLaw : Type 0
 CoreLaw =
-    (ask : Asked) (full : Bool) (capacity workers : ℕ) (top : JobAt) (h : List (Event JobAt Row)) (rows : List (Ended Row)) (answers : ℕ → Answers) →
+    (ask : Asked) (full : Bool) (capacity workers : ℕ) (top : JobModel) (h : List (Event JobModel Row)) (rows : List (Ended Row)) (answers : ℕ → Answers) →
     Walked ask full capacity workers top h rows answers → AreWhole rows → (depth : ℕ) → capacity ≤ depth →
     IsPermutation (walk_of ask.archive depth top (tree_of_rows rows answers)) (rows_found ask rows answers)
 
 -- a walk of that tree that notes each directory's number
-abbrev pub walk_numbers : Asked → ℕ → JobAt → List (Ended Row) → (ℕ → Answers) → List ℕ
+abbrev pub walk_numbers : Asked → ℕ → JobModel → List (Ended Row) → (ℕ → Answers) → List ℕ
 walk_numbers ask depth top rows answers =
     walk_by (λ j (a : ℕ × Answers). a.0 ∷ []) (λ j (a : ℕ × Answers). children_at ask.archive j a.1) depth top
     (tree_from (0, no_answers) (λ i. (i, answers i)) (children_by_rows rows) 0)
@@ -35,7 +35,7 @@ walk_numbers ask depth top rows answers =
 -- each number stands once in the tree of rows
 abbrev pub NumbersLaw : Type 0
 NumbersLaw =
-    (ask : Asked) (full : Bool) (capacity workers : ℕ) (top : JobAt) (h : List (Event JobAt Row)) (rows : List (Ended Row)) (answers : ℕ → Answers) →
+    (ask : Asked) (full : Bool) (capacity workers : ℕ) (top : JobModel) (h : List (Event JobModel Row)) (rows : List (Ended Row)) (answers : ℕ → Answers) →
     Walked ask full capacity workers top h rows answers → AreWhole rows → (depth : ℕ) → capacity ≤ depth →
     IsPermutation (walk_numbers ask depth top rows answers) (numbers_below (length rows))
 
@@ -43,7 +43,7 @@ NumbersLaw =
 -- may differ in what a level does not read, as in a file that is ignored
 abbrev pub OneAnswerLaw : Type 0
 OneAnswerLaw =
-    (t : Tree) (ask : Asked) (full : Bool) (capacity workers : ℕ) (top : JobAt) (h : List (Event JobAt Row)) (rows : List (Ended Row)) (answers : ℕ → Answers) →
+    (t : Tree) (ask : Asked) (full : Bool) (capacity workers : ℕ) (top : JobModel) (h : List (Event JobModel Row)) (rows : List (Ended Row)) (answers : ℕ → Answers) →
     Walked ask full capacity workers top h rows answers → AreWhole rows → top.path ≡ [] →
     ((i : ℕ) (e : Ended Row) → slice_get rows i ≡ Some e →
     level ask.archive (job_of (row_of e)) (answers i) ≡ level ask.archive (job_of (row_of e)) (t (segments (job_of (row_of e)).path))) →
@@ -53,11 +53,11 @@ OneAnswerLaw =
 -- a row that is lawful in a worker's part is lawful in the whole history
 abbrev pub PartLaw : Type 0
 PartLaw =
-    (ask : Asked) (full : Bool) (capacity workers w i : ℕ) (h : List (Event JobAt Row)) (e : Ended Row) (a : Answers) →
+    (ask : Asked) (full : Bool) (capacity workers w i : ℕ) (h : List (Event JobModel Row)) (e : Ended Row) (a : Answers) →
     IsLegal capacity workers h → IsLawful ask full (part w h) i e a → IsLawful ask full h i e a
 
 -- no path stands twice among the files, or among the faults, that a walk of a tree with tidy listings finds
 abbrev pub PathsOnceLaw : Type 0
 PathsOnceLaw =
-    (archive : Bool) (depth : ℕ) (j : JobAt) (t : Tree) → ((place : List (List ℕ)) → IsTidy (t place)) →
+    (archive : Bool) (depth : ℕ) (j : JobModel) (t : Tree) → ((place : List (List ℕ)) → IsTidy (t place)) →
     AreApart (file_paths (files_of (walk_of archive depth j t))) × AreApart (fault_paths (faults_of (walk_of archive depth j t)))

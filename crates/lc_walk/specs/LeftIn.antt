@@ -5,18 +5,18 @@ use Rattle.std.specs.List.{flat_map, list_any}
 use Rattle.std.specs.Global.{Global}
 use Rattle.lc_walk.specs.Deep.{is_too_deep}
 use Rattle.lc_walk.specs.EntryLooks.{is_file, is_dir}
-use Rattle.lc_walk.specs.Job.{JobAt}
+use Rattle.lc_walk.specs.Job.{JobModel}
 use Rattle.lc_walk.specs.Level.{is_taken}
-use Rattle.lc_walk.specs.Listing.{DirEntry}
+use Rattle.lc_walk.specs.Listing.{EntryModel}
 use Rattle.lc_walk.specs.declared.level.left_in.LeftIn.{LeftIn}
 use Rattle.lc_walk.specs.declared.row.Cause.{Cause}
 use Rattle.lc_walk.specs.declared.row.Cause.TheVariants.{Memory, TooManyDirs, TooDeep}
 
 -- the name of an entry, where it is a file, or a directory, that the rules leave in
-abbrev pub kept_file : Bool → JobAt → DirEntry → List (List ℕ)
+abbrev pub kept_file : Bool → JobModel → EntryModel → List (List ℕ)
 kept_file archive j e = cond (is_file e.kind && is_taken archive j e.name false) (e.name ∷ []) []
 
-abbrev pub kept_directory : Bool → JobAt → DirEntry → List (List ℕ)
+abbrev pub kept_directory : Bool → JobModel → EntryModel → List (List ℕ)
 kept_directory archive j e = cond (is_dir e.kind && is_taken archive j e.name true) (e.name ∷ []) []
 
 -- the bytes of names
@@ -40,7 +40,7 @@ KeepsDirectory kept deep name old new (Err TooManyDirs) = ⊥
 KeepsDirectory kept deep name old new (Err TooDeep) = (kept ≡ true) × (deep ≡ true)
 
 -- what taking one entry more answers
-abbrev pub Keeps : Bool → JobAt → DirEntry → LeftIn → LeftIn → Result (Unit {0}) Cause → Type 0
+abbrev pub Keeps : Bool → JobModel → EntryModel → LeftIn → LeftIn → Result (Unit {0}) Cause → Type 0
 Keeps archive j e old new (Ok _) =
     (bytes_of new.files.items ≡ bytes_of old.files.items ++ kept_file archive j e)
     × (bytes_of new.children.items ≡ bytes_of old.children.items ++ kept_directory archive j e)
@@ -49,7 +49,7 @@ Keeps archive j e old new (Err TooManyDirs) = ⊥
 Keeps archive j e old new (Err TooDeep) = is_too_deep archive j e ≡ true
 
 -- what taking all entries answers: the names of those left in, in order; or one of them is too deep; or memory was refused
-abbrev pub LeavesIn : Bool → JobAt → List DirEntry → Result LeftIn Cause → Type 0
+abbrev pub LeavesIn : Bool → JobModel → List EntryModel → Result LeftIn Cause → Type 0
 LeavesIn archive j es (Ok left) =
     (bytes_of left.files.items ≡ flat_map (kept_file archive j) es) × (bytes_of left.children.items ≡ flat_map (kept_directory archive j) es)
 LeavesIn archive j es (Err Memory) = Unit {0}

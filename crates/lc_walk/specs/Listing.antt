@@ -12,12 +12,12 @@ use Rattle.lc_walk.specs.declared.tree.listing.ListingFault.TheVariants.{BadName
 use Rattle.lc_walk.specs.declared.tree.listing.TheConstants.{MAX_ENTRIES}
 
 -- an entry: its name, and what stands under it
-pub record DirEntry : Type 0 where
+pub record EntryModel : Type 0 where
   pub name : List ℕ
   pub kind : Kind
 
 -- the names, in order
-abbrev pub names : List DirEntry → List (List ℕ)
+abbrev pub names : List EntryModel → List (List ℕ)
 names es = map (λ e. e.name) es
 
 -- names by their bytes
@@ -25,30 +25,30 @@ abbrev pub name_cmp : List ℕ → List ℕ → Ordering
 name_cmp = slice_cmp nat_cmp
 
 -- entries by their names
-abbrev pub by_name : DirEntry → DirEntry → Ordering
-by_name = on (λ (e : DirEntry). e.name) name_cmp
+abbrev pub by_name : EntryModel → EntryModel → Ordering
+by_name = on (λ (e : EntryModel). e.name) name_cmp
 
 -- whether all names are good
-abbrev pub have_good_names : List DirEntry → Bool
+abbrev pub have_good_names : List EntryModel → Bool
 have_good_names es = list_all (λ e. is_good_name e.name) es
 
 -- no name stands twice
-abbrev pub HaveDistinctNames : List DirEntry → Type 0
+abbrev pub HaveDistinctNames : List EntryModel → Type 0
 HaveDistinctNames es = IsDistinct (eq_by_cmp name_cmp) (names es)
 
 -- a listing: good names, each below those after it, and not too many
-pub record IsListing (es : List DirEntry) : Type 0 where
+pub record IsListing (es : List EntryModel) : Type 0 where
   pub good : IsTrue (have_good_names es)
   pub order : IsStrictlySortedBy name_cmp (names es)
   pub few : length es ≤ MAX_ENTRIES
 
 -- the listing of given entries
-pub record IsListingOf (es listed : List DirEntry) : Type 0 where
+pub record IsListingOf (es listed : List EntryModel) : Type 0 where
   pub entries : IsPermutation es listed
   pub listing : IsListing listed
 
 -- why entries make no listing: each fault where those before it don't hold; none is for want of memory
-abbrev pub IsRefusedBy : List DirEntry → ListingFault → Type 0
+abbrev pub IsRefusedBy : List EntryModel → ListingFault → Type 0
 IsRefusedBy es BadName = IsFalse (have_good_names es)
 IsRefusedBy es Twice = IsTrue (have_good_names es) × (HaveDistinctNames es → ⊥)
 IsRefusedBy es TooMany = IsTrue (have_good_names es) × HaveDistinctNames es × (MAX_ENTRIES < length es)

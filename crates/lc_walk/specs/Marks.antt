@@ -2,7 +2,7 @@
 use Rattle.std.specs.Prelude.{◌≡◌, ℕ, ◌<◌, ◌≤◌, Bool, true, false, ◌⊎◌, List, length, slice_get, Some}
 use Rattle.lc_board.specs.declared.answers.Ended.{Ended}
 use Rattle.lc_glob.specs.Path.{path_in}
-use Rattle.lc_walk.specs.RowViews.{ChildAt}
+use Rattle.lc_walk.specs.RowViews.{ChildModel}
 use Rattle.lc_walk.specs.Rows.{row_of, job_of, children_in}
 use Rattle.lc_walk.specs.Assembled.{IsEdge, IsPlaced}
 use Rattle.lc_walk.specs.declared.row.Row.{Row}
@@ -34,7 +34,7 @@ pub record Marks (rows : List (Ended Row)) (at j : ℕ) (hung : List Bool) : Typ
   pub hangs : (k : ℕ) → 1 ≤ k → slice_get hung k ≡ Some true → HangsSeen rows at j k
 
 -- the child is that at the place j of the row `at`
-pub record IsNext (rows : List (Ended Row)) (at j : ℕ) (child : ChildAt) : Type 0 where
+pub record IsNext (rows : List (Ended Row)) (at j : ℕ) (child : ChildModel) : Type 0 where
   pub above : Ended Row
   pub is : slice_get rows at ≡ Some above
   pub here : slice_get (children_in (row_of above)) j ≡ Some child

@@ -3,7 +3,7 @@ use Rattle.std.specs.Prelude.{◌≡◌, ℕ, Bool, true, List, Result, Ok, Err}
 use Rattle.std.specs.List.{flat_map}
 use Rattle.lc_walk.specs.Answers.{Item, Answers, entries_of}
 use Rattle.lc_walk.specs.Deep.{has_too_deep}
-use Rattle.lc_walk.specs.Job.{JobAt}
+use Rattle.lc_walk.specs.Job.{JobModel}
 use Rattle.lc_walk.specs.Lawful.{IsTidy}
 use Rattle.lc_walk.specs.LeftIn.{kept_file, kept_directory, bytes_of}
 use Rattle.lc_walk.specs.Level.{faulted_level, level}
@@ -16,7 +16,7 @@ use Rattle.lc_walk.specs.declared.level.unlisted.Unlisted.{Unlisted}
 use Rattle.lc_walk.specs.declared.level.unlisted.Unlisted.TheVariants.{Faulted, Broken}
 use Rattle.lc_walk.specs.declared.row.Cause.TheVariants.{Memory, TooManyDirs, TooDeep}
 
-module _ (lists : List ℕ → Listings) (gives : List ℕ → Contents) (archive : Bool) (j : JobAt) where
+module _ (lists : List ℕ → Listings) (gives : List ℕ → Contents) (archive : Bool) (j : JobModel) where
   -- by answers that the tree may give: the directory with its rule files, and the names that these leave in
   pub record IsOpened (o : Opened) : Type 0 where
     pub answers : Answers

@@ -1,18 +1,18 @@
 -- What the passes of a board have done by the time that it is closed.
 use Rattle.std.specs.Prelude.{◌≡◌, ℕ, Bool, List, slice_get, Some}
 use Rattle.lc_board.specs.Pass.{Pass}
-use Rattle.lc_walk.specs.Tally.{Held, StandsFor}
+use Rattle.lc_walk.specs.Tally.{TallyModel, StandsFor}
 use Rattle.lc_walk.specs.Answers.{Answers}
-use Rattle.lc_walk.specs.Job.{JobAt}
+use Rattle.lc_walk.specs.Job.{JobModel}
 use Rattle.lc_walk.specs.Lawful.{Asked}
 use Rattle.lc_walk.specs.Worked.{AreLawful, HasEnded, files_of_passes}
 use Rattle.lc_walk.specs.declared.row.Row.{Row}
 
 -- each pass gave lawful rows and has found the board over, and the tally is that of the files of all rows returned as Listed
-pub record HaveWorked (ask : Asked) (MayAnswer : List ℕ → Answers → Type 0) (passes : List (Pass JobAt Row)) (tally : Held) : Type 0 where
+pub record HaveWorked (ask : Asked) (MayAnswer : List ℕ → Answers → Type 0) (passes : List (Pass JobModel Row)) (tally : TallyModel) : Type 0 where
   pub given : ℕ → List Answers
-  pub lawful : (w : ℕ) (p : Pass JobAt Row) → slice_get passes w ≡ Some p → AreLawful ask p.full MayAnswer p.mine (given w)
-  pub ended : (w : ℕ) (p : Pass JobAt Row) → slice_get passes w ≡ Some p → (p.worker ≡ w) × HasEnded p
+  pub lawful : (w : ℕ) (p : Pass JobModel Row) → slice_get passes w ≡ Some p → AreLawful ask p.full MayAnswer p.mine (given w)
+  pub ended : (w : ℕ) (p : Pass JobModel Row) → slice_get passes w ≡ Some p → (p.worker ≡ w) × HasEnded p
   pub tallied : StandsFor tally (files_of_passes ask given passes)
 
 abbrev pub asked : Bool → Bool → Asked

@@ -10,13 +10,13 @@ use Rattle.lc_census.specs.declared.totals.Count.{Count}
 use Rattle.lc_walk.specs.declared.report.fault_word.FaultWord.{FaultWord}
 
 -- a counted file
-pub record FileAt : Type 0 where
+pub record FileLineModel : Type 0 where
   pub path : List ℕ
   pub text : TextState
   pub count : Count
 
 -- what was not counted, and why
-pub record FaultAt : Type 0 where
+pub record FaultLineModel : Type 0 where
   pub path : List ℕ
   pub word : FaultWord
 
@@ -25,11 +25,11 @@ abbrev pub path_cmp : List ℕ → List ℕ → Ordering
 path_cmp = slice_cmp nat_cmp
 
 -- the paths of files, in order
-abbrev pub file_paths : List FileAt → List (List ℕ)
+abbrev pub file_paths : List FileLineModel → List (List ℕ)
 file_paths fs = map (λ f. f.path) fs
 
 -- the paths of faults, in order
-abbrev pub fault_paths : List FaultAt → List (List ℕ)
+abbrev pub fault_paths : List FaultLineModel → List (List ℕ)
 fault_paths fs = map (λ f. f.path) fs
 
 -- no path stands twice

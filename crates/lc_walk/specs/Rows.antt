@@ -3,8 +3,8 @@ use Rattle.std.specs.Prelude.{ℕ, List, [], codes}
 use Rattle.lc_board.specs.declared.answers.Ended.{Ended}
 use Rattle.lc_board.specs.declared.answers.Ended.TheVariants as ended
 use Rattle.lc_glob.specs.Path.{path_in}
-use Rattle.lc_walk.specs.Job.{JobAt}
-use Rattle.lc_walk.specs.RowViews.{ChildAt}
+use Rattle.lc_walk.specs.Job.{JobModel}
+use Rattle.lc_walk.specs.RowViews.{ChildModel}
 use Rattle.lc_walk.specs.declared.row.place.Place.{Place}
 use Rattle.lc_walk.specs.declared.row.place.Place.TheVariants.{Directory, Git, GitInfo, ExcludeFile, InfoAttributes, IgnoreFile, AttributeFile}
 use Rattle.lc_walk.specs.declared.row.Row.{Row}
@@ -14,13 +14,13 @@ abbrev pub row_of : {R : Type 0} → Ended R → R
 row_of (ended.Returned r) = r
 row_of (ended.Faulted r) = r
 
-abbrev pub job_of : Row → JobAt
+abbrev pub job_of : Row → JobModel
 job_of (Listed r) = r.job
 job_of (Faulted r) = r.job
 job_of (Broken r) = r.job
 
 -- the posted child directories
-abbrev pub children_in : Row → List ChildAt
+abbrev pub children_in : Row → List ChildModel
 children_in (Listed r) = r.children
 children_in (Faulted r) = []
 children_in (Broken r) = []

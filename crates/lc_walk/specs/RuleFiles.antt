@@ -5,8 +5,8 @@ use Rattle.lc_rules.specs.IgnoreRules.{rules_of}
 use Rattle.lc_rules.specs.AttrLines.{attribute_file_of}
 use Rattle.lc_walk.specs.declared.report.fault_word.FaultWord.{FaultWord}
 use Rattle.lc_walk.specs.Answers.{Item, file_item, directory_item, other_item, Items, Answers}
-use Rattle.lc_walk.specs.Job.{JobAt}
-use Rattle.lc_walk.specs.ReportLines.{FaultAt}
+use Rattle.lc_walk.specs.Job.{JobModel}
+use Rattle.lc_walk.specs.ReportLines.{FaultLineModel}
 
 -- what reading the file of a name gave, if there is a file of this name
 abbrev pub file_named : List ℕ → List Item → Option (Result (List ℕ) FaultWord)
@@ -28,18 +28,18 @@ is_top (b ∷ bs) = false
 
 -- ---- what is read before the entries; the first fault ends it
 
-abbrev pub and_then : {A B : Type 0} → Result A FaultAt → (A → Result B FaultAt) → Result B FaultAt
+abbrev pub and_then : {A B : Type 0} → Result A FaultLineModel → (A → Result B FaultLineModel) → Result B FaultLineModel
 and_then (Ok x) next = next x
 and_then (Err fault) next = Err fault
 
 -- the bytes of a rule file at a path, if it is there
-abbrev pub reading : List ℕ → Option (Result (List ℕ) FaultWord) → Result (Option (List ℕ)) FaultAt
+abbrev pub reading : List ℕ → Option (Result (List ℕ) FaultWord) → Result (Option (List ℕ)) FaultLineModel
 reading path None = Ok None
 reading path (Some (Ok bytes)) = Ok (Some bytes)
 reading path (Some (Err word)) = Err (record { path = path; word = word })
 
 -- the items of a directory at a path; none where it is not there
-abbrev pub listing : Bool → List ℕ → Items → Result (List Item) FaultAt
+abbrev pub listing : Bool → List ℕ → Items → Result (List Item) FaultLineModel
 listing false path items = Ok []
 listing true path (Ok items) = Ok items
 listing true path (Err word) = Err (record { path = path; word = word })
@@ -49,7 +49,7 @@ abbrev pub has_git : List ℕ → List Item → Bool
 has_git path items = is_top path && has_directory (codes ".git") items
 
 -- the items of `.git/info`, where `.git` is there
-abbrev pub info_items : Bool → Answers → Result (List Item) FaultAt
+abbrev pub info_items : Bool → Answers → Result (List Item) FaultLineModel
 info_items there a =
     and_then (listing there (codes ".git") a.git)
     (λ in_git. listing (has_directory (codes "info") in_git) (codes ".git/info") a.info)
@@ -60,18 +60,18 @@ pub record Pair : Type 0 where
   pub attributes : Option (List ℕ)
 
 -- those of two files at these paths, the first read first
-abbrev pub both_read : List ℕ → Option (Result (List ℕ) FaultWord) → List ℕ → Option (Result (List ℕ) FaultWord) → Result Pair FaultAt
+abbrev pub both_read : List ℕ → Option (Result (List ℕ) FaultWord) → List ℕ → Option (Result (List ℕ) FaultWord) → Result Pair FaultLineModel
 both_read path file other_path other =
     and_then (reading path file) (λ x. and_then (reading other_path other) (λ y. Ok (record { rules = x; attributes = y })))
 
 -- those in `.git/info`
-abbrev pub info_bytes : List Item → Result Pair FaultAt
+abbrev pub info_bytes : List Item → Result Pair FaultLineModel
 info_bytes items =
     both_read (codes ".git/info/exclude") (file_named (codes "exclude") items)
     (codes ".git/info/attributes") (file_named (codes "attributes") items)
 
 -- a directory's own
-abbrev pub own_bytes : List ℕ → List Item → Result Pair FaultAt
+abbrev pub own_bytes : List ℕ → List Item → Result Pair FaultLineModel
 own_bytes path items =
     both_read (path_in path (codes ".gitignore")) (file_named (codes ".gitignore") items)
     (path_in path (codes ".gitattributes")) (file_named (codes ".gitattributes") items)
@@ -82,7 +82,7 @@ pub record RuleBytes : Type 0 where
   pub own : Pair
 
 -- the same in the order in which they are read, or the first fault
-abbrev pub rule_bytes : List ℕ → List Item → Answers → Result RuleBytes FaultAt
+abbrev pub rule_bytes : List ℕ → List Item → Answers → Result RuleBytes FaultLineModel
 rule_bytes path items a =
     and_then (and_then (info_items (has_git path items) a) info_bytes)
     (λ i. and_then (own_bytes path items) (λ o. Ok (record { info = i; own = o })))
@@ -100,7 +100,7 @@ first_of (Some x) y = Some x
 first_of None y = y
 
 -- a directory with these rule files in both chains
-abbrev pub extended : JobAt → RuleBytes → JobAt
+abbrev pub extended : JobModel → RuleBytes → JobModel
 extended j files = record {
   path = j.path;
   ignore = with_file_at (with_file_at j.ignore 0 (option_map rules_of files.info.rules)) (depth_of j.path) (option_map rules_of files.own.rules);

@@ -3,7 +3,7 @@ use Rattle.std.specs.Prelude.{◌≡◌, ℕ, Bool, ◌⊎◌, List, Option, Som
 use Rattle.lc_rules.specs.IgnoreRules.{rules_of}
 use Rattle.lc_rules.specs.AttrLines.{attribute_file_of}
 use Rattle.lc_walk.specs.EntryLooks.{has_file}
-use Rattle.lc_walk.specs.Listing.{DirEntry}
+use Rattle.lc_walk.specs.Listing.{EntryModel}
 use Rattle.lc_walk.specs.RuleFiles.{Pair}
 use Rattle.lc_walk.specs.RuleReads.{shared, MayGive}
 use Rattle.lc_walk.specs.Trees.{Contents}

@@ -4,7 +4,7 @@ use Rattle.std.specs.List.{concat}
 use Rattle.lc_census.specs.Census.{IsCensus}
 use Rattle.lc_census.specs.Reads.{Answer, AnyRoom, Stop, at_end, at_failure, at_neither, Reads}
 use Rattle.lc_census.specs.declared.totals.Count.{Count}
-use Rattle.lc_walk.specs.Listing.{DirEntry}
+use Rattle.lc_walk.specs.Listing.{EntryModel}
 use Rattle.lc_walk.specs.declared.report.fault_word.FaultWord.{FaultWord}
 use Rattle.lc_walk.specs.declared.report.fault_word.FaultWord.TheVariants as word
 use Rattle.lc_walk.specs.declared.tree.read_fault.ReadFault.{ReadFault}
@@ -21,14 +21,14 @@ word_of fault.Memory = None
 
 -- what listing a path may answer, but for want of memory: entries, or a fault
 abbrev pub Listings : Type 1
-Listings = Result (List DirEntry) FaultWord → Type 0
+Listings = Result (List EntryModel) FaultWord → Type 0
 
 -- what the reads of an opened file may give: pieces in turn, and how they stop
 abbrev pub Contents : Type 1
 Contents = List (List ℕ) → Stop → Type 0
 
 -- the answer to a listing is one of these, or memory was refused
-abbrev pub Lists : Listings → Result (List DirEntry) ReadFault → Type 0
+abbrev pub Lists : Listings → Result (List EntryModel) ReadFault → Type 0
 Lists may answer = MatchResult answer (λ entries. may (Ok entries)) (λ f. IfSome (word_of f) (λ w. may (Err w)))
 
 -- whatever reads of a file give is one of these

@@ -7,7 +7,7 @@ use Rattle.lc_walk.specs.ReportLines.{file_paths, fault_paths, AreInOrder}
 use Rattle.lc_walk.specs.declared.report.Report.{Report}
 use Rattle.lc_walk.specs.Paths.{segments}
 use Rattle.lc_walk.specs.Answers.{Answers, Tree}
-use Rattle.lc_walk.specs.Job.{JobAt}
+use Rattle.lc_walk.specs.Job.{JobModel}
 use Rattle.lc_walk.specs.Level.{level}
 use Rattle.lc_walk.specs.Walk.{walk_of}
 use Rattle.lc_walk.specs.Deep.{has_too_deep}
@@ -22,13 +22,13 @@ use Rattle.lc_walk.specs.declared.walk_fault.WalkFault.TheVariants.{Memory, TooM
 
 -- a tree that for each path answers as one tree does, as far as a level tells
 abbrev pub IsOneAnswer : Bool → (List ℕ → Answers → Type 0) → Tree → Type 0
-IsOneAnswer archive MayAnswer t = (j : JobAt) (a : Answers) → MayAnswer j.path a → level archive j a ≡ level archive j (t (segments j.path))
+IsOneAnswer archive MayAnswer t = (j : JobModel) (a : Answers) → MayAnswer j.path a → level archive j a ≡ level archive j (t (segments j.path))
 
-module _ (MayAnswer : List ℕ → Answers → Type 0) (ask : Asked) (capacity workers : ℕ) (top : JobAt) where
+module _ (MayAnswer : List ℕ → Answers → Type 0) (ask : Asked) (capacity workers : ℕ) (top : JobModel) where
   -- lawful rows in place for a legal history that is over, with the top job at 0, whose answers the tree may give
   pub record SomeRows : Type 0 where
     pub full : Bool
-    pub history : List (Event JobAt Row)
+    pub history : List (Event JobModel Row)
     pub rows : List (Ended Row)
     pub answers : ℕ → Answers
     pub walked : Walked ask full capacity workers top history rows answers

@@ -5,10 +5,10 @@ use Rattle.lc_board.specs.declared.event.Event.{Event}
 use Rattle.lc_board.specs.declared.event.Event.TheVariants.{Post, Claim, Return, Fault, Over}
 use Rattle.lc_board.specs.declared.answers.Ended.{Ended}
 use Rattle.lc_board.specs.declared.answers.Ended.TheVariants as ended
-use Rattle.lc_walk.specs.Tally.{Held, CountedFile, StandsFor}
+use Rattle.lc_walk.specs.Tally.{TallyModel, CountedFile, StandsFor}
 use Rattle.lc_board.specs.Holding.{job_held, posts_held}
 use Rattle.lc_walk.specs.Answers.{Answers}
-use Rattle.lc_walk.specs.Job.{JobAt}
+use Rattle.lc_walk.specs.Job.{JobModel}
 use Rattle.lc_walk.specs.Rows.{row_of, job_of}
 use Rattle.lc_walk.specs.Lawful.{Asked, Says, IsTidy, files_at}
 use Rattle.lc_walk.specs.TreeOfRows.{numbers_below}
@@ -26,14 +26,14 @@ returned_files ask (Broken r) a = []
 
 -- a row is lawful with these answers for the claim that it ends, and the tree may give them. It speaks of that claim alone: until
 -- the board is closed nothing says that no number is got twice
-pub record IsLawfulEnd (ask : Asked) (full : Bool) (MayAnswer : List ℕ → Answers → Type 0) (m : List (Event JobAt Row)) (e : Ended Row) (a : Answers) : Type 0 where
+pub record IsLawfulEnd (ask : Asked) (full : Bool) (MayAnswer : List ℕ → Answers → Type 0) (m : List (Event JobModel Row)) (e : Ended Row) (a : Answers) : Type 0 where
   pub job_is : job_held m ≡ Some (job_of (row_of e))
   pub tidy : IsTidy a
   pub says : Says ask full e a (posts_held m)
   pub may : MayAnswer (job_of (row_of e)).path a
 
 -- each row that some events gave is lawful with its answers: one for each row, the newest first
-abbrev pub AreLawful : Asked → Bool → (List ℕ → Answers → Type 0) → List (Event JobAt Row) → List Answers → Type 0
+abbrev pub AreLawful : Asked → Bool → (List ℕ → Answers → Type 0) → List (Event JobModel Row) → List Answers → Type 0
 AreLawful ask full MayAnswer [] [] = Unit {0}
 AreLawful ask full MayAnswer [] (a ∷ given) = ⊥
 AreLawful ask full MayAnswer (Post w p i j ∷ m) given = AreLawful ask full MayAnswer m given
@@ -45,7 +45,7 @@ AreLawful ask full MayAnswer (Fault w i r ∷ m) (a ∷ given) = IsLawfulEnd ask
 AreLawful ask full MayAnswer (Over w ∷ m) given = AreLawful ask full MayAnswer m given
 
 -- the counted files of the rows that were returned as Listed, by these answers
-abbrev pub files_given : Asked → List (Event JobAt Row) → List Answers → List CountedFile
+abbrev pub files_given : Asked → List (Event JobModel Row) → List Answers → List CountedFile
 files_given ask [] given = []
 files_given ask (Post w p i j ∷ m) given = files_given ask m given
 files_given ask (Claim w i j ∷ m) given = files_given ask m given
@@ -55,7 +55,7 @@ files_given ask (Fault w i r ∷ m) [] = []
 files_given ask (Fault w i r ∷ m) (a ∷ given) = files_given ask m given
 files_given ask (Over w ∷ m) given = files_given ask m given
 
-abbrev pub returns_in : List (Event JobAt Row) → ℕ
+abbrev pub returns_in : List (Event JobModel Row) → ℕ
 returns_in [] = 0
 returns_in (Post w p i j ∷ m) = returns_in m
 returns_in (Claim w i j ∷ m) = returns_in m
@@ -64,12 +64,12 @@ returns_in (Fault w i r ∷ m) = returns_in m
 returns_in (Over w ∷ m) = returns_in m
 
 -- a tally, where there is one, is that of these files
-abbrev pub TalliesFor : Option Held → List CountedFile → Type 0
+abbrev pub TalliesFor : Option TallyModel → List CountedFile → Type 0
 TalliesFor None fs = Unit {0}
 TalliesFor (Some t) fs = StandsFor t fs
 
 -- some row was given up for want of memory
-abbrev pub GaveUp : List (Event JobAt Row) → Type 0
+abbrev pub GaveUp : List (Event JobModel Row) → Type 0
 GaveUp [] = ⊥
 GaveUp (Post w p i j ∷ m) = GaveUp m
 GaveUp (Claim w i j ∷ m) = GaveUp m
@@ -78,20 +78,20 @@ GaveUp (Fault w i r ∷ m) = GaveUp m
 GaveUp (Over w ∷ m) = GaveUp m
 
 -- each row that the pass gave is lawful with some answers that the tree may give, and the worker's tally is that of their files
-pub record HasWorked (ask : Asked) (MayAnswer : List ℕ → Answers → Type 0) (p : Pass JobAt Row) (tally : Option Held) : Type 0 where
+pub record HasWorked (ask : Asked) (MayAnswer : List ℕ → Answers → Type 0) (p : Pass JobModel Row) (tally : Option TallyModel) : Type 0 where
   pub answers : List Answers
   pub lawful : AreLawful ask p.full MayAnswer p.mine answers
   pub tallied : returns_in p.mine ≤ 2 ^ 32 → TalliesFor tally (files_given ask p.mine answers)
   pub untallied : tally ≡ None → GaveUp p.mine
 
 -- the pass has found that the board is over
-abbrev pub HasEnded : Pass JobAt Row → Type 0
-HasEnded p = (m : List (Event JobAt Row)) × (p.mine ≡ Over p.worker ∷ m)
+abbrev pub HasEnded : Pass JobModel Row → Type 0
+HasEnded p = (m : List (Event JobModel Row)) × (p.mine ≡ Over p.worker ∷ m)
 
 -- the counted files of the rows that all passes returned, by their answers, pass by pass
-abbrev pub files_of_pass : Asked → List Answers → Option (Pass JobAt Row) → List CountedFile
+abbrev pub files_of_pass : Asked → List Answers → Option (Pass JobModel Row) → List CountedFile
 files_of_pass ask answers None = []
 files_of_pass ask answers (Some p) = files_given ask p.mine answers
 
-abbrev pub files_of_passes : Asked → (ℕ → List Answers) → List (Pass JobAt Row) → List CountedFile
+abbrev pub files_of_passes : Asked → (ℕ → List Answers) → List (Pass JobModel Row) → List CountedFile
 files_of_passes ask answers passes = flat_map (λ w. files_of_pass ask (answers w) (slice_get passes w)) (numbers_below (length passes))

@@ -4,7 +4,7 @@ ghost use Rattle.lc_walk.specs.Passes.{HaveWorked, asked};
 ghost use Rattle.lc_walk.specs.TreeAnswers.{MayAnswer};
 ghost use Rattle.lc_walk.specs.WalkAnswers.{WalkAnswers};
 ghost use Rattle.lc_walk.specs.WalkOn.{fault_of_close};
-ghost use Rattle.lc_walk.specs.Job.{JobAt};
+ghost use Rattle.lc_walk.specs.Job.{JobModel};
 
 use crate::job::Job;
 use crate::report::{Report, assemble};
@@ -42,11 +42,11 @@ pub fn finish<B: Shared<Job, Row>, T: Tree>(
 ) -> Result<Report, WalkFault>
     requires room { (1 ≤ B.capacity_of board) × (B.capacity_of board ≤ 1048576) }
     requires crew { 1 ≤ B.workers_of board }
-    requires top { (root : JobAt) × B.is_root board root × (root.path ≡ []) }
+    requires top { (root : JobModel) × B.is_root board root × (root.path ≡ []) }
     requires all { vec_len passes ≡ B.workers_of board }
     requires each { (w : ℕ) (p : B.Pass) → slice_get passes.items w ≡ Some p → B.owns board p × ((B.Pass.view p).worker ≡ w) }
     requires worked { HaveWorked (asked files archive) (MayAnswer (T.lists tree.now) (T.gives tree.now)) (map (λ p. B.Pass.view p) passes.items) tally }
-    ensures { (root : JobAt) → B.is_root board root → root.path ≡ [] →
+    ensures { (root : JobModel) → B.is_root board root → root.path ≡ [] →
         WalkAnswers (MayAnswer (T.lists tree.entry.now) (T.gives tree.entry.now)) (asked files archive) (B.capacity_of board) (B.workers_of board) root B.promises result }
 {
     let _tree = tree;

@@ -17,9 +17,9 @@ pub struct Job {
 
 impl Model for Job {
     ghost use Rattle.std.specs.Arc.{arc_value};
-    ghost use Rattle.lc_walk.specs.Job.{JobAt};
+    ghost use Rattle.lc_walk.specs.Job.{JobModel};
 
-    ghost Value = { JobAt };
+    ghost Value = { JobModel };
 
     ghost use Rattle.std.specs.Prelude.{◌≤◌, length};
 

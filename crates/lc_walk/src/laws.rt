@@ -3,12 +3,12 @@ ghost use Rattle.std.specs.Prelude.{List};
 ghost use Rattle.std.specs.List.Sorted.{IsPermutation};
 ghost use Rattle.lc_walk.specs.Examples.{ExamplesHold};
 ghost use Rattle.lc_walk.specs.Laws.{CoreLaw, NumbersLaw, OneAnswerLaw, PartLaw, PathsOnceLaw};
-ghost use Rattle.lc_walk.specs.Tally.{Held, CountedFile, StandsFor};
+ghost use Rattle.lc_walk.specs.Tally.{TallyModel, CountedFile, StandsFor};
 ghost use Rattle.lc_walk.specs.WalkReport.{ReportLaw};
 
 /// What a tally stands for has no order, so tallies may be merged in any order.
 pub fn a_tally_has_no_order()
-    ensures { (tally : Held) (files moved : List CountedFile)
+    ensures { (tally : TallyModel) (files moved : List CountedFile)
         → IsPermutation files moved → StandsFor tally files → StandsFor tally moved }
 {}
 

@@ -5,7 +5,7 @@
 ghost use Rattle.std.specs.Prelude.{◌≡◌, IfOk};
 ghost use Rattle.std.specs.List.Sorted.{IsPermutation, IsSortedByKey};
 ghost use Rattle.lc_walk.specs.Report.{IsReport};
-ghost use Rattle.lc_walk.specs.ReportLines.{FileAt, FaultAt, file_paths, fault_paths, path_cmp, AreApart, AreInOrder};
+ghost use Rattle.lc_walk.specs.ReportLines.{FileLineModel, FaultLineModel, file_paths, fault_paths, path_cmp, AreApart, AreInOrder};
 
 mod assembly;
 mod fault_word;
@@ -67,7 +67,7 @@ impl Report {
 
 fn sort_files(files: &mut Vec<FileLine>)
     ensures same { IsPermutation files.old.items files.new.items }
-    ensures order { IsSortedByKey (λ (f : FileAt). f.path) path_cmp files.new.items }
+    ensures order { IsSortedByKey (λ (f : FileLineModel). f.path) path_cmp files.new.items }
     ensures strict { AreApart (file_paths files.old.items) → AreInOrder (file_paths files.new.items) }
 {
     files.sort_unstable_by(|a, b| a.path.cmp(&b.path));
@@ -75,7 +75,7 @@ fn sort_files(files: &mut Vec<FileLine>)
 
 fn sort_faults(faults: &mut Vec<FaultLine>)
     ensures same { IsPermutation faults.old.items faults.new.items }
-    ensures order { IsSortedByKey (λ (f : FaultAt). f.path) path_cmp faults.new.items }
+    ensures order { IsSortedByKey (λ (f : FaultLineModel). f.path) path_cmp faults.new.items }
     ensures strict { AreApart (fault_paths faults.old.items) → AreInOrder (fault_paths faults.new.items) }
 {
     faults.sort_unstable_by(|a, b| a.path.cmp(&b.path));

@@ -18,9 +18,9 @@ pub struct Counted {
 }
 
 impl Model for Counted {
-    ghost use Rattle.lc_walk.specs.Level.{CountedAt};
+    ghost use Rattle.lc_walk.specs.Level.{CountedModel};
 
-    ghost Value = { CountedAt };
+    ghost Value = { CountedModel };
 
     ghost view = { λ f. record { name = f.name.items; text = f.text; count = f.count } };
 }
@@ -33,9 +33,9 @@ pub struct FileFault {
 }
 
 impl Model for FileFault {
-    ghost use Rattle.lc_walk.specs.Level.{FileFaultAt};
+    ghost use Rattle.lc_walk.specs.Level.{FileFaultModel};
 
-    ghost Value = { FileFaultAt };
+    ghost Value = { FileFaultModel };
 
     ghost view = { λ f. record { name = f.name.items; word = f.word } };
 }
@@ -48,9 +48,9 @@ pub struct Child {
 }
 
 impl Model for Child {
-    ghost use Rattle.lc_walk.specs.RowViews.{ChildAt};
+    ghost use Rattle.lc_walk.specs.RowViews.{ChildModel};
 
-    ghost Value = { ChildAt };
+    ghost Value = { ChildModel };
 
     ghost view = { λ c. record { name = c.name.items; number = c.number } };
 }
@@ -65,9 +65,9 @@ pub struct ListedRow {
 }
 
 impl Model for ListedRow {
-    ghost use Rattle.lc_walk.specs.RowViews.{ListedAt};
+    ghost use Rattle.lc_walk.specs.RowViews.{ListedRowModel};
 
-    ghost Value = { ListedAt };
+    ghost Value = { ListedRowModel };
 
     ghost view = { λ r. record { job = r.job; files = r.files.items; faults = r.faults.items; children = r.children.items } };
 }

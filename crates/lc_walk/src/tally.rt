@@ -48,9 +48,9 @@ pub struct Tally {
 }
 
 impl Model for Tally {
-    ghost use Rattle.lc_walk.specs.Tally.{Held, IsKept};
+    ghost use Rattle.lc_walk.specs.Tally.{TallyModel, IsKept};
 
-    ghost Value = { Held };
+    ghost Value = { TallyModel };
 
     ghost view = { λ a. record { rows = a.rows.items; totals = a.totals } };
 

@@ -21,9 +21,9 @@ pub(crate) fn ignore_below(
     if info.is_none() && own.is_none() {
         return Ok(Arc::try_clone(chain)?);
     }
-    let with_info = chain.below(alloc, 0, info)?;
-    let with_own = with_info.below(alloc, depth, own)?;
-    Ok(Arc::new(alloc, with_own)?)
+    let below_info = chain.below(alloc, 0, info)?;
+    let below_own = below_info.below(alloc, depth, own)?;
+    Ok(Arc::new(alloc, below_own)?)
 }
 
 /// The same of the attribute files; that of `.git/info` stands above all others.

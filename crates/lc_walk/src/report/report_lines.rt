@@ -16,9 +16,9 @@ pub struct FileLine {
 }
 
 impl Model for FileLine {
-    ghost use Rattle.lc_walk.specs.ReportLines.{FileAt};
+    ghost use Rattle.lc_walk.specs.ReportLines.{FileLineModel};
 
-    ghost Value = { FileAt };
+    ghost Value = { FileLineModel };
 
     ghost view = { λ a. record { path = a.path.items; text = a.text; count = a.count } };
 }
@@ -33,9 +33,9 @@ pub struct FaultLine {
 }
 
 impl Model for FaultLine {
-    ghost use Rattle.lc_walk.specs.ReportLines.{FaultAt};
+    ghost use Rattle.lc_walk.specs.ReportLines.{FaultLineModel};
 
-    ghost Value = { FaultAt };
+    ghost Value = { FaultLineModel };
 
     ghost view = { λ a. record { path = a.path.items; word = a.word } };
 }

@@ -35,9 +35,9 @@ pub struct TallyRow {
 
 impl Model for TallyRow {
     ghost use Rattle.std.specs.Prelude.{option_map};
-    ghost use Rattle.lc_walk.specs.TallyRows.{KeySums};
+    ghost use Rattle.lc_walk.specs.TallyRows.{TallyRowModel};
 
-    ghost Value = { KeySums };
+    ghost Value = { TallyRowModel };
 
     ghost view = { λ a. record {
       key = record { extension = option_map (λ v. v.items) a.ext; text = a.text; eol = a.eol };

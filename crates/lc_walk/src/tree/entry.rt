@@ -21,9 +21,9 @@ pub struct Entry {
 }
 
 impl Model for Entry {
-    ghost use Rattle.lc_walk.specs.Listing.{DirEntry};
+    ghost use Rattle.lc_walk.specs.Listing.{EntryModel};
 
-    ghost Value = { DirEntry };
+    ghost Value = { EntryModel };
 
     ghost view = { λ e. record { name = e.name.items; kind = e.kind } };
 }

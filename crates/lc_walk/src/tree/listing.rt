@@ -40,9 +40,9 @@ pub struct Listing {
 
 impl Model for Listing {
     ghost use Rattle.std.specs.Prelude.{List};
-    ghost use Rattle.lc_walk.specs.Listing.{DirEntry, IsListing};
+    ghost use Rattle.lc_walk.specs.Listing.{EntryModel, IsListing};
 
-    ghost Value = { List DirEntry };
+    ghost Value = { List EntryModel };
 
     ghost view = { λ l. l.entries.items };
 
@@ -79,7 +79,8 @@ impl Listing {
         ensures same { result.items ≡ self }
         ensures listing { IsListing result.items }
     {
-        self.entries
+        let Listing { entries } = self;
+        entries
     }
 
     /// All entries, in the order of their names' bytes.

@@ -1,5 +1,5 @@
 use Rattle.std.proofs.Common.{subst, sym}
-use Rattle.lc_walk.specs.TallyRows.{KeySums}
+use Rattle.lc_walk.specs.TallyRows.{TallyRowModel}
 use Rattle.std.specs.Prelude.{List}
 use Rattle.lc_walk.specs.Tally.{Gains}
 use Rattle.lc_walk.proofs.Growing.{gains_set, gains_insert, never_inserted}
@@ -12,7 +12,7 @@ returns-in-Ok-clause-gains c =
 
 pub returns-in_ok-insert-in-Err-clause-gains : goal.returns-in_ok-insert-in-Err-clause-gains
 returns-in_ok-insert-in-Err-clause-gains c =
-    subst (λ (l : List KeySums). Gains c.args.rows.now.items l c.args.key.now c.args.more) (sym c.in_ok-insert-in-Err.ensures.items)
+    subst (λ (l : List TallyRowModel). Gains c.args.rows.now.items l c.args.key.now c.args.more) (sym c.in_ok-insert-in-Err.ensures.items)
     (gains_insert c.args.rows.now.items c.deref.result.now c.in-Err.at c.in_ok-row-in-Err.row c.args.key.now c.args.more
     c.deref.ensures.value c.requires.order c.in-Err.ensures.within c.in-Err.ensures.found.0 c.in-Err.ensures.found.1 c.in_ok-row-in-Err.ensures)
 

@@ -1,7 +1,7 @@
 use Rattle.std.proofs.Common.{◌≡◌, ℕ, true, false, List, codes, subst}
 use Rattle.lc_glob.specs.Path.{path_in}
 use Rattle.lc_walk.specs.EntryLooks.{has_file, has_dir}
-use Rattle.lc_walk.specs.Listing.{DirEntry}
+use Rattle.lc_walk.specs.Listing.{EntryModel}
 use Rattle.lc_walk.specs.RulePairs.{ReadsBoth}
 use Rattle.lc_walk.specs.declared.row.place.Place.TheVariants.{ExcludeFile, InfoAttributes}
 use Rattle.lc_walk.proofs.GitReads.{no_git, git_refused, no_info, info_refused, both_files}
@@ -51,5 +51,5 @@ returns g c =
     c.in-Ok-enter.ensures c.read_pair.ensures.read in
     both_files (g.T.Tree.lists c.args.tree.now) gives (law.some_count c.args.tree.now) (law.some_rules c.args.tree.now)
     (has_dir (codes ".git") c.args.entries.now) c.in-Ok.listing c.in-Ok-list_for.listing c.read_pair.result there c.in-Ok.ensures present c.in-Ok-list_for.ensures
-    (subst (λ (l : List DirEntry). ReadsBoth (gives (codes ".git/info/exclude")) (gives (codes ".git/info/attributes"))
+    (subst (λ (l : List EntryModel). ReadsBoth (gives (codes ".git/info/exclude")) (gives (codes ".git/info/attributes"))
         (has_file (codes "exclude") l) (has_file (codes "attributes") l) true ExcludeFile InfoAttributes c.read_pair.result) same in_directory)

@@ -4,7 +4,7 @@ use Rattle.lc_glob.specs.Path.{path_in}
 use Rattle.lc_walk.specs.EntryLooks.{has_file, has_dir}
 use Rattle.lc_walk.specs.GitInfo.{ListsFor, ReadsGit}
 use Rattle.lc_walk.specs.LeftIn.{kept_file, kept_directory, LeavesIn}
-use Rattle.lc_walk.specs.Listing.{DirEntry, IsListing}
+use Rattle.lc_walk.specs.Listing.{EntryModel, IsListing}
 use Rattle.lc_walk.specs.RuleFiles.{is_top}
 use Rattle.lc_walk.specs.RulePairs.{ReadsBoth}
 use Rattle.lc_walk.specs.Trees.{Listings, Contents}
@@ -15,19 +15,19 @@ use Rattle.lc_walk.proofs.OpenLevels.{list_refused, info_opens, own_refused, has
 use Rattle.lc_walk.proofs.level.opening.open_level.Goals as goal
 
 -- the same of a directory's path and its entries
-git_of : (lists : List ℕ → Listings) (gives : List ℕ → Contents) (p q : List ℕ) (es fs : List DirEntry) (r : Result RulePair Unlisted) → p ≡ q → es ≡ fs →
+git_of : (lists : List ℕ → Listings) (gives : List ℕ → Contents) (p q : List ℕ) (es fs : List EntryModel) (r : Result RulePair Unlisted) → p ≡ q → es ≡ fs →
     ReadsGit lists gives (is_top p && has_dir (codes ".git") es) r → ReadsGit lists gives (is_top q && has_dir (codes ".git") fs) r
 git_of lists gives p q es fs r a b k =
     subst (λ (d : List ℕ). ReadsGit lists gives (is_top d && has_dir (codes ".git") fs) r) a
-    (subst (λ (l : List DirEntry). ReadsGit lists gives (is_top p && has_dir (codes ".git") l) r) b k)
+    (subst (λ (l : List EntryModel). ReadsGit lists gives (is_top p && has_dir (codes ".git") l) r) b k)
 
-abbrev Own : (List ℕ → Contents) → List ℕ → List DirEntry → Result RulePair Unlisted → Type 0
+abbrev Own : (List ℕ → Contents) → List ℕ → List EntryModel → Result RulePair Unlisted → Type 0
 Own gives p es r =
     ReadsBoth (gives (path_in p (codes ".gitignore"))) (gives (path_in p (codes ".gitattributes")))
     (has_file (codes ".gitignore") es) (has_file (codes ".gitattributes") es) (is_top p) IgnoreFile AttributeFile r
 
-own_of : (gives : List ℕ → Contents) (p q : List ℕ) (es fs : List DirEntry) (r : Result RulePair Unlisted) → p ≡ q → es ≡ fs → Own gives p es r → Own gives q fs r
-own_of gives p q es fs r a b k = subst (λ (d : List ℕ). Own gives d fs r) a (subst (λ (l : List DirEntry). Own gives p l r) b k)
+own_of : (gives : List ℕ → Contents) (p q : List ℕ) (es fs : List EntryModel) (r : Result RulePair Unlisted) → p ≡ q → es ≡ fs → Own gives p es r → Own gives q fs r
+own_of gives p q es fs r a b k = subst (λ (d : List ℕ). Own gives d fs r) a (subst (λ (l : List EntryModel). Own gives p l r) b k)
 
 pub returns-in-Err : goal.returns-in-Err
 returns-in-Err g c =
@@ -81,8 +81,8 @@ returns-in-Ok-left_in g c =
     opened lists gives (law.some_count c.args.tree.now) (law.some_rules c.args.tree.now) c.args.archive j es here is c.in-Ok-read_info.files c.in-Ok-read_own.files read
     (record { job = c.in-Ok-with_files.inside; files = c.in-Ok-left_in.left.files; children = c.in-Ok-left_in.left.children })
     c.in-Ok-with_files.ensures.files
-    (left.0 ∙ ap (λ (l : List DirEntry). flat_map (kept_file c.args.archive c.in-Ok-with_files.inside) l) moved)
-    (left.1 ∙ ap (λ (l : List DirEntry). flat_map (kept_directory c.args.archive c.in-Ok-with_files.inside) l) moved)
+    (left.0 ∙ ap (λ (l : List EntryModel). flat_map (kept_file c.args.archive c.in-Ok-with_files.inside) l) moved)
+    (left.1 ∙ ap (λ (l : List EntryModel). flat_map (kept_directory c.args.archive c.in-Ok-with_files.inside) l) moved)
 
 pub returns-in-Err-left_in : goal.returns-in-Err-left_in
 returns-in-Err-left_in g c =
@@ -101,4 +101,4 @@ returns-in-Err-left_in g c =
     let read = has_read lists gives (law.some_count c.args.tree.now) (law.some_rules c.args.tree.now) c.args.archive j es here is c.in-Ok-read_info.files c.in-Ok-read_own.files git own in
     left_refused lists gives (law.some_count c.args.tree.now) (law.some_rules c.args.tree.now) c.args.archive j es here is c.in-Ok-read_info.files c.in-Ok-read_own.files read
     c.in-Ok-with_files.inside c.in-Ok-with_files.ensures.files c.in-Err-left_in.cause
-    (subst (λ (l : List DirEntry). LeavesIn c.args.archive c.in-Ok-with_files.inside l (Err c.in-Err-left_in.cause)) moved c.in-Err-left_in.ensures)
+    (subst (λ (l : List EntryModel). LeavesIn c.args.archive c.in-Ok-with_files.inside l (Err c.in-Err-left_in.cause)) moved c.in-Err-left_in.ensures)

@@ -1,5 +1,5 @@
 use Rattle.std.proofs.Common.{ap, ◌∙◌}
-use Rattle.lc_walk.specs.Tally.{Held}
+use Rattle.lc_walk.specs.Tally.{TallyModel}
 use Rattle.lc_walk.specs.Sums.{plus}
 use Rattle.lc_walk.specs.declared.tally.sums.Sums.{Sums}
 use Rattle.lc_walk.proofs.Joining.{joins_more, joined_all, stands_both}
@@ -13,5 +13,5 @@ loop-row-preserved c =
 pub returns : goal.returns
 returns c =
     λ fs gs left right. stands_both c.args.self c.args.other (record { rows = c.loop-row.rows.items; totals = c.add.result }) fs gs
-    (joined_all c.args.self.rows c.args.other.rows c.deref-row-items.result.now c.loop-row.rows.items c.loop-row.row-index c.loop-row-test.false (c.deref-row-items.ensures.value ∙ ap (λ (t : Held). t.rows) c.other.view_is) c.loop-row.invariant)
-    (c.add.ensures ∙ ap (λ (u : Sums). plus u c.other.inside.totals) (ap (λ (t : Held). t.totals) c.self.view_is) ∙ ap (λ (u : Sums). plus c.args.self.totals u) (ap (λ (t : Held). t.totals) c.other.view_is)) left right
+    (joined_all c.args.self.rows c.args.other.rows c.deref-row-items.result.now c.loop-row.rows.items c.loop-row.row-index c.loop-row-test.false (c.deref-row-items.ensures.value ∙ ap (λ (t : TallyModel). t.rows) c.other.view_is) c.loop-row.invariant)
+    (c.add.ensures ∙ ap (λ (u : Sums). plus u c.other.inside.totals) (ap (λ (t : TallyModel). t.totals) c.self.view_is) ∙ ap (λ (u : Sums). plus c.args.self.totals u) (ap (λ (t : TallyModel). t.totals) c.other.view_is)) left right
