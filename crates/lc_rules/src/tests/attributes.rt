@@ -1,5 +1,5 @@
-//! Attribute files. Each table stands, with the test's name as its topic, in `docs/cases/attributes.tsv`;
-//! `docs/cases/check` says where the two differ.
+//! Attribute files. `tools/cases` makes each table from the cases of `docs/cases/attributes.tsv` whose topic is the
+//! test's name.
 
 use crate::{AttrChain, AttrFile, RuleFault, State, TextState};
 use std::alloc::{AllocError, Global};

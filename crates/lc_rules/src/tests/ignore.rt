@@ -1,5 +1,4 @@
-//! Ignore files. Each table stands, with the test's name as its topic, in `docs/cases/ignore.tsv`; `docs/cases/check`
-//! says where the two differ.
+//! Ignore files. `tools/cases` makes each table from the cases of `docs/cases/ignore.tsv` whose topic is the test's name.
 
 use crate::{IgnoreFile, RuleFault, Verdict};
 use std::alloc::{AllocError, Global};
