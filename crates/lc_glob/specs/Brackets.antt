@@ -79,6 +79,10 @@ colon_item p rest plain =
 abbrev pub first_close : List ℕ → ℕ
 first_close bytes = position_or_len (λ d. d == closing) bytes
 
+-- an item that begins with `[:`, by the bytes after the `[` and those after the `:`
+abbrev pub colon_of : List ℕ → List ℕ → Option (List (ℕ × ℕ) × ℕ)
+colon_of after_bracket after_colon = colon_item (first_close after_colon) after_colon (plain_item opening after_bracket)
+
 -- the ranges of an item that begins with the byte b, and how many of the bytes after b it takes
 abbrev pub item : ℕ → List ℕ → Option (List (ℕ × ℕ) × ℕ)
 item b [] = plain_item b []

@@ -1,11 +1,15 @@
 -- Byte tests, each of which is counted, and what the first and the last byte of a segment tell.
-use Rattle.std.specs.Prelude.{ℕ, ◌≡◌, ◌+◌, ◌-◌, ◌^◌, min, List, [], ◌∷◌, ◌++◌, Option, Some, None, IsTrue, IsFalse}
+use Rattle.std.specs.Prelude.{ℕ, Bool, if◌then◌else◌, ◌≡◌, ◌+◌, ◌-◌, ◌^◌, min, List, [], ◌∷◌, ◌++◌, Option, Some, None, IsTrue, IsFalse}
 use Rattle.lc_glob.specs.Tokens.{TokenModel, takes}
 use Rattle.lc_glob.specs.declared.path_segment.PathSegment.{PathSegment}
 
 -- the number of tests made, after more of them; it stops at the greatest u64
 abbrev pub tests_after : ℕ → ℕ → ℕ
 tests_after made more = min (made + more) (2 ^ 64 - 1)
+
+-- the same where they were made at all
+abbrev pub tests_if : Bool → ℕ → ℕ → ℕ
+tests_if is_made made more = if is_made then tests_after made more else made
 
 -- the bytes without the first, where there is one
 abbrev pub SkipsFirst : List ℕ → Option PathSegment → Type 0

@@ -13,6 +13,14 @@ use Rattle.lc_glob.specs.declared.match_path.PathFrontStep.TheVariants as front
 use Rattle.lc_glob.specs.declared.match_path.PathEndStep.{PathEndStep}
 use Rattle.lc_glob.specs.declared.match_path.PathEndStep.TheVariants as end
 
+-- the segments of a place lead to the end of the path
+abbrev pub LeadsAt : PathPlace → Type 0
+LeadsAt place = Leads (map segment_model place.segments.now) (segments_left place.left.rest)
+
+-- the most byte tests of a place
+abbrev pub cost_at : PathPlace → ℕ
+cost_at place = full_cost (map segment_model place.segments.now) (segments_left place.left.rest)
+
 -- a double star is last; or the last segment fits the path's last, and what is before them is left; or neither has any; or
 -- the segments don't lead to the end
 abbrev pub PathEndStepIs : PathEndStep → List SegmentModel → List (List ℕ) → Type 0
@@ -24,7 +32,7 @@ PathEndStepIs end.Stuck segments path = Leads segments path → ⊥
 -- what may still be paid after a step from the end, where `all` might be before it
 abbrev pub cost_after : PathEndStep → ℕ → ℕ
 cost_after end.DoubleStar all = all
-cost_after (end.Taken before) all = full_cost (map segment_model before.segments.now) (segments_left before.left.rest)
+cost_after (end.Taken before) all = cost_at before
 cost_after end.Arrived all = 0
 cost_after end.Stuck all = 0
 
@@ -48,3 +56,7 @@ front_cost [] path = 0
 front_cost (double_star ∷ r) path = 0
 front_cost (plain us ∷ r) [] = 0
 front_cost (plain us ∷ r) (n ∷ ns) = (length us + 1) * (length n + 1)
+
+-- of a place
+abbrev pub front_cost_at : PathPlace → ℕ
+front_cost_at place = front_cost (map segment_model place.segments.now) (segments_left place.left.rest)

@@ -1,5 +1,5 @@
 -- What one step along a segment found.
-use Rattle.std.specs.Prelude.{ℕ, true, false, ◌≡◌, List, [], ◌∷◌, ◌++◌, map, Option, Some, None, IsTrue}
+use Rattle.std.specs.Prelude.{ℕ, ◌+◌, ◌*◌, length, true, false, ◌≡◌, List, [], ◌∷◌, ◌++◌, map, Option, Some, None, IsTrue}
 use Rattle.lc_glob.specs.Tokens.{TokenModel, takes, is_star}
 use Rattle.lc_glob.specs.Fits.{Fits}
 use Rattle.lc_glob.specs.Views.{token_model}
@@ -8,6 +8,17 @@ use Rattle.lc_glob.specs.declared.match_segment.FrontStep.{FrontStep}
 use Rattle.lc_glob.specs.declared.match_segment.FrontStep.TheVariants as front
 use Rattle.lc_glob.specs.declared.match_segment.EndStep.{EndStep}
 use Rattle.lc_glob.specs.declared.match_segment.EndStep.TheVariants as end
+
+-- the tokens of a place fit what is left of the segment
+abbrev pub FitsAt : Place → Type 0
+FitsAt place = Fits (map token_model place.tokens.now) place.segment.bytes.now
+
+-- the most byte tests of a place from its end, and from its front
+abbrev pub cost_from_end : Place → ℕ
+cost_from_end place = (length place.tokens.now + 1) * (length place.segment.bytes.now + 1)
+
+abbrev pub cost_from_front : Place → ℕ
+cost_from_front place = length place.segment.bytes.now * (length place.tokens.now + 1) + length place.tokens.now
 
 -- the last token is a star; or it stands for the last byte, and what is before both is left; or neither tokens nor bytes
 -- are left; or the tokens don't fit the segment

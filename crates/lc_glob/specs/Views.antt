@@ -2,7 +2,7 @@
 use Rattle.std.specs.Prelude.{Bool, true, false, List, [], ◌∷◌, map, Vec}
 use Rattle.std.specs.Global.{Global}
 use Rattle.lc_glob.specs.Tokens.{TokenModel, literal, any_byte, star, class}
-use Rattle.lc_glob.specs.Patterns.{SegmentModel, plain, double_star}
+use Rattle.lc_glob.specs.Patterns.{SegmentModel, plain, double_star, PatternModel}
 use Rattle.lc_glob.specs.declared.token.Token.{Token}
 use Rattle.lc_glob.specs.declared.token.Token.TheVariants.{Literal, AnyByte, Star, Class}
 use Rattle.lc_glob.specs.Reading.{LexemeModel, separator, one}
@@ -59,3 +59,7 @@ abbrev pub segments_model : PatternKind → List SegmentModel
 segments_model Dead = []
 segments_model (LastSegment tokens) = plain (tokens_model tokens) ∷ []
 segments_model (WholePath segments) = map segment_model segments.items
+
+-- a pattern, for directories only or not, by its kind
+abbrev pub pattern_model : Bool → PatternKind → PatternModel
+pattern_model is_dir_only kind = record { is_dead = is_dead_kind kind; is_dir_only = is_dir_only; is_anchored = is_anchored_kind kind; segments = segments_model kind }

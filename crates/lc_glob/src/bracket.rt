@@ -1,8 +1,8 @@
 //! What stands between brackets, read from its bytes.
 
 ghost use Rattle.std.specs.Prelude.{◌≡◌, ◌<◌, ◌≤◌, ◌+◌, length, [], ◌∷◌, MatchOption, IfOk, IfSome, Some, None, true, not, ◌&&◌, ◌==◌};
-ghost use Rattle.lc_glob.specs.Bytes.{opening, closing};
-ghost use Rattle.lc_glob.specs.Brackets.{element, first_close, range_from, class_of, item, plain_item, colon_item, items, bracket};
+ghost use Rattle.lc_glob.specs.Bytes.{closing};
+ghost use Rattle.lc_glob.specs.Brackets.{element, first_close, range_from, class_of, item, plain_item, colon_of, items, bracket};
 ghost use Rattle.lc_glob.specs.BracketSteps.{ColonIs, PushesItem};
 ghost use Rattle.lc_glob.specs.Tokens.{class};
 
@@ -131,7 +131,7 @@ fn push_colon(
     ranges: &mut Vec<(u8, u8)>,
 ) -> Result<Option<usize>, AllocError>
     requires { length after_colon.now + 1 ≡ length after_bracket.now }
-    ensures is { IfOk result (λ r. PushesItem (colon_item (first_close after_colon.now) after_colon.now (plain_item opening after_bracket.now)) ranges.old.items ranges.new.items r) }
+    ensures is { IfOk result (λ r. PushesItem (colon_of after_bracket.now after_colon.now) ranges.old.items ranges.new.items r) }
     ensures within { IfOk result (λ r. IfSome r (λ k. k ≤ length after_bracket.now)) }
 {
     let close = first_close(after_colon);

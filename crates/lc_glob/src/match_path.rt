@@ -6,9 +6,8 @@
 
 ghost use Rattle.std.specs.Prelude.{◌↔◌, ◌≤◌, ◌+◌, ◌*◌, IsTrue, map};
 ghost use Rattle.lc_glob.specs.Matches.{Spells};
-ghost use Rattle.lc_glob.specs.Leads.{Leads};
 ghost use Rattle.lc_glob.specs.Path.{segments_of, segments_left};
-ghost use Rattle.lc_glob.specs.PathSteps.{PathEndStepIs, PathFrontStepIs, PathRetryIs, cost_after, front_cost};
+ghost use Rattle.lc_glob.specs.PathSteps.{PathEndStepIs, PathFrontStepIs, PathRetryIs, LeadsAt, cost_at, cost_after, front_cost_at};
 ghost use Rattle.lc_glob.specs.Costs.{full_cost};
 ghost use Rattle.lc_glob.specs.Views.{segment_model};
 
@@ -78,7 +77,7 @@ impl<'p, 'n> PathPlace<'p, 'n> {
     /// One step from the end.
     fn step_end(self, tests: &mut ByteTests) -> PathEndStep<'p, 'n>
         ensures is { PathEndStepIs result (map segment_model self.entry.segments.now) (segments_left self.entry.left.rest) }
-        ensures cost { tests.new.made + cost_after result (full_cost (map segment_model self.entry.segments.now) (segments_left self.entry.left.rest)) ≤ tests.old.made + full_cost (map segment_model self.entry.segments.now) (segments_left self.entry.left.rest) }
+        ensures cost { tests.new.made + cost_after result (cost_at self.entry) ≤ tests.old.made + cost_at self.entry }
     {
         let Some((segment, segments)) = self.segments.split_last() else {
             return if self.left.is_over() {
@@ -103,7 +102,7 @@ impl<'p, 'n> PathPlace<'p, 'n> {
     /// One step from the front.
     fn step_front(self, tests: &mut ByteTests) -> PathFrontStep<'p, 'n>
         ensures is { PathFrontStepIs result (map segment_model self.entry.segments.now) (segments_left self.entry.left.rest) }
-        ensures cost { tests.new.made ≤ tests.old.made + front_cost (map segment_model self.entry.segments.now) (segments_left self.entry.left.rest) }
+        ensures cost { tests.new.made ≤ tests.old.made + front_cost_at self.entry }
     {
         let Some((segment, segments)) = self.segments.split_first() else {
             return if self.left.is_over() {
@@ -142,8 +141,8 @@ impl<'p, 'n> PathPlace<'p, 'n> {
 
     /// Whether the segments lead to the end of the path, from the last of both on.
     fn leads_from_end(self, tests: &mut ByteTests) -> bool
-        ensures leads { IsTrue result ↔ Leads (map segment_model self.entry.segments.now) (segments_left self.entry.left.rest) }
-        ensures cost { tests.new.made ≤ tests.old.made + full_cost (map segment_model self.entry.segments.now) (segments_left self.entry.left.rest) }
+        ensures leads { IsTrue result ↔ LeadsAt self.entry }
+        ensures cost { tests.new.made ≤ tests.old.made + cost_at self.entry }
     {
         let mut here = self;
         'ends: loop {
@@ -158,8 +157,8 @@ impl<'p, 'n> PathPlace<'p, 'n> {
 
     /// Whether the segments lead to the end of the path, from the first of both on.
     fn leads_from_front(self, tests: &mut ByteTests) -> bool
-        ensures leads { IsTrue result ↔ Leads (map segment_model self.entry.segments.now) (segments_left self.entry.left.rest) }
-        ensures cost { tests.new.made ≤ tests.old.made + full_cost (map segment_model self.entry.segments.now) (segments_left self.entry.left.rest) }
+        ensures leads { IsTrue result ↔ LeadsAt self.entry }
+        ensures cost { tests.new.made ≤ tests.old.made + cost_at self.entry }
     {
         let mut here = self;
         let mut double_star: Option<PathPlace> = None;

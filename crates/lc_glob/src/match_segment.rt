@@ -7,7 +7,7 @@
 ghost use Rattle.std.specs.Prelude.{◌≡◌, ◌↔◌, ◌≤◌, ◌+◌, ◌*◌, IsTrue, map, length};
 ghost use Rattle.lc_glob.specs.Fits.{Fits};
 ghost use Rattle.lc_glob.specs.Views.{token_model, tokens_model};
-ghost use Rattle.lc_glob.specs.Steps.{FrontStepIs, EndStepIs, RetryIs};
+ghost use Rattle.lc_glob.specs.Steps.{FitsAt, cost_from_end, cost_from_front, FrontStepIs, EndStepIs, RetryIs};
 
 use crate::path_segment::{ByteTests, PathSegment};
 use crate::segment::Tokens;
@@ -115,8 +115,8 @@ impl<'p, 'n> Place<'p, 'n> {
 
     /// Whether the tokens fit the segment, from the last of both on.
     fn fits(self, tests: &mut ByteTests) -> bool
-        ensures fits { IsTrue result ↔ Fits (map token_model self.entry.tokens.now) self.entry.segment.bytes.now }
-        ensures cost { tests.new.made ≤ tests.old.made + (length self.entry.tokens.now + 1) * (length self.entry.segment.bytes.now + 1) }
+        ensures fits { IsTrue result ↔ FitsAt self.entry }
+        ensures cost { tests.new.made ≤ tests.old.made + cost_from_end self.entry }
     {
         let mut here = self;
         'ends: loop {
@@ -132,8 +132,8 @@ impl<'p, 'n> Place<'p, 'n> {
     /// Whether the tokens fit the segment, from the first of both on.
     #[inline(never)]
     fn fits_from_front(self, tests: &mut ByteTests) -> bool
-        ensures fits { IsTrue result ↔ Fits (map token_model self.entry.tokens.now) self.entry.segment.bytes.now }
-        ensures cost { tests.new.made ≤ tests.old.made + (length self.entry.segment.bytes.now * (length self.entry.tokens.now + 1) + length self.entry.tokens.now) }
+        ensures fits { IsTrue result ↔ FitsAt self.entry }
+        ensures cost { tests.new.made ≤ tests.old.made + cost_from_front self.entry }
     {
         let mut here = self;
         let mut star: Option<Place> = None;

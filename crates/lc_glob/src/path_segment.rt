@@ -1,8 +1,8 @@
 //! One segment of a path, whose bytes are seen only through tests that are counted.
 
-ghost use Rattle.std.specs.Prelude.{◌≡◌, ◌↔◌, ◌==◌, nat_le, nat_lt, if◌then◌else◌, IsTrue, length, bytes_eq, nat_eq};
+ghost use Rattle.std.specs.Prelude.{◌≡◌, ◌↔◌, ◌==◌, nat_le, nat_lt, IsTrue, length, bytes_eq, nat_eq};
 ghost use Rattle.std.specs.List.{ends_with};
-ghost use Rattle.lc_glob.specs.ByteTests.{tests_after, SkipsFirst, StripsFirst, StripsLast};
+ghost use Rattle.lc_glob.specs.ByteTests.{tests_after, tests_if, SkipsFirst, StripsFirst, StripsLast};
 ghost use Rattle.lc_glob.specs.Views.{token_model};
 
 use crate::token::Token;
@@ -63,7 +63,7 @@ impl<'a> PathSegment<'a> {
     /// The segment without its first byte, where a token that is no star stands for that one.
     pub(crate) fn strip_first(self, token: &Token, tests: &mut ByteTests) -> Option<Self>
         ensures strips { StripsFirst (token_model token.now) self.entry.bytes.now result }
-        ensures counted { tests.new.made ≡ (if nat_lt 0 (length self.entry.bytes.now) then tests_after tests.old.made 1 else tests.old.made) }
+        ensures counted { tests.new.made ≡ tests_if (nat_lt 0 (length self.entry.bytes.now)) tests.old.made 1 }
     {
         let (b, bytes) = self.bytes.split_first()?;
         tests.add(1);
@@ -77,7 +77,7 @@ impl<'a> PathSegment<'a> {
     /// The segment without its last byte, where a token that is no star stands for that one.
     pub(crate) fn strip_last(self, token: &Token, tests: &mut ByteTests) -> Option<Self>
         ensures strips { StripsLast (token_model token.now) self.entry.bytes.now result }
-        ensures counted { tests.new.made ≡ (if nat_lt 0 (length self.entry.bytes.now) then tests_after tests.old.made 1 else tests.old.made) }
+        ensures counted { tests.new.made ≡ tests_if (nat_lt 0 (length self.entry.bytes.now)) tests.old.made 1 }
     {
         let (b, bytes) = self.bytes.split_last()?;
         tests.add(1);
@@ -91,7 +91,7 @@ impl<'a> PathSegment<'a> {
     /// Whether its bytes are these literals: a test for each, where there are as many.
     pub(crate) fn is(self, literals: &[u8], tests: &mut ByteTests) -> bool
         ensures same { result ≡ bytes_eq self.entry.bytes.now literals.now }
-        ensures counted { tests.new.made ≡ (if length self.entry.bytes.now == length literals.now then tests_after tests.old.made (length literals.now) else tests.old.made) }
+        ensures counted { tests.new.made ≡ tests_if (length self.entry.bytes.now == length literals.now) tests.old.made (length literals.now) }
     {
         if self.bytes.len() != literals.len() {
             return false;
@@ -103,7 +103,7 @@ impl<'a> PathSegment<'a> {
     /// Whether its bytes end with these literals: a test for each, where there are enough.
     pub(crate) fn ends_with(self, literals: &[u8], tests: &mut ByteTests) -> bool
         ensures ends { result ≡ ends_with nat_eq self.entry.bytes.now literals.now }
-        ensures counted { tests.new.made ≡ (if nat_le (length literals.now) (length self.entry.bytes.now) then tests_after tests.old.made (length literals.now) else tests.old.made) }
+        ensures counted { tests.new.made ≡ tests_if (nat_le (length literals.now) (length self.entry.bytes.now)) tests.old.made (length literals.now) }
     {
         if self.bytes.len() < literals.len() {
             return false;

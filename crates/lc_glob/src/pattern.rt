@@ -45,9 +45,9 @@ impl Model for Pattern {
 
     ghost Value = { PatternModel };
 
-    ghost use Rattle.lc_glob.specs.Views.{is_dead_kind, is_anchored_kind, segments_model};
+    ghost use Rattle.lc_glob.specs.Views.{pattern_model};
 
-    ghost view = { λ p. record { is_dead = is_dead_kind p.kind; is_dir_only = p.is_dir_only; is_anchored = is_anchored_kind p.kind; segments = segments_model p.kind } };
+    ghost view = { λ p. pattern_model p.is_dir_only p.kind };
 }
 
 impl Pattern {
