@@ -78,9 +78,9 @@ module _ (gives : List ℕ → Contents) (first_name second_name : List ℕ) (ap
         but first_name x rules,
         may_but gives first_name (has_file first_name es) x rules may may_read,
         λ path_at counted.
-        ap (λ o. both_read (path_at first) o (path_at second) (file_named second_name (items_at counted (but first_name x rules) es)))
-        (given_items (gives first_name) counted (but first_name x rules) first_name x es may (first_at x))
-        ∙ ap (λ (l : Place). Err (record { path = path_at l; word = word })) (sym is),
+            ap (λ o. both_read (path_at first) o (path_at second) (file_named second_name (items_at counted (but first_name x rules) es)))
+            (given_items (gives first_name) counted (but first_name x rules) first_name x es may (first_at x))
+            ∙ ap (λ (l : Place). Err (record { path = path_at l; word = word })) (sym is),
       )
   pair_given top first second (Err (Faulted place word)) (inr (is, before, may)) =
       let x : Option (Result (List ℕ) FaultWord) = option_map Ok before.0 in
@@ -88,9 +88,9 @@ module _ (gives : List ℕ → Contents) (first_name second_name : List ℕ) (ap
         with_both x y,
         may_both x y before.1 may,
         λ path_at counted.
-        both_are x y before.1 may (path_at first) (path_at second) counted
-        ∙ second_fault (path_at first) (path_at second) before.0 word
-        ∙ ap (λ (l : Place). Err (record { path = path_at l; word = word })) (sym is),
+            both_are x y before.1 may (path_at first) (path_at second) counted
+            ∙ second_fault (path_at first) (path_at second) before.0 word
+            ∙ ap (λ (l : Place). Err (record { path = path_at l; word = word })) (sym is),
       )
   pair_given top first second (Err (Broken Memory)) r = tt
   pair_given top first second (Err (Broken TooManyDirs)) r = absurd r

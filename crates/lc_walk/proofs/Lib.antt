@@ -1,8 +1,6 @@
 pub mod Broken
 pub mod Composed
 pub mod Core
-pub mod CountedLevels
-pub mod CountedMore
 pub mod Depths
 pub mod Ends
 pub mod Entries

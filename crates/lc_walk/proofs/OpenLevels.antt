@@ -145,9 +145,9 @@ module _ (lists : List ℕ → Listings) (gives : List ℕ → Contents)
         may_answer given may a git,
         is_tidy given a,
         fault_level given a (place_path j.path place) word
-        (bytes_by given a (Ok i) is
-        ∙ and_then_err (own_bytes j.path (own_items given)) (record { path = place_path j.path place; word = word }) (λ o. Ok (record { info = i; own = o }))
-        (e (place_path j.path) (any_count lists gives some_count some_rules j.path))),
+            (bytes_by given a (Ok i) is
+            ∙ and_then_err (own_bytes j.path (own_items given)) (record { path = place_path j.path place; word = word }) (λ o. Ok (record { info = i; own = o }))
+            (e (place_path j.path) (any_count lists gives some_count some_rules j.path))),
       )
       at (Broken Memory) r = tt
       at (Broken TooManyDirs) r = absurd r

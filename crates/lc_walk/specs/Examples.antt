@@ -18,10 +18,10 @@ top_job = record { path = []; ignore = []; attributes = record { tree = []; info
 abbrev pub small_directory : Answers
 small_directory = record {
   here = Ok (
-    directory_item (codes ".git") ∷ file_item (codes ".gitignore") (Ok one_line) (Ok (codes "*.o")) ∷ file_item (codes "a.o") (Ok one_line) (Ok [])
-    ∷ directory_item (codes "b") ∷ file_item (codes "c") (Ok one_line) (Ok []) ∷ directory_item (codes "d") ∷ file_item (codes "k.o") (Ok one_line) (Ok [])
-    ∷ other_item (codes "l") ∷ []
-  );
+      directory_item (codes ".git") ∷ file_item (codes ".gitignore") (Ok one_line) (Ok (codes "*.o")) ∷ file_item (codes "a.o") (Ok one_line) (Ok [])
+      ∷ directory_item (codes "b") ∷ file_item (codes "c") (Ok one_line) (Ok []) ∷ directory_item (codes "d") ∷ file_item (codes "k.o") (Ok one_line) (Ok [])
+      ∷ other_item (codes "l") ∷ []
+      );
   git = Ok (directory_item (codes "info") ∷ []);
   info = Ok (file_item (codes "exclude") (Ok one_line) (Ok (codes "!k.o\nb/")) ∷ []);
 }

@@ -1,6 +1,5 @@
 pub mod Answers
 pub mod Assembled
-pub mod CountedNames
 pub mod Deep
 pub mod EntryLooks
 pub mod Examples

@@ -5,7 +5,6 @@
 //! - `entry_looks`: what is looked for among the entries
 
 mod chains;
-mod counting;
 mod desk;
 mod entry_looks;
 mod files;

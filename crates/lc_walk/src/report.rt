@@ -13,11 +13,10 @@ mod report_lines;
 mod row_lines;
 mod tree_check;
 
+use crate::tally::{Sums, Tally, TallyRow};
 pub use assembly::assemble;
 pub use fault_word::FaultWord;
 pub use report_lines::{FaultLine, FileLine};
-
-use crate::tally::{Sums, Tally, TallyRow};
 use std::alloc::AllocError;
 
 /// What a walk found.

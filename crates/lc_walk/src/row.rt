@@ -1,8 +1,8 @@
 //! What a worker gives for a directory.
 use crate::job::Job;
+use crate::report::FaultWord;
 use lc_census::Count;
 use lc_rules::TextState;
-use crate::report::FaultWord;
 use std::marker::Model;
 
 mod place;

@@ -15,16 +15,15 @@ mod sums;
 mod tally_row;
 
 pub use extensions::extension;
-pub use sums::Sums;
-pub use tally_row::TallyRow;
-
 use key::KeyRef;
-use row_hints::{RowHints, slot_of};
 use lc_census::Count;
 use lc_rules::TextState;
+use row_hints::{RowHints, slot_of};
 use std::alloc::{AllocError, Global};
 use std::cmp::Ordering;
 use std::marker::Model;
+pub use sums::Sums;
+pub use tally_row::TallyRow;
 
 /// The tally of the files counted so far.
 ///

@@ -12,10 +12,9 @@ mod listing;
 mod read_fault;
 
 pub use entry::{Entry, Kind};
+use lc_census::Source;
 pub use listing::{Listing, ListingFault, MAX_ENTRIES};
 pub use read_fault::ReadFault;
-
-use lc_census::Source;
 use std::alloc::Global;
 
 /// A tree of directories and files, which several workers ask at the same time.
@@ -42,5 +41,6 @@ pub trait Tree: Sync {
 
     // Each file may be counted, and read as rules, in some way.
     ghost some_count: { (t : Self) (path : List ℕ) → (r : Result Count FaultWord) × MayCount (gives t path) r };
+
     ghost some_rules: { (t : Self) (path : List ℕ) → (r : Result (List ℕ) FaultWord) × MayReadRules (gives t path) r };
 }

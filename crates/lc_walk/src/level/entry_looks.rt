@@ -24,16 +24,12 @@ impl Kind {
 pub(crate) fn has_file(entries: &[Entry], name: &[u8]) -> bool
     ensures { result ≡ has_file name.now entries.now }
 {
-    entries
-        .iter()
-        .any(|entry| entry.kind.is_file() && entry.name.as_slice() == name)
+    entries.iter().any(|entry| entry.kind.is_file() && entry.name.as_slice() == name)
 }
 
 /// Whether there is a directory of this name.
 pub(crate) fn has_dir(entries: &[Entry], name: &[u8]) -> bool
     ensures { result ≡ has_dir name.now entries.now }
 {
-    entries
-        .iter()
-        .any(|entry| entry.kind.is_dir() && entry.name.as_slice() == name)
+    entries.iter().any(|entry| entry.kind.is_dir() && entry.name.as_slice() == name)
 }

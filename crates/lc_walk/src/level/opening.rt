@@ -77,12 +77,7 @@ fn read_own<T: Tree>(
 }
 
 /// A directory with these rule files in both chains.
-fn with_files(
-    alloc: Global,
-    job: &Job,
-    info: RulePair,
-    own: RulePair,
-) -> Result<Job, AllocError>
+fn with_files(alloc: Global, job: &Job, info: RulePair, own: RulePair) -> Result<Job, AllocError>
     ensures path { IfOk result (λ k. k.path ≡ job.now.path) }
     ensures files { IfOk result (λ k. (i o : Pair) → AreFilesOf true info i → AreFilesOf (is_top job.now.path) own o
         → k ≡ extended job.now (record { info = i; own = o })) }
@@ -91,7 +86,13 @@ fn with_files(
     Ok(Job {
         path: job.path.to_vec(alloc)?,
         ignore: ignore_below(alloc, &job.ignore, info.rules, depth, own.rules)?,
-        attributes: attributes_below(alloc, &job.attributes, info.attributes, depth, own.attributes)?,
+        attributes: attributes_below(
+            alloc,
+            &job.attributes,
+            info.attributes,
+            depth,
+            own.attributes,
+        )?,
     })
 }
 
@@ -121,7 +122,13 @@ pub(crate) fn open_level<T: Tree>(
     let Ok(inside) = with_files(alloc, job, info, own) else {
         return Err(Unlisted::Broken(Cause::Memory));
     };
-    match left_in(alloc, &inside, archive, listing.into_entries(), &mut desk.path) {
+    match left_in(
+        alloc,
+        &inside,
+        archive,
+        listing.into_entries(),
+        &mut desk.path,
+    ) {
         Ok(left) => Ok(Opened {
             job: inside,
             files: left.files,

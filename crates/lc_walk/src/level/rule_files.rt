@@ -33,7 +33,13 @@ fn read_named<T: Tree>(
     let Ok(()) = desk.path.set_name(name) else {
         return Err(Unread::Memory);
     };
-    read_rules(alloc, tree, desk.path.as_slice(), &mut desk.buffer, &mut desk.rules)?;
+    read_rules(
+        alloc,
+        tree,
+        desk.path.as_slice(),
+        &mut desk.buffer,
+        &mut desk.rules,
+    )?;
     Ok(true)
 }
 

@@ -6,13 +6,13 @@ ghost use Rattle.lc_walk.specs.Marks.{fault_of_tree};
 ghost use Rattle.lc_board.specs.declared.answers.Ended.{Ended};
 ghost use Rattle.lc_walk.specs.declared.row.Row.{Row};
 
+use crate::report::Report;
 use crate::report::row_lines::{Lists, lists_of, row_of};
-use crate::row::{Cause, Row};
 use crate::report::tree_check::{TreeFault, check_tree};
+use crate::row::{Cause, Row};
+use crate::tally::Tally;
 use crate::walk_fault::WalkFault;
 use lc_board::{Closed, Ended};
-use crate::report::Report;
-use crate::tally::Tally;
 use std::alloc::Global;
 
 /// The row was given up for this cause.

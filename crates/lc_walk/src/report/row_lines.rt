@@ -6,10 +6,9 @@ ghost use Rattle.lc_walk.specs.Assembled.{fault_line, directories_by_row, files_
 ghost use Rattle.lc_walk.specs.Rows.{place_path};
 
 use crate::paths::path_in;
-use crate::row::Place;
-use crate::row::{Counted, FaultedRow, FileFault, ListedRow, Row};
-use lc_board::Ended;
 use crate::report::{FaultLine, FileLine};
+use crate::row::{Counted, FaultedRow, FileFault, ListedRow, Place, Row};
+use lc_board::Ended;
 use std::alloc::{AllocError, Global};
 
 /// The row by which a number ended.

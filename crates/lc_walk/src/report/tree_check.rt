@@ -5,8 +5,8 @@ ghost use Rattle.lc_glob.specs.Path.{path_in};
 ghost use Rattle.lc_walk.specs.Assembled.{IsPlaced};
 ghost use Rattle.lc_walk.specs.Marks.{Marks, IsNext, IsPathAt, RefusesTree};
 
-use crate::report::row_lines::row_of;
 use crate::paths::path_in;
+use crate::report::row_lines::row_of;
 use crate::row::{Child, Row};
 use lc_board::Ended;
 use std::alloc::{AllocError, Global};

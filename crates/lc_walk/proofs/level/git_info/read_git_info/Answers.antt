@@ -45,11 +45,11 @@ returns g c =
     let same : c.entries-2.result.now ≡ c.in-Ok-list_for.listing = cc in
     let gives = g.T.Tree.gives c.args.tree.now in
     let in_directory : ReadsBoth (gives (codes ".git/info/exclude")) (gives (codes ".git/info/attributes"))
-        (has_file (codes "exclude") c.entries-2.result.now) (has_file (codes "attributes") c.entries-2.result.now) true ExcludeFile InfoAttributes c.read_pair.result =
+    (has_file (codes "exclude") c.entries-2.result.now) (has_file (codes "attributes") c.entries-2.result.now) true ExcludeFile InfoAttributes c.read_pair.result =
     subst (λ (d : List ℕ). ReadsBoth (gives (path_in d (codes "exclude"))) (gives (path_in d (codes "attributes")))
-        (has_file (codes "exclude") c.entries-2.result.now) (has_file (codes "attributes") c.entries-2.result.now) true ExcludeFile InfoAttributes c.read_pair.result)
+    (has_file (codes "exclude") c.entries-2.result.now) (has_file (codes "attributes") c.entries-2.result.now) true ExcludeFile InfoAttributes c.read_pair.result)
     c.in-Ok-enter.ensures c.read_pair.ensures.read in
     both_files (g.T.Tree.lists c.args.tree.now) gives (law.some_count c.args.tree.now) (law.some_rules c.args.tree.now)
     (has_dir (codes ".git") c.args.entries.now) c.in-Ok.listing c.in-Ok-list_for.listing c.read_pair.result there c.in-Ok.ensures present c.in-Ok-list_for.ensures
     (subst (λ (l : List EntryModel). ReadsBoth (gives (codes ".git/info/exclude")) (gives (codes ".git/info/attributes"))
-        (has_file (codes "exclude") l) (has_file (codes "attributes") l) true ExcludeFile InfoAttributes c.read_pair.result) same in_directory)
+    (has_file (codes "exclude") l) (has_file (codes "attributes") l) true ExcludeFile InfoAttributes c.read_pair.result) same in_directory)
