@@ -38,7 +38,7 @@ use Rattle.lc_walk.specs.declared.row.Cause.{Cause}
 use Rattle.lc_walk.specs.declared.row.Cause.TheVariants.{Memory, TooManyDirs, TooDeep}
 use Rattle.lc_walk.specs.declared.row.Row.{Row}
 use Rattle.lc_walk.specs.declared.row.Row.TheVariants.{Listed, Faulted, Broken}
-use Rattle.lc_walk.proofs.Weights.{Each, each-map, flat_map-on, permuted_lists}
+use Rattle.lc_board.proofs.Weights.{Each, each-map, flat_map-on, permuted_lists}
 use Rattle.lc_walk.proofs.Moves.{lists_moved}
 use Rattle.lc_walk.proofs.Law.{core_law, one_answer_law}
 use Rattle.lc_walk.proofs.Ends.{ender, ended_by, ends, IsTold, all_told, by_ender, ender_within, ends_are, parts_of, parts_whole}

@@ -12,8 +12,8 @@ use Rattle.lc_walk.specs.Walk.{walks_below, walk_by}
 use Rattle.lc_walk.specs.RowViews.{ChildModel}
 use Rattle.lc_walk.specs.Lawful.{jobs_of, named}
 use Rattle.lc_walk.specs.TreeOfRows.{child_number, tree_from}
-use Rattle.lc_walk.proofs.Weights.{Each, each-map}
-use Rattle.lc_walk.proofs.Histories.{Known, known}
+use Rattle.lc_board.proofs.Weights.{Each, each-map}
+use Rattle.lc_board.proofs.PostedNumbers.{Known, known}
 use Rattle.lc_walk.proofs.Reach.{reach}
 use Rattle.lc_walk.proofs.Tidy.{bytes_same}
 use Rattle.lc_walk.proofs.Levels.{IsApart}

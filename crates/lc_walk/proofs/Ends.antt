@@ -16,7 +16,7 @@ use Rattle.lc_board.specs.declared.answers.Ended.{Ended}
 use Rattle.lc_board.specs.declared.answers.Ended.TheVariants as ended
 use Rattle.lc_board.proofs.NumbersOnce.{numbers_once, ended_has_row}
 use Rattle.lc_walk.specs.TreeOfRows.{numbers_below}
-use Rattle.lc_walk.proofs.Weights.{Each, each-map, times}
+use Rattle.lc_board.proofs.Weights.{Each, each-map, times}
 use Rattle.lc_walk.proofs.Reach.{times_below, times_past}
 
 -- who ended a number

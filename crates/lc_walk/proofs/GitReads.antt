@@ -1,16 +1,15 @@
 -- The answers of a tree for `.git` and `.git/info`, by what reading the rule files there answered.
-use Rattle.std.proofs.Common.{◌≡◌, ℕ, Bool, true, false, List, [], refl, sym, ◌∙◌, ap, subst, Option, None, Result, Ok, Err, codes}
+use Rattle.std.proofs.Common.{◌≡◌, ℕ, Bool, true, false, List, [], refl, sym, ◌∙◌, ap, subst, None, Result, Ok, Err, codes}
 use Rattle.lc_census.specs.declared.totals.Count.{Count}
 use Rattle.lc_glob.specs.Path.{path_in}
 use Rattle.lc_walk.specs.Answers.{Item, Items, Answers}
 use Rattle.lc_walk.specs.EntryLooks.{has_file, has_dir}
 use Rattle.lc_walk.specs.GitInfo.{ListsFor, MayAnswerGit, ReadsGit}
 use Rattle.lc_walk.specs.Listing.{EntryModel}
-use Rattle.lc_walk.specs.ReportLines.{FaultLineModel}
-use Rattle.lc_walk.specs.RuleFiles.{Pair, has_directory, and_then, listing, info_items, info_bytes}
+use Rattle.lc_walk.specs.RuleFiles.{has_directory, and_then, listing, info_items, info_bytes}
 use Rattle.lc_walk.specs.RulePairs.{AreFilesOf, ReadsBoth}
 use Rattle.lc_walk.specs.Rows.{place_path}
-use Rattle.lc_walk.specs.TreeAnswers.{MayHave, MayList, items_of}
+use Rattle.lc_walk.specs.TreeAnswers.{MayList}
 use Rattle.lc_walk.specs.Trees.{Listings, Contents, MayCount, MayReadRules}
 use Rattle.lc_walk.specs.declared.level.rule_pair.RulePair.{RulePair}
 use Rattle.lc_walk.specs.declared.level.unlisted.Unlisted.{Unlisted}

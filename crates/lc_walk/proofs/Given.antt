@@ -18,7 +18,7 @@ use Rattle.lc_walk.specs.Rows.{row_of, job_of}
 use Rattle.lc_walk.specs.Lawful.{Asked, IsLawful, Says}
 use Rattle.lc_walk.specs.Worked.{IsLawfulEnd, AreLawful, returned_files, files_given}
 use Rattle.lc_walk.specs.declared.row.Row.{Row}
-use Rattle.lc_walk.proofs.Weights.{Each, each-map, flat_map-on}
+use Rattle.lc_board.proofs.Weights.{Each, each-map, flat_map-on}
 use Rattle.lc_walk.proofs.Ends.{IsTold, all_told, stays as row_stays}
 use Rattle.lc_walk.proofs.Holds.{other, same, Tells, tells, stays, claimed_none}
 

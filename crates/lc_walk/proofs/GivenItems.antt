@@ -1,6 +1,6 @@
 -- The items of a directory, by what the files of each name give.
-use Rattle.std.proofs.Common.{◌≡◌, ℕ, Bool, true, false, cond, ◌&&◌, ◌||◌, List, [], ◌∷◌, refl, sym, ◌∙◌, ap, subst, Option, Some, None, Result, Ok, Err, map, bytes_eq, unwrap_or}
-use Rattle.std.specs.List.{AllByRecursion, list_any}
+use Rattle.std.proofs.Common.{◌≡◌, ℕ, Bool, true, false, cond, ◌&&◌, ◌||◌, List, [], ◌∷◌, refl, sym, ◌∙◌, ap, subst, Option, Some, None, Result, map, bytes_eq, unwrap_or}
+use Rattle.std.specs.List.{AllByRecursion}
 use Rattle.lc_census.specs.declared.totals.Count.{Count}
 use Rattle.lc_glob.specs.Path.{path_in}
 use Rattle.lc_walk.specs.Answers.{Item, file_item, directory_item, other_item, entry_of, entries_of}

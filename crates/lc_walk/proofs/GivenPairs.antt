@@ -1,6 +1,5 @@
 -- The items of a directory, by what reading its two rule files answered.
-use Rattle.std.proofs.Common.{◌≡◌, ℕ, Bool, true, false, ◌⊎◌, inl, inr, List, refl, sym, ◌∙◌, ap, subst, Option, Some, None, Result, Ok, Err, bytes_eq, option_map}
-use Rattle.lc_glob.specs.Path.{path_in}
+use Rattle.std.proofs.Common.{◌≡◌, ℕ, Bool, false, inl, inr, List, refl, sym, ◌∙◌, ap, Option, Some, None, Result, Ok, Err, bytes_eq, option_map}
 use Rattle.lc_walk.specs.EntryLooks.{has_file}
 use Rattle.lc_walk.specs.Listing.{EntryModel}
 use Rattle.lc_walk.specs.ReportLines.{FaultLineModel}

@@ -25,8 +25,8 @@ use Rattle.lc_walk.specs.Walked.{Walked, AreWhole, row_found, rows_found}
 use Rattle.lc_walk.specs.Laws.{CoreLaw, NumbersLaw, OneAnswerLaw, PartLaw, walk_numbers}
 use Rattle.lc_walk.specs.declared.row.Row.{Row}
 use Rattle.lc_walk.specs.declared.row.Row.TheVariants.{Listed, Faulted, Broken}
-use Rattle.lc_walk.proofs.Weights.{Each, each-map, each-append, flat_map-on, times, permuted, permuted_lists}
-use Rattle.lc_walk.proofs.Histories.{start, top_posted, Known, known}
+use Rattle.lc_board.proofs.Weights.{Each, each-map, each-append, flat_map-on, times, permuted, permuted_lists}
+use Rattle.lc_board.proofs.PostedNumbers.{start, top_posted, Known, known}
 use Rattle.lc_walk.proofs.Reach.{reach, reach_times}
 use Rattle.lc_walk.proofs.Levels.{apart_level, good_level, IsChild}
 use Rattle.lc_walk.proofs.Places.{segments-path_in}

@@ -1,5 +1,5 @@
 -- What holds of every level.
-use Rattle.std.proofs.Common.{◌≡◌, ℕ, cond, ◌&&◌, Bool, true, false, List, [], ◌∷◌, ◌++◌, refl, sym, subst, ◌⊎◌, inl, inr, Option, Some, None, Result, Ok, Err, codes, bytes_eq}
+use Rattle.std.proofs.Common.{◌≡◌, ℕ, cond, ◌&&◌, Bool, true, false, List, [], ◌∷◌, ◌++◌, refl, subst, ◌⊎◌, inl, inr, Option, Some, None, Result, Ok, Err, codes, bytes_eq}
 use Rattle.std.specs.List.{flat_map}
 use Rattle.lc_walk.specs.Listing.{IsListing}
 use Rattle.lc_walk.specs.declared.report.fault_word.FaultWord.{FaultWord}
@@ -11,7 +11,7 @@ use Rattle.lc_walk.specs.RuleFiles.{Pair, RuleBytes, extended, file_named, has_d
 use Rattle.lc_walk.specs.Level.{Level, faulted_level, level, level_of, level_after, level_of_items, is_taken, child_job, children_by}
 use Rattle.lc_walk.specs.Found.{children_of, children_at}
 use Rattle.lc_walk.specs.Lawful.{IsTidy, listed_in}
-use Rattle.lc_walk.proofs.Weights.{Each}
+use Rattle.lc_board.proofs.Weights.{Each}
 use Rattle.lc_walk.proofs.Tidy.{IsGoodName, good_one, Spread, spread}
 
 -- what holds of each fault, and of the level of the items with any chains, holds of the level

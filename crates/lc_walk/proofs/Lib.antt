@@ -1,5 +1,6 @@
 pub mod Broken
 pub mod Composed
+pub mod ChildPlaces
 pub mod Core
 pub mod Depths
 pub mod Ends
@@ -10,7 +11,6 @@ pub mod GitReads
 pub mod GivenItems
 pub mod GivenPairs
 pub mod Growing
-pub mod Histories
 pub mod Holds
 pub mod Joining
 pub mod Keys
@@ -20,7 +20,6 @@ pub mod Listings
 pub mod Marking
 pub mod Moves
 pub mod OpenLevels
-pub mod Parents
 pub mod PathsApart
 pub mod PathsOnce
 pub mod Places
@@ -32,4 +31,3 @@ pub mod RuleParsing
 pub mod Sorting
 pub mod Tidy
 pub mod WalkOn
-pub mod Weights

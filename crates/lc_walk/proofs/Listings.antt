@@ -10,7 +10,7 @@ use Rattle.lc_walk.specs.Found.{Found, found_file, found_directory, fault_of, fo
 use Rattle.lc_walk.specs.WalkReport.{tallied, line_of, tallied_in, file_in, fault_in, directory_in, tallied_of, files_of, faults_of, directories_of}
 use Rattle.lc_walk.specs.Assembled.{fault_line}
 use Rattle.lc_walk.specs.TreeOfRows.{numbers_below}
-use Rattle.lc_walk.proofs.Weights.{Each, each-map, each-append, flat_map-on}
+use Rattle.lc_board.proofs.Weights.{Each, each-map, each-append, flat_map-on}
 
 pub flat_twice : {A B C : Type 0} (g : B → List C) (f : A → List B) (xs : List A) → flat_map g (flat_map f xs) ≡ flat_map (λ x. flat_map g (f x)) xs
 flat_twice g f [] = refl

@@ -4,7 +4,7 @@ use Rattle.std.specs.List.{flat_map}
 use Rattle.std.proofs.lemmas.List.Sums.{sum_by-cons}
 use Rattle.std.proofs.lemmas.List.Folds.{flat_map-map}
 use Rattle.std.proofs.lemmas.List.Sorted.{IsPermutation-refl, IsPermutation-swap, IsPermutation-keeps, sum_by-IsPermutation, length_permutation}
-use Rattle.lc_walk.proofs.Weights.{weigh, times, only, permuted_lists}
+use Rattle.lc_board.proofs.Weights.{weigh, times, only, permuted_lists}
 
 module _ {A B : Type 0} (f : A → B) where
   map_set : (xs : List A) (i : ℕ) (v : A) → map f (slice_set xs i v) ≡ slice_set (map f xs) i (f v)

@@ -1,11 +1,11 @@
 -- The answers of a tree for a directory, by what opening it answered.
-use Rattle.std.proofs.Common.{◌≡◌, ℕ, Bool, true, false, ◌&&◌, ◌||◌, List, [], ◌∷◌, refl, sym, ◌∙◌, ap, subst, Option, Some, None, Result, Ok, Err, codes, arith}
+use Rattle.std.proofs.Common.{◌≡◌, ℕ, Bool, true, false, ◌&&◌, ◌||◌, List, [], ◌∷◌, refl, sym, ◌∙◌, ap, subst, Result, Ok, Err, codes, arith}
 use Rattle.std.specs.List.{list_any, flat_map}
 use Rattle.std.specs.List.Sorted.{IsStrictlySortedBy}
 use Rattle.lc_census.specs.declared.totals.Count.{Count}
 use Rattle.lc_glob.specs.Path.{path_in}
-use Rattle.lc_walk.specs.Answers.{Item, Items, Answers, entry_of, entries_of}
-use Rattle.lc_walk.specs.Deep.{is_too_deep, some_too_deep, has_too_deep}
+use Rattle.lc_walk.specs.Answers.{Item, Answers, entry_of, entries_of}
+use Rattle.lc_walk.specs.Deep.{is_too_deep, some_too_deep}
 use Rattle.lc_walk.specs.EntryLooks.{has_file, has_dir}
 use Rattle.lc_walk.specs.GitInfo.{ListsFor, MayAnswerGit, ReadsGit}
 use Rattle.lc_walk.specs.Job.{JobModel}
@@ -15,10 +15,10 @@ use Rattle.lc_walk.specs.Listing.{EntryModel, IsListing}
 use Rattle.lc_walk.specs.LeftIn.{kept_file, kept_directory, bytes_of, LeavesIn}
 use Rattle.lc_walk.specs.Opens.{IsOpened, OpensLevel}
 use Rattle.lc_walk.specs.ReportLines.{FaultLineModel}
-use Rattle.lc_walk.specs.RuleFiles.{Pair, RuleBytes, has_directory, has_git, is_top, and_then, info_items, info_bytes, own_bytes, rule_bytes, extended}
+use Rattle.lc_walk.specs.RuleFiles.{Pair, RuleBytes, has_git, is_top, and_then, info_items, info_bytes, own_bytes, rule_bytes, extended}
 use Rattle.lc_walk.specs.RulePairs.{AreFilesOf, ReadsBoth}
 use Rattle.lc_walk.specs.Rows.{place_path}
-use Rattle.lc_walk.specs.TreeAnswers.{MayList, MayAnswer, items_of}
+use Rattle.lc_walk.specs.TreeAnswers.{MayAnswer}
 use Rattle.lc_walk.specs.Trees.{Listings, Contents, MayCount, MayReadRules}
 use Rattle.lc_walk.specs.declared.level.opening.Opened.{Opened}
 use Rattle.lc_walk.specs.declared.level.rule_pair.RulePair.{RulePair}
@@ -30,9 +30,8 @@ use Rattle.lc_walk.specs.declared.row.Cause.TheVariants.{Memory, TooManyDirs, To
 use Rattle.lc_walk.specs.declared.row.place.Place.{Place}
 use Rattle.lc_walk.specs.declared.row.place.Place.TheVariants.{Directory, IgnoreFile, AttributeFile}
 use Rattle.lc_walk.proofs.GitReads.{any_count, any_rules, listed}
-use Rattle.lc_walk.proofs.GivenItems.{Counted, AsRules, items_at, entries_items, directory_items}
+use Rattle.lc_walk.proofs.GivenItems.{AsRules, items_at, entries_items, directory_items}
 use Rattle.lc_walk.proofs.GivenPairs.{PairGiven, pair_given}
-use Rattle.lc_walk.proofs.Tidy.{clash}
 
 -- what follows a reading, by what it gave
 and_then_ok : {A B : Type 0} (r : Result A FaultLineModel) (x : A) (next : A → Result B FaultLineModel) → r ≡ Ok x → and_then r next ≡ next x

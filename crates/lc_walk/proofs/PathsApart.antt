@@ -13,7 +13,7 @@ use Rattle.lc_walk.specs.Walk.{walk_of}
 use Rattle.lc_walk.specs.WalkReport.{line_of, file_in, fault_in, files_of, faults_of}
 use Rattle.lc_walk.specs.Assembled.{fault_line}
 use Rattle.lc_walk.specs.Laws.{PathsOnceLaw}
-use Rattle.lc_walk.proofs.Weights.{Each}
+use Rattle.lc_board.proofs.Weights.{Each}
 use Rattle.lc_walk.proofs.Moves.{lists_moved}
 use Rattle.lc_walk.proofs.Tidy.{other_bytes}
 use Rattle.lc_walk.proofs.PathsOnce.{Distinct, Kind, fine, counts_it, fails_it, count_never, fail_never, by_item, counted_name, fault_name, map_append}

@@ -9,11 +9,11 @@ use Rattle.lc_walk.specs.Paths.{segments}
 use Rattle.lc_walk.specs.Answers.{Item, file_item, directory_item, other_item, Tree, name_of}
 use Rattle.lc_walk.specs.Job.{JobModel}
 use Rattle.lc_walk.specs.RuleFiles.{extended}
-use Rattle.lc_walk.specs.Level.{CountedModel, FileFaultModel, faulted_level, level_of_items, is_taken, counted_by, fault_by, files_by, faults_by, children_by, child_job}
+use Rattle.lc_walk.specs.Level.{CountedModel, FileFaultModel, level_of_items, is_taken, counted_by, fault_by, files_by, faults_by, children_by, child_job}
 use Rattle.lc_walk.specs.Found.{Found, found_fault, found_of, found_at, children_of, children_at}
 use Rattle.lc_walk.specs.Walk.{walks_below, walk_by}
 use Rattle.lc_walk.specs.Lawful.{IsTidy}
-use Rattle.lc_walk.proofs.Weights.{Each, each-map, each-append}
+use Rattle.lc_board.proofs.Weights.{Each, each-map, each-append}
 use Rattle.lc_walk.proofs.Tidy.{IsGoodName, Spread, bytes_other}
 use Rattle.lc_walk.proofs.Levels.{IsOwnPlace, own_level_keeps, tidy_items, IsChild, each_child}
 use Rattle.lc_walk.proofs.Places.{segments-path_in}

@@ -4,7 +4,7 @@ use Rattle.std.specs.List.{onto_first}
 use Rattle.std.proofs.lemmas.List.Splits.{slice_split-cons_yes, slice_split-cons_no}
 use Rattle.lc_glob.specs.Path.{path_in, segments_of}
 use Rattle.lc_walk.specs.Paths.{segments}
-use Rattle.lc_walk.proofs.Weights.{Each}
+use Rattle.lc_board.proofs.Weights.{Each}
 use Rattle.lc_walk.proofs.Tidy.{IsGoodName}
 
 -- bytes cut at each slash, byte by byte

@@ -16,9 +16,10 @@ use Rattle.lc_walk.specs.TreeOfRows.{children_at_row}
 use Rattle.lc_walk.specs.Walked.{Walked, AreWhole}
 use Rattle.lc_walk.specs.Assembled.{HangsOnce, IsPlaced}
 use Rattle.lc_walk.specs.declared.row.Row.{Row}
-use Rattle.lc_walk.proofs.Histories.{start}
+use Rattle.lc_board.proofs.PostedNumbers.{start}
 use Rattle.lc_walk.proofs.Law.{row_here, job_or, job_at, inside, there, top_job, own_jobs, fits}
-use Rattle.lc_walk.proofs.Parents.{IsIn, parent, one_parent, posts_once, posted_above, child_posted, one_place, posted_child}
+use Rattle.lc_board.proofs.Parents.{IsIn, parent, one_parent, posts_once, posted_above}
+use Rattle.lc_walk.proofs.ChildPlaces.{child_posted, one_place, posted_child}
 
 module _ (ask : Asked) (full : Bool) (capacity workers : ℕ) (top : JobModel) (h : List (Event JobModel Row)) (rows : List (Ended Row)) (answers : ℕ → Answers)
     (walked : Walked ask full capacity workers top h rows answers) (whole : AreWhole rows) (at_top : top.path ≡ []) where

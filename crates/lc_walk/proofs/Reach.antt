@@ -7,8 +7,8 @@ use Rattle.lc_board.specs.LegalHistory.{posts_under, IsLegal}
 use Rattle.lc_board.specs.Numbers.{HasNumbers}
 use Rattle.lc_board.specs.declared.event.Event.{Event}
 use Rattle.lc_walk.specs.TreeOfRows.{numbers_below}
-use Rattle.lc_walk.proofs.Weights.{weigh, weigh-append, weigh-sum, weigh-flat_map, weigh-on, each-map, only, only_same, times, permuted}
-use Rattle.lc_walk.proofs.Histories.{numbers, all_present, within, below, counted_twice, Known, known, start, once, not_among}
+use Rattle.lc_board.proofs.Weights.{weigh, weigh-append, weigh-sum, weigh-flat_map, weigh-on, each-map, only, only_same, times, permuted}
+use Rattle.lc_board.proofs.PostedNumbers.{numbers, all_present, within, below, counted_twice, Known, known, start, once, not_among}
 
 -- from i, at most so many levels deep
 abbrev pub reach : {J R : Type 0} → List (Event J R) → ℕ → ℕ → List ℕ

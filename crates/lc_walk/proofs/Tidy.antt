@@ -8,7 +8,7 @@ use Rattle.std.proofs.lemmas.Slice.Eq.{bytes_eq-Decides}
 use Rattle.lc_glob.specs.Path.{is_no_name, is_good_name}
 use Rattle.lc_walk.specs.Listing.{names, name_cmp, have_good_names, HaveDistinctNames, IsListing}
 use Rattle.lc_walk.specs.Answers.{Item, name_of, entries_of}
-use Rattle.lc_walk.proofs.Weights.{Each}
+use Rattle.lc_board.proofs.Weights.{Each}
 
 -- a name is not empty and has no slash
 abbrev pub IsGoodName : List ℕ → Type 0

@@ -30,7 +30,7 @@ use Rattle.lc_walk.specs.declared.walk_fault.WalkFault.{WalkFault}
 use Rattle.lc_walk.specs.declared.walk_fault.WalkFault.TheVariants as fault
 use Rattle.lc_walk.proofs.Composed.{some_rows, answers, walked, lawful_here, report_of_walk}
 use Rattle.std.proofs.lemmas.Bool.{cases_lt}
-use Rattle.lc_walk.proofs.Histories.{within}
+use Rattle.lc_board.proofs.PostedNumbers.{within}
 use Rattle.lc_walk.proofs.Placing.{placed}
 use Rattle.lc_walk.proofs.Listings.{got_here}
 

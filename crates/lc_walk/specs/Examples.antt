@@ -1,5 +1,5 @@
 -- The definitions of a level, computed on a small directory.
-use Rattle.std.specs.Prelude.{◌≡◌, false, List, [], ◌∷◌, Ok, None, map, codes}
+use Rattle.std.specs.Prelude.{◌≡◌, false, [], ◌∷◌, Ok, None, map, codes}
 use Rattle.lc_census.specs.declared.totals.Count.{Count}
 use Rattle.lc_census.specs.declared.totals.Eol.TheVariants.{Lf}
 use Rattle.lc_walk.specs.Answers.{file_item, directory_item, other_item, Answers}

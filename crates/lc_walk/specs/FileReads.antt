@@ -1,5 +1,5 @@
 -- What an open and a reading of one file answers.
-use Rattle.std.specs.Prelude.{List, Result, Ok, Err}
+use Rattle.std.specs.Prelude.{Result, Ok, Err}
 use Rattle.lc_walk.specs.declared.report.fault_word.FaultWord.{FaultWord}
 use Rattle.lc_walk.specs.declared.level.unread.Unread.{Unread}
 use Rattle.lc_walk.specs.declared.level.unread.Unread.TheVariants as unread

@@ -1,5 +1,5 @@
 -- What reading the rule files of `.git/info` answers.
-use Rattle.std.specs.Prelude.{◌≡◌, ℕ, Bool, true, List, [], Result, Ok, Err, codes}
+use Rattle.std.specs.Prelude.{◌≡◌, ℕ, Bool, true, List, Result, Ok, Err, codes}
 use Rattle.lc_walk.specs.Answers.{Answers}
 use Rattle.lc_walk.specs.Listing.{EntryModel}
 use Rattle.lc_walk.specs.RuleFiles.{Pair, has_directory, and_then, info_items, info_bytes}

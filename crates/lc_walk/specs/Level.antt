@@ -1,5 +1,5 @@
 -- One level of the walk: what one directory gives.
-use Rattle.std.specs.Prelude.{ℕ, Bool, true, false, not, ◌&&◌, cond, List, [], ◌∷◌, flat_map, Option, Some, None, Result, Ok, Err, bytes_eq, codes}
+use Rattle.std.specs.Prelude.{ℕ, Bool, true, false, not, ◌&&◌, cond, List, [], ◌∷◌, flat_map, Result, Ok, Err, bytes_eq, codes}
 use Rattle.lc_rules.specs.Attributes.{StateModel, set, unset, value, unspecified}
 use Rattle.lc_rules.specs.Verdicts.{joined, verdict_of}
 use Rattle.lc_rules.specs.declared.verdicts.Verdict.{Verdict}

@@ -2,8 +2,6 @@
 use Rattle.std.specs.Prelude.{◌≡◌, ℕ, Bool, ◌⊎◌, List, Option, Some, Result, Ok, Err, option_map}
 use Rattle.lc_rules.specs.IgnoreRules.{rules_of}
 use Rattle.lc_rules.specs.AttrLines.{attribute_file_of}
-use Rattle.lc_walk.specs.EntryLooks.{has_file}
-use Rattle.lc_walk.specs.Listing.{EntryModel}
 use Rattle.lc_walk.specs.RuleFiles.{Pair}
 use Rattle.lc_walk.specs.RuleReads.{shared, MayGive}
 use Rattle.lc_walk.specs.Trees.{Contents}

@@ -1,5 +1,5 @@
-use Rattle.std.proofs.Common.{ℕ, List, length}
-use Rattle.lc_census.specs.Reads.{Stop, at_end, at_failure, at_neither, Reads, RoomOf}
+use Rattle.std.proofs.Common.{length}
+use Rattle.lc_census.specs.Reads.{at_end, at_failure, at_neither}
 use Rattle.lc_walk.proofs.Rooms.{any_room}
 use Rattle.lc_walk.proofs.level.files.count_file.Goals as goal
 

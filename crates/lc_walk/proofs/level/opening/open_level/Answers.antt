@@ -11,7 +11,7 @@ use Rattle.lc_walk.specs.Trees.{Listings, Contents}
 use Rattle.lc_walk.specs.declared.level.rule_pair.RulePair.{RulePair}
 use Rattle.lc_walk.specs.declared.level.unlisted.Unlisted.{Unlisted}
 use Rattle.lc_walk.specs.declared.row.place.Place.TheVariants.{Directory, IgnoreFile, AttributeFile}
-use Rattle.lc_walk.proofs.OpenLevels.{list_refused, info_opens, own_refused, has_read, deep_opens, opened, left_refused}
+use Rattle.lc_walk.proofs.OpenLevels.{list_refused, info_opens, own_refused, has_read, opened, left_refused}
 use Rattle.lc_walk.proofs.level.opening.open_level.Goals as goal
 
 -- the same of a directory's path and its entries

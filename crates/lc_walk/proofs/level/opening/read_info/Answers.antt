@@ -1,4 +1,4 @@
-use Rattle.std.proofs.Common.{◌≡◌, ◌==◌, ◌&&◌, false, length, sym, ◌∙◌, codes}
+use Rattle.std.proofs.Common.{◌≡◌, ◌&&◌, false, sym, ◌∙◌, codes}
 use Rattle.lc_walk.specs.EntryLooks.{has_dir}
 use Rattle.lc_walk.specs.RuleFiles.{is_top}
 use Rattle.lc_walk.proofs.Depths.{below_top}

@@ -1,4 +1,4 @@
-use Rattle.std.proofs.Common.{◌≡◌, ℕ, ◌==◌, Bool, true, false, List, [], ◌∷◌, length, refl, sym, ◌∙◌, codes, subst}
+use Rattle.std.proofs.Common.{◌≡◌, ℕ, ◌==◌, Bool, List, [], ◌∷◌, length, refl, ◌∙◌, codes, subst}
 use Rattle.std.proofs.Math.Dec.{eqb-suc-zero}
 use Rattle.lc_glob.specs.Path.{path_in}
 use Rattle.lc_walk.specs.EntryLooks.{has_file}
