@@ -1,8 +1,11 @@
 //! What one directory gives: its listing, its rule files, its entries in order.
 //!
-//! - `unread`, `files`: opening one file, to count it or to read it as rules
-//! - `path_buffer`: the paths of a directory's entries, one after another
-//! - `entry_looks`: what is looked for among the entries
+//! - `opening`: opening a directory, up to which of its entries its rules leave in
+//! - `git_info`, `rule_files`, `rule_pair`: its rule files, read whole; `chains`: both chains by them
+//! - `entry_looks`, `left_in`: what is looked for among its entries, and which of them stay
+//! - `files`, `unread`: opening one file, to count it or to read it as rules, and why that was not possible
+//! - `path_buffer`, `desk`: the paths of its entries one after another, and all buffers of a worker
+//! - `unlisted`: why a directory gives nothing of its entries
 
 mod chains;
 mod desk;
