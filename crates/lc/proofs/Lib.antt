@@ -4,3 +4,6 @@ pub mod Directories
 pub mod Dashes
 pub mod Plain
 pub mod Stopping
+pub mod ReadValues
+pub mod CountRanges
+pub mod WordFaults

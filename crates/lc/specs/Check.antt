@@ -1,14 +1,11 @@
 -- What a check answers, by its reads and its writes.
-use Rattle.std.specs.Prelude.{◌≡◌, ℕ, ◌<◌, ◌≤◌, ◌⊎◌, List, [], length, Result, Ok, Err}
+use Rattle.std.specs.Prelude.{◌≡◌, ℕ, ◌<◌, ◌≤◌, List, [], length, Result, Ok, Err}
 use Rattle.lc_census.specs.declared.source.Failed.{Failed}
 use Rattle.lc_census.specs.declared.whole.WholeFault.{WholeFault}
 use Rattle.lc_census.specs.declared.whole.WholeFault.TheVariants as whole
 use Rattle.lc_census.specs.Reads.{Answer}
 use Rattle.lc_census.specs.Whole.{AnswersWhole}
-use Rattle.lc_rules.specs.IgnoreRules.{RuleModel}
 use Rattle.lc_rules.specs.Limits.{max_rule_bytes}
-use Rattle.lc.specs.CheckText.{text_by}
-use Rattle.lc.specs.Joined.{rules_part, joined_text}
 use Rattle.lc.specs.Writes.{Writes, StopsWriting}
 use Rattle.lc.specs.declared.check.CheckFault.{CheckFault}
 use Rattle.lc.specs.declared.check.CheckFault.TheVariants.{Read, InputTooLong, RulesTooLong, Memory, Write}
@@ -50,15 +47,3 @@ module _ {I O : Type 0} (may_give : I → ℕ → Answer → I → Type 0) (may_
   -- a prefix of the text was written
   AnswersCheck input out (Err Write) read wrote =
       (bytes : List ℕ) × HasRead input bytes read × StopsWriting may_take out (text_of bytes) wrote
-
--- a check was done: with the rules of some file, or with those of its input
-module _ {I O : Type 0} (may_give : I → ℕ → Answer → I → Type 0) (may_take : O → List ℕ → Result ℕ Failed → O → Type 0) where
-  abbrev pub HasChecked : I → O → I → O → Type 0
-  HasChecked input out read wrote =
-      ((rules : List RuleModel) × AnswersCheck may_give may_take no_rules (text_by rules) input out (Ok tt) read wrote)
-      ⊎ AnswersCheck may_give may_take rules_part joined_text input out (Ok tt) read wrote
-
-  -- a check was done, or the input was left alone and a text was written, as help is
-  abbrev pub HasAnswered : I → O → I → O → Type 0
-  HasAnswered input out read wrote =
-      HasChecked input out read wrote ⊎ ((read ≡ input) × ((text : List ℕ) × Writes may_take out text wrote))

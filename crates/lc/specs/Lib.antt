@@ -7,3 +7,11 @@ pub mod Writes
 pub mod Check
 pub mod CheckFaults
 pub mod TableText
+pub mod CountArgs
+pub mod CommandLine
+pub mod Words
+pub mod Runs
+pub mod Causes
+pub mod Requests
+pub mod Program
+pub mod Explained

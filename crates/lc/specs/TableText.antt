@@ -6,10 +6,11 @@ use Rattle.lc_census.specs.declared.totals.Eol.TheVariants.{NoEnd, Lf, CrLf, Cr,
 use Rattle.lc_rules.specs.declared.states.TextState.{TextState}
 use Rattle.lc_rules.specs.declared.states.TextState.TheVariants as text
 use Rattle.lc_walk.specs.TallyRows.{TallyRowModel}
-use Rattle.lc_walk.specs.ReportLines.{FileLineModel, FaultLineModel}
+use Rattle.lc_walk.specs.ReportLines.{FileLineModel}
+use Rattle.lc_level.specs.FaultLines.{FaultLineModel}
 use Rattle.lc_walk.specs.declared.tally.sums.Sums.{Sums}
-use Rattle.lc_walk.specs.declared.report.fault_word.FaultWord.{FaultWord}
-use Rattle.lc_walk.specs.declared.report.fault_word.FaultWord.TheVariants as fault
+use Rattle.lc_tree.specs.declared.fault_word.FaultWord.{FaultWord}
+use Rattle.lc_tree.specs.declared.fault_word.FaultWord.TheVariants as fault
 use Rattle.lc_walk.specs.declared.report.Report.{Report}
 use Rattle.lc.specs.Escape.{escape_bytes, escape_path}
 

@@ -1,16 +1,30 @@
 //! What the words of a command line ask for.
 
+ghost use Rattle.std.specs.Prelude.{◌≡◌, IfOk, map};
+ghost use Rattle.lc.specs.CommandLine.{bare_lc_app, lc_app};
+ghost use Rattle.lc.specs.CountArgs.{IsCommandOf};
+ghost use Rattle.lc.specs.Explained.{Explains, AnswersOthers};
+ghost use Rattle.lc.specs.Words.{AnswersWords};
+
+mod check;
+mod count;
+mod help;
+
 use clap::error::ErrorKind;
-use clap::{Arg, ArgAction, Command, Error};
+use clap::{Command, Error};
+pub(crate) use count::CountRequest;
 use std::alloc::{AllocError, Global};
 use std::convert::AsStr;
 
 /// What the program is asked for.
+#[derive(Drop)]
 pub(crate) enum Request<'w> {
     /// Rules and paths come joined on standard input.
     CheckJoined,
     /// The rules of a file, and paths on standard input.
     Check { file: &'w str },
+    /// The table of a directory.
+    Count(CountRequest<'w>),
 }
 
 /// Why the words ask for nothing.
@@ -24,82 +38,84 @@ pub(crate) enum NoRequest {
     Memory,
 }
 
-impl From<AllocError> for NoRequest {
-    fn from(_refused: AllocError) -> NoRequest {
-        NoRequest::Memory
-    }
+fn bare<'a>(alloc: Global) -> Result<Command<'a>, AllocError>
+    ensures { IfOk result (IsCommandOf bare_lc_app) }
+{
+    Ok(
+        Command::new(alloc, "lc")
+            .about(help::ABOUT)
+            .after_help(help::AFTER)
+            .version("0.1.0")
+            .no_binary_name(true)
+            .bin_name("lc")?,
+    )
 }
 
-const ABOUT: &str =
-    "Says which paths the rules of an ignore file leave out, by the rules of gitignore(5)";
-
-const AFTER: &str = "With no command, standard input has the rules, a line --, and the paths.
-
-Status: 0 all of it was answered and written; 2 the words are refused; 3 it gave up, with one line on standard error.
-
-Limits: 1,048,576 bytes of rules, 16,777,216 bytes of input, 4,096 bytes a path.";
-
-const ABOUT_CHECK: &str =
-    "Says of each path on standard input, one a line, what the rules of FILE say";
-
-const AFTER_CHECK: &str =
-    "A slash at the end of a path means a directory. Each line of output is a word, a tab and the path:
-
-  ignored   the last rule that matches ignores it
-  included  the last rule that matches begins with !
-  none      no rule matches
-  below     a directory above it is ignored
-  bad       no entry of a tree can have this path
-
-Example: printf '%s\\n' main.c main.o build/ | lc check .gitignore";
-
-/// The command line, without the program's name.
-fn command<'a>(alloc: Global) -> Result<Command<'a>, AllocError> {
-    let file = Arg::new(alloc, "FILE")
-        .required(true)
-        .action(ArgAction::Set)
-        .help("An ignore file");
-    let check = Command::new(alloc, "check")
-        .about(ABOUT_CHECK)
-        .after_help(AFTER_CHECK)
-        .arg(file)?;
-    Command::new(alloc, "lc")
-        .about(ABOUT)
-        .after_help(AFTER)
-        .bin_name("lc")?
-        .version("0.1.0")
-        .no_binary_name(true)
-        .subcommand(check)
+/// The command line without the program's name, for what belongs to no command: help, the version, refusals.
+fn command<'a>(alloc: Global) -> Result<Command<'a>, AllocError>
+    ensures { IfOk result (IsCommandOf lc_app) }
+{
+    let count = count::command(alloc)?;
+    let check = check::command(alloc)?;
+    let command = bare(alloc)?.subcommand(count)?.subcommand(check)?;
+    Ok(command)
 }
 
-/// What an error of `clap` says.
-fn explained(alloc: Global, error: &Error) -> Result<NoRequest, AllocError> {
-    if error.kind() == ErrorKind::OutOfMemory {
-        return Ok(NoRequest::Memory);
-    }
-    let text = format!(in alloc; "{error}")?;
+/// What an error of `clap` says, with an example where an argument is missing.
+fn explained(alloc: Global, error: &Error, example: &str) -> NoRequest
+    ensures { Explains error.now result }
+{
+    let text = match error.kind() {
+        ErrorKind::OutOfMemory => return NoRequest::Memory,
+        ErrorKind::MissingRequiredArgument => format!(in alloc; "{error}\nExample: {example}\n"),
+        _ => format!(in alloc; "{error}"),
+    };
+    let Ok(text) = text else {
+        return NoRequest::Memory;
+    };
     if error.use_stderr() {
-        Ok(NoRequest::Refused(text))
+        NoRequest::Refused(text)
     } else {
-        Ok(NoRequest::Shown(text))
+        NoRequest::Shown(text)
+    }
+}
+
+/// What words ask for that name no command.
+fn read_others<'w, W: AsStr>(alloc: Global, words: &'w [W]) -> Result<Request<'w>, NoRequest>
+    ensures { AnswersOthers (map W.text words.entry.now) result }
+{
+    let Ok(command) = command(alloc) else {
+        return Err(NoRequest::Memory);
+    };
+    match command.try_get_matches_from(words) {
+        // As `--` alone.
+        Ok(_) => Ok(Request::CheckJoined),
+        Err(error) => Err(explained(alloc, &error, help::EXAMPLE)),
     }
 }
 
 impl<'w> Request<'w> {
     /// What the words after the program's name ask for.
-    pub(crate) fn read<W: AsStr>(alloc: Global, words: &'w [W]) -> Result<Request<'w>, NoRequest> {
-        if words.is_empty() {
+    ///
+    /// A command reads the words after its name by itself, so that what it reads of them is known to lie in its ranges.
+    pub(crate) fn read<W: AsStr>(alloc: Global, words: &'w [W]) -> Result<Request<'w>, NoRequest>
+        ensures { AnswersWords (map W.text words.entry.now) result }
+    {
+        let Some((first, rest)) = words.split_first() else {
             return Ok(Request::CheckJoined);
-        }
-        let matches = match command(alloc)?.try_get_matches_from(words) {
-            Ok(matches) => matches,
-            Err(error) => return Err(explained(alloc, &error)?),
         };
-        match matches.subcommand() {
-            Some((_check, asked)) => Ok(Request::Check {
-                file: asked.get_str("FILE").unwrap_or(""),
-            }),
-            None => Ok(Request::CheckJoined),
+        if first.as_str() == "count" {
+            return match CountRequest::read(alloc, rest) {
+                Ok(asked) => Ok(Request::Count(asked)),
+                Err(no) => Err(no),
+            };
         }
+        if first.as_str() == "check" {
+            return match check::read(alloc, rest) {
+                Ok(file) => Ok(Request::Check { file }),
+                Err(no) => Err(no),
+            };
+        }
+        read_others(alloc, words)
     }
 }

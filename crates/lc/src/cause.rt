@@ -1,12 +1,24 @@
 //! Why the program gives up, and what it says then on standard error.
 
+ghost use Rattle.std.specs.Prelude.{◌≡◌, IfOk};
+ghost use Rattle.lc.specs.Causes.{cause_line, check_cause, rules_cause, run_cause};
+ghost use Rattle.lc.specs.declared.cause.Cause.TheVariants.{Memory};
+
 use crate::check::CheckFault;
 use crate::rules_file::RulesFileFault;
+use crate::run::RunFault;
+use lc_walk::WalkFault;
+use std::alloc::{AllocError, AllocFailed, Global};
+use std::io::Write;
 
 /// Why the program gives up. Each is one line on standard error and the status 3.
 #[derive(Debug, Clone, Copy, PartialEq, Eq)]
 pub(crate) enum Cause {
     Memory,
+    TooManyDirs,
+    TooDeep,
+    Torn(u32),
+    Mismatch(u32),
     UnreadRules,
     RulesTooLong,
     UnreadInput,
@@ -16,19 +28,49 @@ pub(crate) enum Cause {
 
 impl Cause {
     /// The line, with its line feed.
-    pub(crate) fn line(self) -> &'static str {
+    pub(crate) fn line(self, alloc: Global) -> Result<Vec<u8>, AllocError>
+        ensures { IfOk result (λ line. line.items ≡ cause_line self) }
+    {
+        let mut line = Vec::new(alloc);
         match self {
-            Cause::Memory => "lc: out of memory\n",
-            Cause::UnreadRules => "lc: cannot read rules\n",
-            Cause::RulesTooLong => "lc: rules too long\n",
-            Cause::UnreadInput => "lc: cannot read input\n",
-            Cause::InputTooLong => "lc: input too long\n",
-            Cause::Unwritten => "lc: cannot write\n",
+            Cause::Memory => line.extend_from_slice(b"lc: out of memory\n")?,
+            Cause::TooManyDirs => line.extend_from_slice(b"lc: too many directories\n")?,
+            Cause::TooDeep => line.extend_from_slice(b"lc: path too deep\n")?,
+            Cause::Torn(number) => {
+                writeln!(line, "lc: internal: directory {number} torn").map_err(|_| AllocError)?;
+            }
+            Cause::Mismatch(worker) => {
+                writeln!(line, "lc: internal: worker {worker} mismatch").map_err(|_| AllocError)?;
+            }
+            Cause::UnreadRules => line.extend_from_slice(b"lc: cannot read rules\n")?,
+            Cause::RulesTooLong => line.extend_from_slice(b"lc: rules too long\n")?,
+            Cause::UnreadInput => line.extend_from_slice(b"lc: cannot read input\n")?,
+            Cause::InputTooLong => line.extend_from_slice(b"lc: input too long\n")?,
+            Cause::Unwritten => line.extend_from_slice(b"lc: cannot write\n")?,
         }
+        Ok(line)
+    }
+}
+
+impl From<AllocError> for Cause {
+    ghost from_gives = { λ _ cause. cause ≡ Memory };
+
+    fn from(_refused: AllocError) -> Cause {
+        Cause::Memory
+    }
+}
+
+impl<T: Drop> From<AllocFailed<T>> for Cause {
+    ghost from_gives = { λ _ cause. cause ≡ Memory };
+
+    fn from(_refused: AllocFailed<T>) -> Cause {
+        Cause::Memory
     }
 }
 
 impl From<RulesFileFault> for Cause {
+    ghost from_gives = { λ rules cause. cause ≡ rules_cause rules };
+
     fn from(fault: RulesFileFault) -> Cause {
         match fault {
             RulesFileFault::Unread => Cause::UnreadRules,
@@ -39,6 +81,8 @@ impl From<RulesFileFault> for Cause {
 }
 
 impl From<CheckFault> for Cause {
+    ghost from_gives = { λ check cause. cause ≡ check_cause check };
+
     fn from(fault: CheckFault) -> Cause {
         match fault {
             CheckFault::Read => Cause::UnreadInput,
@@ -46,6 +90,21 @@ impl From<CheckFault> for Cause {
             CheckFault::RulesTooLong => Cause::RulesTooLong,
             CheckFault::Memory => Cause::Memory,
             CheckFault::Write => Cause::Unwritten,
+        }
+    }
+}
+
+impl From<RunFault> for Cause {
+    ghost from_gives = { λ run cause. cause ≡ run_cause run };
+
+    fn from(fault: RunFault) -> Cause {
+        match fault {
+            RunFault::Walk(WalkFault::Memory) | RunFault::Memory => Cause::Memory,
+            RunFault::Walk(WalkFault::TooManyDirs) => Cause::TooManyDirs,
+            RunFault::Walk(WalkFault::TooDeep) => Cause::TooDeep,
+            RunFault::Walk(WalkFault::Torn(number)) => Cause::Torn(number),
+            RunFault::Walk(WalkFault::Mismatch(worker)) => Cause::Mismatch(worker),
+            RunFault::Write => Cause::Unwritten,
         }
     }
 }

@@ -1,4 +1,5 @@
-//! The program `lc`: it says which paths the rules of an ignore file leave out.
+//! The program `lc`: it counts the files and lines of a directory without what Git would ignore, and says which paths the
+//! rules of an ignore file leave out.
 #![tactic(auto)]
 
 mod arguments;
@@ -9,6 +10,7 @@ mod laws;
 mod print;
 mod program;
 mod rules_file;
+mod run;
 mod sink;
 mod table;
 #[cfg(test)]
@@ -19,17 +21,24 @@ use lc_census::StdSource;
 use sink::StdSink;
 use std::alloc::AllocError;
 use std::env;
+use std::io::ErrorKind;
 use std::process::ExitCode;
 
 fn main(rt: HostRuntime) -> ExitCode {
     let mut err = StdSink(rt.stderr());
-    // A word that is not text names nothing that the program could be asked for.
-    let Ok(words) = env::args(&rt) else {
-        return ExitCode::from(program::misuse("lc: a word is not UTF-8\n", &mut err));
+    let words = match env::args(&rt) {
+        Ok(words) => words,
+        // A word that is not text names nothing that the program could be asked for.
+        Err(fault) if fault.kind() == ErrorKind::InvalidData => {
+            return ExitCode::from(program::misuse("lc: a word is not UTF-8\n", &mut err).status());
+        }
+        Err(_) => {
+            return ExitCode::from(program::give_up(rt.alloc(), Cause::Memory, &mut err).status());
+        }
     };
     let words: Result<Vec<String>, AllocError> = words.skip(1).collect(rt.alloc());
     let Ok(words) = words else {
-        return ExitCode::from(program::give_up(Cause::Memory, &mut err));
+        return ExitCode::from(program::give_up(rt.alloc(), Cause::Memory, &mut err).status());
     };
     let mut input = StdSource(rt.stdin());
     let mut out = StdSink(rt.stdout());

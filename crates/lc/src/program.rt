@@ -1,98 +1,217 @@
 //! The program but for its streams.
 
-ghost use Rattle.std.specs.Prelude.{◌≡◌, ◌⊎◌, OnOk};
-ghost use Rattle.lc.specs.Check.{HasChecked, HasAnswered};
-ghost use Rattle.lc.specs.Writes.{Writes};
+ghost use Rattle.std.specs.Prelude.{◌≡◌, Err, IfErr, IfOk, is_some, map};
+ghost use Rattle.lc.specs.Words.{IsWithinLimits, IsCountWithinLimits};
+ghost use Rattle.lc.specs.Program.{Tells, TellsCause, EndsShown, Ends, status_of};
+ghost use Rattle.lc.specs.Requests.{IsWithoutRules, AnswersFile, AnswersJoined, AnswersCount, AnswersRequest};
+ghost use Rattle.lc.specs.declared.program.Ending.{Ending};
+ghost use Rattle.lc.specs.declared.program.Ending.TheVariants as ending;
 
-use crate::arguments::{NoRequest, Request};
+use crate::arguments::{CountRequest, NoRequest, Request};
 use crate::cause::Cause;
 use crate::check::{check, check_joined};
 use crate::print::print;
 use crate::rules_file::read_rules;
+use crate::run::{Outcome, run};
 use crate::sink::Sink;
 use lc_census::Source;
+use lc_rules::IgnoreFile;
+use lc_tree::SysTree;
+use lc_walk::Options;
+use std::alloc::{AllocError, Global};
 use std::convert::AsStr;
 use std::rt::Files;
+use std::sync::{Arc, Wait};
+use std::thread::Threads;
 
-/// The status of a run that did what it was asked for.
-const DONE: u8 = 0;
-
-/// The status of a command line that is refused.
-const MISUSED: u8 = 2;
-
-/// The status of a run that gave up.
-const GAVE_UP: u8 = 3;
-
-fn answer<R: Files + AllocGlobal, S: Source, O: Sink>(
-    rt: &R,
-    request: Request,
-    input: &mut S,
-    out: &mut O,
-) -> Result<(), Cause>
-    ensures { OnOk result (HasChecked S.may_give O.may_take input.old out.old input.new out.new) }
-{
-    match request {
-        Request::CheckJoined => check_joined(rt.alloc(), input, out)?,
-        Request::Check { file } => {
-            let rules = read_rules(rt, file)?;
-            check(rt.alloc(), &rules, input, out)?;
-        }
-    }
-    Ok(())
+/// How a run of the program ends.
+#[derive(Debug, Clone, Copy, PartialEq, Eq)]
+pub enum Ending {
+    /// It did what it was asked for.
+    Done,
+    /// The table was written, and has a fault.
+    SomeFaults,
+    /// The words are refused.
+    Misused,
+    /// It gave up.
+    GaveUp(Cause),
 }
 
-/// Says why the words are refused; it gives the status.
-pub(crate) fn misuse<E: Sink>(why: &str, err: &mut E) -> u8
-    ensures { result ≡ 2 }
+impl Ending {
+    /// The status that tells of it.
+    pub fn status(self) -> u8
+        ensures { result ≡ status_of self }
+    {
+        match self {
+            Ending::Done => 0,
+            Ending::SomeFaults => 1,
+            Ending::Misused => 2,
+            Ending::GaveUp(_) => 3,
+        }
+    }
+}
+
+/// Says why the words are refused.
+pub(crate) fn misuse<E: Sink>(why: &str, err: &mut E) -> Ending
+    ensures ending { result ≡ ending.Misused }
+    ensures told { Tells E.may_take err.old why.now err.new }
 {
     // The status says it too, so a text that can't be written changes nothing.
     let _ = print(err, why.as_bytes());
-    MISUSED
+    Ending::Misused
 }
 
-/// Says why the program gives up; it gives the status.
-pub(crate) fn give_up<E: Sink>(cause: Cause, err: &mut E) -> u8
-    ensures { result ≡ 3 }
+/// Says why the program gives up.
+pub(crate) fn give_up<E: Sink>(alloc: Global, cause: Cause, err: &mut E) -> Ending
+    ensures ending { result ≡ ending.GaveUp cause }
+    ensures told { TellsCause E.may_take err.old cause err.new }
 {
-    let _ = print(err, cause.line().as_bytes());
-    GAVE_UP
+    let _ = match cause.line(alloc) {
+        Ok(line) => print(err, &line),
+        Err(AllocError) => print(err, b"lc: out of memory\n"),
+    };
+    Ending::GaveUp(cause)
 }
 
-/// Writes help or the version; it gives the status.
-fn show<O: Sink, E: Sink>(text: &str, out: &mut O, err: &mut E) -> u8
-    ensures statuses { (result ≡ 0) ⊎ (result ≡ 3) }
-    ensures done { result ≡ 0 → Writes O.may_take out.old text.now out.new }
+/// Writes help or the version.
+fn show<O: Sink, E: Sink>(alloc: Global, text: &str, out: &mut O, err: &mut E) -> Ending
+    ensures { EndsShown O.may_take E.may_take text.now out.old err.old result out.new err.new }
 {
     match print(out, text.as_bytes()) {
-        Ok(()) => DONE,
-        Err(_) => give_up(Cause::Unwritten, err),
+        Ok(()) => Ending::Done,
+        Err(_) => give_up(alloc, Cause::Unwritten, err),
     }
 }
 
-/// The whole program but for its streams, given the words after its name. It gives the status: 0 done, 2 the words are
-/// refused, 3 it gave up, with one line on `err`.
-///
-/// - no words: `input` has the lines of an ignore file, then a line `--`, then paths ([`check_joined`]);
-/// - `check FILE`: the rules are those of FILE, which is read first, and `input` has the paths ([`check`]).
-pub fn program<R: Files + AllocGlobal, W: AsStr, S: Source, O: Sink, E: Sink>(
+/// Reads the rules of a file, and checks the paths of the input.
+fn check_file<R: Files + AllocGlobal, S: Source, O: Sink>(
+    rt: &R,
+    file: &str,
+    input: &mut S,
+    out: &mut O,
+) -> Result<Outcome, Cause>
+    ensures { AnswersFile S.may_give O.may_take input.old out.old result input.new out.new }
+{
+    let rules = read_rules(rt, file)?;
+    check(rt.alloc(), &rules, input, out)?;
+    Ok(Outcome::Clean)
+}
+
+/// Checks the paths of the input by the rules before them.
+fn check_input<S: Source, O: Sink>(
+    alloc: Global,
+    input: &mut S,
+    out: &mut O,
+) -> Result<Outcome, Cause>
+    ensures { AnswersJoined S.may_give O.may_take input.old out.old result input.new out.new }
+{
+    check_joined(alloc, input, out)?;
+    Ok(Outcome::Clean)
+}
+
+/// The rules of the file that the words name for the whole tree, if they name one.
+fn excluded<R: Files + AllocGlobal>(
+    rt: &R,
+    file: Option<&str>,
+) -> Result<Option<Arc<IgnoreFile, Global>>, Cause>
+    ensures some { IfOk result (λ rules. is_some rules ≡ is_some file.entry) }
+    ensures none { IfErr result (λ cause. IsWithoutRules (Err cause)) }
+{
+    let Some(file) = file else {
+        return Ok(None);
+    };
+    let rules = read_rules(rt, file)?;
+    Ok(Some(Arc::new(rt.alloc(), rules)?))
+}
+
+/// Counts a directory of the system.
+fn count<R: Files + Threads + Wait + Sync + AllocGlobal, O: Sink>(
+    rt: &R,
+    asked: &CountRequest<'_>,
+    out: &mut O,
+) -> Result<Outcome, Cause>
+where
+    R::File: Send,
+    R::Dir: Send,
+    requires limits { IsCountWithinLimits asked.now }
+    ensures { AnswersCount O.may_take asked.now out.old result out.new }
+{
+    let exclude = excluded(rt, asked.exclude_from)?;
+    let tree = SysTree::new(rt, rt.alloc(), asked.directory)?;
+    let options = Options {
+        threads: asked.threads,
+        max_dirs: asked.max_dirs,
+        files: asked.files,
+        exclude,
+        archive: asked.archive,
+    };
+    let outcome = run(rt, rt.alloc(), &tree, &options, out)?;
+    Ok(outcome)
+}
+
+fn answer<R: Files + Threads + Wait + Sync + AllocGlobal, S: Source, O: Sink>(
+    rt: &R,
+    request: &Request<'_>,
+    input: &mut S,
+    out: &mut O,
+) -> Result<Outcome, Cause>
+where
+    R::File: Send,
+    R::Dir: Send,
+    requires limits { IsWithinLimits request.now }
+    ensures { AnswersRequest S.may_give O.may_take request.now input.old out.old result input.new out.new }
+{
+    match request {
+        Request::CheckJoined => check_input(rt.alloc(), input, out),
+        Request::Check { file } => check_file(rt, file, input, out),
+        Request::Count(asked) => count(rt, asked, out),
+    }
+}
+
+/// The program but for its streams and its status.
+fn end_of<R: Files + Threads + Wait + Sync + AllocGlobal, W: AsStr, S: Source, O: Sink, E: Sink>(
     rt: &R,
     words: &[W],
     input: &mut S,
     out: &mut O,
     err: &mut E,
-) -> u8
-    ensures statuses { (result ≡ 0) ⊎ ((result ≡ 2) ⊎ (result ≡ 3)) }
-    ensures done { result ≡ 0 → HasAnswered S.may_give O.may_take input.old out.old input.new out.new }
-    ensures misused { result ≡ 2 → (input.new ≡ input.old) × (out.new ≡ out.old) }
+) -> Ending
+where
+    R::File: Send,
+    R::Dir: Send,
+    ensures { Ends S.may_give O.may_take E.may_take (map W.text words.now) input.old out.old err.old result input.new out.new err.new }
 {
     let request = match Request::read(rt.alloc(), words) {
         Ok(request) => request,
-        Err(NoRequest::Shown(text)) => return show(&text, out, err),
+        Err(NoRequest::Shown(text)) => return show(rt.alloc(), &text, out, err),
         Err(NoRequest::Refused(why)) => return misuse(&why, err),
-        Err(NoRequest::Memory) => return give_up(Cause::Memory, err),
+        Err(NoRequest::Memory) => return give_up(rt.alloc(), Cause::Memory, err),
     };
-    match answer(rt, request, input, out) {
-        Ok(()) => DONE,
-        Err(cause) => give_up(cause, err),
+    match answer(rt, &request, input, out) {
+        Ok(Outcome::Clean) => Ending::Done,
+        Ok(Outcome::SomeFaults) => Ending::SomeFaults,
+        Err(cause) => give_up(rt.alloc(), cause, err),
     }
+}
+
+/// The whole program but for its streams, given the words after its name. It gives the status: 0 done, 1 the table that was
+/// written has a fault, 2 the words are refused, 3 it gave up, with one line on `err`.
+///
+/// - no words: `input` has the lines of an ignore file, then a line `--`, then paths ([`check_joined`]);
+/// - `check FILE`: the rules are those of FILE, which is read first, and `input` has the paths ([`check`]);
+/// - `count DIR`: the table of a directory of the system ([`run`]); a file of `--exclude-from` is read before the walk.
+pub fn program<
+    R: Files + Threads + Wait + Sync + AllocGlobal,
+    W: AsStr,
+    S: Source,
+    O: Sink,
+    E: Sink,
+>(rt: &R, words: &[W], input: &mut S, out: &mut O, err: &mut E) -> u8
+where
+    R::File: Send,
+    R::Dir: Send,
+    ensures { (ending : Ending) × (result ≡ status_of ending)
+        × Ends S.may_give O.may_take E.may_take (map W.text words.now) input.old out.old err.old ending input.new out.new err.new }
+{
+    end_of(rt, words, input, out, err).status()
 }

@@ -1,5 +1,6 @@
 -- What is said of a number that has ended stays, and each end of a legal history is that of its number.
 use Rattle.std.proofs.Common.{◌≡◌, ◌≢◌, ℕ, ◌==◌, Bool, true, false, cond, List, [], ◌∷◌, ◌++◌, refl, sym, ◌∙◌, ap, subst, Option, Some, None}
+use Rattle.std.specs.List.{AllByRecursion}
 use Rattle.lc_board.specs.State.{Status, Absent, Open, Claimed, Returned, Faulted, status}
 use Rattle.lc_board.specs.Part.{part}
 use Rattle.lc_board.specs.LegalHistory.{IsLegal}
@@ -12,7 +13,7 @@ use Rattle.lc_board.specs.declared.answers.Ended.{Ended}
 use Rattle.lc_board.specs.declared.answers.Ended.TheVariants as ended
 use Rattle.lc_board.proofs.Places.{at_same, at_other}
 use Rattle.lc_board.proofs.NumbersOnce.{ended_has_row}
-use Rattle.lc_board.proofs.Weights.{Each, each-map}
+use Rattle.lc_board.proofs.Weights.{each-map}
 
 none_some : {A : Type 0} (x : A) → None ≡ Some x → ⊥
 none_some x e = absurd (cc e)
@@ -75,7 +76,7 @@ module _ {J R : Type 0} where
   still : (c n : ℕ) (h : List (Event J R)) (t : Event J R) → IsLegal c n (t ∷ h) → (x : ℕ × Ended R) → IsGiven h x → IsGiven (t ∷ h) x
   still c n h t l x g = let s = stays_after c n h t l x.0 x.1 g in s.given ∙ g
 
-  pub ends_given : (c n : ℕ) (h : List (Event J R)) → IsLegal c n h → Each (IsGiven h) (ends h)
+  pub ends_given : (c n : ℕ) (h : List (Event J R)) → IsLegal c n h → AllByRecursion (IsGiven h) (ends h)
   ends_given c n [] l = tt
   ends_given c n (Post w p i j ∷ h) l = each-map (IsGiven h) (IsGiven (Post w p i j ∷ h)) (still c n h (Post w p i j) l) (ends h) (ends_given c n h l.0)
   ends_given c n (Claim w i j ∷ h) l = each-map (IsGiven h) (IsGiven (Claim w i j ∷ h)) (still c n h (Claim w i j) l) (ends h) (ends_given c n h l.0)
@@ -89,15 +90,15 @@ module _ {J R : Type 0} where
 
   -- ---- the ends of a worker's part are ends of the whole
 
-  in_none : (Q : (ℕ × Ended R) → Type 0) (e : Event J R) (q : List (Event J R)) → ends (e ∷ q) ≡ ends q → (b : Bool) → Each Q (ends q) → Each Q (ends (cond b (e ∷ q) q))
-  in_none Q e q same true a = subst (Each Q) (sym same) a
+  in_none : (Q : (ℕ × Ended R) → Type 0) (e : Event J R) (q : List (Event J R)) → ends (e ∷ q) ≡ ends q → (b : Bool) → AllByRecursion Q (ends q) → AllByRecursion Q (ends (cond b (e ∷ q) q))
+  in_none Q e q same true a = subst (AllByRecursion Q) (sym same) a
   in_none Q e q same false a = a
 
-  in_one : (Q : (ℕ × Ended R) → Type 0) (e : Event J R) (x : ℕ × Ended R) (q : List (Event J R)) → ends (e ∷ q) ≡ x ∷ ends q → (b : Bool) → Q x → Each Q (ends q) → Each Q (ends (cond b (e ∷ q) q))
-  in_one Q e x q one true y a = subst (Each Q) (sym one) (y, a)
+  in_one : (Q : (ℕ × Ended R) → Type 0) (e : Event J R) (x : ℕ × Ended R) (q : List (Event J R)) → ends (e ∷ q) ≡ x ∷ ends q → (b : Bool) → Q x → AllByRecursion Q (ends q) → AllByRecursion Q (ends (cond b (e ∷ q) q))
+  in_one Q e x q one true y a = subst (AllByRecursion Q) (sym one) (y, a)
   in_one Q e x q one false y a = a
 
-  pub part_ends : (Q : (ℕ × Ended R) → Type 0) (w : ℕ) (h : List (Event J R)) → Each Q (ends h) → Each Q (ends (part w h))
+  pub part_ends : (Q : (ℕ × Ended R) → Type 0) (w : ℕ) (h : List (Event J R)) → AllByRecursion Q (ends h) → AllByRecursion Q (ends (part w h))
   part_ends Q w [] a = tt
   part_ends Q w (Post v p i j ∷ h) a = in_none Q (Post v p i j) (part w h) refl (v == w) (part_ends Q w h a)
   part_ends Q w (Claim v i j ∷ h) a = in_none Q (Claim v i j) (part w h) refl (v == w) (part_ends Q w h a)

@@ -1,5 +1,6 @@
 -- From what is said of each end in its worker's part to what is said of the ends in the whole history.
 use Rattle.std.proofs.Common.{◌≡◌, ◌≢◌, ℕ, zero, suc, ◌<◌, ◌==◌, Bool, true, false, cond, List, [], ◌∷◌, length, slice_get, map, refl, sym, ◌∙◌, ap, subst, Option, Some, None, arith}
+use Rattle.std.specs.List.{AllByRecursion}
 use Rattle.std.proofs.lemmas.Option.{slice_get_within}
 use Rattle.lc_board.specs.State.{Claimed, status}
 use Rattle.lc_board.specs.Part.{worker_of, part}
@@ -17,7 +18,7 @@ use Rattle.lc_board.specs.declared.answers.Ended.TheVariants as ended
 use Rattle.lc_board.proofs.Places.{at_same, at_other, each}
 use Rattle.lc_board.proofs.Growths.{at_put, put_here, put_else, part_own, part_else}
 use Rattle.lc_board.proofs.HeldClaims.{part_tells_claim}
-use Rattle.lc_board.proofs.Weights.{Each, each-map}
+use Rattle.lc_board.proofs.Weights.{each-map}
 use Rattle.lc_board.proofs.EndedNumbers.{IsGiven, stays_after, ender_stays, ends_given, claimed_has_no_row, part_ends, no_end}
 
 same_some : {A : Type 0} (x y : A) → Some x ≡ Some y → x ≡ y
@@ -35,7 +36,7 @@ no_witness Q [] x = refl
 no_witness Q (a ∷ given) x = absurd x
 
 -- a witness by another function that says the same at each end
-map_on : {R A : Type 0} (f g : ℕ → A) (xs : List (ℕ × Ended R)) → Each (λ x. f x.0 ≡ g x.0) xs → map (λ x. f x.0) xs ≡ map (λ x. g x.0) xs
+map_on : {R A : Type 0} (f g : ℕ → A) (xs : List (ℕ × Ended R)) → AllByRecursion (λ x. f x.0 ≡ g x.0) xs → map (λ x. f x.0) xs ≡ map (λ x. g x.0) xs
 map_on f g [] a = refl
 map_on f g (x ∷ xs) a = ap (λ y. y ∷ map (λ z. f z.0) xs) a.0 ∙ ap (λ ys. g x.0 ∷ ys) (map_on f g xs a.1)
 

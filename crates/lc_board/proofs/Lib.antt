@@ -20,6 +20,7 @@ pub mod Weaving
 pub mod Closing
 pub mod ReturnedPasses
 pub mod Growths
+pub mod WordCodes
 pub mod WordsMoved
 pub mod WordClaims
 pub mod WordPosts

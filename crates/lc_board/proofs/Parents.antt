@@ -1,11 +1,11 @@
 -- Each number of a legal history but 0 was posted under exactly one number, once.
 use Rattle.std.proofs.Common.{◌≡◌, ◌≢◌, ℕ, ◌<◌, ◌==◌, Bool, true, false, cond, List, [], ◌∷◌, ◌++◌, refl, sym, ◌∙◌, ap, arith, subst, ◌⊎◌, inl, inr, eq-eqb}
+use Rattle.std.specs.List.{AllByRecursion}
 use Rattle.std.proofs.lemmas.Bool.{eqb-true}
 use Rattle.lc_board.specs.State.{Absent, Open, Claimed, status}
 use Rattle.lc_board.specs.LegalHistory.{posts_under, IsLegal}
 use Rattle.lc_board.specs.declared.event.Event.{Event}
 use Rattle.lc_board.specs.declared.event.Event.TheVariants.{Post, Claim, Return, Fault, Over}
-use Rattle.lc_board.proofs.Weights.{Each}
 use Rattle.lc_board.proofs.PostedNumbers.{persist, was_there, Known, known}
 
 -- the number was posted
@@ -32,7 +32,7 @@ in_either k (x ∷ xs) y (inr i) = at (in_either k xs y i)
     at (inl j) = inl (inr j)
     at (inr e) = inr e
 
-pub each_in : {J : Type 0} (P : (ℕ × J) → Type 0) (k : ℕ) (cs : List (ℕ × J)) → Each P cs → IsIn k cs → (c : ℕ × J) × P c × (c.0 ≡ k)
+pub each_in : {J : Type 0} (P : (ℕ × J) → Type 0) (k : ℕ) (cs : List (ℕ × J)) → AllByRecursion P cs → IsIn k cs → (c : ℕ × J) × P c × (c.0 ≡ k)
 each_in P k [] a i = absurd i
 each_in P k (c ∷ cs) a (inl e) = (c, a.0, e)
 each_in P k (c ∷ cs) a (inr i) = each_in P k cs a.1 i

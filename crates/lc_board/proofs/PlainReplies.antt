@@ -2,12 +2,15 @@
 use Rattle.std.proofs.Common.{◌≡◌, ◌≢◌, ℕ, zero, suc, ◌<◌, ◌≤◌, ◌+◌, List, [], ◌∷◌, ◌++◌, length, slice_get, slice_set, slice_index_or, Option, Some, None, Ok, IfSome, refl, sym, ◌∙◌, ap, subst, arith}
 use Rattle.std.proofs.lemmas.List.{length-set}
 use Rattle.std.proofs.lemmas.Option.{slice_get_within, slice_get_read}
-use Rattle.lc_board.specs.PlainBoard.{Board, held_by, cell_at, Adds, posts_in, posts_by, posts_at}
+use Rattle.lc_board.specs.PlainBoard.{Board, held_by, cell_at, IsAfter, Adds, posts_in, posts_by, posts_at}
 use Rattle.lc_board.specs.PlainCalls.{IsOpen, IsHeld, IsLeft, NoneOpen, NoneHeld, AnswersClaim, AnswersPost}
 use Rattle.lc_board.specs.PlainFields.{IsSound, IsHeldBy}
-use Rattle.lc_board.specs.declared.event.Event.TheVariants.{Post, Return, Fault}
+use Rattle.lc_board.specs.Ending.{MayEnd, end_event}
+use Rattle.lc_board.specs.declared.event.Event.{Event}
+use Rattle.lc_board.specs.declared.event.Event.TheVariants.{Post}
 use Rattle.lc_board.specs.declared.plain.cell.Cell.{Cell}
 use Rattle.lc_board.specs.declared.plain.cell.Cell.TheVariants.{Waiting, Held, Done}
+use Rattle.lc_board.specs.declared.answers.Ended.{Ended}
 use Rattle.lc_board.specs.declared.answers.Ended.TheVariants as ended
 use Rattle.lc_board.specs.declared.answers.Claim.TheVariants as answer
 use Rattle.lc_board.proofs.PlainSteps.{after_claim, after_over, after_post, after_return, after_fault, held_is}
@@ -82,34 +85,27 @@ module _ {J R : Type 0} where
       } in
       (refl, subst (λ o. IfSome o (λ q. Adds b (Post w q (length b.cells) j) new)) (sym had) adds, refl)
 
-  pub give_ok : (m w i : ℕ) (r : R) (b : Board J R) → IsSound m b → held_by b w ≡ Some i → w < length b.held
-      → IfSome (held_by b w) (λ q. Adds b (Return w q r) (record { capacity = b.capacity; held = slice_set b.held w None; cells = slice_set b.cells i (Done (ended.Returned r)) }))
-  give_ok m w i r b s had low =
-      let new : Board J R = record { capacity = b.capacity; held = slice_set b.held w None; cells = slice_set b.cells i (Done (ended.Returned r)) } in
-      let count : length (slice_set b.held w None) ≡ length b.held = simp length-set in
-      let here = held_here m w i b s had in
-      let adds : Adds b (Return w i r) new = record {
-        capacity = refl;
-        workers = count;
-        goes_on = λ root h a. after_return root h b new w i here.0 r a refl count low here.2 here.1 refl;
-      } in
-      subst (λ o. IfSome o (λ q. Adds b (Return w q r) new)) (sym had) adds
+  -- the board after the end of a claim
+  abbrev ended_board : ℕ → ℕ → Ended R → Board J R → Board J R
+  ended_board w i e b = record { capacity = b.capacity; held = slice_set b.held w None; cells = slice_set b.cells i (Done e) }
 
-  pub fault_ok : (m w i : ℕ) (r : R) (b : Board J R) → IsSound m b → held_by b w ≡ Some i → w < length b.held → posts_by b w ≡ 0
-      → IfSome (held_by b w) (λ q. Adds b (Fault w q r) (record { capacity = b.capacity; held = slice_set b.held w None; cells = slice_set b.cells i (Done (ended.Faulted r)) }))
-  fault_ok m w i r b s had low none =
-      let new : Board J R = record { capacity = b.capacity; held = slice_set b.held w None; cells = slice_set b.cells i (Done (ended.Faulted r)) } in
-      let count : length (slice_set b.held w None) ≡ length b.held = simp length-set in
+  ended_after : (m w i : ℕ) (e : Ended R) (b : Board J R) → IsSound m b → held_by b w ≡ Some i → w < length b.held → MayEnd (posts_by b w) e
+      → (root : J) (h : List (Event J R)) → IsAfter root h b → IsAfter root (end_event w i e ∷ h) (ended_board w i e b)
+  ended_after m w i (ended.Returned r) b s had low may root h a =
       let here = held_here m w i b s had in
-      let few : posts_in (cell_at b i) ≡ 0 = subst (λ o. posts_at b o ≡ 0) had none in
+      after_return root h b (ended_board w i (ended.Returned r) b) w i here.0 r a refl (length-set b.held w None) low here.2 here.1 refl
+  ended_after m w i (ended.Faulted r) b s had low may root h a =
+      let here = held_here m w i b s had in
+      let few : posts_in (cell_at b i) ≡ 0 = subst (λ o. posts_at b o ≡ 0) had may in
       let zero_posts : here.0 ≡ 0 = sym (ap posts_in here.1) ∙ few in
       let fresh : cell_at b i ≡ Some (Held w 0) = here.1 ∙ ap (λ n. Some (Held w n)) zero_posts in
-      let adds : Adds b (Fault w i r) new = record {
-        capacity = refl;
-        workers = count;
-        goes_on = λ root h a. after_fault root h b new w i r a refl count low here.2 fresh refl;
-      } in
-      subst (λ o. IfSome o (λ q. Adds b (Fault w q r) new)) (sym had) adds
+      after_fault root h b (ended_board w i (ended.Faulted r) b) w i r a refl (length-set b.held w None) low here.2 fresh refl
+
+  pub end_ok : (m w i : ℕ) (e : Ended R) (b : Board J R) → IsSound m b → held_by b w ≡ Some i → w < length b.held → MayEnd (posts_by b w) e
+      → IfSome (held_by b w) (λ q. Adds b (end_event w q e) (record { capacity = b.capacity; held = slice_set b.held w None; cells = slice_set b.cells i (Done e) }))
+  end_ok m w i e b s had low may =
+      let adds : Adds b (end_event w i e) (ended_board w i e b) = record { capacity = refl; workers = length-set b.held w None; goes_on = ended_after m w i e b s had low may } in
+      subst (λ o. IfSome o (λ q. Adds b (end_event w q e) (ended_board w i e b))) (sym had) adds
 
   -- what a place of a list is read as
   pub read : (xs : List (Cell J R)) (i : ℕ) (x : Cell J R) → i < length xs → x ≡ slice_index_or xs i x → slice_get xs i ≡ Some x

@@ -1,12 +1,13 @@
 -- The numbers of a legal history, and what is posted under them.
 use Rattle.std.proofs.Common.{◌≡◌, ◌≢◌, ℕ, ◌+◌, ◌<◌, ◌≤◌, ◌==◌, Bool, true, false, cond, List, [], ◌∷◌, ◌++◌, Option, Some, refl, sym, ◌∙◌, ap, arith, eq-eqb}
+use Rattle.std.specs.List.{AllByRecursion}
 use Rattle.std.proofs.lemmas.Bool.{eqb-true, ne_eqb}
 use Rattle.lc_board.specs.State.{Status, Absent, Open, Claimed, Returned, Faulted, status}
 use Rattle.lc_board.specs.LegalHistory.{posts_under, IsLegal}
 use Rattle.lc_board.specs.RowsInPlace.{job_posted}
 use Rattle.lc_board.specs.declared.event.Event.{Event}
 use Rattle.lc_board.specs.declared.event.Event.TheVariants.{Post, Claim, Return, Fault, Over}
-use Rattle.lc_board.proofs.Weights.{weigh, Each, weigh-append, weigh-sum, each-append, each-map, only, turned}
+use Rattle.lc_board.proofs.Weights.{weigh, weigh-append, weigh-sum, each-append, each-map, only, turned}
 
 -- the numbers of the state
 abbrev pub numbers : {J R : Type 0} → List (Event J R) → List ℕ
@@ -52,7 +53,7 @@ here : {A : Type 0} (b : Bool) (x y : Option A) → b ≡ true → cond b x y �
 here true x y e = refl
 here false x y e = cc
 
-each_cond : {A : Type 0} (P : A → Type 0) (b : Bool) (xs : List A) (x : A) → Each P xs → (b ≡ true → P x) → Each P (cond b (xs ++ x ∷ []) xs)
+each_cond : {A : Type 0} (P : A → Type 0) (b : Bool) (xs : List A) (x : A) → AllByRecursion P xs → (b ≡ true → P x) → AllByRecursion P (cond b (xs ++ x ∷ []) xs)
 each_cond P true xs x a y = each-append P xs (x ∷ []) a (y refl, tt)
 each_cond P false xs x a y = a
 
@@ -138,7 +139,7 @@ module _ {J R : Type 0} where
   once c n (Over w ∷ h) l p v a = once c n h l.0 p v a
 
   -- the numbers are present
-  pub all_present : (h : List (Event J R)) → Each (λ k. status h k ≢ Absent) (numbers h)
+  pub all_present : (h : List (Event J R)) → AllByRecursion (λ k. status h k ≢ Absent) (numbers h)
   all_present [] = (λ a. cc, tt)
   all_present (Post w q i j ∷ h) = (
     open_here (i == i) (status h i) (eq-eqb i i refl),
@@ -204,7 +205,7 @@ module _ {J R : Type 0} where
     inside = k.inside;
   }
 
-  pub known : (c n : ℕ) (top : J) (h : List (Event J R)) → IsLegal c n h → (p : ℕ) → Each (Known c top h p) (posts_under p h)
+  pub known : (c n : ℕ) (top : J) (h : List (Event J R)) → IsLegal c n h → (p : ℕ) → AllByRecursion (Known c top h p) (posts_under p h)
   known c n top [] l p = tt
   known c n top (Post w q i j ∷ h) l p =
       let low : q < i = l.2.3 in

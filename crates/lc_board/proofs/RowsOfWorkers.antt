@@ -19,7 +19,7 @@ use Rattle.lc_board.specs.declared.answers.Ended.TheVariants as ended
 use Rattle.lc_board.proofs.Places.{at_same, at_other}
 use Rattle.lc_board.proofs.Growths.{part_own, part_else}
 use Rattle.lc_board.proofs.NumbersOnce.{numbers_once, named}
-use Rattle.lc_board.proofs.Weights.{Each, each-map, only, times, permuted}
+use Rattle.lc_board.proofs.Weights.{each-map, only, times, permuted}
 use Rattle.lc_board.proofs.PostedNumbers.{start, within}
 use Rattle.lc_board.proofs.EndedNumbers.{IsGiven, ends_given, no_end, row_means_ended, claimed_has_no_row}
 
@@ -109,7 +109,7 @@ sum_flat f g (x ∷ xs) = sum_by-append f (g x) (flat_map g xs) ∙ ap (λ n. su
 abbrev number_of : {R : Type 0} → (ℕ × Ended R) → ℕ
 number_of x = x.0
 
-others_ended : {R : Type 0} (k : ℕ) (xs : List (ℕ × Ended R)) → Each (λ x. (k == x.0) ≡ false) xs → AllByRecursion (λ y. (k == y) ≡ false) (map number_of xs)
+others_ended : {R : Type 0} (k : ℕ) (xs : List (ℕ × Ended R)) → AllByRecursion (λ x. (k == x.0) ≡ false) xs → AllByRecursion (λ y. (k == y) ≡ false) (map number_of xs)
 others_ended k [] a = tt
 others_ended k (x ∷ xs) a = (a.0, others_ended k xs a.1)
 
@@ -117,7 +117,7 @@ same_length : {R : Type 0} (xs : List (ℕ × Ended R)) → length (map number_o
 same_length [] = refl
 same_length (x ∷ xs) = ap suc (same_length xs)
 
-with_rows : {R : Type 0} (d : Ended R) (rows : List (Ended R)) (xs : List (ℕ × Ended R)) → Each (λ x. slice_get rows x.0 ≡ Some x.1) xs → map (λ k. (k, or_else d (slice_get rows k))) (map number_of xs) ≡ xs
+with_rows : {R : Type 0} (d : Ended R) (rows : List (Ended R)) (xs : List (ℕ × Ended R)) → AllByRecursion (λ x. slice_get rows x.0 ≡ Some x.1) xs → map (λ k. (k, or_else d (slice_get rows k))) (map number_of xs) ≡ xs
 with_rows d rows [] a = refl
 with_rows d rows (x ∷ xs) a =
     ap (λ o. (x.0, or_else d o) ∷ map (λ k. (k, or_else d (slice_get rows k))) (map number_of xs)) a.0 ∙ ap (λ ys. x ∷ ys) (with_rows d rows xs a.1)
@@ -126,7 +126,7 @@ or_cases : (a b : Bool) → (a || b) ≡ true → (a ≡ true) ⊎ (b ≡ true)
 or_cases true b e = inl refl
 or_cases false b e = inr e
 
-below_any : {R : Type 0} (c q : ℕ) (xs : List (ℕ × Ended R)) → Each (λ x. x.0 < c) xs → list_any (λ y. q == y) (map number_of xs) ≡ true → q < c
+below_any : {R : Type 0} (c q : ℕ) (xs : List (ℕ × Ended R)) → AllByRecursion (λ x. x.0 < c) xs → list_any (λ y. q == y) (map number_of xs) ≡ true → q < c
 below_any c q [] a e = absurd (cc e)
 below_any c q (x ∷ xs) a e = at (or_cases (q == x.0) (list_any (λ y. q == y) (map number_of xs)) e) (below_any c q xs a.1)
   where

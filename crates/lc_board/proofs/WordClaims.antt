@@ -1,5 +1,5 @@
 -- A look at a word keeps the row of words, and so does a claim of an open number.
-use Rattle.std.proofs.Common.{◌≡◌, ◌≢◌, ℕ, eqb, subst, ◌+◌, ◌*◌, ◌%◌, ◌<◌, ◌≤◌, ◌⊎◌, Bool, true, false, List, [], ◌∷◌, length, get_or, set, sym, refl, ap, ◌∙◌, inl, inr, ⊎_elim, arith, length-set, Option, Some, None}
+use Rattle.std.proofs.Common.{◌≡◌, ◌≢◌, ℕ, eqb, subst, ◌+◌, ◌*◌, ◌<◌, ◌≤◌, ◌⊎◌, Bool, true, false, List, [], ◌∷◌, length, get_or, set, sym, refl, ap, ◌∙◌, inl, inr, ⊎_elim, arith, length-set, Option, Some, None}
 use mathlib.Core.Logic.{dite}
 use mathlib.Core.Option.{some, none}
 use native.Mathlib.Decide.{ℕ_discrete, dec_lt}
@@ -10,13 +10,16 @@ use Rattle.std.specs.Prelude.{MatchBool}
 use Rattle.std.proofs.lemmas.Bool.Decides.{nat_tests}
 use Rattle.atomic_table.specs.Table.{State, Act, keeps, takes, stepped, step, Allows, Valid, carried_after}
 use Rattle.atomic_table.proofs.Lists.{set_else, exchanged}
-use Rattle.lc_board.specs.State.{Absent, Open, Claimed, Returned, Faulted, status}
+use Rattle.lc_board.specs.State.{Absent, Open, Claimed, status}
 use Rattle.lc_board.specs.Part.{part}
 use Rattle.lc_board.specs.LegalHistory.{IsAllowed, IsLegal}
 use Rattle.lc_board.specs.Holding.{holding}
 use Rattle.lc_board.specs.Growth.{rank, put, job_at, IsMatched}
-use Rattle.lc_board.specs.WordRow.{WordState, drawn_by, plain, shown, code, Seated, Lies, Knows, IsRow}
-use Rattle.lc_board.specs.WordSteps.{IsFair, Looks, AddsEvent, Finds, Missed, looked, claimed, low_after, last_look}
+use Rattle.lc_board.specs.WordCode.{shown, code, word_of, is_absent, is_open, has_ended}
+use Rattle.lc_board.specs.WordRow.{Seated, Lies, Knows, IsRow}
+use Rattle.lc_board.specs.declared.words.coding.Word.{Word}
+use Rattle.lc_board.specs.declared.words.coding.Word.TheVariants as word
+use Rattle.lc_board.specs.WordSteps.{IsFair, Looks, AddsEvent, SomeHolds, Finds, Missed, looked, TakesJob, claimed, low_after, last_look}
 use Rattle.lc_board.specs.declared.event.Event.{Event}
 use Rattle.lc_board.specs.declared.event.Event.TheVariants.{Claim, Over}
 use Rattle.lc_board.specs.declared.words.view.Slot.{Slot}
@@ -24,53 +27,14 @@ use Rattle.lc_board.specs.declared.words.view.Slot.TheVariants.{Job}
 use Rattle.lc_board.specs.declared.words.view.View.{View}
 use Rattle.lc_board.proofs.HeldClaims.{part_tells_claim}
 use Rattle.lc_board.proofs.Growths.{at_put, put_else, longer, whole, rank_most, rank_from, part_own, part_else}
+use Rattle.lc_board.proofs.WordCodes.{decoded, absent_is, not_open, ended_rank}
 use Rattle.lc_board.proofs.WordsMoved.{apart_same, agree_put, held_is, IsNext, rebuilt, lies_stay, IsTurn, turned}
 
-pub is_absent : (c : WordState) → code c ≡ 0 → c ≡ plain Absent
-is_absent (drawn_by w) e = absurd (omega arith)
-is_absent (plain Absent) e = refl
-is_absent (plain Open) e = absurd (omega arith)
-is_absent (plain (Claimed w)) e = absurd (omega arith)
-is_absent (plain Returned) e = absurd (omega arith)
-is_absent (plain Faulted) e = absurd (omega arith)
+low_tells : (cap i low : ℕ) (x : Word) (z : ℕ) → z < low_after cap i low x → (z < low) ⊎ ((z ≡ i) × (has_ended x ≡ true))
+low_tells cap i low x z h = grind (arith, nat_tests)
 
-is_open : (c : WordState) → code c ≡ 1 → c ≡ plain Open
-is_open (drawn_by w) e = absurd (omega arith)
-is_open (plain Absent) e = absurd (omega arith)
-is_open (plain Open) e = refl
-is_open (plain (Claimed w)) e = absurd (omega arith)
-is_open (plain Returned) e = absurd (omega arith)
-is_open (plain Faulted) e = absurd (omega arith)
-
-pub is_ended : (c : WordState) → 2 ≤ code c → code c < 4 → rank (shown c) ≡ 3
-is_ended (drawn_by w) a b = absurd (omega arith)
-is_ended (plain Absent) a b = absurd (omega arith)
-is_ended (plain Open) a b = absurd (omega arith)
-is_ended (plain (Claimed w)) a b = absurd (omega arith)
-is_ended (plain Returned) a b = refl
-is_ended (plain Faulted) a b = refl
-
-pub is_busy : (c : WordState) → 4 ≤ code c → (w : ℕ) × ((c ≡ drawn_by w) ⊎ (c ≡ plain (Claimed w)))
-is_busy (drawn_by w) a = (w, inl refl)
-is_busy (plain Absent) a = absurd (omega arith)
-is_busy (plain Open) a = absurd (omega arith)
-is_busy (plain (Claimed w)) a = (w, inr refl)
-is_busy (plain Returned) a = absurd (omega arith)
-is_busy (plain Faulted) a = absurd (omega arith)
-
-is_claimed : (c : WordState) → 4 ≤ code c → code c % 2 ≡ 1 → rank (shown c) ≡ 2
-is_claimed (drawn_by w) a b = absurd (omega arith)
-is_claimed (plain Absent) a b = absurd (omega arith)
-is_claimed (plain Open) a b = absurd (omega arith)
-is_claimed (plain (Claimed w)) a b = refl
-is_claimed (plain Returned) a b = absurd (omega arith)
-is_claimed (plain Faulted) a b = absurd (omega arith)
-
-low_tells : (cap i low r z : ℕ) → z < low_after cap i low r → (z < low) ⊎ ((z ≡ i) × (2 ≤ r) × (r < 4))
-low_tells cap i low r z h = grind (arith, nat_tests)
-
-last_tells : (cap i low r : ℕ) → last_look cap i low r ≡ true → (low ≡ i) × ((r ≡ 0) ⊎ ((2 ≤ r) × (r < 4) × (i + 1 ≡ cap)))
-last_tells cap i low r h = grind (arith, nat_tests)
+last_tells : (cap i low : ℕ) (x : Word) → last_look cap i low x ≡ true → (low ≡ i) × ((is_absent x ≡ true) ⊎ ((has_ended x ≡ true) × (i + 1 ≡ cap)))
+last_tells cap i low x h = grind (arith, nat_tests)
 
 abbrev pub St : Type 0 → Type 0 → Type 0
 St J R = State (Slot J R) (View J R)
@@ -79,7 +43,7 @@ module _ {J R : Type 0} where
   abbrev pub updated : View J R → List (Event J R) → View J R
   updated v h = record v { seen = h }
 
-  pub knows_more : (root : Option J) (workers cap : ℕ) (h : List (Event J R)) (faces : ℕ → WordState) (owner : ℕ → Option ℕ) (me : ℕ) (v : View J R) → IsLegal cap workers h → Knows root workers h faces owner me v → Knows root workers h faces owner me (record v { seen = h })
+  pub knows_more : (root : Option J) (workers cap : ℕ) (h : List (Event J R)) (faces : ℕ → Word) (owner : ℕ → Option ℕ) (me : ℕ) (v : View J R) → IsLegal cap workers h → Knows root workers h faces owner me v → Knows root workers h faces owner me (record v { seen = h })
   knows_more root workers cap h faces owner me v l k = record {
     root_is = k.root_is;
     workers_are = k.workers_are;
@@ -101,21 +65,16 @@ module _ {J R : Type 0} where
   next_same root workers s r worker = record {
     long = refl;
     wide = refl;
-    legal = r.legal;
-    matched = r.matched;
+    state = r.state;
     grows = whole r.history;
     parts = λ u ne. refl;
-    shows = r.shows;
-    agrees = r.agrees;
-    beyond = r.beyond;
-    together = r.together;
     lies = r.lies;
     busy = r.busy;
     apart = λ u ne. apart_same u r.faces;
     more = λ k e. e;
   }
 
-  pub fair : (root : Option J) (workers cap : ℕ) (h : List (Event J R)) (faces : ℕ → WordState) (owner : ℕ → Option ℕ) (me : ℕ) (w : View J R) → w.seen ≡ h → IsLegal cap workers h → IsMatched root h → Knows root workers h faces owner me w → IsFair cap w
+  pub fair : (root : Option J) (workers cap : ℕ) (h : List (Event J R)) (faces : ℕ → Word) (owner : ℕ → Option ℕ) (me : ℕ) (w : View J R) → w.seen ≡ h → IsLegal cap workers h → IsMatched root h → Knows root workers h faces owner me w → IsFair cap w
   fair root workers cap h faces owner me w same l m k = (
     subst (λ (z : ℕ × List (Event J R)). IsLegal cap z.0 z.1) (λ i. (sym k.workers_are i, sym same i)) l,
     subst (λ (z : Option J × List (Event J R)). IsMatched z.0 z.1) (λ i. (sym k.root_is i, sym same i)) m,
@@ -123,19 +82,24 @@ module _ {J R : Type 0} where
   )
 
   -- the low mark stays where one event is added
-  pub low_stays : (root : Option J) (workers cap : ℕ) (h : List (Event J R)) (faces : ℕ → WordState) (owner : ℕ → Option ℕ) (me : ℕ) (v : View J R) (e : Event J R) → IsLegal cap workers (e ∷ h) → Knows root workers h faces owner me v
+  pub low_stays : (root : Option J) (workers cap : ℕ) (h : List (Event J R)) (faces : ℕ → Word) (owner : ℕ → Option ℕ) (me : ℕ) (v : View J R) (e : Event J R) → IsLegal cap workers (e ∷ h) → Knows root workers h faces owner me v
       → (k : ℕ) → k < v.low → rank (status (e ∷ h) k) ≡ 3
   low_stays root workers cap h faces owner me v e l k i below = let a = k.low i below in let b = rank_from cap workers (e ∷ h) v.seen l (longer h v.seen e k.seen) i in let c = rank_most (status (e ∷ h) i) in omega arith
 
-  pub adds : (root : Option J) (workers cap : ℕ) (h : List (Event J R)) (faces : ℕ → WordState) (owner : ℕ → Option ℕ) (me : ℕ) (v : View J R) (e : Event J R) (f : ℕ → WordState) (w : View J R) → w.seen ≡ e ∷ h → w.mine ≡ e ∷ v.mine
+  pub adds : (root : Option J) (workers cap : ℕ) (h : List (Event J R)) (faces : ℕ → Word) (owner : ℕ → Option ℕ) (me : ℕ) (v : View J R) (e : Event J R) (f : ℕ → Word) (w : View J R) → w.seen ≡ e ∷ h → w.mine ≡ e ∷ v.mine
       → IsLegal cap workers (e ∷ h) → IsMatched root (e ∷ h) → Knows root workers h faces owner me v → Knows root workers (e ∷ h) f owner me w → AddsEvent cap v e w
   adds root workers cap h faces owner me v e f w same own l m k k' = ((h, k.seen, same), own, fair root workers cap (e ∷ h) f owner me w same l m k')
 
-  pub finds : (root : Option J) (workers : ℕ) (s : St J R) (r : IsRow root workers s) (i me : ℕ) (h' : List (Event J R)) (w : View J R) → i < length s.homes → IsLegal (length s.homes) workers h' → ((k : ℕ) → status w.seen k ≡ status r.history k)
-      → Knows root workers h' r.faces r.owner me w → w.seen ≡ h' → (z : ℕ) → get_or s.words i 0 ≡ z → Finds i z w
-  finds root workers s r i me h' w near legal same k' is_h z is = let face = sym (r.shows i near) ∙ is in
-      let mine : (p u : ℕ) → status r.history p ≡ Claimed u → (p u : ℕ) × (status w.seen p ≡ Claimed u) × (holding w.mine ≡ None → u ≢ w.worker) =
-      (λ p u t. (
+  -- the word of a number says what the number is
+  pub face_here : (root : Option J) (workers : ℕ) (s : St J R) (r : IsRow root workers s) (i : ℕ) → i < length s.homes → word_of (get_or s.words i 0) ≡ r.faces i
+  face_here root workers s r i near = ap word_of (r.state.shows i near) ∙ decoded (r.faces i)
+
+  pub finds : (root : Option J) (workers : ℕ) (s : St J R) (r : IsRow root workers s) (i me : ℕ) (h' : List (Event J R)) (w : View J R) → IsLegal (length s.homes) workers h' → ((k : ℕ) → status w.seen k ≡ status r.history k)
+      → Knows root workers h' r.faces r.owner me w → w.seen ≡ h' → Finds i (r.faces i) w
+  finds root workers s r i me h' w legal same k' is_h = found (r.faces i) refl
+    where
+      some_holds : (p u : ℕ) → status r.history p ≡ Claimed u → SomeHolds w
+      some_holds p u t = (
         p,
         u,
         same p ∙ t,
@@ -143,15 +107,15 @@ module _ {J R : Type 0} where
             let there : status h' p ≡ Claimed w.worker = ap (λ y. status y p) (sym is_h) ∙ (same p ∙ (t ∙ ap Claimed e)) in
             let told = part_tells_claim (length s.homes) workers h' legal w.worker in
             let x : None ≡ Some p = sym free ∙ (ap holding (sym k'.mine) ∙ (told.claimed p).1 there) in cc,
-      )) in (
-        (λ e k le. same k ∙ (r.agrees k ∙ ap shown (r.together i k le (is_absent (r.faces i) (face ∙ e))))),
-        (λ e. same i ∙ (r.agrees i ∙ ap shown (is_open (r.faces i) (face ∙ e)))),
-        (λ a b. ap rank (same i ∙ r.agrees i) ∙ is_ended (r.faces i) (omega arith) (omega arith)),
-        (λ a odd. ap rank (same i ∙ r.agrees i) ∙ is_claimed (r.faces i) (omega arith) (ap (λ n. n % 2) face ∙ odd)),
-        (λ a. let b = is_busy (r.faces i) (omega arith) in ⊎_elim
-            (λ (e : r.faces i ≡ drawn_by b.0). let p = r.busy i b.0 e in (inl (same i ∙ (r.agrees i ∙ ap shown e)), mine p.0 b.0 p.1))
-            (λ (e : r.faces i ≡ plain (Claimed b.0)). (inr (ap rank (same i ∙ (r.agrees i ∙ ap shown e))), mine i b.0 (r.agrees i ∙ ap shown e))) b.1),
       )
+
+      found : (c : Word) → r.faces i ≡ c → Finds i c w
+      found word.Absent e = λ k le. same k ∙ (r.state.agrees k ∙ ap shown (r.state.together i k le e))
+      found word.Open e = same i ∙ (r.state.agrees i ∙ ap shown e)
+      found word.Returned e = same i ∙ (r.state.agrees i ∙ ap shown e)
+      found word.Faulted e = same i ∙ (r.state.agrees i ∙ ap shown e)
+      found (word.Drawn u) e = let p = r.busy i u e in (same i ∙ (r.state.agrees i ∙ ap shown e), some_holds p.0 u p.1)
+      found (word.Claimed u) e = (same i ∙ (r.state.agrees i ∙ ap shown e), some_holds i u (r.state.agrees i ∙ ap shown e))
 
   abbrev looked_view : View J R → List (Event J R) → ℕ → View J R
   looked_view v h low = record v { seen = h; low = low }
@@ -164,19 +128,19 @@ module _ {J R : Type 0} where
     km = r.each_seat me v at lives
 
     ended_now : (z : ℕ) → z < v.low → rank (status r.history z) ≡ 3
-    ended_now z below = let a = km.low z below in let b = rank_from (length s.homes) workers r.history v.seen r.legal km.seen z in let c = rank_most (status r.history z) in omega arith
+    ended_now z below = let a = km.low z below in let b = rank_from (length s.homes) workers r.history v.seen r.state.legal km.seen z in let c = rank_most (status r.history z) in omega arith
 
-    ended_here : 2 ≤ get_or s.words i 0 → get_or s.words i 0 < 4 → rank (status r.history i) ≡ 3
-    ended_here a b = let e = r.shows i near in ap rank (r.agrees i) ∙ is_ended (r.faces i) (omega arith) (omega arith)
+    ended_here : has_ended (r.faces i) ≡ true → rank (status r.history i) ≡ 3
+    ended_here e = ap rank (r.state.agrees i) ∙ ended_rank (r.faces i) e
 
-    low_now : (z : ℕ) → z < low_after (length s.homes) i v.low (get_or s.words i 0) → rank (status r.history z) ≡ 3
+    low_now : (z : ℕ) → z < low_after (length s.homes) i v.low (r.faces i) → rank (status r.history z) ≡ 3
     low_now z below = ⊎_elim (λ (x : z < v.low). ended_now z x)
-        (λ (x : (z ≡ i) × (2 ≤ get_or s.words i 0) × (get_or s.words i 0 < 4)). ap (λ y. rank (status r.history y)) x.0 ∙ ended_here x.1 x.2) (low_tells (length s.homes) i v.low (get_or s.words i 0) z below)
+        (λ (x : (z ≡ i) × (has_ended (r.faces i) ≡ true)). ap (λ y. rank (status r.history y)) x.0 ∙ ended_here x.1) (low_tells (length s.homes) i v.low (r.faces i) z below)
 
     beyond_now : (z : ℕ) → length s.homes ≤ z → status r.history z ≡ Absent
-    beyond_now z far = r.agrees z ∙ ap shown (r.beyond z far)
+    beyond_now z far = r.state.agrees z ∙ ap shown (r.state.beyond z far)
 
-    looked_knows : Knows root workers r.history r.faces r.owner me (looked_view v r.history (low_after (length s.homes) i v.low (get_or s.words i 0)))
+    looked_knows : Knows root workers r.history r.faces r.owner me (looked_view v r.history (low_after (length s.homes) i v.low (r.faces i)))
     looked_knows = record {
       root_is = km.root_is;
       workers_are = km.workers_are;
@@ -193,39 +157,34 @@ module _ {J R : Type 0} where
       joins = km.joins;
     }
 
-    module _ (last : (v.low ≡ i) × ((get_or s.words i 0 ≡ 0) ⊎ ((2 ≤ get_or s.words i 0) × (get_or s.words i 0 < 4) × (i + 1 ≡ length s.homes)))) where
+    module _ (last : (v.low ≡ i) × ((is_absent (r.faces i) ≡ true) ⊎ ((has_ended (r.faces i) ≡ true) × (i + 1 ≡ length s.homes)))) where
       all_done : (z : ℕ) → (rank (status r.history z) ≡ 3) ⊎ (status r.history z ≡ Absent)
       all_done z = dite (dec_lt z v.low) (λ l. inl (ended_now z l)) (λ n. ⊎_elim
-          (λ (e : get_or s.words i 0 ≡ 0). let le : i ≤ z = (let x = last.0 in omega arith) in inr (r.agrees z ∙ ap shown (r.together i z le (is_absent (r.faces i) (sym (r.shows i near) ∙ e)))))
-          (λ (e : (2 ≤ get_or s.words i 0) × (get_or s.words i 0 < 4) × (i + 1 ≡ length s.homes)). dite (ℕ_discrete z i) (λ is. inl (ap (λ y. rank (status r.history y)) is ∙ ended_here e.0 e.1))
-          (λ ne. let x = last.0 in let y = e.2 in inr (beyond_now z (omega arith)))) last.1)
+          (λ (e : is_absent (r.faces i) ≡ true). let le : i ≤ z = (let x = last.0 in omega arith) in inr (r.state.agrees z ∙ ap shown (r.state.together i z le (absent_is (r.faces i) e))))
+          (λ (e : (has_ended (r.faces i) ≡ true) × (i + 1 ≡ length s.homes)). dite (ℕ_discrete z i) (λ is. inl (ap (λ y. rank (status r.history y)) is ∙ ended_here e.0))
+          (λ ne. let x = last.0 in let y = e.1 in inr (beyond_now z (omega arith)))) last.1)
 
       over_allowed : IsAllowed (length s.homes) r.history (Over v.worker)
       over_allowed z = ⊎_elim (λ (e : rank (status r.history z) ≡ 3). ((λ is. let x = sym e ∙ ap rank is in omega arith), (λ u is. let x = sym e ∙ ap rank is in omega arith)))
           (λ (e : status r.history z ≡ Absent). ((λ is. let x = sym e ∙ is in cc), (λ u is. let x = sym e ∙ is in cc))) (all_done z)
 
       over_legal : IsLegal (length s.homes) workers (Over v.worker ∷ r.history)
-      over_legal = (r.legal, km.member, over_allowed)
+      over_legal = (r.state.legal, km.member, over_allowed)
 
       over_next : IsNext root workers s r v.worker (Over v.worker ∷ r.history) r.faces s.words s.homes
       over_next = record {
         long = refl;
         wide = refl;
-        legal = over_legal;
-        matched = (r.matched, tt);
+        state = record { legal = over_legal; matched = (r.state.matched, tt); shows = r.state.shows; agrees = r.state.agrees; beyond = r.state.beyond; together = r.state.together };
         grows = (Over v.worker ∷ [], refl);
         parts = λ u ne. part_else u r.history (Over v.worker) (λ is. ne (sym is));
-        shows = r.shows;
-        agrees = r.agrees;
-        beyond = r.beyond;
-        together = r.together;
         lies = λ z l. lies_stay root r.history (Over v.worker ∷ r.history) s.homes s.homes z refl refl refl (r.faces z) (r.lies z l);
         busy = r.busy;
         apart = λ u ne. apart_same u r.faces;
         more = λ z e. e;
       }
 
-      over_knows : Knows root workers (Over v.worker ∷ r.history) r.faces r.owner me (over_view v r.history (low_after (length s.homes) i v.low (get_or s.words i 0)))
+      over_knows : Knows root workers (Over v.worker ∷ r.history) r.faces r.owner me (over_view v r.history (low_after (length s.homes) i v.low (r.faces i)))
       over_knows = record {
         root_is = km.root_is;
         workers_are = km.workers_are;
@@ -243,9 +202,9 @@ module _ {J R : Type 0} where
       }
 
     -- the step, by whether it is the last look
-    pub misses : (b : Bool) → last_look (length s.homes) i v.low (get_or s.words i 0) ≡ b
-        → (w : View J R) × IsRow root workers record { words = s.words; homes = s.homes; views = set s.views me w } × Missed (length s.homes) i (get_or s.words i 0) v w
-    misses false is = let w = looked_view v r.history (low_after (length s.homes) i v.low (get_or s.words i 0)) in (
+    pub misses : (b : Bool) → last_look (length s.homes) i v.low (r.faces i) ≡ b
+        → (w : View J R) × IsRow root workers record { words = s.words; homes = s.homes; views = set s.views me w } × Missed (length s.homes) i (r.faces i) v w
+    misses false is = let w = looked_view v r.history (low_after (length s.homes) i v.low (r.faces i)) in (
       w,
       rebuilt root workers s r me v at lives r.history r.faces s.words s.homes w (next_same root workers s r v.worker) looked_knows,
       (
@@ -255,12 +214,12 @@ module _ {J R : Type 0} where
         refl,
         low_now,
         beyond_now,
-        finds root workers s r i me r.history w near r.legal (λ z. refl) looked_knows refl (get_or s.words i 0) refl,
+        finds root workers s r i me r.history w r.state.legal (λ z. refl) looked_knows refl,
         subst (λ b. MatchBool b (AddsEvent (length s.homes) v (Over v.worker) w) (Looks (length s.homes) v w)) (sym is)
-            (km.seen, refl, fair root workers (length s.homes) r.history r.faces r.owner me w refl r.legal r.matched looked_knows),
+            (km.seen, refl, fair root workers (length s.homes) r.history r.faces r.owner me w refl r.state.legal r.state.matched looked_knows),
       ),
     )
-    misses true is = let last = last_tells (length s.homes) i v.low (get_or s.words i 0) is in let w = over_view v r.history (low_after (length s.homes) i v.low (get_or s.words i 0)) in (
+    misses true is = let last = last_tells (length s.homes) i v.low (r.faces i) is in let w = over_view v r.history (low_after (length s.homes) i v.low (r.faces i)) in (
       w,
       rebuilt root workers s r me v at lives (Over v.worker ∷ r.history) r.faces s.words s.homes w (over_next last) (over_knows last),
       (
@@ -270,20 +229,20 @@ module _ {J R : Type 0} where
         refl,
         low_now,
         beyond_now,
-        finds root workers s r i me (Over v.worker ∷ r.history) w near (over_legal last) (λ z. refl) (over_knows last) refl (get_or s.words i 0) refl,
+        finds root workers s r i me (Over v.worker ∷ r.history) w (over_legal last) (λ z. refl) (over_knows last) refl,
         subst (λ b. MatchBool b (AddsEvent (length s.homes) v (Over v.worker) w) (Looks (length s.homes) v w)) (sym is)
-            (adds root workers (length s.homes) r.history r.faces r.owner me v (Over v.worker) r.faces w refl refl (over_legal last) (r.matched, tt) km (over_knows last)),
+            (adds root workers (length s.homes) r.history r.faces r.owner me v (Over v.worker) r.faces w refl refl (over_legal last) (r.state.matched, tt) km (over_knows last)),
       ),
     )
 
   pub looks : (root : Option J) (workers slots me : ℕ) (m : Seated J R) (i : ℕ) → m.0.live ≡ true → i < slots → Allows (IsRow root workers) slots me m i (λ n. n) (looked (step slots i 0 0 none) m)
   looks root workers slots me m i lives near s r len at fits = let v = m.0 in let near' : i < length s.homes = omega arith in
-      let did = misses root workers me i v lives s r at near' (last_look (length s.homes) i v.low (get_or s.words i 0)) refl in (
+      let did = misses root workers me i v lives s r at near' (last_look (length s.homes) i v.low (r.faces i)) refl in (
         did.0,
         keeps,
         tt,
         subst (λ (ws : List ℕ). IsRow root workers record { words = ws; homes = s.homes; views = set s.views me did.0 }) (sym (set-get_or s.words i 0)) did.1,
-        (refl, subst (λ c. Missed c i (get_or s.words i 0) v did.0) len did.2),
+        (refl, subst (λ (z : ℕ × Word). Missed z.0 i z.1 v did.0) (λ k. (len k, sym (face_here root workers s r i near') k)) did.2),
       )
 
   abbrev pub added : View J R → List (Event J R) → Event J R → View J R
@@ -291,7 +250,7 @@ module _ {J R : Type 0} where
 
   -- a claim takes the job that was posted
   module _ (root : Option J) (workers me i : ℕ) (v : View J R) (lives : v.live ≡ true) (free : holding v.mine ≡ None) where
-    module _ (s : St J R) (r : IsRow root workers s) (at : get_elem? s.views me ≡ some v) (near : i < length s.homes) (open_there : r.faces i ≡ plain Open) (j : J) (lies : get_elem? s.homes i ≡ some (some (Job j))) (posted_there : job_at root r.history i ≡ Some j) where
+    module _ (s : St J R) (r : IsRow root workers s) (at : get_elem? s.views me ≡ some v) (near : i < length s.homes) (open_there : r.faces i ≡ word.Open) (j : J) (lies : get_elem? s.homes i ≡ some (some (Job j))) (posted_there : job_at root r.history i ≡ Some j) where
       abbrev h : List (Event J R)
       h = r.history
 
@@ -302,35 +261,35 @@ module _ {J R : Type 0} where
       k = r.each_seat me v at lives
 
       was : status r.history i ≡ Open
-      was = r.agrees i ∙ ap shown open_there
+      was = r.state.agrees i ∙ ap shown open_there
 
       none_mine : (z : ℕ) → status r.history z ≡ Claimed v.worker → ⊥
       none_mine z is = let g = (held_is root workers s r me v k z).1 is in let x = sym free ∙ g in cc
 
       claim_legal : IsLegal (length s.homes) workers (Claim v.worker i j ∷ r.history)
-      claim_legal = (r.legal, k.member, (was, none_mine))
+      claim_legal = (r.state.legal, k.member, (was, none_mine))
 
-      claim_turn : IsTurn root workers s r v.worker i (Claim v.worker i j ∷ r.history) (plain (Claimed v.worker)) (set s.homes i none)
+      claim_turn : IsTurn root workers s r v.worker i (Claim v.worker i j ∷ r.history) (word.Claimed v.worker) (set s.homes i none)
       claim_turn = record {
         near = near;
         long = length-set s.homes i none;
         legal = claim_legal;
-        matched = (r.matched, posted_there);
+        matched = (r.state.matched, posted_there);
         grows = (e ∷ [], refl);
         parts = λ u ne. part_else u h e (λ is. ne (sym is));
-        agrees = λ z. agree_put (status h) r.faces i (Claimed v.worker) (plain (Claimed v.worker)) refl r.agrees z;
+        agrees = λ z. agree_put (status h) r.faces i (Claimed v.worker) (word.Claimed v.worker) refl r.state.agrees z;
         filled = λ is. absurd (let x = sym open_there ∙ is in cc);
         some_face = λ is. cc;
         homes_else = λ z ne. set_else s.homes i z none ne;
         jobs_else = λ z ne. refl;
         rows_else = λ z ne. refl;
         lies_here = tt;
-        busy = λ z w is. let o = at_put r.faces i (plain (Claimed v.worker)) (λ y f. f ≡ drawn_by w → r.faces y ≡ drawn_by w) z (λ x. absurd (cc)) (λ _ x. x) is in let p = r.busy z w o in
+        busy = λ z w is. let o = at_put r.faces i (word.Claimed v.worker) (λ y f. f ≡ word.Drawn w → r.faces y ≡ word.Drawn w) z (λ x. absurd (cc)) (λ _ x. x) is in let p = r.busy z w o in
             (p.0, (put_else (status h) i (Claimed v.worker) p.0 (λ (x : p.0 ≡ i). let y : Claimed w ≡ Open = sym p.1 ∙ (ap (status h) x ∙ was) in cc) ∙ p.1));
-        loose = λ u ne. ((λ x. let y = sym open_there ∙ x in cc), (λ x. cc), (λ (x : plain (Claimed v.worker) ≡ plain (Claimed u)). let y : v.worker ≡ u = cc in ne (sym y)));
+        loose = λ u ne. ((λ x. let y = sym open_there ∙ x in cc), (λ x. cc), (λ (x : word.Claimed v.worker ≡ word.Claimed u). let y : v.worker ≡ u = cc in ne (sym y)));
       }
 
-      claim_knows : Knows root workers (Claim v.worker i j ∷ r.history) (put r.faces i (plain (Claimed v.worker))) r.owner me (added v r.history (Claim v.worker i j))
+      claim_knows : Knows root workers (Claim v.worker i j ∷ r.history) (put r.faces i (word.Claimed v.worker)) r.owner me (added v r.history (Claim v.worker i j))
       claim_knows = record {
         root_is = k.root_is;
         workers_are = k.workers_are;
@@ -339,16 +298,16 @@ module _ {J R : Type 0} where
         seen = whole (e ∷ h);
         own = part_own v.worker h e refl ∙ ap (λ z. e ∷ z) k.mine;
         owns = k.owns;
-        drew = λ z. at_put r.faces i (plain (Claimed v.worker)) (λ y f. f ≡ drawn_by v.worker → v.drawn ≡ y + 1) z (λ x. absurd (cc)) (λ _ x. k.drew z x);
-        draws = λ z is. let x = k.draws z is in put_else r.faces i (plain (Claimed v.worker)) z (λ (o : z ≡ i). let y : drawn_by v.worker ≡ plain Open = sym x ∙ (ap r.faces o ∙ open_there) in cc) ∙ x;
+        drew = λ z. at_put r.faces i (word.Claimed v.worker) (λ y f. f ≡ word.Drawn v.worker → v.drawn ≡ y + 1) z (λ x. absurd (cc)) (λ _ x. k.drew z x);
+        draws = λ z is. let x = k.draws z is in put_else r.faces i (word.Claimed v.worker) z (λ (o : z ≡ i). let y : word.Drawn v.worker ≡ word.Open = sym x ∙ (ap r.faces o ∙ open_there) in cc) ∙ x;
         low = low_stays root workers (length s.homes) h r.faces r.owner me v e claim_legal k;
-        front = λ z below. at_put r.faces i (plain (Claimed v.worker)) (λ y f. y < v.front → f ≢ plain Absent) z (λ _ x. cc) (λ _. k.front z) below;
+        front = λ z below. at_put r.faces i (word.Claimed v.worker) (λ y f. y < v.front → f ≢ word.Absent) z (λ _ x. cc) (λ _. k.front z) below;
         deals = k.deals;
         joins = λ n u m is. let x = k.joins n u m is in record {
           owned = x.owned;
           other = x.other;
           events = part_else u h e (λ w. x.other (sym w)) ∙ x.events;
-          idle = λ z. at_put r.faces i (plain (Claimed v.worker)) (λ y f. f ≢ drawn_by u) z (λ y. cc) (λ _. x.idle z);
+          idle = λ z. at_put r.faces i (word.Claimed v.worker) (λ y f. f ≢ word.Drawn u) z (λ y. cc) (λ _. x.idle z);
         };
       }
 
@@ -358,23 +317,23 @@ module _ {J R : Type 0} where
       let near' : i < length s.homes = omega arith in
       let G : ℕ → Type 0 = λ n. (w : View J R) × (a : Act (Slot J R)) × Valid s.homes m.1 a × IsRow root workers (stepped s i n me m.1 w a) × claimed (step slots i 1 new none) m z (w, carried_after m.1 a) in
       exchanged z 1 new G
-      (λ (hit : z ≡ 1). let there = is_open (r.faces i) (sym (r.shows i near') ∙ hit) in let l = subst (λ c. Lies root r.history s.homes i c) there (r.lies i near') in
+      (λ (hit : z ≡ 1). let there : r.faces i ≡ word.Open = sym (face_here root workers s r i near') ∙ ap word_of hit in let l = subst (λ c. Lies root r.history s.homes i c) there (r.lies i near') in
       let e : Event J R = Claim v.worker i l.0 in let k = r.each_seat me v at lives in let w = added v r.history e in
       let turn = claim_turn root workers me i v lives free s r at near' there l.0 l.1 l.2 in let k' = claim_knows root workers me i v lives free s r at near' there l.0 l.1 l.2 in (
         w,
         takes i (Job l.0),
         l.1,
         subst (λ n. IsRow root workers (stepped s i n me m.1 w (takes i (Job l.0)))) (sym is)
-            (rebuilt root workers s r me v at lives (e ∷ r.history) (put r.faces i (plain (Claimed v.worker))) (set s.words i (5 + 2 * v.worker)) (set s.homes i none) w (turned root workers s r v.worker i (e ∷ r.history) (plain (Claimed v.worker)) (set s.homes i none) turn) k'),
-        (
-          (λ _. (l.0, (refl, refl, refl, refl, refl, refl), refl, refl, refl, refl, subst (λ c. AddsEvent c v e w) len (adds root workers (length s.homes) r.history r.faces r.owner me v e (put r.faces i (plain (Claimed v.worker))) w refl refl turn.legal turn.matched k k'))),
-          (λ miss. absurd (miss hit)),
-        ),
+            (rebuilt root workers s r me v at lives (e ∷ r.history) (put r.faces i (word.Claimed v.worker)) (set s.words i (5 + 2 * v.worker)) (set s.homes i none) w (turned root workers s r v.worker i (e ∷ r.history) (word.Claimed v.worker) (set s.homes i none) turn) k'),
+        subst (λ b. MatchBool b (TakesJob (step slots i 1 new none) m (w, carried_after m.1 (takes i (Job l.0)))) (looked (step slots i 1 new none) m z (w, carried_after m.1 (takes i (Job l.0))))) (sym (ap (λ n. is_open (word_of n)) hit))
+            (l.0, (refl, refl, refl, refl, refl, refl), refl, refl, refl, refl, subst (λ c. AddsEvent c v e w) len (adds root workers (length s.homes) r.history r.faces r.owner me v e (put r.faces i (word.Claimed v.worker)) w refl refl turn.legal turn.matched k k')),
       ))
-      (λ (miss : z ≢ 1). let did = misses root workers me i v lives s r at near' (last_look (length s.homes) i v.low (get_or s.words i 0)) refl in (
+      (λ (miss : z ≢ 1). let did = misses root workers me i v lives s r at near' (last_look (length s.homes) i v.low (r.faces i)) refl in (
         did.0,
         keeps,
         tt,
         subst (λ (ws : List ℕ). IsRow root workers record { words = ws; homes = s.homes; views = set s.views me did.0 }) (sym (set-get_or s.words i 0)) did.1,
-        ((λ hit. absurd (miss hit)), (λ _. (refl, subst (λ c. Missed c i (get_or s.words i 0) v did.0) len did.2))),
+        subst (λ b. MatchBool b (TakesJob (step slots i 1 new none) m (did.0, carried_after m.1 keeps)) (looked (step slots i 1 new none) m z (did.0, carried_after m.1 keeps)))
+            (sym (ap is_open (face_here root workers s r i near') ∙ not_open (r.faces i) (λ e. miss (r.state.shows i near' ∙ ap code e))))
+            (refl, subst (λ (y : ℕ × Word). Missed y.0 i y.1 v did.0) (λ k. (len k, sym (face_here root workers s r i near') k)) did.2),
       ))

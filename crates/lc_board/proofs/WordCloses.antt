@@ -16,9 +16,12 @@ use Rattle.lc_board.specs.Laws.{GivenAs}
 use Rattle.lc_board.specs.Pass.{Pass}
 use Rattle.lc_board.specs.ClosedBoard.{Shows, IsUnended, Settled, Unfinished, Finished}
 use Rattle.lc_board.specs.Growth.{rank, job_at, IsMatched}
-use Rattle.lc_board.specs.WordRow.{WordState, drawn_by, plain, shown, code, Homes, Lies, Knows, IsRow}
+use Rattle.lc_board.specs.WordCode.{shown, word_of, is_absent, has_ended}
+use Rattle.lc_board.specs.WordRow.{Homes, Lies, Knows, ShowsState, IsRow}
+use Rattle.lc_board.specs.declared.words.coding.Word.{Word}
+use Rattle.lc_board.specs.declared.words.coding.Word.TheVariants as word
 use Rattle.lc_board.specs.WordSteps.{merged, larger}
-use Rattle.lc_board.specs.WordClose.{words_promises, ended_as, row_of, Tells, HasTaken, IsClosedRow, EndedBelow, HasRows}
+use Rattle.lc_board.specs.WordClose.{words_promises, word_at, ended_as, Tells, HasTaken, IsClosedRow, EndedBelow, HasRows, TakesRows}
 use Rattle.lc_board.specs.declared.event.Event.{Event}
 use Rattle.lc_board.specs.declared.event.Event.TheVariants.{Post, Claim, Return, Fault, Over}
 use Rattle.lc_board.specs.declared.answers.Ended.{Ended}
@@ -27,18 +30,15 @@ use Rattle.lc_board.specs.declared.words.view.Slot.TheVariants.{Row}
 use Rattle.lc_board.specs.declared.words.view.View.{View}
 use Rattle.lc_board.proofs.Places.{at_same, at_other, apart, get_push_same, get_push_other}
 use Rattle.lc_board.proofs.NumbersOnce.{ended_has_row}
-use Rattle.lc_board.proofs.WordClaims.{is_absent, is_ended}
+use Rattle.lc_board.proofs.WordCodes.{decoded, absent_is, ended_rank}
 
-pub index_at : (l : List ℕ) (i a : ℕ) → get_elem? l i ≡ some a → get_or l i 0 ≡ a
+index_at : (l : List ℕ) (i a : ℕ) → get_elem? l i ≡ some a → get_or l i 0 ≡ a
 index_at [] i a e = absurd (some-ne-none a (sym e))
 index_at (x ∷ xs) zero a e = some-injective x a e
 index_at (x ∷ xs) (suc i) a e = index_at xs i a e
 
-pub word_there : (ws : List ℕ) (i a : ℕ) → get_elem? ws i ≡ some a → (a ≡ 1) ⊎ (4 ≤ a) → (get_or ws i 0 ≡ 1) ⊎ (4 ≤ get_or ws i 0)
-word_there ws i a e o = subst (λ z. (z ≡ 1) ⊎ (4 ≤ z)) (sym (index_at ws i a e)) o
-
-pub ended_word : (ws : List ℕ) (i a : ℕ) → get_elem? ws i ≡ some a → a ≢ 0 → (a ≢ 1) × (a < 4) → (2 ≤ get_or ws i 0) × (get_or ws i 0 < 4)
-ended_word ws i a e used n = let x : a ≢ 0 = used in let y : a ≢ 1 = n.0 in let same = index_at ws i a e in (omega (arith, x, y, same), omega (arith, n.1, same))
+pub word_here : (codes : List ℕ) (i a : ℕ) → get_elem? codes i ≡ some a → word_at codes i ≡ word_of a
+word_here codes i a e = ap word_of (index_at codes i a e)
 
 -- the worker of a claim is one of the board's
 named_by : (n w : ℕ) (b : Bool) (u : ℕ) (s : Status) → (b ≡ true → u ≡ w → w < n) → (s ≡ Claimed w → w < n) → cond b (Claimed u) s ≡ Claimed w → w < n
@@ -136,21 +136,13 @@ not_unended (Claimed w) e x = absurd (omega arith)
 not_unended Returned e x = x
 not_unended Faulted e x = x
 
-row_says : {R : Type 0} (c : WordState) (r : R) → 2 ≤ code c → code c < 4 → ended_as (shown c) r ≡ Some (row_of (code c) r)
-row_says (drawn_by w) r a b = absurd (omega arith)
-row_says (plain Absent) r a b = absurd (omega arith)
-row_says (plain Open) r a b = absurd (omega arith)
-row_says (plain (Claimed w)) r a b = absurd (omega arith)
-row_says (plain Returned) r a b = refl
-row_says (plain Faulted) r a b = refl
-
-open_face : (c : WordState) → ((u : ℕ) → c ≢ drawn_by u) → (code c ≡ 1) ⊎ (4 ≤ code c) → IsUnended (shown c)
-open_face (drawn_by w) n e = absurd (n w refl)
-open_face (plain Absent) n e = absurd (⊎_elim (λ x. omega arith) (λ x. omega arith) e)
-open_face (plain Open) n e = tt
-open_face (plain (Claimed w)) n e = tt
-open_face (plain Returned) n e = absurd (⊎_elim (λ x. omega arith) (λ x. omega arith) e)
-open_face (plain Faulted) n e = absurd (⊎_elim (λ x. omega arith) (λ x. omega arith) e)
+open_face : (c : Word) → ((u : ℕ) → c ≢ word.Drawn u) → is_absent c ≡ false → has_ended c ≡ false → IsUnended (shown c)
+open_face word.Absent n a e = absurd cc
+open_face word.Open n a e = tt
+open_face word.Returned n a e = absurd cc
+open_face word.Faulted n a e = absurd cc
+open_face (word.Drawn w) n a e = absurd (n w refl)
+open_face (word.Claimed w) n a e = tt
 
 shows_given : {R : Type 0} (s : Status) (o : Option (Ended R)) → GivenAs s o → s ≢ Open → ((w : ℕ) → s ≢ Claimed w) → Shows s o
 shows_given Absent o g a b = subst (λ z. Shows Absent z) (sym g) refl
@@ -163,78 +155,77 @@ none_given : {R : Type 0} (s : Status) (o : Option (Ended R)) → s ≡ Absent �
 none_given s o e g = subst (λ z. GivenAs z o) e g
 
 module _ {J R : Type 0} (root : J) (workers : ℕ) (passes : List (Pass J R)) (ws : List ℕ) (xs : List (Slot J R)) (r : IsClosedRow (Some root) workers passes ws xs) where
+  -- the word of a number says what the number is
+  face_at : (k : ℕ) → k < length xs → word_at ws k ≡ r.faces k
+  face_at k low = ap word_of (r.state.shows k low) ∙ decoded (r.faces k)
+
   ended_at : (n k : ℕ) → n ≤ length xs → EndedBelow n ws → k < n → rank (status r.history k) ≡ 3
-  ended_at n k small e below = let w = e k below in let s = r.shows k (omega (arith, below, small)) in ap rank (r.agrees k) ∙ is_ended (r.faces k) (omega (arith, w.0, s)) (omega (arith, w.1, s))
+  ended_at n k small e below = ap rank (r.state.agrees k) ∙ ended_rank (r.faces k) (ap has_ended (sym (face_at k (omega (arith, below, small)))) ∙ e k below)
 
   -- the row at a number that has ended
-  pub lies_at : (n k : ℕ) → n ≤ length xs → EndedBelow n ws → k < n → (x : R) × (get_elem? xs k ≡ some (Row x)) × (row_given r.history k ≡ Some (row_of (get_or ws k 0) x))
+  pub lies_at : (n k : ℕ) → n ≤ length xs → EndedBelow n ws → k < n → (x : R) × (get_elem? xs k ≡ some (Row x)) × (row_given r.history k ≡ ended_as (shown (word_at ws k)) x)
   lies_at n k small e below =
       let low : k < length xs = omega (arith, below, small) in
       let p = r.placed k low (ended_at n k small e below) in
-      let w = e k below in let s = r.shows k low in
-      let says = row_says (r.faces k) p.0 (omega (arith, w.0, s)) (omega (arith, w.1, s)) in
-      (p.0, p.1, p.2 ∙ (ap (λ z. ended_as z p.0) (r.agrees k) ∙ (says ∙ ap (λ z. Some (row_of z p.0)) (sym s))))
+      (p.0, p.1, p.2 ∙ (ap (λ z. ended_as z p.0) (r.state.agrees k) ∙ ap (λ c. ended_as (shown c) p.0) (sym (face_at k low))))
 
   pub all_lie : (n : ℕ) → n ≤ length xs → EndedBelow n ws → HasRows n xs
   all_lie n small e k below = let p = lies_at n k small e below in (p.0, p.1)
 
-  absent_from : (n : ℕ) → n ≤ length xs → (n ≡ length xs) ⊎ (get_or ws n 0 ≡ 0) → (k : ℕ) → n ≤ k → r.faces k ≡ plain Absent
+  absent_from : (n : ℕ) → n ≤ length xs → (n ≡ length xs) ⊎ (is_absent (word_at ws n) ≡ true) → (k : ℕ) → n ≤ k → r.faces k ≡ word.Absent
   absent_from n small o k far = dite (dec_lt k (length xs))
       (λ near. ⊎_elim (λ (e : n ≡ length xs). absurd (omega (arith, e, far, near)))
-      (λ (e : get_or ws n 0 ≡ 0). let low : n < length xs = omega (arith, far, near) in r.together n k far (is_absent (r.faces n) (sym (r.shows n low) ∙ e))) o)
-      (λ out. r.beyond k (omega (arith, out)))
+      (λ (e : is_absent (word_at ws n) ≡ true). let low : n < length xs = omega (arith, far, near) in r.state.together n k far (sym (face_at n low) ∙ absent_is (word_at ws n) e)) o)
+      (λ out. r.state.beyond k (omega (arith, out)))
 
-  module _ (n : ℕ) (small : n ≤ length xs) (e : EndedBelow n ws) (o : (n ≡ length xs) ⊎ (get_or ws n 0 ≡ 0)) where
+  module _ (n : ℕ) (small : n ≤ length xs) (e : EndedBelow n ws) (o : (n ≡ length xs) ⊎ (is_absent (word_at ws n) ≡ true)) where
     gone : (k : ℕ) → n ≤ k → status r.history k ≡ Absent
-    gone k far = r.agrees k ∙ ap shown (absent_from n small o k far)
+    gone k far = r.state.agrees k ∙ ap shown (absent_from n small o k far)
 
     over_now : IsOver r.history
     over_now k = dite (dec_lt k n) (λ below. ended_over (status r.history k) (ended_at n k small e below)) (λ far. absent_over (status r.history k) (gone k (omega (arith, far))))
 
     -- memory for the rows is asked for last
     pub finished : Finished (length xs) workers passes
-    finished = record { history = r.history; legal = r.legal; over = over_now; parts = r.parts }
+    finished = record { history = r.history; legal = r.state.legal; over = over_now; parts = r.parts }
 
-    module _ (rows : List (Ended R)) (count : length rows ≡ n) (taken : (k : ℕ) (x : R) → k < n → get_elem? xs k ≡ some (Row x) → slice_get rows k ≡ Some (row_of (get_or ws k 0) x)) where
+    module _ (rows : List (Ended R)) (count : length rows ≡ n) (taken : TakesRows n ws xs rows) where
       given_now : (k : ℕ) → slice_get rows k ≡ row_given r.history k
       given_now k = dite (dec_lt k n)
           (λ below. let p = lies_at n k small e below in taken k p.0 below p.1 ∙ sym p.2)
           (λ far. let out : n ≤ k = omega (arith, far) in
-          slice_get_past rows k (omega (arith, out, count)) ∙ sym (none_given (status r.history k) (row_given r.history k) (gone k out) (ended_has_row (length xs) workers r.history r.legal k)))
+          slice_get_past rows k (omega (arith, out, count)) ∙ sym (none_given (status r.history k) (row_given r.history k) (gone k out) (ended_has_row (length xs) workers r.history r.state.legal k)))
 
       used_all : (w : ℕ) (p : Pass J R) → slice_get passes w ≡ Some p → p.full ≡ true → length rows ≡ length xs
       used_all w p at full = ⊎_elim (λ (x : n ≡ length xs). count ∙ x)
-          (λ (x : get_or ws n 0 ≡ 0). dite (dec_lt n (length xs)) (λ near. absurd (r.used w p at full n near (is_absent (r.faces n) (sym (r.shows n near) ∙ x)))) (λ out. omega (arith, out, small, count))) o
+          (λ (x : is_absent (word_at ws n) ≡ true). dite (dec_lt n (length xs)) (λ near. absurd (r.used w p at full n near (sym (face_at n near) ∙ absent_is (word_at ws n) x))) (λ out. omega (arith, out, small, count))) o
 
       pub settled : Settled (length xs) workers root words_promises passes rows
       settled = record {
         history = r.history;
-        legal = r.legal;
+        legal = r.state.legal;
         over = over_now;
         parts = r.parts;
         numbers = λ k. (
           (λ a. dite (dec_lt k n) (λ below. absurd (ended_there (status r.history k) (ended_at n k small e below) a)) (λ far. omega (arith, far, count))),
           (λ far. gone k (omega (arith, far, count))),
         );
-        shown = λ k. let v = over_now k in subst (λ z. Shows (status r.history k) z) (sym (given_now k)) (shows_given (status r.history k) (row_given r.history k) (ended_has_row (length xs) workers r.history r.legal k) v.0 v.1);
+        shown = λ k. let v = over_now k in subst (λ z. Shows (status r.history k) z) (sym (given_now k)) (shows_given (status r.history k) (row_given r.history k) (ended_has_row (length xs) workers r.history r.state.legal k) v.0 v.1);
         in_place = λ _. record {
           given = given_now;
-          handed = λ k x at. handed_by root (status r.history k) r.history k (ended_at n k small e (omega (arith, slice_get_within rows k x at, count))) (got_right (length xs) workers (Some root) r.history r.legal r.matched k);
+          handed = λ k x at. handed_by root (status r.history k) r.history k (ended_at n k small e (omega (arith, slice_get_within rows k x at, count))) (got_right (length xs) workers (Some root) r.history r.state.legal r.state.matched k);
         };
         all_used = λ _. used_all;
       }
 
-  pub unfinished : (n : ℕ) → n < length xs → EndedBelow n ws → (get_or ws n 0 ≡ 1) ⊎ (4 ≤ get_or ws n 0) → Unfinished (length xs) workers n words_promises passes
-  unfinished n low e o =
-      let s = r.shows n low in
-      let face : (code (r.faces n) ≡ 1) ⊎ (4 ≤ code (r.faces n)) = subst (λ z. (z ≡ 1) ⊎ (4 ≤ z)) s o in
-      record {
-        history = r.history;
-        legal = r.legal;
-        left = subst IsUnended (sym (r.agrees n)) (open_face (r.faces n) (r.undrawn n) face);
-        least = λ k below. not_unended (status r.history k) (ended_at n k (omega (arith, low)) e below);
-        parts = λ _. r.parts;
-      }
+  pub unfinished : (n : ℕ) → n < length xs → EndedBelow n ws → is_absent (word_at ws n) ≡ false → has_ended (word_at ws n) ≡ false → Unfinished (length xs) workers n words_promises passes
+  unfinished n low e there going = let face = face_at n low in record {
+    history = r.history;
+    legal = r.state.legal;
+    left = subst IsUnended (sym (r.state.agrees n)) (open_face (r.faces n) (r.undrawn n) (ap is_absent (sym face) ∙ there) (ap has_ended (sym face) ∙ going));
+    least = λ k below. not_unended (status r.history k) (ended_at n k (omega (arith, low)) e below);
+    parts = λ _. r.parts;
+  }
 
 -- an element that a list has
 get_there : {A : Type 0} (xs : List A) (i : ℕ) → i < length xs → (x : A) × (slice_get xs i ≡ Some x)
@@ -301,56 +292,50 @@ module _ {J R : Type 0} where
       let is : p ≡ q = cc x in
       subst (λ (z : Pass J R). Tells v u z.mine × (z.full ≡ true → slots ≤ v.front)) is (inl (same ∙ sym num, sym own), full)
 
-  ended_lies : (root : Option J) (h : List (Event J R)) (hs : Homes J R) (k : ℕ) (c : WordState) → Lies root h hs k c → rank (shown c) ≡ 3 → (r : R) × (get_elem? hs k ≡ some (some (Row r))) × (row_given h k ≡ ended_as (shown c) r)
-  ended_lies root h hs k (drawn_by w) l e = absurd (omega arith)
-  ended_lies root h hs k (plain Absent) l e = absurd (omega arith)
-  ended_lies root h hs k (plain Open) l e = absurd (omega arith)
-  ended_lies root h hs k (plain (Claimed w)) l e = absurd (omega arith)
-  ended_lies root h hs k (plain Returned) l e = l
-  ended_lies root h hs k (plain Faulted) l e = l
+  ended_lies : (root : Option J) (h : List (Event J R)) (hs : Homes J R) (k : ℕ) (c : Word) → Lies root h hs k c → rank (shown c) ≡ 3 → (r : R) × (get_elem? hs k ≡ some (some (Row r))) × (row_given h k ≡ ended_as (shown c) r)
+  ended_lies root h hs k (word.Drawn w) l e = absurd (omega arith)
+  ended_lies root h hs k word.Absent l e = absurd (omega arith)
+  ended_lies root h hs k word.Open l e = absurd (omega arith)
+  ended_lies root h hs k (word.Claimed w) l e = absurd (omega arith)
+  ended_lies root h hs k word.Returned l e = l
+  ended_lies root h hs k word.Faulted l e = l
 
-  part_told : (root : Option J) (workers : ℕ) (h : List (Event J R)) (faces : ℕ → WordState) (owner : ℕ → Option ℕ) (id : ℕ) (v : View J R) → Knows root workers h faces owner id v → (u : ℕ) (m : List (Event J R)) → Tells v u m → part u h ≡ m
+  part_told : (root : Option J) (workers : ℕ) (h : List (Event J R)) (faces : ℕ → Word) (owner : ℕ → Option ℕ) (id : ℕ) (v : View J R) → Knows root workers h faces owner id v → (u : ℕ) (m : List (Event J R)) → Tells v u m → part u h ≡ m
   part_told root workers h faces owner id v k u m t = ⊎_elim (λ (x : (u ≡ v.worker) × (v.mine ≡ m)). ap (λ z. part z h) x.0 ∙ (k.mine ∙ x.1)) (λ (x : (n : ℕ) × (get_elem? v.joined n ≡ some (u, m))). (k.joins x.0 u m x.1).events) t
 
-  not_held : (root : Option J) (workers : ℕ) (h : List (Event J R)) (faces : ℕ → WordState) (owner : ℕ → Option ℕ) (id : ℕ) (v : View J R) → Knows root workers h faces owner id v → v.drawn ≡ 0 → (u : ℕ) (m : List (Event J R)) → Tells v u m → (q : ℕ) → faces q ≢ drawn_by u
+  not_held : (root : Option J) (workers : ℕ) (h : List (Event J R)) (faces : ℕ → Word) (owner : ℕ → Option ℕ) (id : ℕ) (v : View J R) → Knows root workers h faces owner id v → v.drawn ≡ 0 → (u : ℕ) (m : List (Event J R)) → Tells v u m → (q : ℕ) → faces q ≢ word.Drawn u
   not_held root workers h faces owner id v k none u m t q f = ⊎_elim
-      (λ (x : (u ≡ v.worker) × (v.mine ≡ m)). let d = k.drew q (f ∙ ap drawn_by x.0) in absurd (omega (arith, d, none)))
+      (λ (x : (u ≡ v.worker) × (v.mine ≡ m)). let d = k.drew q (f ∙ ap word.Drawn x.0) in absurd (omega (arith, d, none)))
       (λ (x : (n : ℕ) × (get_elem? v.joined n ≡ some (u, m))). (k.joins x.0 u m x.1).idle q f) t
 
   -- a closed row, by the pass that stayed
-  pub settles : (root : Option J) (workers id : ℕ) (v : View J R) (passes : List (Pass J R)) (ws : List ℕ) (xs : List (Slot J R)) → v.live ≡ true → v.drawn ≡ 0 → length passes ≡ workers → HasTaken (length xs) passes 0 v
+  pub gathers : (root : Option J) (workers id : ℕ) (v : View J R) (passes : List (Pass J R)) (ws : List ℕ) (xs : List (Slot J R)) → v.live ≡ true → v.drawn ≡ 0 → length passes ≡ workers → HasTaken (length xs) passes 0 v
       → Final (Seen (IsRow root workers) id v) ws xs → IsClosedRow root workers passes ws xs
-  settles root workers id v passes ws xs lives none len has f =
+  gathers root workers id v passes ws xs lives none len has f =
       let s = f.0 in let r = f.1.0 in let k = r.each_seat id v f.1.1 lives in let size : length s.homes ≡ length xs = f.3 in record {
         history = r.history;
         faces = r.faces;
-        legal = subst (λ z. IsLegal z workers r.history) size r.legal;
-        matched = r.matched;
+        state = subst (λ (z : ℕ × List ℕ). ShowsState root workers z.0 z.1 r.history r.faces) (λ i. (size i, f.2 i)) r.state;
         parts = λ w p at. part_told root workers r.history r.faces r.owner id v k w p.mine (has w p (omega arith) at).0;
-        shows = λ q l. ap (λ z. get_or z q 0) (sym f.2) ∙ r.shows q (subst (λ z. q < z) (sym size) l);
-        agrees = r.agrees;
-        beyond = λ q l. r.beyond q (subst (λ z. z ≤ q) (sym size) l);
-        together = r.together;
         undrawn = λ q u e.
             let b = r.busy q u e in
-            let low = claimed_member (length s.homes) workers r.history r.legal b.0 u b.1 in
+            let low = claimed_member (length s.homes) workers r.history r.state.legal b.0 u b.1 in
             let p = get_there passes u (omega (arith, low, len)) in
             not_held root workers r.history r.faces r.owner id v k none u p.0.mine (has u p.0 (omega arith) p.1).0 q e;
         placed = λ q l e.
-            let x = ended_lies root r.history s.homes q (r.faces q) (r.lies q (subst (λ z. q < z) (sym size) l)) (sym (ap rank (r.agrees q)) ∙ e) in
-            (x.0, f.4 q (Row x.0) x.1, x.2 ∙ ap (λ z. ended_as z x.0) (sym (r.agrees q)));
+            let x = ended_lies root r.history s.homes q (r.faces q) (r.lies q (subst (λ z. q < z) (sym size) l)) (sym (ap rank (r.state.agrees q)) ∙ e) in
+            (x.0, f.4 q (Row x.0) x.1, x.2 ∙ ap (λ z. ended_as z x.0) (sym (r.state.agrees q)));
         used = λ w p at full q l. k.front q (let y = (has w p (omega arith) at).1 full in omega (arith, l, y));
       }
 
   -- one more row is taken out
-  pub rows_more : (ws : List ℕ) (xs : List (Slot J R)) (rows : List (Ended R)) (n w : ℕ) (row : R) → length rows ≡ n → get_elem? ws n ≡ some w → get_elem? xs n ≡ some (Row row)
-      → ((k : ℕ) (r : R) → k < n → get_elem? xs k ≡ some (Row r) → slice_get rows k ≡ Some (row_of (get_or ws k 0) r))
-      → (k : ℕ) (r : R) → k < n + 1 → get_elem? xs k ≡ some (Row r) → slice_get (rows ++ row_of w row ∷ []) k ≡ Some (row_of (get_or ws k 0) r)
-  rows_more ws xs rows n w row len word there old k r low at = dite (ℕ_discrete k n)
+  pub rows_more : (ws : List ℕ) (xs : List (Slot J R)) (rows : List (Ended R)) (n : ℕ) (x : Word) (row : R) (last : Ended R) → length rows ≡ n → word_at ws n ≡ x → get_elem? xs n ≡ some (Row row) → ended_as (shown x) row ≡ Some last
+      → TakesRows n ws xs rows → TakesRows (n + 1) ws xs (rows ++ last ∷ [])
+  rows_more ws xs rows n x row last len word there says old k r low at = dite (ℕ_discrete k n)
       (λ e.
       let here : get_elem? xs n ≡ some (Row r) = sym (ap (λ z. get_elem? xs z) e) ∙ at in
       let same : Row row ≡ Row r = some-injective (Row row) (Row r) (sym there ∙ here) in
       let rows_same : row ≡ r = cc same in
-      let words_same : w ≡ get_or ws k 0 = sym (index_at ws n w word) ∙ ap (λ z. get_or ws z 0) (sym e) in
-      ap (λ z. slice_get (rows ++ row_of w row ∷ []) z) (e ∙ sym len) ∙ (get_push_same rows (row_of w row) ∙ (ap (λ z. Some (row_of z row)) words_same ∙ ap (λ z. Some (row_of (get_or ws k 0) z)) rows_same)))
-      (λ ne. get_push_other rows (row_of w row) k (λ z. ne (z ∙ len)) ∙ old k r (let y : k ≢ n = ne in omega (arith, low, y)) at)
+      let words_same : x ≡ word_at ws k = sym word ∙ ap (λ z. word_at ws z) (sym e) in
+      ap (λ z. slice_get (rows ++ last ∷ []) z) (e ∙ sym len) ∙ (get_push_same rows last ∙ (sym says ∙ (ap (λ z. ended_as (shown z) row) words_same ∙ ap (λ z. ended_as (shown (word_at ws k)) z) rows_same))))
+      (λ ne. get_push_other rows last k (λ z. ne (z ∙ len)) ∙ old k r (let y : k ≢ n = ne in omega (arith, low, y)) at)

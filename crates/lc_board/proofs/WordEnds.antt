@@ -1,22 +1,27 @@
 -- A claim ends, by the row that is given; or its slot goes home, as the board is closed.
-use Rattle.std.proofs.Common.{◌≡◌, ◌≢◌, ℕ, subst, ◌+◌, ◌<◌, true, List, [], ◌∷◌, length, get_or, set, sym, refl, ap, ◌∙◌, arith, length-set, Option, Some}
+use Rattle.std.proofs.Common.{◌≡◌, ◌≢◌, ℕ, subst, ◌+◌, ◌<◌, true, List, [], ◌∷◌, length, get_or, set, sym, refl, ap, ◌∙◌, arith, length-set, Option, Some, None}
 use mathlib.Core.Logic.{dite}
+use mathlib.Core.Path.{Path}
 use mathlib.Core.Option.{some, none}
 use native.Mathlib.Decide.{ℕ_discrete}
 use lib.ListN.{get_elem?}
 use lib.Seq.{set-get_or}
 use Rattle.atomic_table.specs.Table.{gives, stepped, step, rest, Allows}
 use Rattle.atomic_table.proofs.Lists.{set_else, set_here}
-use Rattle.lc_board.specs.State.{Status, Absent, Claimed, Returned, Faulted, status}
+use Rattle.lc_board.specs.State.{Absent, Claimed, status}
 use Rattle.lc_board.specs.Part.{worker_of}
 use Rattle.lc_board.specs.LegalHistory.{posts_under, IsAllowed, IsLegal}
 use Rattle.lc_board.specs.Holding.{holding, posted}
 use Rattle.lc_board.specs.RowsInPlace.{row_given}
-use Rattle.lc_board.specs.Growth.{put, job_at, IsRight}
-use Rattle.lc_board.specs.WordRow.{drawn_by, plain, shown, Homes, Seated, Lies, Knows, IsRow}
-use Rattle.lc_board.specs.WordSteps.{AddsEvent, returned, faulted, put_down}
+use Rattle.lc_board.specs.Growth.{rank, put, job_at, IsRight}
+use Rattle.lc_board.specs.Ending.{MayEnd, end_event, row_in}
+use Rattle.lc_board.specs.WordCode.{shown, code, end_word}
+use Rattle.lc_board.specs.WordRow.{Homes, Seated, Lies, Knows, IsRow}
+use Rattle.lc_board.specs.declared.words.coding.Word.{Word}
+use Rattle.lc_board.specs.declared.words.coding.Word.TheVariants as word
+use Rattle.lc_board.specs.WordSteps.{AddsEvent, put_down}
+use Rattle.lc_board.specs.WordSteps as steps
 use Rattle.lc_board.specs.declared.event.Event.{Event}
-use Rattle.lc_board.specs.declared.event.Event.TheVariants.{Return, Fault}
 use Rattle.lc_board.specs.declared.answers.Ended.TheVariants as ended
 use Rattle.lc_board.specs.declared.words.view.Slot.{Slot}
 use Rattle.lc_board.specs.declared.words.view.Slot.TheVariants.{Empty, Row}
@@ -30,122 +35,174 @@ use Rattle.lc_board.proofs.WordClaims.{St, added, knows_more, next_same, low_sta
 taken_same : (a b : ℕ) → Claimed a ≡ Claimed b → a ≡ b
 taken_same a b e = cc
 
+by_worker : {R : Type 0} (J : Type 0) (w i : ℕ) (x : Ended R) → worker_of (end_event {J = J} w i x) ≡ w
+by_worker J w i (ended.Returned r) = refl
+by_worker J w i (ended.Faulted r) = refl
+
+end_rank : {R : Type 0} (x : Ended R) → rank (shown (end_word x)) ≡ 3
+end_rank (ended.Returned r) = refl
+end_rank (ended.Faulted r) = refl
+
+-- an end by the code and the row of another is the same
+same_end : {R : Type 0} (x y : Ended R) → code (end_word x) ≡ code (end_word y) → row_in x ≡ row_in y → x ≡ y
+same_end (ended.Returned r) (ended.Returned q) a b = ap ended.Returned b
+same_end (ended.Returned r) (ended.Faulted q) a b = absurd (omega arith)
+same_end (ended.Faulted r) (ended.Returned q) a b = absurd (omega arith)
+same_end (ended.Faulted r) (ended.Faulted q) a b = ap ended.Faulted b
+
 module _ {J R : Type 0} where
-  module _ (root : Option J) (workers me i : ℕ) (v : View J R) (lives : v.live ≡ true) (empty : v.drawn ≡ 0) (claim : holding v.mine ≡ Some i) (x : R) (o : Ended R) (e : Event J R) (m : Status)
-      (by_me : worker_of e ≡ v.worker) (moves : (h : List (Event J R)) (z : ℕ) → status (e ∷ h) z ≡ put (status h) i m z) (jobs : (h : List (Event J R)) (z : ℕ) → job_at root (e ∷ h) z ≡ job_at root h z)
-      (rows : (h : List (Event J R)) (z : ℕ) → row_given (e ∷ h) z ≡ put (row_given h) i (Some o) z) (apart : (u : ℕ) → m ≢ Claimed u) (there : m ≢ Absent)
-      (s : St J R) (r : IsRow root workers s) (at : get_elem? s.views me ≡ some v) (near : i < length s.homes)
-      (allowed : IsAllowed (length s.homes) r.history e) (right : IsRight root r.history e)
-      (lies : (h' : List (Event J R)) (hs : Homes J R) → get_elem? hs i ≡ some (some (Row x)) → row_given h' i ≡ Some o → Lies root h' hs i (plain m)) where
+  end_moves : (w i : ℕ) (x : Ended R) (h : List (Event J R)) (z : ℕ) → status (end_event w i x ∷ h) z ≡ put (status h) i (shown (end_word x)) z
+  end_moves w i (ended.Returned r) h z = refl
+  end_moves w i (ended.Faulted r) h z = refl
+
+  end_jobs : (root : Option J) (w i : ℕ) (x : Ended R) (h : List (Event J R)) (z : ℕ) → job_at root (end_event w i x ∷ h) z ≡ job_at root h z
+  end_jobs root w i (ended.Returned r) h z = refl
+  end_jobs root w i (ended.Faulted r) h z = refl
+
+  end_rows : (w i : ℕ) (x : Ended R) (h : List (Event J R)) (z : ℕ) → row_given (end_event w i x ∷ h) z ≡ put (row_given h) i (Some x) z
+  end_rows w i (ended.Returned r) h z = refl
+  end_rows w i (ended.Faulted r) h z = refl
+
+  end_right : (root : Option J) (w i : ℕ) (x : Ended R) (h : List (Event J R)) → IsRight root h (end_event w i x)
+  end_right root w i (ended.Returned r) h = tt
+  end_right root w i (ended.Faulted r) h = tt
+
+  end_lies : (root : Option J) (i : ℕ) (x : Ended R) (h : List (Event J R)) (hs : Homes J R) → get_elem? hs i ≡ some (some (Row (row_in x))) → row_given h i ≡ Some x → Lies root h hs i (end_word x)
+  end_lies root i (ended.Returned r) h hs a b = (r, a, b)
+  end_lies root i (ended.Faulted r) h hs a b = (r, a, b)
+
+  end_allowed : (cap w i posts : ℕ) (x : Ended R) (h : List (Event J R)) → status h i ≡ Claimed w → MayEnd posts x → (posts ≡ 0 → posts_under i h ≡ []) → IsAllowed cap h (end_event w i x)
+  end_allowed cap w i posts (ended.Returned r) h c may fresh = c
+  end_allowed cap w i posts (ended.Faulted r) h c may fresh = (c, fresh may)
+
+  pub end_frees : (w i : ℕ) (x : Ended R) (h : List (Event J R)) → holding (end_event w i x ∷ h) ≡ None
+  end_frees w i (ended.Returned r) h = refl
+  end_frees w i (ended.Faulted r) h = refl
+
+  pub end_posts : (w i : ℕ) (x : Ended R) (h : List (Event J R)) → posted (end_event w i x ∷ h) ≡ 0
+  end_posts w i (ended.Returned r) h = refl
+  end_posts w i (ended.Faulted r) h = refl
+
+  module _ (root : Option J) (workers me i : ℕ) (v : View J R) (lives : v.live ≡ true) (empty : v.drawn ≡ 0) (claim : holding v.mine ≡ Some i) (x : Ended R) (may : MayEnd (posted v.mine) x)
+      (s : St J R) (r : IsRow root workers s) (at : get_elem? s.views me ≡ some v) (near : i < length s.homes) where
+    abbrev c : Word
+    c = end_word x
+
+    abbrev e : Event J R
+    e = end_event v.worker i x
+
+    apart : (u : ℕ) → shown c ≢ Claimed u
+    apart u is = let y = sym (end_rank x) ∙ ap rank is in omega arith
+
+    there : shown c ≢ Absent
+    there is = let y = sym (end_rank x) ∙ ap rank is in omega arith
+
+    undrawn : (u : ℕ) → c ≢ word.Drawn u
+    undrawn u is = there (ap shown is)
+
     abbrev k : Knows root workers r.history r.faces r.owner me v
     k = r.each_seat me v at lives
 
     was : status r.history i ≡ Claimed v.worker
     was = (held_is root workers s r me v k i).0 claim
 
-    had : r.faces i ≡ plain (Claimed v.worker)
-    had = of_shown (r.faces i) v.worker (sym (r.agrees i) ∙ was)
+    had : r.faces i ≡ word.Claimed v.worker
+    had = of_shown (r.faces i) v.worker (sym (r.state.agrees i) ∙ was)
+
+    nothing : posted v.mine ≡ 0 → posts_under i r.history ≡ []
+    nothing e = (posted_nothing (length s.homes) workers r.history r.state.legal v.worker i was).0 (ap posted k.mine ∙ e)
 
     end_legal : IsLegal (length s.homes) workers (e ∷ r.history)
-    end_legal = (r.legal, subst (λ u. u < workers) (sym by_me) k.member, allowed)
+    end_legal = (r.state.legal, subst (λ u. u < workers) (sym (by_worker J v.worker i x)) k.member, end_allowed (length s.homes) v.worker i (posted v.mine) x r.history was may nothing)
 
-    end_turn : IsTurn root workers s r v.worker i (e ∷ r.history) (plain m) (set s.homes i (some (Row x)))
+    end_turn : IsTurn root workers s r v.worker i (e ∷ r.history) c (set s.homes i (some (Row (row_in x))))
     end_turn = record {
       near = near;
-      long = length-set s.homes i (some (Row x));
+      long = length-set s.homes i (some (Row (row_in x)));
       legal = end_legal;
-      matched = (r.matched, right);
+      matched = (r.state.matched, end_right root v.worker i x r.history);
       grows = (e ∷ [], refl);
-      parts = λ u ne. part_else u r.history e (λ is. ne (sym (sym by_me ∙ is)));
-      agrees = λ z. moves r.history z ∙ agree_put (status r.history) r.faces i m (plain m) refl r.agrees z;
+      parts = λ u ne. part_else u r.history e (λ is. ne (sym (sym (by_worker J v.worker i x) ∙ is)));
+      agrees = λ z. end_moves v.worker i x r.history z ∙ agree_put (status r.history) r.faces i (shown c) c refl r.state.agrees z;
       filled = λ is. absurd (let y = sym had ∙ is in cc);
       some_face = λ is. there (ap shown is);
-      homes_else = λ z ne. set_else s.homes i z (some (Row x)) ne;
-      jobs_else = λ z ne. jobs r.history z;
-      rows_else = λ z ne. rows r.history z ∙ put_else (row_given r.history) i (Some o) z ne;
-      lies_here = lies (e ∷ r.history) (set s.homes i (some (Row x))) (set_here s.homes i (some (Row x)) near) (rows r.history i ∙ put_here (row_given r.history) i (Some o));
-      busy = λ z w is. let f = at_put r.faces i (plain m) (λ y f. f ≡ drawn_by w → r.faces y ≡ drawn_by w) z (λ y. absurd (cc)) (λ _ y. y) is in let b = r.busy z w f in (
+      homes_else = λ z ne. set_else s.homes i z (some (Row (row_in x))) ne;
+      jobs_else = λ z ne. end_jobs root v.worker i x r.history z;
+      rows_else = λ z ne. end_rows v.worker i x r.history z ∙ put_else (row_given r.history) i (Some x) z ne;
+      lies_here = end_lies root i x (e ∷ r.history) (set s.homes i (some (Row (row_in x)))) (set_here s.homes i (some (Row (row_in x))) near) (end_rows v.worker i x r.history i ∙ put_here (row_given r.history) i (Some x));
+      busy = λ z w is. let f = at_put r.faces i c (λ y f. f ≡ word.Drawn w → r.faces y ≡ word.Drawn w) z (λ y. absurd (undrawn w y)) (λ _ y. y) is in let b = r.busy z w f in (
         b.0,
-        moves r.history b.0 ∙ (put_else (status r.history) i m b.0 (λ (y : b.0 ≡ i).
-            let u : w ≡ v.worker = taken_same w v.worker (sym b.1 ∙ (ap (status r.history) y ∙ was)) in let d = k.drew z (f ∙ ap drawn_by u) in absurd (omega arith)) ∙ b.1),
+        end_moves v.worker i x r.history b.0 ∙ (put_else (status r.history) i (shown c) b.0 (λ (y : b.0 ≡ i).
+            let u : w ≡ v.worker = taken_same w v.worker (sym b.1 ∙ (ap (status r.history) y ∙ was)) in let d = k.drew z (f ∙ ap word.Drawn u) in absurd (omega arith)) ∙ b.1),
       );
-      loose = λ u ne. ((λ y. let z = sym had ∙ y in cc), (λ y. cc), (λ y. apart u (ap shown y)));
+      loose = λ u ne. ((λ y. let z = sym had ∙ y in cc), undrawn u, (λ y. apart u (ap shown y)));
     }
 
-    end_knows : Knows root workers (e ∷ r.history) (put r.faces i (plain m)) r.owner me (added v r.history e)
+    end_knows : Knows root workers (e ∷ r.history) (put r.faces i c) r.owner me (added v r.history e)
     end_knows = record {
       root_is = k.root_is;
       workers_are = k.workers_are;
       member = k.member;
-      mine = part_own v.worker r.history e by_me ∙ ap (λ z. e ∷ z) k.mine;
+      mine = part_own v.worker r.history e (by_worker J v.worker i x) ∙ ap (λ z. e ∷ z) k.mine;
       seen = whole (e ∷ r.history);
-      own = part_own v.worker r.history e by_me ∙ ap (λ z. e ∷ z) k.mine;
+      own = part_own v.worker r.history e (by_worker J v.worker i x) ∙ ap (λ z. e ∷ z) k.mine;
       owns = k.owns;
-      drew = λ z. at_put r.faces i (plain m) (λ y f. f ≡ drawn_by v.worker → v.drawn ≡ y + 1) z (λ y. absurd (cc)) (λ _ y. k.drew z y);
+      drew = λ z. at_put r.faces i c (λ y f. f ≡ word.Drawn v.worker → v.drawn ≡ y + 1) z (λ y. absurd (undrawn v.worker y)) (λ _ y. k.drew z y);
       draws = λ z is. absurd (omega arith);
       low = low_stays root workers (length s.homes) r.history r.faces r.owner me v e end_legal k;
-      front = λ z below. at_put r.faces i (plain m) (λ y f. y < v.front → f ≢ plain Absent) z (λ _ y. there (ap shown y)) (λ _. k.front z) below;
+      front = λ z below. at_put r.faces i c (λ y f. y < v.front → f ≢ word.Absent) z (λ _ y. there (ap shown y)) (λ _. k.front z) below;
       deals = k.deals;
-      joins = λ a u c is. let y = k.joins a u c is in record {
+      joins = λ a u l is. let y = k.joins a u l is in record {
         owned = y.owned;
         other = y.other;
-        events = part_else u r.history e (λ w. y.other (sym w ∙ by_me)) ∙ y.events;
-        idle = λ z. at_put r.faces i (plain m) (λ q f. f ≢ drawn_by u) z (λ q. cc) (λ _. y.idle z);
+        events = part_else u r.history e (λ w. y.other (sym w ∙ by_worker J v.worker i x)) ∙ y.events;
+        idle = λ z. at_put r.faces i c (λ q f. f ≢ word.Drawn u) z (undrawn u) (λ _. y.idle z);
       };
     }
 
-  pub returns : (root : Option J) (workers slots me : ℕ) (m : Seated J R) (i : ℕ) (x : R) → m.0.live ≡ true → i < slots → m.0.drawn ≡ 0 → holding m.0.mine ≡ Some i → m.1 ≡ (i, Row x) ∷ rest m.1
-      → Allows (IsRow root workers) slots me m i (λ _. 2) (returned (step slots i 2 0 none) m)
-  returns root workers slots me m i x lives near empty claim has s r len at fits = let v = m.0 in let near' : i < length s.homes = omega arith in let k0 = r.each_seat me v at lives in
-      let e : Event J R = Return v.worker i x in let w = added v r.history e in let o : Ended R = ended.Returned x in let ok = (held_is root workers s r me v k0 i).0 claim in
-      let turn = end_turn root workers me i v lives empty claim x o e Returned refl (λ h z. refl) (λ h z. refl) (λ h z. refl) (λ u y. cc) (λ y. cc) s r at near' ok tt (λ h' hs a b. (x, a, b)) in
-      let k' = end_knows root workers me i v lives empty claim x o e Returned refl (λ h z. refl) (λ h z. refl) (λ h z. refl) (λ u y. cc) (λ y. cc) s r at near' ok tt (λ h' hs a b. (x, a, b)) in (
+  pub ends_claim : (root : Option J) (workers slots me : ℕ) (m : Seated J R) (i new : ℕ) (x : Ended R) → m.0.live ≡ true → i < slots → m.0.drawn ≡ 0 → holding m.0.mine ≡ Some i → MayEnd (posted m.0.mine) x → new ≡ code (end_word x) → m.1 ≡ (i, Row (row_in x)) ∷ rest m.1
+      → Allows (IsRow root workers) slots me m i (λ _. new) (steps.ended (step slots i new 0 none) m)
+  ends_claim root workers slots me m i new x lives near empty claim may coded has s r len at fits = let v = m.0 in let near' : i < length s.homes = omega arith in let k0 = r.each_seat me v at lives in
+      let e : Event J R = end_event v.worker i x in let w = added v r.history e in
+      let turn = end_turn root workers me i v lives empty claim x may s r at near' in
+      let k' = end_knows root workers me i v lives empty claim x may s r at near' in
+      let to = set s.homes i (some (Row (row_in x))) in (
         w,
         gives,
         tt,
-        subst (λ (c : List (ℕ × Slot J R)). IsRow root workers (stepped s i 2 me c w gives)) (sym has)
-            (rebuilt root workers s r me v at lives (e ∷ r.history) (put r.faces i (plain Returned)) (set s.words i 2) (set s.homes i (some (Row x))) w
-            (turned root workers s r v.worker i (e ∷ r.history) (plain Returned) (set s.homes i (some (Row x))) turn) k'),
-        (((refl, refl, refl, refl, refl, refl), empty, refl, refl, refl), (x, has, subst (λ c. AddsEvent c v e w) len (adds root workers (length s.homes) r.history r.faces r.owner me v e (put r.faces i (plain Returned)) w refl refl turn.legal turn.matched k0 k'))),
+        subst (λ (c : List (ℕ × Slot J R)). IsRow root workers (stepped s i new me c w gives)) (sym has)
+            (subst (λ n. IsRow root workers record { words = set s.words i n; homes = to; views = set s.views me w }) (sym coded)
+            (rebuilt root workers s r me v at lives (e ∷ r.history) (put r.faces i (end_word x)) (set s.words i (code (end_word x))) to w
+            (turned root workers s r v.worker i (e ∷ r.history) (end_word x) to turn) k')),
+        (((refl, refl, refl, refl, refl, refl), empty, refl, refl, refl), (x, coded, has, subst (λ c. AddsEvent c v e w) len (adds root workers (length s.homes) r.history r.faces r.owner me v e (put r.faces i (end_word x)) w refl refl turn.legal turn.matched k0 k'))),
       )
 
-  pub faults : (root : Option J) (workers slots me : ℕ) (m : Seated J R) (i : ℕ) (x : R) → m.0.live ≡ true → i < slots → m.0.drawn ≡ 0 → holding m.0.mine ≡ Some i → posted m.0.mine ≡ 0 → m.1 ≡ (i, Row x) ∷ rest m.1
-      → Allows (IsRow root workers) slots me m i (λ _. 3) (faulted (step slots i 3 0 none) m)
-  faults root workers slots me m i x lives near empty claim none_posted has s r len at fits = let v = m.0 in let near' : i < length s.homes = omega arith in let k0 = r.each_seat me v at lives in
-      let e : Event J R = Fault v.worker i x in let w = added v r.history e in let o : Ended R = ended.Faulted x in let there = (held_is root workers s r me v k0 i).0 claim in
-      let nothing : posts_under i r.history ≡ [] = (posted_nothing (length s.homes) workers r.history r.legal v.worker i there).0 (ap posted k0.mine ∙ none_posted) in
-      let ok : IsAllowed (length s.homes) r.history e = (there, nothing) in
-      let turn = end_turn root workers me i v lives empty claim x o e Faulted refl (λ h z. refl) (λ h z. refl) (λ h z. refl) (λ u y. cc) (λ y. cc) s r at near' ok tt (λ h' hs a b. (x, a, b)) in
-      let k' = end_knows root workers me i v lives empty claim x o e Faulted refl (λ h z. refl) (λ h z. refl) (λ h z. refl) (λ u y. cc) (λ y. cc) s r at near' ok tt (λ h' hs a b. (x, a, b)) in (
-        w,
-        gives,
-        tt,
-        subst (λ (c : List (ℕ × Slot J R)). IsRow root workers (stepped s i 3 me c w gives)) (sym has)
-            (rebuilt root workers s r me v at lives (e ∷ r.history) (put r.faces i (plain Faulted)) (set s.words i 3) (set s.homes i (some (Row x))) w
-            (turned root workers s r v.worker i (e ∷ r.history) (plain Faulted) (set s.homes i (some (Row x))) turn) k'),
-        (((refl, refl, refl, refl, refl, refl), empty, refl, refl, refl), (x, has, subst (λ c. AddsEvent c v e w) len (adds root workers (length s.homes) r.history r.faces r.owner me v e (put r.faces i (plain Faulted)) w refl refl turn.legal turn.matched k0 k'))),
-      )
+  first_row : (i k : ℕ) (a b : R) (xs ys : List (ℕ × Slot J R)) → (i, Row a) ∷ xs ≡ (k, Row b) ∷ ys → a ≡ b
+  first_row i k a b xs ys e = let h : (i, Row a) ≡ (k, Row b) = cc e in let q : Path (Slot J R) (Row a) (Row b) = ap (λ (p : ℕ × Slot J R). p.1) h in cc q
+
+  -- what was told is the end that was made, once the slot was filled with its row
+  pub did_end : (slots i new r worker : ℕ) (x : Ended R) (m m1 m2 : Seated J R) → steps.ended (step slots i new 0 none) m1 r m2 → new ≡ code (end_word x) → m1 ≡ (m.0, (i, Row (row_in x)) ∷ rest m.1) → m.0.worker ≡ worker
+      → AddsEvent slots m.0 (end_event worker i x) m2.0
+  did_end slots i new r worker x m m1 m2 told coded now who = let did = told.1 in let me : Path (View J R) m1.0 m.0 = ap (λ (y : Seated J R). y.0) now in
+      let same : did.0 ≡ x = same_end did.0 x (sym did.1 ∙ coded) (first_row i i (row_in did.0) (row_in x) (rest m1.1) (rest m.1) (sym did.2 ∙ ap (λ (y : Seated J R). y.1) now)) in
+      let by : m1.0.worker ≡ worker = ap (λ (y : View J R). y.worker) me ∙ who in
+      subst (λ (z : View J R × ℕ × Ended R). AddsEvent slots z.0 (end_event z.1 i z.2) m2.0) (λ k. (me k, by k, same k)) did.3
 
   -- the slot of a claim goes home, and nothing else changes
   pub puts_down : (root : Option J) (workers slots me : ℕ) (m : Seated J R) (i : ℕ) → m.0.live ≡ true → i < slots → m.0.drawn ≡ 0 → holding m.0.mine ≡ Some i → m.1 ≡ (i, Empty) ∷ rest m.1
       → Allows (IsRow root workers) slots me m i (λ n. n) (put_down (step slots i 0 0 none) m)
   puts_down root workers slots me m i lives near empty claim has s r len at fits = let v = m.0 in let near' : i < length s.homes = omega arith in let k0 = r.each_seat me v at lives in
       let there = (held_is root workers s r me v k0 i).0 claim in
-      let face : r.faces i ≡ plain (Claimed v.worker) = of_shown (r.faces i) v.worker (sym (r.agrees i) ∙ there) in
+      let face : r.faces i ≡ word.Claimed v.worker = of_shown (r.faces i) v.worker (sym (r.state.agrees i) ∙ there) in
       let hs : Homes J R = set s.homes i (some Empty) in
       let w : View J R = record v { seen = r.history } in
       let base = next_same root workers s r v.worker in
       let next : IsNext root workers s r v.worker r.history r.faces s.words hs = record {
         long = length-set s.homes i (some Empty);
         wide = refl;
-        legal = base.legal;
-        matched = base.matched;
+        state = base.state;
         grows = base.grows;
         parts = base.parts;
-        shows = base.shows;
-        agrees = base.agrees;
-        beyond = base.beyond;
-        together = base.together;
         lies = λ z l. dite (ℕ_discrete z i) (λ is. subst (λ c. Lies root r.history hs z c) (sym (ap r.faces is ∙ face)) tt)
             (λ ne. lies_stay root r.history r.history s.homes hs z (set_else s.homes i z (some Empty) ne) refl refl (r.faces z) (r.lies z l));
         busy = base.busy;
@@ -157,6 +214,6 @@ module _ {J R : Type 0} where
         tt,
         subst (λ (c : List (ℕ × Slot J R)). IsRow root workers (stepped s i (get_or s.words i 0) me c w gives)) (sym has)
             (subst (λ (ws : List ℕ). IsRow root workers record { words = ws; homes = hs; views = set s.views me w }) (sym (set-get_or s.words i 0))
-            (rebuilt root workers s r me v at lives r.history r.faces s.words hs w next (knows_more root workers (length s.homes) r.history r.faces r.owner me v r.legal k0))),
+            (rebuilt root workers s r me v at lives r.history r.faces s.words hs w next (knows_more root workers (length s.homes) r.history r.faces r.owner me v r.state.legal k0))),
         (((refl, refl, refl, refl, refl, refl), empty, refl, refl, refl), (k0.seen, refl)),
       )

@@ -1,22 +1,22 @@
 -- Numbers below the mark of those that are taken stay taken, and the mark goes up by what is found at it.
-use Rattle.std.proofs.Common.{◌≡◌, ℕ, ◌%◌, ◌<◌, ◌≤◌, ◌⊎◌, ⊎_elim, Bool, true, false, ap, sym, ◌∙◌, subst, arith}
+use Rattle.std.proofs.Common.{◌≡◌, ℕ, ◌<◌, ◌≤◌, ◌⊎◌, ⊎_elim, Bool, true, false, ap, sym, ◌∙◌, subst, arith}
 use Rattle.std.specs.Prelude.{MatchBool}
 use Rattle.std.proofs.lemmas.Bool.Decides.{nat_tests}
 use Rattle.lc_board.specs.State.{Claimed, status}
 use Rattle.lc_board.specs.Growth.{GoesOn, rank}
-use Rattle.lc_board.specs.WordSteps.{IsFair, AddsEvent, Looks, Finds, Missed, taken_word, taken_after, last_look}
+use Rattle.lc_board.specs.WordSteps.{IsFair, AddsEvent, Looks, Finds, Missed, taken_after, last_look}
 use Rattle.lc_board.specs.WordPass.{AreTaken}
+use Rattle.lc_board.specs.WordCode.{is_taken}
+use Rattle.lc_board.specs.declared.words.coding.Word.{Word}
+use Rattle.lc_board.specs.declared.words.coding.Word.TheVariants as word
 use Rattle.lc_board.specs.declared.event.Event.{Event}
 use Rattle.lc_board.specs.declared.event.Event.TheVariants.{Claim, Over}
 use Rattle.lc_board.specs.declared.words.view.View.{View}
 use Rattle.lc_board.proofs.Growths.{longer, put_here, rank_from}
 
 -- which numbers are below the mark after a look
-taken_tells : (i taken r z : ℕ) → z < taken_after i taken r → (z < taken) ⊎ ((z ≡ i) × (taken_word r ≡ true))
-taken_tells i taken r z h = grind (arith, nat_tests)
-
-taken_ways : (r : ℕ) → taken_word r ≡ true → ((2 ≤ r) × (r < 4)) ⊎ ((4 ≤ r) × (r % 2 ≡ 1))
-taken_ways r h = grind (arith, nat_tests)
+taken_tells : (i taken : ℕ) (x : Word) (z : ℕ) → z < taken_after i taken x → (z < taken) ⊎ ((z ≡ i) × (is_taken x ≡ true))
+taken_tells i taken x z h = grind (arith, nat_tests)
 
 module _ {J R : Type 0} where
   pub stays_taken : (cap : ℕ) (v w : View J R) (k : ℕ) → GoesOn w.seen v.seen → IsFair cap w → 2 ≤ rank (status v.seen k) → 2 ≤ rank (status w.seen k)
@@ -32,20 +32,25 @@ module _ {J R : Type 0} where
   marked_added cap taken v w e a = marked_on cap taken v w (subst (λ h. GoesOn h v.seen) (sym a.0.2) (longer a.0.0 v.seen e a.0.1)) a.2
 
   -- and the number at the mark may be taken too
-  marked_next : (i taken taken2 r : ℕ) (w : View J R) → taken2 ≡ taken_after i taken r → AreTaken taken w.seen → (taken_word r ≡ true → 2 ≤ rank (status w.seen i)) → AreTaken taken2 w.seen
-  marked_next i taken taken2 r w mark marked here k low = ⊎_elim (λ (l : k < taken). marked k l) (λ (e : (k ≡ i) × (taken_word r ≡ true)). subst (λ z. 2 ≤ rank (status w.seen z)) (sym e.0) (here e.1))
-      (taken_tells i taken r k (subst (λ n. k < n) mark low))
+  marked_next : (i taken taken2 : ℕ) (x : Word) (w : View J R) → taken2 ≡ taken_after i taken x → AreTaken taken w.seen → (is_taken x ≡ true → 2 ≤ rank (status w.seen i)) → AreTaken taken2 w.seen
+  marked_next i taken taken2 x w mark marked here k low = ⊎_elim (λ (l : k < taken). marked k l) (λ (e : (k ≡ i) × (is_taken x ≡ true)). subst (λ z. 2 ≤ rank (status w.seen z)) (sym e.0) (here e.1))
+      (taken_tells i taken x k (subst (λ n. k < n) mark low))
 
-  found_taken : (i r : ℕ) (w : View J R) → Finds i r w → taken_word r ≡ true → 2 ≤ rank (status w.seen i)
-  found_taken i r w f is = ⊎_elim (λ (e : (2 ≤ r) × (r < 4)). let x = f.2 e.0 e.1 in omega arith) (λ (e : (4 ≤ r) × (r % 2 ≡ 1)). let x = f.3 e.0 e.1 in omega arith) (taken_ways r is)
+  found_taken : (i : ℕ) (x : Word) (w : View J R) → Finds i x w → is_taken x ≡ true → 2 ≤ rank (status w.seen i)
+  found_taken i word.Absent w f is = absurd cc
+  found_taken i word.Open w f is = absurd cc
+  found_taken i word.Returned w f is = let e = ap rank f in omega arith
+  found_taken i word.Faulted w f is = let e = ap rank f in omega arith
+  found_taken i (word.Drawn u) w f is = absurd cc
+  found_taken i (word.Claimed u) w f is = let e = ap rank f.0 in omega arith
 
   missed_marked : (cap taken : ℕ) (v w : View J R) (b : Bool) → MatchBool b (AddsEvent cap v (Over v.worker) w) (Looks cap v w) → AreTaken taken v.seen → AreTaken taken w.seen
   missed_marked cap taken v w true a = marked_added cap taken v w (Over v.worker) a
   missed_marked cap taken v w false a = marked_looked cap taken v w a
 
-  pub marked_missed : (cap i r taken taken2 : ℕ) (v w : View J R) → Missed cap i r v w → taken2 ≡ taken_after i taken r → AreTaken taken v.seen → AreTaken taken2 w.seen
-  marked_missed cap i r taken taken2 v w m mark marked = marked_next i taken taken2 r w mark (missed_marked cap taken v w (last_look cap i v.low r) m.7 marked) (found_taken i r w m.6)
+  pub marked_missed : (cap i : ℕ) (x : Word) (taken taken2 : ℕ) (v w : View J R) → Missed cap i x v w → taken2 ≡ taken_after i taken x → AreTaken taken v.seen → AreTaken taken2 w.seen
+  marked_missed cap i x taken taken2 v w m mark marked = marked_next i taken taken2 x w mark (missed_marked cap taken v w (last_look cap i v.low x) m.7 marked) (found_taken i x w m.6)
 
-  pub marked_claimed : (cap i wk word taken taken2 : ℕ) (j : J) (v w : View J R) → AddsEvent cap v (Claim wk i j) w → taken2 ≡ taken_after i taken word → AreTaken taken v.seen → AreTaken taken2 w.seen
-  marked_claimed cap i wk word taken taken2 j v w a mark marked = marked_next i taken taken2 word w mark (marked_added cap taken v w (Claim wk i j) a marked)
-      (λ _. let x = ap rank (ap (λ h. status h i) a.0.2 ∙ put_here (status a.0.0) i (Claimed wk)) in omega arith)
+  pub marked_claimed : (cap i wk : ℕ) (x : Word) (taken taken2 : ℕ) (j : J) (v w : View J R) → AddsEvent cap v (Claim wk i j) w → taken2 ≡ taken_after i taken x → AreTaken taken v.seen → AreTaken taken2 w.seen
+  marked_claimed cap i wk x taken taken2 j v w a mark marked = marked_next i taken taken2 x w mark (marked_added cap taken v w (Claim wk i j) a marked)
+      (λ _. let e = ap rank (ap (λ h. status h i) a.0.2 ∙ put_here (status a.0.0) i (Claimed wk)) in omega arith)

@@ -1,30 +1,33 @@
 -- A number is drawn, and then opened with a job.
-use Rattle.std.proofs.Common.{◌≡◌, ◌≢◌, ℕ, eqb, subst, ◌+◌, ◌*◌, ◌<◌, true, List, [], ◌∷◌, length, get_or, set, sym, refl, ap, ◌∙◌, arith, length-set, Option, Some}
+use Rattle.std.proofs.Common.{◌≡◌, ◌≢◌, ℕ, eqb, subst, ◌+◌, ◌*◌, ◌<◌, true, cond, List, [], ◌∷◌, length, get_or, set, sym, refl, ap, ◌∙◌, arith, length-set, Option, Some}
 use mathlib.Core.Logic.{dite}
 use mathlib.Core.Option.{some, none}
 use native.Mathlib.Decide.{ℕ_discrete, dec_le}
 use lib.ListN.{get_elem?}
 use lib.Seq.{set-get_or}
 use prog.Atomic.{either}
+use Rattle.std.specs.Prelude.{MatchBool}
 use Rattle.atomic_table.specs.Table.{Act, keeps, takes, gives, stepped, step, rest, Allows, Valid, carried_after}
 use Rattle.atomic_table.proofs.Lists.{set_else, set_here, exchanged}
 use Rattle.lc_board.specs.State.{Absent, Open, Claimed, status}
 use Rattle.lc_board.specs.LegalHistory.{IsLegal}
 use Rattle.lc_board.specs.Holding.{holding}
 use Rattle.lc_board.specs.Growth.{put, job_at}
-use Rattle.lc_board.specs.WordRow.{drawn_by, plain, shown, code, Seated, Lies, Knows, IsRow}
-use Rattle.lc_board.specs.WordSteps.{IsFair, AddsEvent, drew, stepped_over, opened}
+use Rattle.lc_board.specs.WordCode.{shown, code, word_of, is_absent}
+use Rattle.lc_board.specs.WordRow.{Seated, Lies, Knows, IsRow}
+use Rattle.lc_board.specs.declared.words.coding.Word.TheVariants as word
+use Rattle.lc_board.specs.WordSteps.{IsFair, AddsEvent, TakesEmpty, drew, stepped_over, opened}
 use Rattle.lc_board.specs.declared.event.Event.{Event}
 use Rattle.lc_board.specs.declared.event.Event.TheVariants.{Post}
 use Rattle.lc_board.specs.declared.words.view.Slot.{Slot}
 use Rattle.lc_board.specs.declared.words.view.Slot.TheVariants.{Empty, Job}
 use Rattle.lc_board.specs.declared.words.view.View.{View}
 use Rattle.lc_board.proofs.Growths.{at_put, put_here, put_else, whole, part_own, part_else}
-use Rattle.lc_board.proofs.Places.{at_same, at_other}
+use Rattle.lc_board.proofs.WordCodes.{not_absent}
 use Rattle.lc_board.proofs.WordsMoved.{agree_put, held_is, rebuilt, IsTurn, turned}
-use Rattle.lc_board.proofs.WordClaims.{St, is_absent, updated, knows_more, next_same, fair, low_stays, adds}
+use Rattle.lc_board.proofs.WordClaims.{St, face_here, updated, knows_more, next_same, fair, low_stays, adds}
 
-held_same : (a b : ℕ) → drawn_by a ≡ drawn_by b → a ≡ b
+held_same : (a b : ℕ) → word.Drawn a ≡ word.Drawn b → a ≡ b
 held_same a b e = cc
 
 module _ {J R : Type 0} where
@@ -40,32 +43,32 @@ module _ {J R : Type 0} where
     abbrev k : Knows root workers r.history r.faces r.owner me v
     k = r.each_seat me v at lives
 
-    module _ (gone : r.faces i ≡ plain Absent) where
+    module _ (gone : r.faces i ≡ word.Absent) where
       below_it : (p : ℕ) → holding v.mine ≡ Some p → p < i
-      below_it p is = dite (dec_le i p) (λ le. let x : Absent ≡ Claimed v.worker = sym (r.agrees p ∙ ap shown (r.together i p le gone)) ∙ (held_is root workers s r me v k p).0 is in absurd (cc)) (λ no. omega arith)
+      below_it p is = dite (dec_le i p) (λ le. let x : Absent ≡ Claimed v.worker = sym (r.state.agrees p ∙ ap shown (r.state.together i p le gone)) ∙ (held_is root workers s r me v k p).0 is in absurd (cc)) (λ no. omega arith)
 
-      draw_turn : IsTurn root workers s r v.worker i r.history (drawn_by v.worker) (set s.homes i none)
+      draw_turn : IsTurn root workers s r v.worker i r.history (word.Drawn v.worker) (set s.homes i none)
       draw_turn = record {
         near = near;
         long = length-set s.homes i none;
-        legal = r.legal;
-        matched = r.matched;
+        legal = r.state.legal;
+        matched = r.state.matched;
         grows = whole r.history;
         parts = λ u ne. refl;
-        agrees = λ z. at_put r.faces i (drawn_by v.worker) (λ y f. status r.history y ≡ shown f) z (r.agrees i ∙ ap shown gone) (λ _. r.agrees z);
+        agrees = λ z. at_put r.faces i (word.Drawn v.worker) (λ y f. status r.history y ≡ shown f) z (r.state.agrees i ∙ ap shown gone) (λ _. r.state.agrees z);
         filled = λ _ z below. k.front z (omega arith);
         some_face = λ is. cc;
         homes_else = λ z ne. set_else s.homes i z none ne;
         jobs_else = λ z ne. refl;
         rows_else = λ z ne. refl;
         lies_here = tt;
-        busy = λ z w. at_put r.faces i (drawn_by v.worker) (λ y f. f ≡ drawn_by w → (p : ℕ) × (status r.history p ≡ Claimed w)) z
+        busy = λ z w. at_put r.faces i (word.Drawn v.worker) (λ y f. f ≡ word.Drawn w → (p : ℕ) × (status r.history p ≡ Claimed w)) z
             (λ is. (q, (held_is root workers s r me v k q).0 claim ∙ ap Claimed (held_same v.worker w is))) (λ _ is. r.busy z w is);
-        loose = λ u ne. ((λ x. let y = sym gone ∙ x in cc), (λ (x : drawn_by v.worker ≡ drawn_by u). ne (sym (held_same v.worker u x))), (λ x. cc));
+        loose = λ u ne. ((λ x. let y = sym gone ∙ x in cc), (λ (x : word.Drawn v.worker ≡ word.Drawn u). ne (sym (held_same v.worker u x))), (λ x. cc));
       }
 
-      draw_knows : Knows root workers r.history (put r.faces i (drawn_by v.worker)) r.owner me (drawn_view v r.history i)
-      draw_knows = let k' = knows_more root workers (length s.homes) r.history r.faces r.owner me v r.legal k in record {
+      draw_knows : Knows root workers r.history (put r.faces i (word.Drawn v.worker)) r.owner me (drawn_view v r.history i)
+      draw_knows = let k' = knows_more root workers (length s.homes) r.history r.faces r.owner me v r.state.legal k in record {
         root_is = k.root_is;
         workers_are = k.workers_are;
         member = k.member;
@@ -73,21 +76,21 @@ module _ {J R : Type 0} where
         seen = whole r.history;
         own = k.mine;
         owns = k.owns;
-        drew = λ z. at_put r.faces i (drawn_by v.worker) (λ y f. f ≡ drawn_by v.worker → i + 1 ≡ y + 1) z (λ _. refl) (λ _ x. absurd (let y = k.drew z x in omega arith));
-        draws = λ z is. let e : i ≡ z = omega arith in subst (λ y. put r.faces i (drawn_by v.worker) y ≡ drawn_by v.worker) e (put_here r.faces i (drawn_by v.worker));
+        drew = λ z. at_put r.faces i (word.Drawn v.worker) (λ y f. f ≡ word.Drawn v.worker → i + 1 ≡ y + 1) z (λ _. refl) (λ _ x. absurd (let y = k.drew z x in omega arith));
+        draws = λ z is. let e : i ≡ z = omega arith in subst (λ y. put r.faces i (word.Drawn v.worker) y ≡ word.Drawn v.worker) e (put_here r.faces i (word.Drawn v.worker));
         low = k'.low;
-        front = λ z. at_put r.faces i (drawn_by v.worker) (λ y f. y < i + 1 → f ≢ plain Absent) z (λ _ x. cc) (λ ne l. k.front z (omega arith));
+        front = λ z. at_put r.faces i (word.Drawn v.worker) (λ y f. y < i + 1 → f ≢ word.Absent) z (λ _ x. cc) (λ ne l. k.front z (omega arith));
         deals = k.deals;
         joins = λ n u m is. let x = k.joins n u m is in record {
           owned = x.owned;
           other = x.other;
           events = x.events;
-          idle = λ z. at_put r.faces i (drawn_by v.worker) (λ y f. f ≢ drawn_by u) z (λ y. x.other (sym (held_same v.worker u y))) (λ _. x.idle z);
+          idle = λ z. at_put r.faces i (word.Drawn v.worker) (λ y f. f ≢ word.Drawn u) z (λ y. x.other (sym (held_same v.worker u y))) (λ _. x.idle z);
         };
       }
 
-    pass_knows : r.faces i ≢ plain Absent → Knows root workers r.history r.faces r.owner me (passed_view v r.history i)
-    pass_knows there = let k' = knows_more root workers (length s.homes) r.history r.faces r.owner me v r.legal k in record {
+    pass_knows : r.faces i ≢ word.Absent → Knows root workers r.history r.faces r.owner me (passed_view v r.history i)
+    pass_knows there = let k' = knows_more root workers (length s.homes) r.history r.faces r.owner me v r.state.legal k in record {
       root_is = k.root_is;
       workers_are = k.workers_are;
       member = k.member;
@@ -109,24 +112,24 @@ module _ {J R : Type 0} where
       let near' : i < length s.homes = omega arith in let k0 = r.each_seat me v at lives in
       let G : ℕ → Type 0 = λ x. (w : View J R) × (a : Act (Slot J R)) × Valid s.homes m.1 a × IsRow root workers (stepped s i x me m.1 w a) × drew (step slots i 0 new none) m z (w, carried_after m.1 a) in
       exchanged z 0 new G
-      (λ (hit : z ≡ 0). let gone = is_absent (r.faces i) (sym (r.shows i near') ∙ hit) in let l = subst (λ c. Lies root r.history s.homes i c) gone (r.lies i near') in
+      (λ (hit : z ≡ 0). let gone : r.faces i ≡ word.Absent = sym (face_here root workers s r i near') ∙ ap word_of hit in let l = subst (λ c. Lies root r.history s.homes i c) gone (r.lies i near') in
       let w = drawn_view v r.history i in let k' = draw_knows root workers me i v lives empty front q claim s r at near' gone in (
         w,
         takes i Empty,
         l,
         subst (λ x. IsRow root workers (stepped s i x me m.1 w (takes i Empty))) (sym is)
-            (rebuilt root workers s r me v at lives r.history (put r.faces i (drawn_by v.worker)) (set s.words i (4 + 2 * v.worker)) (set s.homes i none) w
-            (turned root workers s r v.worker i r.history (drawn_by v.worker) (set s.homes i none) (draw_turn root workers me i v lives empty front q claim s r at near' gone)) k'),
+            (rebuilt root workers s r me v at lives r.history (put r.faces i (word.Drawn v.worker)) (set s.words i (4 + 2 * v.worker)) (set s.homes i none) w
+            (turned root workers s r v.worker i r.history (word.Drawn v.worker) (set s.homes i none) (draw_turn root workers me i v lives empty front q claim s r at near' gone)) k'),
         (
           (refl, refl, refl, refl, refl, refl),
           refl,
           refl,
-          (k0.seen, refl, subst (λ c. IsFair c w) len (fair root workers (length s.homes) r.history (put r.faces i (drawn_by v.worker)) r.owner me w refl r.legal r.matched k')),
-          (λ _. (refl, refl, below_it root workers me i v lives empty front q claim s r at near' gone)),
-          (λ miss. absurd (miss hit)),
+          (k0.seen, refl, subst (λ c. IsFair c w) len (fair root workers (length s.homes) r.history (put r.faces i (word.Drawn v.worker)) r.owner me w refl r.state.legal r.state.matched k')),
+          subst (λ b. MatchBool b (TakesEmpty i m (w, carried_after m.1 (takes i Empty))) ((carried_after m.1 (takes i Empty) ≡ m.1) × (w.drawn ≡ v.drawn))) (sym (ap (λ n. is_absent (word_of n)) hit))
+              (refl, refl, below_it root workers me i v lives empty front q claim s r at near' gone),
         ),
       ))
-      (λ (miss : z ≢ 0). let w = passed_view v r.history i in let k' = pass_knows root workers me i v lives empty front q claim s r at near' (λ e. miss (r.shows i near' ∙ ap code e)) in (
+      (λ (miss : z ≢ 0). let w = passed_view v r.history i in let k' = pass_knows root workers me i v lives empty front q claim s r at near' (λ e. miss (r.state.shows i near' ∙ ap code e)) in (
         w,
         keeps,
         tt,
@@ -136,9 +139,9 @@ module _ {J R : Type 0} where
           (refl, refl, refl, refl, refl, refl),
           refl,
           refl,
-          (k0.seen, refl, subst (λ c. IsFair c w) len (fair root workers (length s.homes) r.history r.faces r.owner me w refl r.legal r.matched k')),
-          (λ hit. absurd (miss hit)),
-          (λ _. (refl, refl)),
+          (k0.seen, refl, subst (λ c. IsFair c w) len (fair root workers (length s.homes) r.history r.faces r.owner me w refl r.state.legal r.state.matched k')),
+          subst (λ b. MatchBool b (TakesEmpty i m (w, m.1)) ((m.1 ≡ m.1) × (w.drawn ≡ v.drawn)))
+              (sym (ap is_absent (face_here root workers s r i near') ∙ not_absent (r.faces i) (λ e. miss (r.state.shows i near' ∙ ap code e)))) (refl, refl),
         ),
       ))
 
@@ -147,7 +150,7 @@ module _ {J R : Type 0} where
   steps_over root workers slots me m i q lives near empty front claim s r len at fits = let v = m.0 in let z : ℕ = get_or s.words i 0 in
       let near' : i < length s.homes = omega arith in let k0 = r.each_seat me v at lives in
       dite (ℕ_discrete z 0)
-      (λ (hit : z ≡ 0). let w = updated v r.history in let k' = knows_more root workers (length s.homes) r.history r.faces r.owner me v r.legal k0 in (
+      (λ (hit : z ≡ 0). let w = updated v r.history in let k' = knows_more root workers (length s.homes) r.history r.faces r.owner me v r.state.legal k0 in (
         w,
         keeps,
         tt,
@@ -158,11 +161,11 @@ module _ {J R : Type 0} where
           (refl, refl, refl, refl, refl, refl),
           refl,
           refl,
-          sym (at_same z 0 v.front (i + 1) hit),
-          (k0.seen, refl, subst (λ c. IsFair c w) len (fair root workers (length s.homes) r.history r.faces r.owner me w refl r.legal r.matched k')),
+          sym (ap (λ n. cond (is_absent (word_of n)) v.front (i + 1)) hit),
+          (k0.seen, refl, subst (λ c. IsFair c w) len (fair root workers (length s.homes) r.history r.faces r.owner me w refl r.state.legal r.state.matched k')),
         ),
       ))
-      (λ (miss : z ≢ 0). let w = passed_view v r.history i in let k' = pass_knows root workers me i v lives empty front q claim s r at near' (λ e. miss (r.shows i near' ∙ ap code e)) in (
+      (λ (miss : z ≢ 0). let w = passed_view v r.history i in let k' = pass_knows root workers me i v lives empty front q claim s r at near' (λ e. miss (r.state.shows i near' ∙ ap code e)) in (
         w,
         keeps,
         tt,
@@ -173,8 +176,8 @@ module _ {J R : Type 0} where
           (refl, refl, refl, refl, refl, refl),
           refl,
           refl,
-          sym (at_other z 0 v.front (i + 1) miss),
-          (k0.seen, refl, subst (λ c. IsFair c w) len (fair root workers (length s.homes) r.history r.faces r.owner me w refl r.legal r.matched k')),
+          sym (ap (λ b. cond b v.front (i + 1)) (ap is_absent (face_here root workers s r i near') ∙ not_absent (r.faces i) (λ e. miss (r.state.shows i near' ∙ ap code e)))),
+          (k0.seen, refl, subst (λ c. IsFair c w) len (fair root workers (length s.homes) r.history r.faces r.owner me w refl r.state.legal r.state.matched k')),
         ),
       ))
 
@@ -190,36 +193,36 @@ module _ {J R : Type 0} where
     abbrev post : Event J R
     post = Post v.worker p i j
 
-    has : r.faces i ≡ drawn_by v.worker
+    has : r.faces i ≡ word.Drawn v.worker
     has = ko.draws i full
 
     is_new : status r.history i ≡ Absent
-    is_new = r.agrees i ∙ ap shown has
+    is_new = r.state.agrees i ∙ ap shown has
 
     post_legal : IsLegal (length s.homes) workers (Post v.worker p i j ∷ r.history)
-    post_legal = (r.legal, ko.member, ((held_is root workers s r me v ko p).0 claim, is_new, near, below))
+    post_legal = (r.state.legal, ko.member, ((held_is root workers s r me v ko p).0 claim, is_new, near, below))
 
-    open_turn : IsTurn root workers s r v.worker i (Post v.worker p i j ∷ r.history) (plain Open) (set s.homes i (some (Job j)))
+    open_turn : IsTurn root workers s r v.worker i (Post v.worker p i j ∷ r.history) word.Open (set s.homes i (some (Job j)))
     open_turn = record {
       near = near;
       long = length-set s.homes i (some (Job j));
       legal = post_legal;
-      matched = (r.matched, tt);
+      matched = (r.state.matched, tt);
       grows = (post ∷ [], refl);
       parts = λ u ne. part_else u r.history post (λ is. ne (sym is));
-      agrees = λ z. agree_put (status r.history) r.faces i Open (plain Open) refl r.agrees z;
+      agrees = λ z. agree_put (status r.history) r.faces i Open word.Open refl r.state.agrees z;
       filled = λ is. absurd (let x = sym has ∙ is in cc);
       some_face = λ is. cc;
       homes_else = λ z ne. set_else s.homes i z (some (Job j)) ne;
       jobs_else = λ z ne. put_else (job_at root r.history) i (Some j) z ne;
       rows_else = λ z ne. refl;
       lies_here = (j, set_here s.homes i (some (Job j)) near, put_here (job_at root r.history) i (Some j));
-      busy = λ z w is. let o = at_put r.faces i (plain Open) (λ y f. f ≡ drawn_by w → r.faces y ≡ drawn_by w) z (λ x. absurd (cc)) (λ _ x. x) is in let b = r.busy z w o in
+      busy = λ z w is. let o = at_put r.faces i word.Open (λ y f. f ≡ word.Drawn w → r.faces y ≡ word.Drawn w) z (λ x. absurd (cc)) (λ _ x. x) is in let b = r.busy z w o in
           (b.0, (put_else (status r.history) i Open b.0 (λ (x : b.0 ≡ i). let y : Claimed w ≡ Absent = sym b.1 ∙ (ap (status r.history) x ∙ is_new) in cc) ∙ b.1));
       loose = λ u ne. ((λ x. ne (sym (held_same v.worker u (sym has ∙ x)))), (λ x. cc), (λ x. cc));
     }
 
-    open_knows : Knows root workers (Post v.worker p i j ∷ r.history) (put r.faces i (plain Open)) r.owner me (opened_view v r.history (Post v.worker p i j))
+    open_knows : Knows root workers (Post v.worker p i j ∷ r.history) (put r.faces i word.Open) r.owner me (opened_view v r.history (Post v.worker p i j))
     open_knows = record {
       root_is = ko.root_is;
       workers_are = ko.workers_are;
@@ -228,16 +231,16 @@ module _ {J R : Type 0} where
       seen = whole (post ∷ r.history);
       own = part_own v.worker r.history post refl ∙ ap (λ z. post ∷ z) ko.mine;
       owns = ko.owns;
-      drew = λ z. at_put r.faces i (plain Open) (λ y f. f ≡ drawn_by v.worker → 0 ≡ y + 1) z (λ x. absurd (cc)) (λ ne x. absurd (let y = ko.drew z x in ne (omega arith)));
+      drew = λ z. at_put r.faces i word.Open (λ y f. f ≡ word.Drawn v.worker → 0 ≡ y + 1) z (λ x. absurd (cc)) (λ ne x. absurd (let y = ko.drew z x in ne (omega arith)));
       draws = λ z is. absurd (omega arith);
       low = low_stays root workers (length s.homes) r.history r.faces r.owner me v post post_legal ko;
-      front = λ z below. at_put r.faces i (plain Open) (λ y f. y < v.front → f ≢ plain Absent) z (λ _ x. cc) (λ _. ko.front z) below;
+      front = λ z below. at_put r.faces i word.Open (λ y f. y < v.front → f ≢ word.Absent) z (λ _ x. cc) (λ _. ko.front z) below;
       deals = ko.deals;
       joins = λ a u m is. let x = ko.joins a u m is in record {
         owned = x.owned;
         other = x.other;
         events = part_else u r.history post (λ w. x.other (sym w)) ∙ x.events;
-        idle = λ z. at_put r.faces i (plain Open) (λ y f. f ≢ drawn_by u) z (λ y. cc) (λ _. x.idle z);
+        idle = λ z. at_put r.faces i word.Open (λ y f. f ≢ word.Drawn u) z (λ y. cc) (λ _. x.idle z);
       };
     }
 
@@ -250,7 +253,7 @@ module _ {J R : Type 0} where
         gives,
         tt,
         subst (λ (c : List (ℕ × Slot J R)). IsRow root workers (stepped s i 1 me c w gives)) (sym has)
-            (rebuilt root workers s r me v at lives (e ∷ r.history) (put r.faces i (plain Open)) (set s.words i 1) (set s.homes i (some (Job j))) w
-            (turned root workers s r v.worker i (e ∷ r.history) (plain Open) (set s.homes i (some (Job j))) turn) k'),
-        (((refl, refl, refl, refl, refl, refl), refl, refl, refl, refl), (p, j, claim, has, subst (λ c. AddsEvent c v e w) len (adds root workers (length s.homes) r.history r.faces r.owner me v e (put r.faces i (plain Open)) w refl refl turn.legal turn.matched k0 k'))),
+            (rebuilt root workers s r me v at lives (e ∷ r.history) (put r.faces i word.Open) (set s.words i 1) (set s.homes i (some (Job j))) w
+            (turned root workers s r v.worker i (e ∷ r.history) word.Open (set s.homes i (some (Job j))) turn) k'),
+        (((refl, refl, refl, refl, refl, refl), refl, refl, refl, refl), (p, j, claim, has, subst (λ c. AddsEvent c v e w) len (adds root workers (length s.homes) r.history r.faces r.owner me v e (put r.faces i word.Open) w refl refl turn.legal turn.matched k0 k'))),
       )

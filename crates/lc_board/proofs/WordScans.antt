@@ -1,44 +1,79 @@
 -- A claim that goes up over the words.
-use Rattle.std.proofs.Common.{◌≡◌, ◌≢◌, ℕ, ◌+◌, ◌<◌, ◌≤◌, ◌⊎◌, Bool, true, false, ◌∷◌, refl, ap, sym, ◌∙◌, subst, inl, inr, ⊎_elim, Option, Some, None, arith}
+use Rattle.std.proofs.Common.{◌≡◌, ◌≢◌, ℕ, ◌+◌, ◌<◌, ◌≤◌, ◌⊎◌, Bool, true, false, ◌||◌, ◌∷◌, refl, ap, sym, ◌∙◌, subst, inl, inr, ⊎_elim, Option, Some, None, arith}
 use mathlib.Core.Logic.{dite}
 use native.Mathlib.Decide.{ℕ_discrete, dec_le}
-use Rattle.std.specs.Prelude.{MatchBool, IfSome, IfNone, MatchResult, Result, Ok, Err}
+use Rattle.std.specs.Prelude.{MatchBool, IfSome, IfNone, Result, Ok, Err}
 use Rattle.std.proofs.lemmas.Bool.Decides.{nat_tests}
 use Rattle.lc_board.specs.State.{Status, Absent, Open, status}
 use Rattle.lc_board.specs.LegalHistory.{IsLegal}
 use Rattle.lc_board.specs.Holding.{holding}
 use Rattle.lc_board.specs.Growth.{GoesOn, rank}
-use Rattle.lc_board.specs.WordSteps.{IsFair, AddsEvent, Looks, Sees, OthersHeld, Waits, Missed, low_after, last_look}
+use Rattle.lc_board.specs.WordSteps.{EndsAt, IsFair, AddsEvent, Looks, Sees, OthersHeld, Waits, SomeHolds, Finds, Missed, low_after, is_last_word, last_look}
+use Rattle.lc_board.specs.WordCode.{is_absent, is_open, has_ended, is_busy}
 use Rattle.lc_board.specs.WordMarks.{AnswersLow, HasPassed}
-use Rattle.lc_board.specs.WordsBoard.{AnswersWords}
+use Rattle.lc_board.specs.WordsBoard.{AnswersWordsClaim, IsSamePass, TriesClaim, known}
+use Rattle.lc_board.specs.declared.words.Words.{Words}
+use Rattle.lc_board.specs.declared.words.pass.WordsPass.{WordsPass}
 use Rattle.lc_board.specs.declared.answers.Claim.{Claim as Answer}
 use Rattle.lc_board.specs.declared.answers.Claim.TheVariants as answer
 use Rattle.lc_board.specs.declared.event.Event.{Event}
 use Rattle.lc_board.specs.declared.event.Event.TheVariants.{Post, Claim, Over}
+use Rattle.lc_board.specs.declared.words.coding.Word.{Word}
+use Rattle.lc_board.specs.declared.words.coding.Word.TheVariants as word
 use Rattle.lc_board.specs.declared.words.view.View.{View}
 use Rattle.lc_board.proofs.Growths.{rank_from, whole, goes_trans, rank_zero}
+use Rattle.lc_board.proofs.WordCodes.{absent_is, open_is}
 use Rattle.lc_board.proofs.WordMarks.{stays_taken}
 
-last_no : (cap i low r : ℕ) → low ≢ i → last_look cap i low r ≡ false
-last_no cap i low r h = grind (arith, nat_tests)
+-- a look at another number than the low mark, or at one after which others may be used, is not the last
+last_no : (cap i low : ℕ) (x : Word) → low ≢ i → last_look cap i low x ≡ false
+last_no cap i low x h = grind (arith, nat_tests)
 
-last_open : (cap i low : ℕ) → last_look cap i low 1 ≡ false
-last_open cap i low = grind (arith, nat_tests)
+last_not : (cap i low : ℕ) (x : Word) → is_last_word cap i x ≡ false → last_look cap i low x ≡ false
+last_not cap i low x h = grind (arith, nat_tests)
 
-last_yes : (cap i low r : ℕ) → low ≡ i → (r ≡ 0) ⊎ ((2 ≤ r) × (r < 4) × (i + 1 ≡ cap)) → last_look cap i low r ≡ true
-last_yes cap i low r e h = grind (arith, nat_tests)
+last_yes : (cap i low : ℕ) (x : Word) → low ≡ i → is_last_word cap i x ≡ true → last_look cap i low x ≡ true
+last_yes cap i low x e h = grind (arith, nat_tests)
 
-last_not : (cap i low r : ℕ) → r ≢ 0 → ((r < 4) → i + 1 < cap) → last_look cap i low r ≡ false
-last_not cap i low r a b = grind (arith, nat_tests)
-
-low_open : (cap i low : ℕ) → low_after cap i low 1 ≡ low
+low_open : (cap i low : ℕ) → low_after cap i low word.Open ≡ low
 low_open cap i low = grind (arith, nat_tests)
 
-pub low_next : (cap i low r : ℕ) → low ≡ i → 2 ≤ r → r < 4 → i + 1 < cap → low_after cap i low r ≡ i + 1
-low_next cap i low r e a b c = grind (arith, nat_tests)
+low_next : (cap i low : ℕ) (x : Word) → low ≡ i → has_ended x ≡ true → i + 1 < cap → low_after cap i low x ≡ i + 1
+low_next cap i low x e ends more = grind (arith, nat_tests)
 
-pub not_last : (cap i low r : ℕ) → r ≢ 0 → (low ≡ i → r < 4 → i + 1 < cap) → last_look cap i low r ≡ false
-not_last cap i low r some_word more = dite (ℕ_discrete low i) (λ e. last_not cap i low r some_word (more e)) (λ ne. last_no cap i low r ne)
+pub not_last : (cap i low : ℕ) (x : Word) → (low ≡ i → is_last_word cap i x ≡ false) → last_look cap i low x ≡ false
+not_last cap i low x other = dite (ℕ_discrete low i) (λ e. last_not cap i low x (other e)) (λ ne. last_no cap i low x ne)
+
+absent_last : (cap i : ℕ) (x : Word) → is_last_word cap i x ≡ false → is_absent x ≡ false
+absent_last cap i x h = grind (arith, nat_tests)
+
+pub absent_is_last : (cap i : ℕ) (x : Word) → is_absent x ≡ true → is_last_word cap i x ≡ false → ⊥
+absent_is_last cap i x a b = let c = absent_last cap i x b in let d = sym a ∙ c in absurd cc
+
+ended_last : (cap i : ℕ) (x : Word) → is_last_word cap i x ≡ false → has_ended x ≡ true → i < cap → i + 1 < cap
+ended_last cap i x h e l = grind (arith, nat_tests)
+
+busy_last : (cap i : ℕ) (x : Word) → is_busy x ≡ true → is_last_word cap i x ≡ false
+busy_last cap i word.Absent e = absurd cc
+busy_last cap i word.Open e = refl
+busy_last cap i word.Returned e = absurd cc
+busy_last cap i word.Faulted e = absurd cc
+busy_last cap i (word.Drawn w) e = refl
+busy_last cap i (word.Claimed w) e = refl
+
+-- a number that is neither absent, open nor busy has ended
+ended_else : (x : Word) → is_absent x ≡ false → is_open x ≡ false → is_busy x ≡ false → has_ended x ≡ true
+ended_else word.Absent a b c = absurd cc
+ended_else word.Open a b c = absurd cc
+ended_else word.Returned a b c = refl
+ended_else word.Faulted a b c = refl
+ended_else (word.Drawn w) a b c = absurd cc
+ended_else (word.Claimed w) a b c = absurd cc
+
+or_left : (a b : Bool) → (a || b) ≡ true → b ≡ false → a ≡ true
+or_left true b e n = refl
+or_left false true e n = absurd cc
+or_left false false e n = absurd cc
 
 rank_two : (m : Status) → 2 ≤ rank m → m ≢ Open
 rank_two m h e = let x = ap rank e in omega arith
@@ -62,6 +97,9 @@ module _ {J R : Type 0} where
   pub looks_trans : (cap : ℕ) (v u w : View J R) → Looks cap v u → Looks cap u w → Looks cap v w
   looks_trans cap v u w a b = let sees = sees_trans v u w (a.0, a.1) (b.0, b.1) in (sees.0, sees.1, b.2)
 
+  pub same_trans : (a b c : WordsPass J R) → IsSamePass a b → IsSamePass b c → IsSamePass a c
+  same_trans a b c x y = (y.0 ∙ x.0, y.1 ∙ x.1, y.2 ∙ x.2, y.3 ∙ x.3, y.4 ∙ x.4)
+
   pub sees_self : (v : View J R) → Sees v v
   sees_self v = (whole v.seen, refl)
 
@@ -74,11 +112,11 @@ module _ {J R : Type 0} where
     pub others : busy ≡ true → OthersHeld v w × (start < i)
     pub far : start < i → (k : ℕ) → cap ≤ k → status v.seen k ≡ Absent
 
-  looks_of : (cap i r : ℕ) (v w : View J R) → Missed cap i r v w → last_look cap i v.low r ≡ false → Looks cap v w
-  looks_of cap i r v w m is = subst (λ b. MatchBool b (AddsEvent cap v (Over v.worker) w) (Looks cap v w)) is m.7
+  looks_of : (cap i : ℕ) (x : Word) (v w : View J R) → Missed cap i x v w → last_look cap i v.low x ≡ false → Looks cap v w
+  looks_of cap i x v w m is = subst (λ b. MatchBool b (AddsEvent cap v (Over v.worker) w) (Looks cap v w)) is m.7
 
-  over_of : (cap i r : ℕ) (v w : View J R) → Missed cap i r v w → last_look cap i v.low r ≡ true → AddsEvent cap v (Over v.worker) w
-  over_of cap i r v w m is = subst (λ b. MatchBool b (AddsEvent cap v (Over v.worker) w) (Looks cap v w)) is m.7
+  over_of : (cap i : ℕ) (x : Word) (v w : View J R) → Missed cap i x v w → last_look cap i v.low x ≡ true → AddsEvent cap v (Over v.worker) w
+  over_of cap i x v w m is = subst (λ b. MatchBool b (AddsEvent cap v (Over v.worker) w) (Looks cap v w)) is m.7
 
   -- the numbers that are passed stay passed
   passed : (cap : ℕ) (v u w : View J R) (k : ℕ) → Looks cap u w → (status v.seen k ≡ Absent) ⊎ (2 ≤ rank (status u.seen k)) → (status v.seen k ≡ Absent) ⊎ (2 ≤ rank (status w.seen k))
@@ -101,9 +139,9 @@ module _ {J R : Type 0} where
   }
 
   -- it is over
-  pub scan_over : (cap start i r : ℕ) (busy : Bool) (v u w : View J R) → u.worker ≡ v.worker → IsScan cap start i busy v u → u.low ≡ i → Missed cap i r u w → (r ≡ 0) ⊎ ((2 ≤ r) × (r < 4) × (i + 1 ≡ cap)) → AddsEvent cap v (Over v.worker) w
-  scan_over cap start i r busy v u w who s low m last =
-      subst (λ z. AddsEvent cap v (Over z) w) who (sees_adds cap v u w (Over u.worker) s.sees (over_of cap i r u w m (last_yes cap i u.low r low last)))
+  pub scan_over : (cap start i : ℕ) (x : Word) (busy : Bool) (v u w : View J R) → u.worker ≡ v.worker → IsScan cap start i busy v u → u.low ≡ i → Missed cap i x u w → is_last_word cap i x ≡ true → AddsEvent cap v (Over v.worker) w
+  scan_over cap start i x busy v u w who s low m last =
+      subst (λ z. AddsEvent cap v (Over z) w) who (sees_adds cap v u w (Over u.worker) s.sees (over_of cap i x u w m (last_yes cap i u.low x low last)))
 
   -- all that had been seen posted is passed, where the rest is absent
   all_passed : (cap start i : ℕ) (v w : View J R) → Sees v w → ((k : ℕ) → k < start → 2 ≤ rank (status w.seen k)) → ((k : ℕ) → start ≤ k → k < i → (status v.seen k ≡ Absent) ⊎ (2 ≤ rank (status w.seen k)))
@@ -123,8 +161,8 @@ module _ {J R : Type 0} where
   )
 
   -- one more look, by which nothing was claimed and nothing is over
-  scan_moved : (cap start i r : ℕ) (busy : Bool) (v u w : View J R) → IsScan cap start i busy v u → Missed cap i r u w → Looks cap u w → Sees v w × ((k : ℕ) → k < start → 2 ≤ rank (status w.seen k)) × ((k : ℕ) → start ≤ k → k < i → (status v.seen k ≡ Absent) ⊎ (2 ≤ rank (status w.seen k))) × ((k : ℕ) → cap ≤ k → status v.seen k ≡ Absent)
-  scan_moved cap start i r busy v u w s m l = let sees = sees_trans v u w s.sees (l.0, l.1) in (
+  scan_moved : (cap start i : ℕ) (x : Word) (busy : Bool) (v u w : View J R) → IsScan cap start i busy v u → Missed cap i x u w → Looks cap u w → Sees v w × ((k : ℕ) → k < start → 2 ≤ rank (status w.seen k)) × ((k : ℕ) → start ≤ k → k < i → (status v.seen k ≡ Absent) ⊎ (2 ≤ rank (status w.seen k))) × ((k : ℕ) → cap ≤ k → status v.seen k ≡ Absent)
+  scan_moved cap start i x busy v u w s m l = let sees = sees_trans v u w s.sees (l.0, l.1) in (
     sees,
     (λ k a. stays_taken cap u w k l.0 l.2 (s.below k a)),
     (λ k a b. passed cap v u w k l (s.past k a b)),
@@ -132,42 +170,61 @@ module _ {J R : Type 0} where
   )
 
   -- this word is absent
-  scan_absent : (cap start i : ℕ) (busy : Bool) (v u w : View J R) → IsScan cap start i busy v u → Missed cap i 0 u w → u.low ≢ i → HasPassed cap v w × IsFair cap w × ((k : ℕ) → cap ≤ k → status v.seen k ≡ Absent) × (busy ≡ true → OthersHeld v w)
-  scan_absent cap start i busy v u w s m low = let l = looks_of cap i 0 u w m (last_no cap i u.low 0 low) in let t = scan_moved cap start i 0 busy v u w s m l in
+  scan_absent : (cap start i : ℕ) (busy : Bool) (v u w : View J R) → IsScan cap start i busy v u → Missed cap i word.Absent u w → u.low ≢ i → HasPassed cap v w × IsFair cap w × ((k : ℕ) → cap ≤ k → status v.seen k ≡ Absent) × (busy ≡ true → OthersHeld v w)
+  scan_absent cap start i busy v u w s m low = let l = looks_of cap i word.Absent u w m (last_no cap i u.low word.Absent low) in let t = scan_moved cap start i word.Absent busy v u w s m l in
       let sees = t.0 in (
-        all_passed cap start i v w sees t.1 t.2 (λ k far near. was_absent cap v w k l.2.0 sees.0 (m.6.0 refl k far)),
+        all_passed cap start i v w sees t.1 t.2 (λ k far near. was_absent cap v w k l.2.0 sees.0 (m.6 k far)),
         l.2,
         t.3,
         (λ on. others_on cap v u w (s.others on).0 l.0 m.0.3),
       )
 
+  -- a number that was found neither absent nor open is drawn, claimed or ended
+  found_passed : (i : ℕ) (x : Word) (w : View J R) → Finds i x w → is_absent x ≡ false → is_open x ≡ false → (status w.seen i ≡ Absent) ⊎ (2 ≤ rank (status w.seen i))
+  found_passed i word.Absent w f a b = absurd cc
+  found_passed i word.Open w f a b = absurd cc
+  found_passed i word.Returned w f a b = inr (let e = ap rank f in omega arith)
+  found_passed i word.Faulted w f a b = inr (let e = ap rank f in omega arith)
+  found_passed i (word.Drawn u) w f a b = inl f.0
+  found_passed i (word.Claimed u) w f a b = inr (let e = ap rank f.0 in omega arith)
+
+  found_busy : (i : ℕ) (x : Word) (w : View J R) → Finds i x w → is_busy x ≡ true → SomeHolds w
+  found_busy i word.Absent w f e = absurd cc
+  found_busy i word.Open w f e = absurd cc
+  found_busy i word.Returned w f e = absurd cc
+  found_busy i word.Faulted w f e = absurd cc
+  found_busy i (word.Drawn u) w f e = f.1
+  found_busy i (word.Claimed u) w f e = f.1
+
+  -- who holds a claim is another, for a pass that has claimed nothing
+  others_held : (v w : View J R) → Sees v w → holding v.mine ≡ None → SomeHolds w → OthersHeld v w
+  others_held v w sees free o = (w.seen, o.0, o.1, sees.0, whole w.seen, o.3 (ap holding sees.1 ∙ free), o.2)
+
   -- the next word
-  pub scan_next : (cap start i r : ℕ) (busy busy' : Bool) (v u w : View J R) → start ≤ i → IsScan cap start i busy v u → Missed cap i r u w → last_look cap i u.low r ≡ false → holding v.mine ≡ None → r ≢ 0 → r ≢ 1
-      → (r < 4 → busy' ≡ busy) → IsScan cap start (i + 1) busy' v w
-  scan_next cap start i r busy busy' v u w from s m goes free some_word not_open keeps_it =
-      let l = looks_of cap i r u w m goes in let t = scan_moved cap start i r busy v u w s m l in let sees = t.0 in record {
+  pub scan_next : (cap start i : ℕ) (x : Word) (busy busy' : Bool) (v u w : View J R) → start ≤ i → IsScan cap start i busy v u → Missed cap i x u w → last_look cap i u.low x ≡ false → holding v.mine ≡ None
+      → is_absent x ≡ false → is_open x ≡ false → busy' ≡ (busy || is_busy x) → IsScan cap start (i + 1) busy' v w
+  scan_next cap start i x busy busy' v u w from s m goes free some_word not_open both =
+      let l = looks_of cap i x u w m goes in let t = scan_moved cap start i x busy v u w s m l in let sees = t.0 in record {
         sees = sees;
         fair = λ _. l.2;
         below = t.1;
         past = λ k a b. dite (ℕ_discrete k i)
-            (λ is. subst (λ z. (status v.seen z ≡ Absent) ⊎ (2 ≤ rank (status w.seen z))) (sym is) (dite (dec_le 4 r)
-            (λ far. ⊎_elim (λ (e : status w.seen i ≡ Absent). inl (was_absent cap v w i l.2.0 sees.0 e)) (λ (e : rank (status w.seen i) ≡ 2). inr (omega arith)) (m.6.4 far).0)
-            (λ near. inr (let x = m.6.2 (omega arith) (omega arith) in omega arith))))
+            (λ is. subst (λ z. (status v.seen z ≡ Absent) ⊎ (2 ≤ rank (status w.seen z))) (sym is)
+            (⊎_elim (λ (e : status w.seen i ≡ Absent). inl (was_absent cap v w i l.2.0 sees.0 e)) (λ (e : 2 ≤ rank (status w.seen i)). inr e) (found_passed i x w m.6 some_word not_open)))
             (λ ne. t.2 k a (omega arith));
         others = λ on. (
-          dite (dec_le 4 r)
-              (λ far. let o = (m.6.4 far).1 in (w.seen, o.0, o.1, sees.0, whole w.seen, o.3 (ap holding sees.1 ∙ free), o.2))
-              (λ near. others_on cap v u w (s.others (sym (keeps_it (omega arith)) ∙ on)).0 l.0 m.0.3),
+          elim (is_busy x) as (λ b. is_busy x ≡ b → OthersHeld v w)
+              [ true ↦ (λ e. others_held v w sees free (found_busy i x w m.6 e)) | false ↦ (λ e. others_on cap v u w (s.others (or_left busy (is_busy x) (sym both ∙ on) e)).0 l.0 m.0.3) ] refl,
           omega arith,
         );
         far = λ _. t.3;
       }
 
-  pub later_absent : (cap start i r : ℕ) (busy : Bool) (v u w : View J R) → IsScan cap start i busy v u → Missed cap i r u w → r ≡ 0 → u.low ≢ i → busy ≡ true → Waits cap v w
-  later_absent cap start i r busy v u w s m is low on = let x = scan_absent cap start i busy v u w s (subst (λ z. Missed cap i z u w) is m) low in waits cap v w x.0 x.1 x.2 (x.3 on)
+  pub later_absent : (cap start i : ℕ) (x : Word) (busy : Bool) (v u w : View J R) → IsScan cap start i busy v u → Missed cap i x u w → is_absent x ≡ true → u.low ≢ i → busy ≡ true → Waits cap v w
+  later_absent cap start i x busy v u w s m is low on = let a = scan_absent cap start i busy v u w s (subst (λ z. Missed cap i z u w) (absent_is x is) m) low in waits cap v w a.0 a.1 a.2 (a.3 on)
 
-  pub passed_absent : (cap start i r : ℕ) (busy : Bool) (v u w : View J R) → IsScan cap start i busy v u → Missed cap i r u w → r ≡ 0 → u.low ≢ i → HasPassed cap v w
-  passed_absent cap start i r busy v u w s m is low = (scan_absent cap start i busy v u w s (subst (λ z. Missed cap i z u w) is m) low).0
+  pub passed_absent : (cap start i : ℕ) (x : Word) (busy : Bool) (v u w : View J R) → IsScan cap start i busy v u → Missed cap i x u w → is_absent x ≡ true → u.low ≢ i → HasPassed cap v w
+  passed_absent cap start i x busy v u w s m is low = (scan_absent cap start i busy v u w s (subst (λ z. Missed cap i z u w) (absent_is x is) m) low).0
 
   -- the end of the row
   pub passed_end : (cap start i : ℕ) (busy : Bool) (v w : View J R) → IsScan cap start i busy v w → cap ≤ i → HasPassed cap v w
@@ -177,21 +234,23 @@ module _ {J R : Type 0} where
   later_end cap start i busy v w s is on = let o = s.others on in waits cap v w (passed_end cap start i busy v w s is) (s.fair o.1) (s.far o.1) o.0
 
   -- another is busy with the lowest number that has not ended
-  pub low_busy : (cap i r : ℕ) (v u w : View J R) → Sees v u → Missed cap i r u w → holding v.mine ≡ None → 4 ≤ r → Looks cap v w × OthersHeld v w × ((k : ℕ) → cap ≤ k → status w.seen k ≡ Absent)
-  low_busy cap i r v u w s m free far = let l = looks_of cap i r u w m (last_not cap i u.low r (λ e. omega arith) (λ x. absurd (omega arith))) in let sees = sees_trans v u w s (l.0, l.1) in let o = (m.6.4 far).1 in (
+  pub low_busy : (cap i : ℕ) (x : Word) (v u w : View J R) → Sees v u → Missed cap i x u w → holding v.mine ≡ None → is_busy x ≡ true → Looks cap v w × OthersHeld v w × EndsAt cap w
+  low_busy cap i x v u w s m free busy = let l = looks_of cap i x u w m (last_not cap i u.low x (busy_last cap i x busy)) in let sees = sees_trans v u w s (l.0, l.1) in (
     (sees.0, sees.1, l.2),
-    (w.seen, o.0, o.1, sees.0, whole w.seen, o.3 (ap holding sees.1 ∙ free), o.2),
+    others_held v w sees free (found_busy i x w m.6 busy),
     m.5,
   )
 
-  pub low_over : (cap i r : ℕ) (v u w : View J R) → u.worker ≡ v.worker → Sees v u → Missed cap i r u w → u.low ≡ i → (r ≡ 0) ⊎ ((2 ≤ r) × (r < 4) × (i + 1 ≡ cap)) → AddsEvent cap v (Over v.worker) w
-  low_over cap i r v u w who s m low last = subst (λ z. AddsEvent cap v (Over z) w) who (sees_adds cap v u w (Over u.worker) s (over_of cap i r u w m (last_yes cap i u.low r low last)))
+  pub low_over : (cap i : ℕ) (x : Word) (v u w : View J R) → u.worker ≡ v.worker → Sees v u → Missed cap i x u w → u.low ≡ i → is_last_word cap i x ≡ true → AddsEvent cap v (Over v.worker) w
+  low_over cap i x v u w who s m low last = subst (λ z. AddsEvent cap v (Over z) w) who (sees_adds cap v u w (Over u.worker) s (over_of cap i x u w m (last_yes cap i u.low x low last)))
 
-  pub low_on : (cap i r : ℕ) (v u w : View J R) → Sees v u → Missed cap i r u w → r ≢ 0 → r ≢ 1 → r < 4 → (r < 4 → i + 1 < cap) → u.low ≡ i → Sees v w × (w.low ≡ i + 1)
-  low_on cap i r v u w s m a b near more low = let l = looks_of cap i r u w m (last_not cap i u.low r a more) in (sees_trans v u w s (l.0, l.1), m.3 ∙ low_next cap i u.low r low (omega arith) near (more near))
+  pub low_on : (cap i : ℕ) (x : Word) (v u w : View J R) → Sees v u → Missed cap i x u w → is_last_word cap i x ≡ false → is_open x ≡ false → is_busy x ≡ false → i < cap → u.low ≡ i → Sees v w × (w.low ≡ i + 1)
+  low_on cap i x v u w s m more not_open still near low =
+      let l = looks_of cap i x u w m (last_not cap i u.low x more) in let ends = ended_else x (absent_last cap i x more) not_open still in
+      (sees_trans v u w s (l.0, l.1), m.3 ∙ low_next cap i u.low x low ends (ended_last cap i x more ends near))
 
   -- all that was posted has been passed, and what is below decides
-  pub answer_low : (cap : ℕ) (v u w : View J R) (h : Option ℕ) (a : Answer J) → u.worker ≡ v.worker → HasPassed cap v u → AnswersLow cap u w h a → AnswersWords cap v w h a
+  pub answer_low : (cap : ℕ) (v u w : View J R) (h : Option ℕ) (a : Answer J) → u.worker ≡ v.worker → HasPassed cap v u → AnswersLow cap u w h a → AnswersWordsClaim cap v w h a
   answer_low cap v u w h (answer.Got i j) who p x = (x.0, subst (λ z. AddsEvent cap v (Claim z i j) w) who (sees_adds cap v u w (Claim u.worker i j) p.0 x.1))
   answer_low cap v u w h answer.Later who p x = let l = x.1 in let o = x.2 in let sees = sees_trans v u w p.0 (l.0, l.1) in (
     x.0,
@@ -208,16 +267,16 @@ module _ {J R : Type 0} where
   post_through cap i worker worker' o o' job job' v u w e a b s x = post_to cap i worker worker' o job job' v u w a b s (subst (λ z. IfSome z (λ p. AddsEvent cap u (Post worker' p i job') w)) e x)
 
   -- a look, after one that found the number open
-  looked_twice : (cap i r : ℕ) (v u w : View J R) → Missed cap i 1 v u → Missed cap i r u w → Missed cap i r v w
-  looked_twice cap i r v u w m n = let l = looks_of cap i 1 v u m (last_open cap i v.low) in let low : u.low ≡ v.low = m.3 ∙ low_open cap i v.low in (
+  looked_twice : (cap i : ℕ) (x : Word) (v u w : View J R) → Missed cap i word.Open v u → Missed cap i x u w → Missed cap i x v w
+  looked_twice cap i x v u w m n = let l = looks_of cap i word.Open v u m (last_not cap i v.low word.Open refl) in let low : u.low ≡ v.low = m.3 ∙ low_open cap i v.low in (
     (n.0.0 ∙ m.0.0, n.0.1 ∙ m.0.1, n.0.2 ∙ m.0.2, n.0.3 ∙ m.0.3, n.0.4 ∙ m.0.4, n.0.5 ∙ m.0.5),
     n.1 ∙ m.1,
     n.2 ∙ m.2,
-    n.3 ∙ ap (λ x. low_after cap i x r) low,
+    n.3 ∙ ap (λ z. low_after cap i z x) low,
     n.4,
     n.5,
     n.6,
-    again (last_look cap i u.low r) (last_look cap i v.low r) (ap (λ x. last_look cap i x r) low) (l.0, l.1) m.0.3 n.7,
+    again (last_look cap i u.low x) (last_look cap i v.low x) (ap (λ z. last_look cap i z x) low) (l.0, l.1) m.0.3 n.7,
   )
     where
       again : (a b : Bool) → a ≡ b → Sees v u → u.worker ≡ v.worker → MatchBool a (AddsEvent cap u (Over u.worker) w) (Looks cap u w) → MatchBool b (AddsEvent cap v (Over v.worker) w) (Looks cap v w)
@@ -226,12 +285,16 @@ module _ {J R : Type 0} where
       again false true e s who x = absurd cc
       again false false e s who x = let t = sees_trans v u w s (x.0, x.1) in (t.0, t.1, x.2)
 
-  pub visit_then : (cap i r wk posted : ℕ) (v u w : View J R) (h : Option ℕ) (x : Result J ℕ) → Missed cap i r v u → r ≡ 1 → wk ≡ v.worker
-      → MatchResult x (λ j. (h ≡ Some i) × (posted ≡ 0) × AddsEvent cap u (Claim wk i j) w) (λ z. (h ≡ None) × (z ≢ 1) × Missed cap i z u w)
-      → MatchResult x (λ j. (h ≡ Some i) × AddsEvent cap v (Claim v.worker i j) w) (λ z. (h ≡ None) × (z ≢ 1) × Missed cap i z v w)
-  visit_then cap i r wk posted v u w h (Ok j) m is who a = let n = subst (λ z. Missed cap i z v u) is m in let l = looks_of cap i 1 v u n (last_open cap i v.low) in
-      (a.0, subst (λ z. AddsEvent cap v (Claim z i j) w) who (sees_adds cap v u w (Claim wk i j) (l.0, l.1) a.2))
-  visit_then cap i r wk posted v u w h (Err z) m is who a = (a.0, a.1, looked_twice cap i z v u w (subst (λ y. Missed cap i y v u) is m) a.2)
+  pub visit_then : (b : Words J R) (i : ℕ) (c : Word) (old mid new : WordsPass J R) (x : Result J Word) → Missed b.capacity i c (known old) (known mid) → is_open c ≡ true → TriesClaim b i mid x new → TriesClaim b i old x new
+  visit_then b i c old mid new x m is a = go x a
+    where
+      seen : Missed b.capacity i word.Open (known old) (known mid)
+      seen = subst (λ z. Missed b.capacity i z (known old) (known mid)) (open_is c is) m
+
+      go : (x : Result J Word) → TriesClaim b i mid x new → TriesClaim b i old x new
+      go (Ok j) a = let l = looks_of b.capacity i word.Open (known old) (known mid) seen (last_not b.capacity i (known old).low word.Open refl) in
+          (a.0, subst (λ z. AddsEvent b.capacity (known old) (Claim z i j) (known new)) m.0.3 (sees_adds b.capacity (known old) (known mid) (known new) (Claim (known mid).worker i j) (l.0, l.1) a.1))
+      go (Err z) a = (a.0, a.1, looked_twice b.capacity i z (known old) (known mid) (known new) seen a.2)
 
   -- a number that was drawn and then opened
   pub try_posted : (cap slots i wk : ℕ) (o : Option ℕ) (job : J) (v u' u w : View J R) → slots ≡ cap → u ≡ u' → Looks slots v u' → u.worker ≡ wk → holding v.mine ≡ o → (p : ℕ) (j : J) → holding u.mine ≡ Some p → j ≡ job

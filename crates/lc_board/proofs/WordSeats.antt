@@ -10,7 +10,10 @@ use Rattle.atomic_table.proofs.Lists.{at_set, set_else}
 use Rattle.lc_board.specs.State.{Absent, Open, Claimed, status}
 use Rattle.lc_board.specs.Part.{part}
 use Rattle.lc_board.specs.Growth.{put}
-use Rattle.lc_board.specs.WordRow.{WordState, drawn_by, plain, code, Homes, Lies, HasJoined, Knows, IsRow}
+use Rattle.lc_board.specs.WordCode.{code}
+use Rattle.lc_board.specs.WordRow.{Homes, Lies, HasJoined, Knows, IsRow}
+use Rattle.lc_board.specs.declared.words.coding.Word.{Word}
+use Rattle.lc_board.specs.declared.words.coding.Word.TheVariants as word
 use Rattle.lc_board.specs.WordSteps.{dealer, dealt, newcomer, merged, spent}
 use Rattle.lc_board.specs.declared.event.Event.{Event}
 use Rattle.lc_board.specs.declared.words.view.Slot.{Slot}
@@ -57,26 +60,21 @@ redirect_else o id j x e n = ap (redirect o id) e ∙ ap (λ b. cond b (Some id)
 module _ {J R : Type 0} where
   -- the rule stays where only the views and the owners change
   reseated : (root : Option J) (workers : ℕ) (s : State (Slot J R) (View J R)) (r : IsRow root workers s) (views : List (View J R)) (owner : ℕ → Option ℕ)
-      → ((u : ℕ) → owner u ≡ None → (part u r.history ≡ []) × ((k : ℕ) → (r.faces k ≢ drawn_by u) × (r.faces k ≢ plain (Claimed u))))
+      → ((u : ℕ) → owner u ≡ None → (part u r.history ≡ []) × ((k : ℕ) → (r.faces k ≢ word.Drawn u) × (r.faces k ≢ word.Claimed u)))
       → ((j : ℕ) (v : View J R) → get_elem? views j ≡ some v → v.live ≡ true → Knows root workers r.history r.faces owner j v) → IsRow root workers record { words = s.words; homes = s.homes; views = views }
   reseated root workers s r views owner idle seats = record {
     history = r.history;
     faces = r.faces;
     owner = owner;
-    legal = r.legal;
-    matched = r.matched;
+    state = r.state;
     wide = r.wide;
-    shows = r.shows;
-    agrees = r.agrees;
-    beyond = r.beyond;
-    together = r.together;
     lies = r.lies;
     busy = r.busy;
     idle = idle;
     each_seat = seats;
   }
 
-  reknown : (root : Option J) (workers : ℕ) (h : List (Event J R)) (faces : ℕ → WordState) (owner owner' : ℕ → Option ℕ) (j : ℕ) (d : View J R) → Knows root workers h faces owner j d → owner' d.worker ≡ Some j
+  reknown : (root : Option J) (workers : ℕ) (h : List (Event J R)) (faces : ℕ → Word) (owner owner' : ℕ → Option ℕ) (j : ℕ) (d : View J R) → Knows root workers h faces owner j d → owner' d.worker ≡ Some j
       → (0 < d.made → (j ≡ 0) × ((u : ℕ) → d.made ≤ u → owner' u ≡ None))
       → ((n u : ℕ) (m : List (Event J R)) → get_elem? d.joined n ≡ some (u, m) → owner' u ≡ Some j) → Knows root workers h faces owner' j d
   reknown root workers h faces owner owner' j d k a b c = record {
@@ -103,7 +101,7 @@ module _ {J R : Type 0} where
       let kept : (u j : ℕ) → r.owner u ≡ Some j → owner' u ≡ Some j = (λ u j e. put_else r.owner v.made (Some n) u (other u j e) ∙ e) in
       let unused = r.idle v.made fresh in
       reseated root workers s r (set s.views id (dealt v) ++ newcomer v ∷ []) owner'
-      (λ u. at_put r.owner v.made (Some n) (λ z o. o ≡ None → (part z r.history ≡ []) × ((q : ℕ) → (r.faces q ≢ drawn_by z) × (r.faces q ≢ plain (Claimed z)))) u (λ e. absurd cc) (λ _ e. r.idle u e))
+      (λ u. at_put r.owner v.made (Some n) (λ z o. o ≡ None → (part z r.history ≡ []) × ((q : ℕ) → (r.faces q ≢ word.Drawn z) × (r.faces q ≢ word.Claimed z))) u (λ e. absurd cc) (λ _ e. r.idle u e))
       (λ j d e live. ⊎_elim
       (λ (x : get_elem? (set s.views id (dealt v)) j ≡ some d). ⊎_elim
       (λ (y : (j ≡ id) × (dealt v ≡ d)). subst (λ (z : ℕ × View J R). Knows root workers r.history r.faces owner' z.0 z.1) (λ i. (sym y.0 i, y.1 i))
@@ -164,7 +162,7 @@ module _ {J R : Type 0} where
         drew = k.drew;
         draws = k.draws;
         low = k.low;
-        front = λ q l. below_larger v.front w.front (λ z. r.faces z ≢ plain Absent) (ltb v.front w.front) k.front kw.front q l;
+        front = λ q l. below_larger v.front w.front (λ z. r.faces z ≢ word.Absent) (ltb v.front w.front) k.front kw.front q l;
         deals = λ more. let x = k.deals more in (x.0, λ u le. ap (redirect other id) (x.1 u le));
         joins = λ n u m is. ⊎_elim (λ (q : get_elem? v.joined n ≡ some (u, m)). let x = k.joins n u m q in record { owned = mine_stays u x.owned; other = x.other; events = x.events; idle = x.idle })
             (λ (q : (a : ℕ) × (get_elem? ((w.worker, w.mine) ∷ w.joined) a ≡ some (u, m))). joined_one q.0 u m q.1) (at_append v.joined ((w.worker, w.mine) ∷ w.joined) (u, m) n is);
@@ -210,8 +208,8 @@ long_zeros : (n : ℕ) → length (blank n) ≡ n
 long_zeros zero = refl
 long_zeros (suc n) = ap suc (long_zeros n)
 
-abbrev first_faces : ℕ → WordState
-first_faces = put (λ _. plain Absent) 0 (plain Open)
+abbrev first_faces : ℕ → Word
+first_faces = put (λ _. word.Absent) 0 word.Open
 
 module _ (J R : Type 0) (root : J) (workers n : ℕ) (some_worker : 0 < workers) where
   abbrev first_homes : Homes J R
@@ -222,11 +220,11 @@ module _ (J R : Type 0) (root : J) (workers n : ℕ) (some_worker : 0 < workers)
 
   first_shows : (k : ℕ) → k < suc n → get_or (1 ∷ blank n) k 0 ≡ code (first_faces k)
   first_shows zero l = refl
-  first_shows (suc k) l = zeros n k ∙ ap code (sym (put_else (λ _. plain Absent) 0 (plain Open) (suc k) (λ e. absurd (omega arith))))
+  first_shows (suc k) l = zeros n k ∙ ap code (sym (put_else (λ _. word.Absent) 0 word.Open (suc k) (λ e. absurd (omega arith))))
 
   first_lies : (k : ℕ) → k < suc n → Lies (Some root) [] first_homes k (first_faces k)
   first_lies zero l = (root, refl, refl)
-  first_lies (suc k) l = subst (λ f. Lies (Some root) [] first_homes (suc k) f) (sym (put_else (λ _. plain Absent) 0 (plain Open) (suc k) (λ e. absurd (omega arith)))) (empties J R n k (omega arith))
+  first_lies (suc k) l = subst (λ f. Lies (Some root) [] first_homes (suc k) f) (sym (put_else (λ _. word.Absent) 0 word.Open (suc k) (λ e. absurd (omega arith)))) (empties J R n k (omega arith))
 
   -- word 0 is open with the root in its slot, and the others are absent
   pub begins : (ws : List ℕ) (xs : List (Slot J R)) → ws ≡ 1 ∷ blank n → xs ≡ Job root ∷ replicate n Empty → IsRow (Some root) workers (opening ws xs (dealer (Some root) workers))
@@ -234,16 +232,18 @@ module _ (J R : Type 0) (root : J) (workers n : ℕ) (some_worker : 0 < workers)
     history = [];
     faces = first_faces;
     owner = put (λ _. None) 0 (Some 0);
-    legal = tt;
-    matched = tt;
+    state = record {
+      legal = tt;
+      matched = tt;
+      shows = λ k l. first_shows k (subst (λ z. k < z) counted l);
+      agrees = λ k. agree_put (λ _. Absent) (λ _. word.Absent) 0 Open word.Open refl (λ _. refl) k;
+      beyond = λ k l. put_else (λ _. word.Absent) 0 word.Open k (λ e. let x = counted in absurd (omega arith));
+      together = λ k l le e. at_put (λ _. word.Absent) 0 word.Open (λ z f. f ≡ word.Absent → z ≤ l → first_faces l ≡ word.Absent) k (λ x. absurd cc) (λ ne _ y. put_else (λ _. word.Absent) 0 word.Open l (λ z. absurd (ne (omega arith)))) e le;
+    };
     wide = ap suc (long_zeros n) ∙ sym counted;
-    shows = λ k l. first_shows k (subst (λ z. k < z) counted l);
-    agrees = λ k. agree_put (λ _. Absent) (λ _. plain Absent) 0 Open (plain Open) refl (λ _. refl) k;
-    beyond = λ k l. put_else (λ _. plain Absent) 0 (plain Open) k (λ e. let x = counted in absurd (omega arith));
-    together = λ k l le e. at_put (λ _. plain Absent) 0 (plain Open) (λ z f. f ≡ plain Absent → z ≤ l → first_faces l ≡ plain Absent) k (λ x. absurd cc) (λ ne _ y. put_else (λ _. plain Absent) 0 (plain Open) l (λ z. absurd (ne (omega arith)))) e le;
     lies = λ k l. first_lies k (subst (λ z. k < z) counted l);
-    busy = λ k w. at_put (λ _. plain Absent) 0 (plain Open) (λ z f. f ≡ drawn_by w → (p : ℕ) × (status {J = J} {R = R} [] p ≡ Claimed w)) k (λ e. absurd cc) (λ _ e. absurd cc);
-    idle = λ u e. (refl, λ k. (at_put (λ _. plain Absent) 0 (plain Open) (λ z f. f ≢ drawn_by u) k (λ x. cc) (λ _ x. cc), at_put (λ _. plain Absent) 0 (plain Open) (λ z f. f ≢ plain (Claimed u)) k (λ x. cc) (λ _ x. cc)));
+    busy = λ k w. at_put (λ _. word.Absent) 0 word.Open (λ z f. f ≡ word.Drawn w → (p : ℕ) × (status {J = J} {R = R} [] p ≡ Claimed w)) k (λ e. absurd cc) (λ _ e. absurd cc);
+    idle = λ u e. (refl, λ k. (at_put (λ _. word.Absent) 0 word.Open (λ z f. f ≢ word.Drawn u) k (λ x. cc) (λ _ x. cc), at_put (λ _. word.Absent) 0 word.Open (λ z f. f ≢ word.Claimed u) k (λ x. cc) (λ _ x. cc)));
     each_seat = first_seats;
   }
     where
@@ -256,10 +256,10 @@ module _ (J R : Type 0) (root : J) (workers n : ℕ) (some_worker : 0 < workers)
         seen = ([], refl);
         own = refl;
         owns = refl;
-        drew = λ k. at_put (λ _. plain Absent) 0 (plain Open) (λ z f. f ≡ drawn_by 0 → 0 ≡ z + 1) k (λ e. absurd cc) (λ _ e. absurd cc);
+        drew = λ k. at_put (λ _. word.Absent) 0 word.Open (λ z f. f ≡ word.Drawn 0 → 0 ≡ z + 1) k (λ e. absurd cc) (λ _ e. absurd cc);
         draws = λ k e. absurd (omega arith);
         low = λ k l. absurd (omega arith);
-        front = λ k l. subst (λ z. first_faces z ≢ plain Absent) (let e : 0 ≡ k = omega arith in e) (λ x. cc);
+        front = λ k l. subst (λ z. first_faces z ≢ word.Absent) (let e : 0 ≡ k = omega arith in e) (λ x. cc);
         deals = λ _. (refl, λ u l. put_else (λ _. None) 0 (Some 0) u (λ z. absurd (omega arith)));
         joins = λ a u m e. absurd (some-ne-none (u, m) (sym e));
       }

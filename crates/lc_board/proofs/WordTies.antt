@@ -1,28 +1,38 @@
 -- What is stored in a pass of a board of words stays tied to what it knows and holds.
-use Rattle.std.proofs.Common.{◌≡◌, ◌≢◌, ℕ, ◌+◌, ◌<◌, Bool, true, false, List, [], ◌∷◌, map, refl, ap, sym, ◌∙◌, subst, Option, Some, None, arith}
+use Rattle.std.proofs.Common.{◌≡◌, ℕ, ◌+◌, ◌<◌, Bool, true, false, cond, List, [], ◌∷◌, map, refl, ap, sym, ◌∙◌, subst, Option, Some, None, arith}
 use mathlib.Core.Path.{Path}
 use Rattle.std.specs.Prelude.{MatchBool, IsSome}
 use Rattle.std.proofs.lemmas.Bool.Decides.{nat_tests}
 use Rattle.atomic_table.specs.Table.{Step, rest}
 use Rattle.lc_board.specs.Holding.{holding, posted}
+use Rattle.lc_board.specs.WordCode.{word_of, is_absent, is_open}
 use Rattle.lc_board.specs.WordRow.{Seated}
-use Rattle.lc_board.specs.WordSteps.{AddsEvent, Looks, Missed, low_after, last_look, Leaves, claimed, drew, stepped_over, opened}
+use Rattle.lc_board.specs.declared.words.coding.Word.{Word}
+use Rattle.lc_board.specs.WordSteps.{AddsEvent, Looks, Missed, low_after, last_look, Leaves, looked, TakesJob, claimed, TriesDraw, Opens, stepped_over}
 use Rattle.lc_board.specs.WordPass.{IsTied, kind, tag, tags_as, carried_as}
 use Rattle.lc_board.specs.declared.event.Event.{Event}
 use Rattle.lc_board.specs.declared.event.Event.TheVariants.{Over}
 use Rattle.lc_board.specs.declared.words.view.Slot.{Slot}
 use Rattle.lc_board.specs.declared.words.view.Slot.TheVariants.{Empty, Job, Row}
 use Rattle.lc_board.specs.declared.words.view.View.{View}
-use Rattle.lc_board.proofs.Places.{at_same, at_other}
+use Rattle.lc_board.proofs.WordCodes.{match_true, match_false}
 
 pub holds_some : (o : Option ℕ) → IsSome o → (i : ℕ) × (o ≡ Some i)
 holds_some None h = absurd cc
 holds_some (Some i) h = (i, refl)
 
-lower_stays : (cap i low r low2 slots : ℕ) → slots ≡ cap → low2 ≡ low_after cap i low r → low < slots → low2 < slots
-lower_stays cap i low r low2 slots same is l = grind (arith, nat_tests)
+lower_stays : (cap i low : ℕ) (x : Word) (low2 slots : ℕ) → slots ≡ cap → low2 ≡ low_after cap i low x → low < slots → low2 < slots
+lower_stays cap i low x low2 slots same is l = grind (arith, nat_tests)
 
 module _ {J R : Type 0} where
+  -- what an exchange told, by the word that it found
+  pub did_claim : (st : Step (Slot J R)) (m m' : Seated J R) (r : ℕ) (x : Word) → x ≡ word_of r → is_open x ≡ true → claimed st m r m' → TakesJob st m m'
+  did_claim st m m' r x found e did = match_true (is_open (word_of r)) (TakesJob st m m') (looked st m r m') (ap is_open (sym found) ∙ e) did
+
+  pub not_claimed : (st : Step (Slot J R)) (m m' : Seated J R) (r : ℕ) (x : Word) → x ≡ word_of r → is_open x ≡ false → claimed st m r m' → (m'.1 ≡ m.1) × Missed st.slots st.word x m.0 m'.0
+  not_claimed st m m' r x found e did = let saw = match_false (is_open (word_of r)) (TakesJob st m m') (looked st m r m') (ap is_open (sym found) ∙ e) did in
+      (saw.0, subst (λ z. Missed st.slots st.word z m.0 m'.0) (sym found) saw.1)
+
   is_empty : (x : Slot J R) → kind x ≡ 0 → Path (Slot J R) x Empty
   is_empty Empty e = refl
   is_empty (Job j) e = absurd (omega arith)
@@ -46,38 +56,38 @@ module _ {J R : Type 0} where
   missed_holds cap v w true a = ap holding a.1
   missed_holds cap v w false a = ap holding a.1
 
-  missed_counts : (cap : ℕ) (v w : View J R) (b : Bool) → MatchBool b (AddsEvent cap v (Over v.worker) w) (Looks cap v w) → posted w.mine ≡ posted v.mine
-  missed_counts cap v w true a = ap posted a.1
-  missed_counts cap v w false a = ap posted a.1
+  missed_posted : (cap : ℕ) (v w : View J R) (b : Bool) → MatchBool b (AddsEvent cap v (Over v.worker) w) (Looks cap v w) → posted w.mine ≡ posted v.mine
+  missed_posted cap v w true a = ap posted a.1
+  missed_posted cap v w false a = ap posted a.1
 
-  pub tied_missed : (cap i r slots worker : ℕ) (claim : Option ℕ) (posts front low low2 : ℕ) (m m' : Seated J R) → slots ≡ cap → m'.1 ≡ m.1 → Missed cap i r m.0 m'.0 → low2 ≡ low_after cap i low r
+  pub tied_missed : (cap i : ℕ) (x : Word) (slots worker : ℕ) (claim : Option ℕ) (posts front low low2 : ℕ) (m m' : Seated J R) → slots ≡ cap → m'.1 ≡ m.1 → Missed cap i x m.0 m'.0 → low2 ≡ low_after cap i low x
       → IsTied slots worker claim posts front low m → IsTied slots worker claim posts front low2 m'
-  tied_missed cap i r slots worker claim posts front low low2 m m' same c miss is t = record {
+  tied_missed cap i x slots worker claim posts front low low2 m m' same c miss is t = record {
     live = miss.0.0 ∙ t.live;
     idle = miss.1 ∙ t.idle;
     numbered = miss.0.3 ∙ t.numbered;
     fronted = miss.2 ∙ t.fronted;
-    lowered = miss.3 ∙ (ap (λ l. low_after cap i l r) t.lowered ∙ sym is);
-    holds = missed_holds cap m.0 m'.0 (last_look cap i m.0.low r) miss.7 ∙ t.holds;
-    counts = missed_counts cap m.0 m'.0 (last_look cap i m.0.low r) miss.7 ∙ t.counts;
+    lowered = miss.3 ∙ (ap (λ l. low_after cap i l x) t.lowered ∙ sym is);
+    holds = missed_holds cap m.0 m'.0 (last_look cap i m.0.low x) miss.7 ∙ t.holds;
+    posts_are = missed_posted cap m.0 m'.0 (last_look cap i m.0.low x) miss.7 ∙ t.posts_are;
     carries = ap (map tag) c ∙ t.carries;
     near = t.near;
     within = t.within;
     inside = t.inside;
-    lower = lower_stays cap i low r low2 slots same is t.lower;
+    lower = lower_stays cap i low x low2 slots same is t.lower;
   }
 
   -- a claim, and then the empty slot
-  pub tied_claimed : (slots i r worker : ℕ) (st : Step (Slot J R)) (posts front low : ℕ) (m m1 m2 : Seated J R) → st.word ≡ i → i < slots → r ≡ 1 → claimed st m r m1 → m2 ≡ (m1.0, (i, Empty) ∷ rest m1.1)
+  pub tied_claimed : (slots i r worker : ℕ) (st : Step (Slot J R)) (posts front low : ℕ) (m m1 m2 : Seated J R) → st.word ≡ i → i < slots → is_open (word_of r) ≡ true → claimed st m r m1 → m2 ≡ (m1.0, (i, Empty) ∷ rest m1.1)
       → IsTied slots worker None posts front low m → IsTied slots worker (Some i) 0 front low m2
-  tied_claimed slots i r worker st posts front low m m1 m2 at near is did now t = let hit = did.0 is in let me : Path (View J R) m2.0 m1.0 = ap (λ (x : Seated J R). x.0) now in record {
+  tied_claimed slots i r worker st posts front low m m1 m2 at near is did now t = let hit = match_true (is_open (word_of r)) (TakesJob st m m1) (looked st m r m1) is did in let me : Path (View J R) m2.0 m1.0 = ap (λ (x : Seated J R). x.0) now in record {
     live = ap (λ (v : View J R). v.live) me ∙ (hit.1.0 ∙ t.live);
     idle = ap (λ (v : View J R). v.drawn) me ∙ (hit.2 ∙ t.idle);
     numbered = ap (λ (v : View J R). v.worker) me ∙ (hit.1.3 ∙ t.numbered);
     fronted = ap (λ (v : View J R). v.front) me ∙ (hit.3 ∙ t.fronted);
     lowered = ap (λ (v : View J R). v.low) me ∙ (hit.4 ∙ t.lowered);
     holds = ap (λ (v : View J R). holding v.mine) me ∙ (ap holding hit.6.1 ∙ ap (λ k. Some k) at);
-    counts = ap (λ (v : View J R). posted v.mine) me ∙ ap posted hit.6.1;
+    posts_are = ap (λ (v : View J R). posted v.mine) me ∙ ap posted hit.6.1;
     carries = ap (λ (x : Seated J R). map tag x.1) now ∙ (ap (λ (l : List (ℕ × Slot J R)). map tag ((i, Empty) ∷ rest l)) hit.5 ∙ ap (λ (l : List (ℕ × ℕ)). (i, 0) ∷ l) t.carries);
     near = omega arith;
     within = t.within;
@@ -95,7 +105,7 @@ module _ {J R : Type 0} where
     fronted = did.3 ∙ (ap (λ (v : View J R). v.front) me ∙ t.fronted);
     lowered = did.2 ∙ (ap (λ (v : View J R). v.low) me ∙ t.lowered);
     holds = ap holding adds ∙ goes m1.0.mine;
-    counts = ap posted adds ∙ zero m1.0.mine;
+    posts_are = ap posted adds ∙ zero m1.0.mine;
     carries = ap (map tag) did.4 ∙ (ap (λ (x : Seated J R). map tag (rest x.1)) now ∙ ap (λ (l : List (ℕ × Slot J R)). map tag (rest l)) (carried_is m.1 (Some i) t.carries));
     near = omega arith;
     within = t.within;
@@ -103,16 +113,17 @@ module _ {J R : Type 0} where
     lower = t.lower;
   }
 
-  pub tied_passed : (slots i r worker : ℕ) (claim : Option ℕ) (st : Step (Slot J R)) (posts low : ℕ) (m m1 : Seated J R) → st.word ≡ i → i < slots → r ≢ 0 → drew st m r m1
+  -- a number that another has drawn before is passed
+  pub tied_passed : (cap slots i worker : ℕ) (claim : Option ℕ) (posts low : ℕ) (m m1 : Seated J R) → i < slots → TriesDraw cap i false m m1
       → IsTied slots worker claim posts i low m → IsTied slots worker claim posts (i + 1) low m1
-  tied_passed slots i r worker claim st posts low m m1 at near other did t = let miss = did.5 other in record {
+  tied_passed cap slots i worker claim posts low m m1 near did t = let miss = did.4 in record {
     live = did.0.0 ∙ t.live;
     idle = miss.1 ∙ t.idle;
     numbered = did.0.3 ∙ t.numbered;
-    fronted = did.2 ∙ ap (λ k. k + 1) at;
+    fronted = did.2;
     lowered = did.1 ∙ t.lowered;
     holds = ap holding did.3.1 ∙ t.holds;
-    counts = ap posted did.3.1 ∙ t.counts;
+    posts_are = ap posted did.3.1 ∙ t.posts_are;
     carries = ap (map tag) miss.0 ∙ t.carries;
     near = let x = t.near in omega arith;
     within = omega arith;
@@ -121,16 +132,16 @@ module _ {J R : Type 0} where
   }
 
   -- a look at the front, which is absent
-  pub tied_seen : (slots r worker : ℕ) (claim : Option ℕ) (st : Step (Slot J R)) (posts front low : ℕ) (m m1 : Seated J R) → r ≡ 0 → stepped_over st m r m1
+  pub tied_seen : (slots r worker : ℕ) (claim : Option ℕ) (st : Step (Slot J R)) (posts front low : ℕ) (m m1 : Seated J R) → is_absent (word_of r) ≡ true → stepped_over st m r m1
       → IsTied slots worker claim posts front low m → IsTied slots worker claim posts front low m1
   tied_seen slots r worker claim st posts front low m m1 none did t = record {
     live = did.1.0 ∙ t.live;
     idle = did.2 ∙ t.idle;
     numbered = did.1.3 ∙ t.numbered;
-    fronted = did.4 ∙ at_same r 0 m.0.front (st.word + 1) none ∙ t.fronted;
+    fronted = did.4 ∙ ap (λ b. cond b m.0.front (st.word + 1)) none ∙ t.fronted;
     lowered = did.3 ∙ t.lowered;
     holds = ap holding did.5.1 ∙ t.holds;
-    counts = ap posted did.5.1 ∙ t.counts;
+    posts_are = ap posted did.5.1 ∙ t.posts_are;
     carries = ap (map tag) did.0 ∙ t.carries;
     near = t.near;
     within = t.within;
@@ -139,16 +150,16 @@ module _ {J R : Type 0} where
   }
 
   -- a look at the front, which is used
-  pub tied_stepped : (slots i r worker : ℕ) (claim : Option ℕ) (st : Step (Slot J R)) (posts low : ℕ) (m m1 : Seated J R) → st.word ≡ i → i < slots → r ≢ 0 → stepped_over st m r m1
+  pub tied_stepped : (slots i r worker : ℕ) (claim : Option ℕ) (st : Step (Slot J R)) (posts low : ℕ) (m m1 : Seated J R) → st.word ≡ i → i < slots → is_absent (word_of r) ≡ false → stepped_over st m r m1
       → IsTied slots worker claim posts i low m → IsTied slots worker claim posts (i + 1) low m1
   tied_stepped slots i r worker claim st posts low m m1 at near other did t = record {
     live = did.1.0 ∙ t.live;
     idle = did.2 ∙ t.idle;
     numbered = did.1.3 ∙ t.numbered;
-    fronted = did.4 ∙ at_other r 0 m.0.front (st.word + 1) other ∙ ap (λ k. k + 1) at;
+    fronted = did.4 ∙ ap (λ b. cond b m.0.front (st.word + 1)) other ∙ ap (λ k. k + 1) at;
     lowered = did.3 ∙ t.lowered;
     holds = ap holding did.5.1 ∙ t.holds;
-    counts = ap posted did.5.1 ∙ t.counts;
+    posts_are = ap posted did.5.1 ∙ t.posts_are;
     carries = ap (map tag) did.0 ∙ t.carries;
     near = let x = t.near in omega arith;
     within = omega arith;
@@ -157,16 +168,16 @@ module _ {J R : Type 0} where
   }
 
   -- a number is drawn, gets the job, and is opened
-  pub tied_posted : (slots i p r' worker : ℕ) (st st' : Step (Slot J R)) (job : J) (posts low : ℕ) (m m1 m2 m3 : Seated J R) → st.word ≡ i → i < slots → drew st m 0 m1 → m2 ≡ (m1.0, (i, Job job) ∷ rest m1.1) → opened st' m2 r' m3
-      → IsTied slots worker (Some p) posts i low m → IsTied slots worker (Some p) (posts + 1) (i + 1) low m3
-  tied_posted slots i p r' worker st st' job posts low m m1 m2 m3 at near did now opens t = let hit = did.4 refl in let did2 = opens.0 in let me : Path (View J R) m2.0 m1.0 = ap (λ (x : Seated J R). x.0) now in record {
+  pub tied_posted : (cap slots i worker : ℕ) (claim : Option ℕ) (job : J) (posts low : ℕ) (m m1 m2 m3 : Seated J R) → i < slots → TriesDraw cap i true m m1 → m2 ≡ (m1.0, (i, Job job) ∷ rest m1.1) → Opens cap i m2 m3
+      → IsTied slots worker claim posts i low m → IsTied slots worker claim (posts + 1) (i + 1) low m3
+  tied_posted cap slots i worker claim job posts low m m1 m2 m3 near did now opens t = let hit = did.4 in let did2 = opens.0 in let me : Path (View J R) m2.0 m1.0 = ap (λ (x : Seated J R). x.0) now in record {
     live = did2.0.0 ∙ (ap (λ (v : View J R). v.live) me ∙ (did.0.0 ∙ t.live));
     idle = did2.1;
     numbered = did2.0.3 ∙ (ap (λ (v : View J R). v.worker) me ∙ (did.0.3 ∙ t.numbered));
-    fronted = did2.3 ∙ (ap (λ (v : View J R). v.front) me ∙ (did.2 ∙ ap (λ k. k + 1) at));
+    fronted = did2.3 ∙ (ap (λ (v : View J R). v.front) me ∙ did.2);
     lowered = did2.2 ∙ (ap (λ (v : View J R). v.low) me ∙ (did.1 ∙ t.lowered));
     holds = ap holding opens.1.4.1 ∙ (ap (λ (v : View J R). holding v.mine) me ∙ (ap holding did.3.1 ∙ t.holds));
-    counts = ap posted opens.1.4.1 ∙ ap (λ k. k + 1) (ap (λ (v : View J R). posted v.mine) me ∙ (ap posted did.3.1 ∙ t.counts));
+    posts_are = ap posted opens.1.4.1 ∙ ap (λ k. k + 1) (ap (λ (v : View J R). posted v.mine) me ∙ (ap posted did.3.1 ∙ t.posts_are));
     carries = ap (map tag) did2.4 ∙ (ap (λ (x : Seated J R). map tag (rest x.1)) now ∙ (ap (λ (l : List (ℕ × Slot J R)). map tag (rest l)) hit.0 ∙ t.carries));
     near = let x = t.near in omega arith;
     within = omega arith;

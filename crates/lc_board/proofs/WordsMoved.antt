@@ -1,17 +1,20 @@
 -- What stays of the row of words when one number and one pass move.
-use Rattle.std.proofs.Common.{◌≡◌, ◌≢◌, ◌↔◌, ℕ, eqb, subst, ◌<◌, ◌≤◌, true, false, cond, List, length, get_or, set, sym, refl, ap, ◌∙◌, ⊎_elim, arith, length-set, get_or-set_same, get_or-set_other, Option, Some, None}
+use Rattle.std.proofs.Common.{◌≡◌, ◌≢◌, ◌↔◌, ℕ, eqb, subst, ◌<◌, true, false, cond, List, length, get_or, set, sym, refl, ap, ◌∙◌, ⊎_elim, arith, length-set, get_or-set_same, get_or-set_other, Option, Some, None}
 use mathlib.Core.Path.{Path}
 use mathlib.Core.Option.{some}
 use lib.ListN.{get_elem?}
 use Rattle.atomic_table.specs.Table.{State}
 use Rattle.atomic_table.proofs.Lists.{at_set}
-use Rattle.lc_board.specs.State.{Status, Absent, Open, Claimed, Returned, Faulted, status}
+use Rattle.lc_board.specs.State.{Status, Claimed, status}
 use Rattle.lc_board.specs.Part.{part}
 use Rattle.lc_board.specs.LegalHistory.{IsLegal}
 use Rattle.lc_board.specs.Holding.{holding}
 use Rattle.lc_board.specs.RowsInPlace.{row_given}
 use Rattle.lc_board.specs.Growth.{GoesOn, put, job_at, IsMatched}
-use Rattle.lc_board.specs.WordRow.{WordState, drawn_by, plain, shown, code, Homes, Lies, HasJoined, Knows, IsRow}
+use Rattle.lc_board.specs.WordCode.{shown, code}
+use Rattle.lc_board.specs.WordRow.{Homes, Lies, HasJoined, Knows, ShowsState, IsRow}
+use Rattle.lc_board.specs.declared.words.coding.Word.{Word}
+use Rattle.lc_board.specs.declared.words.coding.Word.TheVariants as word
 use Rattle.lc_board.specs.declared.event.Event.{Event}
 use Rattle.lc_board.specs.declared.words.view.Slot.{Slot}
 use Rattle.lc_board.specs.declared.words.view.View.{View}
@@ -19,30 +22,34 @@ use Rattle.lc_board.proofs.HeldClaims.{part_tells_claim}
 use Rattle.lc_board.proofs.Growths.{at_put, put_else, goes_trans}
 
 -- a number is the same for the worker u
-pub record IsApart (u : ℕ) (faces faces' : ℕ → WordState) : Type 0 where
-  pub drawn_to : (k : ℕ) → faces k ≡ drawn_by u → faces' k ≡ drawn_by u
-  pub drawn_from : (k : ℕ) → faces' k ≡ drawn_by u → faces k ≡ drawn_by u
-  pub taken_from : (k : ℕ) → faces' k ≡ plain (Claimed u) → faces k ≡ plain (Claimed u)
+pub record IsApart (u : ℕ) (faces faces' : ℕ → Word) : Type 0 where
+  pub drawn_to : (k : ℕ) → faces k ≡ word.Drawn u → faces' k ≡ word.Drawn u
+  pub drawn_from : (k : ℕ) → faces' k ≡ word.Drawn u → faces k ≡ word.Drawn u
+  pub taken_from : (k : ℕ) → faces' k ≡ word.Claimed u → faces k ≡ word.Claimed u
 
-pub of_shown : (c : WordState) (w : ℕ) → shown c ≡ Claimed w → c ≡ plain (Claimed w)
-of_shown (drawn_by u) w e = cc
-of_shown (plain m) w e = ap plain e
+pub of_shown : (c : Word) (w : ℕ) → shown c ≡ Claimed w → c ≡ word.Claimed w
+of_shown word.Absent w e = absurd cc
+of_shown word.Open w e = absurd cc
+of_shown word.Returned w e = absurd cc
+of_shown word.Faulted w e = absurd cc
+of_shown (word.Drawn u) w e = absurd cc
+of_shown (word.Claimed u) w e = let same : u ≡ w = cc in ap word.Claimed same
 
-apart_at : (u : ℕ) (faces : ℕ → WordState) (i : ℕ) (c' : WordState) → faces i ≢ drawn_by u → c' ≢ drawn_by u → c' ≢ plain (Claimed u) → IsApart u faces (put faces i c')
+apart_at : (u : ℕ) (faces : ℕ → Word) (i : ℕ) (c' : Word) → faces i ≢ word.Drawn u → c' ≢ word.Drawn u → c' ≢ word.Claimed u → IsApart u faces (put faces i c')
 apart_at u faces i c' a c d = record {
-  drawn_to = λ k e. at_put faces i c' (λ z f. z ≡ k → f ≡ drawn_by u) k (λ x. absurd (a (ap faces x ∙ e))) (λ _ _. e) refl;
-  drawn_from = λ k. at_put faces i c' (λ z f. f ≡ drawn_by u → faces z ≡ drawn_by u) k (λ e. absurd (c e)) (λ _ e. e);
-  taken_from = λ k. at_put faces i c' (λ z f. f ≡ plain (Claimed u) → faces z ≡ plain (Claimed u)) k (λ e. absurd (d e)) (λ _ e. e);
+  drawn_to = λ k e. at_put faces i c' (λ z f. z ≡ k → f ≡ word.Drawn u) k (λ x. absurd (a (ap faces x ∙ e))) (λ _ _. e) refl;
+  drawn_from = λ k. at_put faces i c' (λ z f. f ≡ word.Drawn u → faces z ≡ word.Drawn u) k (λ e. absurd (c e)) (λ _ e. e);
+  taken_from = λ k. at_put faces i c' (λ z f. f ≡ word.Claimed u → faces z ≡ word.Claimed u) k (λ e. absurd (d e)) (λ _ e. e);
 }
 
-pub apart_same : (u : ℕ) (faces : ℕ → WordState) → IsApart u faces faces
+pub apart_same : (u : ℕ) (faces : ℕ → Word) → IsApart u faces faces
 apart_same u faces = record { drawn_to = λ k e. e; drawn_from = λ k e. e; taken_from = λ k e. e }
 
-pub agree_put : (s : ℕ → Status) (faces : ℕ → WordState) (i : ℕ) (m : Status) (c' : WordState) → m ≡ shown c' → ((k : ℕ) → s k ≡ shown (faces k)) → (k : ℕ) → put s i m k ≡ shown (put faces i c' k)
+pub agree_put : (s : ℕ → Status) (faces : ℕ → Word) (i : ℕ) (m : Status) (c' : Word) → m ≡ shown c' → ((k : ℕ) → s k ≡ shown (faces k)) → (k : ℕ) → put s i m k ≡ shown (put faces i c' k)
 agree_put s faces i m c' is old k = elim (eqb k i) as (λ b. cond b m (s k) ≡ shown (cond b c' (faces k))) [ true ↦ is | false ↦ old k ]
 
-more_at : (faces : ℕ → WordState) (i : ℕ) (c' : WordState) → c' ≢ plain Absent → (k : ℕ) → put faces i c' k ≡ plain Absent → (k ≢ i) × (faces k ≡ plain Absent)
-more_at faces i c' ne k = at_put faces i c' (λ z f. f ≡ plain Absent → (z ≢ i) × (faces z ≡ plain Absent)) k (λ e. absurd (ne e)) (λ o e. (o, e))
+more_at : (faces : ℕ → Word) (i : ℕ) (c' : Word) → c' ≢ word.Absent → (k : ℕ) → put faces i c' k ≡ word.Absent → (k ≢ i) × (faces k ≡ word.Absent)
+more_at faces i c' ne k = at_put faces i c' (λ z f. f ≡ word.Absent → (z ≢ i) × (faces z ≡ word.Absent)) k (λ e. absurd (ne e)) (λ o e. (o, e))
 
 pub same_some : {a b : ℕ} → Path (Option ℕ) (Some a) (Some b) → a ≡ b
 same_some e = cc
@@ -52,15 +59,15 @@ module _ {J R : Type 0} where
   pub held_is : (root : Option J) (workers : ℕ) (s : State (Slot J R) (View J R)) (r : IsRow root workers s) (me : ℕ) (v : View J R) → Knows root workers r.history r.faces r.owner me v
       → (i : ℕ) → (holding v.mine ≡ Some i) ↔ (status r.history i ≡ Claimed v.worker)
   held_is root workers s r me v k i =
-      let t = part_tells_claim (length s.homes) workers r.history r.legal v.worker in
+      let t = part_tells_claim (length s.homes) workers r.history r.state.legal v.worker in
       subst (λ m. (holding m ≡ Some i) ↔ (status r.history i ≡ Claimed v.worker)) k.mine (t.claimed i)
 
-  still_joined : (h h' : List (Event J R)) (faces faces' : ℕ → WordState) (owner : ℕ → Option ℕ) (j worker u : ℕ) (m : List (Event J R)) → part u h' ≡ part u h → IsApart u faces faces' → HasJoined h faces owner j worker u m → HasJoined h' faces' owner j worker u m
+  still_joined : (h h' : List (Event J R)) (faces faces' : ℕ → Word) (owner : ℕ → Option ℕ) (j worker u : ℕ) (m : List (Event J R)) → part u h' ≡ part u h → IsApart u faces faces' → HasJoined h faces owner j worker u m → HasJoined h' faces' owner j worker u m
   still_joined h h' faces faces' owner j worker u m same apart x = record { owned = x.owned; other = x.other; events = same ∙ x.events; idle = λ k e. x.idle k (apart.drawn_from k e) }
 
-  others_know : (root : Option J) (workers : ℕ) (h h' : List (Event J R)) (faces faces' : ℕ → WordState) (owner : ℕ → Option ℕ) (j : ℕ) (d : View J R)
+  others_know : (root : Option J) (workers : ℕ) (h h' : List (Event J R)) (faces faces' : ℕ → Word) (owner : ℕ → Option ℕ) (j : ℕ) (d : View J R)
       → part d.worker h' ≡ part d.worker h → ((n u : ℕ) (m : List (Event J R)) → get_elem? d.joined n ≡ some (u, m) → (part u h' ≡ part u h) × IsApart u faces faces') → GoesOn h' h → IsApart d.worker faces faces'
-      → ((k : ℕ) → faces' k ≡ plain Absent → faces k ≡ plain Absent) → Knows root workers h faces owner j d → Knows root workers h' faces' owner j d
+      → ((k : ℕ) → faces' k ≡ word.Absent → faces k ≡ word.Absent) → Knows root workers h faces owner j d → Knows root workers h' faces' owner j d
   others_know root workers h h' faces faces' owner j d same sames longer apart more k = record {
     root_is = k.root_is;
     workers_are = k.workers_are;
@@ -78,39 +85,29 @@ module _ {J R : Type 0} where
   }
 
   -- passes at other seats are other workers'
-  pub other_worker : (root : Option J) (workers : ℕ) (h : List (Event J R)) (faces : ℕ → WordState) (owner : ℕ → Option ℕ) (me j : ℕ) (v d : View J R) → Knows root workers h faces owner me v → Knows root workers h faces owner j d → j ≢ me → d.worker ≢ v.worker
+  pub other_worker : (root : Option J) (workers : ℕ) (h : List (Event J R)) (faces : ℕ → Word) (owner : ℕ → Option ℕ) (me j : ℕ) (v d : View J R) → Knows root workers h faces owner me v → Knows root workers h faces owner j d → j ≢ me → d.worker ≢ v.worker
   other_worker root workers h faces owner me j v d a b ne e = ne (same_some (sym b.owns ∙ (ap owner e ∙ a.owns)))
 
-  pub record IsNext (root : Option J) (workers : ℕ) (s : State (Slot J R) (View J R)) (r : IsRow root workers s) (worker : ℕ) (h' : List (Event J R)) (faces' : ℕ → WordState) (words' : List ℕ) (homes' : Homes J R) : Type 0 where
+  pub record IsNext (root : Option J) (workers : ℕ) (s : State (Slot J R) (View J R)) (r : IsRow root workers s) (worker : ℕ) (h' : List (Event J R)) (faces' : ℕ → Word) (words' : List ℕ) (homes' : Homes J R) : Type 0 where
     pub long : length homes' ≡ length s.homes
     pub wide : length words' ≡ length s.words
-    pub legal : IsLegal (length s.homes) workers h'
-    pub matched : IsMatched root h'
+    pub state : ShowsState root workers (length s.homes) words' h' faces'
     pub grows : GoesOn h' r.history
     pub parts : (u : ℕ) → u ≢ worker → part u h' ≡ part u r.history
-    pub shows : (k : ℕ) → k < length s.homes → get_or words' k 0 ≡ code (faces' k)
-    pub agrees : (k : ℕ) → status h' k ≡ shown (faces' k)
-    pub beyond : (k : ℕ) → length s.homes ≤ k → faces' k ≡ plain Absent
-    pub together : (k l : ℕ) → k ≤ l → faces' k ≡ plain Absent → faces' l ≡ plain Absent
     pub lies : (k : ℕ) → k < length s.homes → Lies root h' homes' k (faces' k)
-    pub busy : (k w : ℕ) → faces' k ≡ drawn_by w → (p : ℕ) × (status h' p ≡ Claimed w)
+    pub busy : (k w : ℕ) → faces' k ≡ word.Drawn w → (p : ℕ) × (status h' p ≡ Claimed w)
     pub apart : (u : ℕ) → u ≢ worker → IsApart u r.faces faces'
-    pub more : (k : ℕ) → faces' k ≡ plain Absent → r.faces k ≡ plain Absent
+    pub more : (k : ℕ) → faces' k ≡ word.Absent → r.faces k ≡ word.Absent
 
   pub rebuilt : (root : Option J) (workers : ℕ) (s : State (Slot J R) (View J R)) (r : IsRow root workers s) (me : ℕ) (v : View J R) → get_elem? s.views me ≡ some v → v.live ≡ true
-      → (h' : List (Event J R)) (faces' : ℕ → WordState) (words' : List ℕ) (homes' : Homes J R) (w : View J R) → IsNext root workers s r v.worker h' faces' words' homes' → Knows root workers h' faces' r.owner me w
+      → (h' : List (Event J R)) (faces' : ℕ → Word) (words' : List ℕ) (homes' : Homes J R) (w : View J R) → IsNext root workers s r v.worker h' faces' words' homes' → Knows root workers h' faces' r.owner me w
       → IsRow root workers record { words = words'; homes = homes'; views = set s.views me w }
   rebuilt root workers s r me v at lives h' faces' words' homes' w n mine = let len : length s.homes ≡ length homes' = sym n.long in record {
     history = h';
     faces = faces';
     owner = r.owner;
-    legal = subst (λ z. IsLegal z workers h') len n.legal;
-    matched = n.matched;
+    state = subst (λ z. ShowsState root workers z words' h' faces') len n.state;
     wide = n.wide ∙ (r.wide ∙ len);
-    shows = λ k l. n.shows k (subst (λ z. k < z) n.long l);
-    agrees = n.agrees;
-    beyond = λ k l. n.beyond k (subst (λ z. z ≤ k) n.long l);
-    together = n.together;
     lies = λ k l. n.lies k (subst (λ z. k < z) n.long l);
     busy = n.busy;
     idle = λ u none. let old = r.idle u none in let ne : u ≢ v.worker = (λ e. let x : Path (Option ℕ) None (Some me) = sym none ∙ (ap r.owner e ∙ (r.each_seat me v at lives).owns) in cc) in
@@ -123,16 +120,16 @@ module _ {J R : Type 0} where
         (at_set s.views me j w d e);
   }
 
-  pub lies_stay : (root : Option J) (h h' : List (Event J R)) (hs hs' : Homes J R) (k : ℕ) → get_elem? hs' k ≡ get_elem? hs k → job_at root h' k ≡ job_at root h k → row_given h' k ≡ row_given h k → (c : WordState) → Lies root h hs k c → Lies root h' hs' k c
-  lies_stay root h h' hs hs' k a b d (drawn_by w) l = tt
-  lies_stay root h h' hs hs' k a b d (plain Absent) l = a ∙ l
-  lies_stay root h h' hs hs' k a b d (plain Open) l = (l.0, a ∙ l.1, b ∙ l.2)
-  lies_stay root h h' hs hs' k a b d (plain (Claimed w)) l = tt
-  lies_stay root h h' hs hs' k a b d (plain Returned) l = (l.0, a ∙ l.1, d ∙ l.2)
-  lies_stay root h h' hs hs' k a b d (plain Faulted) l = (l.0, a ∙ l.1, d ∙ l.2)
+  pub lies_stay : (root : Option J) (h h' : List (Event J R)) (hs hs' : Homes J R) (k : ℕ) → get_elem? hs' k ≡ get_elem? hs k → job_at root h' k ≡ job_at root h k → row_given h' k ≡ row_given h k → (c : Word) → Lies root h hs k c → Lies root h' hs' k c
+  lies_stay root h h' hs hs' k a b d (word.Drawn w) l = tt
+  lies_stay root h h' hs hs' k a b d word.Absent l = a ∙ l
+  lies_stay root h h' hs hs' k a b d word.Open l = (l.0, a ∙ l.1, b ∙ l.2)
+  lies_stay root h h' hs hs' k a b d (word.Claimed w) l = tt
+  lies_stay root h h' hs hs' k a b d word.Returned l = (l.0, a ∙ l.1, d ∙ l.2)
+  lies_stay root h h' hs hs' k a b d word.Faulted l = (l.0, a ∙ l.1, d ∙ l.2)
 
   -- what a step on the number i owes
-  pub record IsTurn (root : Option J) (workers : ℕ) (s : State (Slot J R) (View J R)) (r : IsRow root workers s) (worker i : ℕ) (h' : List (Event J R)) (c' : WordState) (homes' : Homes J R) : Type 0 where
+  pub record IsTurn (root : Option J) (workers : ℕ) (s : State (Slot J R) (View J R)) (r : IsRow root workers s) (worker i : ℕ) (h' : List (Event J R)) (c' : Word) (homes' : Homes J R) : Type 0 where
     pub near : i < length s.homes
     pub long : length homes' ≡ length s.homes
     pub legal : IsLegal (length s.homes) workers h'
@@ -140,30 +137,32 @@ module _ {J R : Type 0} where
     pub grows : GoesOn h' r.history
     pub parts : (u : ℕ) → u ≢ worker → part u h' ≡ part u r.history
     pub agrees : (k : ℕ) → status h' k ≡ shown (put r.faces i c' k)
-    pub filled : r.faces i ≡ plain Absent → (k : ℕ) → k < i → r.faces k ≢ plain Absent
-    pub some_face : c' ≢ plain Absent
+    pub filled : r.faces i ≡ word.Absent → (k : ℕ) → k < i → r.faces k ≢ word.Absent
+    pub some_face : c' ≢ word.Absent
     pub homes_else : (k : ℕ) → k ≢ i → get_elem? homes' k ≡ get_elem? s.homes k
     pub jobs_else : (k : ℕ) → k ≢ i → job_at root h' k ≡ job_at root r.history k
     pub rows_else : (k : ℕ) → k ≢ i → row_given h' k ≡ row_given r.history k
     pub lies_here : Lies root h' homes' i c'
-    pub busy : (k w : ℕ) → put r.faces i c' k ≡ drawn_by w → (p : ℕ) × (status h' p ≡ Claimed w)
-    pub loose : (u : ℕ) → u ≢ worker → (r.faces i ≢ drawn_by u) × (c' ≢ drawn_by u) × (c' ≢ plain (Claimed u))
+    pub busy : (k w : ℕ) → put r.faces i c' k ≡ word.Drawn w → (p : ℕ) × (status h' p ≡ Claimed w)
+    pub loose : (u : ℕ) → u ≢ worker → (r.faces i ≢ word.Drawn u) × (c' ≢ word.Drawn u) × (c' ≢ word.Claimed u)
 
-  pub turned : (root : Option J) (workers : ℕ) (s : State (Slot J R) (View J R)) (r : IsRow root workers s) (worker i : ℕ) (h' : List (Event J R)) (c' : WordState) (homes' : Homes J R) → IsTurn root workers s r worker i h' c' homes'
+  pub turned : (root : Option J) (workers : ℕ) (s : State (Slot J R) (View J R)) (r : IsRow root workers s) (worker i : ℕ) (h' : List (Event J R)) (c' : Word) (homes' : Homes J R) → IsTurn root workers s r worker i h' c' homes'
       → IsNext root workers s r worker h' (put r.faces i c') (set s.words i (code c')) homes'
   turned root workers s r worker i h' c' homes' t = record {
     long = t.long;
     wide = length-set s.words i (code c');
-    legal = t.legal;
-    matched = t.matched;
+    state = record {
+      legal = t.legal;
+      matched = t.matched;
+      shows = λ k l. at_put r.faces i c' (λ z f. z < length s.homes → get_or (set s.words i (code c')) z 0 ≡ code f) k
+          (λ near. get_or-set_same s.words i (code c') 0 (subst (λ z. i < z) (sym r.wide) near)) (λ ne near. get_or-set_other s.words i k (code c') 0 ne ∙ r.state.shows k near) l;
+      agrees = t.agrees;
+      beyond = λ k l. let near = t.near in put_else r.faces i c' k (λ e. absurd (omega arith)) ∙ r.state.beyond k l;
+      together = λ k l le e. let m = more_at r.faces i c' t.some_face k e in let gone = r.state.together k l le m.1 in
+          put_else r.faces i c' l (λ (is : l ≡ i). let lt : k < i = (let ne = m.0 in omega arith) in t.filled (ap r.faces (sym is) ∙ gone) k lt m.1) ∙ gone;
+    };
     grows = t.grows;
     parts = t.parts;
-    shows = λ k l. at_put r.faces i c' (λ z f. z < length s.homes → get_or (set s.words i (code c')) z 0 ≡ code f) k
-        (λ near. get_or-set_same s.words i (code c') 0 (subst (λ z. i < z) (sym r.wide) near)) (λ ne near. get_or-set_other s.words i k (code c') 0 ne ∙ r.shows k near) l;
-    agrees = t.agrees;
-    beyond = λ k l. let near = t.near in put_else r.faces i c' k (λ e. absurd (omega arith)) ∙ r.beyond k l;
-    together = λ k l le e. let m = more_at r.faces i c' t.some_face k e in let gone = r.together k l le m.1 in
-        put_else r.faces i c' l (λ (is : l ≡ i). let lt : k < i = (let ne = m.0 in omega arith) in t.filled (ap r.faces (sym is) ∙ gone) k lt m.1) ∙ gone;
     lies = λ k l. at_put r.faces i c' (λ z f. z < length s.homes → Lies root h' homes' z f) k (λ _. t.lies_here)
         (λ ne near. lies_stay root r.history h' s.homes homes' k (t.homes_else k ne) (t.jobs_else k ne) (t.rows_else k ne) (r.faces k) (r.lies k near)) l;
     busy = t.busy;

@@ -41,7 +41,8 @@ module _ {J R : Type 0} where
   HasParts h passes = (w : ℕ) (p : Pass J R) → slice_get passes w ≡ Some p → part w h ≡ p.mine
 
   -- one legal history that is over has the passes' events as its parts; its numbers have one row each
-  pub record Settled (capacity workers : ℕ) (root : J) (promises : Promises) (passes : List (Pass J R)) (rows : List (Ended R)) : Type 0 where
+  pub record Settled (capacity workers : ℕ) (root : J) (promises : Promises)
+      (passes : List (Pass J R)) (rows : List (Ended R)) : Type 0 where
     pub history : List (Event J R)
     pub legal : IsLegal capacity workers history
     pub over : IsOver history
@@ -49,7 +50,8 @@ module _ {J R : Type 0} where
     pub numbers : HasNumbers (length rows) history
     pub shown : (k : ℕ) → Shows (status history k) (slice_get rows k)
     pub in_place : promises.keeps ≡ true → InPlace root history rows
-    pub all_used : promises.fills ≡ true → (w : ℕ) (p : Pass J R) → slice_get passes w ≡ Some p → p.full ≡ true → length rows ≡ capacity
+    pub all_used : promises.fills ≡ true
+        → (w : ℕ) (p : Pass J R) → slice_get passes w ≡ Some p → p.full ≡ true → length rows ≡ capacity
 
   -- a legal history leaves this number open or claimed, and none below it; where nothing is compared its parts are what the passes tell
   pub record Unfinished (capacity workers n : ℕ) (promises : Promises) (passes : List (Pass J R)) : Type 0 where

@@ -34,7 +34,8 @@ module _ {J R : Type 0} where
   ender (Over w ∷ h) k = ender h k
 
   -- each end among a worker's events is as P says of the claim that it ends, with one witness for each, the newest first
-  abbrev pub EachEnd : {A : Type 0} → (Option J → List (ℕ × J) → Ended R → A → Type 0) → List (Event J R) → List A → Type 0
+  abbrev pub EachEnd : {A : Type 0}
+      → (Option J → List (ℕ × J) → Ended R → A → Type 0) → List (Event J R) → List A → Type 0
   EachEnd P [] [] = Unit {0}
   EachEnd P [] (a ∷ given) = ⊥
   EachEnd P (Post w p i j ∷ m) given = EachEnd P m given
@@ -53,7 +54,8 @@ module _ {J R : Type 0} where
     pub given_by : (w : ℕ) → w < workers → given w ≡ map (λ x. by x.0) (ends (part w h))
 
   -- the same of the rows of a closed board: each row is as P says, and each pass's witnesses are those of the numbers that it ended
-  pub record RowsHold {A : Type 0} (P : Saying J R A) (workers : ℕ) (h : List (Event J R)) (passes : List (Pass J R)) (rows : List (Ended R)) (given : ℕ → List A) : Type 0 where
+  pub record RowsHold {A : Type 0} (P : Saying J R A) (workers : ℕ) (h : List (Event J R))
+      (passes : List (Pass J R)) (rows : List (Ended R)) (given : ℕ → List A) : Type 0 where
     pub by : ℕ → A
     pub ender_is : (i : ℕ) (e : Ended R) → slice_get rows i ≡ Some e → ender h i < workers
     pub holds : (i : ℕ) (e : Ended R) → slice_get rows i ≡ Some e → P (ender h i) (job_got h i) (posts_under i h) e (by i)

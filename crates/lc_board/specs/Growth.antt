@@ -1,5 +1,5 @@
 -- How a history goes on, and how far a number has come in it.
-use Rattle.std.specs.Prelude.{◌≡◌, ℕ, ◌==◌, cond, List, [], ◌∷◌, ◌++◌, Option, Some, None}
+use Rattle.std.specs.Prelude.{◌≡◌, ℕ, ◌≤◌, ◌==◌, cond, List, [], ◌∷◌, ◌++◌, Option, Some, None}
 use Rattle.lc_board.specs.State.{Status, Absent, Open, Claimed, Returned, Faulted}
 use Rattle.lc_board.specs.declared.event.Event.{Event}
 use Rattle.lc_board.specs.declared.event.Event.TheVariants.{Post, Claim, Return, Fault, Over}
@@ -15,6 +15,13 @@ rank Open = 1
 rank (Claimed w) = 2
 rank Returned = 3
 rank Faulted = 3
+
+abbrev pub IsEnded : Status → Type 0
+IsEnded s = rank s ≡ 3
+
+-- ended or claimed, and so never open again
+abbrev pub IsTaken : Status → Type 0
+IsTaken s = 2 ≤ rank s
 
 -- a function, but at one number
 abbrev pub put : {A : Type 0} → (ℕ → A) → ℕ → A → ℕ → A

@@ -44,11 +44,13 @@ module _ {J R : Type 0} where
 
 -- a number is posted at most once, claimed at most once, and ended at most once
 abbrev pub NumbersOnce : Type 0 → Type 0 → Type 0
-NumbersOnce J R = (capacity workers : ℕ) (h : List (Event J R)) → IsLegal capacity workers h → (k : ℕ) → Counts (status h k) (posts_of k h) (claims_of k h) (ends_of k h)
+NumbersOnce J R = (capacity workers : ℕ) (h : List (Event J R)) → IsLegal capacity workers h → (k : ℕ)
+    → Counts (status h k) (posts_of k h) (claims_of k h) (ends_of k h)
 
 -- of a number that a worker claimed, the worker's part says what the whole history says
 abbrev pub PartSaysWhole : Type 0 → Type 0 → Type 0
-PartSaysWhole J R = (capacity workers : ℕ) (h : List (Event J R)) → IsLegal capacity workers h → (w i : ℕ) (j : J) → job_got (part w h) i ≡ Some j → SaysSame i h (part w h)
+PartSaysWhole J R = (capacity workers : ℕ) (h : List (Event J R)) → IsLegal capacity workers h
+    → (w i : ℕ) (j : J) → job_got (part w h) i ≡ Some j → SaysSame i h (part w h)
 
 -- a worker's part tells which number it has claimed, with which job, and what it has posted under it
 abbrev pub PartTellsClaim : Type 0 → Type 0 → Type 0
@@ -56,11 +58,13 @@ PartTellsClaim J R = (capacity workers : ℕ) (h : List (Event J R)) → IsLegal
 
 -- nothing was posted under a claim, as the worker's part counts it and as the history lists it
 abbrev pub PostedNothing : Type 0 → Type 0 → Type 0
-PostedNothing J R = (capacity workers : ℕ) (h : List (Event J R)) → IsLegal capacity workers h → (w i : ℕ) → status h i ≡ Claimed w → (posted (part w h) ≡ 0) ↔ (posts_under i h ≡ [])
+PostedNothing J R = (capacity workers : ℕ) (h : List (Event J R)) → IsLegal capacity workers h → (w i : ℕ)
+    → status h i ≡ Claimed w → (posted (part w h) ≡ 0) ↔ (posts_under i h ≡ [])
 
 -- a history in which the last event of some worker is Over is over
 abbrev pub OverStays : Type 0 → Type 0 → Type 0
-OverStays J R = (capacity workers : ℕ) (h : List (Event J R)) → IsLegal capacity workers h → (w : ℕ) (m : List (Event J R)) → part w h ≡ Over w ∷ m → IsOver h
+OverStays J R = (capacity workers : ℕ) (h : List (Event J R)) → IsLegal capacity workers h
+    → (w : ℕ) (m : List (Event J R)) → part w h ≡ Over w ∷ m → IsOver h
 
 -- the row given at a number, by what the number is
 abbrev pub GivenAs : {R : Type 0} → Status → Option (Ended R) → Type 0
@@ -72,19 +76,23 @@ GivenAs {R} Faulted o = (r : R) × (o ≡ Some (ended.Faulted r))
 
 -- a number has a row exactly where it has ended, of the kind that it ended by
 abbrev pub EndedHasRow : Type 0 → Type 0 → Type 0
-EndedHasRow J R = (capacity workers : ℕ) (h : List (Event J R)) → IsLegal capacity workers h → (k : ℕ) → GivenAs (status h k) (row_given h k)
+EndedHasRow J R = (capacity workers : ℕ) (h : List (Event J R)) → IsLegal capacity workers h → (k : ℕ)
+    → GivenAs (status h k) (row_given h k)
 
 -- what is said of a number that has ended stays, however the history goes on: its posts, its job and its row
 abbrev pub EndedStays : Type 0 → Type 0 → Type 0
-EndedStays J R = (capacity workers : ℕ) (h g : List (Event J R)) → IsLegal capacity workers h → GoesOn h g → (i : ℕ) (r : Ended R) → row_given g i ≡ Some r → SaysSame i g h
+EndedStays J R = (capacity workers : ℕ) (h g : List (Event J R)) → IsLegal capacity workers h → GoesOn h g
+    → (i : ℕ) (r : Ended R) → row_given g i ≡ Some r → SaysSame i g h
 
 -- 0 was never posted, and each other number that is there was posted once
 abbrev pub PostedOnce : Type 0 → Type 0 → Type 0
-PostedOnce J R = (capacity workers : ℕ) (h : List (Event J R)) → IsLegal capacity workers h → (posts_of 0 h ≡ 0) × ((k : ℕ) → k ≢ 0 → status h k ≢ Absent → posts_of k h ≡ 1)
+PostedOnce J R = (capacity workers : ℕ) (h : List (Event J R)) → IsLegal capacity workers h
+    → (posts_of 0 h ≡ 0) × ((k : ℕ) → k ≢ 0 → status h k ≢ Absent → posts_of k h ≡ 1)
 
 -- a history that is legal is so under a larger capacity
 abbrev pub StaysLegal : Type 0 → Type 0 → Type 0
-StaysLegal J R = (capacity larger workers : ℕ) (h : List (Event J R)) → capacity ≤ larger → IsLegal capacity workers h → IsLegal larger workers h
+StaysLegal J R = (capacity larger workers : ℕ) (h : List (Event J R)) → capacity ≤ larger
+    → IsLegal capacity workers h → IsLegal larger workers h
 
 -- there are no more numbers, and no more ends, than the capacity
 abbrev pub FewNumbers : Type 0 → Type 0 → Type 0
@@ -95,10 +103,12 @@ FewEnds J R = (capacity workers : ℕ) (h : List (Event J R)) → 1 ≤ capacity
 
 -- the ends of all workers, one worker after the other, are the rows in place with their numbers, in some order
 abbrev pub RowsAreEnds : Type 0 → Type 0 → Type 0
-RowsAreEnds J R = (capacity workers : ℕ) (root : J) (h : List (Event J R)) (rows : List (Ended R)) → IsLegal capacity workers h → IsOver h → HasNumbers (length rows) h → InPlace root h rows
+RowsAreEnds J R = (capacity workers : ℕ) (root : J) (h : List (Event J R)) (rows : List (Ended R))
+    → IsLegal capacity workers h → IsOver h → HasNumbers (length rows) h → InPlace root h rows
     → IsPermutation (flat_map (λ w. ends (part w h)) (range_with_len 0 workers)) (enumerate_from 0 rows)
 
 -- a sum over the rows in place is the sum of the workers' own sums
 abbrev pub SumsOfRows : Type 0 → Type 0 → Type 0
-SumsOfRows J R = (capacity workers : ℕ) (root : J) (h : List (Event J R)) (rows : List (Ended R)) → IsLegal capacity workers h → IsOver h → HasNumbers (length rows) h → InPlace root h rows
+SumsOfRows J R = (capacity workers : ℕ) (root : J) (h : List (Event J R)) (rows : List (Ended R))
+    → IsLegal capacity workers h → IsOver h → HasNumbers (length rows) h → InPlace root h rows
     → (f : ℕ × Ended R → ℕ) → sum_by f (enumerate_from 0 rows) ≡ sum_by (λ w. sum_by f (ends (part w h))) (range_with_len 0 workers)

@@ -7,6 +7,7 @@ pub mod Holding
 pub mod RowsInPlace
 pub mod Numbers
 pub mod Ends
+pub mod Ending
 pub mod NewestFirst
 pub mod Pass
 pub mod ClosedBoard
@@ -17,9 +18,11 @@ pub mod Notes
 pub mod ComparedPass
 pub mod RecordedBoard
 pub mod RecordedCalls
+pub mod LockedBoard
 pub mod Laws
 pub mod Scripts
 pub mod Growth
+pub mod WordCode
 pub mod WordRow
 pub mod WordSteps
 pub mod WordMarks

@@ -51,8 +51,10 @@ module _ {J R : Type 0} where
   -- the cell of a number is what the history made of it
   abbrev pub Fits : J → List (Event J R) → ℕ → Option (Cell J R) → Type 0
   Fits root h k None = (status h k ≡ Absent) × (posts_under k h ≡ []) × (row_given h k ≡ None)
-  Fits root h k (Some (Waiting j)) = (status h k ≡ Open) × (posts_under k h ≡ []) × (row_given h k ≡ None) × (job_posted root h k ≡ Some j)
-  Fits root h k (Some (Held w n)) = (status h k ≡ Claimed w) × (length (posts_under k h) ≡ n) × (row_given h k ≡ None) × (job_got h k ≡ job_posted root h k)
+  Fits root h k (Some (Waiting j)) = (status h k ≡ Open) × (posts_under k h ≡ []) × (row_given h k ≡ None)
+      × (job_posted root h k ≡ Some j)
+  Fits root h k (Some (Held w n)) = (status h k ≡ Claimed w) × (length (posts_under k h) ≡ n) × (row_given h k ≡ None)
+      × (job_got h k ≡ job_posted root h k)
   Fits root h k (Some (Done e)) = (status h k ≡ status_ended e) × (row_given h k ≡ Some e) × (job_got h k ≡ job_posted root h k)
 
   -- the board is the state after the history

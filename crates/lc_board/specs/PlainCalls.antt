@@ -55,14 +55,16 @@ module _ {J R : Type 0} where
 
   -- what a claim of a worker answers: the least open number, or Later where some are claimed, or Over
   abbrev pub AnswersClaim : ℕ → Board J R → Claim J → Board J R → Type 0
-  AnswersClaim w old (answer.Got i j) new = IsLeastOpen old i j × Adds old (event.Claim w i j) new × (new.held ≡ slice_set old.held w (Some i))
+  AnswersClaim w old (answer.Got i j) new = IsLeastOpen old i j × Adds old (event.Claim w i j) new
+      × (new.held ≡ slice_set old.held w (Some i))
   AnswersClaim w old answer.Later new = NoneOpen old × ((k : ℕ) × IsHeld (cell_at old k)) × (new ≡ old)
   AnswersClaim w old answer.Over new = NoneOpen old × NoneHeld old × Adds old (event.Over w) new × (new ≡ old)
   AnswersClaim w old answer.Memory new = ⊥
 
   -- what a post of a worker answers: the least unused number; where it is refused the job comes back and nothing changes
   abbrev pub AnswersPost : ℕ → Board J R → J → Result ℕ (PostFault J) → Board J R → Type 0
-  AnswersPost w old j (Ok i) new = (i ≡ length old.cells) × IfSome (held_by old w) (λ p. Adds old (event.Post w p i j) new) × (new.held ≡ old.held)
+  AnswersPost w old j (Ok i) new = (i ≡ length old.cells) × IfSome (held_by old w) (λ p. Adds old (event.Post w p i j) new)
+      × (new.held ≡ old.held)
   AnswersPost w old j (Err (refusal.Full k)) new = (k ≡ j) × (length old.cells ≡ old.capacity) × (new ≡ old)
   AnswersPost w old j (Err (refusal.Memory k)) new = (k ≡ j) × (length old.cells < old.capacity) × (new ≡ old)
 

@@ -45,7 +45,8 @@ module _ {J R : Type 0} where
   -- Memory comes only where a number is left
   abbrev pub RecordsPost : ℕ → ℕ → Record J R → J → Result ℕ (PostFault J) → Record J R → Type 0
   RecordsPost w p old j (Ok i) new = AnswersPost w old.board j (Ok i) new.board × Records old (event.Post w p i j) new
-  RecordsPost w p old j (Err (refusal.Full k)) new = (k ≡ j) × (new ≡ old) × (Holds w p old.board → AnswersPost w old.board j (Err (refusal.Full k)) old.board)
+  RecordsPost w p old j (Err (refusal.Full k)) new = (k ≡ j) × (new ≡ old)
+      × (Holds w p old.board → AnswersPost w old.board j (Err (refusal.Full k)) old.board)
   RecordsPost w p old j (Err (refusal.Memory k)) new = (k ≡ j) × (new ≡ old) × Holds w p old.board × ¬ IsFull old.board
 
   -- a claim is ended exactly where the worker may end it; else nothing changes
@@ -69,5 +70,6 @@ module _ {J R : Type 0} where
   -- why it is not closed: the least number that has not ended; else a worker of whom the history has something else; else memory
   abbrev pub RefusesRecorded : Record J R → ℕ → ℕ → List (Pass J R) → CloseFault → Type 0
   RefusesRecorded r capacity workers passes (close.Unfinished n) = IsLeftLeast r.board n
-  RefusesRecorded r capacity workers passes (close.Mismatch w) = NoneLeft r.board × ((p : Pass J R) → slice_get passes w ≡ Some p → part w r.history ≢ map bare p.mine)
+  RefusesRecorded r capacity workers passes (close.Mismatch w) = NoneLeft r.board
+      × ((p : Pass J R) → slice_get passes w ≡ Some p → part w r.history ≢ map bare p.mine)
   RefusesRecorded r capacity workers passes close.Memory = RefusesMemory r capacity workers passes

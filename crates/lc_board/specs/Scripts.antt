@@ -70,7 +70,8 @@ pub record ScriptsAreLegal : Type 0 where
   pub own_legal : IsLegal 2 1 own_post
   pub own_holding : (holding own_post ≡ Some 1) × (posted own_post ≡ 0)
   pub own_held : (job_held own_post ≡ Some 9) × (posts_held own_post ≡ [])
-  pub posting_held : (job_held posting ≡ Some 7) × (posts_held posting ≡ posts_of_posting) × (posts_under 0 posting ≡ posts_of_posting)
+  pub posting_held : (job_held posting ≡ Some 7) × (posts_held posting ≡ posts_of_posting)
+      × (posts_under 0 posting ≡ posts_of_posting)
   pub fault_legal : IsLegal 1 1 one_fault
   pub fault_placed : InPlace {J = ℕ} {R = ℕ} 7 one_fault fault_row
   pub no_second_claim : ¬ IsLegal 2 2 second_claim

@@ -1,12 +1,15 @@
 -- What the closed row of words says, and what is taken out of it.
-use Rattle.std.specs.Prelude.{◌≡◌, ◌≢◌, ℕ, ◌<◌, ◌≤◌, ◌⊎◌, ◌==◌, cond, true, false, List, length, slice_get, slice_index, Option, Some, None}
+use Rattle.std.specs.Prelude.{◌≡◌, ◌≢◌, ℕ, ◌<◌, ◌≤◌, ◌⊎◌, true, false}
+use Rattle.std.specs.Prelude.{List, length, slice_get, slice_index, Option, Some, None, Result, Ok, Err}
 use mathlib.Core.Option.{some}
 use lib.ListN.{get_elem?}
 use Rattle.lc_board.specs.State.{Status, Absent, Open, Claimed, Returned, Faulted, status}
-use Rattle.lc_board.specs.LegalHistory.{IsLegal}
 use Rattle.lc_board.specs.RowsInPlace.{row_given}
-use Rattle.lc_board.specs.Growth.{rank, IsMatched}
-use Rattle.lc_board.specs.WordRow.{WordState, drawn_by, plain, shown, code}
+use Rattle.lc_board.specs.Growth.{IsEnded}
+use Rattle.lc_board.specs.WordCode.{shown, word_of, is_absent, has_ended}
+use Rattle.lc_board.specs.WordRow.{ShowsState}
+use Rattle.lc_board.specs.declared.words.coding.Word.{Word}
+use Rattle.lc_board.specs.declared.words.coding.Word.TheVariants as word
 use Rattle.lc_board.specs.Pass.{Pass}
 use Rattle.lc_board.specs.ClosedBoard.{Promises, HasParts}
 use Rattle.lc_board.specs.declared.event.Event.{Event}
@@ -20,9 +23,19 @@ use Rattle.lc_board.specs.declared.words.view.View.{View}
 abbrev pub words_promises : Promises
 words_promises = record { keeps = true; compares = false; fills = true }
 
+-- the word of a number
+abbrev pub word_at : List ℕ → ℕ → Word
+word_at codes k = word_of (slice_index codes k)
+
 -- each number below n has ended
 abbrev pub EndedBelow : ℕ → List ℕ → Type 0
-EndedBelow n ws = (k : ℕ) → k < n → (2 ≤ slice_index ws k) × (slice_index ws k < 4)
+EndedBelow n codes = (k : ℕ) → k < n → has_ended (word_at codes k) ≡ true
+
+-- what counting the numbers that have ended answers: how many there are, where all others are absent; or the least that has not ended
+abbrev pub TellsEnded : ℕ → List ℕ → Result ℕ ℕ → Type 0
+TellsEnded capacity codes (Ok n) = EndedBelow n codes × (n ≤ capacity) × ((n ≡ capacity) ⊎ (is_absent (word_at codes n) ≡ true))
+TellsEnded capacity codes (Err n) = EndedBelow n codes × (n < capacity)
+    × (is_absent (word_at codes n) ≡ false) × (has_ended (word_at codes n) ≡ false)
 
 -- the row of a number that has ended, as its status says
 abbrev pub ended_as : {R : Type 0} → Status → R → Option (Ended R)
@@ -32,14 +45,15 @@ ended_as (Claimed w) r = None
 ended_as Returned r = Some (ended.Returned r)
 ended_as Faulted r = Some (ended.Faulted r)
 
--- the row of a number by its word
-abbrev pub row_of : {R : Type 0} → ℕ → R → Ended R
-row_of w r = cond (w == 2) (ended.Returned r) (ended.Faulted r)
-
 module _ {J R : Type 0} where
   -- each number below n has its row in its slot
   abbrev pub HasRows : ℕ → List (Slot J R) → Type 0
   HasRows n xs = (k : ℕ) → k < n → (r : R) × (get_elem? xs k ≡ some (Row r))
+
+  -- the row in each slot below n is taken out, and is what its word says
+  abbrev pub TakesRows : ℕ → List ℕ → List (Slot J R) → List (Ended R) → Type 0
+  TakesRows n codes xs rows = (k : ℕ) (r : R) → k < n → get_elem? xs k ≡ some (Row r)
+      → slice_get rows k ≡ ended_as (shown (word_at codes k)) r
 
   -- the pass v has the events m of the worker w: they are its own, or it took them in
   abbrev pub Tells : View J R → ℕ → List (Event J R) → Type 0
@@ -47,19 +61,20 @@ module _ {J R : Type 0} where
 
   -- the pass v has the events of each worker from n on
   abbrev pub HasTaken : ℕ → List (Pass J R) → ℕ → View J R → Type 0
-  HasTaken slots passes n v = (w : ℕ) (p : Pass J R) → n ≤ w → slice_get passes w ≡ Some p → Tells v w p.mine × (p.full ≡ true → slots ≤ v.front)
+  HasTaken slots passes n v = (w : ℕ) (p : Pass J R) → n ≤ w → slice_get passes w ≡ Some p
+      → Tells v w p.mine × (p.full ≡ true → slots ≤ v.front)
+
+  -- the row that ended a number lies in its slot
+  abbrev pub IsPlaced : List (Event J R) → List (Slot J R) → ℕ → Type 0
+  IsPlaced h xs k = (r : R) × (get_elem? xs k ≡ some (Row r)) × (row_given h k ≡ ended_as (status h k) r)
 
   -- the words and slots of a closed board: one legal history, whose parts are the passes' events, with each row in its slot
-  pub record IsClosedRow (root : Option J) (workers : ℕ) (passes : List (Pass J R)) (ws : List ℕ) (xs : List (Slot J R)) : Type 0 where
+  pub record IsClosedRow (root : Option J) (workers : ℕ) (passes : List (Pass J R)) (codes : List ℕ) (xs : List (Slot J R)) : Type 0 where
     pub history : List (Event J R)
-    pub faces : ℕ → WordState
-    pub legal : IsLegal (length xs) workers history
-    pub matched : IsMatched root history
+    pub faces : ℕ → Word
+    pub state : ShowsState root workers (length xs) codes history faces
     pub parts : HasParts history passes
-    pub shows : (k : ℕ) → k < length xs → slice_index ws k ≡ code (faces k)
-    pub agrees : (k : ℕ) → status history k ≡ shown (faces k)
-    pub beyond : (k : ℕ) → length xs ≤ k → faces k ≡ plain Absent
-    pub together : (k l : ℕ) → k ≤ l → faces k ≡ plain Absent → faces l ≡ plain Absent
-    pub undrawn : (k u : ℕ) → faces k ≢ drawn_by u
-    pub placed : (k : ℕ) → k < length xs → rank (status history k) ≡ 3 → (r : R) × (get_elem? xs k ≡ some (Row r)) × (row_given history k ≡ ended_as (status history k) r)
-    pub used : (w : ℕ) (p : Pass J R) → slice_get passes w ≡ Some p → p.full ≡ true → (k : ℕ) → k < length xs → faces k ≢ plain Absent
+    pub undrawn : (k u : ℕ) → faces k ≢ word.Drawn u
+    pub placed : (k : ℕ) → k < length xs → IsEnded (status history k) → IsPlaced history xs k
+    pub used : (w : ℕ) (p : Pass J R) → slice_get passes w ≡ Some p → p.full ≡ true
+        → (k : ℕ) → k < length xs → faces k ≢ word.Absent

@@ -1,58 +1,64 @@
 -- What each step on a word tells its pass.
-use Rattle.std.specs.Prelude.{◌≡◌, ◌≢◌, ℕ, ◌+◌, ◌%◌, ◌<◌, ◌≤◌, ◌==◌, ◌⊎◌, Bool, true, false, cond, List, [], ◌∷◌, ◌++◌, Option, Some, None, ltb, ◌&&◌, ◌||◌, MatchBool}
+use Rattle.std.specs.Prelude.{◌≡◌, ◌≢◌, ℕ, ◌+◌, ◌<◌, ◌≤◌, ◌==◌, Bool, true, false, cond, ltb, ◌&&◌, ◌||◌, MatchBool, IsSome}
+use Rattle.std.specs.Prelude.{List, [], ◌∷◌, ◌++◌, Option, Some, None}
 use Rattle.atomic_table.specs.Table.{Step, rest}
-use Rattle.lc_board.specs.State.{Absent, Open, Claimed, status}
+use Rattle.lc_board.specs.State.{Absent, Open, Claimed, Returned, Faulted, status}
 use Rattle.lc_board.specs.Part.{part}
 use Rattle.lc_board.specs.LegalHistory.{IsLegal}
 use Rattle.lc_board.specs.Holding.{holding}
-use Rattle.lc_board.specs.Growth.{GoesOn, rank, IsMatched}
+use Rattle.lc_board.specs.Growth.{GoesOn, IsEnded, IsMatched}
+use Rattle.lc_board.specs.WordCode.{code, word_of, end_word, is_absent, is_open, has_ended, is_taken}
+use Rattle.lc_board.specs.Ending.{end_event, row_in}
 use Rattle.lc_board.specs.WordRow.{Seated}
+use Rattle.lc_board.specs.declared.answers.Ended.{Ended}
 use Rattle.lc_board.specs.declared.event.Event.{Event}
-use Rattle.lc_board.specs.declared.event.Event.TheVariants.{Post, Claim, Return, Fault, Over}
+use Rattle.lc_board.specs.declared.event.Event.TheVariants.{Post, Claim, Over}
+use Rattle.lc_board.specs.declared.words.coding.Word.{Word}
+use Rattle.lc_board.specs.declared.words.coding.Word.TheVariants as word
 use Rattle.lc_board.specs.declared.words.view.Slot.{Slot}
 use Rattle.lc_board.specs.declared.words.view.Slot.TheVariants.{Empty, Job, Row}
 use Rattle.lc_board.specs.declared.words.view.View.{View}
 
--- the word of a number that has ended
-abbrev pub is_end : ℕ → Bool
-is_end r = ltb 1 r && ltb r 4
+-- the low mark after a look at the number i, whose word is x
+abbrev pub low_after : ℕ → ℕ → ℕ → Word → ℕ
+low_after cap i low x = cond ((low == i) && (has_ended x && ltb (i + 1) cap)) (i + 1) low
 
--- the low mark after a look at the word i, which found r
-abbrev pub low_after : ℕ → ℕ → ℕ → ℕ → ℕ
-low_after cap i low r = cond ((low == i) && (is_end r && ltb (i + 1) cap)) (i + 1) low
+-- the mark of the numbers that are taken, after a look at the number i, whose word is x
+abbrev pub taken_after : ℕ → ℕ → Word → ℕ
+taken_after i taken x = cond ((taken == i) && is_taken x) (i + 1) taken
 
--- the word of a number that has ended, or is claimed
-abbrev pub taken_word : ℕ → Bool
-taken_word r = ltb 1 r && (ltb r 4 || ((r % 2) == 1))
+-- no number after i is used: i is absent, or has ended and is the last
+abbrev pub is_last_word : ℕ → ℕ → Word → Bool
+is_last_word cap i x = is_absent x || (has_ended x && (i + 1 == cap))
 
--- the mark of the numbers that are taken, after a look at the word i, which found r
-abbrev pub taken_after : ℕ → ℕ → ℕ → ℕ
-taken_after i taken r = cond ((taken == i) && taken_word r) (i + 1) taken
+-- no number is left to look at: all below i have ended, and i is the last that is used, or is not used
+abbrev pub last_look : ℕ → ℕ → ℕ → Word → Bool
+last_look cap i low x = (low == i) && is_last_word cap i x
 
--- no number is left to look at: all below are ended, and this one is absent, or is the last and ended
-abbrev pub last_look : ℕ → ℕ → ℕ → ℕ → Bool
-last_look cap i low r = (low == i) && ((r == 0) || (is_end r && (i + 1 == cap)))
-
+-- the larger of two numbers
 abbrev pub larger : ℕ → ℕ → ℕ
 larger a b = cond (ltb a b) b a
 
 module _ {J R : Type 0} where
   -- what a pass keeps over each of its steps
   abbrev pub Same : View J R → View J R → Type 0
-  Same v w = (w.live ≡ v.live) × (w.root ≡ v.root) × (w.workers ≡ v.workers) × (w.worker ≡ v.worker) × (w.made ≡ v.made) × (w.joined ≡ v.joined)
+  Same v w = (w.live ≡ v.live) × (w.root ≡ v.root) × (w.workers ≡ v.workers) × (w.worker ≡ v.worker)
+      × (w.made ≡ v.made) × (w.joined ≡ v.joined)
 
   -- what another pass is told when it takes this one in
   abbrev pub IsSameTold : View J R → View J R → Type 0
-  IsSameTold v w = (w.live ≡ v.live) × (w.worker ≡ v.worker) × (w.mine ≡ v.mine) × (w.front ≡ v.front) × (w.drawn ≡ v.drawn) × (w.joined ≡ v.joined)
+  IsSameTold v w = (w.live ≡ v.live) × (w.worker ≡ v.worker) × (w.mine ≡ v.mine) × (w.front ≡ v.front)
+      × (w.drawn ≡ v.drawn) × (w.joined ≡ v.joined)
 
   -- the history seen is legal, each job got in it is the one posted there, and its part of the worker is the worker's own
   abbrev pub IsFair : ℕ → View J R → Type 0
   IsFair cap w = IsLegal cap w.workers w.seen × IsMatched w.root w.seen × (part w.worker w.seen ≡ w.mine)
 
-  -- the history goes on from what was seen
+  -- the history goes on from what was seen, and the worker has added nothing
   abbrev pub Sees : View J R → View J R → Type 0
   Sees v w = GoesOn w.seen v.seen × (w.mine ≡ v.mine)
 
+  -- the same, and what was seen is fair
   abbrev pub Looks : ℕ → View J R → View J R → Type 0
   Looks cap v w = GoesOn w.seen v.seen × (w.mine ≡ v.mine) × IsFair cap w
 
@@ -62,54 +68,99 @@ module _ {J R : Type 0} where
 
   -- some history in between has a state in which another worker holds a claim
   abbrev pub OthersHeld : View J R → View J R → Type 0
-  OthersHeld v w = (h : List (Event J R)) × (p u : ℕ) × GoesOn h v.seen × GoesOn w.seen h × (u ≢ w.worker) × (status h p ≡ Claimed u)
+  OthersHeld v w = (h : List (Event J R)) × (p u : ℕ) × GoesOn h v.seen × GoesOn w.seen h
+      × (u ≢ w.worker) × (status h p ≡ Claimed u)
 
   -- no number that had been seen posted is open, and another worker had a claim meanwhile
   abbrev pub Waits : ℕ → View J R → View J R → Type 0
   Waits cap v w = Looks cap v w × ((k : ℕ) → status v.seen k ≢ Absent → status w.seen k ≢ Open) × OthersHeld v w
 
-  -- the word found says what the number is in the history then seen
-  abbrev pub Finds : ℕ → ℕ → View J R → Type 0
-  Finds i r w = (r ≡ 0 → (k : ℕ) → i ≤ k → status w.seen k ≡ Absent)
-      × (r ≡ 1 → status w.seen i ≡ Open)
-      × (2 ≤ r → r < 4 → rank (status w.seen i) ≡ 3)
-      × (4 ≤ r → r % 2 ≡ 1 → rank (status w.seen i) ≡ 2)
-      × (4 ≤ r → ((status w.seen i ≡ Absent) ⊎ (rank (status w.seen i) ≡ 2)) × ((p u : ℕ) × (status w.seen p ≡ Claimed u) × (holding w.mine ≡ None → u ≢ w.worker)))
+  -- each number below this one has ended
+  abbrev pub EndedTo : ℕ → View J R → Type 0
+  EndedTo n w = (k : ℕ) → k < n → IsEnded (status w.seen k)
 
-  -- a look at the word i, which found r. It is the event Over where no number is left to look at
-  abbrev pub Missed : ℕ → ℕ → ℕ → View J R → View J R → Type 0
-  Missed cap i r v w = Same v w × (w.drawn ≡ v.drawn) × (w.front ≡ v.front) × (w.low ≡ low_after cap i v.low r)
-      × ((k : ℕ) → k < w.low → rank (status w.seen k) ≡ 3) × ((k : ℕ) → cap ≤ k → status w.seen k ≡ Absent)
-      × Finds i r w × MatchBool (last_look cap i v.low r) (AddsEvent cap v (Over v.worker) w) (Looks cap v w)
+  -- each number from the capacity on is absent
+  abbrev pub EndsAt : ℕ → View J R → Type 0
+  EndsAt cap w = (k : ℕ) → cap ≤ k → status w.seen k ≡ Absent
 
+  -- some worker has a claim; another one does, where this one has none
+  abbrev pub SomeHolds : View J R → Type 0
+  SomeHolds w = (p u : ℕ) × (status w.seen p ≡ Claimed u) × (holding w.mine ≡ None → u ≢ w.worker)
+
+  -- the word found says what the number i is in the history then seen; where i is absent, so are all after it
+  abbrev pub Finds : ℕ → Word → View J R → Type 0
+  Finds i word.Absent w = (k : ℕ) → i ≤ k → status w.seen k ≡ Absent
+  Finds i word.Open w = status w.seen i ≡ Open
+  Finds i word.Returned w = status w.seen i ≡ Returned
+  Finds i word.Faulted w = status w.seen i ≡ Faulted
+  Finds i (word.Drawn u) w = (status w.seen i ≡ Absent) × SomeHolds w
+  Finds i (word.Claimed u) w = (status w.seen i ≡ Claimed u) × SomeHolds w
+
+  -- a look at the number i, whose word is x. It is the event Over where no number is left to look at
+  abbrev pub Missed : ℕ → ℕ → Word → View J R → View J R → Type 0
+  Missed cap i x v w = Same v w × (w.drawn ≡ v.drawn) × (w.front ≡ v.front) × (w.low ≡ low_after cap i v.low x)
+      × EndedTo w.low w × EndsAt cap w
+      × Finds i x w × MatchBool (last_look cap i v.low x) (AddsEvent cap v (Over v.worker) w) (Looks cap v w)
+
+  -- a look
   abbrev pub looked : Step (Slot J R) → Seated J R → ℕ → Seated J R → Type 0
-  looked st m r m' = (m'.1 ≡ m.1) × Missed st.slots st.word r m.0 m'.0
+  looked st m r m' = (m'.1 ≡ m.1) × Missed st.slots st.word (word_of r) m.0 m'.0
 
+  -- the number is claimed, and its job is taken
+  abbrev pub TakesJob : Step (Slot J R) → Seated J R → Seated J R → Type 0
+  TakesJob st m m' = (j : J) × Same m.0 m'.0 × (m'.0.drawn ≡ m.0.drawn) × (m'.0.front ≡ m.0.front) × (m'.0.low ≡ m.0.low)
+      × (m'.1 ≡ (st.word, Job j) ∷ m.1) × AddsEvent st.slots m.0 (Claim m.0.worker st.word j) m'.0
+
+  -- an exchange of the word, which claims the number where that is open, and else is a look
   abbrev pub claimed : Step (Slot J R) → Seated J R → ℕ → Seated J R → Type 0
-  claimed st m r m' = (r ≡ 1 → (j : J) × Same m.0 m'.0 × (m'.0.drawn ≡ m.0.drawn) × (m'.0.front ≡ m.0.front) × (m'.0.low ≡ m.0.low) × (m'.1 ≡ (st.word, Job j) ∷ m.1) × AddsEvent st.slots m.0 (Claim m.0.worker st.word j) m'.0)
-      × (r ≢ 1 → (m'.1 ≡ m.1) × Missed st.slots st.word r m.0 m'.0)
+  claimed st m r m' = MatchBool (is_open (word_of r)) (TakesJob st m m') (looked st m r m')
 
+  -- the number is drawn, which is above that of the claim, and its empty slot is taken
+  abbrev pub TakesEmpty : ℕ → Seated J R → Seated J R → Type 0
+  TakesEmpty i m m' = (m'.1 ≡ (i, Empty) ∷ m.1) × (m'.0.drawn ≡ i + 1) × ((p : ℕ) → holding m.0.mine ≡ Some p → p < i)
+
+  -- who has a claim and has drawn nothing may draw the number at its front
+  abbrev pub MayDraw : ℕ → ℕ → View J R → Type 0
+  MayDraw i worker v = (v.live ≡ true) × (v.worker ≡ worker) × (v.drawn ≡ 0) × (v.front ≡ i) × IsSome (holding v.mine)
+
+  -- a try to draw the number, which is drawn where it was free; the front goes on
+  abbrev pub TriesDraw : ℕ → ℕ → Bool → Seated J R → Seated J R → Type 0
+  TriesDraw cap i free m m' = Same m.0 m'.0 × (m'.0.low ≡ m.0.low) × (m'.0.front ≡ i + 1) × Looks cap m.0 m'.0
+      × MatchBool free (TakesEmpty i m m') ((m'.1 ≡ m.1) × (m'.0.drawn ≡ m.0.drawn))
+
+  -- an exchange of the word, which draws the number where that is absent
   abbrev pub drew : Step (Slot J R) → Seated J R → ℕ → Seated J R → Type 0
-  drew st m r m' = Same m.0 m'.0 × (m'.0.low ≡ m.0.low) × (m'.0.front ≡ st.word + 1) × Looks st.slots m.0 m'.0
-      × (r ≡ 0 → (m'.1 ≡ (st.word, Empty) ∷ m.1) × (m'.0.drawn ≡ st.word + 1) × ((p : ℕ) → holding m.0.mine ≡ Some p → p < st.word))
-      × (r ≢ 0 → (m'.1 ≡ m.1) × (m'.0.drawn ≡ m.0.drawn))
+  drew st m r m' = TriesDraw st.slots st.word (is_absent (word_of r)) m m'
 
   -- a look at the front: where that number is used, the front goes on
   abbrev pub stepped_over : Step (Slot J R) → Seated J R → ℕ → Seated J R → Type 0
-  stepped_over st m r m' = (m'.1 ≡ m.1) × Same m.0 m'.0 × (m'.0.drawn ≡ m.0.drawn) × (m'.0.low ≡ m.0.low) × (m'.0.front ≡ cond (r == 0) m.0.front (st.word + 1)) × Looks st.slots m.0 m'.0
+  stepped_over st m r m' = (m'.1 ≡ m.1) × Same m.0 m'.0 × (m'.0.drawn ≡ m.0.drawn) × (m'.0.low ≡ m.0.low)
+      × (m'.0.front ≡ cond (is_absent (word_of r)) m.0.front (st.word + 1)) × Looks st.slots m.0 m'.0
 
   -- a slot goes home
   abbrev pub Leaves : Seated J R → Seated J R → Type 0
   Leaves m m' = Same m.0 m'.0 × (m'.0.drawn ≡ 0) × (m'.0.low ≡ m.0.low) × (m'.0.front ≡ m.0.front) × (m'.1 ≡ rest m.1)
 
+  -- who has drawn the number, above that of its claim, may open it with the job in its slot
+  abbrev pub MayOpen : ℕ → Seated J R → Type 0
+  MayOpen i m = (m.0.live ≡ true) × (m.0.drawn ≡ i + 1) × ((p : ℕ) × (holding m.0.mine ≡ Some p) × (p < i))
+      × ((j : J) × (m.1 ≡ (i, Job j) ∷ rest m.1))
+
+  -- the number that was drawn is opened with the job in its slot, under the claim that is held
+  abbrev pub Opens : ℕ → ℕ → Seated J R → Seated J R → Type 0
+  Opens cap i m m' = Leaves m m'
+      × ((p : ℕ) × (j : J) × (holding m.0.mine ≡ Some p) × (m.1 ≡ (i, Job j) ∷ rest m.1)
+      × AddsEvent cap m.0 (Post m.0.worker p i j) m'.0)
+
+  -- an exchange of the word, which opens the number
   abbrev pub opened : Step (Slot J R) → Seated J R → ℕ → Seated J R → Type 0
-  opened st m r m' = Leaves m m' × ((p : ℕ) × (j : J) × (holding m.0.mine ≡ Some p) × (m.1 ≡ (st.word, Job j) ∷ rest m.1) × AddsEvent st.slots m.0 (Post m.0.worker p st.word j) m'.0)
+  opened st m r m' = Opens st.slots st.word m m'
 
-  abbrev pub returned : Step (Slot J R) → Seated J R → ℕ → Seated J R → Type 0
-  returned st m r m' = Leaves m m' × ((x : R) × (m.1 ≡ (st.word, Row x) ∷ rest m.1) × AddsEvent st.slots m.0 (Return m.0.worker st.word x) m'.0)
-
-  abbrev pub faulted : Step (Slot J R) → Seated J R → ℕ → Seated J R → Type 0
-  faulted st m r m' = Leaves m m' × ((x : R) × (m.1 ≡ (st.word, Row x) ∷ rest m.1) × AddsEvent st.slots m.0 (Fault m.0.worker st.word x) m'.0)
+  -- the claim is ended by the row in its slot, in the way that the code says
+  abbrev pub ended : Step (Slot J R) → Seated J R → ℕ → Seated J R → Type 0
+  ended st m r m' = Leaves m m'
+      × ((e : Ended R) × (st.first ≡ code (end_word e)) × (m.1 ≡ (st.word, Row (row_in e)) ∷ rest m.1)
+      × AddsEvent st.slots m.0 (end_event m.0.worker st.word e) m'.0)
 
   -- a claim that is not ended stays, but its slot goes home: the board is about to be closed
   abbrev pub put_down : Step (Slot J R) → Seated J R → ℕ → Seated J R → Type 0
@@ -117,16 +168,56 @@ module _ {J R : Type 0} where
 
   -- the first pass, which makes the others
   abbrev pub dealer : Option J → ℕ → View J R
-  dealer root workers = record { live = true; root = root; workers = workers; worker = 0; seen = []; mine = []; drawn = 0; low = 0; front = 1; made = 1; joined = [] }
+  dealer root workers = record {
+    live = true;
+    root = root;
+    workers = workers;
+    worker = 0;
+    seen = [];
+    mine = [];
+    drawn = 0;
+    low = 0;
+    front = 1;
+    made = 1;
+    joined = [];
+  }
 
+  -- a pass that has made one more
   abbrev pub dealt : View J R → View J R
   dealt v = record v { made = v.made + 1 }
 
+  -- the pass that it made
   abbrev pub newcomer : View J R → View J R
-  newcomer v = record { live = true; root = v.root; workers = v.workers; worker = v.made; seen = []; mine = []; drawn = 0; low = 0; front = v.front; made = 0; joined = [] }
+  newcomer v = record {
+    live = true;
+    root = v.root;
+    workers = v.workers;
+    worker = v.made;
+    seen = [];
+    mine = [];
+    drawn = 0;
+    low = 0;
+    front = v.front;
+    made = 0;
+    joined = [];
+  }
 
+  -- a pass that has taken in another
   abbrev pub merged : View J R → View J R → View J R
   merged v w = record v { joined = v.joined ++ (w.worker, w.mine) ∷ w.joined; front = larger v.front w.front }
 
+-- a pass that was taken in
 abbrev pub spent : {J R : Type 0} → View J R
-spent = record { live = false; root = None; workers = 0; worker = 0; seen = []; mine = []; drawn = 0; low = 0; front = 0; made = 0; joined = [] }
+spent = record {
+  live = false;
+  root = None;
+  workers = 0;
+  worker = 0;
+  seen = [];
+  mine = [];
+  drawn = 0;
+  low = 0;
+  front = 0;
+  made = 0;
+  joined = [];
+}

@@ -1,10 +1,16 @@
 -- What a clause says of a board of words, its passes, and what they have seen.
-use Rattle.std.specs.Prelude.{◌≡◌, ℕ, false, Option, Some, None}
+use Rattle.std.specs.Prelude.{◌≡◌, ◌+◌, ℕ, false, Option, Some, None, IfSome, Result, Ok, Err}
 use Rattle.lc_board.specs.Pass.{Pass}
-use Rattle.lc_board.specs.WordSteps.{AddsEvent, Waits}
+use Rattle.lc_board.specs.Ending.{end_event}
+use Rattle.lc_board.specs.WordCode.{is_open}
+use Rattle.lc_board.specs.WordSteps.{AddsEvent, Looks, Missed, Sees, Waits}
 use Rattle.lc_board.specs.declared.event.Event.TheVariants as event
 use Rattle.lc_board.specs.declared.answers.Claim.{Claim}
 use Rattle.lc_board.specs.declared.answers.Claim.TheVariants as answer
+use Rattle.lc_board.specs.declared.answers.Ended.{Ended}
+use Rattle.lc_board.specs.declared.answers.PostFault.{PostFault}
+use Rattle.lc_board.specs.declared.answers.PostFault.TheVariants as refusal
+use Rattle.lc_board.specs.declared.words.coding.Word.{Word}
 use Rattle.lc_board.specs.declared.words.view.View.{View}
 use Rattle.lc_board.specs.declared.words.pass.WordsPass.{WordsPass}
 use Rattle.lc_board.specs.declared.words.Words.{Words}
@@ -30,14 +36,47 @@ module _ {J R : Type 0} where
   abbrev pub Owns : Words J R → WordsPass J R → Type 0
   Owns b p = IsPassOf b p × KnowsStart b p
 
+  -- the pass is this board's and this worker's, has claimed nothing, and knows this much
+  abbrev pub IsNewPass : Words J R → ℕ → View J R → WordsPass J R → Type 0
+  IsNewPass b w v p = IsPassOf b p × (p.worker ≡ w) × (p.holding ≡ None) × (p.full ≡ false) × (known p ≡ v)
+
   -- the same pass of the same board
   abbrev pub IsSamePass : WordsPass J R → WordsPass J R → Type 0
   IsSamePass old new =
-      (new.seat.table_id ≡ old.seat.table_id) × (new.worker ≡ old.worker) × (new.full ≡ old.full) × ((known new).workers ≡ (known old).workers) × ((known new).root ≡ (known old).root)
+      (new.seat.table_id ≡ old.seat.table_id) × (new.worker ≡ old.worker) × (new.full ≡ old.full)
+      × ((known new).workers ≡ (known old).workers) × ((known new).root ≡ (known old).root)
 
   -- what a claim answers: the event that it added, or that another worker had a claim meanwhile. It never wants memory
-  abbrev pub AnswersWords : ℕ → View J R → View J R → Option ℕ → Claim J → Type 0
-  AnswersWords cap v w holding (answer.Got i j) = (holding ≡ Some i) × AddsEvent cap v (event.Claim v.worker i j) w
-  AnswersWords cap v w holding answer.Later = (holding ≡ None) × Waits cap v w
-  AnswersWords cap v w holding answer.Over = (holding ≡ None) × AddsEvent cap v (event.Over v.worker) w
-  AnswersWords cap v w holding answer.Memory = ⊥
+  abbrev pub AnswersWordsClaim : ℕ → View J R → View J R → Option ℕ → Claim J → Type 0
+  AnswersWordsClaim cap v w holding (answer.Got i j) = (holding ≡ Some i) × AddsEvent cap v (event.Claim v.worker i j) w
+  AnswersWordsClaim cap v w holding answer.Later = (holding ≡ None) × Waits cap v w
+  AnswersWordsClaim cap v w holding answer.Over = (holding ≡ None) × AddsEvent cap v (event.Over v.worker) w
+  AnswersWordsClaim cap v w holding answer.Memory = ⊥
+
+  -- what a try to claim a number answers: its job; or else its word, which is not open
+  abbrev pub TriesClaim : Words J R → ℕ → WordsPass J R → Result J Word → WordsPass J R → Type 0
+  TriesClaim b i old (Ok j) new = (new.holding ≡ Some i)
+      × AddsEvent b.capacity (known old) (event.Claim (known old).worker i j) (known new)
+  TriesClaim b i old (Err x) new = (new.holding ≡ None) × (is_open x ≡ false) × Missed b.capacity i x (known old) (known new)
+
+  -- under the claim that it has, the pass has posted the number with this job
+  abbrev pub HasPosted : Words J R → WordsPass J R → ℕ → J → WordsPass J R → Type 0
+  HasPosted b old i j new = IfSome old.holding
+      (λ p. AddsEvent b.capacity (known old) (event.Post old.worker p i j) (known new))
+
+  -- what a try to post answers: the number; or else the job comes back
+  abbrev pub TriesPost : Words J R → WordsPass J R → J → Result ℕ J → WordsPass J R → Type 0
+  TriesPost b old job (Ok i) new = (new.posted ≡ old.posted + 1) × HasPosted b old i job new
+  TriesPost b old job (Err j) new = (j ≡ job) × (new.posted ≡ old.posted) × Looks b.capacity (known old) (known new)
+
+  -- what a post answers: the number; or else the job comes back, and no number is left. It never wants memory
+  abbrev pub AnswersWordsPost : Words J R → WordsPass J R → J → Result ℕ (PostFault J) → WordsPass J R → Type 0
+  AnswersWordsPost b old job (Ok i) new = (new.posted ≡ old.posted + 1) × HasPosted b old i job new
+  AnswersWordsPost b old job (Err (refusal.Full j)) new = (j ≡ job) × (new.posted ≡ old.posted)
+      × Sees (known old) (known new) × ((known new).front ≡ b.capacity)
+  AnswersWordsPost b old job (Err (refusal.Memory j)) new = ⊥
+
+  -- the pass has ended its claim so
+  abbrev pub HasEnded : Words J R → WordsPass J R → Ended R → WordsPass J R → Type 0
+  HasEnded b old e new = IfSome old.holding
+      (λ i. AddsEvent b.capacity (known old) (end_event old.worker i e) (known new))

@@ -1,4 +1,6 @@
 //! What the calls of a board answer.
+ghost use Rattle.std.specs.Prelude.{◌≡◌};
+ghost use Rattle.lc_board.specs.Ending.{row_in};
 
 /// What a claim answers.
 #[derive(PartialEq, Eq, Debug, Drop)]
@@ -38,6 +40,17 @@ pub enum CloseFault {
 pub enum Ended<R> {
     Returned(R),
     Faulted(R),
+}
+
+impl<R> Ended<R> {
+    pub(crate) fn into_row(self) -> R
+        ensures { result ≡ row_in self }
+    {
+        match self {
+            Ended::Returned(row) => row,
+            Ended::Faulted(row) => row,
+        }
+    }
 }
 
 /// What a closed board leaves: the row of each number, at its place.

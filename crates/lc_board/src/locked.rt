@@ -4,6 +4,7 @@
 //! board is closed.
 ghost use Rattle.std.specs.Prelude.{◌≡◌, ◌≢◌, ℕ, ◌≤◌, Some, IfOk, IfErr, map, slice_get, vec_len};
 ghost use Rattle.lc_board.specs.ClosedBoard.{Settled, RefusesClose};
+ghost use Rattle.lc_board.specs.LockedBoard.{told};
 ghost use Rattle.lc_board.specs.RecordedCalls.{locked_promises};
 ghost use Rattle.lc_board.specs.Limits.{capacity_limit, workers_limit};
 
@@ -136,9 +137,10 @@ impl<J: Drop + Send, R: Drop + Send> Shared<J, R> for Locked<J, R> {
 
     fn close(self, passes: Vec<LockedPass<J, R>>) -> Result<Closed<R>, CloseFault>
         requires all { vec_len passes ≡ self.workers }
-        requires each { (w : ℕ) (p : _) → slice_get passes.items w ≡ Some p → (⟦<LockedPass<J, R> as Token<J, R>>⟧.view p).worker ≡ w }
-        ensures settled { IfOk result (λ c. (root : J) → Unit {0} → Settled self.capacity self.workers root locked_promises (map ⟦<LockedPass<J, R> as Token<J, R>>⟧.view passes.items) c.rows.items) }
-        ensures fault { IfErr result (RefusesClose self.capacity self.workers locked_promises (map ⟦<LockedPass<J, R> as Token<J, R>>⟧.view passes.items)) }
+        requires each { (w : ℕ) (p : _) → slice_get passes.items w ≡ Some p → (told p).worker ≡ w }
+        ensures settled { IfOk result (λ c. (root : J) → Unit {0}
+            → Settled self.capacity self.workers root locked_promises (map told passes.items) c.rows.items) }
+        ensures fault { IfErr result (RefusesClose self.capacity self.workers locked_promises (map told passes.items)) }
     {
         let Locked {
             alloc,

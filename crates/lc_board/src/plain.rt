@@ -1,9 +1,12 @@
 //! The board of one thread. A call names the worker for whom it acts.
-ghost use Rattle.std.specs.Prelude.{◌≡◌, ◌≢◌, ℕ, ◌<◌, ◌≤◌, ◌^◌, [], None, IfOk, IfErr, IfSome, IfNone, MatchBool, map, slice_set, true, false};
+ghost use Rattle.std.specs.Prelude.{◌≡◌, ◌≢◌, ℕ, ◌<◌, ◌≤◌, ◌^◌, [], None, map, slice_set, true, false};
+ghost use Rattle.std.specs.Prelude.{IfOk, IfErr, IfSome, IfNone, MatchBool};
+ghost use Rattle.lc_board.specs.Ending.{MayEnd, end_event};
 ghost use Rattle.lc_board.specs.LegalHistory.{IsOver};
 ghost use Rattle.lc_board.specs.RowsInPlace.{InPlace};
 ghost use Rattle.lc_board.specs.PlainBoard.{IsAfter, IsFull, Adds, first_board, workers_of, held_by, posts_by, cell_at};
-ghost use Rattle.lc_board.specs.PlainCalls.{AnswersClaim, AnswersPost, RefusesRows, NoneOpen, NoneHeld, IsLeftLeast, NoneLeft, IsLeft, cell_of};
+ghost use Rattle.lc_board.specs.PlainCalls.{AnswersClaim, AnswersPost, RefusesRows, cell_of};
+ghost use Rattle.lc_board.specs.PlainCalls.{NoneOpen, NoneHeld, IsLeftLeast, NoneLeft, IsLeft};
 ghost use Rattle.lc_board.specs.declared.event.Event.TheVariants.{Return, Fault};
 ghost use Rattle.lc_board.specs.Limits.{capacity_limit, workers_limit};
 
@@ -113,11 +116,7 @@ impl<J: Drop, R: Drop> Plain<J, R> {
         ensures event { IfSome (held_by self.old worker) (λ i. Adds self.old (Return worker i row) self.new) }
         ensures free { self.new.held ≡ slice_set self.old.held worker None }
     {
-        let Some(number) = self.held[worker as usize] else {
-            unreachable!()
-        };
-        self.cells[number as usize] = Cell::Done(Ended::Returned(row));
-        self.held[worker as usize] = None;
+        self.end(worker, Ended::Returned(row));
     }
 
     /// Ends the claim of the worker, which has posted nothing under it, by the row of a fault. It takes no memory.
@@ -128,10 +127,21 @@ impl<J: Drop, R: Drop> Plain<J, R> {
         ensures event { IfSome (held_by self.old worker) (λ i. Adds self.old (Fault worker i row) self.new) }
         ensures free { self.new.held ≡ slice_set self.old.held worker None }
     {
+        self.end(worker, Ended::Faulted(row));
+    }
+
+    /// Ends the claim of the worker. It takes no memory.
+    pub(crate) fn end(&mut self, worker: u32, ended: Ended<R>)
+        requires worker { worker < workers_of self.old }
+        requires holds { held_by self.old worker ≢ None }
+        requires may { MayEnd (posts_by self.old worker) ended }
+        ensures event { IfSome (held_by self.old worker) (λ i. Adds self.old (end_event worker i ended) self.new) }
+        ensures free { self.new.held ≡ slice_set self.old.held worker None }
+    {
         let Some(number) = self.held[worker as usize] else {
             unreachable!()
         };
-        self.cells[number as usize] = Cell::Done(Ended::Faulted(row));
+        self.cells[number as usize] = Cell::Done(ended);
         self.held[worker as usize] = None;
     }
 
@@ -152,12 +162,7 @@ impl<J: Drop, R: Drop> Plain<J, R> {
         ensures placed { IfOk result (λ c. (root : J) (h : _) → IsAfter root h self → IsOver h × InPlace root h c.rows.items) }
         ensures fault { IfErr result (RefusesRows self) }
     {
-        let Plain {
-            capacity: _,
-            held: _,
-            cells,
-            next: _,
-        } = self;
+        let Plain { cells, .. } = self;
         if let Some(number) = first_left(&cells) {
             return Err(CloseFault::Unfinished(number));
         }

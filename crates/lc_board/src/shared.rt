@@ -61,7 +61,8 @@ pub trait Shared<J, R>: Sized + Sync + Drop {
         requires workers { (1 ≤ workers) × (workers ≤ workers_limit) }
         ensures board { IfOk result (λ b. (Self.capacity_of b.0 ≡ capacity) × (Self.workers_of b.0 ≡ workers) × Self.is_root b.0 root) }
         ensures count { IfOk result (λ b. vec_len b.1 ≡ workers) }
-        ensures passes { IfOk result (λ b. (w : ℕ) (p : Self.Pass) → slice_get b.1.items w ≡ Some p → owns b.0 p × (Self.Pass.view p ≡ new_pass w)) };
+        ensures passes { IfOk result (λ b. (w : ℕ) (p : Self.Pass) → slice_get b.1.items w ≡ Some p
+            → owns b.0 p × (Self.Pass.view p ≡ new_pass w)) };
 
     /// Claims an open number for a worker that has claimed none.
     fn claim<W: Wait>(&self, rt: &W, pass: &mut Self::Pass) -> Claim<J>
@@ -98,6 +99,9 @@ pub trait Shared<J, R>: Sized + Sync + Drop {
     fn close(self, passes: Vec<Self::Pass>) -> Result<Closed<R>, CloseFault>
         requires all { vec_len passes ≡ Self.workers_of self }
         requires each { (w : ℕ) (p : Self.Pass) → slice_get passes.items w ≡ Some p → owns self p × ((Self.Pass.view p).worker ≡ w) }
-        ensures settled { IfOk result (λ c. (root : J) → Self.is_root self root → Settled (Self.capacity_of self) (Self.workers_of self) root promises (map (λ p. Self.Pass.view p) passes.items) c.rows.items) }
-        ensures fault { IfErr result (RefusesClose (Self.capacity_of self) (Self.workers_of self) promises (map (λ p. Self.Pass.view p) passes.items)) };
+        ensures settled { IfOk result (λ c. (root : J) → Self.is_root self root
+            → Settled (Self.capacity_of self) (Self.workers_of self) root promises
+            (map (λ p. Self.Pass.view p) passes.items) c.rows.items) }
+        ensures fault { IfErr result (RefusesClose (Self.capacity_of self) (Self.workers_of self) promises
+            (map (λ p. Self.Pass.view p) passes.items)) };
 }

@@ -13,6 +13,7 @@ use std::alloc::Global;
 mod claim;
 pub(crate) mod close;
 pub(crate) mod coding;
+mod drawing;
 pub mod pass;
 mod posts;
 pub mod rule;

@@ -29,4 +29,5 @@ SegmentsMatch Bool.true segments path = Spells segments path
 
 -- the pattern matches the path of a directory, or of something else
 abbrev pub Matches : PatternModel → List ℕ → Bool → Type 0
-Matches p path is_dir = (p.is_dead ≡ Bool.false) × (IsTrue p.is_dir_only → IsTrue is_dir) × SegmentsMatch p.is_anchored p.segments (segments_of path)
+Matches p path is_dir = (p.is_dead ≡ Bool.false) × (IsTrue p.is_dir_only → IsTrue is_dir)
+    × SegmentsMatch p.is_anchored p.segments (segments_of path)

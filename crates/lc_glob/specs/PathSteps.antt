@@ -25,7 +25,8 @@ cost_at place = full_cost (map segment_model place.segments.now) (segments_left 
 -- the segments don't lead to the end
 abbrev pub PathEndStepIs : PathEndStep → List SegmentModel → List (List ℕ) → Type 0
 PathEndStepIs end.DoubleStar segments path = Unit {0}
-PathEndStepIs (end.Taken before) segments path = (us : List TokenModel) × (n : List ℕ) × (segments ≡ map segment_model before.segments.now ++ plain us ∷ []) × (path ≡ segments_left before.left.rest ++ n ∷ []) × Fits us n
+PathEndStepIs (end.Taken before) segments path = (us : List TokenModel) × (n : List ℕ)
+    × (segments ≡ map segment_model before.segments.now ++ plain us ∷ []) × (path ≡ segments_left before.left.rest ++ n ∷ []) × Fits us n
 PathEndStepIs end.Arrived segments path = (segments ≡ []) × (path ≡ [])
 PathEndStepIs end.Stuck segments path = Leads segments path → ⊥
 
@@ -41,14 +42,16 @@ cost_after end.Stuck all = 0
 abbrev pub PathFrontStepIs : PathFrontStep → List SegmentModel → List (List ℕ) → Type 0
 PathFrontStepIs (front.DoubleStar rest) segments path = segments ≡ double_star ∷ map segment_model rest.now
 PathFrontStepIs front.LastDoubleStar segments path = segments ≡ double_star ∷ []
-PathFrontStepIs (front.Taken after) segments path = (us : List TokenModel) × (n : List ℕ) × (segments ≡ plain us ∷ map segment_model after.segments.now) × (path ≡ n ∷ segments_left after.left.rest) × Fits us n
+PathFrontStepIs (front.Taken after) segments path = (us : List TokenModel) × (n : List ℕ)
+    × (segments ≡ plain us ∷ map segment_model after.segments.now) × (path ≡ n ∷ segments_left after.left.rest) × Fits us n
 PathFrontStepIs front.Arrived segments path = (segments ≡ []) × (path ≡ [])
 PathFrontStepIs front.Stuck segments path = Leads segments path → ⊥
 
 -- the same segments one of the path's later, where there is one
 abbrev pub PathRetryIs : PathPlace → Option PathPlace → Type 0
 PathRetryIs here None = segments_left here.left.rest ≡ []
-PathRetryIs here (Some next) = (n : List ℕ) × (segments_left here.left.rest ≡ n ∷ segments_left next.left.rest) × (next.segments.now ≡ here.segments.now)
+PathRetryIs here (Some next) = (n : List ℕ) × (segments_left here.left.rest ≡ n ∷ segments_left next.left.rest)
+    × (next.segments.now ≡ here.segments.now)
 
 -- the most byte tests of the first segment at the path's first
 abbrev pub front_cost : List SegmentModel → List (List ℕ) → ℕ

@@ -1,5 +1,6 @@
 -- How bytes are read as a pattern: gitignore(5), PATTERN FORMAT.
-use Rattle.std.specs.Prelude.{ℕ, zero, suc, Bool, false, not, ◌&&◌, ◌||◌, ◌==◌, nat_lt, if◌then◌else◌, List, [], ◌∷◌, length, map, Option, Some, None}
+use Rattle.std.specs.Prelude.{ℕ, zero, suc, Bool, false, not, ◌&&◌, ◌||◌, ◌==◌, nat_lt, if◌then◌else◌, List, [], ◌∷◌, length, map}
+use Rattle.std.specs.Prelude.{Option, Some, None}
 use Rattle.lc_glob.specs.Lists.{is_empty}
 use Rattle.lc_glob.specs.Bytes.{slash, backslash, asterisk, question_mark, opening}
 use Rattle.lc_glob.specs.Tokens.{TokenModel, literal, any_byte, star, is_star}

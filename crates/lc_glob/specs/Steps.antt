@@ -24,7 +24,8 @@ cost_from_front place = length place.segment.bytes.now * (length place.tokens.no
 -- are left; or the tokens don't fit the segment
 abbrev pub EndStepIs : EndStep → List TokenModel → List ℕ → Type 0
 EndStepIs end.Star tokens segment = Unit {0}
-EndStepIs (end.Taken before) tokens segment = (u : TokenModel) × (x : ℕ) × (tokens ≡ map token_model before.tokens.now ++ u ∷ []) × (segment ≡ before.segment.bytes.now ++ x ∷ []) × (is_star u ≡ false) × IsTrue (takes u x)
+EndStepIs (end.Taken before) tokens segment = (u : TokenModel) × (x : ℕ) × (tokens ≡ map token_model before.tokens.now ++ u ∷ [])
+    × (segment ≡ before.segment.bytes.now ++ x ∷ []) × (is_star u ≡ false) × IsTrue (takes u x)
 EndStepIs end.Fitted tokens segment = (tokens ≡ []) × (segment ≡ [])
 EndStepIs end.Stuck tokens segment = Fits tokens segment → ⊥
 
@@ -32,7 +33,8 @@ EndStepIs end.Stuck tokens segment = Fits tokens segment → ⊥
 -- or neither tokens nor bytes are left; or the tokens don't fit the segment
 abbrev pub FrontStepIs : FrontStep → List TokenModel → List ℕ → Type 0
 FrontStepIs (front.Star rest) tokens segment = (u : TokenModel) × (tokens ≡ u ∷ map token_model rest.now) × (is_star u ≡ true)
-FrontStepIs (front.Taken after) tokens segment = (u : TokenModel) × (x : ℕ) × (tokens ≡ u ∷ map token_model after.tokens.now) × (segment ≡ x ∷ after.segment.bytes.now) × (is_star u ≡ false) × IsTrue (takes u x)
+FrontStepIs (front.Taken after) tokens segment = (u : TokenModel) × (x : ℕ) × (tokens ≡ u ∷ map token_model after.tokens.now)
+    × (segment ≡ x ∷ after.segment.bytes.now) × (is_star u ≡ false) × IsTrue (takes u x)
 FrontStepIs front.Fitted tokens segment = (tokens ≡ []) × (segment ≡ [])
 FrontStepIs front.Stuck tokens segment = Fits tokens segment → ⊥
 

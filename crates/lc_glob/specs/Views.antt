@@ -62,4 +62,5 @@ segments_model (WholePath segments) = map segment_model segments.items
 
 -- a pattern, for directories only or not, by its kind
 abbrev pub pattern_model : Bool → PatternKind → PatternModel
-pattern_model is_dir_only kind = record { is_dead = is_dead_kind kind; is_dir_only = is_dir_only; is_anchored = is_anchored_kind kind; segments = segments_model kind }
+pattern_model is_dir_only kind =
+    record { is_dead = is_dead_kind kind; is_dir_only = is_dir_only; is_anchored = is_anchored_kind kind; segments = segments_model kind }

@@ -11,7 +11,8 @@ word_of test low (suc n) = 2 * word_of test (suc low) n + from_bool (test low)
 -- the four words of the bytes that are in some ranges, 64 bytes each
 abbrev pub words_of : List (ℕ × ℕ) → List ℕ
 words_of ranges =
-    word_of (in_ranges ranges) 0 64 ∷ word_of (in_ranges ranges) 64 64 ∷ word_of (in_ranges ranges) 128 64 ∷ word_of (in_ranges ranges) 192 64 ∷ []
+    word_of (in_ranges ranges) 0 64 ∷ word_of (in_ranges ranges) 64 64 ∷ word_of (in_ranges ranges) 128 64
+    ∷ word_of (in_ranges ranges) 192 64 ∷ []
 
 -- a table tells of each byte whether the test holds of it
 abbrev pub AreMembers : (ℕ → Bool) → List Bool → Type 0
@@ -19,4 +20,5 @@ AreMembers test members = (b : ℕ) → b < 256 → slice_index_or members b fal
 
 -- a table gains the bytes of a range
 abbrev pub GainsRange : ℕ → ℕ → List Bool → List Bool → Type 0
-GainsRange first last old new = (b : ℕ) → b < 256 → slice_index_or new b false ≡ (slice_index_or old b false || (nat_le first b && nat_le b last))
+GainsRange first last old new = (b : ℕ) → b < 256
+    → slice_index_or new b false ≡ (slice_index_or old b false || (nat_le first b && nat_le b last))

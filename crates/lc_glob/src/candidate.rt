@@ -63,7 +63,8 @@ impl<'a> SegmentsLeft<'a> {
 
     /// The first of the segments, and the others.
     pub(crate) fn split_first(self) -> Option<(PathSegment<'a>, SegmentsLeft<'a>)>
-        ensures { MatchOption result (segments_left self.entry.rest ≡ []) (λ p. segments_left self.entry.rest ≡ p.0.bytes.now ∷ segments_left p.1.rest) }
+        ensures { MatchOption result (segments_left self.entry.rest ≡ [])
+            (λ p. segments_left self.entry.rest ≡ p.0.bytes.now ∷ segments_left p.1.rest) }
     {
         let (first, rest) = cut_at_first(b'/', self.rest?);
         Some((PathSegment::new(first), SegmentsLeft { rest }))
@@ -71,7 +72,8 @@ impl<'a> SegmentsLeft<'a> {
 
     /// The segments above the last, and the last.
     pub(crate) fn split_last(self) -> Option<(SegmentsLeft<'a>, PathSegment<'a>)>
-        ensures { MatchOption result (segments_left self.entry.rest ≡ []) (λ p. segments_left self.entry.rest ≡ segments_left p.0.rest ++ p.1.bytes.now ∷ []) }
+        ensures { MatchOption result (segments_left self.entry.rest ≡ [])
+            (λ p. segments_left self.entry.rest ≡ segments_left p.0.rest ++ p.1.bytes.now ∷ []) }
     {
         let bytes = self.rest?;
         Some(split_last_segment(bytes))

@@ -17,7 +17,8 @@ use memchr::memchr;
 pub fn cut_at_first<'a>(byte: u8, bytes: &'a [u8]) -> (&'a [u8], Option<&'a [u8]>)
     ensures pieces { pieces_of byte bytes.now ≡ result.0.now ∷ pieces_left byte result.1 }
     ensures before { result.0.now ≡ before_first (is_byte byte) bytes.now }
-    ensures after { MatchOption result.1 (after_first (is_byte byte) bytes.now ≡ []) (λ rest. rest.now ≡ after_first (is_byte byte) bytes.now) }
+    ensures after { MatchOption result.1 (after_first (is_byte byte) bytes.now ≡ [])
+        (λ rest. rest.now ≡ after_first (is_byte byte) bytes.now) }
     ensures whole { MatchOption result.1 (bytes.now ≡ result.0.now) (λ rest. bytes.now ≡ result.0.now ++ byte ∷ rest.now) }
     ensures less { IfSome result.1 (λ rest. length rest.now < length bytes.now) }
 {

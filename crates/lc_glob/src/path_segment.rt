@@ -91,7 +91,8 @@ impl<'a> PathSegment<'a> {
     /// Whether its bytes are these literals: a test for each, where there are as many.
     pub(crate) fn is(self, literals: &[u8], tests: &mut ByteTests) -> bool
         ensures same { result ≡ bytes_eq self.entry.bytes.now literals.now }
-        ensures counted { tests.new.made ≡ tests_if (length self.entry.bytes.now == length literals.now) tests.old.made (length literals.now) }
+        ensures counted { tests.new.made ≡ tests_if (length self.entry.bytes.now == length literals.now) tests.old.made
+            (length literals.now) }
     {
         if self.bytes.len() != literals.len() {
             return false;
@@ -103,7 +104,8 @@ impl<'a> PathSegment<'a> {
     /// Whether its bytes end with these literals: a test for each, where there are enough.
     pub(crate) fn ends_with(self, literals: &[u8], tests: &mut ByteTests) -> bool
         ensures ends { result ≡ ends_with nat_eq self.entry.bytes.now literals.now }
-        ensures counted { tests.new.made ≡ tests_if (nat_le (length literals.now) (length self.entry.bytes.now)) tests.old.made (length literals.now) }
+        ensures counted { tests.new.made ≡ tests_if (nat_le (length literals.now) (length self.entry.bytes.now)) tests.old.made
+            (length literals.now) }
     {
         if self.bytes.len() < literals.len() {
             return false;

@@ -4,7 +4,8 @@ ghost use Rattle.std.specs.Prelude.{◌≡◌, ◌<◌, ◌≤◌, ◌-◌, IsTr
 ghost use Rattle.std.specs.List.{list_all};
 ghost use Rattle.lc_glob.specs.Lists.{is_empty};
 ghost use Rattle.lc_glob.specs.Patterns.{dead};
-ghost use Rattle.lc_glob.specs.Reading.{lexeme, literal_lexeme, parts, segment_from, ends_empty, without_last, begins_empty, is_ordinary, some_empty, cut_at_front, pattern_of};
+ghost use Rattle.lc_glob.specs.Reading.{lexeme, literal_lexeme, parts, segment_from, ends_empty, without_last, begins_empty};
+ghost use Rattle.lc_glob.specs.Reading.{is_ordinary, some_empty, cut_at_front, pattern_of};
 ghost use Rattle.lc_glob.specs.Views.{lexeme_model, token_model, part_model, tokens_model, segment_model};
 
 use crate::bracket::read_bracket;

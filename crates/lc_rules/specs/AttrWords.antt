@@ -1,5 +1,6 @@
 -- The words of an attribute line: gitattributes(5), DESCRIPTION.
-use Rattle.std.specs.Prelude.{ℕ, Bool, false, not, ◌==◌, ◌&&◌, ◌||◌, nat_lt, nat_le, if◌then◌else◌, List, [], ◌∷◌, length, filter, Option, Some, None}
+use Rattle.std.specs.Prelude.{ℕ, Bool, false, not, ◌==◌, ◌&&◌, ◌||◌, nat_lt, nat_le, if◌then◌else◌, List, [], ◌∷◌, length, filter}
+use Rattle.std.specs.Prelude.{Option, Some, None}
 use Rattle.std.specs.List.{slice_split, list_all, before_first, after_first, position_or_len}
 use Rattle.lc_glob.specs.Bytes.{exclamation_mark, hyphen}
 use Rattle.lc_glob.specs.Pieces.{is_byte}
@@ -34,7 +35,8 @@ named name state = if is_name name then Some (name, state) else None
 -- `name=value`, whose value is all that follows the first equals sign, or `name`
 abbrev pub plain_assign : List ℕ → Option AssignmentModel
 plain_assign w =
-    if nat_lt (position_or_len (is_byte equals_sign) w) (length w) then named (before_first (is_byte equals_sign) w) (value (after_first (is_byte equals_sign) w))
+    if nat_lt (position_or_len (is_byte equals_sign) w) (length w) then named (before_first (is_byte equals_sign) w)
+    (value (after_first (is_byte equals_sign) w))
     else named w set
 
 -- the assignment of a word: `-name` unsets, `!name` makes unspecified, and a value after either has no effect

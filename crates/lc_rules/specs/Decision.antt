@@ -1,5 +1,6 @@
 -- Which assignment decides each attribute of a path: gitattributes(5), DESCRIPTION and USING MACRO ATTRIBUTES.
-use Rattle.std.specs.Prelude.{◌≡◌, ℕ, zero, suc, ◌+◌, Bool, true, false, if◌then◌else◌, List, [], ◌∷◌, ◌++◌, length, reverse, Option, Some, None, is_some, unwrap_or}
+use Rattle.std.specs.Prelude.{◌≡◌, ℕ, zero, suc, ◌+◌, Bool, true, false, if◌then◌else◌, List, [], ◌∷◌, ◌++◌, length, reverse, Option}
+use Rattle.std.specs.Prelude.{Some, None, is_some, unwrap_or}
 use Rattle.std.specs.Str.{bytes_eq}
 use Rattle.lc_rules.specs.Attributes.{StateModel, set, unset, value, unspecified, AssignmentModel, MacroModel}
 
@@ -38,7 +39,8 @@ pub record IsDecision (ms : List MacroModel) (decide : List AssignmentModel → 
   -- a name that is decided stays so
   pub skip : (a : AssignmentModel) (rest d : List AssignmentModel) → has d a.0 ≡ true → decide (a ∷ rest) d ≡ decide rest d
   -- the first assignment of a name decides it, and what it expands to is read before the rest
-  pub take : (a : AssignmentModel) (rest d : List AssignmentModel) → has d a.0 ≡ false → decide (a ∷ rest) d ≡ decide (expansion ms a ++ rest) (a ∷ d)
+  pub take : (a : AssignmentModel) (rest d : List AssignmentModel) → has d a.0 ≡ false
+      → decide (a ∷ rest) d ≡ decide (expansion ms a ++ rest) (a ∷ d)
 
 -- the same within so many steps
 abbrev pub decide_within : List MacroModel → ℕ → List AssignmentModel → List AssignmentModel → List AssignmentModel
@@ -61,4 +63,5 @@ abbrev pub DecidesByEquations : Type 0
 DecidesByEquations =
     (ms : List MacroModel)
     → IsDecision ms (decide ms)
-    × ((other : List AssignmentModel → List AssignmentModel → List AssignmentModel) → IsDecision ms other → (todo d : List AssignmentModel) → other todo d ≡ decide ms todo d)
+    × ((other : List AssignmentModel → List AssignmentModel → List AssignmentModel) → IsDecision ms other
+    → (todo d : List AssignmentModel) → other todo d ≡ decide ms todo d)

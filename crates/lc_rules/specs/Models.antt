@@ -6,7 +6,8 @@ use Rattle.lc_rules.specs.IgnoreRules.{RuleModel}
 use Rattle.lc_rules.specs.declared.states.State.{State}
 use Rattle.lc_rules.specs.declared.states.State.TheVariants.{Set, Unset, Value, Unspecified}
 use Rattle.lc_rules.specs.declared.assignment.OwnedState.{OwnedState}
-use Rattle.lc_rules.specs.declared.assignment.OwnedState.TheVariants.{Set as OwnedSet, Unset as OwnedUnset, Value as OwnedValue, Unspecified as OwnedUnspecified}
+use Rattle.lc_rules.specs.declared.assignment.OwnedState.TheVariants.{Set as OwnedSet, Unset as OwnedUnset, Value as OwnedValue}
+use Rattle.lc_rules.specs.declared.assignment.OwnedState.TheVariants.{Unspecified as OwnedUnspecified}
 use Rattle.lc_rules.specs.declared.assignment.Assignment.{Assignment}
 use Rattle.lc_rules.specs.declared.assignment.AssignmentRef.{AssignmentRef}
 use Rattle.lc_rules.specs.declared.assignment.Macro.{Macro as CodeMacro}

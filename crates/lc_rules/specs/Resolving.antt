@@ -25,10 +25,12 @@ abbrev pub answer : List MacroModel → List ℕ → List AssignmentModel → Li
 answer ms wanted todo ns = decided (decide ms todo (marked ns)) wanted
 
 -- reading these assignments decides the name, or leaves others to be read and other names of macros decided
-abbrev pub Moves : List MacroModel → List ℕ → List AssignmentModel → List (List ℕ) → Option StateModel → List AssignmentModel → List (List ℕ) → Type 0
+abbrev pub Moves : List MacroModel → List ℕ → List AssignmentModel → List (List ℕ) → Option StateModel → List AssignmentModel
+    → List (List ℕ) → Type 0
 Moves ms wanted todo before found left after =
     MatchOption found
-    ((is_marked after wanted ≡ false) × ((rest : List AssignmentModel) → answer ms wanted (todo ++ rest) before ≡ answer ms wanted (left ++ rest) after))
+    ((is_marked after wanted ≡ false)
+    × ((rest : List AssignmentModel) → answer ms wanted (todo ++ rest) before ≡ answer ms wanted (left ++ rest) after))
     (λ s. (rest : List AssignmentModel) → answer ms wanted (todo ++ rest) before ≡ Some s)
 
 -- how many assignments may still be read

@@ -2,7 +2,8 @@
 
 ghost use Rattle.std.specs.Prelude.{◌≡◌, [], false, IfOk, IfNone, codes};
 ghost use Rattle.lc_rules.specs.Models.{seen_state, state_model};
-ghost use Rattle.lc_rules.specs.AttrStates.{macros_of, top_macros, info_macros, by_lines, tree_assignments, info_assignments, assignments_of, state_of, as_text};
+ghost use Rattle.lc_rules.specs.AttrStates.{macros_of, top_macros, info_macros, by_lines, tree_assignments, info_assignments};
+ghost use Rattle.lc_rules.specs.AttrStates.{assignments_of, state_of, as_text};
 ghost use Rattle.lc_rules.specs.AttrChains.{no_files, with_tree_file, with_info_file};
 ghost use Rattle.lc_rules.specs.Chains.{lent};
 ghost use Rattle.lc_rules.specs.Resolving.{is_marked, Reads, names_in};
@@ -57,7 +58,8 @@ fn decide_by_files<'a>(
 ) -> Result<Option<State<'a>>, AllocError>
     requires open { is_marked (names_in resolver.old.decided) query.name.now ≡ false }
     requires empty { resolver.old.pending.items ≡ [] }
-    ensures moves { IfOk result (λ r. Reads query.entry (tree_assignments files.entry path.entry.path.now is_dir) resolver.old r [] resolver.new) }
+    ensures moves { IfOk result
+        (λ r. Reads query.entry (tree_assignments files.entry path.entry.path.now is_dir) resolver.old r [] resolver.new) }
     ensures empty { IfOk result (λ r. IfNone r (resolver.new.pending.items ≡ [])) }
 {
     let Some((depth, file, nearer)) = files.split_first() else {

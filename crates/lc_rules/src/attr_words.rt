@@ -133,7 +133,8 @@ pub(crate) fn read_assignments(
     alloc: Global,
     bytes: &[u8],
 ) -> Result<Option<Vec<Assignment>>, AllocError>
-    ensures { IfOk result (λ r. MatchOption r (assigns (words bytes.now) ≡ None) (λ v. assigns (words bytes.now) ≡ Some (map assignment_model v.items))) }
+    ensures { IfOk result
+        (λ r. MatchOption r (assigns (words bytes.now) ≡ None) (λ v. assigns (words bytes.now) ≡ Some (map assignment_model v.items))) }
 {
     let mut found = Vec::new(alloc);
     let mut left = bytes;

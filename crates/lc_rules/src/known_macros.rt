@@ -28,7 +28,8 @@ pub(crate) struct KnownMacros<'a> {
 impl<'a> KnownMacros<'a> {
     /// What the macro of this name stands for.
     pub(crate) fn find(self, name: &[u8]) -> Option<MacroBody<'a>>
-        ensures { MatchOption result (macro_of (known_macros self.entry) name.now ≡ None) (λ body. macro_of (known_macros self.entry) name.now ≡ Some (macro_body_model body)) }
+        ensures { MatchOption result (macro_of (known_macros self.entry) name.now ≡ None)
+            (λ body. macro_of (known_macros self.entry) name.now ≡ Some (macro_body_model body)) }
     {
         if let Some(assignments) = find_in(self.info, name) {
             return Some(MacroBody::Defined(assignments));
@@ -44,7 +45,8 @@ impl<'a> KnownMacros<'a> {
 }
 
 fn find_in<'a>(table: Option<&'a MacroTable>, name: &[u8]) -> Option<&'a [Assignment]>
-    ensures { MatchOption result (macro_of (defined_in table.entry) name.now ≡ None) (λ body. macro_of (defined_in table.entry) name.now ≡ Some (map assignment_model body.now)) }
+    ensures { MatchOption result (macro_of (defined_in table.entry) name.now ≡ None)
+        (λ body. macro_of (defined_in table.entry) name.now ≡ Some (map assignment_model body.now)) }
 {
     match table {
         None => None,
@@ -65,7 +67,8 @@ pub(crate) fn macros_in<'a>(table: Option<&'a MacroTable>) -> &'a [Macro]
 impl<'a> MacroBody<'a> {
     /// Puts the assignments on a stack, the last on top.
     pub(crate) fn stack(self, words: &mut Vec<AssignmentRef<'a>>) -> Result<(), AllocError>
-        ensures { IfOk result (λ _. map assignment_ref_model words.new.items ≡ map assignment_ref_model words.old.items ++ macro_body_model self.entry) }
+        ensures { IfOk result
+            (λ _. map assignment_ref_model words.new.items ≡ map assignment_ref_model words.old.items ++ macro_body_model self.entry) }
     {
         match self {
             MacroBody::Defined(assignments) => stack_all(assignments, words),
@@ -78,7 +81,9 @@ fn stack_all<'a>(
     assignments: &'a [Assignment],
     words: &mut Vec<AssignmentRef<'a>>,
 ) -> Result<(), AllocError>
-    ensures { IfOk result (λ _. map assignment_ref_model words.new.items ≡ map assignment_ref_model words.old.items ++ map assignment_model assignments.now) }
+    ensures { IfOk result
+        (λ _. map assignment_ref_model words.new.items ≡ map assignment_ref_model words.old.items
+        ++ map assignment_model assignments.now) }
 {
     for assignment in assignments {
         words.push(assignment.lend())?;

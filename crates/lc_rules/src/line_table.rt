@@ -103,7 +103,8 @@ impl LineTable {
 /// Adds the names of assignments to a set of names.
 fn add_names(names: &mut BTreeSet<Vec<u8>>, assignments: &[Assignment]) -> Result<(), AllocError>
     ensures keeps { (name : List ℕ) → has_name names.old name ≡ true → has_name names.new name ≡ true }
-    ensures adds { OnOk result ((name : List ℕ) → assigns_name (map assignment_model assignments.now) name ≡ true → has_name names.new name ≡ true) }
+    ensures adds { OnOk result
+        ((name : List ℕ) → assigns_name (map assignment_model assignments.now) name ≡ true → has_name names.new name ≡ true) }
 {
     for assignment in assignments {
         if !names.contains(assignment.name.as_slice()) {

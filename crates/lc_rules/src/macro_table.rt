@@ -9,7 +9,7 @@ use std::alloc::{AllocError, Global};
 use std::collections::BTreeMap;
 use std::marker::Model;
 
-/// KnownMacros in the order of their lines, and of each name the place of its last macro, so that a file of many macros is
+/// Macros in the order of their lines, and of each name the place of its last macro, so that a file of many macros is
 /// searched in the logarithm of their number.
 #[derive(Debug, Drop)]
 pub(crate) struct MacroTable {
@@ -52,7 +52,8 @@ impl MacroTable {
 
     /// What the last macro of this name stands for.
     pub(crate) fn find(&self, name: &[u8]) -> Option<&[Assignment]>
-        ensures { MatchOption result (macro_of self.now name.now ≡ None) (λ body. macro_of self.now name.now ≡ Some (map assignment_model body.now)) }
+        ensures { MatchOption result (macro_of self.now name.now ≡ None)
+            (λ body. macro_of self.now name.now ≡ Some (map assignment_model body.now)) }
     {
         match self.places.get(name) {
             None => None,

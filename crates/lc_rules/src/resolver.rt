@@ -67,7 +67,8 @@ fn expand<'a>(
     state: State<'a>,
     pending: &mut Vec<AssignmentRef<'a>>,
 ) -> Result<(), AllocError>
-    ensures { IfOk result (λ _. stacked pending.new.items ≡ expanded (macro_body_model body.entry) (state_model state.entry) ++ stacked pending.old.items) }
+    ensures { IfOk result
+        (λ _. stacked pending.new.items ≡ expanded (macro_body_model body.entry) (state_model state.entry) ++ stacked pending.old.items) }
 {
     match state {
         State::Set => body.stack(pending),
@@ -82,7 +83,9 @@ fn decide_at<'a>(
     resolver: &mut Resolver<'a>,
 ) -> Result<Option<State<'a>>, AllocError>
     requires { is_marked (names_in resolver.old.decided) query.name.now ≡ false }
-    ensures moves { IfOk result (λ r. Reads query.entry (assignment_ref_model word.entry ∷ stacked resolver.old.pending.items) resolver.old r (stacked resolver.new.pending.items) resolver.new) }
+    ensures moves { IfOk result
+        (λ r. Reads query.entry (assignment_ref_model word.entry ∷ stacked resolver.old.pending.items) resolver.old r
+        (stacked resolver.new.pending.items) resolver.new) }
     ensures smaller { IfOk result (λ r. IfNone r (still_to_read query.entry resolver.new ≤ still_to_read query.entry resolver.old)) }
 {
     if word.name == query.name {
@@ -165,7 +168,8 @@ fn decide_by_line<'a>(
 ) -> Result<Option<State<'a>>, AllocError>
     requires open { is_marked (names_in resolver.old.decided) query.name.now ≡ false }
     requires empty { resolver.old.pending.items ≡ [] }
-    ensures moves { IfOk result (λ r. Reads query.entry (by_line (pattern_line_model line.now) path.now is_dir) resolver.old r [] resolver.new) }
+    ensures moves { IfOk result
+        (λ r. Reads query.entry (by_line (pattern_line_model line.now) path.now is_dir) resolver.old r [] resolver.new) }
     ensures empty { IfOk result (λ r. IfNone r (resolver.new.pending.items ≡ [])) }
 {
     let assignments = line.assignments.as_slice();
@@ -189,7 +193,8 @@ pub(crate) fn decide_by_lines<'a>(
 ) -> Result<Option<State<'a>>, AllocError>
     requires open { is_marked (names_in resolver.old.decided) query.name.now ≡ false }
     requires empty { resolver.old.pending.items ≡ [] }
-    ensures moves { IfOk result (λ r. Reads query.entry (by_lines (map pattern_line_model lines.now) path.now is_dir) resolver.old r [] resolver.new) }
+    ensures moves { IfOk result
+        (λ r. Reads query.entry (by_lines (map pattern_line_model lines.now) path.now is_dir) resolver.old r [] resolver.new) }
     ensures empty { IfOk result (λ r. IfNone r (resolver.new.pending.items ≡ [])) }
 {
     let mut left = lines;

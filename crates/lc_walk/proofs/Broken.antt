@@ -5,8 +5,8 @@ use Rattle.lc_walk.specs.Rows.{row_of, IsWhole}
 use Rattle.lc_walk.specs.Walked.{AreWhole}
 use Rattle.lc_walk.specs.Assembled.{IsBrokenBy, RefusesRows}
 use Rattle.lc_walk.specs.Marks.{RefusesTree, fault_of_tree}
-use Rattle.lc_walk.specs.declared.row.Cause.{Cause}
-use Rattle.lc_walk.specs.declared.row.Cause.TheVariants.{Memory, TooManyDirs, TooDeep}
+use Rattle.lc_level.specs.declared.cause.Cause.{Cause}
+use Rattle.lc_level.specs.declared.cause.Cause.TheVariants.{Memory, TooManyDirs, TooDeep}
 use Rattle.lc_walk.specs.declared.row.Row.{Row}
 use Rattle.lc_walk.specs.declared.row.Row.TheVariants.{Listed, Faulted, Broken}
 use Rattle.lc_walk.specs.declared.report.tree_check.TreeFault.{TreeFault}
@@ -14,6 +14,12 @@ use Rattle.lc_walk.specs.declared.report.tree_check.TreeFault.TheVariants as tre
 
 abbrev pub NoneFor : Cause → List (Ended Row) → Type 0
 NoneFor cause rows = (i : ℕ) (e : Ended Row) → slice_get rows i ≡ Some e → IsBrokenBy cause (row_of e) → ⊥
+
+-- a whole row is Broken for no cause
+pub unbroken : (r : Row) (c : Cause) → IsWhole r → IsBrokenBy c r → ⊥
+unbroken (Listed r) c w b = b
+unbroken (Faulted r) c w b = b
+unbroken (Broken r) c w b = w
 
 whole_row : (r : Row) → (IsBrokenBy Memory r → ⊥) → (IsBrokenBy TooManyDirs r → ⊥) → (IsBrokenBy TooDeep r → ⊥) → IsWhole r
 whole_row (Listed r) a b c = tt

@@ -1,11 +1,11 @@
 -- Each child of a row is at one place, and was posted.
 use Rattle.std.proofs.Common.{◌≡◌, ℕ, zero, suc, List, [], ◌∷◌, refl, sym, ◌∙◌, ap, subst, Some, inl, inr, slice_get}
+use Rattle.std.specs.List.{AllByRecursion}
 use Rattle.lc_glob.specs.Path.{path_in}
-use Rattle.lc_walk.specs.Job.{JobModel}
+use Rattle.lc_level.specs.Job.{JobModel}
 use Rattle.lc_walk.specs.RowViews.{ChildModel}
 use Rattle.lc_walk.specs.Lawful.{jobs_of, named}
 use Rattle.lc_board.proofs.Parents.{IsIn, IsOnce}
-use Rattle.lc_board.proofs.Weights.{Each}
 use Rattle.lc_walk.proofs.Levels.{IsChild}
 use Rattle.lc_walk.proofs.Core.{same_head, same_tail}
 
@@ -42,8 +42,8 @@ pub record PlaceOf (d : List ℕ) (job : ℕ → JobModel) (cs : List ChildModel
   pub number : child.number ≡ k
   pub path : (job k).path ≡ path_in d child.name
 
-pub posted_child : (d : List ℕ) (job : ℕ → JobModel) (cs : List (List ℕ × JobModel)) (ps : List (ℕ × JobModel)) (k : ℕ) → jobs_of ps ≡ jobs_of cs → Each (IsChild d) cs →
-    Each (λ p. job p.0 ≡ p.1) ps → IsIn k ps → PlaceOf d job (named cs ps) k
+pub posted_child : (d : List ℕ) (job : ℕ → JobModel) (cs : List (List ℕ × JobModel)) (ps : List (ℕ × JobModel)) (k : ℕ) → jobs_of ps ≡ jobs_of cs → AllByRecursion (IsChild d) cs →
+    AllByRecursion (λ p. job p.0 ≡ p.1) ps → IsIn k ps → PlaceOf d job (named cs ps) k
 posted_child d job cs [] k e a b i = absurd i
 posted_child d job [] (p ∷ ps) k e a b i = absurd (none e)
   where

@@ -1,6 +1,6 @@
 -- From a closed board, and from what its workers left, to a closed walk and its report.
-use Rattle.std.proofs.Common.{◌≡◌, ℕ, zero, suc, ◌<◌, ◌≤◌, ◌||◌, Bool, true, false, cond, List, [], ◌∷◌, length, slice_get, map, refl, sym, ◌∙◌, ap, arith, subst, Option, Some, None, IsPermutation, append-nil}
-use Rattle.std.specs.List.{flat_map, list_any}
+use Rattle.std.proofs.Common.{◌≡◌, ℕ, zero, suc, ◌<◌, ◌≤◌, ◌||◌, Bool, true, false, cond, List, [], ◌∷◌, length, slice_get, map, refl, sym, ◌∙◌, ap, arith, subst, Option, Some, None, inl, inr, IsPermutation, append-nil}
+use Rattle.std.specs.List.{flat_map, list_any, AllByRecursion}
 use Rattle.std.proofs.lemmas.List.Sorted.{IsPermutation-sym, IsPermutation-trans}
 use Rattle.lc_board.specs.Part.{worker_of, part}
 use Rattle.lc_board.specs.RowsInPlace.{row_given, InPlace}
@@ -11,53 +11,43 @@ use Rattle.lc_board.specs.declared.event.Event.TheVariants.{Post, Claim, Return,
 use Rattle.lc_board.specs.declared.answers.Ended.{Ended}
 use Rattle.lc_board.specs.declared.answers.Ended.TheVariants as ended
 use Rattle.lc_walk.specs.Tally.{TallyModel, CountedFile, StandsFor}
-use Rattle.lc_walk.specs.ReportLines.{file_paths, fault_paths, AreApart}
+use Rattle.lc_walk.specs.ReportLines.{file_paths, fault_paths}
+use Rattle.lc_tree.specs.ByteOrder.{AreApart}
 use Rattle.lc_walk.specs.Report.{IsReport}
 use Rattle.lc_walk.proofs.Joining.{stands_permuted}
 use Rattle.lc_walk.specs.declared.report.Report.{Report}
-use Rattle.lc_walk.specs.Answers.{Answers, no_answers}
-use Rattle.lc_walk.specs.Job.{JobModel}
+use Rattle.lc_level.specs.Answers.{Answers, no_answers}
+use Rattle.lc_level.specs.Job.{JobModel}
 use Rattle.lc_walk.specs.Found.{Found, found_of, found_at, children_at}
 use Rattle.lc_walk.specs.Rows.{row_of, job_of, IsWhole}
-use Rattle.lc_walk.specs.Lawful.{Asked, IsLawful, Says, IsCause, IsTidy, files_at}
+use Rattle.lc_walk.specs.Lawful.{Asked, IsLawful, Says, files_at}
+use Rattle.lc_level.specs.Tidy.{IsTidy}
 use Rattle.lc_walk.specs.TreeOfRows.{numbers_below, child_number, tree_from, children_by_rows, tree_of_rows}
 use Rattle.lc_walk.specs.Walked.{Walked, AreWhole, row_found, rows_found}
 use Rattle.lc_walk.specs.WalkReport.{line_of, tallied_in, file_in, fault_in, directory_in, tallied_of, files_of, faults_of, directories_of, IsReportOf}
 use Rattle.lc_walk.specs.Assembled.{directories_by_row, files_by_row, faults_by_row, directories_in_rows, files_in_rows, faults_in_rows}
-use Rattle.lc_walk.specs.Worked.{AreLawful, returned_files, files_given, files_of_pass, files_of_passes}
+use Rattle.lc_walk.specs.Worked.{MayStand, AreLawful, returned_files, files_given, files_of_pass, files_of_passes}
+use Rattle.lc_walk.proofs.Broken.{NoneFor, unbroken}
+use Rattle.lc_walk.proofs.Fuller.{fuller_says}
 use Rattle.lc_walk.proofs.Given.{contributes, each_part, Chosen, choose}
 use Rattle.lc_walk.specs.WalkAnswers.{SomeRows, IsWalkReport}
 use Rattle.std.specs.List.{IsDistinct}
 use Rattle.std.specs.List.Sorted.{IsStrictlySortedBy}
-use Rattle.lc_walk.specs.Listing.{IsListing}
+use Rattle.lc_tree.specs.Listing.{IsListing}
 use Rattle.lc_walk.specs.Walk.{walk_of}
 use Rattle.lc_walk.specs.RowViews.{ChildModel}
 use Rattle.lc_walk.proofs.Reports.{report_law}
 use Rattle.lc_walk.proofs.PathsApart.{paths_once_law, file_lines_apart, fault_lines_apart}
-use Rattle.lc_walk.specs.declared.row.Cause.{Cause}
-use Rattle.lc_walk.specs.declared.row.Cause.TheVariants.{Memory, TooManyDirs, TooDeep}
+use Rattle.lc_level.specs.declared.cause.Cause.TheVariants.{Memory}
 use Rattle.lc_walk.specs.declared.row.Row.{Row}
 use Rattle.lc_walk.specs.declared.row.Row.TheVariants.{Listed, Faulted, Broken}
-use Rattle.lc_board.proofs.Weights.{Each, each-map, flat_map-on, permuted_lists}
+use Rattle.lc_board.proofs.Weights.{each-map, flat_map-on, permuted_lists}
 use Rattle.lc_walk.proofs.Moves.{lists_moved}
 use Rattle.lc_walk.proofs.Law.{core_law, one_answer_law}
 use Rattle.lc_walk.proofs.Ends.{ender, ended_by, ends, IsTold, all_told, by_ender, ender_within, ends_are, parts_of, parts_whole}
 use Rattle.lc_walk.proofs.Listings.{flat_twice, tallied_went, files_went, faults_went, directories_went, got_here, by_number, below_all}
 
 -- ---- a row that is lawful where posts may have been refused is so wherever they may have been
-
-fuller_cause : (ask : Asked) (full fuller : Bool) (j : JobModel) (a : Answers) (c : Cause) → (full ≡ true → fuller ≡ true) → IsCause ask full j a c → IsCause ask fuller j a c
-fuller_cause ask full fuller j a Memory f c = tt
-fuller_cause ask full fuller j a TooManyDirs f c = f c
-fuller_cause ask full fuller j a TooDeep f c = c
-
-fuller_says : (ask : Asked) (full fuller : Bool) (e : Ended Row) (a : Answers) (posts : List (ℕ × JobModel)) → (full ≡ true → fuller ≡ true) → Says ask full e a posts → Says ask fuller e a posts
-fuller_says ask full fuller (ended.Returned (Listed r)) a posts f s = s
-fuller_says ask full fuller (ended.Returned (Faulted r)) a posts f s = s
-fuller_says ask full fuller (ended.Returned (Broken r)) a posts f s = record { posted = s.posted; posts_are = s.posts_are; cause_is = fuller_cause ask full fuller r.job a r.cause f s.cause_is }
-fuller_says ask full fuller (ended.Faulted (Listed r)) a posts f s = s
-fuller_says ask full fuller (ended.Faulted (Faulted r)) a posts f s = s
-fuller_says ask full fuller (ended.Faulted (Broken r)) a posts f s = s
 
 fuller_row : (ask : Asked) (full fuller : Bool) (h : List (Event JobModel Row)) (i : ℕ) (e : Ended Row) (a : Answers) → (full ≡ true → fuller ≡ true) → IsLawful ask full h i e a → IsLawful ask fuller h i e a
 fuller_row ask full fuller h i e a f l = record { job_is = l.job_is; tidy = l.tidy; says = fuller_says ask full fuller e a _ f l.says }
@@ -110,14 +100,14 @@ module _ (ask : Asked) (MayAnswer : List ℕ → Answers → Type 0) (capacity w
   answers_are : (i : ℕ) (e : Ended Row) → slice_get rows i ≡ Some e → answers i ≡ by (ender history i) i
   answers_are i e is = ap (λ o. or_no_answers o (by (ender history i) i)) is
 
-  pub lawful_here : (i : ℕ) (e : Ended Row) → slice_get rows i ≡ Some e → IsLawful ask full history i e (answers i) × MayAnswer (job_of (row_of e)).path (answers i)
+  pub lawful_here : (i : ℕ) (e : Ended Row) → slice_get rows i ≡ Some e → IsLawful ask full history i e (answers i) × MayStand MayAnswer (row_of e) (answers i)
   lawful_here i e is =
       let given_here : row_given history i ≡ Some e = sym (in_place.given i) ∙ is in
       let low = ender_within capacity workers history settled.legal i e given_here in
       let p = got_here passes (ender history i) (omega arith) in
       let l = (chosen (ender history i)).lawful p.0 p.1 i e (by_ender i e history given_here) in
       let whole = fuller_row ask p.0.full full history i e (by (ender history i) i) (some_full passes (ender history i) p.0 p.1) l.0 in
-      (subst (IsLawful ask full history i e) (sym (answers_are i e is)) whole, subst (MayAnswer (job_of (row_of e)).path) (sym (answers_are i e is)) l.1)
+      (subst (IsLawful ask full history i e) (sym (answers_are i e is)) whole, subst (MayStand MayAnswer (row_of e)) (sym (answers_are i e is)) l.1)
 
   pub walked : Walked ask full capacity workers top history rows answers
   walked = record {
@@ -129,14 +119,22 @@ module _ (ask : Asked) (MayAnswer : List ℕ → Answers → Type 0) (capacity w
     lawful = λ i e is. (lawful_here i e is).0;
   }
 
-  abbrev pub some_rows : SomeRows MayAnswer ask capacity workers top
-  some_rows = record {
+  -- where no row was given up for want of memory, the tree was asked about each
+  pub may_here : NoneFor Memory rows → (i : ℕ) (e : Ended Row) → slice_get rows i ≡ Some e → MayAnswer (job_of (row_of e)).path (answers i)
+  may_here fed i e is = at (lawful_here i e is).1
+    where
+      at : MayStand MayAnswer (row_of e) (answers i) → MayAnswer (job_of (row_of e)).path (answers i)
+      at (inl broken) = absurd (fed i e is broken)
+      at (inr may) = may
+
+  abbrev pub some_rows : NoneFor Memory rows → SomeRows MayAnswer ask capacity workers top
+  some_rows fed = record {
     full = full;
     history = history;
     rows = rows;
     answers = answers;
     walked = walked;
-    may = λ i e is. (lawful_here i e is).1;
+    may = may_here fed;
   }
 
   -- ---- the files of all passes are those of the rows
@@ -156,7 +154,7 @@ module _ (ask : Asked) (MayAnswer : List ℕ → Answers → Type 0) (capacity w
   one_event (Fault w i r) t = sym (append-nil (by_row i) ∙ ap (λ o. by_end o (answers i)) (in_place.given i ∙ t.0))
   one_event (Over w) t = refl
 
-  told : Each (IsTold history) history
+  told : AllByRecursion (IsTold history) history
   told = all_told capacity workers history settled.legal
 
   by_numbers : flat_map (contributes ask answers) history ≡ flat_map by_row (ends history)
@@ -327,8 +325,9 @@ module _ (ask : Asked) (MayAnswer : List ℕ → Answers → Type 0) (capacity w
         IsReport t (length (directories_in_rows rows)) (cond ask.files (files_in_rows rows) []) (faults_in_rows rows) r → IsWalkReport MayAnswer ask capacity workers top r
     report_of_walk at_top t stood r is =
         let ours = report_of_rows t stood r is in
+        let fed : NoneFor Memory rows = λ i e here. unbroken (row_of e) Memory (whole i e here) in
         record {
-          found = some_rows;
+          found = some_rows fed;
           whole = whole;
           report = λ depth deep. report_law ask.files found (walk_of ask.archive depth top (tree_of_rows rows answers)) r
               (IsPermutation-sym _ _ (core_law ask full capacity workers top history rows answers walked whole depth deep)) ours;
@@ -336,5 +335,5 @@ module _ (ask : Asked) (MayAnswer : List ℕ → Answers → Type 0) (capacity w
           faults_once = is.faults_strictly faults_apart;
           one_answer = λ tree one depth deep. report_law ask.files found (walk_of ask.archive depth top tree) r
               (IsPermutation-sym _ _ (one_answer_law tree ask full capacity workers top history rows answers walked whole at_top
-              (λ i e here. one (job_of (row_of e)) (answers i) (lawful_here i e here).1) depth deep)) ours;
+              (λ i e here. one (job_of (row_of e)) (answers i) (may_here fed i e here)) depth deep)) ours;
         }

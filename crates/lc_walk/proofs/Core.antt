@@ -1,21 +1,21 @@
 -- What a walk of a history's tree finds, by the numbers that it reaches.
 use Rattle.std.proofs.Common.{◌≡◌, ◌≢◌, ℕ, zero, suc, Bool, true, false, cond, List, [], ◌∷◌, ◌++◌, refl, sym, ◌∙◌, ap, Option, Some, None, append_assoc, bytes_eq}
 use Rattle.std.proofs.Math.Path.{fun_ext}
-use Rattle.std.specs.List.{flat_map}
+use Rattle.std.specs.List.{flat_map, AllByRecursion}
 use Rattle.std.proofs.lemmas.Grind.{flat_map-append}
 use Rattle.lc_board.specs.State.{Absent, status}
 use Rattle.lc_board.specs.LegalHistory.{posts_under, IsLegal}
 use Rattle.lc_board.specs.RowsInPlace.{job_posted}
 use Rattle.lc_board.specs.declared.event.Event.{Event}
-use Rattle.lc_walk.specs.Job.{JobModel}
+use Rattle.lc_level.specs.Job.{JobModel}
 use Rattle.lc_walk.specs.Walk.{walks_below, walk_by}
 use Rattle.lc_walk.specs.RowViews.{ChildModel}
 use Rattle.lc_walk.specs.Lawful.{jobs_of, named}
 use Rattle.lc_walk.specs.TreeOfRows.{child_number, tree_from}
-use Rattle.lc_board.proofs.Weights.{Each, each-map}
+use Rattle.lc_board.proofs.Weights.{each-map}
 use Rattle.lc_board.proofs.PostedNumbers.{Known, known}
 use Rattle.lc_walk.proofs.Reach.{reach}
-use Rattle.lc_walk.proofs.Tidy.{bytes_same}
+use Rattle.lc_level.proofs.Tidy.{bytes_same}
 use Rattle.lc_walk.proofs.Levels.{IsApart}
 
 same_some : {A : Type 0} (x y : A) → Some x ≡ Some y → x ≡ y
@@ -50,7 +50,7 @@ module _ {A X R : Type 0} (found : JobModel → A → List X) (children : JobMod
 
   below_is : (k i : ℕ) → ((m : ℕ) → status h m ≢ Absent → walk_by found children k (job m) (trees m) ≡ flat_map gives (reach h k m)) →
       (cs : List (List ℕ × JobModel)) (ps : List (ℕ × JobModel)) → Under trees i cs ps → jobs_of ps ≡ jobs_of cs →
-      Each (λ p. (job p.0 ≡ p.1) × (status h p.0 ≢ Absent)) ps →
+      AllByRecursion (λ p. (job p.0 ≡ p.1) × (status h p.0 ≢ Absent)) ps →
       walks_below found children (walk_by found children k) (trees i) cs ≡ flat_map gives (flat_map (λ p. reach h k p.0) ps)
   below_is k i rec [] [] u e a = refl
   below_is k i rec [] (p ∷ ps) u e a = cc
@@ -65,7 +65,7 @@ module _ {A X R : Type 0} (found : JobModel → A → List X) (children : JobMod
       ∙ ap (λ (xs : List X). flat_map gives (reach h k p.0) ++ xs) (below_is k i rec cs ps u.1 (same_tail p.1 c.1 (jobs_of ps) (jobs_of cs) e) a.1)
       ∙ sym (flat_map-append gives (reach h k p.0) (flat_map (λ p. reach h k p.0) ps))
 
-  own : (i : ℕ) → Each (λ p. (job p.0 ≡ p.1) × (status h p.0 ≢ Absent)) (posts_under i h)
+  own : (i : ℕ) → AllByRecursion (λ p. (job p.0 ≡ p.1) × (status h p.0 ≢ Absent)) (posts_under i h)
   own i =
       each-map (Known c top h i) (λ p. (job p.0 ≡ p.1) × (status h p.0 ≢ Absent))
       (λ p k. (same_some (job p.0) p.1 (sym (posted p.0 k.there) ∙ k.value), k.there)) (posts_under i h) (known c n top h legal i)
@@ -95,7 +95,7 @@ hit true x y e = refl
 hit false x y e = cc
 
 find_more : (k : ChildModel) (ks : List ChildModel) (cs : List (List ℕ × JobModel)) (ps : List (ℕ × JobModel)) →
-    Each (λ d. bytes_eq d.0 k.name ≡ false) cs → Finds (λ m. child_number m ks) cs ps → Finds (λ m. child_number m (k ∷ ks)) cs ps
+    AllByRecursion (λ d. bytes_eq d.0 k.name ≡ false) cs → Finds (λ m. child_number m ks) cs ps → Finds (λ m. child_number m (k ∷ ks)) cs ps
 find_more k ks [] ps a f = tt
 find_more k ks (c ∷ cs) [] a f = tt
 find_more k ks (c ∷ cs) (p ∷ ps) a f =

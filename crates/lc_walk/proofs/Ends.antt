@@ -1,6 +1,6 @@
 -- Who ended each number of a legal history, and that each was ended once.
 use Rattle.std.proofs.Common.{◌≡◌, ◌≢◌, ℕ, zero, suc, ◌+◌, ◌<◌, ◌≤◌, ◌==◌, Bool, true, false, cond, List, [], ◌∷◌, ◌++◌, Option, Some, None, refl, sym, ◌∙◌, ap, arith, subst, eq-eqb, ◌⊎◌, inl, inr, IsPermutation}
-use Rattle.std.specs.List.{flat_map}
+use Rattle.std.specs.List.{flat_map, AllByRecursion}
 use Rattle.std.proofs.lemmas.Bool.{ne_eqb, cases_lt}
 use Rattle.std.proofs.lemmas.Grind.{flat_map-append}
 use Rattle.std.proofs.lemmas.List.Sorted.{IsPermutation-refl, IsPermutation-trans, IsPermutation-cons, IsPermutation-middle, IsPermutation-append_left}
@@ -16,7 +16,7 @@ use Rattle.lc_board.specs.declared.answers.Ended.{Ended}
 use Rattle.lc_board.specs.declared.answers.Ended.TheVariants as ended
 use Rattle.lc_board.proofs.NumbersOnce.{numbers_once, ended_has_row}
 use Rattle.lc_walk.specs.TreeOfRows.{numbers_below}
-use Rattle.lc_board.proofs.Weights.{Each, each-map, times}
+use Rattle.lc_board.proofs.Weights.{each-map, times}
 use Rattle.lc_walk.proofs.Reach.{times_below, times_past}
 
 -- who ended a number
@@ -113,7 +113,7 @@ module _ {J R : Type 0} where
   newest h (Fault w i r) = (same i i (Some (ended.Faulted r)) (row_given h i) refl, same i i w (ender h i) refl)
   newest h (Over w) = tt
 
-  pub all_told : (c n : ℕ) (h : List (Event J R)) → IsLegal c n h → Each (IsTold h) h
+  pub all_told : (c n : ℕ) (h : List (Event J R)) → IsLegal c n h → AllByRecursion (IsTold h) h
   all_told c n [] l = tt
   all_told c n (e ∷ h) l = (newest h e, each-map (IsTold h) (IsTold (e ∷ h)) (still c n h e l) h (all_told c n h l.0))
 

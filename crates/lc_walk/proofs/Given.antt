@@ -1,6 +1,6 @@
 -- From the rows that a worker gave, each lawful for its own claim, to rows that are lawful in a whole history.
 use Rattle.std.proofs.Common.{◌≡◌, ℕ, ◌==◌, Bool, true, false, cond, List, [], ◌∷◌, ◌++◌, refl, sym, ◌∙◌, ap, subst, Option, Some, None}
-use Rattle.std.specs.List.{flat_map}
+use Rattle.std.specs.List.{flat_map, AllByRecursion}
 use Rattle.std.proofs.lemmas.Bool.{eqb-true}
 use Rattle.lc_board.specs.State.{Claimed, status}
 use Rattle.lc_board.specs.Part.{worker_of, part}
@@ -12,13 +12,13 @@ use Rattle.lc_board.specs.declared.event.Event.TheVariants.{Post, Claim, Return,
 use Rattle.lc_board.specs.declared.answers.Ended.{Ended}
 use Rattle.lc_board.specs.declared.answers.Ended.TheVariants as ended
 use Rattle.lc_walk.specs.Tally.{CountedFile}
-use Rattle.lc_walk.specs.Answers.{Answers, no_answers}
-use Rattle.lc_walk.specs.Job.{JobModel}
-use Rattle.lc_walk.specs.Rows.{row_of, job_of}
+use Rattle.lc_level.specs.Answers.{Answers, no_answers}
+use Rattle.lc_level.specs.Job.{JobModel}
+use Rattle.lc_walk.specs.Rows.{row_of}
 use Rattle.lc_walk.specs.Lawful.{Asked, IsLawful, Says}
-use Rattle.lc_walk.specs.Worked.{IsLawfulEnd, AreLawful, returned_files, files_given}
+use Rattle.lc_walk.specs.Worked.{MayStand, IsLawfulEnd, AreLawful, returned_files, files_given}
 use Rattle.lc_walk.specs.declared.row.Row.{Row}
-use Rattle.lc_board.proofs.Weights.{Each, each-map, flat_map-on}
+use Rattle.lc_board.proofs.Weights.{each-map, flat_map-on}
 use Rattle.lc_walk.proofs.Ends.{IsTold, all_told, stays as row_stays}
 use Rattle.lc_walk.proofs.Holds.{other, same, Tells, tells, stays, claimed_none}
 
@@ -31,11 +31,11 @@ contributes ask answers (Return w i r) = returned_files ask r (answers i)
 contributes ask answers (Fault w i r) = []
 contributes ask answers (Over w) = []
 
-pub each_part : (P : Event JobModel Row → Type 0) (w : ℕ) (h : List (Event JobModel Row)) → Each P h → Each (λ e. P e × (worker_of e ≡ w)) (part w h)
+pub each_part : (P : Event JobModel Row → Type 0) (w : ℕ) (h : List (Event JobModel Row)) → AllByRecursion P h → AllByRecursion (λ e. P e × (worker_of e ≡ w)) (part w h)
 each_part P w [] a = tt
 each_part P w (e ∷ h) a = at (worker_of e == w) refl (each_part P w h a.1)
   where
-    at : (b : Bool) → (worker_of e == w) ≡ b → Each (λ e. P e × (worker_of e ≡ w)) (part w h) → Each (λ e. P e × (worker_of e ≡ w)) (cond b (e ∷ part w h) (part w h))
+    at : (b : Bool) → (worker_of e == w) ≡ b → AllByRecursion (λ e. P e × (worker_of e ≡ w)) (part w h) → AllByRecursion (λ e. P e × (worker_of e ≡ w)) (cond b (e ∷ part w h) (part w h))
     at true t rec = ((a.0, eqb-true (worker_of e) w t), rec)
     at false t rec = rec
 
@@ -62,7 +62,7 @@ same_some x y e = cc
 
 module _ (ask : Asked) (full : Bool) (MayAnswer : List ℕ → Answers → Type 0) (c n : ℕ) where
   abbrev IsGood : List (Event JobModel Row) → ℕ → Ended Row → Answers → Type 0
-  IsGood h i e a = IsLawful ask full h i e a × MayAnswer (job_of (row_of e)).path a
+  IsGood h i e a = IsLawful ask full h i e a × MayStand MayAnswer (row_of e) a
 
   -- by number, the answers with which the rows of a worker's part are lawful in the whole history
   pub record Served (h : List (Event JobModel Row)) (w : ℕ) (given : List Answers) : Type 0 where
@@ -189,7 +189,7 @@ module _ (ask : Asked) (full : Bool) (MayAnswer : List ℕ → Answers → Type 
 
 pub record Chosen (ask : Asked) (MayAnswer : List ℕ → Answers → Type 0) (h : List (Event JobModel Row)) (w : ℕ) (o : Option (Pass JobModel Row)) (given : List Answers) : Type 0 where
   pub by : ℕ → Answers
-  pub lawful : (p : Pass JobModel Row) → o ≡ Some p → (i : ℕ) (e : Ended Row) → row_given (part w h) i ≡ Some e → IsLawful ask p.full h i e (by i) × MayAnswer (job_of (row_of e)).path (by i)
+  pub lawful : (p : Pass JobModel Row) → o ≡ Some p → (i : ℕ) (e : Ended Row) → row_given (part w h) i ≡ Some e → IsLawful ask p.full h i e (by i) × MayStand MayAnswer (row_of e) (by i)
   pub files : (p : Pass JobModel Row) → o ≡ Some p → flat_map (contributes ask by) (part w h) ≡ files_given ask (part w h) given
 
 pub choose : (ask : Asked) (MayAnswer : List ℕ → Answers → Type 0) (c n : ℕ) (h : List (Event JobModel Row)) → IsLegal c n h → (w : ℕ) (o : Option (Pass JobModel Row)) (given : List Answers) →

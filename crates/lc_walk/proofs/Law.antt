@@ -1,6 +1,6 @@
 -- The laws of the walk.
 use Rattle.std.proofs.Common.{◌≡◌, ◌≢◌, ℕ, zero, suc, ◌<◌, ◌≤◌, Bool, List, [], ◌∷◌, ◌++◌, length, slice_get, refl, sym, ◌∙◌, ap, arith, subst, Option, Some, None, ◌⊎◌, inl, inr, IsPermutation, append-nil}
-use Rattle.std.specs.List.{flat_map}
+use Rattle.std.specs.List.{flat_map, AllByRecursion}
 use Rattle.std.proofs.lemmas.Bool.{cases_lt}
 use Rattle.lc_board.specs.State.{Absent, status}
 use Rattle.lc_board.specs.LegalHistory.{posts_under}
@@ -12,9 +12,9 @@ use Rattle.lc_board.specs.declared.answers.Ended.{Ended}
 use Rattle.lc_board.specs.declared.answers.Ended.TheVariants as ended
 use Rattle.lc_board.proofs.PartsOfWhole.{part_says_whole}
 use Rattle.lc_walk.specs.Paths.{segments}
-use Rattle.lc_walk.specs.Answers.{Answers, no_answers, Tree}
-use Rattle.lc_walk.specs.Job.{JobModel}
-use Rattle.lc_walk.specs.Level.{level}
+use Rattle.lc_level.specs.Answers.{Answers, no_answers, Tree}
+use Rattle.lc_level.specs.Job.{JobModel}
+use Rattle.lc_level.specs.Level.{level}
 use Rattle.lc_walk.specs.Found.{Found, found_of, found_at, children_of, children_at}
 use Rattle.lc_walk.specs.Walk.{walk_of}
 use Rattle.lc_walk.specs.RowViews.{ChildModel}
@@ -25,7 +25,7 @@ use Rattle.lc_walk.specs.Walked.{Walked, AreWhole, row_found, rows_found}
 use Rattle.lc_walk.specs.Laws.{CoreLaw, NumbersLaw, OneAnswerLaw, PartLaw, walk_numbers}
 use Rattle.lc_walk.specs.declared.row.Row.{Row}
 use Rattle.lc_walk.specs.declared.row.Row.TheVariants.{Listed, Faulted, Broken}
-use Rattle.lc_board.proofs.Weights.{Each, each-map, each-append, flat_map-on, times, permuted, permuted_lists}
+use Rattle.lc_board.proofs.Weights.{each-map, each-append, flat_map-on, times, permuted, permuted_lists}
 use Rattle.lc_board.proofs.PostedNumbers.{start, top_posted, Known, known}
 use Rattle.lc_walk.proofs.Reach.{reach, reach_times}
 use Rattle.lc_walk.proofs.Levels.{apart_level, good_level, IsChild}
@@ -90,7 +90,7 @@ module _ (ask : Asked) (full : Bool) (capacity workers : ℕ) (top : JobModel) (
   top_job = same_some (job_at 0) top (sym (posted_at 0 (start h)) ∙ top_posted capacity workers top h walked.legal)
 
   -- each post under a number has the job of the number posted
-  pub own_jobs : (i : ℕ) → Each (λ p. job_at p.0 ≡ p.1) (posts_under i h)
+  pub own_jobs : (i : ℕ) → AllByRecursion (λ p. job_at p.0 ≡ p.1) (posts_under i h)
   own_jobs i =
       each-map (Known capacity top h i) (λ p. job_at p.0 ≡ p.1) (λ p k. same_some (job_at p.0) p.1 (sym (posted_at p.0 k.there) ∙ k.value))
       (posts_under i h) (known capacity workers top h walked.legal i)
@@ -103,7 +103,7 @@ module _ (ask : Asked) (full : Bool) (capacity workers : ℕ) (top : JobModel) (
       pub jobs : jobs_of (posts_under i h) ≡ jobs_of (children_of_number i)
       pub children : children_by_rows rows i ≡ named (children_of_number i) (posts_under i h)
       pub looked : Finds (λ m. child_number m (children_by_rows rows i)) (children_of_number i) (posts_under i h)
-      pub named_so : Each (IsChild (job_at i).path) (children_of_number i)
+      pub named_so : AllByRecursion (IsChild (job_at i).path) (children_of_number i)
 
     pub fits : (i : ℕ) → status h i ≢ Absent → Fits i
     fits i a =
@@ -136,7 +136,7 @@ module _ (ask : Asked) (full : Bool) (capacity workers : ℕ) (top : JobModel) (
     abbrev gives_number : ℕ → List Found
     gives_number i = found_at ask.archive (job_at i) (answers i)
 
-    all_below : (n : ℕ) → Each (λ i. i < n) (numbers_below n)
+    all_below : (n : ℕ) → AllByRecursion (λ i. i < n) (numbers_below n)
     all_below zero = tt
     all_below (suc n) = each-append (λ i. i < suc n) (numbers_below n) (n ∷ []) (each-map (λ i. i < n) (λ i. i < suc n) (λ i b. omega arith) (numbers_below n) (all_below n)) (omega arith, tt)
 
@@ -198,8 +198,8 @@ module _ (ask : Asked) (full : Bool) (capacity workers : ℕ) (top : JobModel) (
     abbrev pub place_at : ℕ → List (List ℕ)
     place_at i = segments (job_at i).path
 
-    place_under : (i : ℕ) (cs : List (List ℕ × JobModel)) (ps : List (ℕ × JobModel)) → Each (IsChild (job_at i).path) cs → jobs_of ps ≡ jobs_of cs →
-        Each (λ p. job_at p.0 ≡ p.1) ps → PlacedUnder place_at i cs ps
+    place_under : (i : ℕ) (cs : List (List ℕ × JobModel)) (ps : List (ℕ × JobModel)) → AllByRecursion (IsChild (job_at i).path) cs → jobs_of ps ≡ jobs_of cs →
+        AllByRecursion (λ p. job_at p.0 ≡ p.1) ps → PlacedUnder place_at i cs ps
     place_under i [] ps a e k = tt
     place_under i (c ∷ cs) [] a e k = tt
     place_under i (c ∷ cs) (p ∷ ps) a e k =

@@ -1,18 +1,17 @@
 -- What holds of every level.
 use Rattle.std.proofs.Common.{◌≡◌, ℕ, cond, ◌&&◌, Bool, true, false, List, [], ◌∷◌, ◌++◌, refl, subst, ◌⊎◌, inl, inr, Option, Some, None, Result, Ok, Err, codes, bytes_eq}
-use Rattle.std.specs.List.{flat_map}
-use Rattle.lc_walk.specs.Listing.{IsListing}
-use Rattle.lc_walk.specs.declared.report.fault_word.FaultWord.{FaultWord}
+use Rattle.std.specs.List.{flat_map, AllByRecursion}
+use Rattle.lc_tree.specs.Listing.{IsListing}
+use Rattle.lc_tree.specs.declared.fault_word.FaultWord.{FaultWord}
 use Rattle.lc_glob.specs.Path.{path_in}
-use Rattle.lc_walk.specs.Answers.{Item, file_item, directory_item, other_item, Items, Answers, name_of}
-use Rattle.lc_walk.specs.Job.{JobModel}
-use Rattle.lc_walk.specs.ReportLines.{FaultLineModel}
-use Rattle.lc_walk.specs.RuleFiles.{Pair, RuleBytes, extended, file_named, has_directory, is_top, has_git, and_then, reading, both_read, info_items, info_bytes, own_bytes, rule_bytes}
-use Rattle.lc_walk.specs.Level.{Level, faulted_level, level, level_of, level_after, level_of_items, is_taken, child_job, children_by}
+use Rattle.lc_level.specs.Answers.{Item, file_item, directory_item, other_item, Items, Answers, name_of}
+use Rattle.lc_level.specs.Job.{JobModel}
+use Rattle.lc_level.specs.FaultLines.{FaultLineModel}
+use Rattle.lc_level.specs.RuleFiles.{Pair, RuleBytes, extended, file_named, has_directory, is_top, has_git, and_then, reading, both_read, info_items, info_bytes, own_bytes, rule_bytes}
+use Rattle.lc_level.specs.Level.{Level, faulted_level, level, level_of, level_after, level_of_items, is_taken, child_job, children_by}
 use Rattle.lc_walk.specs.Found.{children_of, children_at}
-use Rattle.lc_walk.specs.Lawful.{IsTidy, listed_in}
-use Rattle.lc_board.proofs.Weights.{Each}
-use Rattle.lc_walk.proofs.Tidy.{IsGoodName, good_one, Spread, spread}
+use Rattle.lc_level.specs.Tidy.{IsTidy, listed_in}
+use Rattle.lc_level.proofs.Tidy.{IsGoodName, good_one, Spread, spread}
 
 -- what holds of each fault, and of the level of the items with any chains, holds of the level
 pub level_keeps : (P : Level → Type 0) (archive : Bool) (j : JobModel) (a : Answers) → ((p : List ℕ) (w : FaultWord) → P (faulted_level p w)) →
@@ -99,26 +98,26 @@ own_level_keeps P archive j a faults items_keep = at a.here refl
 -- no two have one name
 abbrev pub IsApart : List (List ℕ × JobModel) → Type 0
 IsApart [] = Unit {0}
-IsApart (c ∷ cs) = Each (λ d. bytes_eq d.0 c.0 ≡ false) cs × IsApart cs
+IsApart (c ∷ cs) = AllByRecursion (λ d. bytes_eq d.0 c.0 ≡ false) cs × IsApart cs
 
 -- a child has a good name, and its path is the directory's with that name
 abbrev pub IsChild : List ℕ → (List ℕ × JobModel) → Type 0
 IsChild p c = IsGoodName c.0 × (c.1.path ≡ path_in p c.0)
 
-each_cond : (P : List ℕ × JobModel → Type 0) (b : Bool) (c : List ℕ × JobModel) (cs : List (List ℕ × JobModel)) → P c → Each P cs → Each P (cond b (c ∷ []) [] ++ cs)
+each_cond : (P : List ℕ × JobModel → Type 0) (b : Bool) (c : List ℕ × JobModel) (cs : List (List ℕ × JobModel)) → P c → AllByRecursion P cs → AllByRecursion P (cond b (c ∷ []) [] ++ cs)
 each_cond P true c cs a e = (a, e)
 each_cond P false c cs a e = e
 
 -- what holds of the names of all directories among some items holds of their children
 pub each_child : (archive : Bool) (j : JobModel) (P : List ℕ × JobModel → Type 0) (Q : List ℕ → Type 0) → ((n : List ℕ) → Q n → P (n, child_job j n)) →
-    (es : List Item) → Each (λ e. Q (name_of e)) es → Each P (flat_map (children_by archive j) es)
+    (es : List Item) → AllByRecursion (λ e. Q (name_of e)) es → AllByRecursion P (flat_map (children_by archive j) es)
 each_child archive j P Q f [] a = tt
 each_child archive j P Q f (file_item n c r ∷ es) a = each_child archive j P Q f es a.1
 each_child archive j P Q f (other_item n ∷ es) a = each_child archive j P Q f es a.1
 each_child archive j P Q f (directory_item n ∷ es) a =
     each_cond P (is_taken archive j n true) (n, child_job j n) (flat_map (children_by archive j) es) (f n a.0) (each_child archive j P Q f es a.1)
 
-apart_cond : (b : Bool) (c : List ℕ × JobModel) (cs : List (List ℕ × JobModel)) → Each (λ d. bytes_eq d.0 c.0 ≡ false) cs → IsApart cs → IsApart (cond b (c ∷ []) [] ++ cs)
+apart_cond : (b : Bool) (c : List ℕ × JobModel) (cs : List (List ℕ × JobModel)) → AllByRecursion (λ d. bytes_eq d.0 c.0 ≡ false) cs → IsApart cs → IsApart (cond b (c ∷ []) [] ++ cs)
 apart_cond true c cs a b = (a, b)
 apart_cond false c cs a b = b
 
@@ -130,7 +129,7 @@ apart_children archive j (directory_item n ∷ es) t =
     apart_cond (is_taken archive j n true) (n, child_job j n) (flat_map (children_by archive j) es)
     (each_child archive j (λ d. bytes_eq d.0 n ≡ false) (λ m. bytes_eq m n ≡ false) (λ m e. e) es t.0) (apart_children archive j es t.2)
 
-good_names : (es : List Item) → Spread es → Each (λ e. IsGoodName (name_of e)) es
+good_names : (es : List Item) → Spread es → AllByRecursion (λ e. IsGoodName (name_of e)) es
 good_names [] t = tt
 good_names (e ∷ es) t = (t.1, good_names es t.2)
 
@@ -142,7 +141,7 @@ apart_level archive j a t =
     level_keeps (λ l. IsApart (children_of l)) archive j a (λ p w. tt)
     (λ es e b. apart_children archive (extended j b) es (tidy_items a t es e))
 
-pub good_level : (archive : Bool) (j : JobModel) (a : Answers) → IsTidy a → Each (IsChild j.path) (children_at archive j a)
+pub good_level : (archive : Bool) (j : JobModel) (a : Answers) → IsTidy a → AllByRecursion (IsChild j.path) (children_at archive j a)
 good_level archive j a t =
-    level_keeps (λ l. Each (IsChild j.path) (children_of l)) archive j a (λ p w. tt)
+    level_keeps (λ l. AllByRecursion (IsChild j.path) (children_of l)) archive j a (λ p w. tt)
     (λ es e b. each_child archive (extended j b) (IsChild j.path) IsGoodName (λ n g. (g, refl)) es (good_names es (tidy_items a t es e)))

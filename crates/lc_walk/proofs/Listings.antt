@@ -1,16 +1,16 @@
 -- What the parts of a level give to a report, and lists by number.
 use Rattle.std.proofs.Common.{◌≡◌, ℕ, zero, suc, ◌<◌, List, [], ◌∷◌, ◌++◌, length, slice_get, map, refl, sym, ◌∙◌, ap, arith, Option, Some, None, append-nil, append_assoc}
-use Rattle.std.specs.List.{flat_map}
+use Rattle.std.specs.List.{flat_map, AllByRecursion}
 use Rattle.std.proofs.lemmas.Grind.{flat_map-append}
 use Rattle.std.proofs.lemmas.List.Folds.{flat_map-map}
 use Rattle.std.proofs.lemmas.List.Concat.{flat_map_single}
-use Rattle.lc_walk.specs.Job.{JobModel}
-use Rattle.lc_walk.specs.Level.{CountedModel, FileFaultModel, listed_level}
+use Rattle.lc_level.specs.Job.{JobModel}
+use Rattle.lc_level.specs.Level.{CountedModel, FileFaultModel, listed_level}
 use Rattle.lc_walk.specs.Found.{Found, found_file, found_directory, fault_of, found_of}
 use Rattle.lc_walk.specs.WalkReport.{tallied, line_of, tallied_in, file_in, fault_in, directory_in, tallied_of, files_of, faults_of, directories_of}
 use Rattle.lc_walk.specs.Assembled.{fault_line}
 use Rattle.lc_walk.specs.TreeOfRows.{numbers_below}
-use Rattle.lc_board.proofs.Weights.{Each, each-map, each-append, flat_map-on}
+use Rattle.lc_board.proofs.Weights.{each-map, each-append, flat_map-on}
 
 pub flat_twice : {A B C : Type 0} (g : B → List C) (f : A → List B) (xs : List A) → flat_map g (flat_map f xs) ≡ flat_map (λ x. flat_map g (f x)) xs
 flat_twice g f [] = refl
@@ -67,7 +67,7 @@ in_order : {A B : Type 0} (f : A → List B) (xs : List A) → flat_map (λ i. o
 in_order f [] = refl
 in_order f (x ∷ xs) = front (λ i. or_none f (slice_get (x ∷ xs) i)) (length xs) ∙ ap (λ l. f x ++ l) (in_order f xs)
 
-pub below_all : (n : ℕ) → Each (λ i. i < n) (numbers_below n)
+pub below_all : (n : ℕ) → AllByRecursion (λ i. i < n) (numbers_below n)
 below_all zero = tt
 below_all (suc n) = each-append (λ i. i < suc n) (numbers_below n) (n ∷ []) (each-map (λ i. i < n) (λ i. i < suc n) (λ i b. omega arith) (numbers_below n) (below_all n)) (omega arith, tt)
 

@@ -5,21 +5,22 @@ use Rattle.std.specs.Ordering.{eq_by_cmp}
 use Rattle.std.proofs.lemmas.Cmp.{nat_list_cmp_total, eq_by_cmp_equiv}
 use Rattle.std.proofs.lemmas.Map.Keys.{IsDistinct-IsPermutation}
 use Rattle.std.proofs.lemmas.Map.Text.{is_eq-slice_cmp}
-use Rattle.lc_walk.specs.ReportLines.{FileLineModel, FaultLineModel, file_paths, fault_paths, path_cmp, AreApart}
+use Rattle.lc_walk.specs.ReportLines.{FileLineModel, file_paths, fault_paths}
+use Rattle.lc_level.specs.FaultLines.{FaultLineModel}
+use Rattle.lc_tree.specs.ByteOrder.{bytes_cmp, AreApart}
 use Rattle.lc_glob.specs.Path.{path_in}
-use Rattle.lc_walk.specs.Level.{CountedModel, FileFaultModel, level_of_items, files_by, faults_by, children_by}
+use Rattle.lc_level.specs.Level.{CountedModel, FileFaultModel, level_of_items, files_by, faults_by, children_by}
 use Rattle.lc_walk.specs.Found.{Found, found_of}
 use Rattle.lc_walk.specs.Walk.{walk_of}
 use Rattle.lc_walk.specs.WalkReport.{line_of, file_in, fault_in, files_of, faults_of}
 use Rattle.lc_walk.specs.Assembled.{fault_line}
 use Rattle.lc_walk.specs.Laws.{PathsOnceLaw}
-use Rattle.lc_board.proofs.Weights.{Each}
 use Rattle.lc_walk.proofs.Moves.{lists_moved}
-use Rattle.lc_walk.proofs.Tidy.{other_bytes}
+use Rattle.lc_level.proofs.Tidy.{other_bytes}
 use Rattle.lc_walk.proofs.PathsOnce.{Distinct, Kind, fine, counts_it, fails_it, count_never, fail_never, by_item, counted_name, fault_name, map_append}
 use Rattle.lc_walk.proofs.Listings.{files_went, faults_went}
 
-apart_all : (x : List ℕ) (ys : List (List ℕ)) → Each (λ y. x ≢ y) ys → AllByRecursion (λ y. eq_by_cmp path_cmp x y ≡ false) ys
+apart_all : (x : List ℕ) (ys : List (List ℕ)) → AllByRecursion (λ y. x ≢ y) ys → AllByRecursion (λ y. eq_by_cmp bytes_cmp x y ≡ false) ys
 apart_all x [] a = tt
 apart_all x (y ∷ ys) a = (is_eq-slice_cmp x y ∙ other_bytes x y a.0, apart_all x ys a.1)
 

@@ -1,27 +1,27 @@
 -- No path stands twice among the files, or among the faults, of a walk of a tree whose listings are tidy.
 use Rattle.std.proofs.Common.{◌≡◌, ◌≢◌, ℕ, zero, suc, ◌&&◌, Bool, true, false, cond, List, [], ◌∷◌, ◌++◌, map, refl, sym, ◌∙◌, ap, subst, ◌⊎◌, inl, inr, Ok, Err, is_ok, append_assoc, append-nil, bytes_eq}
-use Rattle.std.specs.List.{flat_map}
+use Rattle.std.specs.List.{flat_map, AllByRecursion}
 use Rattle.std.proofs.lemmas.Grind.{flat_map-append}
 use Rattle.std.proofs.lemmas.List.{append_cancel_left}
-use Rattle.lc_walk.specs.declared.report.fault_word.FaultWord.{FaultWord}
+use Rattle.lc_tree.specs.declared.fault_word.FaultWord.{FaultWord}
 use Rattle.lc_glob.specs.Path.{path_in}
 use Rattle.lc_walk.specs.Paths.{segments}
-use Rattle.lc_walk.specs.Answers.{Item, file_item, directory_item, other_item, Tree, name_of}
-use Rattle.lc_walk.specs.Job.{JobModel}
-use Rattle.lc_walk.specs.RuleFiles.{extended}
-use Rattle.lc_walk.specs.Level.{CountedModel, FileFaultModel, level_of_items, is_taken, counted_by, fault_by, files_by, faults_by, children_by, child_job}
+use Rattle.lc_level.specs.Answers.{Item, file_item, directory_item, other_item, Tree, name_of}
+use Rattle.lc_level.specs.Job.{JobModel}
+use Rattle.lc_level.specs.RuleFiles.{extended}
+use Rattle.lc_level.specs.Level.{CountedModel, FileFaultModel, level_of_items, is_taken, counted_by, fault_by, files_by, faults_by, children_by, child_job}
 use Rattle.lc_walk.specs.Found.{Found, found_fault, found_of, found_at, children_of, children_at}
 use Rattle.lc_walk.specs.Walk.{walks_below, walk_by}
-use Rattle.lc_walk.specs.Lawful.{IsTidy}
-use Rattle.lc_board.proofs.Weights.{Each, each-map, each-append}
-use Rattle.lc_walk.proofs.Tidy.{IsGoodName, Spread, bytes_other}
+use Rattle.lc_level.specs.Tidy.{IsTidy}
+use Rattle.lc_board.proofs.Weights.{each-map, each-append}
+use Rattle.lc_level.proofs.Tidy.{IsGoodName, Spread, bytes_other}
 use Rattle.lc_walk.proofs.Levels.{IsOwnPlace, own_level_keeps, tidy_items, IsChild, each_child}
 use Rattle.lc_walk.proofs.Places.{segments-path_in}
 
 -- no element stands twice
 abbrev pub Distinct : {A : Type 0} → List A → Type 0
 Distinct [] = Unit {0}
-Distinct (x ∷ xs) = Each (λ y. x ≢ y) xs × Distinct xs
+Distinct (x ∷ xs) = AllByRecursion (λ y. x ≢ y) xs × Distinct xs
 
 -- a path at or below a directory, and at or below a name in it
 abbrev pub Below : List ℕ → List ℕ → Type 0
@@ -30,7 +30,7 @@ Below d x = (rest : List (List ℕ)) × (segments x ≡ segments d ++ rest)
 abbrev pub Under : List ℕ → List ℕ → List ℕ → Type 0
 Under d n x = (rest : List (List ℕ)) × (segments x ≡ segments d ++ n ∷ rest)
 
-distinct-append : {A : Type 0} (xs ys : List A) → Distinct xs → Distinct ys → Each (λ x. Each (λ y. x ≢ y) ys) xs → Distinct (xs ++ ys)
+distinct-append : {A : Type 0} (xs ys : List A) → Distinct xs → Distinct ys → AllByRecursion (λ x. AllByRecursion (λ y. x ≢ y) ys) xs → Distinct (xs ++ ys)
 distinct-append [] ys a b c = b
 distinct-append (x ∷ xs) ys a b c = (each-append (λ y. x ≢ y) xs ys a.0 c.0, distinct-append xs ys a.1 b c.1)
 
@@ -47,21 +47,21 @@ abbrev Group : Type 0
 Group = List ℕ × List (List ℕ)
 
 abbrev IsGroup : List ℕ → Group → Type 0
-IsGroup d g = Each (Under d g.0) g.1 × Distinct g.1
+IsGroup d g = AllByRecursion (Under d g.0) g.1 × Distinct g.1
 
-far : (d n x : List ℕ) → Under d n x → (gs : List Group) → Each (IsGroup d) gs → Each (λ m. n ≢ m) (map (λ g. g.0) gs) → Each (λ y. x ≢ y) (flat_map (λ g. g.1) gs)
+far : (d n x : List ℕ) → Under d n x → (gs : List Group) → AllByRecursion (IsGroup d) gs → AllByRecursion (λ m. n ≢ m) (map (λ g. g.0) gs) → AllByRecursion (λ y. x ≢ y) (flat_map (λ g. g.1) gs)
 far d n x u [] a b = tt
 far d n x u (g ∷ gs) a b =
     each-append (λ y. x ≢ y) g.1 (flat_map (λ h. h.1) gs)
     (each-map (Under d g.0) (λ y. x ≢ y) (λ y v. apart_under d n g.0 x y u v b.0) g.1 a.0.0) (far d n x u gs a.1 b.1)
 
-groups_distinct : (d : List ℕ) (gs : List Group) → Each (IsGroup d) gs → Distinct (map (λ g. g.0) gs) → Distinct (flat_map (λ g. g.1) gs)
+groups_distinct : (d : List ℕ) (gs : List Group) → AllByRecursion (IsGroup d) gs → Distinct (map (λ g. g.0) gs) → Distinct (flat_map (λ g. g.1) gs)
 groups_distinct d [] a b = tt
 groups_distinct d (g ∷ gs) a b =
     distinct-append g.1 (flat_map (λ h. h.1) gs) a.0.1 (groups_distinct d gs a.1 b.1)
-    (each-map (Under d g.0) (λ x. Each (λ y. x ≢ y) (flat_map (λ h. h.1) gs)) (λ x u. far d g.0 x u gs a.1 b.0) g.1 a.0.0)
+    (each-map (Under d g.0) (λ x. AllByRecursion (λ y. x ≢ y) (flat_map (λ h. h.1) gs)) (λ x u. far d g.0 x u gs a.1 b.0) g.1 a.0.0)
 
-groups_below : (d : List ℕ) (gs : List Group) → Each (IsGroup d) gs → Each (Below d) (flat_map (λ g. g.1) gs)
+groups_below : (d : List ℕ) (gs : List Group) → AllByRecursion (IsGroup d) gs → AllByRecursion (Below d) (flat_map (λ g. g.1) gs)
 groups_below d [] a = tt
 groups_below d (g ∷ gs) a =
     each-append (Below d) g.1 (flat_map (λ h. h.1) gs) (each-map (Under d g.0) (Below d) (λ x u. (g.0 ∷ u.0, u.1)) g.1 a.0.0) (groups_below d gs a.1)
@@ -71,15 +71,15 @@ groups_below d (g ∷ gs) a =
 abbrev pub names_if : (Item → Bool) → List Item → List (List ℕ)
 names_if keep es = flat_map (λ e. cond (keep e) (name_of e ∷ []) []) es
 
-each_if : (P : List ℕ → Type 0) (keep : Item → Bool) (es : List Item) → Each (λ e. P (name_of e)) es → Each P (names_if keep es)
+each_if : (P : List ℕ → Type 0) (keep : Item → Bool) (es : List Item) → AllByRecursion (λ e. P (name_of e)) es → AllByRecursion P (names_if keep es)
 each_if P keep [] a = tt
 each_if P keep (e ∷ es) a = at (keep e) (each_if P keep es a.1)
   where
-    at : (b : Bool) → Each P (names_if keep es) → Each P (cond b (name_of e ∷ []) [] ++ names_if keep es)
+    at : (b : Bool) → AllByRecursion P (names_if keep es) → AllByRecursion P (cond b (name_of e ∷ []) [] ++ names_if keep es)
     at true rec = (a.0, rec)
     at false rec = rec
 
-others : (e : Item) (es : List Item) → Each (λ d. bytes_eq (name_of d) (name_of e) ≡ false) es → Each (λ d. name_of e ≢ name_of d) es
+others : (e : Item) (es : List Item) → AllByRecursion (λ d. bytes_eq (name_of d) (name_of e) ≡ false) es → AllByRecursion (λ d. name_of e ≢ name_of d) es
 others e es a = each-map (λ d. bytes_eq (name_of d) (name_of e) ≡ false) (λ d. name_of e ≢ name_of d) (λ d f s. bytes_other (name_of d) (name_of e) f (sym s)) es a
 
 names_distinct : (keep : Item → Bool) (es : List Item) → Spread es → Distinct (names_if keep es)
@@ -92,22 +92,22 @@ names_distinct keep (e ∷ es) s = at (keep e) (names_distinct keep es s.2)
 
 -- names of items that pass two tests, which none passes both
 names_apart : (one two : Item → Bool) → ((e : Item) → one e ≡ true → two e ≡ true → ⊥) → (es : List Item) → Spread es →
-    Each (λ m. Each (λ n. m ≢ n) (names_if two es)) (names_if one es)
+    AllByRecursion (λ m. AllByRecursion (λ n. m ≢ n) (names_if two es)) (names_if one es)
 names_apart one two never [] s = tt
 names_apart one two never (e ∷ es) s = at (one e) refl (two e) refl (names_apart one two never es s.2)
   where
-    mine : Each (λ d. name_of e ≢ name_of d) es
+    mine : AllByRecursion (λ d. name_of e ≢ name_of d) es
     mine = others e es s.0
 
-    theirs : Each (λ d. name_of d ≢ name_of e) es
+    theirs : AllByRecursion (λ d. name_of d ≢ name_of e) es
     theirs = each-map (λ d. name_of e ≢ name_of d) (λ d. name_of d ≢ name_of e) (λ d f t. f (sym t)) es mine
 
-    both : (xs ys : List (List ℕ)) → Each (λ m. m ≢ name_of e) xs → Each (λ m. Each (λ n. m ≢ n) ys) xs → Each (λ m. Each (λ n. m ≢ n) (name_of e ∷ ys)) xs
+    both : (xs ys : List (List ℕ)) → AllByRecursion (λ m. m ≢ name_of e) xs → AllByRecursion (λ m. AllByRecursion (λ n. m ≢ n) ys) xs → AllByRecursion (λ m. AllByRecursion (λ n. m ≢ n) (name_of e ∷ ys)) xs
     both [] ys a b = tt
     both (x ∷ xs) ys a b = ((a.0, b.0), both xs ys a.1 b.1)
 
-    at : (b : Bool) → one e ≡ b → (c : Bool) → two e ≡ c → Each (λ m. Each (λ n. m ≢ n) (names_if two es)) (names_if one es) →
-        Each (λ m. Each (λ n. m ≢ n) (cond c (name_of e ∷ []) [] ++ names_if two es)) (cond b (name_of e ∷ []) [] ++ names_if one es)
+    at : (b : Bool) → one e ≡ b → (c : Bool) → two e ≡ c → AllByRecursion (λ m. AllByRecursion (λ n. m ≢ n) (names_if two es)) (names_if one es) →
+        AllByRecursion (λ m. AllByRecursion (λ n. m ≢ n) (cond c (name_of e ∷ []) [] ++ names_if two es)) (cond b (name_of e ∷ []) [] ++ names_if one es)
     at true p true q rec = absurd (never e p q)
     at true p false q rec = (each_if (λ m. name_of e ≢ m) two es mine, rec)
     at false p true q rec = both (names_if one es) (names_if two es) (each_if (λ m. m ≢ name_of e) one es theirs) rec
@@ -200,7 +200,7 @@ module _ (archive : Bool) (pick : Found → List (List ℕ)) (keep : JobModel �
   paths xs = flat_map pick xs
 
   abbrev IsFine : List ℕ → List (List ℕ) → Type 0
-  IsFine d ps = Each (Below d) ps × Distinct ps
+  IsFine d ps = AllByRecursion (Below d) ps × Distinct ps
 
   abbrev walk : ℕ → JobModel → Tree → List Found
   walk k j t = walk_by (found_at archive) (children_at archive) k j t
@@ -216,13 +216,13 @@ module _ (archive : Bool) (pick : Found → List (List ℕ)) (keep : JobModel �
   own_groups d [] = refl
   own_groups d (n ∷ ns) = ap (λ l. path_in d n ∷ l) (own_groups d ns)
 
-  own_are : (d : List ℕ) (ns : List (List ℕ)) → Each IsGoodName ns → Each (IsGroup d) (map (λ n. (n, path_in d n ∷ [])) ns)
+  own_are : (d : List ℕ) (ns : List (List ℕ)) → AllByRecursion IsGoodName ns → AllByRecursion (IsGroup d) (map (λ n. (n, path_in d n ∷ [])) ns)
   own_are d [] a = tt
   own_are d (n ∷ ns) a = (((([], segments-path_in d n a.0), tt), (tt, tt)), own_are d ns a.1)
 
-  children_are : (k : ℕ) (d : List ℕ) (t : Tree) (cs : List (List ℕ × JobModel)) → Each (IsChild d) cs →
+  children_are : (k : ℕ) (d : List ℕ) (t : Tree) (cs : List (List ℕ × JobModel)) → AllByRecursion (IsChild d) cs →
       ((j : JobModel) (u : List ℕ) → IsFine j.path (paths (walk k j (λ p. t (u ∷ p))))) →
-      Each (IsGroup d) (map (λ c. (c.0, paths (walk k c.1 (λ p. t (c.0 ∷ p))))) cs)
+      AllByRecursion (IsGroup d) (map (λ c. (c.0, paths (walk k c.1 (λ p. t (c.0 ∷ p))))) cs)
   children_are k d t [] a rec = tt
   children_are k d t (c ∷ cs) a rec =
       let r = rec c.1 c.0 in (
@@ -242,7 +242,7 @@ module _ (archive : Bool) (pick : Found → List (List ℕ)) (keep : JobModel �
   names_after k t [] = refl
   names_after k t (c ∷ cs) = ap (λ l. c.0 ∷ l) (names_after k t cs)
 
-  good_names : (es : List Item) → Spread es → Each (λ e. IsGoodName (name_of e)) es
+  good_names : (es : List Item) → Spread es → AllByRecursion (λ e. IsGoodName (name_of e)) es
   good_names [] s = tt
   good_names (e ∷ es) s = (s.1, good_names es s.2)
 
@@ -260,8 +260,8 @@ module _ (archive : Bool) (pick : Found → List (List ℕ)) (keep : JobModel �
       ∙ ap (λ l. l ++ paths (walks_below (found_at archive) (children_at archive) (walk k) t cs)) (kind.own j es ∙ own_groups j.path ns)
       ∙ ap (λ l. flat_map (λ (g : Group). g.1) owns ++ l) (below_groups k t cs)
       ∙ sym (flat_map-append (λ (g : Group). g.1) owns kids) in
-      let is_child : Each (IsChild j.path) cs = each_child archive j (IsChild j.path) IsGoodName (λ n g. (g, refl)) es (good_names es s) in
-      let groups : Each (IsGroup j.path) (owns ++ kids) =
+      let is_child : AllByRecursion (IsChild j.path) cs = each_child archive j (IsChild j.path) IsGoodName (λ n g. (g, refl)) es (good_names es s) in
+      let groups : AllByRecursion (IsGroup j.path) (owns ++ kids) =
       each-append (IsGroup j.path) owns kids (own_are j.path ns (each_if IsGoodName (keep j) es (good_names es s))) (children_are k j.path t cs is_child rec) in
       let child_names : map (λ (c : List ℕ × JobModel). c.0) cs ≡ names_if (enters_it archive j) es = by_item (λ c. c.0) (children_by archive j) (enters_it archive j) (child_name archive j) es in
       let all_names : map (λ (g : Group). g.0) (owns ++ kids) ≡ ns ++ names_if (enters_it archive j) es =

@@ -1,11 +1,10 @@
 -- The names from the top down to the path of a name in a directory.
 use Rattle.std.proofs.Common.{◌≡◌, ◌≢◌, ℕ, ◌==◌, Bool, true, false, cond, List, [], ◌∷◌, ◌++◌, refl, sym, ◌∙◌, ap}
-use Rattle.std.specs.List.{onto_first}
+use Rattle.std.specs.List.{onto_first, AllByRecursion}
 use Rattle.std.proofs.lemmas.List.Splits.{slice_split-cons_yes, slice_split-cons_no}
 use Rattle.lc_glob.specs.Path.{path_in, segments_of}
 use Rattle.lc_walk.specs.Paths.{segments}
-use Rattle.lc_board.proofs.Weights.{Each}
-use Rattle.lc_walk.proofs.Tidy.{IsGoodName}
+use Rattle.lc_level.proofs.Tidy.{IsGoodName}
 
 -- bytes cut at each slash, byte by byte
 abbrev cut : List ℕ → List (List ℕ)
@@ -24,7 +23,7 @@ choose : {A : Type 0} (b : Bool) (x y : A) → b ≡ false → cond b x y ≡ y
 choose true x y e = cc
 choose false x y e = refl
 
-cut_name : (n : List ℕ) → Each (λ b. (b == 47) ≡ false) n → cut n ≡ n ∷ []
+cut_name : (n : List ℕ) → AllByRecursion (λ b. (b == 47) ≡ false) n → cut n ≡ n ∷ []
 cut_name [] a = refl
 cut_name (b ∷ bs) a = choose (b == 47) ([] ∷ cut bs) (onto_first b (cut bs)) a.0 ∙ ap (onto_first b) (cut_name bs a.1)
 

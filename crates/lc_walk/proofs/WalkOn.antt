@@ -14,16 +14,16 @@ use Rattle.lc_board.specs.declared.answers.Ended.TheVariants as ended
 use Rattle.lc_board.proofs.OverHistories.{over_stays}
 use Rattle.lc_walk.specs.Tally.{TallyModel, StandsFor}
 use Rattle.lc_walk.specs.declared.report.Report.{Report}
-use Rattle.lc_walk.specs.Answers.{Answers}
-use Rattle.lc_walk.specs.Job.{JobModel}
+use Rattle.lc_level.specs.Answers.{Answers}
+use Rattle.lc_level.specs.Job.{JobModel}
 use Rattle.lc_walk.specs.Rows.{row_of, job_of}
 use Rattle.lc_walk.specs.Lawful.{Asked, Says, IsCause}
-use Rattle.lc_walk.specs.Assembled.{IsBrokenBy, Assembles}
+use Rattle.lc_walk.specs.Assembled.{IsBrokenBy, SomeBroken, Assembles}
 use Rattle.lc_walk.specs.Worked.{AreLawful, files_of_passes, HasEnded}
 use Rattle.lc_walk.specs.WalkAnswers.{SomeRows, WalkAnswers}
 use Rattle.lc_walk.specs.WalkOn.{fault_of_close}
-use Rattle.lc_walk.specs.declared.row.Cause.{Cause}
-use Rattle.lc_walk.specs.declared.row.Cause.TheVariants.{TooManyDirs, TooDeep}
+use Rattle.lc_level.specs.declared.cause.Cause.{Cause}
+use Rattle.lc_level.specs.declared.cause.Cause.TheVariants.{Memory, TooManyDirs, TooDeep}
 use Rattle.lc_walk.specs.declared.row.Row.{Row}
 use Rattle.lc_walk.specs.declared.row.Row.TheVariants.{Listed, Faulted, Broken}
 use Rattle.lc_walk.specs.declared.walk_fault.WalkFault.{WalkFault}
@@ -63,8 +63,8 @@ module _ (ask : Asked) (MayAnswer : List ℕ → Answers → Type 0) (capacity w
   -- the board was closed
   module _ (given : ℕ → List Answers) (lawful : (w : ℕ) (p : Pass JobModel Row) → slice_get passes w ≡ Some p → AreLawful ask p.full MayAnswer p.mine (given w))
       (rows : List (Ended Row)) (settled : Settled capacity workers top promises passes rows) where
-    abbrev rows_so : promises.keeps ≡ true → SomeRows MayAnswer ask capacity workers top
-    rows_so keeps = some_rows ask MayAnswer capacity workers top promises passes rows room keeps count settled given lawful
+    abbrev rows_so : promises.keeps ≡ true → ¬ SomeBroken Memory rows → SomeRows MayAnswer ask capacity workers top
+    rows_so keeps fed = some_rows ask MayAnswer capacity workers top promises passes rows room keeps count settled given lawful (λ i e is b. fed (i, (e, is, b)))
 
     cause_here : (keeps : promises.keeps ≡ true) (c : Cause) (i : ℕ) (e : Ended Row) → slice_get rows i ≡ Some e → IsBrokenBy c (row_of e) →
         IsCause ask (list_any (λ (p : Pass JobModel Row). p.full) passes) (job_of (row_of e)) (answers ask MayAnswer capacity workers top promises passes rows room keeps count settled given lawful i) c
@@ -79,9 +79,9 @@ module _ (ask : Asked) (MayAnswer : List ℕ → Answers → Type 0) (capacity w
     assembled_walk t stood (Err fault.TooManyDirs) a = λ keeps fills.
         let is_full = cause_here keeps TooManyDirs a.0.0 a.0.1.0 a.0.1.1 a.0.1.2 in
         let f = full_pass passes is_full in
-        record { found = rows_so keeps; filled = settled.all_used fills f.worker f.pass f.is f.was }
+        record { found = rows_so keeps a.1; filled = settled.all_used fills f.worker f.pass f.is f.was }
     assembled_walk t stood (Err fault.TooDeep) a = λ keeps.
-        record { found = rows_so keeps; number = a.0.0; row = a.0.1.0; is = a.0.1.1; deep = cause_here keeps TooDeep a.0.0 a.0.1.0 a.0.1.1 a.0.1.2 }
+        record { found = rows_so keeps a.1; number = a.0.0; row = a.0.1.0; is = a.0.1.1; deep = cause_here keeps TooDeep a.0.0 a.0.1.0 a.0.1.1 a.0.1.2 }
     assembled_walk t stood (Err (fault.Torn n)) a = λ keeps compares.
         a.1 (placed ask (list_any (λ (p : Pass JobModel Row). p.full) passes) capacity workers top settled.history rows
         (answers ask MayAnswer capacity workers top promises passes rows room keeps count settled given lawful)

@@ -2,17 +2,19 @@
 use Rattle.std.specs.Prelude.{◌≡◌, ℕ, zero, suc, ◌<◌, Bool, cond, List, [], ◌∷◌, length, map, flat_map, slice_get, Some, Result, Ok, Err}
 use Rattle.lc_board.specs.declared.answers.Ended.{Ended}
 use Rattle.lc_walk.specs.Tally.{TallyModel}
-use Rattle.lc_walk.specs.ReportLines.{FileLineModel, FaultLineModel}
+use Rattle.lc_walk.specs.ReportLines.{FileLineModel}
+use Rattle.lc_level.specs.FaultLines.{FaultLineModel}
 use Rattle.lc_walk.specs.Report.{IsReport}
 use Rattle.lc_walk.specs.declared.report.Report.{Report}
 use Rattle.lc_glob.specs.Path.{path_in}
-use Rattle.lc_walk.specs.Level.{FileFaultModel}
+use Rattle.lc_level.specs.Level.{FileFaultModel}
 use Rattle.lc_walk.specs.RowViews.{ChildModel}
-use Rattle.lc_walk.specs.Rows.{row_of, job_of, children_in, place_path}
+use Rattle.lc_walk.specs.Rows.{row_of, job_of, children_in}
+use Rattle.lc_level.specs.PlacePaths.{place_path}
 use Rattle.lc_walk.specs.WalkReport.{line_of}
 use Rattle.lc_walk.specs.Walked.{AreWhole}
-use Rattle.lc_walk.specs.declared.row.Cause.{Cause}
-use Rattle.lc_walk.specs.declared.row.Cause.TheVariants.{Memory, TooManyDirs, TooDeep}
+use Rattle.lc_level.specs.declared.cause.Cause.{Cause}
+use Rattle.lc_level.specs.declared.cause.Cause.TheVariants.{Memory, TooManyDirs, TooDeep}
 use Rattle.lc_walk.specs.declared.row.Row.{Row}
 use Rattle.lc_walk.specs.declared.row.Row.TheVariants.{Listed, Faulted, Broken}
 use Rattle.lc_walk.specs.declared.walk_fault.WalkFault.{WalkFault}

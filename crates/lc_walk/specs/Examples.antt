@@ -2,9 +2,9 @@
 use Rattle.std.specs.Prelude.{◌≡◌, false, [], ◌∷◌, Ok, None, map, codes}
 use Rattle.lc_census.specs.declared.totals.Count.{Count}
 use Rattle.lc_census.specs.declared.totals.Eol.TheVariants.{Lf}
-use Rattle.lc_walk.specs.Answers.{file_item, directory_item, other_item, Answers}
+use Rattle.lc_level.specs.Answers.{file_item, directory_item, other_item, Answers}
 use Rattle.lc_walk.specs.Found.{children_at}
-use Rattle.lc_walk.specs.Job.{JobModel}
+use Rattle.lc_level.specs.Job.{JobModel}
 use Rattle.lc_walk.specs.Lawful.{files_at}
 
 -- the census of an empty file with one line
@@ -18,8 +18,9 @@ top_job = record { path = []; ignore = []; attributes = record { tree = []; info
 abbrev pub small_directory : Answers
 small_directory = record {
   here = Ok (
-      directory_item (codes ".git") ∷ file_item (codes ".gitignore") (Ok one_line) (Ok (codes "*.o")) ∷ file_item (codes "a.o") (Ok one_line) (Ok [])
-      ∷ directory_item (codes "b") ∷ file_item (codes "c") (Ok one_line) (Ok []) ∷ directory_item (codes "d") ∷ file_item (codes "k.o") (Ok one_line) (Ok [])
+      directory_item (codes ".git") ∷ file_item (codes ".gitignore") (Ok one_line) (Ok (codes "*.o"))
+      ∷ file_item (codes "a.o") (Ok one_line) (Ok []) ∷ directory_item (codes "b") ∷ file_item (codes "c") (Ok one_line) (Ok [])
+      ∷ directory_item (codes "d") ∷ file_item (codes "k.o") (Ok one_line) (Ok [])
       ∷ other_item (codes "l") ∷ []
       );
   git = Ok (directory_item (codes "info") ∷ []);

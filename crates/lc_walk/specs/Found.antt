@@ -1,10 +1,10 @@
 -- What a walk finds.
 use Rattle.std.specs.Prelude.{ℕ, Bool, List, [], ◌∷◌, ◌++◌, map}
-use Rattle.lc_walk.specs.declared.report.fault_word.FaultWord.{FaultWord}
+use Rattle.lc_tree.specs.declared.fault_word.FaultWord.{FaultWord}
 use Rattle.lc_glob.specs.Path.{path_in}
-use Rattle.lc_walk.specs.Answers.{Answers}
-use Rattle.lc_walk.specs.Job.{JobModel}
-use Rattle.lc_walk.specs.Level.{CountedModel, FileFaultModel, Level, faulted_level, listed_level, level}
+use Rattle.lc_level.specs.Answers.{Answers}
+use Rattle.lc_level.specs.Job.{JobModel}
+use Rattle.lc_level.specs.Level.{CountedModel, FileFaultModel, Level, faulted_level, listed_level, level}
 
 -- a counted file of the directory at a path, a fault at a path, a listed directory at a path
 pub data Found : Type 0 where

@@ -1,20 +1,21 @@
 -- When a row says the truth of its directory.
-use Rattle.std.specs.Prelude.{◌≡◌, ℕ, Bool, true, cond, List, [], ◌∷◌, map, take, Some, Ok, Err}
+use Rattle.std.specs.Prelude.{◌≡◌, ℕ, Bool, true, cond, List, [], ◌∷◌, map, take, Some}
 use Rattle.lc_board.specs.LegalHistory.{posts_under}
 use Rattle.lc_board.specs.RowsInPlace.{job_got}
 use Rattle.lc_board.specs.declared.event.Event.{Event}
 use Rattle.lc_board.specs.declared.answers.Ended.{Ended}
 use Rattle.lc_board.specs.declared.answers.Ended.TheVariants as ended
-use Rattle.lc_walk.specs.Listing.{EntryModel, IsListing}
-use Rattle.lc_walk.specs.Answers.{Answers, Items, entries_of}
-use Rattle.lc_walk.specs.Job.{JobModel}
-use Rattle.lc_walk.specs.Level.{CountedModel, Level, faulted_level, listed_level, level}
+use Rattle.lc_level.specs.Answers.{Answers}
+use Rattle.lc_level.specs.Tidy.{IsTidy}
+use Rattle.lc_level.specs.Job.{JobModel}
+use Rattle.lc_level.specs.Level.{CountedModel, Level, faulted_level, listed_level, level}
 use Rattle.lc_walk.specs.Found.{children_at}
-use Rattle.lc_walk.specs.Deep.{has_too_deep}
+use Rattle.lc_level.specs.Deep.{has_too_deep}
 use Rattle.lc_walk.specs.RowViews.{ChildModel, ListedRowModel}
-use Rattle.lc_walk.specs.Rows.{row_of, job_of, place_path}
-use Rattle.lc_walk.specs.declared.row.Cause.{Cause}
-use Rattle.lc_walk.specs.declared.row.Cause.TheVariants.{Memory, TooManyDirs, TooDeep}
+use Rattle.lc_walk.specs.Rows.{row_of, job_of}
+use Rattle.lc_level.specs.PlacePaths.{place_path}
+use Rattle.lc_level.specs.declared.cause.Cause.{Cause}
+use Rattle.lc_level.specs.declared.cause.Cause.TheVariants.{Memory, TooManyDirs, TooDeep}
 use Rattle.lc_walk.specs.declared.row.FaultedRow.{FaultedRow}
 use Rattle.lc_walk.specs.declared.row.BrokenRow.{BrokenRow}
 use Rattle.lc_walk.specs.declared.row.Row.{Row}
@@ -32,14 +33,6 @@ files_of (listed_level files faults children) = files
 -- the counted files of a directory of these answers
 abbrev pub files_at : Bool → JobModel → Answers → List CountedModel
 files_at archive j a = files_of (level archive j a)
-
-abbrev pub listed_in : Items → List EntryModel
-listed_in (Ok es) = entries_of es
-listed_in (Err word) = []
-
--- a listing's names are good, distinct and in order
-abbrev pub IsTidy : Answers → Type 0
-IsTidy a = IsListing (listed_in a.here)
 
 -- the jobs, of children or of posts
 abbrev pub jobs_of : {A : Type 0} → List (A × JobModel) → List JobModel

@@ -6,15 +6,17 @@ use Rattle.lc_board.specs.Part.{part}
 use Rattle.lc_board.specs.declared.event.Event.{Event}
 use Rattle.lc_board.specs.declared.answers.Ended.{Ended}
 use Rattle.lc_walk.specs.Paths.{segments}
-use Rattle.lc_walk.specs.Answers.{Answers, no_answers, Tree}
-use Rattle.lc_walk.specs.Job.{JobModel}
-use Rattle.lc_walk.specs.Level.{level}
+use Rattle.lc_level.specs.Answers.{Answers, no_answers, Tree}
+use Rattle.lc_level.specs.Job.{JobModel}
+use Rattle.lc_level.specs.Level.{level}
 use Rattle.lc_walk.specs.Found.{children_at}
 use Rattle.lc_walk.specs.Walk.{walk_by, walk_of}
 use Rattle.lc_walk.specs.Rows.{row_of, job_of}
-use Rattle.lc_walk.specs.ReportLines.{file_paths, fault_paths, AreApart}
+use Rattle.lc_walk.specs.ReportLines.{file_paths, fault_paths}
+use Rattle.lc_tree.specs.ByteOrder.{AreApart}
 use Rattle.lc_walk.specs.WalkReport.{files_of, faults_of}
-use Rattle.lc_walk.specs.Lawful.{Asked, IsLawful, IsTidy}
+use Rattle.lc_walk.specs.Lawful.{Asked, IsLawful}
+use Rattle.lc_level.specs.Tidy.{IsTidy}
 use Rattle.lc_walk.specs.TreeOfRows.{tree_from, children_by_rows, tree_of_rows, numbers_below}
 use Rattle.lc_walk.specs.Walked.{Walked, AreWhole, rows_found}
 use Rattle.lc_walk.specs.declared.row.Row.{Row}
@@ -22,7 +24,8 @@ use Rattle.lc_walk.specs.declared.row.Row.{Row}
 -- what a walk of the tree of rows finds is what the rows found, for every depth that the capacity allows
 abbrev pub CoreLaw : Type 0
 CoreLaw =
-    (ask : Asked) (full : Bool) (capacity workers : ℕ) (top : JobModel) (h : List (Event JobModel Row)) (rows : List (Ended Row)) (answers : ℕ → Answers) →
+    (ask : Asked) (full : Bool) (capacity workers : ℕ) (top : JobModel)
+    (h : List (Event JobModel Row)) (rows : List (Ended Row)) (answers : ℕ → Answers) →
     Walked ask full capacity workers top h rows answers → AreWhole rows → (depth : ℕ) → capacity ≤ depth →
     IsPermutation (walk_of ask.archive depth top (tree_of_rows rows answers)) (rows_found ask rows answers)
 
@@ -35,7 +38,8 @@ walk_numbers ask depth top rows answers =
 -- each number stands once in the tree of rows
 abbrev pub NumbersLaw : Type 0
 NumbersLaw =
-    (ask : Asked) (full : Bool) (capacity workers : ℕ) (top : JobModel) (h : List (Event JobModel Row)) (rows : List (Ended Row)) (answers : ℕ → Answers) →
+    (ask : Asked) (full : Bool) (capacity workers : ℕ) (top : JobModel)
+    (h : List (Event JobModel Row)) (rows : List (Ended Row)) (answers : ℕ → Answers) →
     Walked ask full capacity workers top h rows answers → AreWhole rows → (depth : ℕ) → capacity ≤ depth →
     IsPermutation (walk_numbers ask depth top rows answers) (numbers_below (length rows))
 
@@ -43,7 +47,8 @@ NumbersLaw =
 -- may differ in what a level does not read, as in a file that is ignored
 abbrev pub OneAnswerLaw : Type 0
 OneAnswerLaw =
-    (t : Tree) (ask : Asked) (full : Bool) (capacity workers : ℕ) (top : JobModel) (h : List (Event JobModel Row)) (rows : List (Ended Row)) (answers : ℕ → Answers) →
+    (t : Tree) (ask : Asked) (full : Bool) (capacity workers : ℕ) (top : JobModel)
+    (h : List (Event JobModel Row)) (rows : List (Ended Row)) (answers : ℕ → Answers) →
     Walked ask full capacity workers top h rows answers → AreWhole rows → top.path ≡ [] →
     ((i : ℕ) (e : Ended Row) → slice_get rows i ≡ Some e →
     level ask.archive (job_of (row_of e)) (answers i) ≡ level ask.archive (job_of (row_of e)) (t (segments (job_of (row_of e)).path))) →

@@ -1,7 +1,7 @@
 -- The parts of a row that was listed, as contracts see them.
 use Rattle.std.specs.Prelude.{ℕ, List}
-use Rattle.lc_walk.specs.Job.{JobModel}
-use Rattle.lc_walk.specs.Level.{CountedModel, FileFaultModel}
+use Rattle.lc_level.specs.Job.{JobModel}
+use Rattle.lc_level.specs.Level.{CountedModel, FileFaultModel}
 
 -- a child directory: its name, and the number of its post
 pub record ChildModel : Type 0 where

@@ -1,12 +1,9 @@
 -- Rows: what a worker gives for a directory.
-use Rattle.std.specs.Prelude.{ℕ, List, [], codes}
+use Rattle.std.specs.Prelude.{List, []}
 use Rattle.lc_board.specs.declared.answers.Ended.{Ended}
 use Rattle.lc_board.specs.declared.answers.Ended.TheVariants as ended
-use Rattle.lc_glob.specs.Path.{path_in}
-use Rattle.lc_walk.specs.Job.{JobModel}
+use Rattle.lc_level.specs.Job.{JobModel}
 use Rattle.lc_walk.specs.RowViews.{ChildModel}
-use Rattle.lc_walk.specs.declared.row.place.Place.{Place}
-use Rattle.lc_walk.specs.declared.row.place.Place.TheVariants.{Directory, Git, GitInfo, ExcludeFile, InfoAttributes, IgnoreFile, AttributeFile}
 use Rattle.lc_walk.specs.declared.row.Row.{Row}
 use Rattle.lc_walk.specs.declared.row.Row.TheVariants.{Listed, Faulted, Broken}
 
@@ -29,13 +26,3 @@ abbrev pub IsWhole : Row → Type 0
 IsWhole (Listed r) = Unit {0}
 IsWhole (Faulted r) = Unit {0}
 IsWhole (Broken r) = ⊥
-
--- the path that is at fault, of a directory at a path
-abbrev pub place_path : List ℕ → Place → List ℕ
-place_path directory Directory = directory
-place_path directory Git = codes ".git"
-place_path directory GitInfo = codes ".git/info"
-place_path directory ExcludeFile = codes ".git/info/exclude"
-place_path directory InfoAttributes = codes ".git/info/attributes"
-place_path directory IgnoreFile = path_in directory (codes ".gitignore")
-place_path directory AttributeFile = path_in directory (codes ".gitattributes")

@@ -1,7 +1,7 @@
 -- The recursive walk over a tree.
 use Rattle.std.specs.Prelude.{ℕ, zero, suc, Bool, List, [], ◌∷◌, ◌++◌}
-use Rattle.lc_walk.specs.Answers.{Tree}
-use Rattle.lc_walk.specs.Job.{JobModel}
+use Rattle.lc_level.specs.Answers.{Tree}
+use Rattle.lc_level.specs.Job.{JobModel}
 use Rattle.lc_walk.specs.Found.{Found, found_at, children_at}
 
 -- for any kind of answers: what the directory gives, then the walks of its child directories, one after another

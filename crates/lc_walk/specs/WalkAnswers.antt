@@ -3,14 +3,15 @@ use Rattle.std.specs.Prelude.{◌≡◌, ℕ, ◌≤◌, Bool, true, false, List
 use Rattle.lc_board.specs.ClosedBoard.{Promises}
 use Rattle.lc_board.specs.declared.event.Event.{Event}
 use Rattle.lc_board.specs.declared.answers.Ended.{Ended}
-use Rattle.lc_walk.specs.ReportLines.{file_paths, fault_paths, AreInOrder}
+use Rattle.lc_walk.specs.ReportLines.{file_paths, fault_paths}
+use Rattle.lc_tree.specs.ByteOrder.{AreInOrder}
 use Rattle.lc_walk.specs.declared.report.Report.{Report}
 use Rattle.lc_walk.specs.Paths.{segments}
-use Rattle.lc_walk.specs.Answers.{Answers, Tree}
-use Rattle.lc_walk.specs.Job.{JobModel}
-use Rattle.lc_walk.specs.Level.{level}
+use Rattle.lc_level.specs.Answers.{Answers, Tree}
+use Rattle.lc_level.specs.Job.{JobModel}
+use Rattle.lc_level.specs.Level.{level}
 use Rattle.lc_walk.specs.Walk.{walk_of}
-use Rattle.lc_walk.specs.Deep.{has_too_deep}
+use Rattle.lc_level.specs.Deep.{has_too_deep}
 use Rattle.lc_walk.specs.Rows.{row_of, job_of}
 use Rattle.lc_walk.specs.Lawful.{Asked}
 use Rattle.lc_walk.specs.TreeOfRows.{tree_of_rows}
@@ -22,7 +23,8 @@ use Rattle.lc_walk.specs.declared.walk_fault.WalkFault.TheVariants.{Memory, TooM
 
 -- a tree that for each path answers as one tree does, as far as a level tells
 abbrev pub IsOneAnswer : Bool → (List ℕ → Answers → Type 0) → Tree → Type 0
-IsOneAnswer archive MayAnswer t = (j : JobModel) (a : Answers) → MayAnswer j.path a → level archive j a ≡ level archive j (t (segments j.path))
+IsOneAnswer archive MayAnswer t =
+    (j : JobModel) (a : Answers) → MayAnswer j.path a → level archive j a ≡ level archive j (t (segments j.path))
 
 module _ (MayAnswer : List ℕ → Answers → Type 0) (ask : Asked) (capacity workers : ℕ) (top : JobModel) where
   -- lawful rows in place for a legal history that is over, with the top job at 0, whose answers the tree may give
@@ -39,10 +41,12 @@ module _ (MayAnswer : List ℕ → Answers → Type 0) (ask : Asked) (capacity w
   pub record IsWalkReport (r : Report) : Type 0 where
     pub found : SomeRows
     pub whole : AreWhole found.rows
-    pub report : (depth : ℕ) → capacity ≤ depth → IsReportOf ask.files (walk_of ask.archive depth top (tree_of_rows found.rows found.answers)) r
+    pub report : (depth : ℕ) → capacity ≤ depth →
+        IsReportOf ask.files (walk_of ask.archive depth top (tree_of_rows found.rows found.answers)) r
     pub files_once : AreInOrder (file_paths r.files.items)
     pub faults_once : AreInOrder (fault_paths r.faults.items)
-    pub one_answer : (t : Tree) → IsOneAnswer ask.archive MayAnswer t → (depth : ℕ) → capacity ≤ depth → IsReportOf ask.files (walk_of ask.archive depth top t) r
+    pub one_answer : (t : Tree) → IsOneAnswer ask.archive MayAnswer t →
+        (depth : ℕ) → capacity ≤ depth → IsReportOf ask.files (walk_of ask.archive depth top t) r
 
   -- such rows, Broken ones allowed, of which one's listing has an entry that is too deep
   pub record IsTooDeepSomewhere : Type 0 where

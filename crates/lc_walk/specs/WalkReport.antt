@@ -3,10 +3,12 @@ use Rattle.std.specs.Prelude.{◌≡◌, ℕ, Bool, cond, List, [], ◌∷◌, l
 use Rattle.std.specs.List.Sorted.{IsPermutation, IsSortedByKey}
 use Rattle.lc_walk.specs.Extension.{extension_of}
 use Rattle.lc_walk.specs.Tally.{CountedFile, counted, sums_of_files, IsTally}
-use Rattle.lc_walk.specs.ReportLines.{FileLineModel, FaultLineModel, path_cmp}
+use Rattle.lc_walk.specs.ReportLines.{FileLineModel}
+use Rattle.lc_level.specs.FaultLines.{FaultLineModel}
+use Rattle.lc_tree.specs.ByteOrder.{bytes_cmp}
 use Rattle.lc_walk.specs.declared.report.Report.{Report}
 use Rattle.lc_glob.specs.Path.{path_in}
-use Rattle.lc_walk.specs.Level.{CountedModel}
+use Rattle.lc_level.specs.Level.{CountedModel}
 use Rattle.lc_walk.specs.Found.{Found, found_file, found_fault, found_directory}
 
 -- what the tally needs of a counted file, and its line
@@ -55,9 +57,9 @@ pub record IsReportOf (files : Bool) (xs : List Found) (r : Report) : Type 0 whe
   pub totals : r.totals ≡ sums_of_files (tallied_of xs)
   pub directories : r.directories ≡ length (directories_of xs)
   pub files_are : IsPermutation (cond files (files_of xs) []) r.files.items
-  pub file_order : IsSortedByKey (λ (f : FileLineModel). f.path) path_cmp r.files.items
+  pub file_order : IsSortedByKey (λ (f : FileLineModel). f.path) bytes_cmp r.files.items
   pub faults_are : IsPermutation (faults_of xs) r.faults.items
-  pub fault_order : IsSortedByKey (λ (f : FaultLineModel). f.path) path_cmp r.faults.items
+  pub fault_order : IsSortedByKey (λ (f : FaultLineModel). f.path) bytes_cmp r.faults.items
 
 -- it tells nothing of the order in which things were found
 abbrev pub ReportLaw : Type 0

@@ -5,8 +5,8 @@ use Rattle.lc_board.specs.Numbers.{HasNumbers}
 use Rattle.lc_board.specs.RowsInPlace.{InPlace}
 use Rattle.lc_board.specs.declared.event.Event.{Event}
 use Rattle.lc_board.specs.declared.answers.Ended.{Ended}
-use Rattle.lc_walk.specs.Answers.{Answers}
-use Rattle.lc_walk.specs.Job.{JobModel}
+use Rattle.lc_level.specs.Answers.{Answers}
+use Rattle.lc_level.specs.Job.{JobModel}
 use Rattle.lc_walk.specs.Found.{Found, found_at}
 use Rattle.lc_walk.specs.Rows.{row_of, job_of, IsWhole}
 use Rattle.lc_walk.specs.Lawful.{Asked, IsLawful}
@@ -14,7 +14,8 @@ use Rattle.lc_walk.specs.TreeOfRows.{numbers_below}
 use Rattle.lc_walk.specs.declared.row.Row.{Row}
 
 -- a legal history that is over, with rows in place that are lawful with these answers
-pub record Walked (ask : Asked) (full : Bool) (capacity workers : ℕ) (top : JobModel) (h : List (Event JobModel Row)) (rows : List (Ended Row)) (answers : ℕ → Answers) : Type 0 where
+pub record Walked (ask : Asked) (full : Bool) (capacity workers : ℕ) (top : JobModel)
+    (h : List (Event JobModel Row)) (rows : List (Ended Row)) (answers : ℕ → Answers) : Type 0 where
   pub room : 1 ≤ capacity
   pub legal : IsLegal capacity workers h
   pub over : IsOver h

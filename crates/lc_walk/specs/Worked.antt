@@ -1,5 +1,5 @@
 -- What a worker leaves.
-use Rattle.std.specs.Prelude.{◌⊎◌, ◌≡◌, ℕ, ◌≤◌, ◌^◌, ◌+◌, Bool, List, [], ◌∷◌, ◌++◌, Option, Some, None, map, flat_map, length, slice_get}
+use Rattle.std.specs.Prelude.{◌⊎◌, ◌≡◌, ℕ, Bool, List, [], ◌∷◌, ◌++◌, Option, Some, None, map, flat_map, length, slice_get}
 use Rattle.lc_board.specs.Pass.{Pass}
 use Rattle.lc_board.specs.declared.event.Event.{Event}
 use Rattle.lc_board.specs.declared.event.Event.TheVariants.{Post, Claim, Return, Fault, Over}
@@ -7,14 +7,15 @@ use Rattle.lc_board.specs.declared.answers.Ended.{Ended}
 use Rattle.lc_board.specs.declared.answers.Ended.TheVariants as ended
 use Rattle.lc_walk.specs.Tally.{TallyModel, CountedFile, StandsFor}
 use Rattle.lc_board.specs.Holding.{job_held, posts_held}
-use Rattle.lc_walk.specs.Answers.{Answers}
-use Rattle.lc_walk.specs.Job.{JobModel}
+use Rattle.lc_level.specs.Answers.{Answers}
+use Rattle.lc_level.specs.Job.{JobModel}
 use Rattle.lc_walk.specs.Rows.{row_of, job_of}
-use Rattle.lc_walk.specs.Lawful.{Asked, Says, IsTidy, files_at}
+use Rattle.lc_walk.specs.Lawful.{Asked, Says, files_at}
+use Rattle.lc_level.specs.Tidy.{IsTidy}
 use Rattle.lc_walk.specs.TreeOfRows.{numbers_below}
 use Rattle.lc_walk.specs.WalkReport.{tallied}
 use Rattle.lc_walk.specs.Assembled.{IsBrokenBy}
-use Rattle.lc_walk.specs.declared.row.Cause.TheVariants.{Memory}
+use Rattle.lc_level.specs.declared.cause.Cause.TheVariants.{Memory}
 use Rattle.lc_walk.specs.declared.row.Row.{Row}
 use Rattle.lc_walk.specs.declared.row.Row.TheVariants.{Listed, Faulted, Broken}
 
@@ -24,13 +25,18 @@ returned_files ask (Listed r) a = map tallied (files_at ask.archive r.job a)
 returned_files ask (Faulted r) a = []
 returned_files ask (Broken r) a = []
 
+-- a tree may give these answers for the directory of a row; of one that was given up for want of memory it may have been asked nothing
+abbrev pub MayStand : (List ℕ → Answers → Type 0) → Row → Answers → Type 0
+MayStand MayAnswer r a = IsBrokenBy Memory r ⊎ MayAnswer (job_of r).path a
+
 -- a row is lawful with these answers for the claim that it ends, and the tree may give them. It speaks of that claim alone: until
 -- the board is closed nothing says that no number is got twice
-pub record IsLawfulEnd (ask : Asked) (full : Bool) (MayAnswer : List ℕ → Answers → Type 0) (m : List (Event JobModel Row)) (e : Ended Row) (a : Answers) : Type 0 where
+pub record IsLawfulEnd (ask : Asked) (full : Bool) (MayAnswer : List ℕ → Answers → Type 0)
+    (m : List (Event JobModel Row)) (e : Ended Row) (a : Answers) : Type 0 where
   pub job_is : job_held m ≡ Some (job_of (row_of e))
   pub tidy : IsTidy a
   pub says : Says ask full e a (posts_held m)
-  pub may : MayAnswer (job_of (row_of e)).path a
+  pub may : MayStand MayAnswer (row_of e) a
 
 -- each row that some events gave is lawful with its answers: one for each row, the newest first
 abbrev pub AreLawful : Asked → Bool → (List ℕ → Answers → Type 0) → List (Event JobModel Row) → List Answers → Type 0
@@ -39,9 +45,11 @@ AreLawful ask full MayAnswer [] (a ∷ given) = ⊥
 AreLawful ask full MayAnswer (Post w p i j ∷ m) given = AreLawful ask full MayAnswer m given
 AreLawful ask full MayAnswer (Claim w i j ∷ m) given = AreLawful ask full MayAnswer m given
 AreLawful ask full MayAnswer (Return w i r ∷ m) [] = ⊥
-AreLawful ask full MayAnswer (Return w i r ∷ m) (a ∷ given) = IsLawfulEnd ask full MayAnswer m (ended.Returned r) a × AreLawful ask full MayAnswer m given
+AreLawful ask full MayAnswer (Return w i r ∷ m) (a ∷ given) =
+    IsLawfulEnd ask full MayAnswer m (ended.Returned r) a × AreLawful ask full MayAnswer m given
 AreLawful ask full MayAnswer (Fault w i r ∷ m) [] = ⊥
-AreLawful ask full MayAnswer (Fault w i r ∷ m) (a ∷ given) = IsLawfulEnd ask full MayAnswer m (ended.Faulted r) a × AreLawful ask full MayAnswer m given
+AreLawful ask full MayAnswer (Fault w i r ∷ m) (a ∷ given) =
+    IsLawfulEnd ask full MayAnswer m (ended.Faulted r) a × AreLawful ask full MayAnswer m given
 AreLawful ask full MayAnswer (Over w ∷ m) given = AreLawful ask full MayAnswer m given
 
 -- the counted files of the rows that were returned as Listed, by these answers
@@ -54,14 +62,6 @@ files_given ask (Return w i r ∷ m) (a ∷ given) = returned_files ask r a ++ f
 files_given ask (Fault w i r ∷ m) [] = []
 files_given ask (Fault w i r ∷ m) (a ∷ given) = files_given ask m given
 files_given ask (Over w ∷ m) given = files_given ask m given
-
-abbrev pub returns_in : List (Event JobModel Row) → ℕ
-returns_in [] = 0
-returns_in (Post w p i j ∷ m) = returns_in m
-returns_in (Claim w i j ∷ m) = returns_in m
-returns_in (Return w i r ∷ m) = returns_in m + 1
-returns_in (Fault w i r ∷ m) = returns_in m
-returns_in (Over w ∷ m) = returns_in m
 
 -- a tally, where there is one, is that of these files
 abbrev pub TalliesFor : Option TallyModel → List CountedFile → Type 0
@@ -77,12 +77,18 @@ GaveUp (Return w i r ∷ m) = IsBrokenBy Memory r ⊎ GaveUp m
 GaveUp (Fault w i r ∷ m) = GaveUp m
 GaveUp (Over w ∷ m) = GaveUp m
 
--- each row that the pass gave is lawful with some answers that the tree may give, and the worker's tally is that of their files
-pub record HasWorked (ask : Asked) (MayAnswer : List ℕ → Answers → Type 0) (p : Pass JobModel Row) (tally : Option TallyModel) : Type 0 where
+-- from one pass to a later one of the same worker: what the worker has done since, each row of it lawful with some answers that the
+-- tree may give, and its tally, where it has one, which is that of the files of these rows
+pub record HasWorked (ask : Asked) (MayAnswer : List ℕ → Answers → Type 0)
+    (old new : Pass JobModel Row) (tally : Option TallyModel) : Type 0 where
+  pub worker : new.worker ≡ old.worker
+  pub since : List (Event JobModel Row)
+  pub mine : new.mine ≡ since ++ old.mine
   pub answers : List Answers
-  pub lawful : AreLawful ask p.full MayAnswer p.mine answers
-  pub tallied : returns_in p.mine ≤ 2 ^ 32 → TalliesFor tally (files_given ask p.mine answers)
-  pub untallied : tally ≡ None → GaveUp p.mine
+  pub lawful : (given : List Answers) → AreLawful ask old.full MayAnswer old.mine given
+      → AreLawful ask new.full MayAnswer new.mine (answers ++ given)
+  pub tallied : TalliesFor tally (files_given ask since answers)
+  pub untallied : tally ≡ None → GaveUp since
 
 -- the pass has found that the board is over
 abbrev pub HasEnded : Pass JobModel Row → Type 0

@@ -1,18 +1,18 @@
 //! The end of a walk over any shared board: the board is closed, and its rows are assembled.
 ghost use Rattle.std.specs.Prelude.{◌≡◌, ℕ, ◌≤◌, [], Some, slice_get, vec_len, map};
 ghost use Rattle.lc_walk.specs.Passes.{HaveWorked, asked};
-ghost use Rattle.lc_walk.specs.TreeAnswers.{MayAnswer};
+ghost use Rattle.lc_level.specs.TreeAnswers.{MayAnswer};
 ghost use Rattle.lc_walk.specs.WalkAnswers.{WalkAnswers};
 ghost use Rattle.lc_walk.specs.WalkOn.{fault_of_close};
-ghost use Rattle.lc_walk.specs.Job.{JobModel};
+ghost use Rattle.lc_level.specs.Job.{JobModel};
 
-use crate::job::Job;
 use crate::report::{Report, assemble};
 use crate::row::Row;
 use crate::tally::Tally;
-use crate::tree::Tree;
 use crate::walk_fault::WalkFault;
 use lc_board::{CloseFault, Shared};
+use lc_level::Job;
+use lc_tree::Tree;
 use std::alloc::Global;
 
 impl From<CloseFault> for WalkFault {
@@ -45,9 +45,11 @@ pub fn finish<B: Shared<Job, Row>, T: Tree>(
     requires top { (root : JobModel) × B.is_root board root × (root.path ≡ []) }
     requires all { vec_len passes ≡ B.workers_of board }
     requires each { (w : ℕ) (p : B.Pass) → slice_get passes.items w ≡ Some p → B.owns board p × ((B.Pass.view p).worker ≡ w) }
-    requires worked { HaveWorked (asked files archive) (MayAnswer (T.lists tree.now) (T.gives tree.now)) (map (λ p. B.Pass.view p) passes.items) tally }
+    requires worked { HaveWorked (asked files archive) (MayAnswer (T.lists tree.now) (T.gives tree.now))
+        (map (λ p. B.Pass.view p) passes.items) tally }
     ensures { (root : JobModel) → B.is_root board root → root.path ≡ [] →
-        WalkAnswers (MayAnswer (T.lists tree.entry.now) (T.gives tree.entry.now)) (asked files archive) (B.capacity_of board) (B.workers_of board) root B.promises result }
+        WalkAnswers (MayAnswer (T.lists tree.entry.now) (T.gives tree.entry.now)) (asked files archive)
+        (B.capacity_of board) (B.workers_of board) root B.promises result }
 {
     let _tree = tree;
     let _archive = archive;

@@ -1,6 +1,7 @@
 //! Laws of the definitions that the contracts cite. The functions do nothing: their contracts are what is proved.
 ghost use Rattle.std.specs.Prelude.{List};
 ghost use Rattle.std.specs.List.Sorted.{IsPermutation};
+ghost use Rattle.lc_walk.specs.CountedFiles.{FilesLaw};
 ghost use Rattle.lc_walk.specs.Examples.{ExamplesHold};
 ghost use Rattle.lc_walk.specs.Laws.{CoreLaw, NumbersLaw, OneAnswerLaw, PartLaw, PathsOnceLaw};
 ghost use Rattle.lc_walk.specs.Tally.{TallyModel, CountedFile, StandsFor};
@@ -26,6 +27,12 @@ pub fn rows_are_the_walk_of_one_tree()
 /// A row that is lawful in a worker's part is lawful in the whole history.
 pub fn lawful_in_part_is_lawful()
     ensures { PartLaw }
+{}
+
+/// Which files the recursive walk of a tree counts: those of directories to which names lead, of which each is listed without a
+/// fault and leaves in the next, where the rules of the last one leave the file in and its reading did not fail.
+pub fn counted_files_are_left_in()
+    ensures { FilesLaw }
 {}
 
 /// No path stands twice among the files, or among the faults, of a walk.

@@ -1,21 +1,21 @@
 //! The report of a walk.
 //!
-//! - `fault_word`, `report_lines`: what it says of a file and of a fault
+//! - `report_lines`: what it says of a file and of a fault
 //! - `assembly`, with `row_lines` and `tree_check`: the report that the rows of a closed board make
 ghost use Rattle.std.specs.Prelude.{◌≡◌, IfOk};
 ghost use Rattle.std.specs.List.Sorted.{IsPermutation, IsSortedByKey};
 ghost use Rattle.lc_walk.specs.Report.{IsReport};
-ghost use Rattle.lc_walk.specs.ReportLines.{FileLineModel, FaultLineModel, file_paths, fault_paths, path_cmp, AreApart, AreInOrder};
+ghost use Rattle.lc_walk.specs.ReportLines.{FileLineModel, file_paths, fault_paths};
+ghost use Rattle.lc_level.specs.FaultLines.{FaultLineModel};
+ghost use Rattle.lc_tree.specs.ByteOrder.{bytes_cmp, AreApart, AreInOrder};
 
 mod assembly;
-mod fault_word;
 mod report_lines;
 mod row_lines;
 mod tree_check;
 
 use crate::tally::{Sums, Tally, TallyRow};
 pub use assembly::assemble;
-pub use fault_word::FaultWord;
 pub use report_lines::{FaultLine, FileLine};
 use std::alloc::AllocError;
 
@@ -66,7 +66,7 @@ impl Report {
 
 fn sort_files(files: &mut Vec<FileLine>)
     ensures same { IsPermutation files.old.items files.new.items }
-    ensures order { IsSortedByKey (λ (f : FileLineModel). f.path) path_cmp files.new.items }
+    ensures order { IsSortedByKey (λ (f : FileLineModel). f.path) bytes_cmp files.new.items }
     ensures strict { AreApart (file_paths files.old.items) → AreInOrder (file_paths files.new.items) }
 {
     files.sort_unstable_by(|a, b| a.path.cmp(&b.path));
@@ -74,7 +74,7 @@ fn sort_files(files: &mut Vec<FileLine>)
 
 fn sort_faults(faults: &mut Vec<FaultLine>)
     ensures same { IsPermutation faults.old.items faults.new.items }
-    ensures order { IsSortedByKey (λ (f : FaultLineModel). f.path) path_cmp faults.new.items }
+    ensures order { IsSortedByKey (λ (f : FaultLineModel). f.path) bytes_cmp faults.new.items }
     ensures strict { AreApart (fault_paths faults.old.items) → AreInOrder (fault_paths faults.new.items) }
 {
     faults.sort_unstable_by(|a, b| a.path.cmp(&b.path));

@@ -1,44 +1,10 @@
 //! What a worker gives for a directory.
-use crate::job::Job;
-use crate::report::FaultWord;
-use lc_census::Count;
-use lc_rules::TextState;
+ghost use Rattle.std.specs.Prelude.{◌≡◌, IfOk, IfErr};
+
+use lc_level::{Cause, Counted, FileFault, Job, Place};
+use lc_tree::FaultWord;
+use std::alloc::Global;
 use std::marker::Model;
-
-mod place;
-
-pub use place::Place;
-
-/// A counted file of a directory.
-#[derive(Drop)]
-pub struct Counted {
-    pub name: Vec<u8>,
-    pub text: TextState,
-    pub count: Count,
-}
-
-impl Model for Counted {
-    ghost use Rattle.lc_walk.specs.Level.{CountedModel};
-
-    ghost Value = { CountedModel };
-
-    ghost view = { λ f. record { name = f.name.items; text = f.text; count = f.count } };
-}
-
-/// A file of a directory that was not counted.
-#[derive(Drop)]
-pub struct FileFault {
-    pub name: Vec<u8>,
-    pub word: FaultWord,
-}
-
-impl Model for FileFault {
-    ghost use Rattle.lc_walk.specs.Level.{FileFaultModel};
-
-    ghost Value = { FileFaultModel };
-
-    ghost view = { λ f. record { name = f.name.items; word = f.word } };
-}
 
 /// A posted child directory.
 #[derive(Drop)]
@@ -55,21 +21,89 @@ impl Model for Child {
     ghost view = { λ c. record { name = c.name.items; number = c.number } };
 }
 
-/// A directory that was listed.
 #[derive(Drop)]
-pub struct ListedRow {
-    pub job: Job,
-    pub files: Vec<Counted>,
-    pub faults: Vec<FileFault>,
-    pub children: Vec<Child>,
+struct ListedParts {
+    job: Job,
+    files: Vec<Counted>,
+    faults: Vec<FileFault>,
+    children: Vec<Child>,
 }
 
-impl Model for ListedRow {
+impl Model for ListedParts {
     ghost use Rattle.lc_walk.specs.RowViews.{ListedRowModel};
 
     ghost Value = { ListedRowModel };
 
     ghost view = { λ r. record { job = r.job; files = r.files.items; faults = r.faults.items; children = r.children.items } };
+}
+
+/// A directory that was listed. It is one word long, so that a board takes little room for a row.
+#[derive(Drop)]
+pub struct ListedRow {
+    parts: Box<ListedParts, Global>,
+}
+
+impl Model for ListedRow {
+    ghost use Rattle.std.specs.Box.{box_value};
+    ghost use Rattle.lc_walk.specs.RowViews.{ListedRowModel};
+
+    ghost Value = { ListedRowModel };
+
+    ghost view = { λ r. box_value r.parts };
+}
+
+impl ListedRow {
+    /// The row of a directory, with its counted files where the report is to have them, the files that were not counted,
+    /// and the posted child directories. Where memory is refused the job comes back.
+    pub fn new(
+        alloc: Global,
+        job: Job,
+        files: Vec<Counted>,
+        faults: Vec<FileFault>,
+        children: Vec<Child>,
+    ) -> Result<ListedRow, Job>
+        ensures row { IfOk result (λ r. r ≡ record { job = job; files = files.items; faults = faults.items; children = children.items }) }
+        ensures job { IfErr result (λ j. j ≡ job) }
+    {
+        let parts = ListedParts {
+            job,
+            files,
+            faults,
+            children,
+        };
+        match Box::new(alloc, parts) {
+            Ok(parts) => Ok(ListedRow { parts }),
+            Err(refused) => Err(refused.value.job),
+        }
+    }
+
+    /// The directory.
+    pub fn job(&self) -> &Job
+        ensures { result.now ≡ self.now.job }
+    {
+        &self.parts.job
+    }
+
+    /// The counted files, in the order of their names, where the report is to have them.
+    pub fn files(&self) -> &[Counted]
+        ensures { result.now ≡ self.now.files }
+    {
+        &self.parts.files
+    }
+
+    /// The files that were not counted, in the order of their names.
+    pub fn faults(&self) -> &[FileFault]
+        ensures { result.now ≡ self.now.faults }
+    {
+        &self.parts.faults
+    }
+
+    /// The posted child directories, in the order of their names.
+    pub fn children(&self) -> &[Child]
+        ensures { result.now ≡ self.now.children }
+    {
+        &self.parts.children
+    }
 }
 
 /// A directory at fault.
@@ -78,14 +112,6 @@ pub struct FaultedRow {
     pub job: Job,
     pub place: Place,
     pub word: FaultWord,
-}
-
-/// Why a directory was given up.
-#[derive(Clone, Copy, PartialEq, Eq, Debug, Drop)]
-pub enum Cause {
-    Memory,
-    TooManyDirs,
-    TooDeep,
 }
 
 /// A directory that was given up.

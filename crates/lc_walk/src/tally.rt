@@ -3,7 +3,8 @@
 //! - `extensions`: the extension of a file's name
 //! - `key`, `sums`, `tally_row`: a row for each key, with its sums
 //! - `row_hints`: where a key's row stood last
-ghost use Rattle.std.specs.Prelude.{◌≡◌, ◌+◌, ◌<◌, ◌≤◌, ◌^◌, List, [], ◌∷◌, ◌++◌, length, IfOk, IsOk, IsTrue, OnOk, OnErr, MatchResult, option_map};
+ghost use Rattle.std.specs.Prelude.{◌≡◌, ◌+◌, ◌<◌, ◌≤◌, ◌^◌, List, [], ◌∷◌, ◌++◌, length, IfOk, IsOk, IsTrue, OnOk, OnErr};
+ghost use Rattle.std.specs.Prelude.{MatchResult, option_map};
 ghost use Rattle.lc_walk.specs.TallyRows.{IsInOrder, IsPlaceFor, has_row, sums_of_rows};
 ghost use Rattle.lc_walk.specs.Sums.{plus, IsModest, HasRoom};
 ghost use Rattle.lc_walk.specs.Tally.{StandsFor, CountedFile, IsTally, Gains, Grows, counted, key_of};
@@ -24,6 +25,9 @@ use std::cmp::Ordering;
 use std::marker::Model;
 pub use sums::Sums;
 pub use tally_row::TallyRow;
+
+/// The most files of a tally. A walk has fewer than 2^40, so none is ever full: workers test for it in place of a sum over all rows.
+pub(crate) const MOST_FILES: u64 = 1 << 63;
 
 /// The tally of the files counted so far.
 ///

@@ -1,7 +1,9 @@
-//! What listings, extensions, tallies and reports say of values from outside, and that each call can succeed.
+//! What extensions, tallies and reports say of values from outside, and that each call can succeed.
 
+mod gate;
 mod keys;
-mod listings;
 mod names;
 mod reports;
 mod tallies;
+mod walked;
+mod walks;

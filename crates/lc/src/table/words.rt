@@ -5,7 +5,7 @@ ghost use Rattle.lc.specs.TableText.{eol_word, text_word, fault_word};
 
 use lc_census::Eol;
 use lc_rules::TextState;
-use lc_walk::FaultWord;
+use lc_tree::FaultWord;
 
 pub(super) fn eol_word(eol: Eol) -> &'static str
     ensures { result.now ≡ eol_word eol }

@@ -2,88 +2,133 @@
 
 use crate::program::program;
 use std::alloc::AllocError;
+use std::process::Abort;
+use std::rt::Files;
+use std::sync::Wait;
 use std::test::Fail;
+use std::thread::Threads;
 
-/// Words, input, and the status, output and errors that are wanted.
-type Case = (
-    &'static [&'static str],
-    &'static [u8],
-    u8,
-    &'static [u8],
-    &'static [u8],
-);
+/// What is shown, words, and the output that is wanted for the lines `a`, `--`, `a`.
+type Answered = (&'static str, &'static [&'static str], &'static [u8]);
 
-const CASES: &[Case] = &[
-    (&[], b"a\n--\na\n", 0, b"ignored\ta\n", b""),
-    (&["check", "/dev/null"], b"a\n", 0, b"none\ta\n", b""),
+const ANSWERED: &[Answered] = &[
+    ("no_words", &[], b"ignored\ta\n"),
+    ("dashes_alone", &["--"], b"ignored\ta\n"),
     (
-        &["check", "/no/such/file"],
-        b"a\n",
-        3,
-        b"",
-        b"lc: cannot read rules\n",
-    ),
-    // A directory, and a file whose reads fail.
-    (&["check", "/"], b"a\n", 3, b"", b"lc: cannot read rules\n"),
-    (
-        &["check", "/proc/self/mem"],
-        b"a\n",
-        3,
-        b"",
-        b"lc: cannot read rules\n",
-    ),
-    (
-        &["check", "/dev/zero"],
-        b"a\n",
-        3,
-        b"",
-        b"lc: rules too long\n",
+        "file_of_no_rules",
+        &["check", "/dev/null"],
+        b"none\ta\nnone\t--\nnone\ta\n",
     ),
 ];
 
+/// What is shown, words, and the line on standard error that is wanted.
+type GivenUp = (&'static str, &'static [&'static str], &'static [u8]);
+
+const UNREAD: &[u8] = b"lc: cannot read rules\n";
+
+const TOO_LONG: &[u8] = b"lc: rules too long\n";
+
+const GIVEN_UP: &[GivenUp] = &[
+    ("missing_file", &["check", "/no/such/file"], UNREAD),
+    ("directory_as_file", &["check", "/"], UNREAD),
+    ("reads_that_fail", &["check", "/proc/self/mem"], UNREAD),
+    ("file_without_end", &["check", "/dev/zero"], TOO_LONG),
+    (
+        "count_with_a_missing_file",
+        &["count", "--exclude-from", "/no/such/file", "/"],
+        UNREAD,
+    ),
+    (
+        "count_with_a_file_without_end",
+        &["count", "--exclude-from=/dev/zero", "/"],
+        TOO_LONG,
+    ),
+];
+
+/// Runs the program, and compares its status, its output and its errors.
+fn compare<R: Files + Threads + Wait + Sync + AllocGlobal + Abort>(
+    rt: &R,
+    name: &str,
+    words: &[&str],
+    wanted: (u8, &[u8], &[u8]),
+) -> Result<(), Fail>
+where
+    R::File: Send,
+    R::Dir: Send,
+{
+    let (status, text, errors) = wanted;
+    let mut input: &[u8] = b"a\n--\na\n";
+    let mut out = Vec::with_capacity(rt.alloc(), text.len())?;
+    let mut err = Vec::with_capacity(rt.alloc(), 64)?;
+    let found = program(rt, words, &mut input, &mut out, &mut err);
+    if err.as_slice() == b"lc: out of memory\n".as_slice() {
+        assert!(rt; found == 3 && out.is_empty(), "{name}");
+        return Err(AllocError.into());
+    }
+    assert!(rt; found == status, "{name}");
+    assert!(rt; out.as_slice() == text, "{name}");
+    assert!(rt; err.as_slice() == errors, "{name}");
+    Ok(())
+}
+
 #[test]
-fn statuses(rt: HostRuntime) -> Result<(), Fail> {
-    for (words, bytes, status, text, errors) in CASES {
-        let mut input: &[u8] = bytes;
-        let mut out = Vec::with_capacity(rt.alloc(), text.len())?;
-        let mut err = Vec::with_capacity(rt.alloc(), 64)?;
-        let found = program(&rt, words, &mut input, &mut out, &mut err);
-        if err.as_slice() == b"lc: out of memory\n".as_slice() {
-            assert!(rt; found == 3 && out.is_empty());
-            return Err(AllocError.into());
-        }
-        assert!(rt; found == *status);
-        assert!(rt; out.as_slice() == *text);
-        assert!(rt; err.as_slice() == *errors);
+fn checks_that_are_answered(rt: HostRuntime) -> Result<(), Fail> {
+    for (name, words, text) in ANSWERED {
+        compare(&rt, name, words, (0, text, b""))?;
     }
     Ok(())
 }
 
-/// Words that want a text on standard output, or are refused with one on standard error.
-const TEXTS: &[(&[&str], u8)] = &[
-    (&["--help"], 0),
-    (&["check", "--help"], 0),
-    (&["--version"], 0),
-    (&["check"], 2),
-    (&["check", "/dev/null", "b"], 2),
-    (&["count", "."], 2),
-    (&["--no-such-option"], 2),
+#[test]
+fn causes(rt: HostRuntime) -> Result<(), Fail> {
+    for (name, words, line) in GIVEN_UP {
+        compare(&rt, name, words, (3, b"", line))?;
+    }
+    Ok(())
+}
+
+/// Words that want a text on standard output, or are refused with one on standard error, and a part of that text.
+const TEXTS: &[(&[&str], u8, &str)] = &[
+    (&["--help"], 0, "Usage: lc [COMMAND]"),
+    (&["check", "--help"], 0, "Usage: lc check <FILE>"),
+    (&["count", "--help"], 0, "Usage: lc count [OPTIONS] <DIR>"),
+    (&["help", "count"], 0, "Usage: lc count [OPTIONS] <DIR>"),
+    (&["--version"], 0, "lc 0.1.0"),
+    (&["check"], 2, "<FILE>"),
+    (&["check", "/dev/null", "b"], 2, "unexpected argument 'b'"),
+    (&["count"], 2, "<DIR>"),
+    (&["count"], 2, "Example: lc count ."),
+    (&["count", "a", "b"], 2, "unexpected argument 'b'"),
+    (&["count", "--threads", "0", "."], 2, "1..=16"),
+    (&["count", "--threads", "17", "."], 2, "1..=16"),
+    (&["count", "--threads", "x", "."], 2, "invalid value 'x'"),
+    (&["count", "--max-dirs", "0", "."], 2, "1..=1048576"),
+    (&["count", "--max-dirs", "1048577", "."], 2, "1..=1048576"),
+    (&["count", "--no-such-option", "."], 2, "--no-such-option"),
+    (&["--no-such-option"], 2, "--no-such-option"),
+    (&["no-such-command"], 2, "no-such-command"),
 ];
 
 #[test]
 fn help_and_refused_words(rt: HostRuntime) -> Result<(), Fail> {
-    for (words, status) in TEXTS {
+    for (words, status, part) in TEXTS {
         let mut input: &[u8] = b"a\n";
-        let mut out = Vec::with_capacity(rt.alloc(), 4_096)?;
-        let mut err = Vec::with_capacity(rt.alloc(), 4_096)?;
+        let mut out = Vec::with_capacity(rt.alloc(), 8_192)?;
+        let mut err = Vec::with_capacity(rt.alloc(), 8_192)?;
         let found = program(&rt, words, &mut input, &mut out, &mut err);
         if err.as_slice() == b"lc: out of memory\n".as_slice() {
-            assert!(rt; found == 3 && out.is_empty());
+            assert!(rt; found == 3 && out.is_empty(), "{words:?}");
             return Err(AllocError.into());
         }
-        assert!(rt; found == *status);
-        assert!(rt; out.is_empty() == (*status == 2) && err.is_empty() == (*status == 0));
-        assert!(rt; input == b"a\n".as_slice());
+        assert!(rt; found == *status, "{words:?}");
+        let (text, silent) = if *status == 0 {
+            (&out, &err)
+        } else {
+            (&err, &out)
+        };
+        let shown = str::from_utf8(text).is_ok_and(|text| text.contains(*part));
+        assert!(rt; shown && silent.is_empty(), "{words:?}: {part}");
+        assert!(rt; input == b"a\n".as_slice(), "{words:?}");
     }
     Ok(())
 }

@@ -6,7 +6,8 @@ use crate::table::text::table_text;
 use crate::tests::narrow::Narrow;
 use lc_census::{Count, Eol, Failed};
 use lc_rules::TextState;
-use lc_walk::{FaultLine, FaultWord, FileLine, Report, Sums, TallyRow};
+use lc_tree::FaultWord;
+use lc_walk::{FaultLine, FileLine, Report, Sums, TallyRow};
 use std::alloc::{AllocError, Global};
 use std::test::Fail;
 

@@ -1,12 +1,16 @@
 //! What lies under the lock: a board of one thread beside the history of its events.
 ghost use Rattle.std.specs.Prelude.{◌≡◌, ℕ, ◌≤◌, [], IfOk, IfErr, MatchBool, map, length};
-ghost use Rattle.lc_board.specs.PlainBoard.{first_board, IsFull};
-ghost use Rattle.lc_board.specs.RecordedCalls.{Holds, MayFault, RecordsClaim, RecordsPost, RecordsEnd, RefusesRecorded, locked_promises};
+ghost use Rattle.lc_board.specs.LockedBoard.{told};
+ghost use Rattle.lc_board.specs.Bare.{bare};
+ghost use Rattle.lc_board.specs.Ending.{MayEnd, end_event};
+ghost use Rattle.lc_board.specs.PlainBoard.{first_board, posts_by, IsFull};
+ghost use Rattle.lc_board.specs.RecordedCalls.{Holds, MayFault, Records, RefusesRecorded, locked_promises};
+ghost use Rattle.lc_board.specs.RecordedCalls.{RecordsClaim, RecordsPost, RecordsEnd};
 ghost use Rattle.lc_board.specs.ClosedBoard.{Settled, RefusesClose};
 ghost use Rattle.lc_board.specs.declared.event.Event.TheVariants.{Return, Fault};
 ghost use Rattle.lc_board.specs.Limits.{capacity_limit, workers_limit};
 
-use crate::answers::{Claim, CloseFault, Closed, PostFault};
+use crate::answers::{Claim, CloseFault, Closed, Ended, PostFault};
 use crate::event::{BareEvent, Event};
 use crate::locked::compare::first_mismatch;
 use crate::locked::pass::LockedPass;
@@ -117,12 +121,7 @@ impl<J: Drop, R: Drop> Recorded<J, R> {
         if !self.holds(worker, number) {
             return false;
         }
-        self.plain.give(worker, row);
-        self.history.push_reserved(Event::Return {
-            worker,
-            number,
-            row: (),
-        });
+        self.end(worker, number, Ended::Returned(row));
         true
     }
 
@@ -133,13 +132,37 @@ impl<J: Drop, R: Drop> Recorded<J, R> {
         if !self.holds(worker, number) || self.plain.posts_by(worker) != 0 {
             return false;
         }
-        self.plain.fault(worker, row);
-        self.history.push_reserved(Event::Fault {
-            worker,
-            number,
-            row: (),
-        });
+        self.end(worker, number, Ended::Faulted(row));
         true
+    }
+
+    /// The event by which the worker ends its claim, without the row.
+    fn event_of_end(worker: u32, number: u32, ended: &Ended<R>) -> BareEvent
+        ensures { result ≡ bare {J = J} {R = R} (end_event worker number ended.now) }
+    {
+        match ended {
+            Ended::Returned(_) => Event::Return {
+                worker,
+                number,
+                row: (),
+            },
+            Ended::Faulted(_) => Event::Fault {
+                worker,
+                number,
+                row: (),
+            },
+        }
+    }
+
+    /// Ends the claim that the worker has of the number.
+    fn end(&mut self, worker: u32, number: u32, ended: Ended<R>)
+        requires holds { Holds worker number self.old.board }
+        requires may { MayEnd (posts_by self.old.board worker) ended }
+        ensures { Records self.old (end_event worker number ended) self.new }
+    {
+        let event = Recorded::<J, R>::event_of_end(worker, number, &ended);
+        self.plain.end(worker, ended);
+        self.history.push_reserved(event);
     }
 
     /// The worker is one of the board's, and has claimed this number.
@@ -159,9 +182,10 @@ impl<J: Drop, R: Drop> Recorded<J, R> {
     ) -> Result<Closed<R>, CloseFault>
         requires workers { workers ≤ workers_limit }
         requires all { length passes.now ≡ workers }
-        ensures settled { IfOk result (λ c. (root : J) → Settled capacity workers root locked_promises (map ⟦<LockedPass<J, R> as Token<J, R>>⟧.view passes.now) c.rows.items) }
-        ensures fault { IfErr result (RefusesClose capacity workers locked_promises (map ⟦<LockedPass<J, R> as Token<J, R>>⟧.view passes.now)) }
-        ensures refused { IfErr result (RefusesRecorded self capacity workers (map ⟦<LockedPass<J, R> as Token<J, R>>⟧.view passes.now)) }
+        ensures settled { IfOk result
+            (λ c. (root : J) → Settled capacity workers root locked_promises (map told passes.now) c.rows.items) }
+        ensures fault { IfErr result (RefusesClose capacity workers locked_promises (map told passes.now)) }
+        ensures refused { IfErr result (RefusesRecorded self capacity workers (map told passes.now)) }
     {
         let Recorded { plain, history } = self;
         if plain.capacity() != capacity || plain.workers() != workers {

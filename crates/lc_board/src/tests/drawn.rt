@@ -2,16 +2,14 @@
 ghost use Rattle.std.specs.Prelude.{◌≡◌, ◌<◌, ℕ, Some, IsSome};
 ghost use Rattle.lc_board.specs.WordsBoard.{Owns};
 
-use crate::answers::{CloseFault, Ended};
+use crate::answers::Ended;
 use crate::shared::{Shared, Token};
-use crate::tests::script::{Call, ROOT, Told};
+use crate::tests::script::{Call, ROOT, Told, has_rows};
 use crate::tests::shared_scripts::tell;
 use crate::words::Words;
-use crate::words::coding::{ABSENT, OPEN, drawn_by};
 use crate::words::pass::WordsPass;
-use crate::words::rule::{Draw, Open};
 use crate::words::view::Slot;
-use std::alloc::{AllocError, Global};
+use std::alloc::Global;
 use std::sync::Wait;
 use std::test::Fail;
 
@@ -30,22 +28,16 @@ fn post_slowly<W: Wait>(
     ensures board { Owns board.now pass.new × Owns board.now other.new }
     ensures workers { (pass.new.worker ≡ pass.old.worker) × (other.new.worker ≡ other.old.worker) }
 {
-    let shared = &board.table.shared;
     let number = pass.front;
-    let word = number as usize;
-    let new = drawn_by(pass.worker);
-    let found = shared.compare_exchange::<Draw>(&mut pass.seat, word, ABSENT, new);
+    let is_drawn = board.draw(&mut pass.seat, number, pass.worker);
     pass.front = number + 1;
-    if found != ABSENT {
+    if !is_drawn {
         return [Told::OutOfTurn, Told::OutOfTurn];
     }
     let drawn = tell(rt, board, other, calls[0]);
-    match shared.exchange(&mut pass.seat, word, Slot::Job(job)) {
-        Slot::Empty => {}
-        _ => unreachable!(),
-    }
+    board.fill(&mut pass.seat, number, Slot::Job(job));
     let filled = tell(rt, board, other, calls[1]);
-    shared.swap::<Open>(&mut pass.seat, word, OPEN);
+    board.open_drawn(&mut pass.seat, number);
     pass.posted += 1;
     [drawn, filled]
 }
@@ -81,10 +73,6 @@ fn a_drawn_number_is_not_open(rt: HostRuntime) -> Result<(), Fail> {
         Ended::Returned(11),
         Ended::Returned(12),
     ];
-    match board.close(passes) {
-        Ok(closed) => assert_eq!(&rt; closed.rows.as_slice(), rows.as_slice()),
-        Err(CloseFault::Memory) => return Err(AllocError.into()),
-        Err(fault) => assert!(&rt; false, "{fault:?}"),
-    }
+    has_rows(&rt, board.close(passes), &rows)?;
     Ok(())
 }

@@ -137,9 +137,12 @@ fn work_all<B: Shared<Job, Row>, R: Threads + Wait + Sync>(
     board: &B,
     passes: Vec<B::Pass>,
 ) -> Result<Vec<B::Pass>, AllocError>
-    requires { (i : ℕ) (p : _) → i < vec_len passes → p ≡ slice_index_or passes.items i p → B.owns board.now p × (holding (B.Pass.view p) ≡ None) }
+    requires { (i : ℕ) (p : _) → i < vec_len passes → p ≡ slice_index_or passes.items i p
+        → B.owns board.now p × (holding (B.Pass.view p) ≡ None) }
     ensures len { IfOk result (λ v. vec_len v ≡ vec_len passes) }
-    ensures each { IfOk result (λ v. (i : ℕ) (p : _) (q : _) → i < vec_len passes → B.owns board.now (slice_index_or v.items i q) × ((B.Pass.view (slice_index_or v.items i q)).worker ≡ (B.Pass.view (slice_index_or passes.items i p)).worker)) }
+    ensures each { IfOk result (λ v. (i : ℕ) (p : _) (q : _) → i < vec_len passes
+        → B.owns board.now (slice_index_or v.items i q)
+        × ((B.Pass.view (slice_index_or v.items i q)).worker ≡ (B.Pass.view (slice_index_or passes.items i p)).worker)) }
 {
     let run = |pass: B::Pass| -> B::Pass
         requires { B.owns board.now pass × (holding (B.Pass.view pass) ≡ None) }

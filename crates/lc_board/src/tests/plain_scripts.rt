@@ -5,7 +5,9 @@ ghost use Rattle.lc_board.specs.Limits.{capacity_limit, workers_limit};
 
 use crate::answers::{CloseFault, Closed, Ended};
 use crate::plain::Plain;
-use crate::tests::script::{Call, FAULT, FULL, OWN_POST, ROOT, TWO_WORKERS, Told};
+use crate::tests::script::{
+    Call, FAULT, FULL, OWN_POST, ROOT, TWO_WORKERS, Told, answers, has_rows,
+};
 use std::alloc::{AllocError, Global};
 use std::process::Abort;
 use std::test::Fail;
@@ -21,32 +23,17 @@ fn tell(board: &mut Plain<u32, u32>, call: Call) -> Told
     }
     let held = board.held_by(worker).is_some();
     match call {
-        Call::Claim(_) => {
-            if held {
-                return Told::OutOfTurn;
-            }
-            Told::from(board.claim(worker))
-        }
-        Call::Post(_, job) => {
-            if !held {
-                return Told::OutOfTurn;
-            }
-            Told::from(board.post(worker, job))
-        }
-        Call::Give(_, row) => {
-            if !held {
-                return Told::OutOfTurn;
-            }
+        Call::Claim(_) if !held => Told::from(board.claim(worker)),
+        Call::Post(_, job) if held => Told::from(board.post(worker, job)),
+        Call::Give(_, row) if held => {
             board.give(worker, row);
             Told::Done
         }
-        Call::Fault(_, row) => {
-            if !held || board.posts_by(worker) != 0 {
-                return Told::OutOfTurn;
-            }
+        Call::Fault(_, row) if held && board.posts_by(worker) == 0 => {
             board.fault(worker, row);
             Told::Done
         }
+        _ => Told::OutOfTurn,
     }
 }
 
@@ -64,48 +51,19 @@ fn run<R: Abort>(
     let mut board = Plain::<u32, u32>::start(alloc, capacity, workers, ROOT)?;
     assert!(rt; !board.is_over());
     for (call, told) in script {
-        match tell(&mut board, *call) {
-            Told::NoPost(_) => return Err(AllocError),
-            answer => assert_eq!(rt; answer, *told),
-        }
+        answers(rt, tell(&mut board, *call), *told)?;
         assert_eq!(rt; board.is_over(), board.first_left().is_none());
     }
     Ok(board.into_rows(alloc))
 }
 
-/// The script ends with these rows.
-fn ends_with<R: Abort>(
-    rt: &R,
-    alloc: Global,
-    capacity: u32,
-    workers: u32,
-    script: &[(Call, Told)],
-    rows: &[Ended<u32>],
-) -> Result<(), AllocError>
-    requires capacity { (1 ≤ capacity) × (capacity ≤ capacity_limit) }
-    requires workers { (1 ≤ workers) × (workers ≤ workers_limit) }
-{
-    match run(rt, alloc, capacity, workers, script)? {
-        Ok(closed) => assert_eq!(rt; closed.rows.as_slice(), rows),
-        Err(CloseFault::Memory) => return Err(AllocError),
-        Err(fault) => assert!(rt; false, "{fault:?}"),
-    }
-    Ok(())
-}
-
 #[test]
 fn scripts_on_plain(rt: HostRuntime) -> Result<(), Fail> {
     let alloc: Global = rt.alloc();
-    ends_with(
-        &rt,
-        alloc,
-        2,
-        2,
-        &TWO_WORKERS,
-        &[Ended::Returned(10), Ended::Returned(11)],
-    )?;
-    ends_with(&rt, alloc, 1, 1, &FULL, &[Ended::Returned(10)])?;
-    ends_with(&rt, alloc, 1, 1, &FAULT, &[Ended::Faulted(10)])?;
+    let rows = [Ended::Returned(10), Ended::Returned(11)];
+    has_rows(&rt, run(&rt, alloc, 2, 2, &TWO_WORKERS)?, &rows)?;
+    has_rows(&rt, run(&rt, alloc, 1, 1, &FULL)?, &[Ended::Returned(10)])?;
+    has_rows(&rt, run(&rt, alloc, 1, 1, &FAULT)?, &[Ended::Faulted(10)])?;
     let unfinished = run(&rt, alloc, 2, 1, &OWN_POST)?;
     assert_eq!(rt; unfinished, Err(CloseFault::Unfinished(1)));
     Ok(())

@@ -9,7 +9,7 @@ use crate::shared::{Shared, Token};
 use crate::tests::script::{Call, ROOT, Told};
 use crate::tests::shared_scripts::tell;
 use crate::words::Words;
-use crate::words::coding::{ABSENT, OPEN};
+use crate::words::coding::Word;
 use crate::words::pass::WordsPass;
 use std::alloc::{AllocError, Global};
 use std::process::Abort;
@@ -121,12 +121,13 @@ impl Claims<Words<u32, u32>> for InSteps {
             }
             return Ok(());
         }
-        let found = board.look(pass, number);
-        memory.is_open = found == OPEN;
-        if found == OPEN {
-            memory.number = number;
-        } else if found != ABSENT {
-            memory.number = number + 1;
+        match board.look(pass, number) {
+            Word::Absent => {}
+            Word::Open => {
+                memory.is_open = true;
+                memory.number = number;
+            }
+            _ => memory.number = number + 1,
         }
         Ok(())
     }

@@ -1,5 +1,7 @@
 //! Scripts: who calls what on a board, and what each call is to answer.
-use crate::answers::{Claim, PostFault};
+use crate::answers::{Claim, CloseFault, Closed, Ended, PostFault};
+use std::alloc::AllocError;
+use std::process::Abort;
 
 /// The job of the root.
 pub const ROOT: u32 = 7;
@@ -60,6 +62,30 @@ impl From<Result<u32, PostFault<u32>>> for Told {
             Err(PostFault::Memory(job)) => Told::NoPost(job),
         }
     }
+}
+
+/// A call answered what it is to answer, if there was memory for it.
+pub fn answers<R: Abort>(rt: &R, answer: Told, told: Told) -> Result<(), AllocError> {
+    match answer {
+        Told::NoClaim => return Err(AllocError),
+        Told::NoPost(_) => return Err(AllocError),
+        _ => assert_eq!(rt; answer, told),
+    }
+    Ok(())
+}
+
+/// A board was closed with these rows, if there was memory for them.
+pub fn has_rows<R: Abort>(
+    rt: &R,
+    closed: Result<Closed<u32>, CloseFault>,
+    rows: &[Ended<u32>],
+) -> Result<(), AllocError> {
+    match closed {
+        Ok(closed) => assert_eq!(rt; closed.rows.as_slice(), rows),
+        Err(CloseFault::Memory) => return Err(AllocError),
+        Err(fault) => assert!(rt; false, "{fault:?}"),
+    }
+    Ok(())
 }
 
 /// Two workers on a board of two numbers: the second waits for the first to post, and both find the end.

@@ -5,7 +5,9 @@ ghost use Rattle.lc_board.specs.Limits.{capacity_limit, workers_limit};
 use crate::answers::{CloseFault, Closed, Ended};
 use crate::locked::Locked;
 use crate::shared::{Shared, Token};
-use crate::tests::script::{Call, FAULT, FULL, OWN_POST, ROOT, TWO_WORKERS, Told};
+use crate::tests::script::{
+    Call, FAULT, FULL, OWN_POST, ROOT, TWO_WORKERS, Told, answers, has_rows,
+};
 use crate::words::Words;
 use std::alloc::{AllocError, Global};
 use std::process::Abort;
@@ -20,32 +22,17 @@ pub fn tell<B: Shared<u32, u32>, W: Wait>(rt: &W, board: &B, pass: &mut B::Pass,
 {
     let held = pass.holding().is_some();
     match call {
-        Call::Claim(_) => {
-            if held {
-                return Told::OutOfTurn;
-            }
-            Told::from(board.claim(rt, pass))
-        }
-        Call::Post(_, job) => {
-            if !held {
-                return Told::OutOfTurn;
-            }
-            Told::from(board.post(rt, pass, job))
-        }
-        Call::Give(_, row) => {
-            if !held {
-                return Told::OutOfTurn;
-            }
+        Call::Claim(_) if !held => Told::from(board.claim(rt, pass)),
+        Call::Post(_, job) if held => Told::from(board.post(rt, pass, job)),
+        Call::Give(_, row) if held => {
             board.give(rt, pass, row);
             Told::Done
         }
-        Call::Fault(_, row) => {
-            if !held || pass.posted() != 0 {
-                return Told::OutOfTurn;
-            }
+        Call::Fault(_, row) if held && pass.posted() == 0 => {
             board.fault(rt, pass, row);
             Told::Done
         }
+        _ => Told::OutOfTurn,
     }
 }
 
@@ -64,33 +51,10 @@ fn run<B: Shared<u32, u32>, R: Wait + Abort>(
     for (call, told) in script {
         let worker = call.worker() as usize;
         assert!(rt; worker < passes.len());
-        match tell(rt, &board, &mut passes[worker], *call) {
-            Told::NoClaim => return Err(AllocError),
-            Told::NoPost(_) => return Err(AllocError),
-            answer => assert_eq!(rt; answer, *told),
-        }
+        let answer = tell(rt, &board, &mut passes[worker], *call);
+        answers(rt, answer, *told)?;
     }
     Ok(board.close(passes))
-}
-
-/// The script ends with these rows.
-fn ends_with<B: Shared<u32, u32>, R: Wait + Abort>(
-    rt: &R,
-    alloc: Global,
-    capacity: u32,
-    workers: u32,
-    script: &[(Call, Told)],
-    rows: &[Ended<u32>],
-) -> Result<(), AllocError>
-    requires capacity { (1 ≤ capacity) × (capacity ≤ capacity_limit) }
-    requires workers { (1 ≤ workers) × (workers ≤ workers_limit) }
-{
-    match run::<B, R>(rt, alloc, capacity, workers, script)? {
-        Ok(closed) => assert_eq!(rt; closed.rows.as_slice(), rows),
-        Err(CloseFault::Memory) => return Err(AllocError),
-        Err(fault) => assert!(rt; false, "{fault:?}"),
-    }
-    Ok(())
 }
 
 /// The scripts, on a board of this type.
@@ -98,16 +62,18 @@ fn scripts_on<B: Shared<u32, u32>, R: Wait + Abort>(
     rt: &R,
     alloc: Global,
 ) -> Result<(), AllocError> {
-    ends_with::<B, R>(
+    let rows = [Ended::Returned(10), Ended::Returned(11)];
+    has_rows(rt, run::<B, R>(rt, alloc, 2, 2, &TWO_WORKERS)?, &rows)?;
+    has_rows(
         rt,
-        alloc,
-        2,
-        2,
-        &TWO_WORKERS,
-        &[Ended::Returned(10), Ended::Returned(11)],
+        run::<B, R>(rt, alloc, 1, 1, &FULL)?,
+        &[Ended::Returned(10)],
     )?;
-    ends_with::<B, R>(rt, alloc, 1, 1, &FULL, &[Ended::Returned(10)])?;
-    ends_with::<B, R>(rt, alloc, 1, 1, &FAULT, &[Ended::Faulted(10)])?;
+    has_rows(
+        rt,
+        run::<B, R>(rt, alloc, 1, 1, &FAULT)?,
+        &[Ended::Faulted(10)],
+    )?;
     let unfinished = run::<B, R>(rt, alloc, 2, 1, &OWN_POST)?;
     assert_eq!(rt; unfinished, Err(CloseFault::Unfinished(1)));
     Ok(())

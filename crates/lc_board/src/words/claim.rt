@@ -1,28 +1,21 @@
 //! A claim goes up from the numbers that are taken, and where nothing is open there, from the low mark.
-ghost use Rattle.std.specs.Prelude.{◌≡◌, ◌≢◌, ◌<◌, ◌≤◌, ◌+◌, ◌⊎◌, true, false, Some, None, IfSome, IfNone, MatchResult, MatchBool};
+ghost use Rattle.std.specs.Prelude.{◌≡◌, ◌<◌, Some, None, IfSome, IfNone, MatchBool};
 ghost use Rattle.lc_board.specs.declared.answers.Claim.TheVariants.{Later};
-ghost use Rattle.lc_board.specs.declared.event.Event.TheVariants as event;
-ghost use Rattle.lc_board.specs.WordSteps.{AddsEvent, Missed};
-ghost use Rattle.lc_board.specs.WordsBoard.{AnswersWords, IsPassOf, IsSamePass, known};
+ghost use Rattle.lc_board.specs.WordSteps.{is_last_word};
+ghost use Rattle.lc_board.specs.WordsBoard.{AnswersWordsClaim, IsPassOf, IsSamePass, TriesClaim, known};
 ghost use Rattle.lc_board.specs.WordMarks.{AnswersLow, HasPassed};
 
 use crate::answers::Claim;
 use crate::words::Words;
-use crate::words::coding::{ABSENT, BUSY, OPEN};
+use crate::words::coding::Word;
 use crate::words::pass::WordsPass;
 
 /// No number after this one is used.
-fn is_last(capacity: u32, number: u32, found: u64) -> bool
-    requires { (found ≢ 1) × (number < capacity) }
-    ensures { MatchBool result ((found ≡ 0) ⊎ ((2 ≤ found) × (found < 4) × (number + 1 ≡ capacity))) ((found ≢ 0) × (found < 4 → number + 1 < capacity)) }
+fn is_last(capacity: u32, number: u32, found: Word) -> bool
+    requires { number < capacity }
+    ensures { result ≡ is_last_word capacity number found }
 {
-    found == ABSENT || (found < BUSY && number + 1 == capacity)
-}
-
-fn next_busy(busy: bool, found: u64) -> bool
-    ensures { (4 ≤ found → result ≡ true) × (found < 4 → result ≡ busy) }
-{
-    if found >= BUSY { true } else { busy }
+    found.is_absent() || (found.has_ended() && number + 1 == capacity)
 }
 
 fn later_if<J>(busy: bool) -> Option<Claim<J>>
@@ -33,30 +26,27 @@ fn later_if<J>(busy: bool) -> Option<Claim<J>>
 
 impl<J, R> Words<J, R> {
     /// Looks at the number, and claims it if it is open. Or else gives the word.
-    fn visit(&self, pass: &mut WordsPass<J, R>, number: u32) -> Result<J, u64>
+    fn visit(&self, pass: &mut WordsPass<J, R>, number: u32) -> Result<J, Word>
         requires board { IsPassOf self.now pass.old }
         requires free { pass.old.holding ≡ None }
         requires near { number < self.now.capacity }
         ensures board { IsSamePass pass.old pass.new }
-        ensures rule { MatchResult result
-            (λ j. (pass.new.holding ≡ Some number) × AddsEvent self.now.capacity (known pass.old) (event.Claim (known pass.old).worker number j) (known pass.new))
-            (λ r. (pass.new.holding ≡ None) × (r ≢ 1) × Missed self.now.capacity number r (known pass.old) (known pass.new)) }
+        ensures rule { TriesClaim self.now number pass.old result pass.new }
     {
         let found = self.look(pass, number);
-        if found == OPEN {
-            self.try_claim(pass, number)
-        } else {
-            Err(found)
+        if !found.is_open() {
+            return Err(found);
         }
+        self.try_claim(pass, number)
     }
 
     /// Goes up from the numbers that are taken to the first that is absent, and claims the first open one. Where it meets none, and
-    /// nobody who is busy, what is below decides.
+    /// nobody who is busy, the numbers that are taken decide.
     fn seek(&self, pass: &mut WordsPass<J, R>) -> Option<Claim<J>>
         requires board { IsPassOf self.now pass.old }
         requires free { pass.old.holding ≡ None }
         ensures board { IsSamePass pass.old pass.new }
-        ensures some { IfSome result (AnswersWords self.now.capacity (known pass.old) (known pass.new) pass.new.holding) }
+        ensures some { IfSome result (AnswersWordsClaim self.now.capacity (known pass.old) (known pass.new) pass.new.holding) }
         ensures none { IfNone result ((pass.new.holding ≡ None) × HasPassed self.now.capacity (known pass.old) (known pass.new)) }
     {
         let mut number = pass.taken;
@@ -70,10 +60,10 @@ impl<J, R> Words<J, R> {
             if lowest && is_last(self.capacity, number, found) {
                 return Some(Claim::Over);
             }
-            if found == ABSENT {
+            if found.is_absent() {
                 return later_if(busy);
             }
-            busy = next_busy(busy, found);
+            busy |= found.is_busy();
             number += 1;
         }
         later_if(busy)
@@ -95,7 +85,7 @@ impl<J, R> Words<J, R> {
             if is_last(self.capacity, number, found) {
                 return Claim::Over;
             }
-            if found >= BUSY {
+            if found.is_busy() {
                 return Claim::Later;
             }
         }
@@ -106,7 +96,7 @@ impl<J, R> Words<J, R> {
         requires board { IsPassOf self.now pass.old }
         requires free { pass.old.holding ≡ None }
         ensures board { IsSamePass pass.old pass.new }
-        ensures rule { AnswersWords self.now.capacity (known pass.old) (known pass.new) pass.new.holding result }
+        ensures rule { AnswersWordsClaim self.now.capacity (known pass.old) (known pass.new) pass.new.holding result }
     {
         match self.seek(pass) {
             Some(answer) => answer,

@@ -1,19 +1,15 @@
 //! A board of words is closed: the passes are taken in, and the rows are taken out.
-ghost use Rattle.std.specs.Prelude.{◌≡◌, ℕ, ◌<◌, ◌≤◌, ◌≢◌, ◌⊎◌, false, slice_index_or, slice_index, slice_get, [], Some, MatchBool, MatchResult, IfOk, length, map, vec_len};
+ghost use Rattle.std.specs.Prelude.{◌≡◌, ℕ, ◌<◌, ◌≤◌, true, false, slice_index_or, slice_get, [], Some, IfOk, map, vec_len};
 ghost use Rattle.std.specs.Mem.Slots.{slots_items, slots_filled, slots_len, IsFull};
 ghost use Rattle.std.specs.Mem.Slots.Ownership.{Filled};
-ghost use mathlib.Core.Option.{some};
-ghost use lib.ListN.{get_elem?};
 ghost use Rattle.lc_board.specs.WordSteps.{IsSameTold, merged};
-ghost use Rattle.lc_board.specs.WordsBoard.{IsPassOf, IsSamePass, known};
-ghost use Rattle.lc_board.specs.WordClose.{EndedBelow, HasRows, IsClosedRow, row_of};
-ghost use Rattle.lc_board.specs.declared.answers.Ended.TheVariants.{Returned, Faulted};
-ghost use Rattle.lc_board.specs.declared.words.view.Slot.TheVariants.{Row};
+ghost use Rattle.lc_board.specs.WordsBoard.{IsPassOf, IsSamePass, known, told};
+ghost use Rattle.lc_board.specs.WordClose.{TellsEnded, EndedBelow, HasRows, IsClosedRow, TakesRows, ended_as};
+ghost use Rattle.lc_board.specs.WordCode.{has_ended, shown};
 
 use crate::answers::Ended;
-use crate::shared::Token;
 use crate::words::Words;
-use crate::words::coding::{ABSENT, RETURNED, is_unended};
+use crate::words::coding::Word;
 use crate::words::pass::WordsPass;
 use crate::words::rule::{Deal, PutDown};
 use crate::words::view::{Slot, View};
@@ -22,7 +18,9 @@ use std::alloc::{AllocError, Global};
 
 /// Drops what is left in the slots.
 pub(crate) fn drain<S: Drop>(mut closed: Closed<S, Global>, from: usize)
-    requires { (from ≤ slots_len closed.slots) × Filled (slots_filled closed.slots) from (slots_len closed.slots) × ((k : ℕ) → k < from → slice_index_or (slots_filled closed.slots) k false ≡ false) }
+    requires within { from ≤ slots_len closed.slots }
+    requires filled { Filled (slots_filled closed.slots) from (slots_len closed.slots) }
+    requires gone { (k : ℕ) → k < from → slice_index_or (slots_filled closed.slots) k false ≡ false }
 {
     let mut at = from;
     while at < closed.slot_count() {
@@ -36,29 +34,29 @@ pub(crate) fn drain<S: Drop>(mut closed: Closed<S, Global>, from: usize)
 pub(crate) fn count_ended<S>(closed: &Closed<S, Global>, capacity: u32) -> Result<u32, u32>
     requires words { slots_len closed.now.words ≡ capacity }
     requires full { IsFull closed.now.words }
-    ensures { MatchResult result
-        (λ n. EndedBelow n (slots_items closed.now.words) × (n ≤ capacity) × ((n ≡ capacity) ⊎ (slice_index (slots_items closed.now.words) n ≡ 0)))
-        (λ n. EndedBelow n (slots_items closed.now.words) × (n < capacity) × ((slice_index (slots_items closed.now.words) n ≡ 1) ⊎ (4 ≤ slice_index (slots_items closed.now.words) n))) }
+    ensures { TellsEnded capacity (slots_items closed.now.words) result }
 {
     for number in 0..capacity {
-        let word = closed.word(number as usize);
-        if word == ABSENT {
+        let word = Word::of(closed.word(number as usize));
+        if word.is_absent() {
             return Ok(number);
         }
-        if is_unended(word) {
+        if !word.has_ended() {
             return Err(number);
         }
     }
     Ok(capacity)
 }
 
-fn make_row<R>(word: u64, row: R) -> Ended<R>
-    ensures { result ≡ row_of word row }
+/// The row of a number that has ended, by its word.
+fn ended_row<R>(word: Word, row: R) -> Ended<R>
+    requires { has_ended word ≡ true }
+    ensures { ended_as (shown word) row ≡ Some result }
 {
-    if word == RETURNED {
-        Ended::Returned(row)
-    } else {
-        Ended::Faulted(row)
+    match word {
+        Word::Returned => Ended::Returned(row),
+        Word::Faulted => Ended::Faulted(row),
+        _ => unreachable!(),
     }
 }
 
@@ -70,9 +68,10 @@ pub(crate) fn take_rows<J: Drop, R: Drop>(
 ) -> Result<Vec<Ended<R>>, AllocError>
     requires sizes { (slots_len closed.words ≡ slots_len closed.slots) × (count ≤ slots_len closed.slots) }
     requires full { IsFull closed.words × IsFull closed.slots }
+    requires ended { EndedBelow count (slots_items closed.words) }
     requires rows { HasRows count (slots_items closed.slots) }
     ensures count { IfOk result (λ rows. vec_len rows ≡ count) }
-    ensures rows { IfOk result (λ rows. (k : ℕ) (r : R) → k < count → get_elem? (slots_items closed.slots) k ≡ some (Row r) → slice_get rows.items k ≡ Some (row_of (slice_index (slots_items closed.words) k) r)) }
+    ensures rows { IfOk result (λ rows. TakesRows count (slots_items closed.words) (slots_items closed.slots) rows.items) }
 {
     let mut rows = match Vec::with_capacity(alloc, count as usize) {
         Ok(rows) => rows,
@@ -82,9 +81,9 @@ pub(crate) fn take_rows<J: Drop, R: Drop>(
         }
     };
     for number in 0..count {
-        let word = closed.word(number as usize);
+        let word = Word::of(closed.word(number as usize));
         match closed.take(number as usize) {
-            Slot::Row(row) => rows.push_reserved(make_row(word, row)),
+            Slot::Row(row) => rows.push_reserved(ended_row(word, row)),
             _ => unreachable!(),
         }
     }
@@ -102,21 +101,15 @@ impl<J, R> Words<J, R> {
     {
         let WordsPass {
             mut seat,
-            worker: _,
             holding,
-            posted: _,
-            front: _,
-            low: _,
-            taken: _,
-            full: _,
+            ..
         } = pass;
         let number = match holding {
             None => return seat,
             Some(number) => number,
         };
-        self.table
-            .shared
-            .load::<PutDown>(&mut seat, number as usize);
+        let shared = &self.table.shared;
+        shared.load::<PutDown>(&mut seat, number as usize);
         seat
     }
 
@@ -135,13 +128,14 @@ impl<J, R> Words<J, R> {
     }
 
     /// The words and slots, once each pass has been taken in.
-    pub(crate) fn settle(self, mut passes: Vec<WordsPass<J, R>>) -> Closed<Slot<J, R>, Global>
+    pub(crate) fn gather(self, mut passes: Vec<WordsPass<J, R>>) -> Closed<Slot<J, R>, Global>
         requires all { vec_len passes ≡ self.workers }
         requires some { 0 < self.workers }
         requires each { (w : ℕ) (p : _) → slice_get passes.items w ≡ Some p → IsPassOf self p × (p.worker ≡ w) }
-        ensures counts { (slots_len result.words ≡ self.capacity) × (slots_len result.slots ≡ self.capacity) }
+        ensures sizes { (slots_len result.words ≡ self.capacity) × (slots_len result.slots ≡ self.capacity) }
         ensures full { IsFull result.words × IsFull result.slots }
-        ensures row { IsClosedRow (Some self.table.shared.key.root.value) self.workers (map ⟦<WordsPass<J, R> as Token<J, R>>⟧.view passes.items) (slots_items result.words) (slots_items result.slots) }
+        ensures row { IsClosedRow (Some self.table.shared.key.root.value) self.workers (map told passes.items)
+            (slots_items result.words) (slots_items result.slots) }
     {
         let Some(mut pass) = passes.pop() else {
             unreachable!()
@@ -149,22 +143,8 @@ impl<J, R> Words<J, R> {
         while let Some(other) = passes.pop() {
             self.take_in(&mut pass, other);
         }
-        let Words {
-            table,
-            capacity: _,
-            workers: _,
-            alloc: _,
-        } = self;
-        let WordsPass {
-            seat,
-            worker: _,
-            holding: _,
-            posted: _,
-            front: _,
-            low: _,
-            taken: _,
-            full: _,
-        } = pass;
+        let Words { table, .. } = self;
+        let WordsPass { seat, .. } = pass;
         table.close_with(seat)
     }
 }

@@ -1,52 +1,131 @@
-//! What a word of the board says, as a number.
-ghost use Rattle.std.specs.Prelude.{◌≡◌, ◌≢◌, ◌+◌, ◌*◌, ◌<◌, ◌≤◌, ◌⊎◌, MatchBool};
-ghost use Rattle.lc_board.specs.WordSteps.{is_end, taken_word};
+//! What a word of the board says of its number, and the code under which it is stored.
+ghost use Rattle.std.specs.Prelude.{◌≡◌};
+ghost use Rattle.lc_board.specs.WordCode.{code, word_of, end_word, is_absent, is_open, has_ended, is_busy, is_taken};
+ghost use Rattle.lc_board.specs.declared.words.coding.Word.TheVariants.{Drawn, Claimed};
 
-/// Not used yet.
+use crate::answers::Ended;
+
+/// What a word says of its number. A worker is as wide as the word that names it.
+#[derive(Clone, Copy, Drop)]
+pub enum Word {
+    /// Not used yet.
+    Absent,
+    /// Open, with its job in the slot.
+    Open,
+    /// Returned, with its row in the slot.
+    Returned,
+    /// Faulted, with its row in the slot.
+    Faulted,
+    /// In the middle of a post: this worker is about to open it.
+    Drawn(u64),
+    /// This worker has claimed it.
+    Claimed(u64),
+}
+
+/// The code of a number that is absent.
 pub const ABSENT: u64 = 0;
 
-/// Open, with its job in the slot.
+/// The code of a number that is open.
 pub const OPEN: u64 = 1;
 
-/// Returned, with its row in the slot.
+/// The code of a number that is returned.
 pub const RETURNED: u64 = 2;
 
-/// Faulted, with its row in the slot.
+/// The code of a number that is faulted.
 pub const FAULTED: u64 = 3;
 
-/// From here on a word names a worker: it has drawn the number (an even word), or has claimed it (an odd one).
-pub const BUSY: u64 = 4;
+/// From here on a code names a worker: an even one has drawn the number, an odd one has claimed it.
+const BUSY: u64 = 4;
 
-/// The word of a number that the worker is about to open.
+/// The code of a number that the worker has drawn.
 pub fn drawn_by(worker: u32) -> u64
-    ensures { result ≡ 4 + 2 * worker }
+    ensures { result ≡ code (Drawn worker) }
 {
-    4 + 2 * worker as u64
+    BUSY + 2 * worker as u64
 }
 
-/// The word of a number that the worker has claimed.
+/// The code of a number that the worker has claimed.
 pub fn claimed_by(worker: u32) -> u64
-    ensures { result ≡ 5 + 2 * worker }
+    ensures { result ≡ code (Claimed worker) }
 {
-    5 + 2 * worker as u64
+    BUSY + 1 + 2 * worker as u64
 }
 
-pub fn has_ended(word: u64) -> bool
-    ensures { result ≡ is_end word }
+/// The code of a number that has ended so.
+pub fn ended_by<R>(ended: &Ended<R>) -> u64
+    ensures { result ≡ code (end_word ended.now) }
 {
-    word > OPEN && word < BUSY
+    match ended {
+        Ended::Returned(_) => RETURNED,
+        Ended::Faulted(_) => FAULTED,
+    }
 }
 
-/// It has ended or is claimed.
-pub fn is_taken(word: u64) -> bool
-    ensures { result ≡ taken_word word }
-{
-    word > OPEN && (word < BUSY || word % 2 == 1)
-}
+impl Word {
+    /// The word of a code.
+    pub fn of(code: u64) -> Word
+        ensures { result ≡ word_of code }
+    {
+        match code {
+            ABSENT => Word::Absent,
+            OPEN => Word::Open,
+            RETURNED => Word::Returned,
+            FAULTED => Word::Faulted,
+            _ => {
+                let worker = (code - BUSY) / 2;
+                if code % 2 == 0 {
+                    Word::Drawn(worker)
+                } else {
+                    Word::Claimed(worker)
+                }
+            }
+        }
+    }
 
-/// Open, drawn or claimed.
-pub fn is_unended(word: u64) -> bool
-    ensures { MatchBool result ((word ≡ 1) ⊎ (4 ≤ word)) ((word ≢ 1) × (word < 4)) }
-{
-    word == OPEN || word >= BUSY
+    pub fn is_absent(self) -> bool
+        ensures { result ≡ is_absent self }
+    {
+        match self {
+            Word::Absent => true,
+            _ => false,
+        }
+    }
+
+    pub fn is_open(self) -> bool
+        ensures { result ≡ is_open self }
+    {
+        match self {
+            Word::Open => true,
+            _ => false,
+        }
+    }
+
+    pub fn has_ended(self) -> bool
+        ensures { result ≡ has_ended self }
+    {
+        match self {
+            Word::Returned | Word::Faulted => true,
+            _ => false,
+        }
+    }
+
+    /// Drawn or claimed.
+    pub fn is_busy(self) -> bool
+        ensures { result ≡ is_busy self }
+    {
+        match self {
+            Word::Drawn(_) | Word::Claimed(_) => true,
+            _ => false,
+        }
+    }
+
+    /// It has ended or is claimed.
+    pub fn is_taken(self) -> bool
+        ensures { result ≡ is_taken self }
+    {
+        match self {
+            Word::Returned | Word::Faulted | Word::Claimed(_) => true,
+            _ => false,
+        }
+    }
 }

@@ -1,15 +1,13 @@
-//! A number is drawn and opened.
-ghost use Rattle.std.specs.Prelude.{◌≡◌, ℕ, ◌+◌, ◌*◌, ◌<◌, MatchBool, MatchResult, IfSome, IsSome};
-ghost use Rattle.lc_board.specs.declared.answers.PostFault.TheVariants.{Full};
-ghost use Rattle.lc_board.specs.declared.event.Event.TheVariants.{Post};
-ghost use Rattle.lc_board.specs.WordSteps.{AddsEvent, Looks, Sees};
-ghost use Rattle.lc_board.specs.WordsBoard.{IsPassOf, IsSamePass, known};
+//! A job is posted at the front of a pass, or beyond it.
+ghost use Rattle.std.specs.Prelude.{◌≡◌, ◌+◌, ◌<◌, MatchBool, IsSome};
+ghost use Rattle.lc_board.specs.WordSteps.{Looks};
+ghost use Rattle.lc_board.specs.WordsBoard.{AnswersWordsPost, IsPassOf, IsSamePass, TriesPost, known};
 
 use crate::answers::PostFault;
 use crate::words::Words;
-use crate::words::coding::{ABSENT, OPEN, drawn_by};
+use crate::words::coding::Word;
 use crate::words::pass::WordsPass;
-use crate::words::rule::{Draw, Open, StepOver};
+use crate::words::rule::StepOver;
 use crate::words::view::Slot;
 
 impl<J, R> Words<J, R> {
@@ -24,8 +22,8 @@ impl<J, R> Words<J, R> {
     {
         let number = pass.front;
         let shared = &self.table.shared;
-        let found = shared.load::<StepOver>(&mut pass.seat, number as usize);
-        if found == ABSENT {
+        let found = Word::of(shared.load::<StepOver>(&mut pass.seat, number as usize));
+        if found.is_absent() {
             return false;
         }
         pass.front = number + 1;
@@ -38,24 +36,16 @@ impl<J, R> Words<J, R> {
         requires holds { IsSome pass.old.holding }
         requires near { pass.old.front < self.now.capacity }
         ensures board { IsSamePass pass.old pass.new × (pass.new.holding ≡ pass.old.holding) × (pass.new.front ≡ pass.old.front + 1) }
-        ensures rule { MatchResult result
-            (λ i. (pass.new.posted ≡ pass.old.posted + 1) × IfSome pass.old.holding (λ p. AddsEvent self.now.capacity (known pass.old) (Post pass.old.worker p i job) (known pass.new)))
-            (λ j. (j ≡ job) × (pass.new.posted ≡ pass.old.posted) × Looks self.now.capacity (known pass.old) (known pass.new)) }
+        ensures rule { TriesPost self.now pass.old job result pass.new }
     {
-        let shared = &self.table.shared;
         let number = pass.front;
-        let word = number as usize;
-        let new = drawn_by(pass.worker);
-        let found = shared.compare_exchange::<Draw>(&mut pass.seat, word, ABSENT, new);
+        let is_drawn = self.draw(&mut pass.seat, number, pass.worker);
         pass.front = number + 1;
-        if found != ABSENT {
+        if !is_drawn {
             return Err(job);
         }
-        match shared.exchange(&mut pass.seat, word, Slot::Job(job)) {
-            Slot::Empty => {}
-            _ => unreachable!(),
-        }
-        shared.swap::<Open>(&mut pass.seat, word, OPEN);
+        self.fill(&mut pass.seat, number, Slot::Job(job));
+        self.open_drawn(&mut pass.seat, number);
         pass.posted += 1;
         Ok(number)
     }
@@ -67,9 +57,7 @@ impl<J, R> Words<J, R> {
         requires holds { IsSome pass.old.holding }
         requires near { pass.old.front < self.now.capacity }
         ensures board { IsSamePass pass.old pass.new × (pass.new.holding ≡ pass.old.holding) × (pass.new.front ≡ pass.old.front + 1) }
-        ensures rule { MatchResult result
-            (λ i. (pass.new.posted ≡ pass.old.posted + 1) × IfSome pass.old.holding (λ p. AddsEvent self.now.capacity (known pass.old) (Post pass.old.worker p i job) (known pass.new)))
-            (λ j. (j ≡ job) × (pass.new.posted ≡ pass.old.posted) × Looks self.now.capacity (known pass.old) (known pass.new)) }
+        ensures rule { TriesPost self.now pass.old job result pass.new }
     {
         if self.step_over(pass) {
             return Err(job);
@@ -86,9 +74,7 @@ impl<J, R> Words<J, R> {
         requires board { IsPassOf self.now pass.old }
         requires holds { IsSome pass.old.holding }
         ensures board { IsSamePass pass.old pass.new × (pass.new.holding ≡ pass.old.holding) }
-        ensures rule { MatchResult result
-            (λ i. (pass.new.posted ≡ pass.old.posted + 1) × IfSome pass.old.holding (λ p. AddsEvent self.now.capacity (known pass.old) (Post pass.old.worker p i job) (known pass.new)))
-            (λ f. (f ≡ Full job) × (pass.new.posted ≡ pass.old.posted) × Sees (known pass.old) (known pass.new) × ((known pass.new).front ≡ self.now.capacity)) }
+        ensures rule { AnswersWordsPost self.now pass.old job result pass.new }
     {
         while pass.front < self.capacity {
             match self.try_post(pass, job) {

@@ -64,20 +64,12 @@ impl<J, R> Play<Slot<J, R>, View<J, R>> for Take {
     ghost then = { claimed };
 }
 
-pub struct Give;
+pub struct End;
 
-impl<J, R> Play<Slot<J, R>, View<J, R>> for Give {
-    ghost use Rattle.lc_board.specs.WordSteps.{returned};
+impl<J, R> Play<Slot<J, R>, View<J, R>> for End {
+    ghost use Rattle.lc_board.specs.WordSteps.{ended};
 
-    ghost then = { λ s m r n. returned s m r n };
-}
-
-pub struct Fail;
-
-impl<J, R> Play<Slot<J, R>, View<J, R>> for Fail {
-    ghost use Rattle.lc_board.specs.WordSteps.{faulted};
-
-    ghost then = { λ s m r n. faulted s m r n };
+    ghost then = { λ s m r n. ended s m r n };
 }
 
 /// A look at the word of one's own claim, by which its slot goes home.

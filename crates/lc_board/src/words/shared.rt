@@ -1,13 +1,11 @@
 //! A board of words is one that workers share.
-ghost use Rattle.std.specs.Prelude.{◌≡◌, ◌≢◌, ◌≤◌, ℕ, [], None, Some, IfSome, IfOk, IfErr, map, slice_get, vec_len};
+ghost use Rattle.std.specs.Prelude.{◌≡◌, ◌≢◌, ◌≤◌, ℕ, [], None, Some, IfOk, IfErr, map, slice_get, vec_len};
 ghost use Rattle.lc_board.specs.ClosedBoard.{Settled, RefusesClose};
 ghost use Rattle.lc_board.specs.WordClose.{words_promises};
 ghost use Rattle.lc_board.specs.Pass.{holding, posted, new_pass, after_claim, after_post, after_give, after_fault, job_back};
-ghost use Rattle.lc_board.specs.WordSteps.{AddsEvent, Sees};
-ghost use Rattle.lc_board.specs.WordsBoard.{AnswersWords, Owns, known, told};
+ghost use Rattle.lc_board.specs.WordsBoard.{AnswersWordsClaim, AnswersWordsPost, HasEnded, Owns, known, told};
+ghost use Rattle.lc_board.specs.declared.answers.Ended.TheVariants.{Returned, Faulted};
 ghost use Rattle.lc_board.specs.declared.words.pass.WordsPass.{WordsPass};
-ghost use Rattle.lc_board.specs.declared.answers.PostFault.TheVariants.{Full};
-ghost use Rattle.lc_board.specs.declared.event.Event.TheVariants.{Post, Return, Fault};
 ghost use Rattle.lc_board.specs.Limits.{capacity_limit, workers_limit};
 
 use crate::answers::{Claim, CloseFault, Closed, PostFault};
@@ -39,10 +37,13 @@ impl<J: Drop + Send, R: Drop + Send> Shared<J, R> for Words<J, R> {
     ) -> Result<(Words<J, R>, Vec<WordsPass<J, R>>), AllocError>
         requires capacity { (1 ≤ capacity) × (capacity ≤ capacity_limit) }
         requires workers { (1 ≤ workers) × (workers ≤ workers_limit) }
-        ensures board { IfOk result (λ b. (b.0.capacity ≡ capacity) × (b.0.workers ≡ workers) × (b.0.table.shared.key.root.value ≡ root)) }
+        ensures board { IfOk result
+            (λ b. (b.0.capacity ≡ capacity) × (b.0.workers ≡ workers) × (b.0.table.shared.key.root.value ≡ root)) }
         ensures count { IfOk result (λ b. vec_len b.1 ≡ workers) }
-        ensures passes { IfOk result (λ b. (w : ℕ) (p : WordsPass _ _) → slice_get b.1.items w ≡ Some p → Owns b.0 p × (told p ≡ new_pass w)) }
-        ensures unseen { IfOk result (λ b. (w : ℕ) (p : WordsPass _ _) → slice_get b.1.items w ≡ Some p → (known p).seen ≡ []) }
+        ensures passes { IfOk result
+            (λ b. (w : ℕ) (p : WordsPass _ _) → slice_get b.1.items w ≡ Some p → Owns b.0 p × (told p ≡ new_pass w)) }
+        ensures unseen { IfOk result
+            (λ b. (w : ℕ) (p : WordsPass _ _) → slice_get b.1.items w ≡ Some p → (known p).seen ≡ []) }
     {
         let mut passes = Vec::with_capacity(alloc, workers as usize)?;
         let (board, first) = Words::open(alloc, capacity, workers, root)?;
@@ -60,7 +61,7 @@ impl<J: Drop + Send, R: Drop + Send> Shared<J, R> for Words<J, R> {
         requires free { holding (told pass.old) ≡ None }
         ensures pass { Owns self.now pass.new }
         ensures mine { told pass.new ≡ after_claim (told pass.old) result }
-        ensures rule { AnswersWords self.now.capacity (known pass.old) (known pass.new) pass.new.holding result }
+        ensures rule { AnswersWordsClaim self.now.capacity (known pass.old) (known pass.new) pass.new.holding result }
     {
         match Words::claim(self, pass) {
             Claim::Got(number, job) => Claim::Got(number, job),
@@ -82,8 +83,7 @@ impl<J: Drop + Send, R: Drop + Send> Shared<J, R> for Words<J, R> {
         ensures pass { Owns self.now pass.new }
         ensures mine { told pass.new ≡ after_post (told pass.old) job result }
         ensures back { IfErr result (λ f. job_back f ≡ job) }
-        ensures posted { IfOk result (λ i. IfSome pass.old.holding (λ p. AddsEvent self.now.capacity (known pass.old) (Post pass.old.worker p i job) (known pass.new))) }
-        ensures full { IfErr result (λ f. (f ≡ Full job) × Sees (known pass.old) (known pass.new) × ((known pass.new).front ≡ self.now.capacity)) }
+        ensures rule { AnswersWordsPost self.now pass.old job result pass.new }
     {
         match Words::post(self, pass, job) {
             Ok(number) => Ok(number),
@@ -101,7 +101,7 @@ impl<J: Drop + Send, R: Drop + Send> Shared<J, R> for Words<J, R> {
         requires holds { holding (told pass.old) ≢ None }
         ensures pass { Owns self.now pass.new }
         ensures mine { told pass.new ≡ after_give (told pass.old) row }
-        ensures rule { IfSome pass.old.holding (λ i. AddsEvent self.now.capacity (known pass.old) (Return pass.old.worker i row) (known pass.new)) }
+        ensures rule { HasEnded self.now pass.old (Returned row) pass.new }
     {
         Words::give(self, pass, row);
     }
@@ -113,20 +113,21 @@ impl<J: Drop + Send, R: Drop + Send> Shared<J, R> for Words<J, R> {
         requires none { posted (told pass.old) ≡ 0 }
         ensures pass { Owns self.now pass.new }
         ensures mine { told pass.new ≡ after_fault (told pass.old) row }
-        ensures rule { IfSome pass.old.holding (λ i. AddsEvent self.now.capacity (known pass.old) (Fault pass.old.worker i row) (known pass.new)) }
+        ensures rule { HasEnded self.now pass.old (Faulted row) pass.new }
     {
         Words::fault(self, pass, row);
     }
 
     fn close(self, passes: Vec<WordsPass<J, R>>) -> Result<Closed<R>, CloseFault>
         requires all { vec_len passes ≡ self.workers }
-        requires each { (w : ℕ) (p : _) → slice_get passes.items w ≡ Some p → Owns self p × ((⟦<WordsPass<J, R> as Token<J, R>>⟧.view p).worker ≡ w) }
-        ensures settled { IfOk result (λ c. (root : J) → self.table.shared.key.root.value ≡ root → Settled self.capacity self.workers root words_promises (map ⟦<WordsPass<J, R> as Token<J, R>>⟧.view passes.items) c.rows.items) }
-        ensures fault { IfErr result (RefusesClose self.capacity self.workers words_promises (map ⟦<WordsPass<J, R> as Token<J, R>>⟧.view passes.items)) }
+        requires each { (w : ℕ) (p : _) → slice_get passes.items w ≡ Some p → Owns self p × ((told p).worker ≡ w) }
+        ensures settled { IfOk result (λ c. (root : J) → self.table.shared.key.root.value ≡ root
+            → Settled self.capacity self.workers root words_promises (map told passes.items) c.rows.items) }
+        ensures fault { IfErr result (RefusesClose self.capacity self.workers words_promises (map told passes.items)) }
     {
         let alloc = self.alloc;
         let capacity = self.capacity;
-        let closed = self.settle(passes);
+        let closed = self.gather(passes);
         let count = match count_ended(&closed, capacity) {
             Ok(count) => count,
             Err(number) => {

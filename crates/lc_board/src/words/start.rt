@@ -1,8 +1,10 @@
 //! A board is made, and its passes are made.
-ghost use Rattle.std.specs.Prelude.{◌≡◌, ◌<◌, ◌≤◌, ◌∷◌, false, replicate, IfOk};
+ghost use Rattle.std.specs.Prelude.{◌≡◌, ◌<◌, ◌≤◌, ◌∷◌, replicate, IfOk, Some};
+ghost use Rattle.lc_board.specs.declared.words.coding.Word.TheVariants.{Absent, Open};
 ghost use Rattle.lc_board.specs.declared.words.view.Slot.TheVariants.{Empty, Job};
+ghost use Rattle.lc_board.specs.WordCode.{code};
 ghost use Rattle.lc_board.specs.WordSteps.{dealer, dealt, newcomer};
-ghost use Rattle.lc_board.specs.WordsBoard.{IsPassOf, IsSamePass, known};
+ghost use Rattle.lc_board.specs.WordsBoard.{IsNewPass, IsPassOf, IsSamePass, known};
 ghost use Rattle.lc_board.specs.Limits.{capacity_limit, workers_limit};
 
 use crate::words::Words;
@@ -15,7 +17,7 @@ use std::alloc::{AllocError, Global};
 use std::snapshot::Snapshot;
 
 fn word_row(alloc: Global, others: u32) -> Result<Vec<u64>, AllocError>
-    ensures { IfOk result (λ v. v.items ≡ 1 ∷ replicate others 0) }
+    ensures { IfOk result (λ v. v.items ≡ code Open ∷ replicate others (code Absent)) }
 {
     let mut row = Vec::with_capacity(alloc, others as usize + 1)?;
     row.push(OPEN)?;
@@ -50,8 +52,9 @@ impl<J: Drop, R: Drop> Words<J, R> {
     ) -> Result<(Words<J, R>, WordsPass<J, R>), AllocError>
         requires capacity { (1 ≤ capacity) × (capacity ≤ capacity_limit) }
         requires workers { (1 ≤ workers) × (workers ≤ workers_limit) }
-        ensures board { IfOk result (λ b. (b.0.capacity ≡ capacity) × (b.0.workers ≡ workers) × (b.0.table.shared.key.root.value ≡ root)) }
-        ensures pass { IfOk result (λ b. IsPassOf b.0 b.1 × (b.1.worker ≡ 0) × (b.1.holding ≡ None) × (b.1.full ≡ false) × (known b.1 ≡ dealer (Some root) workers)) }
+        ensures board { IfOk result
+            (λ b. (b.0.capacity ≡ capacity) × (b.0.workers ≡ workers) × (b.0.table.shared.key.root.value ≡ root)) }
+        ensures pass { IfOk result (λ b. IsNewPass b.0 0 (dealer (Some root) workers) b.1) }
     {
         let origin = Origin {
             root: Snapshot::of(&root),
@@ -90,9 +93,11 @@ impl<J, R> Words<J, R> {
     /// One more pass, of the next worker.
     pub(crate) fn another(&self, pass: &mut WordsPass<J, R>, worker: u32) -> WordsPass<J, R>
         requires board { IsPassOf self.now pass.old }
-        requires next { (0 < worker) × (worker < self.now.workers) × ((known pass.old).made ≡ worker) × ((known pass.old).workers ≡ self.now.workers) }
-        ensures same { IsSamePass pass.old pass.new × (pass.new.holding ≡ pass.old.holding) × (known pass.new ≡ dealt (known pass.old)) }
-        ensures other { IsPassOf self.now result × (result.worker ≡ worker) × (result.holding ≡ None) × (result.full ≡ false) × (known result ≡ newcomer (known pass.old)) }
+        requires next { (0 < worker) × (worker < self.now.workers)
+            × ((known pass.old).made ≡ worker) × ((known pass.old).workers ≡ self.now.workers) }
+        ensures same { IsSamePass pass.old pass.new × (pass.new.holding ≡ pass.old.holding)
+            × (known pass.new ≡ dealt (known pass.old)) }
+        ensures other { IsNewPass self.now worker (newcomer (known pass.old)) result }
     {
         let seat = self.table.shared.split_seat::<Deal>(&mut pass.seat);
         WordsPass {

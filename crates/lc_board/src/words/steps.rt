@@ -1,32 +1,36 @@
 //! One number is looked at, claimed, or ended.
-ghost use Rattle.std.specs.Prelude.{◌≡◌, ℕ, ◌+◌, ◌*◌, ◌<◌, MatchResult, IfSome, IsSome, ◌≢◌};
-ghost use Rattle.lc_board.specs.declared.event.Event.TheVariants.{Claim, Return, Fault};
-ghost use Rattle.lc_board.specs.WordSteps.{AddsEvent, Missed, low_after, taken_after};
-ghost use Rattle.lc_board.specs.WordsBoard.{IsPassOf, IsSamePass, known};
+ghost use Rattle.std.specs.Prelude.{◌≡◌, ◌<◌, IsSome, None};
+ghost use Rattle.lc_board.specs.WordSteps.{Missed, low_after, taken_after};
+ghost use Rattle.lc_board.specs.WordsBoard.{HasEnded, IsPassOf, IsSamePass, TriesClaim, known};
+ghost use Rattle.lc_board.specs.Ending.{MayEnd};
+ghost use Rattle.lc_board.specs.declared.answers.Ended.TheVariants.{Returned, Faulted};
 ghost use Rattle.lc_board.specs.Limits.{capacity_limit};
 
+use crate::answers::Ended;
 use crate::words::Words;
-use crate::words::coding::{FAULTED, OPEN, RETURNED, claimed_by, has_ended, is_taken};
+use crate::words::coding::{OPEN, Word, claimed_by, ended_by};
 use crate::words::pass::WordsPass;
-use crate::words::rule::{Fail, Give, Look, Take};
+use crate::words::rule::{End, Look, Take};
 use crate::words::view::Slot;
 
-fn next_low(capacity: u32, number: u32, low: u32, found: u64) -> u32
+/// The low mark after a look at the number.
+fn next_low(capacity: u32, number: u32, low: u32, found: Word) -> u32
     requires { number < capacity }
     ensures { result ≡ low_after capacity number low found }
 {
-    if low == number && has_ended(found) && number + 1 < capacity {
+    if low == number && found.has_ended() && number + 1 < capacity {
         number + 1
     } else {
         low
     }
 }
 
-fn next_taken(number: u32, taken: u32, found: u64) -> u32
+/// The mark of the numbers that are taken, after a look at the number.
+fn next_taken(number: u32, taken: u32, found: Word) -> u32
     requires { number < capacity_limit }
     ensures { result ≡ taken_after number taken found }
 {
-    if taken == number && is_taken(found) {
+    if taken == number && found.is_taken() {
         number + 1
     } else {
         taken
@@ -35,43 +39,42 @@ fn next_taken(number: u32, taken: u32, found: u64) -> u32
 
 impl<J, R> Words<J, R> {
     /// Looks at a word, and gives it.
-    pub(crate) fn look(&self, pass: &mut WordsPass<J, R>, number: u32) -> u64
+    pub(crate) fn look(&self, pass: &mut WordsPass<J, R>, number: u32) -> Word
         requires board { IsPassOf self.now pass.old }
         requires near { number < self.now.capacity }
         ensures board { IsSamePass pass.old pass.new × (pass.new.holding ≡ pass.old.holding) }
         ensures rule { Missed self.now.capacity number result (known pass.old) (known pass.new) }
     {
         let shared = &self.table.shared;
-        let found = shared.load::<Look>(&mut pass.seat, number as usize);
+        let found = Word::of(shared.load::<Look>(&mut pass.seat, number as usize));
         pass.low = next_low(self.capacity, number, pass.low, found);
         pass.taken = next_taken(number, pass.taken, found);
         found
     }
 
     /// Tries to claim an open number, and takes its job. Or else gives the word as it was found.
-    pub(crate) fn try_claim(&self, pass: &mut WordsPass<J, R>, number: u32) -> Result<J, u64>
+    pub(crate) fn try_claim(&self, pass: &mut WordsPass<J, R>, number: u32) -> Result<J, Word>
         requires board { IsPassOf self.now pass.old }
         requires free { pass.old.holding ≡ None }
         requires near { number < self.now.capacity }
         ensures board { IsSamePass pass.old pass.new }
-        ensures rule { MatchResult result
-            (λ j. (pass.new.holding ≡ Some number) × (pass.new.posted ≡ 0) × AddsEvent self.now.capacity (known pass.old) (Claim pass.old.worker number j) (known pass.new))
-            (λ r. (pass.new.holding ≡ None) × (r ≢ 1) × Missed self.now.capacity number r (known pass.old) (known pass.new)) }
+        ensures rule { TriesClaim self.now number pass.old result pass.new }
     {
         let shared = &self.table.shared;
-        let word = number as usize;
+        let place = number as usize;
         let new = claimed_by(pass.worker);
-        let found = shared.compare_exchange::<Take>(&mut pass.seat, word, OPEN, new);
-        if found != OPEN {
+        let old = shared.compare_exchange::<Take>(&mut pass.seat, place, OPEN, new);
+        let found = Word::of(old);
+        if !found.is_open() {
             pass.low = next_low(self.capacity, number, pass.low, found);
             pass.taken = next_taken(number, pass.taken, found);
             return Err(found);
         }
-        match shared.exchange(&mut pass.seat, word, Slot::Empty) {
+        match shared.exchange(&mut pass.seat, place, Slot::Empty) {
             Slot::Job(job) => {
                 pass.holding = Some(number);
                 pass.posted = 0;
-                pass.taken = next_taken(number, pass.taken, new);
+                pass.taken = next_taken(number, pass.taken, Word::Claimed(pass.worker as u64));
                 Ok(job)
             }
             _ => unreachable!(),
@@ -83,22 +86,9 @@ impl<J, R> Words<J, R> {
         requires board { IsPassOf self.now pass.old }
         requires holds { IsSome pass.old.holding }
         ensures board { IsSamePass pass.old pass.new × (pass.new.holding ≡ None) }
-        ensures rule { IfSome pass.old.holding (λ i. AddsEvent self.now.capacity (known pass.old) (Return pass.old.worker i row) (known pass.new)) }
+        ensures rule { HasEnded self.now pass.old (Returned row) pass.new }
     {
-        let shared = &self.table.shared;
-        match pass.holding {
-            Some(number) => {
-                let word = number as usize;
-                match shared.exchange(&mut pass.seat, word, Slot::Row(row)) {
-                    Slot::Empty => {}
-                    _ => unreachable!(),
-                }
-                shared.swap::<Give>(&mut pass.seat, word, RETURNED);
-                pass.holding = None;
-                pass.posted = 0;
-            }
-            None => unreachable!(),
-        }
+        self.end(pass, Ended::Returned(row));
     }
 
     /// Ends the claim of the pass, under which nothing was posted, by the row of a fault. As `give`.
@@ -106,21 +96,27 @@ impl<J, R> Words<J, R> {
         requires board { IsPassOf self.now pass.old }
         requires holds { IsSome pass.old.holding × (pass.old.posted ≡ 0) }
         ensures board { IsSamePass pass.old pass.new × (pass.new.holding ≡ None) }
-        ensures rule { IfSome pass.old.holding (λ i. AddsEvent self.now.capacity (known pass.old) (Fault pass.old.worker i row) (known pass.new)) }
+        ensures rule { HasEnded self.now pass.old (Faulted row) pass.new }
     {
+        self.end(pass, Ended::Faulted(row));
+    }
+
+    /// Ends the claim of the pass.
+    fn end(&self, pass: &mut WordsPass<J, R>, ended: Ended<R>)
+        requires board { IsPassOf self.now pass.old }
+        requires holds { IsSome pass.old.holding }
+        requires may { MayEnd pass.old.posted ended }
+        ensures board { IsSamePass pass.old pass.new × (pass.new.holding ≡ None) }
+        ensures rule { HasEnded self.now pass.old ended pass.new }
+    {
+        let Some(number) = pass.holding else {
+            unreachable!()
+        };
+        let code = ended_by(&ended);
+        self.fill(&mut pass.seat, number, Slot::Row(ended.into_row()));
         let shared = &self.table.shared;
-        match pass.holding {
-            Some(number) => {
-                let word = number as usize;
-                match shared.exchange(&mut pass.seat, word, Slot::Row(row)) {
-                    Slot::Empty => {}
-                    _ => unreachable!(),
-                }
-                shared.swap::<Fail>(&mut pass.seat, word, FAULTED);
-                pass.holding = None;
-                pass.posted = 0;
-            }
-            None => unreachable!(),
-        }
+        shared.swap::<End>(&mut pass.seat, number as usize, code);
+        pass.holding = None;
+        pass.posted = 0;
     }
 }

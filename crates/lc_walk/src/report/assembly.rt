@@ -9,10 +9,11 @@ ghost use Rattle.lc_walk.specs.declared.row.Row.{Row};
 use crate::report::Report;
 use crate::report::row_lines::{Lists, lists_of, row_of};
 use crate::report::tree_check::{TreeFault, check_tree};
-use crate::row::{Cause, Row};
+use crate::row::Row;
 use crate::tally::Tally;
 use crate::walk_fault::WalkFault;
 use lc_board::{Closed, Ended};
+use lc_level::Cause;
 use std::alloc::Global;
 
 /// The row was given up for this cause.

@@ -1,7 +1,7 @@
 //! What a report says of one file and of one fault.
-use crate::report::fault_word::FaultWord;
 use lc_census::Count;
 use lc_rules::TextState;
+use lc_tree::FaultWord;
 use std::marker::Model;
 
 /// A counted file.
@@ -33,7 +33,7 @@ pub struct FaultLine {
 }
 
 impl Model for FaultLine {
-    ghost use Rattle.lc_walk.specs.ReportLines.{FaultLineModel};
+    ghost use Rattle.lc_level.specs.FaultLines.{FaultLineModel};
 
     ghost Value = { FaultLineModel };
 

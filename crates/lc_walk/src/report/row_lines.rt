@@ -2,13 +2,14 @@
 ghost use Rattle.std.specs.Prelude.{◌≡◌, ℕ, ◌+◌, ◌≤◌, ◌^◌, List, [], ◌++◌, cond, map, length, IfOk, OnOk};
 ghost use Rattle.lc_walk.specs.Rows.{row_of};
 ghost use Rattle.lc_walk.specs.WalkReport.{line_of};
-ghost use Rattle.lc_walk.specs.Assembled.{fault_line, directories_by_row, files_by_row, faults_by_row, directories_in_rows, files_in_rows, faults_in_rows};
-ghost use Rattle.lc_walk.specs.Rows.{place_path};
+ghost use Rattle.lc_walk.specs.Assembled.{fault_line, directories_by_row, files_by_row, faults_by_row, directories_in_rows};
+ghost use Rattle.lc_walk.specs.Assembled.{files_in_rows, faults_in_rows};
+ghost use Rattle.lc_level.specs.PlacePaths.{place_path};
 
-use crate::paths::path_in;
 use crate::report::{FaultLine, FileLine};
-use crate::row::{Counted, FaultedRow, FileFault, ListedRow, Place, Row};
+use crate::row::{FaultedRow, ListedRow, Row};
 use lc_board::Ended;
+use lc_level::{Counted, FileFault, Place, path_in};
 use std::alloc::{AllocError, Global};
 
 /// The row by which a number ended.
@@ -95,14 +96,14 @@ pub fn push_row(alloc: Global, row: &Row, files: bool, lists: &mut Lists) -> Res
     match row {
         Row::Listed(row) => {
             if files {
-                push_files(alloc, &row.job.path, &row.files, &mut lists.files)?;
+                push_files(alloc, row.job().path(), row.files(), &mut lists.files)?;
             }
-            push_faults(alloc, &row.job.path, &row.faults, &mut lists.faults)?;
+            push_faults(alloc, row.job().path(), row.faults(), &mut lists.faults)?;
             lists.directories += 1;
         }
         Row::Faulted(row) => {
             lists.faults.push(FaultLine {
-                path: place_path(alloc, &row.job.path, row.place)?,
+                path: place_path(alloc, row.job.path(), row.place)?,
                 word: row.word,
             })?;
         }

@@ -1,14 +1,15 @@
 //! Whether rows make a tree.
-ghost use Rattle.std.specs.Prelude.{◌≡◌, ℕ, ◌+◌, ◌<◌, ◌≤◌, ◌^◌, List, true, false, length, slice_get, slice_set, replicate, Some, IfOk, IfErr, OnOk, OnErr};
+ghost use Rattle.std.specs.Prelude.{◌≡◌, ℕ, ◌+◌, ◌<◌, ◌≤◌, ◌^◌, List, true, false, length, slice_get, slice_set, replicate, Some};
+ghost use Rattle.std.specs.Prelude.{IfOk, IfErr, OnOk, OnErr};
 ghost use Rattle.lc_walk.specs.Rows.{row_of, job_of, children_in};
 ghost use Rattle.lc_glob.specs.Path.{path_in};
 ghost use Rattle.lc_walk.specs.Assembled.{IsPlaced};
 ghost use Rattle.lc_walk.specs.Marks.{Marks, IsNext, IsPathAt, RefusesTree};
 
-use crate::paths::path_in;
 use crate::report::row_lines::row_of;
 use crate::row::{Child, Row};
 use lc_board::Ended;
+use lc_level::path_in;
 use std::alloc::{AllocError, Global};
 
 /// Why rows make no tree.
@@ -24,9 +25,9 @@ pub fn path_of(row: &Row) -> &[u8]
     ensures { result.now ≡ (job_of row.now).path }
 {
     match row {
-        Row::Listed(row) => &row.job.path,
-        Row::Faulted(row) => &row.job.path,
-        Row::Broken(row) => &row.job.path,
+        Row::Listed(row) => row.job().path(),
+        Row::Faulted(row) => row.job.path(),
+        Row::Broken(row) => row.job.path(),
     }
 }
 
@@ -35,7 +36,7 @@ pub fn children_of(row: &Row) -> &[Child]
     ensures { result.now ≡ children_in row.now }
 {
     match row {
-        Row::Listed(row) => &row.children,
+        Row::Listed(row) => row.children(),
         Row::Faulted(_) => &[],
         Row::Broken(_) => &[],
     }
@@ -48,7 +49,8 @@ fn is_child_path(
     child: &Child,
     path: &[u8],
 ) -> Result<bool, AllocError>
-    ensures { IfOk result (λ b. (b ≡ true → path.now ≡ path_in directory.now child.now.name) × (b ≡ false → path.now ≡ path_in directory.now child.now.name → ⊥)) }
+    ensures { IfOk result (λ b. (b ≡ true → path.now ≡ path_in directory.now child.now.name)
+        × (b ≡ false → path.now ≡ path_in directory.now child.now.name → ⊥)) }
 {
     let own = path_in(alloc, directory, &child.name)?;
     Ok(own.as_slice() == path)

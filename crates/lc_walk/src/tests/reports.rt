@@ -1,9 +1,10 @@
 //! The lists of a report.
 
 use super::tallies::put;
-use crate::{FaultLine, FaultWord, FileLine, Report, Tally};
+use crate::{FaultLine, FileLine, Report, Tally};
 use lc_census::{Count, Eol};
 use lc_rules::TextState;
+use lc_tree::FaultWord;
 use std::alloc::{AllocError, Global};
 use std::test::Fail;
 

@@ -1,6 +1,6 @@
 use Rattle.std.proofs.Common.{map, sym, ◌∙◌, subst, arith, Err}
 use Rattle.lc_walk.specs.Passes.{asked}
-use Rattle.lc_walk.specs.TreeAnswers.{MayAnswer}
+use Rattle.lc_level.specs.TreeAnswers.{MayAnswer}
 use Rattle.lc_walk.specs.WalkAnswers.{WalkAnswers}
 use Rattle.lc_walk.proofs.WalkOn.{assembled_walk, refused_walk, few_rows, mapped}
 use Rattle.lc_walk.proofs.closing.finish.Goals as goal

@@ -1,13 +1,14 @@
 use Rattle.std.proofs.Common.{rules}
 use Rattle.std.specs.Ordering.{is_lt}
 use Rattle.std.proofs.lemmas.Fn.{always_returns_same}
-use Rattle.lc_walk.specs.ReportLines.{FileLineModel, path_cmp}
-use Rattle.lc_walk.proofs.Sorting.{sorted_paths, paths_rank}
+use Rattle.lc_walk.specs.ReportLines.{FileLineModel}
+use Rattle.lc_tree.specs.ByteOrder.{bytes_cmp}
+use Rattle.lc_tree.proofs.Sorting.{sorted_paths, paths_rank}
 use Rattle.lc_walk.proofs.report.sort_files.Goals as goal
 
 pub returns-clause-order : goal.returns-clause-order
 returns-clause-order c =
-    c.sort_unstable_by.ensures.sorted (λ (x : FileLineModel) (y : FileLineModel). is_lt (path_cmp x.path y.path)) (paths_rank (λ (f : FileLineModel). f.path)) (always_returns_same _ _ _ (λ a r q k. search rules))
+    c.sort_unstable_by.ensures.sorted (λ (x : FileLineModel) (y : FileLineModel). is_lt (bytes_cmp x.path y.path)) (paths_rank (λ (f : FileLineModel). f.path)) (always_returns_same _ _ _ (λ a r q k. search rules))
 
 pub returns-clause-strict : goal.returns-clause-strict
 returns-clause-strict c =

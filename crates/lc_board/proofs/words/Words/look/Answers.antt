@@ -1,14 +1,17 @@
-use Rattle.std.proofs.Common.{arith}
+use Rattle.std.proofs.Common.{sym, subst, arith}
+use Rattle.lc_board.specs.WordSteps.{Missed}
 use Rattle.lc_board.proofs.WordClaims.{looks}
 use Rattle.lc_board.proofs.WordMarks.{marked_missed}
 use Rattle.lc_board.proofs.words.Words.look.Goals as goal
 
-pub load-found-requires : goal.load-found-requires
-load-found-requires g c = let sq = c.args.self.now.square in let near = c.requires.near in (
+pub load-requires : goal.load-requires
+load-requires g c = let sq = c.args.self.now.square in let near = c.requires.near in (
   c.requires.board,
   omega arith,
   looks _ _ _ _ _ _ c.args.pass.now.ties.live (omega arith),
 )
 
 pub invariant_of-pass-clause-marked : goal.invariant_of-pass-clause-marked
-invariant_of-pass-clause-marked g c = marked_missed _ c.args.number c.load-found.result c.args.pass.now.taken _ c.args.pass.now.seat.me.0 c.load-found.new.seat.me.0 c.load-found.ensures.2.1 c.next_taken-pass.ensures c.args.pass.now.marked
+invariant_of-pass-clause-marked g c = let v = c.args.pass.now.seat.me.0 in let w = c.load.new.seat.me.0 in
+    let saw = subst (λ x. Missed c.args.self.now.table.shared.table_id.slots c.args.number x v w) (sym c.of-found.ensures) c.load.ensures.2.1 in
+    marked_missed _ c.args.number c.of-found.result c.args.pass.now.taken _ v w saw c.next_taken-pass.ensures c.args.pass.now.marked

@@ -1,14 +1,11 @@
 use Rattle.std.proofs.Common.{◌≡◌, ◌-◌, ◌≤◌, None}
 use Rattle.lc_board.proofs.WordScans.{IsScan}
+use Rattle.lc_board.specs.WordsBoard.{IsSamePass}
 use Rattle.lc_board.proofs.words.Words.seek.Given as goal
 
 abbrev pub invariant-loop-number : goal.invariant-loop-number
 invariant-loop-number g l = record {
-  own : l.pass.seat.table_id ≡ l.initial.pass.seat.table_id;
-  worker : l.pass.worker ≡ l.initial.pass.worker;
-  full : l.pass.full ≡ l.initial.pass.full;
-  workers : l.pass.seat.me.0.workers ≡ l.initial.pass.seat.me.0.workers;
-  root : l.pass.seat.me.0.root ≡ l.initial.pass.seat.me.0.root;
+  same : IsSamePass l.initial.pass l.pass;
   holding : l.pass.holding ≡ None;
   from : l.initial.pass.taken ≤ l.number;
   scan : IsScan l.self.capacity l.initial.pass.taken l.number l.busy l.initial.pass.seat.me.0 l.pass.seat.me.0;

@@ -4,13 +4,18 @@ use mathlib.Core.Option.{some, some-injective}
 use native.Mathlib.Decide.{ℕ_discrete}
 use lib.ListN.{get_elem?}
 use Rattle.std.specs.Mem.Slots.{slots_items, slots_filled, slots_counts}
+use Rattle.lc_board.specs.WordCode.{has_ended}
 use Rattle.lc_board.specs.declared.words.view.Slot.TheVariants.{Row}
-use Rattle.lc_board.proofs.WordCloses.{rows_more}
+use Rattle.lc_board.proofs.WordCloses.{word_here, rows_more}
 use Rattle.lc_board.proofs.words.close.take_rows.Goals as goal
 
 pub unreachable-requires : goal.unreachable-requires
 unreachable-requires g c = let inv = c.loop-number.invariant in let x = c.requires.rows c.loop-number.number c.loop-number-test.true in
     c.in_default.not-Row x.0 (some-injective c.take.result (Row x.0) (sym c.take.ensures.value ∙ (ap (λ z. get_elem? z c.loop-number.number) inv.same_items ∙ x.1)))
+
+pub ended_row-requires : goal.ended_row-requires
+ended_row-requires g c = let inv = c.loop-number.invariant in
+    ap has_ended (c.of-word.ensures ∙ sym (word_here (slots_items c.args.closed.words) c.loop-number.number c.word.result (ap (λ z. get_elem? (slots_items z) c.loop-number.number) (sym inv.same_words) ∙ c.word.ensures))) ∙ c.requires.ended c.loop-number.number c.loop-number-test.true
 
 pub loop-number-preserved : goal.loop-number-preserved
 loop-number-preserved g c = let inv = c.loop-number.invariant in let others = c.take.ensures.others in let n : ℕ = c.loop-number.number in record {
@@ -23,8 +28,8 @@ loop-number-preserved g c = let inv = c.loop-number.invariant in let others = c.
       (λ ne. get_or-set_other (slots_filled c.loop-number.closed.slots) c.loop-number.number k false false ne ∙ inv.gone k (let y : k ≢ c.loop-number.number = ne in omega (arith, a, y)));
   taken = c.push_reserved.ensures.len ∙ ap (λ m. m + 1) inv.taken;
   room = omega (arith, inv.room, c.push_reserved.ensures.capacity);
-  rows = λ k r low at. rw (c.push_reserved.ensures.items, c.make_row.ensures)
-      (rows_more (slots_items c.args.closed.words) (slots_items c.args.closed.slots) c.loop-number.rows.items c.loop-number.number c.word-word.result c.in-Row.row (sym c.loop-number.rows.ok.0 ∙ inv.taken)
-      (ap (λ z. get_elem? (slots_items z) c.loop-number.number) (sym inv.same_words) ∙ c.word-word.ensures)
-      (ap (λ z. get_elem? z c.loop-number.number) (sym inv.same_items) ∙ (c.take.ensures.value ∙ ap (λ z. some z) c.in-Row.is)) inv.rows k r low at);
+  rows = λ k r low at. rw c.push_reserved.ensures.items
+      (rows_more (slots_items c.args.closed.words) (slots_items c.args.closed.slots) c.loop-number.rows.items c.loop-number.number c.of-word.result c.in-Row.row c.ended_row.result (sym c.loop-number.rows.ok.0 ∙ inv.taken)
+      (word_here (slots_items c.args.closed.words) c.loop-number.number c.word.result (ap (λ z. get_elem? (slots_items z) c.loop-number.number) (sym inv.same_words) ∙ c.word.ensures) ∙ sym c.of-word.ensures)
+      (ap (λ z. get_elem? z c.loop-number.number) (sym inv.same_items) ∙ (c.take.ensures.value ∙ ap (λ z. some z) c.in-Row.is)) c.ended_row.ensures inv.rows k r low at);
 }

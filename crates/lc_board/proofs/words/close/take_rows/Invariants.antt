@@ -1,10 +1,7 @@
-use Rattle.std.proofs.Common.{◌≡◌, ℕ, ◌<◌, ◌≤◌, false, get_or, slice_get, vec_len, vec_capacity, Some}
-use mathlib.Core.Option.{some}
-use lib.ListN.{get_elem?}
+use Rattle.std.proofs.Common.{◌≡◌, ℕ, ◌<◌, ◌≤◌, false, get_or, vec_len, vec_capacity}
 use Rattle.std.specs.Mem.Slots.{slots_items, slots_filled, slots_len}
 use Rattle.std.specs.Mem.Slots.Ownership.{Filled}
-use Rattle.lc_board.specs.WordClose.{row_of}
-use Rattle.lc_board.specs.declared.words.view.Slot.TheVariants.{Row}
+use Rattle.lc_board.specs.WordClose.{TakesRows}
 use Rattle.lc_board.proofs.words.close.take_rows.Given as goal
 
 abbrev pub invariant-loop-number : goal.invariant-loop-number
@@ -16,5 +13,5 @@ invariant-loop-number g l = record {
   gone : (k : ℕ) → k < l.number → get_or (slots_filled l.closed.slots) k false ≡ false;
   taken : vec_len l.rows ≡ l.number;
   room : l.count ≤ vec_capacity l.rows;
-  rows : (k : ℕ) (r : _) → k < l.number → get_elem? (slots_items l.initial.closed.slots) k ≡ some (Row r) → slice_get l.rows.items k ≡ Some (row_of (get_or (slots_items l.initial.closed.words) k 0) r);
+  rows : TakesRows l.number (slots_items l.initial.closed.words) (slots_items l.initial.closed.slots) l.rows.items;
 }

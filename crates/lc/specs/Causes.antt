@@ -1,0 +1,48 @@
+-- Why the program gives up, and the line that says so.
+use Rattle.std.specs.Prelude.{ℕ, List, ◌++◌, codes, decimal}
+use Rattle.lc_walk.specs.declared.walk_fault.WalkFault.TheVariants as walk
+use Rattle.lc.specs.declared.check.CheckFault.{CheckFault}
+use Rattle.lc.specs.declared.check.CheckFault.TheVariants as check
+use Rattle.lc.specs.declared.rules_file.RulesFileFault.{RulesFileFault}
+use Rattle.lc.specs.declared.rules_file.RulesFileFault.TheVariants as rules
+use Rattle.lc.specs.declared.run.RunFault.{RunFault}
+use Rattle.lc.specs.declared.run.RunFault.TheVariants as run
+use Rattle.lc.specs.declared.cause.Cause.{Cause}
+use Rattle.lc.specs.declared.cause.Cause.TheVariants.{Memory, TooManyDirs, TooDeep, Torn, Mismatch, UnreadRules, RulesTooLong}
+use Rattle.lc.specs.declared.cause.Cause.TheVariants.{UnreadInput, InputTooLong, Unwritten}
+
+abbrev pub cause_line : Cause → List ℕ
+cause_line Memory = codes "lc: out of memory\n"
+cause_line TooManyDirs = codes "lc: too many directories\n"
+cause_line TooDeep = codes "lc: path too deep\n"
+cause_line (Torn n) = codes "lc: internal: directory " ++ decimal n ++ codes " torn\n"
+cause_line (Mismatch w) = codes "lc: internal: worker " ++ decimal w ++ codes " mismatch\n"
+cause_line UnreadRules = codes "lc: cannot read rules\n"
+cause_line RulesTooLong = codes "lc: rules too long\n"
+cause_line UnreadInput = codes "lc: cannot read input\n"
+cause_line InputTooLong = codes "lc: input too long\n"
+cause_line Unwritten = codes "lc: cannot write\n"
+
+-- a file that gave no rules
+abbrev pub rules_cause : RulesFileFault → Cause
+rules_cause rules.Unread = UnreadRules
+rules_cause rules.TooLong = RulesTooLong
+rules_cause rules.Memory = Memory
+
+-- a check that stopped
+abbrev pub check_cause : CheckFault → Cause
+check_cause check.Read = UnreadInput
+check_cause check.InputTooLong = InputTooLong
+check_cause check.RulesTooLong = RulesTooLong
+check_cause check.Memory = Memory
+check_cause check.Write = Unwritten
+
+-- a run that stopped
+abbrev pub run_cause : RunFault → Cause
+run_cause (run.Walk walk.Memory) = Memory
+run_cause (run.Walk walk.TooManyDirs) = TooManyDirs
+run_cause (run.Walk walk.TooDeep) = TooDeep
+run_cause (run.Walk (walk.Torn n)) = Torn n
+run_cause (run.Walk (walk.Mismatch w)) = Mismatch w
+run_cause run.Memory = Memory
+run_cause run.Write = Unwritten

@@ -1,0 +1,54 @@
+-- The commands and their arguments, as clap sees them.
+use Rattle.std.specs.Prelude.{ℕ, true, List, [], ◌∷◌, pos, Some, codes}
+use Rattle.clap.specs.Simple.{App, Shape, new_app, new_rule, on_top, with_rule, with_subcommand}
+use Rattle.clap.specs.Walk.{Rule}
+use Rattle.clap.specs.declared.builder.action.ArgAction.TheVariants.{Set, SetTrue}
+use Rattle.clap.specs.declared.builder.value_parser.ValueParser.TheVariants.{Signed}
+
+-- an option with a number from 1 on
+abbrev pub number_rule : List ℕ → ℕ → List ℕ → Rule
+number_rule name most default = record (new_rule name) {
+  long = Some name;
+  value_names = 1;
+  action = Some Set;
+  parser = Some (Signed (pos 1) (pos most));
+  defaults = default ∷ [];
+}
+
+abbrev pub flag_rule : List ℕ → Rule
+flag_rule name = record (new_rule name) { long = Some name; action = Some SetTrue }
+
+-- an option with a text
+abbrev pub text_rule : List ℕ → Rule
+text_rule name = record (new_rule name) { long = Some name; value_names = 1; action = Some Set }
+
+-- a word that is wanted
+abbrev pub word_rule : List ℕ → Rule
+word_rule name = record (new_rule name) { required = true; action = Some Set }
+
+-- a command without arguments, whose own name is not among the words
+abbrev pub bare_app : List ℕ → App
+bare_app name = on_top (λ (s : Shape). record s { no_binary_name = true }) (new_app name)
+
+abbrev pub count_rules : List Rule
+count_rules =
+    number_rule (codes "threads") 16 (codes "4") ∷ number_rule (codes "max-dirs") 1048576 (codes "65536")
+    ∷ flag_rule (codes "files") ∷ flag_rule (codes "archive") ∷ text_rule (codes "exclude-from") ∷ word_rule (codes "DIR") ∷ []
+
+-- each in turn
+abbrev pub with_rules : App → List Rule → App
+with_rules a [] = a
+with_rules a (r ∷ rs) = with_rules (with_rule a r) rs
+
+abbrev pub count_app : App
+count_app = with_rules (bare_app (codes "count")) count_rules
+
+abbrev pub check_app : App
+check_app = with_rule (bare_app (codes "check")) (word_rule (codes "FILE"))
+
+-- for what belongs to no command
+abbrev pub bare_lc_app : App
+bare_lc_app = on_top (λ (s : Shape). record s { no_binary_name = true; has_version = true }) (new_app (codes "lc"))
+
+abbrev pub lc_app : App
+lc_app = with_subcommand (with_subcommand bare_lc_app count_app.top) check_app.top

@@ -1,0 +1,66 @@
+-- How the program ends on words, by what it read, wrote and told.
+use Rattle.std.specs.Prelude.{◌≡◌, ◌⊎◌, ℕ, List, [], Result, Ok, Err}
+use Rattle.lc_census.specs.declared.source.Failed.{Failed}
+use Rattle.lc_census.specs.Reads.{Answer}
+use Rattle.lc.specs.Causes.{cause_line}
+use Rattle.lc.specs.Requests.{Reply, AnswersRequest}
+use Rattle.lc.specs.Words.{Asks, MayRefuse, MayShow, faults_in}
+use Rattle.lc.specs.Writes.{Writes, AnswersPrint}
+use Rattle.lc.specs.declared.arguments.Request.{Request}
+use Rattle.lc.specs.declared.cause.Cause.{Cause}
+use Rattle.lc.specs.declared.cause.Cause.TheVariants.{Memory, Unwritten}
+use Rattle.lc.specs.declared.print.PrintFault.{PrintFault}
+use Rattle.lc.specs.declared.program.Ending.{Ending}
+use Rattle.lc.specs.declared.program.Ending.TheVariants.{Done, SomeFaults, Misused, GaveUp}
+use Rattle.lc.specs.declared.run.Outcome.TheVariants as outcome
+
+abbrev pub status_of : Ending → ℕ
+status_of Done = 0
+status_of SomeFaults = 1
+status_of Misused = 2
+status_of (GaveUp _) = 3
+
+module _ {E : Type 0} (may_take : E → List ℕ → Result ℕ Failed → E → Type 0) where
+  -- this text was written, as far as the stream takes it
+  abbrev pub Tells : E → List ℕ → E → Type 0
+  Tells err text told = (answer : Result (Unit {0}) PrintFault) × AnswersPrint may_take err text answer told
+
+  -- the line of the cause, or that of want of memory where there is none for it
+  abbrev pub TellsCause : E → Cause → E → Type 0
+  TellsCause err cause told = Tells err (cause_line cause) told ⊎ Tells err (cause_line Memory) told
+
+-- a text was written, as help is; or it was not, or not whole
+abbrev pub EndsShown : {O E : Type 0} → (O → List ℕ → Result ℕ Failed → O → Type 0) → (E → List ℕ → Result ℕ Failed → E → Type 0)
+    → List ℕ → O → E → Ending → O → E → Type 0
+EndsShown may_take may_tell text out err Done wrote told = Writes may_take out text wrote × (told ≡ err)
+EndsShown may_take may_tell text out err SomeFaults wrote told = ⊥
+EndsShown may_take may_tell text out err Misused wrote told = ⊥
+EndsShown may_take may_tell text out err (GaveUp cause) wrote told =
+    (cause ≡ Unwritten) × Tells may_take out text wrote × TellsCause may_tell err cause told
+
+module _ {I O E : Type 0} (may_give : I → ℕ → Answer → I → Type 0) (may_take : O → List ℕ → Result ℕ Failed → O → Type 0)
+    (may_tell : E → List ℕ → Result ℕ Failed → E → Type 0) where
+  -- the request of the words had this reply
+  abbrev pub Replies : List (List ℕ) → I → O → Reply → I → O → Type 0
+  Replies words input out reply read wrote =
+      (faults_in words ≡ []) × ((request : Request) × Asks words request × AnswersRequest may_give may_take request input out reply read wrote)
+
+  -- the words ask for a text, nothing was read, and it was shown
+  abbrev pub Shows : List (List ℕ) → I → O → E → Ending → I → O → E → Type 0
+  Shows words input out err ending read wrote told =
+      MayShow (faults_in words) × (read ≡ input) × ((text : List ℕ) × EndsShown may_take may_tell text out err ending wrote told)
+
+  abbrev pub Ends : List (List ℕ) → I → O → E → Ending → I → O → E → Type 0
+  -- a request was answered and all is well, or a text was shown
+  Ends words input out err Done read wrote told =
+      (Replies words input out (Ok outcome.Clean) read wrote × (told ≡ err)) ⊎ Shows words input out err Done read wrote told
+  -- a table was written that has a fault
+  Ends words input out err SomeFaults read wrote told = Replies words input out (Ok outcome.SomeFaults) read wrote × (told ≡ err)
+  -- the words fail, nothing was read or written, and why was told
+  Ends words input out err Misused read wrote told =
+      MayRefuse (faults_in words) × (read ≡ input) × (wrote ≡ out) × ((why : List ℕ) × Tells may_tell err why told)
+  -- a request was given up for this cause, or a text was not shown, or there was no memory to read the words
+  Ends words input out err (GaveUp cause) read wrote told =
+      (Replies words input out (Err cause) read wrote × TellsCause may_tell err cause told)
+      ⊎ (Shows words input out err (GaveUp cause) read wrote told
+      ⊎ ((cause ≡ Memory) × (read ≡ input) × (wrote ≡ out) × TellsCause may_tell err cause told))

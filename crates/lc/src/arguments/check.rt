@@ -1,0 +1,53 @@
+//! The words of `lc check`.
+
+ghost use Rattle.std.specs.Prelude.{◌≡◌, IfOk, map, codes};
+ghost use Rattle.lc.specs.CommandLine.{check_app, word_rule};
+ghost use Rattle.lc.specs.CountArgs.{IsArgOf, IsCommandOf, IsBare};
+ghost use Rattle.lc.specs.Explained.{AnswersCheckWords};
+
+use super::{NoRequest, explained, help};
+use clap::{Arg, ArgAction, Command};
+use std::alloc::{AllocError, Global};
+use std::convert::AsStr;
+
+fn file<'a>(alloc: Global) -> Arg<'a>
+    ensures { IsArgOf (word_rule (codes "FILE")) result }
+{
+    Arg::new(alloc, "FILE")
+        .required(true)
+        .action(ArgAction::Set)
+        .help("An ignore file")
+}
+
+fn bare<'a>(alloc: Global) -> Result<Command<'a>, AllocError>
+    ensures { IfOk result (IsBare (codes "check")) }
+{
+    Ok(
+        Command::new(alloc, "check")
+            .about(help::ABOUT_CHECK)
+            .after_help(help::AFTER_CHECK)
+            .no_binary_name(true)
+            .bin_name("lc check")?,
+    )
+}
+
+/// The command, without its name among the words.
+pub(super) fn command<'a>(alloc: Global) -> Result<Command<'a>, AllocError>
+    ensures { IfOk result (IsCommandOf check_app) }
+{
+    let command = bare(alloc)?.arg(file(alloc))?;
+    Ok(command)
+}
+
+/// The file that the words after `check` name.
+pub(super) fn read<'w, W: AsStr>(alloc: Global, words: &'w [W]) -> Result<&'w str, NoRequest>
+    ensures { AnswersCheckWords (map W.text words.entry.now) result }
+{
+    let Ok(command) = command(alloc) else {
+        return Err(NoRequest::Memory);
+    };
+    match command.try_get_matches_from(words) {
+        Ok(matches) => Ok(matches.get_str("FILE").unwrap_or("")),
+        Err(error) => Err(explained(alloc, &error, help::EXAMPLE_CHECK)),
+    }
+}

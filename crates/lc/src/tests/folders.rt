@@ -1,0 +1,115 @@
+//! The program over folders of the system.
+
+use crate::program::program;
+use std::alloc::AllocError;
+use std::process::Abort;
+use std::rt::Files;
+use std::sync::Wait;
+use std::test::Fail;
+use std::thread::Threads;
+use std::{fs, io};
+
+/// The folder of the tests, which stands where they run.
+const TOP: &str = "lc_counts";
+
+/// Paths below the folder, and what the file there has.
+const FILES: &[(&str, &[u8])] = &[
+    (".gitignore", b"*.log\n!keep.log\n/build/\n"),
+    ("a.log", b"x\n"),
+    ("keep.log", b"k\n"),
+    ("build/x.c", b"x\n"),
+    ("src/build/y.c", b"int y;\r\n"),
+];
+
+const TABLE: &[u8] =
+    b"ext\ttext\teol\tfiles\tlines\tblank\tbytes\n-\t-\tlf\t1\t3\t0\t24\n.c\t-\tcrlf\t1\t1\t0\t8\n.log\t-\tlf\t1\t1\t0\t2\ntotal\t*\t*\t3\t5\t0\t34\ndirectories\t3\n";
+
+const NOTHING: &[u8] =
+    b"ext\ttext\teol\tfiles\tlines\tblank\tbytes\ntotal\t*\t*\t0\t0\t0\t0\ndirectories\t0\nfault\tread\t.\n";
+
+/// What is shown, the words, and the status, output and errors that are wanted.
+type Case = (
+    &'static str,
+    &'static [&'static str],
+    u8,
+    &'static [u8],
+    &'static [u8],
+);
+
+const CASES: &[Case] = &[
+    ("a_folder", &["count", "lc_counts"], 0, TABLE, b""),
+    (
+        "a_folder_by_16_workers",
+        &["count", "--threads", "16", "lc_counts"],
+        0,
+        TABLE,
+        b"",
+    ),
+    (
+        "as_many_directories_as_may_be",
+        &["count", "--max-dirs", "1048576", "lc_counts"],
+        0,
+        TABLE,
+        b"",
+    ),
+    (
+        "no_folder",
+        &["count", "lc_counts/missing"],
+        1,
+        NOTHING,
+        b"",
+    ),
+    ("a_file", &["count", "lc_counts/a.log"], 1, NOTHING, b""),
+    (
+        "too_many_directories",
+        &["count", "--max-dirs", "2", "lc_counts"],
+        3,
+        b"",
+        b"lc: too many directories\n",
+    ),
+];
+
+fn make_folder<R: Files + AllocGlobal>(rt: &R) -> io::Result<()> {
+    let alloc = rt.alloc();
+    for dir in ["build", "src/build"] {
+        fs::create_dir_all(rt, format!(in alloc; "{TOP}/{dir}")?.as_str())?;
+    }
+    for (path, bytes) in FILES {
+        fs::write(rt, format!(in alloc; "{TOP}/{path}")?.as_str(), *bytes)?;
+    }
+    Ok(())
+}
+
+fn compare<R: Files + Threads + Wait + Sync + AllocGlobal + Abort>(
+    rt: &R,
+    case: &Case,
+) -> Result<(), Fail>
+where
+    R::File: Send,
+    R::Dir: Send,
+{
+    let (name, words, status, text, errors) = *case;
+    let mut input: &[u8] = b"";
+    let mut out = Vec::with_capacity(rt.alloc(), 1_024)?;
+    let mut err = Vec::with_capacity(rt.alloc(), 64)?;
+    let found = program(rt, words, &mut input, &mut out, &mut err);
+    if err.as_slice() == b"lc: out of memory\n".as_slice() {
+        assert!(rt; found == 3 && out.is_empty(), "{name}");
+        return Err(AllocError.into());
+    }
+    assert!(rt; found == status, "{name}");
+    assert!(rt; out.as_slice() == text, "{name}");
+    assert!(rt; err.as_slice() == errors, "{name}");
+    Ok(())
+}
+
+#[test]
+fn counts(rt: HostRuntime) -> Result<(), Fail> {
+    let _ = fs::remove_dir_all(&rt, TOP);
+    make_folder(&rt)?;
+    for case in CASES {
+        compare(&rt, case)?;
+    }
+    fs::remove_dir_all(&rt, TOP)?;
+    Ok(())
+}

@@ -1,0 +1,140 @@
+//! What a pass of a locked board notes of each call.
+ghost use Rattle.std.specs.Prelude.{◌≡◌, ◌≢◌, ℕ, ◌<◌, ◌≤◌, ◌+◌, None, OnOk, Ok, vec_len, vec_capacity};
+ghost use Rattle.lc_board.specs.Pass.{holding, new_pass, filled, refusing};
+ghost use Rattle.lc_board.specs.Pass.{after_claim, after_post, after_give, after_fault};
+ghost use Rattle.lc_board.specs.declared.answers.Claim.TheVariants as answer;
+ghost use Rattle.lc_board.specs.LockedBoard.{told};
+ghost use Rattle.lc_board.specs.Limits.{capacity_limit};
+
+use crate::event::Event;
+use crate::locked::pass::LockedPass;
+use std::alloc::{AllocError, Global};
+use std::snapshot::Snapshot;
+
+impl<J, R> LockedPass<J, R> {
+    /// A pass that has done nothing.
+    pub(crate) fn new(alloc: Global, worker: u32) -> LockedPass<J, R>
+        ensures { told result ≡ new_pass worker }
+    {
+        LockedPass {
+            worker,
+            held: None,
+            posts: 0,
+            full: false,
+            refused: false,
+            notes: Vec::new(alloc),
+        }
+    }
+
+    pub(crate) fn notes(&self) -> &[Event<Snapshot<J>, Snapshot<R>>]
+        ensures { result.now ≡ self.now.notes.items }
+    {
+        self.notes.as_slice()
+    }
+
+    /// Makes room for one note, and for that of the end of the claim.
+    pub(crate) fn make_room(&mut self) -> Result<(), AllocError>
+        ensures same { told self.new ≡ told self.old }
+        ensures posts { self.new.posts ≡ self.old.posts }
+        ensures room { OnOk result (vec_len self.new.notes + 2 ≤ vec_capacity self.new.notes) }
+    {
+        self.notes.reserve(2)
+    }
+
+    /// A claim was answered Memory.
+    pub(crate) fn refuse(&mut self)
+        ensures { told self.new ≡ refusing (told self.old) }
+    {
+        self.refused = true;
+    }
+
+    /// A post was answered Full.
+    pub(crate) fn fill(&mut self)
+        ensures { told self.new ≡ filled (told self.old) }
+    {
+        self.full = true;
+    }
+
+    /// Notes a claim that was got.
+    #[tactic(auto, using(crate::proofs::NewestFirst::mine_push))]
+    pub(crate) fn note_claim(&mut self, number: u32, job: &J)
+        requires { vec_len self.old.notes + 2 ≤ vec_capacity self.old.notes }
+        ensures { told self.new ≡ after_claim (told self.old) (answer.Got number job.now) }
+    {
+        self.notes.push_reserved(Event::Claim {
+            worker: self.worker,
+            number,
+            job: Snapshot::of(job),
+        });
+        self.held = Some(number);
+        self.posts = 0;
+    }
+
+    /// Notes that the board is over.
+    #[tactic(auto, using(crate::proofs::NewestFirst::mine_push))]
+    pub(crate) fn note_over(&mut self)
+        requires room { vec_len self.old.notes + 2 ≤ vec_capacity self.old.notes }
+        requires free { holding (told self.old) ≡ None }
+        ensures { told self.new ≡ after_claim (told self.old) answer.Over }
+    {
+        self.notes.push_reserved(Event::Over {
+            worker: self.worker,
+        });
+    }
+
+    /// Notes a post.
+    #[tactic(auto, using(crate::proofs::NewestFirst::mine_push))]
+    pub(crate) fn note_post(&mut self, number: u32, job: Snapshot<J>)
+        requires room { vec_len self.old.notes + 2 ≤ vec_capacity self.old.notes }
+        requires posts { self.old.posts < capacity_limit }
+        requires held { holding (told self.old) ≢ None }
+        ensures { told self.new ≡ after_post (told self.old) job.value (Ok number) }
+    {
+        let Some(parent) = self.held else {
+            unreachable!()
+        };
+        self.notes.push_reserved(Event::Post {
+            worker: self.worker,
+            parent,
+            number,
+            job,
+        });
+        self.posts += 1;
+    }
+
+    /// Notes the end of the claim.
+    #[tactic(auto, using(crate::proofs::NewestFirst::mine_push))]
+    pub(crate) fn note_give(&mut self, row: &R)
+        requires held { holding (told self.old) ≢ None }
+        ensures { told self.new ≡ after_give (told self.old) row.now }
+    {
+        let Some(number) = self.held else {
+            unreachable!()
+        };
+        self.notes.push_reserved(Event::Return {
+            worker: self.worker,
+            number,
+            row: Snapshot::of(row),
+        });
+        self.held = None;
+        self.posts = 0;
+    }
+
+    /// Notes a fault that ends the claim.
+    #[tactic(auto, using(crate::proofs::NewestFirst::mine_push))]
+    pub(crate) fn note_fault(&mut self, row: &R)
+        requires held { holding (told self.old) ≢ None }
+        ensures { told self.new ≡ after_fault (told self.old) row.now }
+    {
+        let Some(number) = self.held else {
+            unreachable!()
+        };
+        self.notes.push_reserved(Event::Fault {
+            worker: self.worker,
+            number,
+            row: Snapshot::of(row),
+        });
+        self.held = None;
+        self.posts = 0;
+    }
+}

@@ -1,0 +1,61 @@
+//! The steps of a post on the seat of a pass: a number is drawn, its slot is filled, and it is opened.
+ghost use Rattle.std.specs.Prelude.{◌≡◌, ◌<◌, ◌∷◌};
+ghost use Rattle.atomic_table.specs.Table.{rest};
+ghost use Rattle.lc_board.specs.WordSteps.{MayDraw, TriesDraw, MayOpen, Opens};
+ghost use Rattle.lc_board.specs.declared.words.view.Slot.TheVariants.{Empty};
+
+use crate::words::Words;
+use crate::words::coding::{ABSENT, OPEN, Word, drawn_by};
+use crate::words::rule::{Draw, Open};
+use crate::words::view::{Slot, View};
+use atomic_table::Seat;
+
+impl<J, R> Words<J, R> {
+    /// Draws the number for the worker of the seat, if it is absent.
+    pub(crate) fn draw(
+        &self,
+        seat: &mut Seat<Slot<J, R>, View<J, R>>,
+        number: u32,
+        worker: u32,
+    ) -> bool
+        requires board { seat.old.table_id ≡ self.now.table.shared.table_id }
+        requires near { number < self.now.capacity }
+        requires may { MayDraw number worker seat.old.me.0 }
+        ensures board { seat.new.table_id ≡ seat.old.table_id }
+        ensures rule { TriesDraw self.now.capacity number result seat.old.me seat.new.me }
+    {
+        let new = drawn_by(worker);
+        let shared = &self.table.shared;
+        let old = shared.compare_exchange::<Draw>(seat, number as usize, ABSENT, new);
+        Word::of(old).is_absent()
+    }
+
+    /// Fills the slot of the number, which the seat holds and which is empty.
+    pub(crate) fn fill(
+        &self,
+        seat: &mut Seat<Slot<J, R>, View<J, R>>,
+        number: u32,
+        content: Slot<J, R>,
+    )
+        requires board { seat.old.table_id ≡ self.now.table.shared.table_id }
+        requires held { seat.old.me.1 ≡ (number, Empty) ∷ rest seat.old.me.1 }
+        ensures board { seat.new.table_id ≡ seat.old.table_id }
+        ensures filled { seat.new.me ≡ (seat.old.me.0, (number, content) ∷ rest seat.old.me.1) }
+    {
+        match self.table.shared.exchange(seat, number as usize, content) {
+            Slot::Empty => {}
+            _ => unreachable!(),
+        }
+    }
+
+    /// Opens the number that was drawn, with the job in its slot.
+    pub(crate) fn open_drawn(&self, seat: &mut Seat<Slot<J, R>, View<J, R>>, number: u32)
+        requires board { seat.old.table_id ≡ self.now.table.shared.table_id }
+        requires near { number < self.now.capacity }
+        requires may { MayOpen number seat.old.me }
+        ensures board { seat.new.table_id ≡ seat.old.table_id }
+        ensures rule { Opens self.now.capacity number seat.old.me seat.new.me }
+    {
+        self.table.shared.swap::<Open>(seat, number as usize, OPEN);
+    }
+}

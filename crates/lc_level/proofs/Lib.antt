@@ -1,0 +1,11 @@
+pub mod CountedLevels
+pub mod CountedMore
+pub mod Depths
+pub mod GitReads
+pub mod GivenItems
+pub mod GivenPairs
+pub mod OneLevel
+pub mod OpenLevels
+pub mod Rooms
+pub mod RuleParsing
+pub mod Tidy

@@ -1,0 +1,41 @@
+-- What a tree answers for one directory. Nothing is said of its child directories but their names.
+use Rattle.std.specs.Prelude.{ℕ, List, [], map, Result, Ok}
+use Rattle.lc_census.specs.declared.totals.Count.{Count}
+use Rattle.lc_tree.specs.Listing.{EntryModel}
+use Rattle.lc_tree.specs.declared.entry.Kind.TheVariants.{File, Dir, Other}
+use Rattle.lc_tree.specs.declared.fault_word.FaultWord.{FaultWord}
+
+-- an entry: of a file what counting it gave, its census or a fault, and what reading it whole as rules gave, its bytes or a fault
+pub data Item : Type 0 where
+  file_item : (name : List ℕ) → (counted : Result Count FaultWord) → (rules : Result (List ℕ) FaultWord) → Item
+  directory_item : (name : List ℕ) → Item
+  other_item : (name : List ℕ) → Item
+
+abbrev pub entry_of : Item → EntryModel
+entry_of (file_item name counted rules) = record { name = name; kind = File }
+entry_of (directory_item name) = record { name = name; kind = Dir }
+entry_of (other_item name) = record { name = name; kind = Other }
+
+abbrev pub entries_of : List Item → List EntryModel
+entries_of items = map entry_of items
+
+abbrev pub name_of : Item → List ℕ
+name_of item = (entry_of item).name
+
+-- a listing with what its files gave, or its fault
+abbrev pub Items : Type 0
+Items = Result (List Item) FaultWord
+
+-- the answers for a directory, and for `.git` and `.git/info` in it, which are read in the top alone
+pub record Answers : Type 0 where
+  pub here : Items
+  pub git : Items
+  pub info : Items
+
+-- those for a directory that was not listed
+abbrev pub no_answers : Answers
+no_answers = record { here = Ok []; git = Ok []; info = Ok [] }
+
+-- a tree: the answers at each place, a list of names from the top
+abbrev pub Tree : Type 0
+Tree = List (List ℕ) → Answers

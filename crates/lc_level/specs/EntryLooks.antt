@@ -1,0 +1,12 @@
+-- What is looked for among the entries of a directory.
+use Rattle.std.specs.Prelude.{ℕ, Bool, true, false, ◌&&◌, List, bytes_eq}
+use Rattle.std.specs.List.{list_any}
+use Rattle.lc_tree.specs.Kinds.{is_file, is_dir}
+use Rattle.lc_tree.specs.Listing.{EntryModel}
+
+-- whether there is a file, or a directory, of this name
+abbrev pub has_file : List ℕ → List EntryModel → Bool
+has_file name entries = list_any (λ e. is_file e.kind && bytes_eq e.name name) entries
+
+abbrev pub has_dir : List ℕ → List EntryModel → Bool
+has_dir name entries = list_any (λ e. is_dir e.kind && bytes_eq e.name name) entries

@@ -1,0 +1,41 @@
+-- What reading the rule files of `.git/info` answers.
+use Rattle.std.specs.Prelude.{◌≡◌, ℕ, Bool, true, List, Result, Ok, Err, codes}
+use Rattle.lc_level.specs.Answers.{Answers}
+use Rattle.lc_tree.specs.Listing.{EntryModel}
+use Rattle.lc_level.specs.RuleFiles.{Pair, has_directory, and_then, info_items, info_bytes}
+use Rattle.lc_level.specs.RulePairs.{AreFilesOf}
+use Rattle.lc_level.specs.PlacePaths.{place_path}
+use Rattle.lc_level.specs.TreeAnswers.{MayList, items_of}
+use Rattle.lc_tree.specs.Trees.{Listings, Contents}
+use Rattle.lc_level.specs.declared.rule_pair.RulePair.{RulePair}
+use Rattle.lc_level.specs.declared.unlisted.Unlisted.{Unlisted}
+use Rattle.lc_level.specs.declared.unlisted.Unlisted.TheVariants.{Faulted, Broken}
+use Rattle.lc_level.specs.declared.cause.Cause.TheVariants.{Memory, TooManyDirs, TooDeep}
+use Rattle.lc_level.specs.declared.place.Place.{Place}
+
+-- the answer to listing a directory for the sake of its rule files: a fault is one of this place
+abbrev pub ListsFor : Listings → Place → Result (List EntryModel) Unlisted → Type 0
+ListsFor may place (Ok entries) = may (Ok entries)
+ListsFor may place (Err (Faulted at word)) = (at ≡ place) × may (Err word)
+ListsFor may place (Err (Broken Memory)) = Unit {0}
+ListsFor may place (Err (Broken TooManyDirs)) = ⊥
+ListsFor may place (Err (Broken TooDeep)) = ⊥
+
+module _ (lists : List ℕ → Listings) (gives : List ℕ → Contents) where
+  -- what the tree may answer for `.git` and `.git/info`, where `.git` is there
+  pub record MayAnswerGit (there : Bool) (a : Answers) : Type 0 where
+    pub git : there ≡ true → MayList lists gives (codes ".git") a.git
+    pub info : there ≡ true → has_directory (codes "info") (items_of a.git) ≡ true → MayList lists gives (codes ".git/info") a.info
+
+  -- the answer by such answers: the files, or the place of the first fault, or memory was refused
+  abbrev pub ReadsGit : Bool → Result RulePair Unlisted → Type 0
+  ReadsGit there (Ok files) =
+      (a : Answers) × MayAnswerGit there a
+      × ((bytes : Pair) × AreFilesOf true files bytes × (and_then (info_items there a) info_bytes ≡ Ok bytes))
+  ReadsGit there (Err (Faulted place word)) =
+      (a : Answers) × MayAnswerGit there a
+      × ((directory : List ℕ)
+      → and_then (info_items there a) info_bytes ≡ Err (record { path = place_path directory place; word = word }))
+  ReadsGit there (Err (Broken Memory)) = Unit {0}
+  ReadsGit there (Err (Broken TooManyDirs)) = ⊥
+  ReadsGit there (Err (Broken TooDeep)) = ⊥

@@ -1,0 +1,34 @@
+-- Trees that answer each question in one way.
+use Rattle.std.specs.Prelude.{◌≡◌, ℕ, ◌<◌, ◌^◌, Bool, List, length, Result}
+use Rattle.lc_census.specs.declared.totals.Count.{Count}
+use Rattle.lc_tree.specs.Listing.{EntryModel}
+use Rattle.lc_tree.specs.MemTrees.{mem_lists, mem_gives}
+use Rattle.lc_tree.specs.OneAnswer.{content_at}
+use Rattle.lc_tree.specs.Trees.{Listings, Contents, MayCount, MayReadRules}
+use Rattle.lc_tree.specs.declared.fault_word.FaultWord.{FaultWord}
+use Rattle.lc_tree.specs.declared.node.Node.{Node}
+use Rattle.lc_level.specs.Answers.{Answers}
+use Rattle.lc_level.specs.Job.{JobModel}
+use Rattle.lc_level.specs.Level.{level}
+use Rattle.lc_level.specs.TreeAnswers.{MayAnswer}
+
+module _ (lists : List ℕ → Listings) (gives : List ℕ → Contents) where
+  -- each path has one listing, and each file one count and one text as rules
+  pub record GivesOne : Type 0 where
+    pub listing : (path : List ℕ) (x y : Result (List EntryModel) FaultWord) → lists path x → lists path y → x ≡ y
+    pub count : (path : List ℕ) (x y : Result Count FaultWord) → MayCount (gives path) x → MayCount (gives path) y → x ≡ y
+    pub rules : (path : List ℕ) (x y : Result (List ℕ) FaultWord) → MayReadRules (gives path) x → MayReadRules (gives path) y → x ≡ y
+
+  -- then each directory has one level
+  abbrev pub OneLevelLaw : Type 0
+  OneLevelLaw =
+      GivesOne → (archive : Bool) (j : JobModel) (a b : Answers) → MayAnswer lists gives j.path a → MayAnswer lists gives j.path b
+      → level archive j a ≡ level archive j b
+
+-- each file of a tree of memory has under 2^32 bytes
+abbrev pub IsModest : Node → Type 0
+IsModest top = (path : List ℕ) → length (content_at top path).bytes < 2 ^ 32
+
+-- such a tree has one level for each directory
+abbrev pub MemoryLaw : Type 0
+MemoryLaw = (top : Node) → IsModest top → GivesOne (mem_lists top) (mem_gives top)

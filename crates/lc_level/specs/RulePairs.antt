@@ -1,0 +1,41 @@
+-- What reading the two rule files of one directory answers.
+use Rattle.std.specs.Prelude.{◌≡◌, ℕ, Bool, ◌⊎◌, List, Option, Some, Result, Ok, Err, option_map}
+use Rattle.lc_rules.specs.IgnoreRules.{rules_of}
+use Rattle.lc_rules.specs.AttrLines.{attribute_file_of}
+use Rattle.lc_level.specs.RuleFiles.{Pair}
+use Rattle.lc_level.specs.RuleReads.{shared, MayGive}
+use Rattle.lc_tree.specs.Trees.{Contents}
+use Rattle.lc_level.specs.declared.rule_pair.RulePair.{RulePair}
+use Rattle.lc_level.specs.declared.unlisted.Unlisted.{Unlisted}
+use Rattle.lc_level.specs.declared.unlisted.Unlisted.TheVariants.{Faulted, Broken}
+use Rattle.lc_level.specs.declared.unread.Unread.{Unread}
+use Rattle.lc_level.specs.declared.unread.Unread.TheVariants as unread
+use Rattle.lc_level.specs.declared.cause.Cause.TheVariants.{Memory, TooManyDirs, TooDeep}
+use Rattle.lc_level.specs.declared.place.Place.{Place}
+
+-- what becomes of a directory whose file at a place was not read
+abbrev pub unlisted_by : Place → Unread → Unlisted
+unlisted_by place (unread.Fault word) = Faulted place word
+unlisted_by place unread.Memory = Broken Memory
+
+-- the files are those of these bytes
+pub record AreFilesOf (top : Bool) (files : RulePair) (bytes : Pair) : Type 0 where
+  pub rules : shared files.rules ≡ option_map rules_of bytes.rules
+  pub attributes : shared files.attributes ≡ option_map (attribute_file_of top) bytes.attributes
+
+-- the bytes of two files may have been read: what the file of each name gives, and whether it is there
+pub record MayGiveBoth (rules attributes : Contents) (rules_there attributes_there : Bool) (bytes : Pair) : Type 0 where
+  pub rules_given : MayGive rules rules_there (option_map Ok bytes.rules)
+  pub attributes_given : MayGive attributes attributes_there (option_map Ok bytes.attributes)
+
+-- the answer to reading both, the first first: their files, or the place of the first fault, or memory was refused
+abbrev pub ReadsBoth : Contents → Contents → Bool → Bool → Bool → Place → Place → Result RulePair Unlisted → Type 0
+ReadsBoth rules attributes rules_there attributes_there top first second (Ok files) =
+    (bytes : Pair) × AreFilesOf top files bytes × MayGiveBoth rules attributes rules_there attributes_there bytes
+ReadsBoth rules attributes rules_there attributes_there top first second (Err (Faulted place word)) =
+    ((place ≡ first) × MayGive rules rules_there (Some (Err word)))
+    ⊎ ((place ≡ second) × ((bytes : Option (List ℕ)) × MayGive rules rules_there (option_map Ok bytes))
+    × MayGive attributes attributes_there (Some (Err word)))
+ReadsBoth rules attributes rules_there attributes_there top first second (Err (Broken Memory)) = Unit {0}
+ReadsBoth rules attributes rules_there attributes_there top first second (Err (Broken TooManyDirs)) = ⊥
+ReadsBoth rules attributes rules_there attributes_there top first second (Err (Broken TooDeep)) = ⊥

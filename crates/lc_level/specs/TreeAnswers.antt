@@ -1,0 +1,32 @@
+-- Which answers for a directory a tree may give, by what its calls may answer.
+use Rattle.std.specs.Prelude.{◌≡◌, ℕ, true, List, [], Ok, Err, codes}
+use Rattle.std.specs.List.{AllByRecursion}
+use Rattle.lc_level.specs.Answers.{Item, file_item, directory_item, other_item, Items, Answers, entries_of}
+use Rattle.lc_glob.specs.Path.{path_in}
+use Rattle.lc_level.specs.RuleFiles.{has_directory, has_git}
+use Rattle.lc_tree.specs.Trees.{Listings, Contents, MayCount, MayReadRules}
+
+-- the items, if there are any
+abbrev pub items_of : Items → List Item
+items_of (Ok items) = items
+items_of (Err word) = []
+
+-- `lists` and `gives` say what the listings and the files of a tree may answer at each path
+module _ (lists : List ℕ → Listings) (gives : List ℕ → Contents) where
+  -- what an item of the directory at a path holds
+  abbrev pub MayHave : List ℕ → Item → Type 0
+  MayHave path (file_item name counted rules) = MayCount (gives (path_in path name)) counted
+      × MayReadRules (gives (path_in path name)) rules
+  MayHave path (directory_item name) = Unit {0}
+  MayHave path (other_item name) = Unit {0}
+
+  abbrev pub MayList : List ℕ → Items → Type 0
+  MayList path (Ok items) = lists path (Ok (entries_of items)) × AllByRecursion (MayHave path) items
+  MayList path (Err word) = lists path (Err word)
+
+  -- `.git` and `.git/info` are asked about only where the top has them
+  pub record MayAnswer (path : List ℕ) (a : Answers) : Type 0 where
+    pub here : MayList path a.here
+    pub git : has_git path (items_of a.here) ≡ true → MayList (codes ".git") a.git
+    pub info : has_git path (items_of a.here) ≡ true → has_directory (codes "info") (items_of a.git) ≡ true
+        → MayList (codes ".git/info") a.info

@@ -1,0 +1,46 @@
+//! Both chains of a directory, by its rule files.
+ghost use Rattle.std.specs.Prelude.{◌≡◌, ◌<◌, ◌^◌, IfOk};
+ghost use Rattle.std.specs.Arc.{arc_value};
+ghost use Rattle.lc_level.specs.RuleFiles.{with_file_at, first_of};
+ghost use Rattle.lc_level.specs.RuleReads.{shared};
+
+use lc_rules::{AttrChain, AttrFile, Chain, IgnoreFile};
+use std::alloc::{AllocError, Global};
+use std::sync::Arc;
+
+/// A chain with the file of `.git/info` at the top and a directory's own file; the same chain, shared, where there is neither.
+pub(crate) fn ignore_below(
+    alloc: Global,
+    chain: &Arc<Chain, Global>,
+    info: Option<Arc<IgnoreFile, Global>>,
+    depth: u32,
+    own: Option<Arc<IgnoreFile, Global>>,
+) -> Result<Arc<Chain, Global>, AllocError>
+    ensures { IfOk result (λ c. arc_value c ≡ with_file_at (with_file_at (arc_value chain.now) 0 (shared info)) depth (shared own)) }
+{
+    if info.is_none() && own.is_none() {
+        return Ok(Arc::try_clone(chain)?);
+    }
+    let below_info = chain.below(alloc, 0, info)?;
+    let below_own = below_info.below(alloc, depth, own)?;
+    Ok(Arc::new(alloc, below_own)?)
+}
+
+/// The same of the attribute files; that of `.git/info` stands above all others.
+pub(crate) fn attributes_below(
+    alloc: Global,
+    chain: &Arc<AttrChain, Global>,
+    info: Option<Arc<AttrFile, Global>>,
+    depth: u32,
+    own: Option<Arc<AttrFile, Global>>,
+) -> Result<Arc<AttrChain, Global>, AllocError>
+    ensures tree { IfOk result (λ c. (arc_value c).tree ≡ with_file_at (arc_value chain.now).tree depth (shared own)) }
+    ensures info { IfOk result (λ c. (arc_value c).info ≡ first_of (shared info) (arc_value chain.now).info) }
+{
+    if info.is_none() && own.is_none() {
+        return Ok(Arc::try_clone(chain)?);
+    }
+    let with_info = chain.with_info(alloc, info)?;
+    let with_own = with_info.below(alloc, depth, own)?;
+    Ok(Arc::new(alloc, with_own)?)
+}

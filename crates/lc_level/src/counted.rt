@@ -1,0 +1,42 @@
+//! What became of the files of a directory.
+
+use lc_census::Count;
+use lc_rules::TextState;
+use lc_tree::FaultWord;
+use std::marker::Model;
+
+/// A counted file of a directory.
+#[derive(Drop)]
+pub struct Counted {
+    /// The name of the file in its directory.
+    pub name: Vec<u8>,
+    /// What the attribute `text` is for the file.
+    pub text: TextState,
+    /// The census of its bytes.
+    pub count: Count,
+}
+
+impl Model for Counted {
+    ghost use Rattle.lc_level.specs.Level.{CountedModel};
+
+    ghost Value = { CountedModel };
+
+    ghost view = { λ f. record { name = f.name.items; text = f.text; count = f.count } };
+}
+
+/// A file of a directory that was not counted.
+#[derive(Drop)]
+pub struct FileFault {
+    /// The name of the file in its directory.
+    pub name: Vec<u8>,
+    /// Why it was not counted.
+    pub word: FaultWord,
+}
+
+impl Model for FileFault {
+    ghost use Rattle.lc_level.specs.Level.{FileFaultModel};
+
+    ghost Value = { FileFaultModel };
+
+    ghost view = { λ f. record { name = f.name.items; word = f.word } };
+}

@@ -1,0 +1,132 @@
+//! A directory to be walked.
+ghost use Rattle.std.specs.Prelude.{◌≡◌, ◌≤◌, length, IfOk};
+ghost use Rattle.std.specs.Arc.{arc_value};
+ghost use Rattle.lc_glob.specs.Path.{depth_of};
+ghost use Rattle.lc_level.specs.Level.{job_at};
+ghost use Rattle.lc_level.specs.RuleReads.{shared};
+ghost use Rattle.lc_level.specs.TopJob.{top_job};
+
+use lc_glob::path::depth_of;
+use lc_rules::{AttrChain, Chain, IgnoreFile};
+use std::alloc::{AllocError, Global};
+use std::marker::Model;
+use std::sync::Arc;
+
+/// A directory to be walked: its path, and both chains of its parent. The chains are shared by all that stand under the
+/// same rule files. A job is one word long, so that it moves at no cost.
+#[derive(Drop)]
+pub struct Job {
+    parts: Box<Parts, Global>,
+}
+
+#[derive(Drop)]
+struct Parts {
+    path: Vec<u8>,
+    ignore: Arc<Chain, Global>,
+    attributes: Arc<AttrChain, Global>,
+}
+
+impl Model for Parts {
+    ghost use Rattle.std.specs.Prelude.{◌≤◌, length};
+    ghost use Rattle.std.specs.Arc.{arc_value};
+    ghost use Rattle.lc_level.specs.Job.{JobModel};
+
+    ghost Value = { JobModel };
+
+    ghost invariant = { λ p. length p.path.items ≤ 4096 };
+
+    ghost view = { λ p. record { path = p.path.items; ignore = arc_value p.ignore; attributes = arc_value p.attributes } };
+}
+
+impl Model for Job {
+    ghost use Rattle.std.specs.Box.{box_value};
+    ghost use Rattle.lc_level.specs.Job.{JobModel};
+
+    ghost Value = { JobModel };
+
+    ghost view = { λ j. box_value j.parts };
+}
+
+impl Job {
+    /// The top of a tree. The rules of the exclude file, if there is one, stand before those of all other files.
+    pub fn top(alloc: Global, exclude: Option<Arc<IgnoreFile, Global>>) -> Result<Job, AllocError>
+        ensures { IfOk result (λ j. j ≡ top_job (shared exclude)) }
+    {
+        let ignore = Chain::top().below(alloc, 0, exclude)?;
+        let path = Vec::new(alloc);
+        let attributes = Arc::new(alloc, AttrChain::top())?;
+        Job::new(alloc, path, Arc::new(alloc, ignore)?, attributes)
+    }
+
+    /// The job of these parts.
+    pub(crate) fn new(
+        alloc: Global,
+        path: Vec<u8>,
+        ignore: Arc<Chain, Global>,
+        attributes: Arc<AttrChain, Global>,
+    ) -> Result<Job, AllocError>
+        requires { length path.items ≤ 4096 }
+        ensures { IfOk result (λ j. j ≡ record { path = path.items; ignore = arc_value ignore; attributes = arc_value attributes }) }
+    {
+        let parts = Parts {
+            path,
+            ignore,
+            attributes,
+        };
+        match Box::new(alloc, parts) {
+            Ok(parts) => Ok(Job { parts }),
+            Err(_) => Err(AllocError),
+        }
+    }
+
+    /// The chain of ignore files above the directory's own.
+    pub(crate) fn ignore(&self) -> &Arc<Chain, Global>
+        ensures { arc_value result.now ≡ self.now.ignore }
+    {
+        &self.parts.ignore
+    }
+
+    /// The chain of attribute files above the directory's own.
+    pub(crate) fn attributes(&self) -> &Arc<AttrChain, Global>
+        ensures { arc_value result.now ≡ self.now.attributes }
+    {
+        &self.parts.attributes
+    }
+
+    /// The same directory with other chains.
+    pub(crate) fn with_chains(
+        &self,
+        alloc: Global,
+        ignore: Arc<Chain, Global>,
+        attributes: Arc<AttrChain, Global>,
+    ) -> Result<Job, AllocError>
+        ensures { IfOk result (λ j. j ≡ record { path = self.now.path; ignore = arc_value ignore; attributes = arc_value attributes }) }
+    {
+        let path = self.parts.path.to_vec(alloc)?;
+        Job::new(alloc, path, ignore, attributes)
+    }
+
+    /// The number of segments of the directory's path.
+    pub(crate) fn depth(&self) -> u32
+        ensures { result ≡ depth_of self.now.path }
+    {
+        depth_of(&self.parts.path) as u32
+    }
+
+    /// The job of a directory at this path, under the rule files of this one.
+    pub(crate) fn at(&self, alloc: Global, path: &[u8]) -> Result<Job, AllocError>
+        requires { length path.now ≤ 4096 }
+        ensures { IfOk result (λ j. j ≡ job_at self.now path.now) }
+    {
+        let path = path.to_vec(alloc)?;
+        let ignore = Arc::try_clone(&self.parts.ignore)?;
+        Job::new(alloc, path, ignore, Arc::try_clone(&self.parts.attributes)?)
+    }
+
+    /// The path of the directory: at most 4,096 bytes.
+    pub fn path(&self) -> &[u8]
+        ensures { result.now ≡ self.now.path }
+    {
+        &self.parts.path
+    }
+}

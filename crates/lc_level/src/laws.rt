@@ -1,0 +1,27 @@
+//! Laws of one directory's work. The functions do nothing: their contracts are what is proved.
+ghost use Rattle.lc_level.specs.Laws.{CountedLaw, OpenedLaw};
+ghost use Rattle.lc_level.specs.OneAnswer.{MemoryLaw, OneLevelLaw};
+
+use lc_tree::{Tree, trees_of_memory_answer_once};
+
+/// What opening a directory and counting its files answer is its level.
+pub fn work_is_a_level<T: Tree>(tree: &T)
+    ensures opened { OpenedLaw (T.lists tree.now) (T.gives tree.now) }
+    ensures counted { CountedLaw (T.lists tree.now) (T.gives tree.now) }
+{
+    let _tree = tree;
+}
+
+/// A tree that answers each question in one way has one level for each directory.
+pub fn one_answer_is_one_level<T: Tree>(tree: &T)
+    ensures { OneLevelLaw (T.lists tree.now) (T.gives tree.now) }
+{
+    let _tree = tree;
+}
+
+/// A tree of memory answers each question in one way, where each of its files has under 4 GiB.
+pub fn trees_of_memory_give_one()
+    ensures { MemoryLaw }
+{
+    trees_of_memory_answer_once();
+}

@@ -1,0 +1,174 @@
+//! The entries of a directory that its rules leave in.
+ghost use Rattle.std.specs.Prelude.{◌≡◌, ◌≤◌, length, IfOk, true, false, nat_lt};
+ghost use Rattle.lc_glob.specs.Path.{depth_of, max_depth};
+ghost use Rattle.lc_level.specs.LeftIn.{KeepsFile, KeepsDirectory, Keeps, LeavesIn};
+ghost use Rattle.lc_level.specs.Level.{is_kept, job_at};
+
+use crate::Cause;
+use crate::job::Job;
+use crate::path_buffer::PathBuffer;
+use lc_glob::path::{is_too_deep, is_too_long};
+use lc_rules::{State, Verdict};
+use lc_tree::{Entry, Kind};
+use std::alloc::{AllocError, Global};
+use std::marker::Model;
+
+/// The files and the directories that are left in, each in the order of the listing.
+#[derive(Drop)]
+pub(crate) struct LeftIn {
+    pub(crate) files: Vec<Vec<u8>>,
+    pub(crate) children: Vec<ChildDirectory>,
+}
+
+/// A directory that is to be walked.
+#[derive(Drop)]
+pub struct ChildDirectory {
+    /// Its name in its parent.
+    pub name: Vec<u8>,
+    /// Its path, and both chains of its parent.
+    pub job: Job,
+}
+
+impl Model for ChildDirectory {
+    ghost use Rattle.std.specs.Prelude.{ℕ, List};
+    ghost use Rattle.lc_level.specs.Job.{JobModel};
+
+    ghost Value = { List ℕ × JobModel };
+
+    ghost view = { λ c. (c.name.items, c.job) };
+}
+
+/// Whether the rules leave in what stands at a path. Memory is taken for an attribute's macros alone.
+fn is_left_in(
+    alloc: Global,
+    job: &Job,
+    path: &[u8],
+    is_dir: bool,
+    archive: bool,
+) -> Result<bool, AllocError>
+    ensures { IfOk result (λ left. left ≡ is_kept archive job.now path.now is_dir) }
+{
+    match job.ignore().verdict(path, is_dir) {
+        Verdict::Ignored => return Ok(false),
+        Verdict::Included => {}
+        Verdict::NoRule => {}
+    }
+    if !archive {
+        return Ok(true);
+    }
+    match job
+        .attributes()
+        .state(alloc, path, is_dir, b"export-ignore")?
+    {
+        State::Set => Ok(false),
+        State::Unset => Ok(true),
+        State::Value(_) => Ok(true),
+        State::Unspecified => Ok(true),
+    }
+}
+
+/// Takes a file.
+fn keep_file(
+    alloc: Global,
+    job: &Job,
+    archive: bool,
+    name: Vec<u8>,
+    path: &[u8],
+    left: &mut LeftIn,
+) -> Result<(), Cause>
+    ensures { KeepsFile (is_kept archive job.now path.now false) name.items left.old left.new result }
+{
+    match is_left_in(alloc, job, path, false, archive) {
+        Ok(true) => {}
+        Ok(false) => return Ok(()),
+        Err(_) => return Err(Cause::Memory),
+    }
+    match left.files.push(name) {
+        Ok(()) => Ok(()),
+        Err(_) => Err(Cause::Memory),
+    }
+}
+
+/// Takes a directory.
+fn keep_directory(
+    alloc: Global,
+    job: &Job,
+    archive: bool,
+    name: Vec<u8>,
+    path: &[u8],
+    left: &mut LeftIn,
+) -> Result<(), Cause>
+    requires { length path.now ≤ 4096 }
+    ensures { KeepsDirectory (is_kept archive job.now path.now true) (nat_lt max_depth (depth_of path.now))
+        (name.items, job_at job.now path.now) left.old left.new result }
+{
+    match is_left_in(alloc, job, path, true, archive) {
+        Ok(true) => {}
+        Ok(false) => return Ok(()),
+        Err(_) => return Err(Cause::Memory),
+    }
+    if is_too_deep(path) {
+        return Err(Cause::TooDeep);
+    }
+    let Ok(job) = job.at(alloc, path) else {
+        return Err(Cause::Memory);
+    };
+    match left.children.push(ChildDirectory { name, job }) {
+        Ok(()) => Ok(()),
+        Err(_) => Err(Cause::Memory),
+    }
+}
+
+/// Takes one entry: its name moves to those that are left in, if it is.
+fn keep(
+    alloc: Global,
+    job: &Job,
+    archive: bool,
+    entry: Entry,
+    path: &mut PathBuffer,
+    left: &mut LeftIn,
+) -> Result<(), Cause>
+    requires { path.old.directory ≡ job.now.path }
+    ensures same { path.new.directory ≡ path.old.directory }
+    ensures kept { Keeps archive job.now entry left.old left.new result }
+{
+    if entry.name.as_slice() == b".git".as_slice() {
+        return Ok(());
+    }
+    let Ok(()) = path.set_name(&entry.name) else {
+        return Err(Cause::Memory);
+    };
+    if is_too_long(path.as_slice()) {
+        return Err(Cause::TooDeep);
+    }
+    match entry.kind {
+        Kind::Other => Ok(()),
+        Kind::File => keep_file(alloc, job, archive, entry.name, path.as_slice(), left),
+        Kind::Dir => keep_directory(alloc, job, archive, entry.name, path.as_slice(), left),
+    }
+}
+
+/// Takes all entries, in order.
+pub(crate) fn left_in(
+    alloc: Global,
+    job: &Job,
+    archive: bool,
+    entries: Vec<Entry>,
+    path: &mut PathBuffer,
+) -> Result<LeftIn, Cause>
+    requires { path.old.directory ≡ job.now.path }
+    ensures same { path.new.directory ≡ path.old.directory }
+    ensures left { LeavesIn archive job.now entries.items result }
+{
+    let mut left = LeftIn {
+        files: Vec::new(alloc),
+        children: Vec::new(alloc),
+    };
+    for entry in entries {
+        match keep(alloc, job, archive, entry, path, &mut left) {
+            Ok(()) => {}
+            Err(cause) => return Err(cause),
+        }
+    }
+    Ok(left)
+}

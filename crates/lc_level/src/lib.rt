@@ -1,0 +1,48 @@
+//! What one directory gives: its listing, its rule files, its entries in order.
+//!
+//! - `job`: a directory to be walked; `cause`, `place`: why it is given up, and where it is at fault
+//! - `opening`: opening a directory, up to which of its entries its rules leave in
+//! - `git_info`, `rule_files`, `rule_pair`: its rule files, read whole; `chains`: both chains by them
+//! - `entry_looks`, `left_in`: what is looked for among its entries, and which of them stay
+//! - `counted`, `counting`: what became of its files, and counting them
+//! - `files`, `unread`: opening one file, to count it or to read it as rules, and why that was not possible
+//! - `paths`: the path of a name in a directory
+//! - `path_buffer`, `desk`: the paths of its entries one after another, and all buffers of a worker
+//! - `unlisted`: why a directory gives nothing of its entries
+//! - `laws`: that this work makes the level of the definitions
+#![tactic(auto)]
+
+mod cause;
+mod chains;
+mod counted;
+mod counting;
+mod desk;
+mod entry_looks;
+mod files;
+mod git_info;
+mod job;
+mod laws;
+mod left_in;
+mod opening;
+mod path_buffer;
+mod paths;
+mod place;
+mod rule_files;
+mod rule_pair;
+mod unlisted;
+mod unread;
+
+pub use cause::Cause;
+pub use counted::{Counted, FileFault};
+pub use counting::{CountedFiles, count_files};
+pub use desk::Desk;
+pub use job::Job;
+pub use laws::{one_answer_is_one_level, trees_of_memory_give_one, work_is_a_level};
+pub use left_in::ChildDirectory;
+pub use opening::{Opened, open_level};
+pub use paths::path_in;
+pub use place::Place;
+pub use unlisted::Unlisted;
+
+#[cfg(test)]
+mod tests;

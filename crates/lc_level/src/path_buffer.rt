@@ -1,0 +1,63 @@
+//! A directory's path, and those of its entries one after another.
+ghost use Rattle.std.specs.Prelude.{◌≡◌, OnOk};
+ghost use Rattle.lc_glob.specs.Path.{path_in};
+
+use lc_glob::path::push_name;
+use std::alloc::{AllocError, Global};
+use std::marker::Model;
+
+/// The path of a directory, after which the name of one entry at a time is put, so that a path costs no memory of its own.
+#[derive(Debug, Drop)]
+pub(crate) struct PathBuffer {
+    bytes: Vec<u8>,
+    // The length of the directory's path.
+    base: usize,
+}
+
+impl Model for PathBuffer {
+    ghost use Rattle.std.specs.Prelude.{◌≤◌, take, length};
+    ghost use Rattle.lc_level.specs.PathBuffers.{PathBufferModel};
+
+    ghost Value = { PathBufferModel };
+
+    ghost view = { λ p. record { directory = take p.base p.bytes.items; path = p.bytes.items } };
+
+    ghost invariant = { λ p. p.base ≤ length p.bytes.items };
+}
+
+impl PathBuffer {
+    pub(crate) fn new(alloc: Global) -> PathBuffer {
+        PathBuffer {
+            bytes: Vec::new(alloc),
+            base: 0,
+        }
+    }
+
+    /// Goes to a directory.
+    pub(crate) fn enter(&mut self, directory: &[u8]) -> Result<(), AllocError>
+        ensures { OnOk result (self.new.directory ≡ directory.now) }
+    {
+        self.base = 0;
+        self.bytes.clear();
+        self.bytes.extend_from_slice(directory)?;
+        self.base = self.bytes.len();
+        Ok(())
+    }
+
+    /// Makes the path that of the directory's entry of this name.
+    pub(crate) fn set_name(&mut self, name: &[u8]) -> Result<(), AllocError>
+        ensures same { self.new.directory ≡ self.old.directory }
+        ensures path { OnOk result (self.new.path ≡ path_in self.old.directory name.now) }
+    {
+        self.bytes.truncate(self.base);
+        push_name(&mut self.bytes, name)?;
+        Ok(())
+    }
+
+    /// The path that was made last.
+    pub(crate) fn as_slice(&self) -> &[u8]
+        ensures { result.now ≡ self.now.path }
+    {
+        &self.bytes
+    }
+}

@@ -1,0 +1,12 @@
+//! Why a file was not read.
+
+use lc_tree::FaultWord;
+
+/// Why a file was not read or not counted.
+#[derive(Clone, Copy, Debug, Drop, PartialEq, Eq)]
+pub(crate) enum Unread {
+    /// The report is to tell of it.
+    Fault(FaultWord),
+    /// Memory was refused.
+    Memory,
+}

@@ -1,0 +1,24 @@
+-- What entries keep when they are moved about.
+use Rattle.std.proofs.Common.{◌≡◌, List, true}
+use Rattle.std.specs.Prelude.{IsTrue}
+use Rattle.std.specs.List.Sorted.{IsPermutation, IsStrictlySortedBy}
+use Rattle.std.proofs.lemmas.Cmp.{nat_list_cmp_total, eq_by_cmp_equiv}
+use Rattle.std.proofs.lemmas.List.Sums.{AllPass-from_list_all, list_all-from_AllPass}
+use Rattle.std.proofs.lemmas.List.Sorted.{All-permutation, IsPermutation-map, IsPermutation-sym}
+use Rattle.std.proofs.lemmas.Map.Keys.{IsDistinct-IsPermutation, IsDistinct-from_sorted}
+use Rattle.lc_glob.specs.Path.{is_good_name}
+use Rattle.lc_tree.specs.Listing.{EntryModel, names, have_good_names, HaveDistinctNames}
+use Rattle.lc_tree.specs.ByteOrder.{bytes_cmp}
+
+pub good_names_moved : (es fs : List EntryModel) → IsPermutation es fs → IsTrue (have_good_names es) → IsTrue (have_good_names fs)
+good_names_moved es fs moved good =
+    let test = λ (e : EntryModel). is_good_name e.name in
+    list_all-from_AllPass test fs (All-permutation (λ (e : EntryModel). test e ≡ true) es fs moved (AllPass-from_list_all test es good))
+
+pub distinct_names_moved : (es fs : List EntryModel) → IsPermutation es fs → HaveDistinctNames es → HaveDistinctNames fs
+distinct_names_moved es fs moved =
+    IsDistinct-IsPermutation _ ((eq_by_cmp_equiv nat_list_cmp_total).symm) (names es) (names fs) (IsPermutation-map (λ (e : EntryModel). e.name) es fs moved)
+
+-- entries whose names rise once they are sorted have distinct names
+pub distinct_from_sorted : (es fs : List EntryModel) → IsPermutation es fs → IsStrictlySortedBy bytes_cmp (names fs) → HaveDistinctNames es
+distinct_from_sorted es fs moved rising = distinct_names_moved fs es (IsPermutation-sym es fs moved) (IsDistinct-from_sorted bytes_cmp (names fs) rising)

@@ -1,0 +1,5 @@
+pub mod Contents
+pub mod Entries
+pub mod OneAnswer
+pub mod OneOrder
+pub mod Sorting

@@ -1,0 +1,11 @@
+pub mod ByteOrder
+pub mod Kinds
+pub mod Listing
+pub mod MemTrees
+pub mod Nodes
+pub mod OneAnswer
+pub mod SomeAnswers
+pub mod SomeCuttings
+pub mod SysTrees
+pub mod TreeFaults
+pub mod Trees

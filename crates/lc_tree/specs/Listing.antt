@@ -1,0 +1,54 @@
+-- Entries of a directory, the names that they may have, and what makes them a listing.
+use Rattle.std.specs.Prelude.{ℕ, ◌<◌, ◌≤◌, Bool, List, length, map, IsTrue, IsFalse}
+use Rattle.std.specs.List.{list_all}
+use Rattle.std.specs.List.Sorted.{IsPermutation}
+use Rattle.std.specs.declared.cmp.Ordering.{Ordering}
+use Rattle.std.specs.Ordering.{on}
+use Rattle.lc_glob.specs.Path.{is_good_name}
+use Rattle.lc_tree.specs.ByteOrder.{bytes_cmp, AreApart, AreInOrder}
+use Rattle.lc_tree.specs.declared.entry.Kind.{Kind}
+use Rattle.lc_tree.specs.declared.listing.ListingFault.{ListingFault}
+use Rattle.lc_tree.specs.declared.listing.ListingFault.TheVariants.{BadName, Twice, TooMany, Memory}
+
+-- an entry: its name, and what stands under it
+pub record EntryModel : Type 0 where
+  pub name : List ℕ
+  pub kind : Kind
+
+-- the names, in order
+abbrev pub names : List EntryModel → List (List ℕ)
+names es = map (λ e. e.name) es
+
+-- entries by their names
+abbrev pub by_name : EntryModel → EntryModel → Ordering
+by_name = on (λ (e : EntryModel). e.name) bytes_cmp
+
+-- whether all names are good
+abbrev pub have_good_names : List EntryModel → Bool
+have_good_names es = list_all (λ e. is_good_name e.name) es
+
+-- no name stands twice
+abbrev pub HaveDistinctNames : List EntryModel → Type 0
+HaveDistinctNames es = AreApart (names es)
+
+-- the most entries of a listing
+abbrev pub max_entries : ℕ
+max_entries = 1048576
+
+-- a listing: good names, each below those after it, and not too many
+pub record IsListing (es : List EntryModel) : Type 0 where
+  pub good : IsTrue (have_good_names es)
+  pub order : AreInOrder (names es)
+  pub few : length es ≤ max_entries
+
+-- the listing of given entries
+pub record IsListingOf (es listed : List EntryModel) : Type 0 where
+  pub entries : IsPermutation es listed
+  pub listing : IsListing listed
+
+-- why entries make no listing: each fault where those before it don't hold; none is for want of memory
+abbrev pub IsRefusedBy : List EntryModel → ListingFault → Type 0
+IsRefusedBy es BadName = IsFalse (have_good_names es)
+IsRefusedBy es Twice = IsTrue (have_good_names es) × (HaveDistinctNames es → ⊥)
+IsRefusedBy es TooMany = IsTrue (have_good_names es) × HaveDistinctNames es × (max_entries < length es)
+IsRefusedBy es Memory = ⊥

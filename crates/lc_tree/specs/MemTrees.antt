@@ -1,0 +1,79 @@
+-- The answers of a tree of memory: one listing and one content for each path.
+use Rattle.std.specs.Prelude.{◌≡◌, ◌≢◌, ℕ, Bool, true, false, List, [], ◌++◌, take, drop, map, Option, Some, None, Result, Ok, Err}
+use Rattle.std.specs.Prelude.{IsTrue, IsFalse}
+use Rattle.std.specs.List.{concat, AllByRecursion}
+use Rattle.lc_census.specs.Reads.{Answer, gave, failed, at_end, at_failure, at_neither}
+use Rattle.lc_tree.specs.Listing.{EntryModel, IsListingOf, IsRefusedBy}
+use Rattle.lc_tree.specs.Nodes.{entry_of, node_at}
+use Rattle.lc_tree.specs.Trees.{Listings, Contents}
+use Rattle.lc_tree.specs.declared.fault_word.FaultWord.{FaultWord}
+use Rattle.lc_tree.specs.declared.fault_word.FaultWord.TheVariants.{Read, Name, Twice, Many, Long, Endless}
+use Rattle.lc_tree.specs.declared.listing.ListingFault.TheVariants.{BadName, TooMany}
+use Rattle.lc_tree.specs.declared.listing.ListingFault.TheVariants as listing
+use Rattle.lc_tree.specs.declared.node.Node.{Node, out-Node}
+use Rattle.lc_tree.specs.declared.node.Node.TheOpen.{Node-F}
+
+-- the listing of these entries, or the word for why they make none
+abbrev pub IsAnswerFor : List EntryModel → Result (List EntryModel) FaultWord → Type 0
+IsAnswerFor entries (Ok listed) = IsListingOf entries listed
+IsAnswerFor entries (Err Name) = IsRefusedBy entries BadName
+IsAnswerFor entries (Err Twice) = IsRefusedBy entries listing.Twice
+IsAnswerFor entries (Err Many) = IsRefusedBy entries TooMany
+IsAnswerFor entries (Err Read) = ⊥
+IsAnswerFor entries (Err Long) = ⊥
+IsAnswerFor entries (Err Endless) = ⊥
+
+-- what listing a node answers: a directory's entries listed, and for any other node that it can't be read
+abbrev pub ListsWithin : Node-F Node → Listings
+ListsWithin (Node-F.Dir entries) answer = IsAnswerFor (map entry_of entries.items) answer
+ListsWithin Node-F.Closed answer = answer ≡ Err Read
+ListsWithin (Node-F.File bytes) answer = answer ≡ Err Read
+ListsWithin (Node-F.Failing bytes) answer = answer ≡ Err Read
+ListsWithin Node-F.Other answer = answer ≡ Err Read
+
+abbrev pub ListsNode : Option Node → Listings
+ListsNode None answer = answer ≡ Err Read
+ListsNode (Some node) answer = ListsWithin (out-Node node) answer
+
+-- the bytes of a file, and whether it fails in place of its end
+pub record Content : Type 0 where
+  pub bytes : List ℕ
+  pub fails : Bool
+
+-- what can't be opened is a file that fails at once
+abbrev pub nothing : Content
+nothing = record { bytes = []; fails = true }
+
+abbrev pub content_within : Node-F Node → Content
+content_within (Node-F.File bytes) = record { bytes = bytes.items; fails = false }
+content_within (Node-F.Failing bytes) = record { bytes = bytes.items; fails = true }
+content_within (Node-F.Dir entries) = nothing
+content_within Node-F.Closed = nothing
+content_within Node-F.Other = nothing
+
+abbrev pub content_of : Option Node → Content
+content_of None = nothing
+content_of (Some node) = content_within (out-Node node)
+
+-- none of the pieces is empty
+abbrev pub AreSome : List (List ℕ) → Type 0
+AreSome pieces = AllByRecursion (λ piece. piece ≢ []) pieces
+
+-- what reads give of these bytes: all of them in pieces, none empty, and then how they stop; or a part
+abbrev pub GivesContent : Content → Contents
+GivesContent content pieces at_end = AreSome pieces × (concat pieces ≡ content.bytes) × IsFalse content.fails
+GivesContent content pieces at_failure = AreSome pieces × (concat pieces ≡ content.bytes) × IsTrue content.fails
+GivesContent content pieces at_neither = AreSome pieces × ((rest : List ℕ) × (concat pieces ++ rest ≡ content.bytes))
+
+-- what one read may give of what is left: its first bytes, as many as the buffer holds, or a failure where none is left
+abbrev pub ReadsContent : Content → ℕ → Answer → Content → Type 0
+ReadsContent old room (gave piece) new =
+    (piece ≡ take room old.bytes) × (new ≡ record { bytes = drop room old.bytes; fails = old.fails }) × (old.bytes ≡ [] → IsFalse old.fails)
+ReadsContent old room failed new = (old.bytes ≡ []) × IsTrue old.fails × (new ≡ old)
+
+-- the answers of a tree of memory at a path
+abbrev pub mem_lists : Node → List ℕ → Listings
+mem_lists top path = ListsNode (node_at top path)
+
+abbrev pub mem_gives : Node → List ℕ → Contents
+mem_gives top path = GivesContent (content_of (node_at top path))

@@ -1,0 +1,68 @@
+-- A file of memory may be counted, and read as rules, in some way: the proofs of two laws of a tree, which are read from here.
+use Rattle.std.proofs.Common.{◌≡◌, ℕ, ◌≤◌, ◌<◌, ◌⊎◌, inl, inr, Bool, true, false, List, [], ◌∷◌, ◌++◌, length, take, drop, Result, Ok, Err, refl, ◌∙◌, ap, subst, sym}
+use Rattle.std.specs.List.{concat}
+use Rattle.std.proofs.Math.Nat.{le-pred_of_lt}
+use Rattle.std.proofs.lemmas.Bool.{cases_lt}
+use Rattle.std.proofs.lemmas.List.{append-nil, take-append-drop, length-take-le}
+use Rattle.lc_census.specs.Census.{IsCensus, count_of}
+use Rattle.lc_census.specs.Reads.{at_neither}
+use Rattle.lc_census.specs.declared.totals.Count.{Count}
+use Rattle.lc_tree.specs.MemTrees.{Content, AreSome, GivesContent}
+use Rattle.lc_tree.specs.Trees.{MayCount, MayReadRules}
+use Rattle.lc_tree.specs.declared.fault_word.FaultWord.{FaultWord}
+use Rattle.lc_tree.specs.declared.fault_word.FaultWord.TheVariants.{Read, Long}
+use Rattle.lc_tree.specs.SomeCuttings.{some_cutting}
+
+-- the bytes as one piece, or as none
+abbrev one_piece : List ℕ → List (List ℕ)
+one_piece [] = []
+one_piece (b ∷ bytes) = (b ∷ bytes) ∷ []
+
+-- not the empty list
+abbrev HasFirst : List ℕ → Type 0
+HasFirst [] = ⊥
+HasFirst (b ∷ bytes) = Unit {0}
+
+is_some : (bytes : List ℕ) → AreSome (one_piece bytes)
+is_some [] = tt
+is_some (b ∷ bytes) = (λ empty. subst HasFirst empty tt, tt)
+
+joined : (bytes : List ℕ) → concat (one_piece bytes) ≡ bytes
+joined [] = refl
+joined (b ∷ bytes) = append-nil (b ∷ bytes)
+
+abbrev content : List ℕ → Bool → Content
+content bytes fails = record { bytes = bytes; fails = fails }
+
+pub some_count : (c : Content) → (r : Result Count FaultWord) × MayCount (GivesContent c) r
+some_count c = by_end c.bytes c.fails
+  where
+    by_end : (bytes : List ℕ) (fails : Bool) → (r : Result Count FaultWord) × MayCount (GivesContent (content bytes fails)) r
+    by_end bytes true = (Err Read, (one_piece bytes, (is_some bytes, joined bytes, refl)))
+    by_end bytes false =
+        let cutting = some_cutting bytes in
+        let census : IsCensus bytes (count_of bytes cutting.0) = (cutting.0, cutting.1, refl) in (
+          Ok (count_of bytes cutting.0),
+          (one_piece bytes, (is_some bytes, joined bytes, refl), subst (λ (l : List ℕ). IsCensus l (count_of bytes cutting.0)) (sym (joined bytes)) census),
+        )
+
+-- the first bytes of a longer file
+first_bytes : (bytes : List ℕ) (fails : Bool) (n : ℕ) → n ≤ length bytes
+    → (pieces : List (List ℕ)) × GivesContent (content bytes fails) pieces at_neither × (length (concat pieces) ≡ n)
+first_bytes bytes fails n fits =
+    let first = take n bytes in (
+      one_piece first,
+      (is_some first, (drop n bytes, ap (λ (l : List ℕ). l ++ drop n bytes) (joined first) ∙ take-append-drop n bytes)),
+      ap length (joined first) ∙ length-take-le n bytes fits,
+    )
+
+pub some_rules : (c : Content) → (r : Result (List ℕ) FaultWord) × MayReadRules (GivesContent c) r
+some_rules c = by_length c.bytes c.fails (cases_lt (length c.bytes) 1048577)
+  where
+    by_length : (bytes : List ℕ) (fails : Bool) → (length bytes < 1048577) ⊎ (1048577 ≤ length bytes)
+        → (r : Result (List ℕ) FaultWord) × MayReadRules (GivesContent (content bytes fails)) r
+    by_length bytes true (inl short) =
+        let within = subst (λ (l : List ℕ). length l ≤ 1048576) (sym (joined bytes)) (le-pred_of_lt short) in
+        (Err Read, (one_piece bytes, (is_some bytes, joined bytes, refl), within))
+    by_length bytes false (inl short) = (Ok bytes, (one_piece bytes, (is_some bytes, joined bytes, refl), joined bytes, le-pred_of_lt short))
+    by_length bytes fails (inr long) = (Err Long, first_bytes bytes fails 1048577 long)

@@ -1,0 +1,12 @@
+-- What becomes of the fault of entries that make no listing.
+use Rattle.lc_tree.specs.declared.listing.ListingFault.{ListingFault}
+use Rattle.lc_tree.specs.declared.listing.ListingFault.TheVariants as listing
+use Rattle.lc_tree.specs.declared.read_fault.ReadFault.{ReadFault}
+use Rattle.lc_tree.specs.declared.read_fault.ReadFault.TheVariants as fault
+
+-- the fault of a directory whose entries make no listing
+abbrev pub fault_of_listing : ListingFault → ReadFault
+fault_of_listing listing.BadName = fault.BadName
+fault_of_listing listing.Twice = fault.Twice
+fault_of_listing listing.TooMany = fault.TooMany
+fault_of_listing listing.Memory = fault.Memory

@@ -1,0 +1,48 @@
+//! The entries of a directory.
+ghost use Rattle.std.specs.Prelude.{◌≡◌};
+ghost use Rattle.lc_tree.specs.Kinds.{is_file, is_dir};
+
+use std::marker::Model;
+
+/// What stands under a name in a directory.
+#[derive(Clone, Copy, Debug, Drop, PartialEq, Eq)]
+pub enum Kind {
+    /// A regular file.
+    File,
+    /// A directory.
+    Dir,
+    /// Anything else, symbolic links included.
+    Other,
+}
+
+impl Kind {
+    /// Whether it is a regular file.
+    pub fn is_file(self) -> bool
+        ensures { result ≡ is_file self }
+    {
+        matches!(self, Kind::File)
+    }
+
+    /// Whether it is a directory.
+    pub fn is_dir(self) -> bool
+        ensures { result ≡ is_dir self }
+    {
+        matches!(self, Kind::Dir)
+    }
+}
+
+/// A name in a directory, and what stands under it.
+#[derive(Debug, Drop)]
+pub struct Entry {
+    /// The bytes of the name, in no particular encoding.
+    pub name: Vec<u8>,
+    pub kind: Kind,
+}
+
+impl Model for Entry {
+    ghost use Rattle.lc_tree.specs.Listing.{EntryModel};
+
+    ghost Value = { EntryModel };
+
+    ghost view = { λ e. record { name = e.name.items; kind = e.kind } };
+}

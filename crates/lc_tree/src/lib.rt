@@ -1,0 +1,37 @@
+//! Trees of directories and files, as they answer.
+//!
+//! - `tree`: the trait `Tree`
+//! - `entry`, `listing`: the entries of one directory, in the order of their names
+//! - `read_fault`: why a tree did not answer; `fault_word`: how a report tells of it
+//! - `sys_tree`, `sys_entries`: a directory of the system as a tree
+//! - `node`, `mem_tree`, `mem_file`: a tree of memory
+//! - `laws`: what is true of the definitions that the contracts cite
+#![tactic(auto)]
+
+mod entry;
+mod fault_word;
+mod laws;
+mod listing;
+mod mem_file;
+mod mem_tree;
+mod node;
+mod read_fault;
+mod sketch;
+mod sys_entries;
+mod sys_tree;
+mod tree;
+
+pub use entry::{Entry, Kind};
+pub use fault_word::FaultWord;
+pub use laws::{the_limit_is_this_number, trees_of_memory_answer_once};
+pub use listing::{Listing, ListingFault, MAX_ENTRIES};
+pub use mem_file::MemFile;
+pub use mem_tree::MemTree;
+pub use node::Node;
+pub use read_fault::ReadFault;
+pub use sketch::Sketch;
+pub use sys_tree::SysTree;
+pub use tree::Tree;
+
+#[cfg(test)]
+mod tests;

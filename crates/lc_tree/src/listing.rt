@@ -1,0 +1,115 @@
+//! The listing of a directory: its entries in the order of their names.
+ghost use Rattle.std.specs.Prelude.{◌≡◌, MatchResult};
+ghost use Rattle.std.specs.Bool.{MatchBool};
+ghost use Rattle.std.specs.List.Sorted.{IsPermutation, IsSorted, IsStrictlySortedBy};
+ghost use Rattle.lc_tree.specs.Listing.{by_name, names, have_good_names, HaveDistinctNames, IsListing, IsListingOf, IsRefusedBy};
+ghost use Rattle.lc_tree.specs.ByteOrder.{bytes_cmp};
+
+use crate::entry::Entry;
+use lc_glob::path::is_good_name;
+use std::marker::Model;
+use thiserror::Error;
+
+/// The most entries of a listing.
+pub const MAX_ENTRIES: usize = 1_048_576;
+
+/// Why entries make no listing. Where several hold, the first one is answered.
+#[derive(Clone, Copy, Debug, Drop, PartialEq, Eq, Error)]
+pub enum ListingFault {
+    /// A name is empty, `.` or `..`, or has a slash or a NUL byte.
+    #[error("a bad name")]
+    BadName,
+    /// Two names are equal.
+    #[error("a name stands twice")]
+    Twice,
+    /// There are over `MAX_ENTRIES` entries.
+    #[error("too many entries")]
+    TooMany,
+    /// Memory was refused.
+    #[error("out of memory")]
+    Memory,
+}
+
+/// The entries of a directory, in the order of their names' bytes.
+///
+/// Each name is good (neither empty nor `.` nor `..`, without a slash and a NUL byte) and stands once, and there are at
+/// most `MAX_ENTRIES` of them.
+#[derive(Debug, Drop)]
+pub struct Listing {
+    entries: Vec<Entry>,
+}
+
+impl Model for Listing {
+    ghost use Rattle.std.specs.Prelude.{List};
+    ghost use Rattle.lc_tree.specs.Listing.{EntryModel, IsListing};
+
+    ghost Value = { List EntryModel };
+
+    ghost view = { λ l. l.entries.items };
+
+    ghost invariant = { λ l. IsListing l.entries.items };
+}
+
+impl Listing {
+    /// Sorts the entries in place, in `O(n log n)` comparisons of names. It takes no memory, so it never answers
+    /// `ListingFault::Memory`. A refusal gives up the entries.
+    ///
+    /// ```
+    /// let listing = Listing::new(entries)?; // of `b` and `a`
+    /// assert!(listing.entries()[0].name == b"a");
+    /// ```
+    pub fn new(entries: Vec<Entry>) -> Result<Listing, ListingFault>
+        ensures { MatchResult result (IsListingOf entries.items) (IsRefusedBy entries.items) }
+    {
+        let mut entries = entries;
+        if !all_good(&entries) {
+            return Err(ListingFault::BadName);
+        }
+        sort_by_name(&mut entries);
+        if !are_distinct(&entries) {
+            return Err(ListingFault::Twice);
+        }
+        if entries.len() > MAX_ENTRIES {
+            return Err(ListingFault::TooMany);
+        }
+        Ok(Listing { entries })
+    }
+
+    /// All entries, in the order of their names' bytes, to be moved out one by one.
+    pub fn into_entries(self) -> Vec<Entry>
+        ensures same { result.items ≡ self }
+        ensures listing { IsListing result.items }
+    {
+        let Listing { entries } = self;
+        entries
+    }
+
+    /// All entries, in the order of their names' bytes.
+    pub fn entries(&self) -> &[Entry]
+        ensures same { result.now ≡ self.now }
+        ensures listing { IsListing result.now }
+    {
+        &self.entries
+    }
+}
+
+fn all_good(entries: &[Entry]) -> bool
+    ensures { result ≡ have_good_names entries.now }
+{
+    entries.iter().all(|entry| is_good_name(&entry.name))
+}
+
+fn sort_by_name(entries: &mut Vec<Entry>)
+    ensures same { IsPermutation entries.old.items entries.new.items }
+    ensures order { IsSorted by_name entries.new.items }
+{
+    entries.sort_unstable_by(|a, b| a.name.cmp(&b.name));
+}
+
+// Whether no name of sorted entries stands twice.
+fn are_distinct(entries: &[Entry]) -> bool
+    requires { IsSorted by_name entries.now }
+    ensures { MatchBool result (IsStrictlySortedBy bytes_cmp (names entries.now)) (HaveDistinctNames entries.now → ⊥) }
+{
+    entries.is_sorted_by(|a, b| a.name.cmp(&b.name).is_lt())
+}

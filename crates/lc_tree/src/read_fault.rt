@@ -1,0 +1,84 @@
+//! Why a tree did not answer.
+ghost use Rattle.std.specs.Prelude.{◌≡◌};
+ghost use Rattle.lc_tree.specs.Trees.{word_of};
+
+use crate::{FaultWord, ListingFault};
+use std::alloc::{AllocError, AllocFailed};
+use thiserror::Error;
+
+/// Why a directory was not listed, or a file not opened. A file is refused by `Failed` or `Memory` alone.
+#[derive(Clone, Copy, Debug, Drop, PartialEq, Eq, Error)]
+pub enum ReadFault {
+    /// The system did not give it, or nothing of this kind is there.
+    #[error("cannot be read")]
+    Failed,
+    /// A name of the directory can't be given as text.
+    #[error("a name is no text")]
+    Unnamed,
+    /// A name is empty, `.` or `..`, or has a slash or a NUL byte.
+    #[error("a bad name")]
+    BadName,
+    /// A name stands twice.
+    #[error("a name stands twice")]
+    Twice,
+    /// There are too many entries.
+    #[error("too many entries")]
+    TooMany,
+    /// Memory was refused.
+    #[error("out of memory")]
+    Memory,
+}
+
+impl ReadFault {
+    /// The word by which a report tells of it. Want of memory has none, since there is no report then.
+    pub fn word(self) -> Option<FaultWord>
+        ensures { result ≡ word_of self }
+    {
+        match self {
+            ReadFault::Failed => Some(FaultWord::Read),
+            ReadFault::Unnamed => Some(FaultWord::Name),
+            ReadFault::BadName => Some(FaultWord::Name),
+            ReadFault::Twice => Some(FaultWord::Twice),
+            ReadFault::TooMany => Some(FaultWord::Many),
+            ReadFault::Memory => None,
+        }
+    }
+}
+
+impl From<ListingFault> for ReadFault {
+    ghost use Rattle.std.specs.Prelude.{◌≡◌};
+    ghost use Rattle.lc_tree.specs.TreeFaults.{fault_of_listing};
+
+    ghost from_gives = { λ fault result. result ≡ fault_of_listing fault };
+
+    fn from(fault: ListingFault) -> ReadFault {
+        match fault {
+            ListingFault::BadName => ReadFault::BadName,
+            ListingFault::Twice => ReadFault::Twice,
+            ListingFault::TooMany => ReadFault::TooMany,
+            ListingFault::Memory => ReadFault::Memory,
+        }
+    }
+}
+
+impl From<AllocError> for ReadFault {
+    ghost use Rattle.std.specs.Prelude.{◌≡◌};
+    ghost use Rattle.lc_tree.specs.declared.read_fault.ReadFault.TheVariants.{Memory};
+
+    ghost from_gives = { λ _ fault. fault ≡ Memory };
+
+    fn from(_refused: AllocError) -> ReadFault {
+        ReadFault::Memory
+    }
+}
+
+impl<T: Drop> From<AllocFailed<T>> for ReadFault {
+    ghost use Rattle.std.specs.Prelude.{◌≡◌};
+    ghost use Rattle.lc_tree.specs.declared.read_fault.ReadFault.TheVariants.{Memory};
+
+    ghost from_gives = { λ _ fault. fault ≡ Memory };
+
+    fn from(_refused: AllocFailed<T>) -> ReadFault {
+        ReadFault::Memory
+    }
+}

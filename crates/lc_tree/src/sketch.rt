@@ -1,0 +1,38 @@
+//! A tree of memory as a table writes it.
+
+use crate::Node;
+use std::alloc::{AllocError, Global};
+
+/// A tree of memory as a table writes it, for tests and benchmarks.
+///
+/// ```
+/// let top = Sketch::Dir(&[(b"a.c", Sketch::File(b"int a;\n")), (b"b", Sketch::Dir(&[]))]);
+/// let node = top.node(rt.alloc())?;
+/// ```
+#[derive(Clone, Copy)]
+pub enum Sketch<'a> {
+    Dir(&'a [(&'a [u8], Sketch<'a>)]),
+    Closed,
+    File(&'a [u8]),
+    Failing(&'a [u8]),
+    Other,
+}
+
+impl Sketch<'_> {
+    /// The tree itself.
+    pub fn node(&self, alloc: Global) -> Result<Node, AllocError> {
+        match self {
+            Sketch::Dir(entries) => {
+                let mut children = Vec::with_capacity(alloc, entries.len())?;
+                for (name, sketch) in *entries {
+                    children.push((name.to_vec(alloc)?, sketch.node(alloc)?))?;
+                }
+                Ok(Node::Dir(children))
+            }
+            Sketch::Closed => Ok(Node::Closed),
+            Sketch::File(bytes) => Ok(Node::File(bytes.to_vec(alloc)?)),
+            Sketch::Failing(bytes) => Ok(Node::Failing(bytes.to_vec(alloc)?)),
+            Sketch::Other => Ok(Node::Other),
+        }
+    }
+}

@@ -1,0 +1,112 @@
+//! A directory of the system as a tree.
+ghost use Rattle.std.specs.Prelude.{◌≡◌, ◌++◌, IfOk, MatchResult, string_bytes};
+ghost use Rattle.lc_tree.specs.SysTrees.{top_text, IsFaultOfOpening};
+
+use crate::sys_entries::entries_of;
+use crate::{Listing, ReadFault, Tree};
+use lc_census::StdSource;
+use std::alloc::{AllocError, Global};
+use std::fs::OpenOptions;
+use std::marker::Model;
+use std::rt::Files;
+
+/// Room after the path of a directory for a slash and the name of an entry.
+const NAME_ROOM: usize = 256;
+
+/// A directory of the system, with what is below it.
+///
+/// Symbolic links below it, and all that is neither a regular file nor a directory, are `Kind::Other`. What the system
+/// does not give is `ReadFault::Failed`, and a name that is not UTF-8 makes its directory `ReadFault::Unnamed`. An entry
+/// that is removed while its directory is listed is left out.
+///
+/// Between the look at an entry and its opening the file may be replaced: then what stands there is opened, also through
+/// a symbolic link, and a named pipe waits for its writer.
+#[derive(Drop)]
+pub struct SysTree<'a, R> {
+    files: &'a R,
+    // The directory's path and a slash, by which a link to it is followed; nothing where that path is empty.
+    top: String,
+}
+
+impl<'a, R> Model for SysTree<'a, R> {
+    ghost use Rattle.std.specs.Prelude.{List, ℕ, string_bytes};
+
+    ghost Value = { List ℕ };
+
+    ghost view = { λ t. string_bytes t.top };
+}
+
+impl<'a, R: Files> SysTree<'a, R> {
+    /// The tree of the directory at a path, or of the one that a symbolic link there leads to. The system is not asked yet:
+    /// where no directory is there, the tree's top can't be listed.
+    ///
+    /// ```
+    /// let tree = SysTree::new(&rt, rt.alloc(), "src")?;
+    /// let listing = tree.list(rt.alloc(), b"")?;
+    /// ```
+    pub fn new(rt: &'a R, alloc: Global, dir: &str) -> Result<SysTree<'a, R>, AllocError>
+        ensures { IfOk result (λ t. t ≡ top_text dir.now) }
+    {
+        let mut top = String::from_str(alloc, dir)?;
+        // With a slash the empty path, which names nothing, would be the root.
+        if !dir.is_empty() {
+            top.push('/')?;
+        }
+        Ok(SysTree { files: rt, top })
+    }
+
+    // The system's path of a path of the tree.
+    fn full_path(&self, alloc: Global, path: &[u8]) -> Result<String, ReadFault>
+        ensures { MatchResult result (λ text. string_bytes text ≡ self.now ++ path.now) IsFaultOfOpening }
+    {
+        let Ok(path) = str::from_utf8(path) else {
+            return Err(ReadFault::Failed);
+        };
+        if self.top.is_empty() {
+            return Err(ReadFault::Failed);
+        }
+        let len = self.top.len().saturating_add(path.len());
+        let mut text = String::with_capacity(alloc, len.saturating_add(NAME_ROOM))?;
+        text.push_str(&self.top)?;
+        text.push_str(path)?;
+        Ok(text)
+    }
+}
+
+impl<R: Files + Sync> Tree for SysTree<'_, R>
+where
+    R::File: Send,
+    R::Dir: Send,
+{
+    type File = StdSource<R::File>;
+
+    ghost use Rattle.std.specs.Prelude.{[], Err, refl};
+    ghost use Rattle.std.proofs.Common.{lit≤};
+    ghost use Rattle.lc_tree.specs.SysTrees.{AnyListing, AnyContents};
+    ghost use Rattle.lc_tree.specs.declared.fault_word.FaultWord.TheVariants.{Read};
+
+    ghost lists = { λ t path. AnyListing };
+
+    ghost gives = { λ t path. AnyContents };
+
+    fn list(&self, alloc: Global, path: &[u8]) -> Result<Listing, ReadFault> {
+        let text = self.full_path(alloc, path)?;
+        let entries = entries_of(self.files, alloc, text)?;
+        Ok(Listing::new(entries)?)
+    }
+
+    fn open_file(&self, alloc: Global, path: &[u8]) -> Result<StdSource<R::File>, ReadFault> {
+        let text = self.full_path(alloc, path)?;
+        match OpenOptions::new()
+            .read(true)
+            .open(self.files, text.as_str())
+        {
+            Ok(file) => Ok(StdSource(file)),
+            Err(_) => Err(ReadFault::Failed),
+        }
+    }
+
+    ghost some_count = { λ t path. (Err Read, ([], tt)) };
+
+    ghost some_rules = { λ t path. (Err Read, ([], tt, lit≤ tt)) };
+}

@@ -1,0 +1,37 @@
+//! The trait of trees of directories and files.
+ghost use Rattle.std.specs.Prelude.{ℕ, List, Result};
+ghost use Rattle.lc_census.specs.declared.totals.Count.{Count};
+ghost use Rattle.lc_tree.specs.Trees.{Listings, Contents, Lists, Opens, MayCount, MayReadRules};
+ghost use Rattle.lc_tree.specs.declared.fault_word.FaultWord.{FaultWord};
+
+use crate::{Listing, ReadFault};
+use lc_census::Source;
+use std::alloc::Global;
+
+/// A tree of directories and files, which several workers ask at the same time.
+///
+/// A path is that of a directory or a file relative to the tree's top: names joined by single slashes, and the empty path
+/// for the top itself. A tree says by `lists` and `gives` which answers may come; two openings of one file may differ.
+pub trait Tree: Sync {
+    /// An opened file.
+    type File: Source + Send + Drop;
+
+    // What listing a path may answer.
+    ghost lists: { Self → List ℕ → Listings };
+
+    // What the reads of the file at a path may give, each time that it is opened.
+    ghost gives: { Self → List ℕ → Contents };
+
+    /// Lists the directory at a path.
+    fn list(&self, alloc: Global, path: &[u8]) -> Result<Listing, ReadFault>
+        ensures { Lists (lists self.now path.now) result };
+
+    /// Opens the file at a path. It is refused by `ReadFault::Failed` or `ReadFault::Memory` alone.
+    fn open_file(&self, alloc: Global, path: &[u8]) -> Result<Self::File, ReadFault>
+        ensures { Opens Self.File.may_give (gives self.now path.now) result };
+
+    // Each file may be counted, and read as rules, in some way.
+    ghost some_count: { (t : Self) (path : List ℕ) → (r : Result Count FaultWord) × MayCount (gives t path) r };
+
+    ghost some_rules: { (t : Self) (path : List ℕ) → (r : Result (List ℕ) FaultWord) × MayReadRules (gives t path) r };
+}

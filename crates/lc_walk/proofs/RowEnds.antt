@@ -1,0 +1,180 @@
+-- The rows by which a worker ends its claims are lawful.
+use Rattle.std.proofs.Common.{◌≡◌, ◌≢◌, ℕ, List, [], ◌++◌, map, take, cond, refl, sym, ◌∙◌, ap, subst, Option, Some, None, Result, Ok, Err, inl, inr, arith}
+use Rattle.std.proofs.Math.Seq.{take-length}
+use Rattle.std.proofs.lemmas.List.Sorted.{IsPermutation-append_comm}
+use Rattle.std.specs.List.Sorted.{IsStrictlySortedBy}
+use Rattle.std.specs.declared.alloc.AllocError.{AllocError}
+use Rattle.lc_board.specs.Holding.{job_held, posts_held}
+use Rattle.lc_board.specs.Pass.{Pass, holding, after_claim, after_give, after_fault}
+use Rattle.lc_board.specs.declared.answers.Claim.TheVariants.{Got}
+use Rattle.lc_board.specs.declared.answers.Ended.TheVariants as ended
+use Rattle.lc_tree.specs.Listing.{IsListing}
+use Rattle.lc_tree.specs.Trees.{Listings, Contents}
+use Rattle.lc_tree.specs.declared.fault_word.FaultWord.{FaultWord}
+use Rattle.lc_level.specs.Answers.{Answers, no_answers}
+use Rattle.lc_level.specs.CountedNames.{IsCounted}
+use Rattle.lc_level.specs.Job.{JobModel}
+use Rattle.lc_level.specs.LeftIn.{bytes_of}
+use Rattle.lc_level.specs.Level.{listed_level, level}
+use Rattle.lc_level.specs.Opens.{IsOpened, OpensLevel}
+use Rattle.lc_level.specs.Tidy.{IsTidy}
+use Rattle.lc_level.specs.TreeAnswers.{MayAnswer}
+use Rattle.lc_level.proofs.CountedLevels.{opened_level, counted_level}
+use Rattle.lc_walk.specs.Found.{children_of, children_at}
+use Rattle.lc_walk.specs.Lawful.{Asked, IsCause, jobs_of, named, files_of, files_at}
+use Rattle.lc_walk.specs.Posting.{HasPosted, RefusesPost}
+use Rattle.lc_walk.specs.RowViews.{ListedRowModel}
+use Rattle.lc_walk.specs.Serving.{HoldsJob, GivesUp, AddsFiles, GoesOn, Serves}
+use Rattle.lc_walk.specs.Tally.{TallyModel, CountedFile, StandsFor}
+use Rattle.lc_walk.specs.WalkReport.{tallied}
+use Rattle.lc_walk.specs.Worked.{IsLawfulEnd}
+use Rattle.lc_walk.proofs.Joining.{stands_permuted}
+use Rattle.lc_walk.proofs.Posted.{posts_come, job_stays}
+use Rattle.lc_walk.proofs.Working.{works_claim, works_posts, works_give, works_fault, serves_broken, then_serves}
+use Rattle.lc_level.specs.declared.cause.Cause.{Cause}
+use Rattle.lc_level.specs.declared.cause.Cause.TheVariants.{Memory, TooManyDirs, TooDeep}
+use Rattle.lc_level.specs.declared.counting.CountedFiles.{CountedFiles}
+use Rattle.lc_level.specs.declared.opening.Opened.{Opened}
+use Rattle.lc_level.specs.declared.place.Place.{Place}
+use Rattle.lc_level.specs.declared.unlisted.Unlisted.TheVariants as unlisted
+use Rattle.lc_walk.specs.declared.row.Row.{Row}
+use Rattle.lc_walk.specs.declared.row.Row.TheVariants.{Listed, Faulted, Broken}
+
+no_entries : IsListing []
+unfolding IsStrictlySortedBy
+no_entries = record { good = refl; order = tt; few = omega arith }
+
+module _ (ask : Asked) (lists : List ℕ → Listings) (gives : List ℕ → Contents) where
+  abbrev Lawful : Pass JobModel Row → JobModel → Cause → Answers → Type 0
+  Lawful p j c a = IsLawfulEnd ask p.full (MayAnswer lists gives) p.mine (ended.Returned (Broken (record { job = j; cause = c }))) a
+
+  -- a directory was given up before anything was posted
+  pub memory_end : (p : Pass JobModel Row) (j : JobModel) → HoldsJob j p → Lawful p j Memory no_answers
+  memory_end p j h = record {
+    job_is = h.job_is;
+    tidy = no_entries;
+    says = record { posted = 0; posts_are = ap jobs_of h.none; cause_is = tt };
+    may = inl refl;
+  }
+
+  unopened_end : (p : Pass JobModel Row) (j : JobModel) (c : Cause) → HoldsJob j p → OpensLevel lists gives ask.archive j (Err (unlisted.Broken c)) → (a : Answers) × Lawful p j c a
+  unopened_end p j Memory h o = (no_answers, memory_end p j h)
+  unopened_end p j TooManyDirs h o = absurd o
+  unopened_end p j TooDeep h o = (
+    o.0,
+    record {
+      job_is = h.job_is;
+      tidy = o.2;
+      says = record { posted = 0; posts_are = ap jobs_of h.none; cause_is = o.3 };
+      may = inr o.1;
+    },
+  )
+
+  pub serves_unopened : (p : Pass JobModel Row) (j : JobModel) (c : Cause) (t : TallyModel) (result : Result (Unit {0}) AllocError) → HoldsJob j p →
+      OpensLevel lists gives ask.archive j (Err (unlisted.Broken c)) → GivesUp c result →
+      Serves ask (MayAnswer lists gives) p (after_give p (Broken (record { job = j; cause = c }))) t t result
+  serves_unopened p j c t result h o g = let e = unopened_end p j c h o in serves_broken ask (MayAnswer lists gives) p j c e.0 t t result e.1 g (λ n. refl)
+
+  pub serves_faulted : (p : Pass JobModel Row) (j : JobModel) (place : Place) (word : FaultWord) (t : TallyModel) → HoldsJob j p →
+      OpensLevel lists gives ask.archive j (Err (unlisted.Faulted place word)) →
+      GoesOn ask (MayAnswer lists gives) p (after_fault p (Faulted (record { job = j; place = place; word = word }))) (Some t) (Some t)
+  serves_faulted p j place word t h o = works_fault ask (MayAnswer lists gives) p _ o.0 (Some t) (record {
+    job_is = h.job_is;
+    tidy = o.2;
+    says = record { level_is = o.3; posts_are = h.none };
+    may = inr o.1;
+  })
+
+  -- a directory was opened, and child directories were posted
+  module _ (p q : Pass JobModel Row) (j : JobModel) (o : Opened) (h : HoldsJob j p) (c : IsOpened lists gives ask.archive j o) where
+    same_children : children_at ask.archive j c.answers ≡ o.children.items
+    same_children = ap children_of (opened_level lists gives ask.archive j o c)
+
+    job_now : (jobs : List JobModel) → HasPosted p q jobs → job_held q.mine ≡ Some j
+    job_now jobs x = ap job_held x.mine ∙ job_stays x.since p.mine x.only ∙ h.job_is
+
+    posts_now : (jobs : List JobModel) (x : HasPosted p q jobs) → posts_held q.mine ≡ posts_held x.since
+    posts_now jobs x = ap posts_held x.mine ∙ posts_come x.since p.mine x.only ∙ ap (λ ps. ps ++ posts_held x.since) h.none
+
+    broken_end : (cause : Cause) (n : ℕ) → HasPosted p q (take n (jobs_of o.children.items)) → IsCause ask q.full j c.answers cause → Lawful q j cause c.answers
+    broken_end cause n x is = record {
+      job_is = job_now _ x;
+      tidy = c.tidy;
+      says = record { posted = n; posts_are = ap jobs_of (posts_now _ x) ∙ x.jobs_are ∙ ap (λ cs. take n (jobs_of cs)) (sym same_children); cause_is = is };
+      may = inr c.may;
+    }
+
+    -- not all were posted
+    pub serves_refused : (cause : Cause) (t : TallyModel) (result : Result (Unit {0}) AllocError) → RefusesPost (jobs_of o.children.items) p q cause → GivesUp cause result →
+        Serves ask (MayAnswer lists gives) p (after_give q (Broken (record { job = j; cause = cause }))) t t result
+    serves_refused Memory t result x g = then_serves ask (MayAnswer lists gives) p q _ t t result (works_posts ask (MayAnswer lists gives) p q _ (Some t) x.1)
+        (serves_broken ask (MayAnswer lists gives) q j Memory c.answers t t result (broken_end Memory x.0 x.1 tt) g (λ n. refl))
+    serves_refused TooManyDirs t result x g = then_serves ask (MayAnswer lists gives) p q _ t t result (works_posts ask (MayAnswer lists gives) p q _ (Some t) x.1)
+        (serves_broken ask (MayAnswer lists gives) q j TooManyDirs c.answers t t result (broken_end TooManyDirs x.0 x.1 x.2) g (λ n. refl))
+    serves_refused TooDeep t result x g = absurd x
+
+    -- all were posted, and then memory was refused
+    pub serves_uncounted : (t u : TallyModel) (result : Result (Unit {0}) AllocError) → HasPosted p q (jobs_of o.children.items) → GivesUp Memory result →
+        Serves ask (MayAnswer lists gives) p (after_give q (Broken (record { job = j; cause = Memory }))) t u result
+    serves_uncounted t u result x g =
+        let all = subst (HasPosted p q) (sym (take-length (jobs_of o.children.items))) x in
+        then_serves ask (MayAnswer lists gives) p q _ t u result (works_posts ask (MayAnswer lists gives) p q _ (Some t) x)
+        (serves_broken ask (MayAnswer lists gives) q j Memory c.answers t u result (broken_end Memory _ all tt) g (λ n. absurd (n refl)))
+
+    -- and its files were counted
+    pub serves_listed : (found : CountedFiles) (t u : TallyModel) (row : ListedRowModel) (x : HasPosted p q (jobs_of o.children.items)) → IsCounted gives o.job (bytes_of o.files.items) found →
+        AddsFiles (map tallied found.files.items) t u (Ok tt) →
+        row.job ≡ j → row.files ≡ cond ask.files found.files.items [] → row.faults ≡ found.faults.items → row.children ≡ named o.children.items (posts_held x.since) →
+        GoesOn ask (MayAnswer lists gives) p (after_give q (Listed row)) (Some t) (Some u)
+    serves_listed found t u row x f adds job files faults children first w =
+        works_give ask (MayAnswer lists gives) q (Listed row) counted.0 (Some t) (Some u) lawful gains (λ e. absurd (cc e)) first
+        (works_posts ask (MayAnswer lists gives) p q _ (Some t) x first w)
+      where
+        counted : (a : Answers) × MayAnswer lists gives j.path a × IsTidy a × (level ask.archive j a ≡ listed_level found.files.items found.faults.items o.children.items)
+        counted = counted_level lists gives ask.archive j o c found f
+
+        at_row : level ask.archive row.job counted.0 ≡ listed_level found.files.items found.faults.items o.children.items
+        at_row = ap (λ k. level ask.archive k counted.0) job ∙ counted.3
+
+        own_files : files_at ask.archive row.job counted.0 ≡ found.files.items
+        own_files = ap files_of at_row
+
+        own_children : children_at ask.archive row.job counted.0 ≡ o.children.items
+        own_children = ap children_of at_row
+
+        lawful : IsLawfulEnd ask q.full (MayAnswer lists gives) q.mine (ended.Returned (Listed row)) counted.0
+        lawful = record {
+          job_is = job_now _ x ∙ ap Some (sym job);
+          tidy = counted.2;
+          says = record {
+            level_is =
+                at_row
+                ∙ ap (λ fs. listed_level fs found.faults.items o.children.items) (sym own_files)
+                ∙ ap (λ xs. listed_level (files_at ask.archive row.job counted.0) xs o.children.items) (sym faults)
+                ∙ ap (λ cs. listed_level (files_at ask.archive row.job counted.0) row.faults cs) (sym own_children);
+            files_are = files ∙ ap (λ fs. cond ask.files fs []) (sym own_files);
+            posts_are = ap jobs_of (posts_now _ x) ∙ x.jobs_are ∙ ap jobs_of (sym own_children);
+            children_are = children ∙ ap (λ cs. named cs (posts_held x.since)) (sym own_children) ∙ ap (named (children_at ask.archive row.job counted.0)) (sym (posts_now _ x));
+          };
+          may = inr (subst (λ (k : JobModel). MayAnswer lists gives k.path counted.0) (sym job) counted.1);
+        }
+
+        gains : (fs : List CountedFile) → StandsFor t fs → StandsFor u (map tallied (files_at ask.archive row.job counted.0) ++ fs)
+        gains fs s =
+            subst (λ xs. StandsFor u (map tallied xs ++ fs)) (sym own_files)
+            (stands_permuted u (fs ++ map tallied found.files.items) (map tallied found.files.items ++ fs) (IsPermutation-append_comm fs (map tallied found.files.items)) (adds fs s))
+
+pub job_holds : (p : Pass JobModel Row) (j : JobModel) → HoldsJob j p → holding p ≢ None
+job_holds p j h e = let n : Some h.number ≡ None = sym h.holds ∙ e in absurd (cc n)
+
+-- a claim that was got
+pub got_job : (p : Pass JobModel Row) (i : ℕ) (j : JobModel) → HoldsJob j (after_claim p (Got i j))
+got_job p i j = record { number = i; holds = refl; job_is = refl; none = refl; nothing = refl }
+
+-- what was got is given up
+pub works_given_up : (ask : Asked) (lists : List ℕ → Listings) (gives : List ℕ → Contents) (p : Pass JobModel Row) (i : ℕ) (j : JobModel) (t : Option TallyModel) →
+    GoesOn ask (MayAnswer lists gives) p (after_give (after_claim p (Got i j)) (Broken (record { job = j; cause = Memory }))) t t
+works_given_up ask lists gives p i j t first w =
+    works_give ask (MayAnswer lists gives) (after_claim p (Got i j)) (Broken (record { job = j; cause = Memory })) no_answers t t
+    (memory_end ask lists gives (after_claim p (Got i j)) j (got_job p i j)) (λ fs s. s) inr first
+    (works_claim ask (MayAnswer lists gives) p (Got i j) t first w)

@@ -1,0 +1,141 @@
+-- What a worker has done goes on with each call.
+use Rattle.std.proofs.Common.{◌≡◌, ◌≢◌, ◌⊎◌, inl, inr, ℕ, Bool, List, [], ◌∷◌, ◌++◌, refl, sym, ◌∙◌, ap, subst, Option, Some, None, Result, Ok, Err, append_assoc}
+use Rattle.std.specs.List.{AllByRecursion}
+use Rattle.std.specs.declared.alloc.AllocError.{AllocError}
+use Rattle.lc_board.specs.Pass.{Pass, held_number, after_claim, after_give, after_fault}
+use Rattle.lc_board.specs.declared.event.Event.{Event}
+use Rattle.lc_board.specs.declared.event.Event.TheVariants.{Post, Claim, Return, Fault, Over}
+use Rattle.lc_board.specs.declared.answers.Claim.{Claim as ClaimAnswer}
+use Rattle.lc_board.specs.declared.answers.Claim.TheVariants as answer
+use Rattle.lc_board.specs.declared.answers.Ended.TheVariants as ended
+use Rattle.lc_level.specs.Answers.{Answers}
+use Rattle.lc_level.specs.Job.{JobModel}
+use Rattle.lc_walk.specs.Lawful.{Asked}
+use Rattle.lc_walk.specs.Posting.{IsPost, HasPosted}
+use Rattle.lc_walk.specs.Serving.{GivesUp, GoesOn, Serves}
+use Rattle.lc_walk.specs.Tally.{TallyModel, CountedFile, StandsFor}
+use Rattle.lc_walk.specs.Worked.{IsLawfulEnd, AreLawful, HasWorked, TalliesFor, GaveUp, files_given, returned_files}
+use Rattle.lc_walk.specs.Assembled.{IsBrokenBy}
+use Rattle.lc_walk.proofs.Fuller.{fuller_all}
+use Rattle.lc_level.specs.declared.cause.Cause.{Cause}
+use Rattle.lc_level.specs.declared.cause.Cause.TheVariants.{Memory, TooManyDirs, TooDeep}
+use Rattle.lc_walk.specs.declared.row.Row.{Row}
+use Rattle.lc_walk.specs.declared.row.Row.TheVariants.{Broken}
+
+abbrev Events : Type 0
+Events = List (Event JobModel Row)
+
+-- posts give no row
+posts_lawful : (ask : Asked) (full : Bool) (MayAnswer : List ℕ → Answers → Type 0) (s m : Events) (given : List Answers) → AllByRecursion IsPost s → AreLawful ask full MayAnswer m given → AreLawful ask full MayAnswer (s ++ m) given
+posts_lawful ask full MayAnswer [] m given a l = l
+posts_lawful ask full MayAnswer (Post w p i j ∷ s) m given a l = posts_lawful ask full MayAnswer s m given a.1 l
+posts_lawful ask full MayAnswer (Claim w i j ∷ s) m given a l = absurd a.0
+posts_lawful ask full MayAnswer (Return w i r ∷ s) m given a l = absurd a.0
+posts_lawful ask full MayAnswer (Fault w i r ∷ s) m given a l = absurd a.0
+posts_lawful ask full MayAnswer (Over w ∷ s) m given a l = absurd a.0
+
+posts_files : (ask : Asked) (s m : Events) (given : List Answers) → AllByRecursion IsPost s → files_given ask (s ++ m) given ≡ files_given ask m given
+posts_files ask [] m given a = refl
+posts_files ask (Post w p i j ∷ s) m given a = posts_files ask s m given a.1
+posts_files ask (Claim w i j ∷ s) m given a = absurd a.0
+posts_files ask (Return w i r ∷ s) m given a = absurd a.0
+posts_files ask (Fault w i r ∷ s) m given a = absurd a.0
+posts_files ask (Over w ∷ s) m given a = absurd a.0
+
+posts_gave_up : (s m : Events) → AllByRecursion IsPost s → GaveUp m → GaveUp (s ++ m)
+posts_gave_up [] m a u = u
+posts_gave_up (Post w p i j ∷ s) m a u = posts_gave_up s m a.1 u
+posts_gave_up (Claim w i j ∷ s) m a u = absurd a.0
+posts_gave_up (Return w i r ∷ s) m a u = absurd a.0
+posts_gave_up (Fault w i r ∷ s) m a u = absurd a.0
+posts_gave_up (Over w ∷ s) m a u = absurd a.0
+
+module _ (ask : Asked) (MayAnswer : List ℕ → Answers → Type 0) where
+  -- a worker that has done nothing has no files
+  pub works_first : (p : Pass JobModel Row) (t : TallyModel) → StandsFor t [] → HasWorked ask MayAnswer p p (Some t)
+  works_first p t s = record { worker = refl; since = []; mine = refl; answers = []; lawful = λ given l. l; tallied = s; untallied = λ e. absurd (cc e) }
+
+  pub works_claim : (p : Pass JobModel Row) (a : ClaimAnswer JobModel) (t : Option TallyModel) → GoesOn ask MayAnswer p (after_claim p a) t t
+  works_claim p (answer.Got i j) t first w = record {
+    worker = w.worker;
+    since = Claim p.worker i j ∷ w.since;
+    mine = ap (λ m. Claim p.worker i j ∷ m) w.mine;
+    answers = w.answers;
+    lawful = w.lawful;
+    tallied = w.tallied;
+    untallied = w.untallied;
+  }
+  works_claim p answer.Later t first w = w
+  works_claim p answer.Over t first w = record {
+    worker = w.worker;
+    since = Over p.worker ∷ w.since;
+    mine = ap (λ m. Over p.worker ∷ m) w.mine;
+    answers = w.answers;
+    lawful = w.lawful;
+    tallied = w.tallied;
+    untallied = w.untallied;
+  }
+  works_claim p answer.Memory t first w = record {
+    worker = w.worker;
+    since = w.since;
+    mine = w.mine;
+    answers = w.answers;
+    lawful = w.lawful;
+    tallied = w.tallied;
+    untallied = w.untallied;
+  }
+
+  pub works_posts : (p q : Pass JobModel Row) (jobs : List JobModel) (t : Option TallyModel) → HasPosted p q jobs → GoesOn ask MayAnswer p q t t
+  works_posts p q jobs t h first w = record {
+    worker = h.worker ∙ w.worker;
+    since = h.since ++ w.since;
+    mine = h.mine ∙ ap (λ m. h.since ++ m) w.mine ∙ sym (append_assoc h.since w.since first.mine);
+    answers = w.answers;
+    lawful = λ given l. subst (λ m. AreLawful ask q.full MayAnswer m (w.answers ++ given)) (sym h.mine)
+        (posts_lawful ask q.full MayAnswer h.since p.mine (w.answers ++ given) h.only (fuller_all ask p.full q.full MayAnswer h.fuller p.mine (w.answers ++ given) (w.lawful given l)));
+    tallied = subst (TalliesFor t) (sym (posts_files ask h.since w.since w.answers h.only)) w.tallied;
+    untallied = λ e. posts_gave_up h.since w.since h.only (w.untallied e);
+  }
+
+  -- a claim is ended by a lawful row, of which the tally gets the files
+  pub works_give : (p : Pass JobModel Row) (r : Row) (a : Answers) (t u : Option TallyModel) → IsLawfulEnd ask p.full MayAnswer p.mine (ended.Returned r) a →
+      ((fs : List CountedFile) → TalliesFor t fs → TalliesFor u (returned_files ask r a ++ fs)) → (u ≡ None → IsBrokenBy Memory r ⊎ (t ≡ None)) → GoesOn ask MayAnswer p (after_give p r) t u
+  works_give p r a t u l more none first w = record {
+    worker = w.worker;
+    since = Return p.worker (held_number p) r ∷ w.since;
+    mine = ap (λ m. Return p.worker (held_number p) r ∷ m) w.mine;
+    answers = a ∷ w.answers;
+    lawful = λ given g. (l, w.lawful given g);
+    tallied = more _ w.tallied;
+    untallied = λ e. at (none e);
+  }
+    where
+      at : IsBrokenBy Memory r ⊎ (t ≡ None) → IsBrokenBy Memory r ⊎ GaveUp w.since
+      at (inl b) = inl b
+      at (inr e) = inr (w.untallied e)
+
+  pub works_fault : (p : Pass JobModel Row) (r : Row) (a : Answers) (t : Option TallyModel) → IsLawfulEnd ask p.full MayAnswer p.mine (ended.Faulted r) a → GoesOn ask MayAnswer p (after_fault p r) t t
+  works_fault p r a t l first w = record {
+    worker = w.worker;
+    since = Fault p.worker (held_number p) r ∷ w.since;
+    mine = ap (λ m. Fault p.worker (held_number p) r ∷ m) w.mine;
+    answers = a ∷ w.answers;
+    lawful = λ given g. (l, w.lawful given g);
+    tallied = w.tallied;
+    untallied = w.untallied;
+  }
+
+  -- a directory was given up
+  pub serves_broken : (p : Pass JobModel Row) (j : JobModel) (c : Cause) (a : Answers) (t u : TallyModel) (result : Result (Unit {0}) AllocError) →
+      IsLawfulEnd ask p.full MayAnswer p.mine (ended.Returned (Broken (record { job = j; cause = c }))) a → GivesUp c result → (c ≢ Memory → t ≡ u) →
+      Serves ask MayAnswer p (after_give p (Broken (record { job = j; cause = c }))) t u result
+  serves_broken p j Memory a t u (Ok _) l g same = absurd g
+  serves_broken p j Memory a t u (Err _) l g same = works_give p _ a (Some t) None l (λ fs s. tt) (λ e. inl refl)
+  serves_broken p j TooManyDirs a t u (Ok _) l g same = works_give p _ a (Some t) (Some u) l (λ fs s. subst (λ x. StandsFor x fs) (same (λ e. absurd (cc e))) s) (λ e. absurd (cc e))
+  serves_broken p j TooManyDirs a t u (Err _) l g same = absurd g
+  serves_broken p j TooDeep a t u (Ok _) l g same = works_give p _ a (Some t) (Some u) l (λ fs s. subst (λ x. StandsFor x fs) (same (λ e. absurd (cc e))) s) (λ e. absurd (cc e))
+  serves_broken p j TooDeep a t u (Err _) l g same = absurd g
+
+  pub then_serves : (p q r : Pass JobModel Row) (t u : TallyModel) (result : Result (Unit {0}) AllocError) → GoesOn ask MayAnswer p q (Some t) (Some t) → Serves ask MayAnswer q r t u result → Serves ask MayAnswer p r t u result
+  then_serves p q r t u (Ok _) a b = λ first w. b first (a first w)
+  then_serves p q r t u (Err _) a b = λ first w. b first (a first w)

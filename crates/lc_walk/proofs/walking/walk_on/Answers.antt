@@ -1,0 +1,36 @@
+use Rattle.std.proofs.Common.{◌≡◌, ◌<◌, length, map, slice_get, Some, sym, ap, ◌∙◌, subst, refl}
+use Rattle.std.proofs.lemmas.Option.{slice_get-get_or}
+use Rattle.lc_board.proofs.ReturnedPasses.{still_in_order, taken_in_order}
+use Rattle.lc_level.specs.TreeAnswers.{MayAnswer}
+use Rattle.lc_walk.specs.Passes.{HaveWorked}
+use Rattle.lc_walk.specs.WalkOptions.{asked_by}
+use Rattle.lc_walk.proofs.CrewWorked.{have_worked}
+use Rattle.lc_walk.proofs.walking.walk_on.Goals as goal
+
+pub run_all-requires-clause-each : goal.run_all-requires-clause-each
+run_all-requires-clause-each g c κs within = λ i p low at.
+    let inside : i < length c.in-Ok-start.passes.items = subst (λ n. i < n) c.in-Ok-start.passes.ok.0 low in
+    let first = c.in-Ok-start.ensures.passes i p (slice_get-get_or c.in-Ok-start.passes.items i p inside ∙ ap Some (sym at)) in
+    (first.0, rw first.1 refl)
+
+same_count : (g : _) (c : goal.In-Some g) → length c.in-Ok-run_all.workers.items ≡ length c.in-Ok-start.passes.items
+same_count g c = sym c.in-Ok-run_all.workers.ok.0 ∙ c.in-Ok-run_all.ensures.all ∙ c.in-Ok-start.passes.ok.0
+
+pub finish-requires-clause-each : goal.finish-requires-clause-each
+finish-requires-clause-each g c κs within =
+    let view = g.B.Pass.Token.view in
+    let owns = g.B.Shared.owns c.in-Ok-start.board in
+    λ w p at. taken_in_order view owns (λ x. x.pass) c.in-Ok-run_all.workers.items
+    (still_in_order view owns (λ x. x.pass) c.in-Ok-start.passes.items c.in-Ok-run_all.workers.items (same_count g c) c.in-Ok-start.ensures.passes
+    (λ i q x low. let r = c.in-Ok-run_all.ensures.each i q x (subst (λ n. i < n) (sym c.in-Ok-start.passes.ok.0) low) in (r.0, r.1.worked.worker)))
+    w p (ap (λ ps. slice_get ps w) (sym c.in-Some.ensures.passes) ∙ at)
+
+pub finish-requires-clause-worked : goal.finish-requires-clause-worked
+finish-requires-clause-worked g c κs within =
+    let view = g.B.Pass.Token.view in
+    let ask = asked_by c.args.options.now in
+    let may = MayAnswer (g.T.Tree.lists c.args.tree.now) (g.T.Tree.gives c.args.tree.now) in
+    subst (λ ps. HaveWorked ask may (map view ps) c.in-Some.gathered.tally) (sym c.in-Some.ensures.passes)
+    (have_worked view ask may c.in-Ok-start.passes.items c.in-Ok-run_all.workers.items (same_count g c) (λ w p is. (c.in-Ok-start.ensures.passes w p is).1)
+    (λ i q x low. (c.in-Ok-run_all.ensures.each i q x (subst (λ n. i < n) (sym c.in-Ok-start.passes.ok.0) low)).1)
+    c.in-Some.ensures.over c.in-Some.gathered.tally c.in-Some.ensures.tally)

@@ -1,0 +1,49 @@
+-- What posting child directories leaves of a pass.
+use Rattle.std.specs.Prelude.{◌≡◌, ℕ, true, List, ◌++◌, take, Vec, Result, Ok, Err}
+use Rattle.std.specs.Global.{Global}
+use Rattle.std.specs.List.{AllByRecursion}
+use Rattle.lc_board.specs.Holding.{posts_held}
+use Rattle.lc_board.specs.Pass.{Pass}
+use Rattle.lc_board.specs.declared.event.Event.{Event}
+use Rattle.lc_board.specs.declared.event.Event.TheVariants.{Post, Claim, Return, Fault, Over}
+use Rattle.lc_level.specs.Job.{JobModel}
+use Rattle.lc_walk.specs.Lawful.{jobs_of, named}
+use Rattle.lc_walk.specs.RowViews.{ChildModel}
+use Rattle.lc_level.specs.declared.cause.Cause.{Cause}
+use Rattle.lc_level.specs.declared.cause.Cause.TheVariants.{Memory, TooManyDirs, TooDeep}
+use Rattle.lc_walk.specs.declared.row.Row.{Row}
+
+abbrev pub IsPost : Event JobModel Row → Type 0
+IsPost (Post w p i j) = Unit {0}
+IsPost (Claim w i j) = ⊥
+IsPost (Return w i r) = ⊥
+IsPost (Fault w i r) = ⊥
+IsPost (Over w) = ⊥
+
+-- from one pass to a later one nothing was done but to post these jobs, in order
+pub record HasPosted (old new : Pass JobModel Row) (jobs : List JobModel) : Type 0 where
+  pub worker : new.worker ≡ old.worker
+  pub fuller : old.full ≡ true → new.full ≡ true
+  pub since : List (Event JobModel Row)
+  pub mine : new.mine ≡ since ++ old.mine
+  pub only : AllByRecursion IsPost since
+  pub jobs_are : jobs_of (posts_held since) ≡ jobs
+
+-- why not all were posted, but the first of them
+abbrev pub RefusesPost : List JobModel → Pass JobModel Row → Pass JobModel Row → Cause → Type 0
+RefusesPost jobs old new Memory = (n : ℕ) × HasPosted old new (take n jobs)
+RefusesPost jobs old new TooManyDirs = (n : ℕ) × HasPosted old new (take n jobs) × (new.full ≡ true)
+RefusesPost jobs old new TooDeep = ⊥
+
+-- what posting child directories after others answers: their names with the numbers of the posts come to those of the others
+abbrev pub PostsMore : List (List ℕ × JobModel) → Pass JobModel Row → Pass JobModel Row →
+    List ChildModel → List ChildModel → Result (Unit {0}) Cause → Type 0
+PostsMore children old new before after (Ok _) =
+    (p : HasPosted old new (jobs_of children)) × (after ≡ before ++ named children (posts_held p.since))
+PostsMore children old new before after (Err cause) = RefusesPost (jobs_of children) old new cause
+
+-- what posting child directories answers: their names with the numbers of the posts
+abbrev pub PostsChildren : List (List ℕ × JobModel) → Pass JobModel Row → Pass JobModel Row → Result (Vec ChildModel Global) Cause → Type 0
+PostsChildren children old new (Ok posted) =
+    (p : HasPosted old new (jobs_of children)) × (posted.items ≡ named children (posts_held p.since))
+PostsChildren children old new (Err cause) = RefusesPost (jobs_of children) old new cause

@@ -1,0 +1,54 @@
+-- What a worker does with a directory that it has claimed.
+use Rattle.std.specs.Prelude.{◌≡◌, ℕ, true, List, [], ◌++◌, Option, Some, None, Result, Ok, Err}
+use Rattle.std.specs.declared.alloc.AllocError.{AllocError}
+use Rattle.lc_board.specs.Holding.{job_held, posts_held}
+use Rattle.lc_board.specs.Pass.{Pass, holding, posted}
+use Rattle.lc_level.specs.Answers.{Answers}
+use Rattle.lc_level.specs.Job.{JobModel}
+use Rattle.lc_walk.specs.Lawful.{Asked}
+use Rattle.lc_walk.specs.Tally.{TallyModel, CountedFile, StandsFor}
+use Rattle.lc_walk.specs.Worked.{HasWorked, HasEnded}
+use Rattle.lc_level.specs.declared.cause.Cause.{Cause}
+use Rattle.lc_level.specs.declared.cause.Cause.TheVariants.{Memory, TooManyDirs, TooDeep}
+use Rattle.lc_walk.specs.declared.row.Row.{Row}
+use Rattle.lc_walk.specs.declared.worker.End.{End}
+use Rattle.lc_walk.specs.declared.worker.End.TheVariants.{Over, Memory as NoMemory}
+
+-- a claim is held that was got with this job, and nothing was posted under it
+pub record HoldsJob (j : JobModel) (p : Pass JobModel Row) : Type 0 where
+  pub number : ℕ
+  pub holds : holding p ≡ Some number
+  pub job_is : job_held p.mine ≡ Some j
+  pub none : posts_held p.mine ≡ []
+  pub nothing : posted p ≡ 0
+
+-- what giving up a directory for a cause answers: whether it was for want of memory
+abbrev pub GivesUp : Cause → Result (Unit {0}) AllocError → Type 0
+GivesUp Memory (Ok _) = ⊥
+GivesUp Memory (Err _) = Unit {0}
+GivesUp TooManyDirs (Ok _) = Unit {0}
+GivesUp TooManyDirs (Err _) = ⊥
+GivesUp TooDeep (Ok _) = Unit {0}
+GivesUp TooDeep (Err _) = ⊥
+
+-- what adding files to a tally answers; after a refusal the tally stands for nothing
+abbrev pub AddsFiles : List CountedFile → TallyModel → TallyModel → Result (Unit {0}) AllocError → Type 0
+AddsFiles more old new (Ok _) = (files : List CountedFile) → StandsFor old files → StandsFor new (files ++ more)
+AddsFiles more old new (Err _) = Unit {0}
+
+-- what the worker had done since any earlier pass, with its tally, goes on
+abbrev pub GoesOn : Asked → (List ℕ → Answers → Type 0) →
+    Pass JobModel Row → Pass JobModel Row → Option TallyModel → Option TallyModel → Type 0
+GoesOn ask MayAnswer old new before after =
+    (first : Pass JobModel Row) → HasWorked ask MayAnswer first old before → HasWorked ask MayAnswer first new after
+
+-- what serving a claim answers; where memory was refused there is no tally any more
+abbrev pub Serves : Asked → (List ℕ → Answers → Type 0) →
+    Pass JobModel Row → Pass JobModel Row → TallyModel → TallyModel → Result (Unit {0}) AllocError → Type 0
+Serves ask MayAnswer old new before after (Ok _) = GoesOn ask MayAnswer old new (Some before) (Some after)
+Serves ask MayAnswer old new before after (Err _) = GoesOn ask MayAnswer old new (Some before) None
+
+-- how a worker has come to its end
+abbrev pub EndsAs : End → Pass JobModel Row → Type 0
+EndsAs Over p = HasEnded p
+EndsAs NoMemory p = p.refused ≡ true

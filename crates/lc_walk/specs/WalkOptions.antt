@@ -1,0 +1,23 @@
+-- What the options of a walk ask.
+use Rattle.std.specs.Prelude.{◌≤◌}
+use Rattle.lc_board.specs.Limits.{capacity_limit, workers_limit}
+use Rattle.lc_level.specs.Job.{JobModel}
+use Rattle.lc_level.specs.RuleReads.{shared}
+use Rattle.lc_level.specs.TopJob.{top_job}
+use Rattle.lc_walk.specs.Lawful.{Asked}
+use Rattle.lc_walk.specs.declared.options.Options.{Options}
+
+-- there is a worker and room for the top, and neither is over its limit
+pub record AreWithinLimits (o : Options) : Type 0 where
+  pub some_thread : 1 ≤ o.threads
+  pub few_threads : o.threads ≤ workers_limit
+  pub some_room : 1 ≤ o.max_dirs
+  pub few_dirs : o.max_dirs ≤ capacity_limit
+
+-- whether the report is to have the files, and whether the view is that of an archive
+abbrev pub asked_by : Options → Asked
+asked_by o = record { files = o.files; archive = o.archive }
+
+-- where it begins
+abbrev pub top_of : Options → JobModel
+top_of o = top_job (shared o.exclude)

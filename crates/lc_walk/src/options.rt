@@ -1,0 +1,20 @@
+//! What is asked of a walk.
+
+use lc_rules::IgnoreFile;
+use std::alloc::Global;
+use std::sync::Arc;
+
+/// What is asked of a walk.
+#[derive(Drop)]
+pub struct Options {
+    /// How many workers walk at the same time: 1 to 16.
+    pub threads: u32,
+    /// The most directories that are walked, the top included: 1 to 1,048,576.
+    pub max_dirs: u32,
+    /// The report has a line for each counted file.
+    pub files: bool,
+    /// Rules for the whole tree, which every `.gitignore` overrides, as Git's `core.excludesFile` (gitignore(5)).
+    pub exclude: Option<Arc<IgnoreFile, Global>>,
+    /// What has the attribute `export-ignore` is left out, as `git archive` does (gitattributes(5)).
+    pub archive: bool,
+}

@@ -1,0 +1,83 @@
+//! The walk over a tree.
+ghost use Rattle.std.specs.Prelude.{◌≡◌, IfOk};
+ghost use Rattle.lc_board.specs.WordClose.{words_promises};
+ghost use Rattle.lc_level.specs.TreeAnswers.{MayAnswer};
+ghost use Rattle.lc_walk.specs.WalkAnswers.{WalkAnswers};
+ghost use Rattle.lc_walk.specs.WalkOptions.{AreWithinLimits, asked_by, top_of};
+
+use crate::closing::finish;
+use crate::crew::{Gathered, gather, run_all};
+use crate::options::Options;
+use crate::report::Report;
+use crate::row::Row;
+use crate::walk_fault::WalkFault;
+use lc_board::{Shared, Words};
+use lc_level::Job;
+use lc_tree::Tree;
+use std::alloc::{AllocError, Global};
+use std::sync::{Arc, Wait};
+use std::thread::Threads;
+
+/// The job of the top.
+fn top_of(alloc: Global, options: &Options) -> Result<Job, AllocError>
+    ensures { IfOk result (λ job. job ≡ top_of options.now) }
+{
+    match &options.exclude {
+        Some(file) => Ok(Job::top(alloc, Some(Arc::try_clone(file)?))?),
+        None => Ok(Job::top(alloc, None)?),
+    }
+}
+
+/// Walks a tree over a board of this type, by a thread for each worker.
+pub fn walk_on<B: Shared<Job, Row>, T: Tree, R: Threads + Wait + Sync>(
+    rt: &R,
+    alloc: Global,
+    tree: &T,
+    options: &Options,
+) -> Result<Report, WalkFault>
+    requires limits { AreWithinLimits options.now }
+    ensures { WalkAnswers (MayAnswer (T.lists tree.now) (T.gives tree.now)) (asked_by options.now)
+        options.now.max_dirs options.now.threads (top_of options.now) B.promises result }
+{
+    let Ok(top) = top_of(alloc, options) else {
+        return Err(WalkFault::Memory);
+    };
+    let Ok((board, passes)) = B::start(alloc, options.max_dirs, options.threads, top) else {
+        return Err(WalkFault::Memory);
+    };
+    let Ok(workers) = run_all(rt, alloc, &board, tree, passes, options) else {
+        return Err(WalkFault::Memory);
+    };
+    let Some(gathered) = gather(alloc, workers) else {
+        return Err(WalkFault::Memory);
+    };
+    let Gathered { passes, tally } = gathered;
+    finish(
+        alloc,
+        tree,
+        board,
+        passes,
+        options.files,
+        options.archive,
+        tally,
+    )
+}
+
+/// Walks a tree: what it finds is what the recursive walk over the returned listings and censuses finds.
+///
+/// ```
+/// let report = walk(&rt, rt.alloc(), &tree, &options)?;
+/// assert_eq!(report.totals.files, report.files.len() as u64);
+/// ```
+pub fn walk<T: Tree, R: Threads + Wait + Sync>(
+    rt: &R,
+    alloc: Global,
+    tree: &T,
+    options: &Options,
+) -> Result<Report, WalkFault>
+    requires limits { AreWithinLimits options.now }
+    ensures { WalkAnswers (MayAnswer (T.lists tree.now) (T.gives tree.now)) (asked_by options.now)
+        options.now.max_dirs options.now.threads (top_of options.now) words_promises result }
+{
+    walk_on::<Words<Job, Row>, T, R>(rt, alloc, tree, options)
+}

@@ -1,0 +1,27 @@
+//! Adding the counted files of a directory to a tally.
+ghost use Rattle.std.specs.Prelude.{◌∷◌, [], map};
+ghost use Rattle.lc_walk.specs.Serving.{AddsFiles};
+ghost use Rattle.lc_walk.specs.WalkReport.{tallied};
+
+use crate::tally::{MOST_FILES, Tally, extension};
+use lc_level::Counted;
+use std::alloc::AllocError;
+
+fn add_file(tally: &mut Tally, file: &Counted) -> Result<(), AllocError>
+    ensures { AddsFiles (tallied file.now ∷ []) tally.old tally.new result }
+{
+    if tally.totals().files >= MOST_FILES {
+        return Err(AllocError);
+    }
+    tally.add(extension(&file.name), file.text, file.count)
+}
+
+/// Adds files to the tally. After a refusal it stands for nothing.
+pub(crate) fn add_files(tally: &mut Tally, files: &[Counted]) -> Result<(), AllocError>
+    ensures { AddsFiles (map tallied files.now) tally.old tally.new result }
+{
+    for file in files {
+        add_file(tally, file)?;
+    }
+    Ok(())
+}
