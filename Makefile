@@ -1,22 +1,25 @@
 # lc: see README.md. `make run` shows it at work, `make test` is the gate.
 
 PREFIX ?= /usr/local
+# the oldest processor that lc is to run on, as x86-64-v3: that of the last build, and at first x86-64-v2
+CPU ?= $(or $(shell cat crates/lc/out/cpu 2> /dev/null),x86-64-v2)
 SHELL := /bin/bash
 
-.PHONY: run test test-memory test-program install clean rt
+.PHONY: run test test-memory test-program test-faults install clean rt FORCE
 
-lc: $(shell find crates -name out -prune -o -type f -print 2>/dev/null) | rt
-	@echo "make: proves lc and all that it stands on, then builds it: some minutes the first time, seconds after an edit"
-	@cd crates/lc && rt run -- check /dev/null < /dev/null > out.log 2>&1 || { cat out.log; rm -f out.log; exit 1; }
-	@rm -f crates/lc/out.log
-	@install -m 755 crates/lc/out/lc $@
+lc: $(shell find crates -name out -prune -o -type f -print 2>/dev/null) crates.txt tools/build crates/lc/out/cpu | rt
+	@echo "make: proves lc and all that it stands on, then builds it for $(CPU): some minutes the first time, seconds after an edit"
+	@tools/build $(CPU)
 	@echo "make: ./lc is ready; it may be copied anywhere"
 
-# the main job on real input: what this repository's own ignore file says of the paths in its folder
+# changes where lc is asked for another processor than it was built for
+crates/lc/out/cpu: FORCE
+	@mkdir -p $(@D)
+	@[ "$$(cat $@ 2> /dev/null)" = $(CPU) ] || echo $(CPU) > $@
+
+# the main job on real input: the files and lines of this repository
 run: lc
-	@paths=$$(mktemp); find . -path ./.git -prune -o -path '*/out/*' -prune -o -mindepth 1 -type d -printf '%P/\n' -o -type f -printf '%P\n' | LC_ALL=C sort > $$paths; \
-	  ./lc check .gitignore < $$paths | LC_ALL=C awk -F '\t' '{ if (++count[$$1] <= 6) print } END { for (word in count) print word ": " count[word] " paths" }'; \
-	  rm -f $$paths
+	@./lc count .
 
 test: rt
 	rt ci
@@ -25,16 +28,25 @@ test: rt
 test-memory: rt
 	tools/test-memory
 
-# the built program with files, pipes and words as a shell gives them, and the tables of cases beside the tests
+# the built program with files, folders, pipes and words as a shell gives them, and the tables of cases beside the tests
 test-program: lc
 	tools/cases
 	tools/test-program
 
+# each call of the system that a run makes fails in turn, with each of its errors
+test-faults: lc
+	tools/test-faults
+
 install: lc
 	install -D -m 755 lc $(DESTDIR)$(PREFIX)/bin/lc
+	install -D -m 644 man/lc.1 $(DESTDIR)$(PREFIX)/share/man/man1/lc.1
+	install -D -m 644 completions/lc.bash $(DESTDIR)$(PREFIX)/share/bash-completion/completions/lc
+	install -D -m 644 completions/_lc $(DESTDIR)$(PREFIX)/share/zsh/site-functions/_lc
+	install -D -m 644 completions/lc.fish $(DESTDIR)$(PREFIX)/share/fish/vendor_completions.d/lc.fish
 
 clean:
 	rm -rf lc crates/*/out bench/*/data
 
 rt:
 	@command -v rt > /dev/null || { echo "make: the Rattle kit's command rt is not on the PATH; install the kit that README.md names, and put its folder bin on the PATH" >&2; exit 1; }
+FORCE:

@@ -1,0 +1,34 @@
+# Completions of lc for bash.
+
+_lc() {
+  local current=${COMP_WORDS[COMP_CWORD]} previous=${COMP_WORDS[COMP_CWORD - 1]}
+  COMPREPLY=()
+  if [ "$COMP_CWORD" -eq 1 ]; then
+    mapfile -t COMPREPLY < <(compgen -W 'count check help --help --version' -- "$current")
+    return
+  fi
+  case ${COMP_WORDS[1]} in
+    count)
+      case $previous in
+        --threads) mapfile -t COMPREPLY < <(compgen -W '1 2 4 8 16' -- "$current") ;;
+        --max-dirs) mapfile -t COMPREPLY < <(compgen -W '65536 1048576' -- "$current") ;;
+        --exclude-from) mapfile -t COMPREPLY < <(compgen -f -- "$current") ;;
+        *)
+          case $current in
+            -*) mapfile -t COMPREPLY < <(compgen -W '--threads --max-dirs --files --archive --exclude-from --help' -- "$current") ;;
+            *) mapfile -t COMPREPLY < <(compgen -d -- "$current") ;;
+          esac
+          ;;
+      esac
+      ;;
+    check)
+      case $current in
+        -*) mapfile -t COMPREPLY < <(compgen -W '--help' -- "$current") ;;
+        *) mapfile -t COMPREPLY < <(compgen -f -- "$current") ;;
+      esac
+      ;;
+    help) mapfile -t COMPREPLY < <(compgen -W 'count check' -- "$current") ;;
+  esac
+}
+
+complete -o filenames -F _lc lc
