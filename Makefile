@@ -5,7 +5,7 @@ PREFIX ?= /usr/local
 CPU ?= $(or $(shell cat crates/lc/out/cpu 2> /dev/null),x86-64-v2)
 SHELL := /bin/bash
 
-.PHONY: run test test-memory test-program test-faults install clean rt FORCE
+.PHONY: run test test-memory test-program test-faults test-fuzz install clean rt FORCE
 
 lc: $(shell find crates -name out -prune -o -type f -print 2>/dev/null) crates.txt tools/build crates/lc/out/cpu | rt
 	@echo "make: proves lc and all that it stands on, then builds it for $(CPU): some minutes the first time, seconds after an edit"
@@ -24,8 +24,9 @@ run: lc
 test: rt
 	rt ci
 
-# each allocation of the tests fails in turn
+# each allocation of the tests fails in turn; every public call that takes memory has a test
 test-memory: rt
+	tools/refused-calls
 	tools/test-memory
 
 # the built program with files, folders, pipes and words as a shell gives them, and the tables of cases beside the tests
@@ -33,9 +34,16 @@ test-program: lc
 	tools/cases
 	tools/test-program
 
-# each call of the system that a run makes fails in turn, with each of its errors
+# each call of the system that a run makes fails in turn, with each of its errors; then trees and rules that are as large as they can
+# be, and a tree that changes while it is walked
 test-faults: lc
 	tools/test-faults
+	tools/test-extremes
+	tools/test-changes
+
+# random rules and random trees, against a model of docs/RULES.md (not part of the gate)
+test-fuzz: lc
+	tools/test-fuzz
 
 install: lc
 	install -D -m 755 lc $(DESTDIR)$(PREFIX)/bin/lc

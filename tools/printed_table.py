@@ -1,0 +1,31 @@
+"""What docs/OUTPUT.md says of a table that `lc count --files` printed."""
+
+WORDS = {b"read", b"name", b"twice", b"many", b"long", b"endless"}
+
+
+def rows_of(text):
+    return [line.split(b"\t") for line in text.split(b"\n")[:-1]]
+
+
+def sums(rows, columns):
+    return [sum(int(row[column]) for row in rows) for column in columns]
+
+
+def table_fault(text):
+    """What is wrong with a whole table that has file lines, if something is."""
+    rows = rows_of(text)
+    if not rows or rows[0][0] != b"ext" or not text.endswith(b"\n"):
+        return "no table"
+    names = [row[0] for row in rows]
+    if names.count(b"total") != 1 or names.count(b"directories") != 1:
+        return "no total or no directories"
+    end = names.index(b"total")
+    keys, files = rows[1:end], [row for row in rows[end:] if row[0] == b"file"]
+    total = [int(field) for field in rows[end][3:]]
+    if sums(keys, (3, 4, 5, 6)) != total:
+        return "the keys' sums are not the total"
+    if [len(files)] + sums(files, (3, 4, 5)) != total:
+        return "the files' sums are not the total"
+    if any(row[1] not in WORDS for row in rows[end:] if row[0] == b"fault"):
+        return "an unknown fault"
+    return None

@@ -1,0 +1,318 @@
+"""docs/RULES.md, docs/OUTPUT.md and the census once more, by regular expressions: what tools/test-fuzz compares the program with."""
+
+import re
+
+MOST_RULES = 1 << 20
+CLASSES = {
+    b"alpha": lambda b: chr(b).isalpha(), b"lower": lambda b: chr(b).islower(), b"upper": lambda b: chr(b).isupper(),
+    b"digit": lambda b: 48 <= b <= 57, b"xdigit": lambda b: chr(b) in "0123456789abcdefABCDEF", b"alnum": lambda b: chr(b).isalnum(),
+    b"blank": lambda b: b in b" \t", b"space": lambda b: b == 32 or 9 <= b <= 13, b"cntrl": lambda b: b < 32 or b == 127,
+    b"graph": lambda b: 33 <= b <= 126, b"print": lambda b: 32 <= b <= 126, b"punct": lambda b: 33 <= b <= 126 and not chr(b).isalnum(),
+}
+
+
+class Dead(Exception):
+    """The pattern is dead: it matches nothing."""
+
+
+def set_of(members, negated):
+    members = [b for b in range(256) if b != 47 and (b in members) != negated]
+    return b"[" + b"".join(b"\\x%02x" % b for b in members) + b"]" if members else b"(?!)"
+
+
+def bracket(text, at):
+    """Reads a bracket whose first byte stands before `at`: its regular expression, and where the pattern goes on."""
+    negated = text[at:at + 1] in (b"!", b"^") and at < len(text)
+    at += negated
+    members, first = set(), True
+    while True:
+        if at >= len(text):
+            raise Dead
+        if text[at] == 93 and not first:
+            return set_of(members, negated), at + 1
+        first = False
+        if text[at:at + 2] == b"[:":
+            close = text.find(b"]", at + 2)
+            if close < 0:
+                raise Dead
+            if text[close - 1] == 58 and close - 1 > at + 1:
+                name = text[at + 2:close - 1]
+                if name not in CLASSES:
+                    raise Dead
+                members |= {b for b in range(128) if CLASSES[name](b)}
+                at = close + 1
+                continue
+        low, at = element(text, at)
+        if text[at:at + 1] == b"-" and at + 1 < len(text) and text[at + 1] != 93:
+            high, at = element(text, at + 1)
+            members |= {low, *range(low, high + 1)}
+        else:
+            members.add(low)
+
+
+def element(text, at):
+    at += text[at] == 92
+    if at >= len(text):
+        raise Dead
+    return text[at], at + 1
+
+
+def tokens(text):
+    """The tokens of a pattern: "/", "*", or the regular expression of one byte."""
+    at, found = 0, []
+    while at < len(text):
+        byte = text[at:at + 1]
+        at += 1
+        if byte == b"\\":
+            if at == len(text):
+                raise Dead
+            byte = text[at:at + 1]
+            at += 1
+            found.append("/" if byte == b"/" else b"\\x%02x" % byte[0])
+        elif byte == b"[":
+            one, at = bracket(text, at)
+            found.append(one)
+        elif byte in (b"/", b"*"):
+            found.append(byte.decode())
+        else:
+            found.append(b"[^/]" if byte == b"?" else b"\\x%02x" % byte[0])
+    return found
+
+
+class Pattern:
+    def __init__(self, text):
+        self.dir_only, self.regex = False, None
+        try:
+            found = tokens(text)
+        except Dead:
+            return
+        if found and found[-1] == "/":
+            found.pop()
+            self.dir_only = True
+        anchored = bool(found) and found[0] == "/"
+        if anchored:
+            found.pop(0)
+        segments = [[]]
+        for token in found:
+            if token == "/":
+                segments.append([])
+            else:
+                segments[-1].append(token)
+        if not all(segments):
+            return
+        anchored = anchored or len(segments) > 1
+        whole = b"" if anchored else b"(?:.*/)?"
+        for number, segment in enumerate(segments):
+            is_last = number == len(segments) - 1
+            if anchored and segment == ["*", "*"]:
+                whole += b"[^/]+(?:/[^/]+)*" if is_last else b"(?:[^/]+/)*"
+                continue
+            previous = None
+            for token in segment:
+                if token != "*" or previous != "*":
+                    whole += b"[^/]*" if token == "*" else token
+                previous = token
+            whole += b"" if is_last else b"/"
+        self.regex = re.compile(whole, re.DOTALL)
+
+    def matches(self, path, is_dir):
+        return self.regex is not None and (is_dir or not self.dir_only) and self.regex.fullmatch(path) is not None
+
+
+def lines_of(text):
+    text = text[3:] if text.startswith(b"\xef\xbb\xbf") else text
+    lines = text.split(b"\n")
+    return lines if lines[-1] else lines[:-1]
+
+
+def without_spaces(line):
+    """Trailing spaces go, but those that a backslash quotes."""
+    at, end = 0, 0
+    while at < len(line):
+        step = 2 if line[at] == 92 and at + 1 < len(line) else 1
+        if step == 2 or line[at] != 32:
+            end = at + step
+        at += step
+    return line[:end]
+
+
+def rules_of(text):
+    """The rules of an ignore file: whether each is negated, and its pattern."""
+    rules = []
+    for line in lines_of(text):
+        line = line[:-1] if line.endswith(b"\r") else line
+        if line.startswith(b"#"):
+            continue
+        line = without_spaces(line)
+        if line:
+            negated = line.startswith(b"!")
+            rules.append((negated, Pattern(line[negated:])))
+    return rules
+
+
+def verdict_of(rules, path, is_dir):
+    """`rules` are triples: how many bytes of the path its file doesn't see, whether negated, and the pattern."""
+    for offset, negated, pattern in reversed(rules):
+        if pattern.matches(path[offset:], is_dir):
+            return b"included" if negated else b"ignored"
+    return b"none"
+
+
+def escaped(text):
+    return b"".join(b"\\\\" if b == 92 else b"\\x%02x" % b if b < 32 or b == 127 else bytes([b]) for b in text)
+
+
+def check_line(rules, line):
+    path = line[:-1] if line.endswith(b"/") else line
+    segments = path.split(b"/")
+    if len(path) > 4096 or b"\0" in path or any(it in (b"", b".", b"..") for it in segments):
+        word = b"bad"
+    elif any(verdict_of(rules, b"/".join(segments[:n]), True) == b"ignored" for n in range(1, len(segments))):
+        word = b"below"
+    else:
+        word = verdict_of(rules, path, line.endswith(b"/"))
+    return word + b"\t" + escaped(line) + b"\n"
+
+
+def check_text(rules, lines):
+    rules = [(0, *rule) for rule in rules_of(rules)]
+    return b"".join(check_line(rules, line) for line in lines)
+
+
+# Attributes: a state is b"set", b"unset", b"unspecified" or b"=" and a value.
+NAME = re.compile(rb"[A-Za-z0-9._][A-Za-z0-9._-]*")
+QUOTED = re.compile(rb'"((?:[^"\\]|\\[abfnrtv\\"]|\\[0-3][0-7][0-7])*)"', re.DOTALL)
+QUOTES = dict(zip(b"abfnrtv\\\"", b"\a\b\f\n\r\t\v\\\""))
+
+
+def unquoted(text):
+    return re.sub(rb"\\([0-7]{3}|.)", lambda it: bytes([int(it[1], 8) if len(it[1]) == 3 else QUOTES[it[1][0]]]), text, flags=re.DOTALL)
+
+
+def assignment(word):
+    sign = word[:1] if word[:1] in (b"-", b"!") else b""
+    name, equals, value = word[len(sign):].partition(b"=")
+    if not NAME.fullmatch(name):
+        return None
+    return name, {b"-": b"unset", b"!": b"unspecified"}.get(sign, b"=" + value if equals else b"set")
+
+
+def attribute_lines(text, is_top):
+    """The lines with patterns, and the macros, of an attribute file."""
+    lines, macros = [], {}
+    for line in lines_of(text):
+        line = line.strip(b" \t\r")
+        if not line or line.startswith(b"#"):
+            continue
+        macro = None
+        if line.startswith(b'"'):
+            quoted = QUOTED.match(line)
+            if not quoted:
+                continue
+            pattern, rest = unquoted(quoted[1]), line[quoted.end():]
+        else:
+            pattern = re.match(rb"[^ \t\r]*", line)[0]
+            rest = line[len(pattern):]
+            macro = pattern[6:] if pattern.startswith(b"[attr]") and len(pattern) > 6 else None
+        words = [assignment(word) for word in re.split(rb"[ \t\r]+", rest) if word]
+        if None in words or macro is None and pattern.startswith(b"!"):
+            continue
+        if macro is None:
+            lines.append((Pattern(pattern), words))
+        elif is_top and NAME.fullmatch(macro):
+            macros[macro] = words
+    return lines, macros
+
+
+def attributes_of(lines, macros, path, is_dir):
+    """The states of all names: `lines` are triples, the one that decides last at the end."""
+    states = {}
+
+    def read(words):
+        for name, state in reversed(words):
+            if name not in states:
+                states[name] = state
+                if state == b"set" and name in macros:
+                    read(macros[name])
+
+    for offset, pattern, words in reversed(lines):
+        if pattern.matches(path[offset:], is_dir):
+            read(words)
+    return states
+
+
+# The census, and the table.
+def census(data):
+    """Lines, blank lines, bytes and the class of the line ends."""
+    ends = set(re.findall(rb"\r\n|\n|\r", data))
+    texts = re.split(rb"\r\n|\n|\r", data)
+    texts = texts if texts[-1] else texts[:-1]
+    names = {b"\n": "lf", b"\r\n": "crlf", b"\r": "cr"}
+    eol = "nul" if b"\0" in data else "none" if not ends else names[ends.pop()] if len(ends) == 1 else "mixed"
+    return len(texts), sum(not text.strip(b" \t") for text in texts), len(data), eol
+
+
+def text_state(state):
+    return {b"set": "set", b"unset": "unset", b"=auto": "auto", b"unspecified": "-"}.get(state, "other")
+
+
+def extension(path):
+    name = path.rpartition(b"/")[2]
+    dot = name.rfind(b".")
+    return name[dot + 1:] if dot > 0 and dot + 1 < len(name) else None
+
+
+class Walk:
+    """The recursive walk of a tree: a dictionary of names, a folder a dictionary, a file its bytes, anything else None."""
+
+    def __init__(self, tree, archive=False, exclude=b""):
+        self.files, self.directories, self.archive = [], 0, archive
+        info = tree.get(b".git")
+        info = info.get(b"info") if isinstance(info, dict) else None
+        info = info if isinstance(info, dict) else {}
+        rules = [(0, *rule) for text in (exclude, self.file(info, b"exclude")) for rule in rules_of(text)]
+        self.info, self.macros = attribute_lines(self.file(info, b"attributes"), True)
+        self.level(tree, b"", rules, [], {b"binary": [(b"diff", b"unset"), (b"merge", b"unset"), (b"text", b"unset")]})
+
+    @staticmethod
+    def file(entries, name):
+        return entries[name] if isinstance(entries.get(name), bytes) else b""
+
+    def level(self, entries, above, rules, lines, macros):
+        self.directories += 1
+        offset = len(above)
+        rules = rules + [(offset, *rule) for rule in rules_of(self.file(entries, b".gitignore"))]
+        own, own_macros = attribute_lines(self.file(entries, b".gitattributes"), not above)
+        lines = lines + [(offset, *line) for line in own]
+        macros = {**macros, **own_macros}
+        for name, entry in entries.items():
+            path, is_dir = above + name, isinstance(entry, dict)
+            if name == b".git" or entry is None or verdict_of(rules, path, is_dir) == b"ignored":
+                continue
+            states = attributes_of(lines + [(0, *line) for line in self.info], {**macros, **self.macros}, path, is_dir)
+            if self.archive and states.get(b"export-ignore") == b"set":
+                continue
+            if is_dir:
+                self.level(entry, path + b"/", rules, lines, macros)
+            else:
+                self.files.append((path, text_state(states.get(b"text", b"unspecified")), *census(entry)))
+
+    def table(self):
+        rows, total = {}, [0, 0, 0, 0]
+        for path, text, lines, blank, size, eol in self.files:
+            found = extension(path)
+            key = (found is not None, found or b"", ["set", "unset", "auto", "other", "-"].index(text),
+                   ["none", "lf", "crlf", "cr", "mixed", "nul"].index(eol), text, eol)
+            row = rows.setdefault(key, [0, 0, 0, 0])
+            for sums in (row, total):
+                for column, more in enumerate((1, lines, blank, size)):
+                    sums[column] += more
+        out = [b"ext\ttext\teol\tfiles\tlines\tblank\tbytes"]
+        for key in sorted(rows):
+            word = b"." + escaped(key[1]) if key[0] else b"-"
+            out.append(b"\t".join([word, key[4].encode(), key[5].encode(), *(b"%d" % it for it in rows[key])]))
+        out.append(b"\t".join([b"total", b"*", b"*", *(b"%d" % it for it in total)]))
+        out.append(b"directories\t%d" % self.directories)
+        for path, text, lines, blank, size, eol in sorted(self.files):
+            out.append(b"\t".join([b"file", text.encode(), eol.encode(), *(b"%d" % it for it in (lines, blank, size)), escaped(path)]))
+        return b"\n".join(out) + b"\n"
