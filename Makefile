@@ -32,6 +32,7 @@ test-memory: rt
 # the built program with files, folders, pipes and words as a shell gives them, and the tables of cases beside the tests
 test-program: lc
 	tools/cases
+	tools/definitions
 	tools/test-program
 
 # each call of the system that a run makes fails in turn, with each of its errors; then trees and rules that are as large as they can
