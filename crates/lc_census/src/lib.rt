@@ -7,6 +7,7 @@
 //! - `whole`: the bytes of a reader, up to a limit
 //! - `scan`, `plain`, `lanes`: the two bodies of the census, a byte at a time and by vectors, under one contract; they
 //!   are public for benchmarks alone
+//! - `trials`: readers for tests of any crate
 //! - `laws`: what is true of the definitions that the contracts cite
 #![tactic(auto)]
 
@@ -19,6 +20,7 @@ mod scan;
 mod source;
 mod std_source;
 mod totals;
+pub mod trials;
 mod whole;
 
 pub use census::Census;

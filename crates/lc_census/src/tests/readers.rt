@@ -1,4 +1,4 @@
-use crate::tests::byte_by_byte::{ByteByByte, Last};
+use crate::trials::{Bytewise, Counted, Endless, Failing};
 use crate::{CensusFault, Count, Eol, StdSource, count, count_in, count_within};
 use std::alloc::AllocError;
 use std::io::{Error, ErrorKind, Read, Result as IoResult};
@@ -33,7 +33,7 @@ fn reads_up_to_the_end_within_its_turns(rt: HostRuntime) -> Result<(), Fail> {
         (2, Err(CensusFault::Endless), 2),
         (0, Err(CensusFault::Endless), 0),
     ] {
-        let mut reader = ByteByByte::new(b"ab", Last::End);
+        let mut reader = Counted::new(Bytewise(b"ab".as_slice()));
         let found = count_within(rt.alloc(), &mut reader, turns);
         assert_eq!(&rt; answered(found, reader.reads)?, want, "{turns} turns");
         assert_eq!(&rt; reader.reads, reads, "{turns} turns");
@@ -44,14 +44,13 @@ fn reads_up_to_the_end_within_its_turns(rt: HostRuntime) -> Result<(), Fail> {
 
 #[test]
 fn an_endless_reader_is_read_1000_times(rt: HostRuntime) -> Result<(), Fail> {
-    let mut reader = ByteByByte::new(b"a\r", Last::More);
+    let mut reader = Counted::new(Bytewise(Endless));
     let found = count_within(rt.alloc(), &mut reader, 1_000);
     assert_eq!(&rt; answered(found, reader.reads)?, Err(CensusFault::Endless));
     assert_eq!(&rt; reader.reads, 1_000);
     Ok(())
 }
 
-// The reads after the one that fails would meet the end.
 #[test]
 fn a_failed_read_is_the_last(rt: HostRuntime) -> Result<(), Fail> {
     for (name, bytes, reads) in [
@@ -61,11 +60,11 @@ fn a_failed_read_is_the_last(rt: HostRuntime) -> Result<(), Fail> {
         ("after a CR", b"a\r".as_slice(), 3),
     ] {
         let mut buffer = [0u8; 16];
-        let mut reader = ByteByByte::new(bytes, Last::Failure);
+        let mut reader = Counted::new(Bytewise(Failing(bytes)));
         let found = count_in(&mut buffer, &mut reader, 1_000);
         assert_eq!(&rt; found, Err(CensusFault::Read), "{name}");
         assert_eq!(&rt; reader.reads, reads, "{name}");
-        let mut reader = ByteByByte::new(bytes, Last::Failure);
+        let mut reader = Counted::new(Bytewise(Failing(bytes)));
         let found = count(rt.alloc(), &mut reader);
         assert_eq!(&rt;
             answered(found, reader.reads)?,
