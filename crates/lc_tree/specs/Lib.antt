@@ -1,4 +1,5 @@
 pub mod ByteOrder
+pub mod FailingTrees
 pub mod Kinds
 pub mod Listing
 pub mod MemTrees

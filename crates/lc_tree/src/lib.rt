@@ -5,6 +5,7 @@
 //! - `read_fault`: why a tree did not answer; `fault_word`: how a report tells of it
 //! - `sys_tree`, `sys_entries`: a directory of the system as a tree
 //! - `node`, `mem_tree`, `mem_file`: a tree of memory
+//! - `sketch`, `trials`: trees for tests of any crate
 //! - `laws`: what is true of the definitions that the contracts cite
 #![tactic(auto)]
 
@@ -20,6 +21,7 @@ mod sketch;
 mod sys_entries;
 mod sys_tree;
 mod tree;
+pub mod trials;
 
 pub use entry::{Entry, Kind};
 pub use fault_word::FaultWord;

@@ -5,3 +5,4 @@ mod given_names;
 mod listings;
 mod mem_trees;
 mod real_folders;
+mod trial_trees;
