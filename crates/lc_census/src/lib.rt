@@ -30,7 +30,7 @@ pub use laws::{a_slice_gives_its_bytes, bytes_have_one_cutting, the_limits_are_t
 pub use plain::scan_plain;
 pub use scan::Scan;
 pub use source::{Failed, Source};
-pub use std_source::StdSource;
+pub use std_source::{MAX_TRIES, StdSource};
 pub use totals::{Count, Eol};
 pub use whole::{WholeFault, read_whole};
 

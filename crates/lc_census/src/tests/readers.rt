@@ -101,32 +101,54 @@ fn counts_a_slice_and_a_reader_of_std(rt: HostRuntime) -> Result<(), Fail> {
     Ok(())
 }
 
-/// Is interrupted at its first read, as a system call may be. A second would meet the end.
+/// A reader of std that gives its bytes one a read, and errors of one kind at all reads but each so many-th.
 #[derive(Drop)]
-struct Interrupted {
+struct Failings<'a> {
+    left: &'a [u8],
+    kind: ErrorKind,
+    period: u64,
     reads: u64,
 }
 
-impl Read for Interrupted {
-    fn read(&mut self, _buffer: &mut [u8]) -> IoResult<usize> {
+impl Read for Failings<'_> {
+    fn read(&mut self, buffer: &mut [u8]) -> IoResult<usize> {
         self.reads = self.reads.saturating_add(1);
-        if self.reads == 1 {
-            Err(Error::from(ErrorKind::Interrupted))
-        } else {
-            Ok(0)
+        if self.reads % self.period.max(1) != 0 {
+            return Err(Error::from(self.kind));
         }
+        let Some((first, others)) = self.left.split_first() else {
+            return Ok(0);
+        };
+        let Some(place) = buffer.first_mut() else {
+            return Ok(0);
+        };
+        *place = *first;
+        self.left = others;
+        Ok(1)
     }
 }
 
 #[test]
-fn each_read_is_one_of_the_reader_of_std(rt: HostRuntime) {
+fn only_interrupted_reads_are_tried_again(rt: HostRuntime) {
+    let whole = Ok(count_of(2, 0, 4, Eol::CrLf));
+    let failed = Err(CensusFault::Read);
     let mut buffer = [0u8; 16];
-    let mut reader = StdSource(Interrupted { reads: 0 });
-    for (want, reads) in [
-        (Err(CensusFault::Read), 1),
-        (Ok(count_of(0, 0, 0, Eol::NoEnd)), 2),
+    for (kind, period, want, reads) in [
+        (ErrorKind::Interrupted, 1, whole, 5),
+        (ErrorKind::Interrupted, 2, whole, 10),
+        (ErrorKind::Interrupted, 1_000, whole, 5_000),
+        (ErrorKind::Interrupted, 65_536, whole, 327_680),
+        (ErrorKind::Interrupted, 65_537, failed, 65_536),
+        (ErrorKind::WouldBlock, 2, failed, 1),
+        (ErrorKind::Other, 2, failed, 1),
     ] {
-        assert_eq!(&rt; count_in(&mut buffer, &mut reader, 1_000), want);
-        assert_eq!(&rt; reader.0.reads, reads);
+        let mut reader = StdSource(Failings {
+            left: b"a\r\nb",
+            kind,
+            period,
+            reads: 0,
+        });
+        assert_eq!(&rt; count_in(&mut buffer, &mut reader, 1_000), want, "{period}");
+        assert_eq!(&rt; reader.0.reads, reads, "{period}");
     }
 }
