@@ -5,8 +5,8 @@ pub mod Listing
 pub mod MemTrees
 pub mod Nodes
 pub mod OneAnswer
+pub mod Paths
 pub mod SomeAnswers
-pub mod SomeCuttings
 pub mod SysTrees
 pub mod TreeFaults
 pub mod Trees
