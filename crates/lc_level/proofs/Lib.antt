@@ -4,6 +4,7 @@ pub mod Depths
 pub mod GitReads
 pub mod GivenItems
 pub mod GivenPairs
+pub mod NodeTrees
 pub mod OneLevel
 pub mod OpenLevels
 pub mod Rooms

@@ -9,6 +9,7 @@ pub mod Job
 pub mod Laws
 pub mod LeftIn
 pub mod Level
+pub mod NodeTrees
 pub mod OneAnswer
 pub mod Opens
 pub mod PathBuffers

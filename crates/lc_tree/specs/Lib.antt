@@ -1,5 +1,7 @@
 pub mod ByteOrder
+pub mod FileAnswers
 pub mod Kinds
+pub mod Listed
 pub mod Listing
 pub mod MemTrees
 pub mod Nodes
