@@ -1,6 +1,7 @@
 pub mod CountedLevels
 pub mod CountedMore
 pub mod Depths
+pub mod Examples
 pub mod GitReads
 pub mod GivenItems
 pub mod GivenPairs

@@ -2,6 +2,7 @@ pub mod Answers
 pub mod CountedNames
 pub mod Deep
 pub mod EntryLooks
+pub mod Examples
 pub mod FaultLines
 pub mod FileReads
 pub mod GitInfo
