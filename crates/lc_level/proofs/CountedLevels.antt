@@ -1,5 +1,5 @@
 -- The level of a directory, by what opening it and counting its files answered.
-use Rattle.std.proofs.Common.{◌≡◌, ℕ, Bool, true, false, ◌&&◌, ◌||◌, cond, List, [], ◌∷◌, ◌++◌, map, refl, sym, ◌∙◌, ap, subst, Option, Some, None, Result, Ok, Err, bytes_eq, codes, append_assoc}
+use Rattle.std.proofs.Common.{◌≡◌, ℕ, Bool, true, false, ◌&&◌, ◌||◌, cond, List, [], ◌∷◌, ◌++◌, refl, sym, ◌∙◌, ap, subst, Some, Result, Ok, bytes_eq, codes}
 use Rattle.std.specs.List.{flat_map, AllByRecursion}
 use Rattle.lc_census.specs.declared.totals.Count.{Count}
 use Rattle.lc_glob.specs.Path.{path_in}
@@ -7,12 +7,11 @@ use Rattle.lc_level.specs.Answers.{Item, file_item, directory_item, other_item, 
 use Rattle.lc_level.specs.CountedNames.{AreCounted, files_counted, faults_counted, IsCounted}
 use Rattle.lc_level.specs.Job.{JobModel}
 use Rattle.lc_level.specs.LeftIn.{kept_file, kept_directory, bytes_of}
-use Rattle.lc_level.specs.Level.{Level, listed_level, level, level_of, level_after, level_of_items, is_taken, child_job, counted_by, fault_by, files_by, faults_by, children_by}
+use Rattle.lc_level.specs.Level.{listed_level, level, level_of, level_after, level_of_items, is_taken, counted_by, fault_by, files_by, faults_by, children_by}
 use Rattle.lc_tree.specs.Listing.{EntryModel, IsListing}
 use Rattle.lc_level.specs.Tidy.{IsTidy, listed_in}
 use Rattle.lc_level.specs.Opens.{IsOpened}
-use Rattle.lc_level.specs.FaultLines.{FaultLineModel}
-use Rattle.lc_level.specs.RuleFiles.{Pair, RuleBytes, file_named, has_directory, has_git, is_top, and_then, both_read, info_items, info_bytes, own_bytes, rule_bytes, extended}
+use Rattle.lc_level.specs.RuleFiles.{file_named, has_directory, has_git, is_top, and_then, both_read, info_items, info_bytes, own_bytes, rule_bytes}
 use Rattle.lc_level.specs.TreeAnswers.{MayHave, MayList, MayAnswer, items_of}
 use Rattle.lc_tree.specs.Trees.{Listings, Contents, MayCount}
 use Rattle.lc_level.specs.declared.counting.CountedFiles.{CountedFiles}

@@ -1,9 +1,11 @@
 pub mod CountedLevels
 pub mod CountedMore
 pub mod Depths
+pub mod Examples
 pub mod GitReads
 pub mod GivenItems
 pub mod GivenPairs
+pub mod NodeTrees
 pub mod OneLevel
 pub mod OpenLevels
 pub mod Rooms

@@ -1,7 +1,6 @@
 -- Where each question has one answer, each directory has one level.
-use Rattle.std.proofs.Common.{◌≡◌, ℕ, Bool, true, false, ◌&&◌, List, [], ◌∷◌, refl, sym, ◌∙◌, ap, subst, Result, Ok, Err, codes}
+use Rattle.std.proofs.Common.{◌≡◌, ℕ, Bool, true, false, List, [], ◌∷◌, refl, sym, ◌∙◌, ap, subst, Result, Ok, Err, codes}
 use Rattle.std.specs.List.{AllByRecursion}
-use Rattle.lc_census.specs.declared.totals.Count.{Count}
 use Rattle.lc_glob.specs.Path.{path_in}
 use Rattle.lc_tree.specs.Listing.{EntryModel}
 use Rattle.lc_tree.specs.Trees.{Listings, Contents, MayCount, MayReadRules}
@@ -9,11 +8,10 @@ use Rattle.lc_tree.specs.declared.entry.Kind.{Kind}
 use Rattle.lc_tree.specs.declared.entry.Kind.TheVariants.{File, Dir, Other}
 use Rattle.lc_tree.specs.declared.fault_word.FaultWord.{FaultWord}
 use Rattle.lc_level.specs.Answers.{Item, file_item, directory_item, other_item, entry_of, entries_of, Items, Answers}
-use Rattle.lc_level.specs.FaultLines.{FaultLineModel}
 use Rattle.lc_level.specs.Job.{JobModel}
-use Rattle.lc_level.specs.Level.{Level, level, level_of, level_after}
+use Rattle.lc_level.specs.Level.{level, level_of, level_after}
 use Rattle.lc_level.specs.OneAnswer.{GivesOne}
-use Rattle.lc_level.specs.RuleFiles.{RuleBytes, has_directory, has_git, and_then, listing, info_items, info_bytes, own_bytes, rule_bytes}
+use Rattle.lc_level.specs.RuleFiles.{has_directory, has_git, and_then, listing, info_items, info_bytes, own_bytes, rule_bytes}
 use Rattle.lc_level.specs.TreeAnswers.{MayHave, MayList, MayAnswer, items_of}
 
 abbrev entries_or : List EntryModel → Result (List EntryModel) FaultWord → List EntryModel

@@ -2,6 +2,7 @@ pub mod Answers
 pub mod CountedNames
 pub mod Deep
 pub mod EntryLooks
+pub mod Examples
 pub mod FaultLines
 pub mod FileReads
 pub mod GitInfo
@@ -9,6 +10,7 @@ pub mod Job
 pub mod Laws
 pub mod LeftIn
 pub mod Level
+pub mod NodeTrees
 pub mod OneAnswer
 pub mod Opens
 pub mod PathBuffers

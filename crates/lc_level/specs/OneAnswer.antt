@@ -3,6 +3,7 @@ use Rattle.std.specs.Prelude.{◌≡◌, ℕ, ◌<◌, ◌^◌, Bool, List, leng
 use Rattle.lc_census.specs.declared.totals.Count.{Count}
 use Rattle.lc_tree.specs.Listing.{EntryModel}
 use Rattle.lc_tree.specs.MemTrees.{mem_lists, mem_gives}
+use Rattle.lc_tree.specs.Paths.{names_of_path}
 use Rattle.lc_tree.specs.OneAnswer.{content_at}
 use Rattle.lc_tree.specs.Trees.{Listings, Contents, MayCount, MayReadRules}
 use Rattle.lc_tree.specs.declared.fault_word.FaultWord.{FaultWord}
@@ -10,6 +11,8 @@ use Rattle.lc_tree.specs.declared.node.Node.{Node}
 use Rattle.lc_level.specs.Answers.{Answers}
 use Rattle.lc_level.specs.Job.{JobModel}
 use Rattle.lc_level.specs.Level.{level}
+use Rattle.lc_level.specs.NodeTrees.{tree_of_node}
+use Rattle.lc_level.specs.Tidy.{IsTidy}
 use Rattle.lc_level.specs.TreeAnswers.{MayAnswer}
 
 module _ (lists : List ℕ → Listings) (gives : List ℕ → Contents) where
@@ -32,3 +35,17 @@ IsModest top = (path : List ℕ) → length (content_at top path).bytes < 2 ^ 32
 -- such a tree has one level for each directory
 abbrev pub MemoryLaw : Type 0
 MemoryLaw = (top : Node) → IsModest top → GivesOne (mem_lists top) (mem_gives top)
+
+-- the tree that a node stands for: its answers are some that a tree of memory may give
+abbrev pub NodeAnswersLaw : Type 0
+NodeAnswersLaw = (top : Node) (path : List ℕ) → MayAnswer (mem_lists top) (mem_gives top) path (tree_of_node top (names_of_path path))
+
+-- no others give another level, where each file has under 2^32 bytes
+abbrev pub NodeLevelsLaw : Type 0
+NodeLevelsLaw =
+    (top : Node) → IsModest top → (archive : Bool) (j : JobModel) (a : Answers) → MayAnswer (mem_lists top) (mem_gives top) j.path a
+    → level archive j a ≡ level archive j (tree_of_node top (names_of_path j.path))
+
+-- and its listings are listings
+abbrev pub NodeTidyLaw : Type 0
+NodeTidyLaw = (top : Node) (place : List (List ℕ)) → IsTidy (tree_of_node top place)

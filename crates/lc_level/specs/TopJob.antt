@@ -1,5 +1,5 @@
 -- Where a walk begins.
-use Rattle.std.specs.Prelude.{ℕ, List, [], Option, None}
+use Rattle.std.specs.Prelude.{List, [], Option, None}
 use Rattle.lc_rules.specs.IgnoreRules.{RuleModel}
 use Rattle.lc_level.specs.Job.{JobModel}
 use Rattle.lc_level.specs.RuleFiles.{with_file_at}

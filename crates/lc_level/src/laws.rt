@@ -1,8 +1,11 @@
 //! Laws of one directory's work. The functions do nothing: their contracts are what is proved.
+ghost use Rattle.lc_level.specs.Examples.{ExamplesHold};
 ghost use Rattle.lc_level.specs.Laws.{CountedLaw, OpenedLaw};
-ghost use Rattle.lc_level.specs.OneAnswer.{MemoryLaw, OneLevelLaw};
+ghost use Rattle.lc_level.specs.OneAnswer.{MemoryLaw, NodeAnswersLaw, NodeLevelsLaw, NodeTidyLaw, OneLevelLaw};
 
+use lc_census::bytes_have_one_cutting;
 use lc_tree::{Tree, trees_of_memory_answer_once};
+use std::alloc::Global;
 
 /// What opening a directory and counting its files answer is its level.
 pub fn work_is_a_level<T: Tree>(tree: &T)
@@ -24,4 +27,22 @@ pub fn trees_of_memory_give_one()
     ensures { MemoryLaw }
 {
     trees_of_memory_answer_once();
+}
+
+/// A node of memory stands for one tree, given as a value: its answers are some that a tree of memory may give, and where each
+/// file has under 4 GiB no others give another level.
+pub fn a_node_is_one_tree()
+    ensures answers { NodeAnswersLaw }
+    ensures levels { NodeLevelsLaw }
+    ensures tidy { NodeTidyLaw }
+{
+    trees_of_memory_give_one();
+}
+
+/// The tree of a node of memory, computed on a small node.
+pub fn examples_hold(alloc: Global)
+    ensures { ExamplesHold alloc }
+{
+    let _alloc = alloc;
+    bytes_have_one_cutting();
 }

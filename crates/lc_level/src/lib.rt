@@ -37,7 +37,10 @@ pub use counted::{Counted, FileFault};
 pub use counting::{CountedFiles, count_files};
 pub use desk::Desk;
 pub use job::Job;
-pub use laws::{one_answer_is_one_level, trees_of_memory_give_one, work_is_a_level};
+pub use laws::{
+    a_node_is_one_tree, examples_hold, one_answer_is_one_level, trees_of_memory_give_one,
+    work_is_a_level,
+};
 pub use left_in::ChildDirectory;
 pub use opening::{Opened, open_level};
 pub use paths::path_in;

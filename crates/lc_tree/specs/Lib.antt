@@ -1,6 +1,8 @@
 pub mod ByteOrder
 pub mod FailingTrees
+pub mod FileAnswers
 pub mod Kinds
+pub mod Listed
 pub mod Listing
 pub mod MemTrees
 pub mod Nodes

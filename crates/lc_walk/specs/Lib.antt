@@ -7,6 +7,7 @@ pub mod Key
 pub mod Lawful
 pub mod Laws
 pub mod Marks
+pub mod NodeWalks
 pub mod Passes
 pub mod Paths
 pub mod Posting

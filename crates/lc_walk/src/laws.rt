@@ -4,8 +4,11 @@ ghost use Rattle.std.specs.List.Sorted.{IsPermutation};
 ghost use Rattle.lc_walk.specs.CountedFiles.{FilesLaw};
 ghost use Rattle.lc_walk.specs.Examples.{ExamplesHold};
 ghost use Rattle.lc_walk.specs.Laws.{CoreLaw, NumbersLaw, OneAnswerLaw, PartLaw, PathsOnceLaw};
+ghost use Rattle.lc_walk.specs.NodeWalks.{NodeOneAnswerLaw, NodeReportLaw};
 ghost use Rattle.lc_walk.specs.Tally.{TallyModel, CountedFile, StandsFor};
 ghost use Rattle.lc_walk.specs.WalkReport.{ReportLaw};
+
+use lc_level::a_node_is_one_tree;
 
 /// What a tally stands for has no order, so tallies may be merged in any order.
 pub fn a_tally_has_no_order()
@@ -23,6 +26,15 @@ pub fn rows_are_the_walk_of_their_tree()
 pub fn rows_are_the_walk_of_one_tree()
     ensures { OneAnswerLaw }
 {}
+
+/// The report of a walk of a tree of memory, each of whose files has under 4 GiB, is that of the recursive walk of the tree that its
+/// node stands for.
+pub fn reports_of_memory_are_those_of_its_node()
+    ensures one_answer { NodeOneAnswerLaw }
+    ensures report { NodeReportLaw }
+{
+    a_node_is_one_tree();
+}
 
 /// A row that is lawful in a worker's part is lawful in the whole history.
 pub fn lawful_in_part_is_lawful()

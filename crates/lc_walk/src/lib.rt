@@ -22,8 +22,8 @@ mod worker;
 pub use closing::finish;
 pub use laws::{
     a_report_has_no_order, a_tally_has_no_order, counted_files_are_left_in, examples_hold,
-    lawful_in_part_is_lawful, paths_stand_once, rows_are_the_walk_of_one_tree,
-    rows_are_the_walk_of_their_tree,
+    lawful_in_part_is_lawful, paths_stand_once, reports_of_memory_are_those_of_its_node,
+    rows_are_the_walk_of_one_tree, rows_are_the_walk_of_their_tree,
 };
 pub use options::Options;
 pub use report::{FaultLine, FileLine, Report, assemble};

@@ -1,0 +1,81 @@
+-- The tree of a small node of memory.
+use Rattle.std.proofs.Common.{◌≡◌, ℕ, false, List, [], ◌∷◌, map, refl, sym, ◌∙◌, ap, Some, None, Vec, Ok, Err, codes}
+use Rattle.std.specs.Prelude.{option_and_then}
+use Rattle.std.specs.declared.alloc.Global.{Global}
+use Rattle.lc_level.specs.Answers.{Item, file_item, directory_item, entry_of}
+use Rattle.lc_level.specs.Examples.{bad_name, entries, small_node, whole_file, small_items, names_in, vec}
+use Rattle.lc_census.specs.Census.{count_of}
+use Rattle.lc_census.specs.Cutting.{lf, Cutting, IsCutting, HasOneCutting}
+use Rattle.lc_census.specs.declared.totals.Eol.TheVariants.{Lf}
+use Rattle.lc_glob.specs.IsMatch as IsMatch
+use Rattle.lc_level.specs.Level.{level, level_of}
+use Rattle.lc_level.specs.TopJob.{top_job}
+use Rattle.lc_tree.specs.FileAnswers.{census}
+use Rattle.lc_tree.specs.SomeCuttings.{some_cutting}
+use Rattle.lc_level.specs.NodeTrees.{item_by, item_of, items_within, items_at, tree_of_node}
+use Rattle.lc_tree.specs.Listed.{listed}
+use Rattle.lc_tree.specs.MemTrees.{content_within}
+use Rattle.lc_tree.specs.declared.fault_word.FaultWord.TheVariants.{Read, Name}
+use Rattle.lc_tree.specs.Nodes.{child_within, kind_within, node_below}
+use Rattle.lc_tree.specs.declared.node.Node.{Node, roll-Node, out-roll-Node}
+use Rattle.lc_tree.specs.declared.node.Node.TheOpen.{Node-F}
+
+-- what is seen of a node that is written out
+item_is : (name : Vec ℕ Global) (n : Node-F Node) → item_of (name, roll-Node n) ≡ item_by name.items (content_within n) (kind_within n)
+item_is name n = ap (λ m. item_by name.items (content_within m) (kind_within m)) (out-roll-Node n)
+
+items_are : (n : Node-F Node) → items_at (Some (roll-Node n)) ≡ items_within n
+items_are n = ap items_within (out-roll-Node n)
+
+below_is : (name : List ℕ) (n : Node-F Node) → items_at (node_below (name ∷ []) (roll-Node n)) ≡ items_at (option_and_then (λ (child : Node). Some child) (child_within name n))
+below_is name n = ap (λ m. items_at (option_and_then (λ (child : Node). Some child) (child_within name m))) (out-roll-Node n)
+
+same_first : {X : Type 0} {x y : X} {xs ys : List X} → x ≡ y → xs ≡ ys → x ∷ xs ≡ y ∷ ys
+same_first {x = x} {ys = ys} e rest = ap (λ l. x ∷ l) rest ∙ ap (λ z. z ∷ ys) e
+
+module _ (alloc : Global) where
+  -- the items of the directory, in no order
+  abbrev items : List Item
+  items =
+      whole_file (codes "c") (codes "one\n") ∷ directory_item (codes "d") ∷ directory_item (codes "b") ∷ whole_file (codes ".gitignore") (codes "*.o\n")
+      ∷ file_item (codes "e") (Err Read) (Err Read) ∷ whole_file (codes "a.o") (codes "x") ∷ []
+
+  each_is : map item_of (entries alloc) ≡ items
+  each_is =
+      same_first (item_is (vec alloc (codes "c") refl) (Node-F.File (vec alloc (codes "one\n") refl)))
+      (same_first (item_is (vec alloc (codes "d") refl) (Node-F.Dir (vec alloc (bad_name alloc ∷ []) refl)))
+      (same_first (item_is (vec alloc (codes "b") refl) Node-F.Closed)
+      (same_first (item_is (vec alloc (codes ".gitignore") refl) (Node-F.File (vec alloc (codes "*.o\n") refl)))
+      (same_first (item_is (vec alloc (codes "e") refl) (Node-F.Failing (vec alloc (codes "x") refl)))
+      (same_first (item_is (vec alloc (codes "a.o") refl) (Node-F.File (vec alloc (codes "x") refl))) refl)))))
+
+  pub top_is : (tree_of_node (small_node alloc) []).here ≡ Ok small_items
+  top_is = items_are (Node-F.Dir (vec alloc (entries alloc) refl)) ∙ ap (listed entry_of) each_is
+
+  pub names_are : names_in (level false (top_job None) (tree_of_node (small_node alloc) [])) ≡ (codes ".gitignore" ∷ codes "c" ∷ [], codes "e" ∷ [], codes "b" ∷ codes "d" ∷ [])
+  unfolding IsMatch.is_match
+  names_are = ap (λ here. names_in (level_of false (top_job None) (tree_of_node (small_node alloc) []) here)) top_is
+
+  pub closed_is : (tree_of_node (small_node alloc) (codes "b" ∷ [])).here ≡ Err Read
+  closed_is = below_is (codes "b") (Node-F.Dir (vec alloc (entries alloc) refl)) ∙ items_are Node-F.Closed
+
+  pub bad_name_is : (tree_of_node (small_node alloc) (codes "d" ∷ [])).here ≡ Err Name
+  bad_name_is =
+      below_is (codes "d") (Node-F.Dir (vec alloc (entries alloc) refl)) ∙ items_are (Node-F.Dir (vec alloc (bad_name alloc ∷ []) refl))
+      ∙ ap (λ item. listed entry_of (item ∷ [])) (item_is (vec alloc (codes "x/y") refl) Node-F.Other)
+
+  pub none_is : (tree_of_node (small_node alloc) (codes "f" ∷ [])).here ≡ Err Read
+  none_is = below_is (codes "f") (Node-F.Dir (vec alloc (entries alloc) refl))
+
+-- the one cutting of these bytes
+abbrev one_line : Cutting
+one_line = record { lines = record { text = codes "one"; end = lf } ∷ []; rest = [] }
+
+is_one_line : IsCutting (codes "one\n") one_line
+is_one_line = record { lines = (refl, refl, tt); rest = refl; whole = refl }
+
+pub census_is : ((bytes : List ℕ) → HasOneCutting bytes) → census (codes "one\n") ≡ record { lines = 1; blank = 0; bytes = 4; eol = Lf }
+census_is one =
+    let cutting = one (codes "one\n") in
+    let some = some_cutting (codes "one\n") in
+    ap (count_of (codes "one\n")) (cutting.2 some.0 some.1 ∙ sym (cutting.2 one_line is_one_line))

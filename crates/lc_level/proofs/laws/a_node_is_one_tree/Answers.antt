@@ -1,0 +1,18 @@
+use Rattle.lc_tree.specs.MemTrees.{mem_lists, mem_gives}
+use Rattle.lc_tree.specs.Nodes.{node_below}
+use Rattle.lc_tree.specs.Paths.{names_of_path}
+use Rattle.lc_level.specs.NodeTrees.{tree_of_node}
+use Rattle.lc_level.proofs.NodeTrees.{node_answers, tidy_at}
+use Rattle.lc_level.proofs.OneLevel.{one_level}
+use Rattle.lc_level.proofs.laws.a_node_is_one_tree.Goals as goal
+
+pub returns-clause-answers : goal.returns-clause-answers
+returns-clause-answers c = λ top path. node_answers top path
+
+pub returns-clause-levels : goal.returns-clause-levels
+returns-clause-levels c =
+    λ top modest archive j a may.
+    one_level (mem_lists top) (mem_gives top) (c.trees_of_memory_give_one.ensures top modest) archive j a (tree_of_node top (names_of_path j.path)) may (node_answers top j.path)
+
+pub returns-clause-tidy : goal.returns-clause-tidy
+returns-clause-tidy c = λ top place. tidy_at (node_below place top)

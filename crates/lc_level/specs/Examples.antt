@@ -1,0 +1,83 @@
+-- The tree of a node of memory, computed on a small node.
+use Rattle.std.specs.Prelude.{◌≡◌, ℕ, ◌^◌, nat_lt, true, false, List, [], ◌∷◌, length, map, Vec, Ok, Err, None, refl, codes}
+use Rattle.std.specs.declared.alloc.Global.{Global}
+use Rattle.std.proofs.Math.Nat.{le_refl}
+use Rattle.std.proofs.lemmas.Bool.{ltb-true}
+use denote.RawPtr.{null_ptr}
+use Rattle.lc_census.specs.declared.totals.Eol.TheVariants.{Lf}
+use Rattle.lc_level.specs.Answers.{Item, file_item, directory_item}
+use Rattle.lc_level.specs.Level.{Level, faulted_level, listed_level, level}
+use Rattle.lc_level.specs.NodeTrees.{tree_of_node}
+use Rattle.lc_level.specs.TopJob.{top_job}
+use Rattle.lc_tree.specs.FileAnswers.{census}
+use Rattle.lc_tree.specs.Nodes.{Child}
+use Rattle.lc_tree.specs.declared.fault_word.FaultWord.TheVariants.{Read, Name}
+use Rattle.lc_tree.specs.declared.node.Node.{Node, roll-Node}
+use Rattle.lc_tree.specs.declared.node.Node.TheOpen.{Node-F}
+
+-- a vector of these elements
+abbrev pub vec : {X : Type 0} → Global → (xs : List X) → nat_lt (length xs) (2 ^ 63) ≡ true → Vec X Global
+vec alloc xs short = record {
+  items = xs;
+  ptr = null_ptr;
+  len = length xs;
+  cap = length xs;
+  alloc = alloc;
+  ok = (refl, le_refl (length xs));
+  small = ltb-true (length xs) (2 ^ 63) short;
+}
+
+module _ (alloc : Global) where
+  abbrev pub rule_file : Child
+  rule_file = (vec alloc (codes ".gitignore") refl, roll-Node (Node-F.File (vec alloc (codes "*.o\n") refl)))
+
+  abbrev pub file : Child
+  file = (vec alloc (codes "c") refl, roll-Node (Node-F.File (vec alloc (codes "one\n") refl)))
+
+  abbrev pub ignored_file : Child
+  ignored_file = (vec alloc (codes "a.o") refl, roll-Node (Node-F.File (vec alloc (codes "x") refl)))
+
+  abbrev pub failing_file : Child
+  failing_file = (vec alloc (codes "e") refl, roll-Node (Node-F.Failing (vec alloc (codes "x") refl)))
+
+  abbrev pub closed : Child
+  closed = (vec alloc (codes "b") refl, roll-Node Node-F.Closed)
+
+  abbrev pub bad_name : Child
+  bad_name = (vec alloc (codes "x/y") refl, roll-Node Node-F.Other)
+
+  abbrev pub with_bad_name : Child
+  with_bad_name = (vec alloc (codes "d") refl, roll-Node (Node-F.Dir (vec alloc (bad_name ∷ []) refl)))
+
+  -- all of them, in no order, in a directory
+  abbrev pub entries : List Child
+  entries = file ∷ with_bad_name ∷ closed ∷ rule_file ∷ failing_file ∷ ignored_file ∷ []
+
+  abbrev pub small_node : Node
+  small_node = roll-Node (Node-F.Dir (vec alloc entries refl))
+
+-- the item of a file of these bytes
+abbrev pub whole_file : List ℕ → List ℕ → Item
+whole_file name bytes = file_item name (Ok (census bytes)) (Ok bytes)
+
+-- the items of that directory, in order of their names
+abbrev pub small_items : List Item
+small_items =
+    whole_file (codes ".gitignore") (codes "*.o\n") ∷ whole_file (codes "a.o") (codes "x") ∷ directory_item (codes "b")
+    ∷ whole_file (codes "c") (codes "one\n") ∷ directory_item (codes "d") ∷ file_item (codes "e") (Err Read) (Err Read) ∷ []
+
+-- the names of the counted files of a level, of the others, and of its child directories
+abbrev pub names_in : Level → List (List ℕ) × List (List ℕ) × List (List ℕ)
+names_in (faulted_level path word) = ([], [], [])
+names_in (listed_level files faults children) = (map (λ f. f.name) files, map (λ f. f.name) faults, map (λ c. c.0) children)
+
+-- a directory's entries stand in order of their names; the ignored file is not counted, and the one that fails is a fault; what is
+-- closed, or has a bad name in it, can't be listed
+pub record ExamplesHold (alloc : Global) : Type 0 where
+  pub top : (tree_of_node (small_node alloc) []).here ≡ Ok small_items
+  pub count : census (codes "one\n") ≡ record { lines = 1; blank = 0; bytes = 4; eol = Lf }
+  pub names : names_in (level false (top_job None) (tree_of_node (small_node alloc) []))
+      ≡ (codes ".gitignore" ∷ codes "c" ∷ [], codes "e" ∷ [], codes "b" ∷ codes "d" ∷ [])
+  pub closed_there : (tree_of_node (small_node alloc) (codes "b" ∷ [])).here ≡ Err Read
+  pub bad_name_there : (tree_of_node (small_node alloc) (codes "d" ∷ [])).here ≡ Err Name
+  pub none_there : (tree_of_node (small_node alloc) (codes "f" ∷ [])).here ≡ Err Read

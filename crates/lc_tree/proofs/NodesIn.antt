@@ -1,0 +1,92 @@
+-- The node under a name of a directory.
+use Rattle.std.proofs.Common.{◌≡◌, ℕ, ◌==◌, Bool, true, false, not, ◌&&◌, ◌||◌, cond, List, [], ◌∷◌, ◌++◌, length, map, Option, Some, None, refl, sym, ◌∙◌, ap, arith, bytes_eq}
+use Rattle.std.specs.Prelude.{find, option_map, option_and_then}
+use Rattle.std.specs.List.{AllByRecursion, IsDistinct, list_any, onto_first}
+use Rattle.std.specs.Ordering.{eq_by_cmp}
+use Rattle.std.proofs.lemmas.List.Splits.{slice_split-cons_yes, slice_split-cons_no, length-slice_split}
+use Rattle.std.proofs.lemmas.Map.Text.{is_eq-slice_cmp}
+use Rattle.std.proofs.lemmas.Slice.Eq.{bytes_eq-Decides}
+use Rattle.lc_glob.specs.Path.{is_good_name, is_no_name, path_in, segments_of}
+use Rattle.lc_tree.specs.ByteOrder.{bytes_cmp}
+use Rattle.lc_tree.specs.Listing.{names, HaveDistinctNames}
+use Rattle.lc_tree.specs.Nodes.{Child, entry_of, child_among, child_of, node_below, node_at}
+use Rattle.lc_tree.specs.Paths.{names_of_path}
+use Rattle.lc_tree.specs.declared.node.Node.{Node}
+
+-- ---- the names of the path of a name in a directory
+
+some_segment : (bytes : List ℕ) → segments_of bytes ≡ [] → ⊥
+some_segment bytes e = omega (arith, length-slice_split (λ (b : ℕ). b == 47) bytes, ap length e)
+
+onto_end : (b : ℕ) (parts : List (List ℕ)) (name : List ℕ) → (parts ≡ [] → ⊥) → onto_first b (parts ++ name ∷ []) ≡ onto_first b parts ++ name ∷ []
+onto_end b [] name some = absurd (some refl)
+onto_end b (part ∷ parts) name some = refl
+
+neither : (a b : Bool) → (a || b) ≡ false → (a ≡ false) × (b ≡ false)
+neither true b e = cc
+neither false b e = (refl, e)
+
+one_segment : (name : List ℕ) → list_any (λ b. b == 47) name ≡ false → segments_of name ≡ name ∷ []
+one_segment [] e = refl
+one_segment (b ∷ bs) e =
+    let t = neither (b == 47) (list_any (λ c. c == 47) bs) e in
+    slice_split-cons_no (λ c. c == 47) b bs t.0 ∙ ap (onto_first b) (one_segment bs t.1)
+
+last_segment : (path name : List ℕ) → list_any (λ b. b == 47) name ≡ false → segments_of (path ++ 47 ∷ name) ≡ segments_of path ++ name ∷ []
+last_segment [] name e = slice_split-cons_yes (λ c. c == 47) 47 name refl ∙ ap (λ l. [] ∷ l) (one_segment name e)
+last_segment (b ∷ bs) name e = at (b == 47) refl (last_segment bs name e)
+  where
+    at : (t : Bool) → (b == 47) ≡ t → segments_of (bs ++ 47 ∷ name) ≡ segments_of bs ++ name ∷ [] →
+        segments_of (b ∷ bs ++ 47 ∷ name) ≡ segments_of (b ∷ bs) ++ name ∷ []
+    at true s rest =
+        slice_split-cons_yes (λ c. c == 47) b (bs ++ 47 ∷ name) s ∙ ap (λ l. [] ∷ l) rest
+        ∙ ap (λ l. l ++ name ∷ []) (sym (slice_split-cons_yes (λ c. c == 47) b bs s))
+    at false s rest =
+        slice_split-cons_no (λ c. c == 47) b (bs ++ 47 ∷ name) s ∙ ap (onto_first b) rest ∙ onto_end b (segments_of bs) name (some_segment bs)
+        ∙ ap (λ l. l ++ name ∷ []) (sym (slice_split-cons_no (λ c. c == 47) b bs s))
+
+no_slash : (name some_nul : Bool) (any : Bool) → (not name && not any && not some_nul) ≡ true → any ≡ false
+no_slash true nul any e = cc
+no_slash false nul true e = cc
+no_slash false nul false e = refl
+
+pub names_in : (path name : List ℕ) → is_good_name name ≡ true → names_of_path (path_in path name) ≡ names_of_path path ++ name ∷ []
+names_in [] [] good = cc
+names_in [] (b ∷ bs) good = one_segment (b ∷ bs) (no_slash (is_no_name (b ∷ bs)) (list_any (λ c. c == 0) (b ∷ bs)) (list_any (λ c. c == 47) (b ∷ bs)) good)
+names_in (c ∷ cs) name good = last_segment (c ∷ cs) name (no_slash (is_no_name name) (list_any (λ b. b == 0) name) (list_any (λ b. b == 47) name) good)
+
+-- ---- the node there
+
+below_last : (ns : List (List ℕ)) (name : List ℕ) (top : Node) → node_below (ns ++ name ∷ []) top ≡ option_and_then (child_of name) (node_below ns top)
+below_last [] name top = same (child_of name top)
+  where
+    same : (o : Option Node) → option_and_then (λ (child : Node). Some child) o ≡ o
+    same None = refl
+    same (Some node) = refl
+below_last (n ∷ ns) name top = at (child_of n top) (below_last ns name)
+  where
+    at : (o : Option Node) → ((node : Node) → node_below (ns ++ name ∷ []) node ≡ option_and_then (child_of name) (node_below ns node)) →
+        option_and_then (λ (child : Node). node_below (ns ++ name ∷ []) child) o ≡ option_and_then (child_of name) (option_and_then (λ (child : Node). node_below ns child) o)
+    at None rest = refl
+    at (Some node) rest = rest node
+
+pub node_in : (top : Node) (path name : List ℕ) → is_good_name name ≡ true → node_at top (path_in path name) ≡ option_and_then (child_of name) (node_at top path)
+node_in top path name good = ap (λ (l : List (List ℕ)). node_below l top) (names_in path name good) ∙ below_last (names_of_path path) name top
+
+-- ---- each entry of distinct names is found by its name
+
+first_found : (c : Child) (cs : List Child) → child_among c.0.items (c ∷ cs) ≡ Some c.1
+first_found c cs = ap (λ b. option_map (λ (d : Child). d.1) (cond b (Some c) (find (λ (d : Child). bytes_eq d.0.items c.0.items) cs))) ((bytes_eq-Decides c.0.items c.0.items).1 refl)
+
+later_found : (c : Child) (cs ds : List Child) → AllByRecursion (λ k. eq_by_cmp bytes_cmp c.0.items k ≡ false) (names (map entry_of ds)) →
+    AllByRecursion (λ (d : Child). child_among d.0.items cs ≡ Some d.1) ds → AllByRecursion (λ (d : Child). child_among d.0.items (c ∷ cs) ≡ Some d.1) ds
+later_found c cs [] other all = tt
+later_found c cs (d ∷ ds) other all = (
+  ap (λ b. option_map (λ (x : Child). x.1) (cond b (Some c) (find (λ (x : Child). bytes_eq x.0.items d.0.items) cs))) (sym (is_eq-slice_cmp c.0.items d.0.items) ∙ other.0) ∙ all.0,
+  later_found c cs ds other.1 all.1,
+)
+
+pub each_found : (cs : List Child) → HaveDistinctNames (map entry_of cs) → AllByRecursion (λ (c : Child). child_among c.0.items cs ≡ Some c.1) cs
+unfolding IsDistinct
+each_found [] distinct = tt
+each_found (c ∷ cs) distinct = (first_found c cs, later_found c cs cs distinct.0 (each_found cs distinct.1))

@@ -1,0 +1,20 @@
+-- What a file of memory gives, as values: where it is counted, and where it is read as rules.
+use Rattle.std.specs.Prelude.{ℕ, cond, nat_lt, List, length, Result, Ok, Err}
+use Rattle.lc_census.specs.Census.{count_of}
+use Rattle.lc_census.proofs.OneCutting.{cut}
+use Rattle.lc_census.specs.declared.totals.Count.{Count}
+use Rattle.lc_tree.specs.MemTrees.{Content}
+use Rattle.lc_tree.specs.declared.fault_word.FaultWord.{FaultWord}
+use Rattle.lc_tree.specs.declared.fault_word.FaultWord.TheVariants.{Read, Long}
+
+-- the census of bytes, by the one cutting that they have
+abbrev pub census : List ℕ → Count
+census bytes = count_of bytes (cut bytes)
+
+-- counting it gives the census of its bytes, unless it fails
+abbrev pub counted : Content → Result Count FaultWord
+counted file = cond file.fails (Err Read) (Ok (census file.bytes))
+
+-- reading it as rules gives its bytes, unless they are too many or it fails
+abbrev pub read_as_rules : Content → Result (List ℕ) FaultWord
+read_as_rules file = cond (nat_lt 1048576 (length file.bytes)) (Err Long) (cond file.fails (Err Read) (Ok file.bytes))
