@@ -55,10 +55,12 @@ module _ {X : Type 0} (name : X → List ℕ) where
       at : (o : Ordering) → bytes_cmp (name x) (name y) ≡ o → AreInOrder (map name (insert name x ys)) → AreInOrder (map name (cond (is_lt o) (x ∷ y ∷ ys) (y ∷ insert name x ys)))
       at Less e rest = ((e, above_more (name x) (name y) ys e order.0), order)
       at Equal e rest = let same : true ≡ false = sym (ap is_eq e) ∙ other.0 in absurd (cc same)
-      at Greater e rest =
-          (on_names (λ k. bytes_cmp (name y) k ≡ Less) (insert name x ys)
-          (all_inserted (λ z. bytes_cmp (name y) (name z) ≡ Less) x ys (nat_list_cmp_total.antisymm (name y) (name x) ∙ ap ordering_reverse e)
-          (of_names (λ k. bytes_cmp (name y) k ≡ Less) ys order.0)), rest)
+      at Greater e rest = (
+        on_names (λ k. bytes_cmp (name y) k ≡ Less) (insert name x ys)
+            (all_inserted (λ z. bytes_cmp (name y) (name z) ≡ Less) x ys (nat_list_cmp_total.antisymm (name y) (name x) ∙ ap ordering_reverse e)
+            (of_names (λ k. bytes_cmp (name y) k ≡ Less) ys order.0)),
+        rest,
+      )
 
   sorted_in_order : (xs : List X) → AreApart (map name xs) → AreInOrder (map name (sorted name xs))
   unfolding IsStrictlySortedBy IsDistinct
@@ -141,14 +143,20 @@ listed_is {X} entry xs = at (have_good_names (map entry xs)) refl
             good = good_names_moved (map entry xs) (map entry (sorted (λ x. (entry x).name) xs)) moved good;
             order = subst AreInOrder (sym (names_there entry (sorted (λ x. (entry x).name) xs)))
                 (sorted_in_order (λ x. (entry x).name) xs (subst AreApart (names_there entry xs) apart));
-            few = omega (arith, ltb-false max_entries (length xs) e, length_permutation xs (sorted (λ x. (entry x).name) xs) (sorted_is (λ x. (entry x).name) xs),
-            length-map (sorted (λ x. (entry x).name) xs) entry);
+            few = omega (
+              arith,
+              ltb-false max_entries (length xs) e,
+              length_permutation xs (sorted (λ x. (entry x).name) xs) (sorted_is (λ x. (entry x).name) xs),
+              length-map (sorted (λ x. (entry x).name) xs) entry,
+            );
           };
         }
+
     once : (b : Bool) → have_good_names (map entry xs) ≡ true → has_twice (names (map entry xs)) ≡ b →
         ItemsFor entry xs (cond b (Err Twice) (cond (nat_lt max_entries (length xs)) (Err Many) (Ok (sorted (λ x. (entry x).name) xs))))
     once true good e = (good, not_apart_if_twice (names (map entry xs)) e)
     once false good e = few (nat_lt max_entries (length xs)) good (apart_if_once (names (map entry xs)) e) refl
+
     at : (b : Bool) → have_good_names (map entry xs) ≡ b →
         ItemsFor entry xs (cond (not b) (Err Name) (cond (has_twice (names (map entry xs))) (Err Twice) (cond (nat_lt max_entries (length xs)) (Err Many) (Ok (sorted (λ x. (entry x).name) xs)))))
     at true e = once (has_twice (names (map entry xs))) e refl

@@ -1,4 +1,4 @@
-use Rattle.std.proofs.Common.{◌≡◌, ℕ, ◌&&◌, List, Result, Ok, Err, sym, ◌∙◌, ap, subst, codes}
+use Rattle.std.proofs.Common.{◌≡◌, ℕ, Bool, ◌&&◌, List, Result, Ok, Err, sym, ◌∙◌, ap, subst, codes}
 use Rattle.std.specs.List.{flat_map}
 use Rattle.lc_glob.specs.Path.{path_in}
 use Rattle.lc_level.specs.EntryLooks.{has_file, has_dir}
@@ -11,7 +11,12 @@ use Rattle.lc_tree.specs.Trees.{Listings, Contents}
 use Rattle.lc_level.specs.declared.rule_pair.RulePair.{RulePair}
 use Rattle.lc_level.specs.declared.unlisted.Unlisted.{Unlisted}
 use Rattle.lc_level.specs.declared.place.Place.TheVariants.{Directory, IgnoreFile, AttributeFile}
-use Rattle.lc_level.proofs.OpenLevels.{list_refused, info_opens, own_refused, has_read, opened, left_refused}
+use Rattle.lc_census.specs.declared.totals.Count.{Count}
+use Rattle.lc_level.specs.Job.{JobModel}
+use Rattle.lc_tree.specs.Trees.{MayCount, MayReadRules}
+use Rattle.lc_tree.specs.declared.fault_word.FaultWord.{FaultWord}
+use Rattle.lc_level.proofs.OpenLevels.{HasRead, list_refused, info_opens, own_refused, has_read, opened, left_refused}
+use Rattle.lc_level.proofs.opening.open_level.Goals.{After-left_in}
 use Rattle.lc_level.proofs.opening.open_level.Goals as goal
 
 -- the same of a directory's path and its entries
@@ -62,8 +67,19 @@ returns-in-Err-read_own-clause-opens g c =
 pub left_in-requires : goal.left_in-requires
 left_in-requires g c = c.in-Ok-read_own.ensures.at ∙ c.path-path.ensures ∙ sym c.in-Ok-with_files.ensures.path
 
-pub returns-in-Ok-left_in-clause-opens : goal.returns-in-Ok-left_in-clause-opens
-returns-in-Ok-left_in-clause-opens g c =
+-- the directory was listed, and all rule files were read
+record AllRead (lists : List ℕ → Listings) (gives : List ℕ → Contents) (some_count : (path : List ℕ) → (r : Result Count FaultWord) × MayCount (gives path) r)
+    (some_rules : (path : List ℕ) → (r : Result (List ℕ) FaultWord) × MayReadRules (gives path) r) (archive : Bool) (j : JobModel) (es : List EntryModel)
+    (info own : RulePair) : Type 0 where
+  here : lists j.path (Ok es)
+  is : IsListing es
+  read : HasRead lists gives some_count some_rules archive j es here is info own
+
+all_read : (g : _) (c : After-left_in g) →
+    let law = g.met.T.Tree g.world.𝓛 g.world.𝓜 g.world.𝓡 ((λ s x. x), (λ x. x), (λ x. x), λ x. x) in
+    AllRead (g.T.Tree.lists c.args.tree.now) (g.T.Tree.gives c.args.tree.now) (law.some_count c.args.tree.now) (law.some_rules c.args.tree.now)
+    c.args.archive c.args.job.now c.in-Ok.listing c.in-Ok-read_info.files c.in-Ok-read_own.files
+all_read g c =
     let law = g.met.T.Tree g.world.𝓛 g.world.𝓜 g.world.𝓡 ((λ s x. x), (λ x. x), (λ x. x), λ x. x) in
     let lists = g.T.Tree.lists c.args.tree.now in
     let gives = g.T.Tree.gives c.args.tree.now in
@@ -71,14 +87,22 @@ returns-in-Ok-left_in-clause-opens g c =
     let es = c.in-Ok.listing in
     let same : c.entries.result.now ≡ es = cc in
     let again : c.entries-2.result.now ≡ es = cc in
-    let moved : c.into_entries.result.items ≡ es = cc in
     let is : IsListing es = subst IsListing same c.entries.ensures.listing in
     let here = subst (λ (p : List ℕ). lists p (Ok es)) c.path-path.ensures c.in-Ok.ensures in
     let git = git_of lists gives c.path-path.result.now j.path c.entries.result.now es (Ok c.in-Ok-read_info.files) c.path-path.ensures same c.in-Ok-read_info.ensures in
     let own = own_of gives c.path-path.result.now j.path c.entries-2.result.now es (Ok c.in-Ok-read_own.files) c.path-path.ensures again c.in-Ok-read_own.ensures.read in
-    let read = has_read lists gives (law.some_count c.args.tree.now) (law.some_rules c.args.tree.now) c.args.archive j es here is c.in-Ok-read_info.files c.in-Ok-read_own.files git own in
+    record {
+      here = here;
+      is = is;
+      read = has_read lists gives (law.some_count c.args.tree.now) (law.some_rules c.args.tree.now) c.args.archive j es here is c.in-Ok-read_info.files c.in-Ok-read_own.files git own;
+    }
+
+pub returns-in-Ok-left_in-clause-opens : goal.returns-in-Ok-left_in-clause-opens
+returns-in-Ok-left_in-clause-opens g c =
+    let all = all_read g (goal.at.returns-in-Ok-left_in-clause-opens g c).After-left_in in
+    let moved : c.into_entries.result.items ≡ c.in-Ok.listing = cc in
     let left = c.in-Ok-left_in.ensures.left in
-    opened lists gives (law.some_count c.args.tree.now) (law.some_rules c.args.tree.now) c.args.archive j es here is c.in-Ok-read_info.files c.in-Ok-read_own.files read
+    opened _ _ _ _ _ _ _ all.here all.is _ _ all.read
     (record { job = c.in-Ok-with_files.inside; files = c.in-Ok-left_in.left.files; children = c.in-Ok-left_in.left.children })
     c.in-Ok-with_files.ensures.files
     (left.0 ∙ ap (λ (l : List EntryModel). flat_map (kept_file c.args.archive c.in-Ok-with_files.inside) l) moved)
@@ -86,19 +110,7 @@ returns-in-Ok-left_in-clause-opens g c =
 
 pub returns-in-Err-left_in-clause-opens : goal.returns-in-Err-left_in-clause-opens
 returns-in-Err-left_in-clause-opens g c =
-    let law = g.met.T.Tree g.world.𝓛 g.world.𝓜 g.world.𝓡 ((λ s x. x), (λ x. x), (λ x. x), λ x. x) in
-    let lists = g.T.Tree.lists c.args.tree.now in
-    let gives = g.T.Tree.gives c.args.tree.now in
-    let j = c.args.job.now in
-    let es = c.in-Ok.listing in
-    let same : c.entries.result.now ≡ es = cc in
-    let again : c.entries-2.result.now ≡ es = cc in
-    let moved : c.into_entries.result.items ≡ es = cc in
-    let is : IsListing es = subst IsListing same c.entries.ensures.listing in
-    let here = subst (λ (p : List ℕ). lists p (Ok es)) c.path-path.ensures c.in-Ok.ensures in
-    let git = git_of lists gives c.path-path.result.now j.path c.entries.result.now es (Ok c.in-Ok-read_info.files) c.path-path.ensures same c.in-Ok-read_info.ensures in
-    let own = own_of gives c.path-path.result.now j.path c.entries-2.result.now es (Ok c.in-Ok-read_own.files) c.path-path.ensures again c.in-Ok-read_own.ensures.read in
-    let read = has_read lists gives (law.some_count c.args.tree.now) (law.some_rules c.args.tree.now) c.args.archive j es here is c.in-Ok-read_info.files c.in-Ok-read_own.files git own in
-    left_refused lists gives (law.some_count c.args.tree.now) (law.some_rules c.args.tree.now) c.args.archive j es here is c.in-Ok-read_info.files c.in-Ok-read_own.files read
-    c.in-Ok-with_files.inside c.in-Ok-with_files.ensures.files c.in-Err-left_in.cause
+    let all = all_read g (goal.at.returns-in-Err-left_in-clause-opens g c).After-left_in in
+    let moved : c.into_entries.result.items ≡ c.in-Ok.listing = cc in
+    left_refused _ _ _ _ _ _ _ all.here all.is _ _ all.read c.in-Ok-with_files.inside c.in-Ok-with_files.ensures.files c.in-Err-left_in.cause
     (subst (λ (l : List EntryModel). LeavesIn c.args.archive c.in-Ok-with_files.inside l (Err c.in-Err-left_in.cause)) moved c.in-Err-left_in.ensures.left)
