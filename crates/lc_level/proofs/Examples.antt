@@ -5,13 +5,13 @@ use Rattle.std.specs.declared.alloc.Global.{Global}
 use Rattle.lc_level.specs.Answers.{Item, file_item, directory_item, entry_of}
 use Rattle.lc_level.specs.Examples.{bad_name, entries, small_node, whole_file, small_items, names_in, vec}
 use Rattle.lc_census.specs.Census.{count_of}
+use Rattle.lc_census.proofs.OneCutting.{cut, cut_is}
 use Rattle.lc_census.specs.Cutting.{lf, Cutting, IsCutting, HasOneCutting}
 use Rattle.lc_census.specs.declared.totals.Eol.TheVariants.{Lf}
 use Rattle.lc_glob.specs.IsMatch as IsMatch
 use Rattle.lc_level.specs.Level.{level, level_of}
 use Rattle.lc_level.specs.TopJob.{top_job}
 use Rattle.lc_tree.specs.FileAnswers.{census}
-use Rattle.lc_tree.specs.SomeCuttings.{some_cutting}
 use Rattle.lc_level.specs.NodeTrees.{item_by, item_of, items_within, items_at, tree_of_node}
 use Rattle.lc_tree.specs.Listed.{listed}
 use Rattle.lc_tree.specs.MemTrees.{content_within}
@@ -77,5 +77,4 @@ is_one_line = record { lines = (refl, refl, tt); rest = refl; whole = refl }
 pub census_is : ((bytes : List ℕ) → HasOneCutting bytes) → census (codes "one\n") ≡ record { lines = 1; blank = 0; bytes = 4; eol = Lf }
 census_is one =
     let cutting = one (codes "one\n") in
-    let some = some_cutting (codes "one\n") in
-    ap (count_of (codes "one\n")) (cutting.2 some.0 some.1 ∙ sym (cutting.2 one_line is_one_line))
+    ap (count_of (codes "one\n")) (cutting.2 (cut (codes "one\n")) (cut_is (codes "one\n")) ∙ sym (cutting.2 one_line is_one_line))
