@@ -1,9 +1,4 @@
-pub mod LinesOf
-pub mod Taking
-pub mod Directories
-pub mod Dashes
-pub mod Plain
-pub mod Stopping
+pub mod Loading
 pub mod ReadValues
 pub mod CountRanges
 pub mod WordFaults

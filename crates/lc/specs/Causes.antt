@@ -1,12 +1,12 @@
 -- Why the program gives up, and the line that says so.
 use Rattle.std.specs.Prelude.{ℕ, List, ◌++◌, codes, decimal}
 use Rattle.lc_walk.specs.declared.walk_fault.WalkFault.TheVariants as walk
-use Rattle.lc.specs.declared.check.CheckFault.{CheckFault}
-use Rattle.lc.specs.declared.check.CheckFault.TheVariants as check
-use Rattle.lc.specs.declared.rules_file.RulesFileFault.{RulesFileFault}
-use Rattle.lc.specs.declared.rules_file.RulesFileFault.TheVariants as rules
-use Rattle.lc.specs.declared.run.RunFault.{RunFault}
-use Rattle.lc.specs.declared.run.RunFault.TheVariants as run
+use Rattle.lc_text.specs.declared.checking.CheckFault.{CheckFault}
+use Rattle.lc_text.specs.declared.checking.CheckFault.TheVariants as check
+use Rattle.lc_text.specs.declared.rules.RulesFileFault.{RulesFileFault}
+use Rattle.lc_text.specs.declared.rules.RulesFileFault.TheVariants as rules
+use Rattle.lc_text.specs.declared.running.RunFault.{RunFault}
+use Rattle.lc_text.specs.declared.running.RunFault.TheVariants as run
 use Rattle.lc.specs.declared.cause.Cause.{Cause}
 use Rattle.lc.specs.declared.cause.Cause.TheVariants.{Memory, TooManyDirs, TooDeep, Torn, Mismatch, UnreadRules, RulesTooLong}
 use Rattle.lc.specs.declared.cause.Cause.TheVariants.{UnreadInput, InputTooLong, Unwritten}

@@ -1,16 +1,6 @@
-pub mod Escape
-pub mod Lines
-pub mod PathLines
-pub mod CheckText
-pub mod Joined
-pub mod Writes
-pub mod Check
-pub mod CheckFaults
-pub mod TableText
 pub mod CountArgs
 pub mod CommandLine
 pub mod Words
-pub mod Runs
 pub mod Causes
 pub mod Requests
 pub mod Program

@@ -3,16 +3,16 @@ use Rattle.std.specs.Prelude.{◌≡◌, ◌⊎◌, ℕ, List, [], Result, Ok, E
 use Rattle.lc_census.specs.declared.source.Failed.{Failed}
 use Rattle.lc_census.specs.Reads.{Answer}
 use Rattle.lc.specs.Causes.{cause_line}
-use Rattle.lc.specs.Requests.{Reply, AnswersRequest}
+use Rattle.lc.specs.Requests.{Loaded, Reply, AnswersRequest}
 use Rattle.lc.specs.Words.{Asks, MayRefuse, MayShow, faults_in}
-use Rattle.lc.specs.Writes.{Writes, AnswersPrint}
+use Rattle.lc_text.specs.Writes.{Writes, AnswersPrint}
 use Rattle.lc.specs.declared.arguments.Request.{Request}
 use Rattle.lc.specs.declared.cause.Cause.{Cause}
 use Rattle.lc.specs.declared.cause.Cause.TheVariants.{Memory, Unwritten}
-use Rattle.lc.specs.declared.print.PrintFault.{PrintFault}
+use Rattle.lc_text.specs.declared.printing.PrintFault.{PrintFault}
 use Rattle.lc.specs.declared.program.Ending.{Ending}
 use Rattle.lc.specs.declared.program.Ending.TheVariants.{Done, SomeFaults, Misused, GaveUp}
-use Rattle.lc.specs.declared.run.Outcome.TheVariants as outcome
+use Rattle.lc_text.specs.declared.running.Outcome.TheVariants as outcome
 
 abbrev pub status_of : Ending → ℕ
 status_of Done = 0
@@ -38,12 +38,12 @@ EndsShown may_take may_tell text out err Misused wrote told = ⊥
 EndsShown may_take may_tell text out err (GaveUp cause) wrote told =
     (cause ≡ Unwritten) × Tells may_take out text wrote × TellsCause may_tell err cause told
 
-module _ {I O E : Type 0} (may_give : I → ℕ → Answer → I → Type 0) (may_take : O → List ℕ → Result ℕ Failed → O → Type 0)
+module _ {I O E : Type 0} (may_give : I → ℕ → Answer → I → Type 0) (loads : Loaded) (may_take : O → List ℕ → Result ℕ Failed → O → Type 0)
     (may_tell : E → List ℕ → Result ℕ Failed → E → Type 0) where
   -- the request of the words had this reply
   abbrev pub Replies : List (List ℕ) → I → O → Reply → I → O → Type 0
   Replies words input out reply read wrote =
-      (faults_in words ≡ []) × ((request : Request) × Asks words request × AnswersRequest may_give may_take request input out reply read wrote)
+      (faults_in words ≡ []) × ((request : Request) × Asks words request × AnswersRequest may_give loads may_take request input out reply read wrote)
 
   -- the words ask for a text, nothing was read, and it was shown
   abbrev pub Shows : List (List ℕ) → I → O → E → Ending → I → O → E → Type 0

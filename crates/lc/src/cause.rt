@@ -4,9 +4,7 @@ ghost use Rattle.std.specs.Prelude.{◌≡◌, IfOk};
 ghost use Rattle.lc.specs.Causes.{cause_line, check_cause, rules_cause, run_cause};
 ghost use Rattle.lc.specs.declared.cause.Cause.TheVariants.{Memory};
 
-use crate::check::CheckFault;
-use crate::rules_file::RulesFileFault;
-use crate::run::RunFault;
+use lc_text::{CheckFault, RulesFileFault, RunFault};
 use lc_walk::WalkFault;
 use std::alloc::{AllocError, AllocFailed, Global};
 use std::io::Write;

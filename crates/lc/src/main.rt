@@ -4,21 +4,14 @@
 
 mod arguments;
 mod cause;
-mod check;
-mod escape;
-mod laws;
-mod print;
 mod program;
 mod rules_file;
-mod run;
-mod sink;
-mod table;
 #[cfg(test)]
 mod tests;
 
 use cause::Cause;
 use lc_census::StdSource;
-use sink::StdSink;
+use lc_text::StdSink;
 use std::alloc::AllocError;
 use std::env;
 use std::io::ErrorKind;

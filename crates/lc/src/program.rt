@@ -1,21 +1,18 @@
 //! The program but for its streams.
 
-ghost use Rattle.std.specs.Prelude.{◌≡◌, Err, IfErr, IfOk, is_some, map};
+ghost use Rattle.std.specs.Prelude.{◌≡◌, map};
 ghost use Rattle.lc.specs.Words.{IsWithinLimits, IsCountWithinLimits};
 ghost use Rattle.lc.specs.Program.{Tells, TellsCause, EndsShown, Ends, status_of};
-ghost use Rattle.lc.specs.Requests.{IsWithoutRules, AnswersFile, AnswersJoined, AnswersCount, AnswersRequest};
+ghost use Rattle.lc.specs.Requests.{LoadsRules, AnswersExcluded, AnswersFile, AnswersJoined, AnswersCount, AnswersRequest};
 ghost use Rattle.lc.specs.declared.program.Ending.{Ending};
 ghost use Rattle.lc.specs.declared.program.Ending.TheVariants as ending;
 
 use crate::arguments::{CountRequest, NoRequest, Request};
 use crate::cause::Cause;
-use crate::check::{check, check_joined};
-use crate::print::print;
-use crate::rules_file::read_rules;
-use crate::run::{Outcome, run};
-use crate::sink::Sink;
-use lc_census::Source;
+use crate::rules_file::rules_of_file;
+use lc_census::{Source, StdSource};
 use lc_rules::IgnoreFile;
+use lc_text::{Outcome, Sink, check, check_joined, print, run};
 use lc_tree::SysTree;
 use lc_walk::Options;
 use std::alloc::{AllocError, Global};
@@ -90,9 +87,10 @@ fn check_file<R: Files + AllocGlobal, S: Source, O: Sink>(
     input: &mut S,
     out: &mut O,
 ) -> Result<Outcome, Cause>
-    ensures { AnswersFile S.may_give O.may_take input.old out.old result input.new out.new }
+    ensures { AnswersFile S.may_give (LoadsRules ⟦<StdSource<R::File> as Source>⟧.may_give) O.may_take
+        input.old out.old result input.new out.new }
 {
-    let rules = read_rules(rt, file)?;
+    let rules = rules_of_file(rt, file)?;
     check(rt.alloc(), &rules, input, out)?;
     Ok(Outcome::Clean)
 }
@@ -114,13 +112,12 @@ fn excluded<R: Files + AllocGlobal>(
     rt: &R,
     file: Option<&str>,
 ) -> Result<Option<Arc<IgnoreFile, Global>>, Cause>
-    ensures some { IfOk result (λ rules. is_some rules ≡ is_some file.entry) }
-    ensures none { IfErr result (λ cause. IsWithoutRules (Err cause)) }
+    ensures { AnswersExcluded (LoadsRules ⟦<StdSource<R::File> as Source>⟧.may_give) file.entry result }
 {
     let Some(file) = file else {
         return Ok(None);
     };
-    let rules = read_rules(rt, file)?;
+    let rules = rules_of_file(rt, file)?;
     Ok(Some(Arc::new(rt.alloc(), rules)?))
 }
 
@@ -134,7 +131,7 @@ where
     R::File: Send,
     R::Dir: Send,
     requires limits { IsCountWithinLimits asked.now }
-    ensures { AnswersCount O.may_take asked.now out.old result out.new }
+    ensures { AnswersCount (LoadsRules ⟦<StdSource<R::File> as Source>⟧.may_give) O.may_take asked.now out.old result out.new }
 {
     let exclude = excluded(rt, asked.exclude_from)?;
     let tree = SysTree::new(rt, rt.alloc(), asked.directory)?;
@@ -159,7 +156,8 @@ where
     R::File: Send,
     R::Dir: Send,
     requires limits { IsWithinLimits request.now }
-    ensures { AnswersRequest S.may_give O.may_take request.now input.old out.old result input.new out.new }
+    ensures { AnswersRequest S.may_give (LoadsRules ⟦<StdSource<R::File> as Source>⟧.may_give) O.may_take request.now
+        input.old out.old result input.new out.new }
 {
     match request {
         Request::CheckJoined => check_input(rt.alloc(), input, out),
@@ -179,7 +177,8 @@ fn end_of<R: Files + Threads + Wait + Sync + AllocGlobal, W: AsStr, S: Source, O
 where
     R::File: Send,
     R::Dir: Send,
-    ensures { Ends S.may_give O.may_take E.may_take (map W.text words.now) input.old out.old err.old result input.new out.new err.new }
+    ensures { Ends S.may_give (LoadsRules ⟦<StdSource<R::File> as Source>⟧.may_give)
+        O.may_take E.may_take (map W.text words.now) input.old out.old err.old result input.new out.new err.new }
 {
     let request = match Request::read(rt.alloc(), words) {
         Ok(request) => request,
@@ -211,7 +210,8 @@ where
     R::File: Send,
     R::Dir: Send,
     ensures { (ending : Ending) × (result ≡ status_of ending)
-        × Ends S.may_give O.may_take E.may_take (map W.text words.now) input.old out.old err.old ending input.new out.new err.new }
+        × Ends S.may_give (LoadsRules ⟦<StdSource<R::File> as Source>⟧.may_give)
+        O.may_take E.may_take (map W.text words.now) input.old out.old err.old ending input.new out.new err.new }
 {
     end_of(rt, words, input, out, err).status()
 }

@@ -1,9 +1,4 @@
-//! What no clause says: worked cases, that calls succeed where there is memory, and streams that misbehave.
+//! What no clause says: which words are understood, what the program says, and that it succeeds where there is memory.
 
 mod folders;
-mod narrow;
 mod programs;
-mod runs;
-mod sinks;
-mod tables;
-mod texts;

@@ -1,6 +1,7 @@
 //! The program: words, streams, statuses and what it says on standard error.
 
 use crate::program::program;
+use lc_text::trials::{Narrow, WhenFull};
 use std::alloc::AllocError;
 use std::process::Abort;
 use std::rt::Files;
@@ -83,6 +84,30 @@ fn checks_that_are_answered(rt: HostRuntime) -> Result<(), Fail> {
 fn causes(rt: HostRuntime) -> Result<(), Fail> {
     for (name, words, line) in GIVEN_UP {
         compare(&rt, name, words, (3, b"", line))?;
+    }
+    Ok(())
+}
+
+/// Standard output stops at each place. The status tells of it, whether or not standard error can.
+#[test]
+fn an_output_that_stops(rt: HostRuntime) -> Result<(), Fail> {
+    let (_, words, text) = ANSWERED[2];
+    for room in 0..text.len() {
+        for told in [0, 64] {
+            let mut input: &[u8] = b"a\n--\na\n";
+            let mut out = Narrow::new(rt.alloc(), 5, room, WhenFull::Fails)?;
+            let mut err = Narrow::new(rt.alloc(), 64, told, WhenFull::TakesNothing)?;
+            let found = program(&rt, words, &mut input, &mut out, &mut err);
+            assert!(rt; found == 3, "at {room}");
+            let is_refused = err.taken.as_slice() == b"lc: out of memory\n".as_slice();
+            if is_refused || (out.taken.is_empty() && room > 0) {
+                return Err(AllocError.into());
+            }
+            let is_prefix = out.taken.len() == room && text.starts_with(&out.taken);
+            assert!(rt; is_prefix, "at {room}");
+            let is_told = err.taken.as_slice() == b"lc: cannot write\n".as_slice();
+            assert!(rt; is_told == (told > 0), "at {room}");
+        }
     }
     Ok(())
 }

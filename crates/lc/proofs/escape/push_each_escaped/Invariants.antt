@@ -1,6 +1,0 @@
-use Rattle.std.proofs.Common.{◌≡◌, ◌++◌, take}
-use Rattle.lc.specs.Escape.{escape_bytes}
-use Rattle.lc.proofs.escape.push_each_escaped.Given as goal
-
-abbrev pub invariant-loop-b : goal.invariant-loop-b
-invariant-loop-b l = l.text.items ≡ l.initial.text.items ++ escape_bytes (take l.b-index l.bytes)

@@ -1,0 +1,12 @@
+use Rattle.std.proofs.Common.{◌≡◌, ◌-◌, length}
+use Rattle.lc_text.specs.CheckText.{file_verdict, IsClearTo}
+use Rattle.lc_text.proofs.checking.checker.Checker.has_ignored_parent.Given as goal
+
+abbrev pub decreases-directories : goal.decreases-directories
+decreases-directories l = length l.path - l.at
+
+abbrev pub invariant-directories : goal.invariant-directories
+invariant-directories l = record {
+  rules : l.self.rules.now ≡ l.fn.self.rules.now;
+  clear : IsClearTo (file_verdict l.fn.self.rules.now) l.path l.at;
+}

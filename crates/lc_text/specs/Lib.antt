@@ -1,0 +1,12 @@
+pub mod Escape
+pub mod Lines
+pub mod PathLines
+pub mod CheckText
+pub mod Joined
+pub mod Writes
+pub mod TrialWrites
+pub mod RuleReads
+pub mod Check
+pub mod CheckFaults
+pub mod TableText
+pub mod Runs

@@ -1,0 +1,43 @@
+-- What a run answers, by what its walk answers.
+use Rattle.std.specs.Prelude.{◌≡◌, ◌≢◌, ℕ, List, [], Result, Ok, Err}
+use Rattle.lc_board.specs.WordClose.{words_promises}
+use Rattle.lc_census.specs.declared.source.Failed.{Failed}
+use Rattle.lc_level.specs.TreeAnswers.{MayAnswer}
+use Rattle.lc_tree.specs.Trees.{Listings, Contents}
+use Rattle.lc_walk.specs.WalkAnswers.{WalkAnswers}
+use Rattle.lc_walk.specs.WalkOptions.{asked_by, top_of}
+use Rattle.lc_walk.specs.declared.options.Options.{Options}
+use Rattle.lc_walk.specs.declared.report.Report.{Report}
+use Rattle.lc_walk.specs.declared.walk_fault.WalkFault.{WalkFault}
+use Rattle.lc_text.specs.TableText.{table_text_of}
+use Rattle.lc_text.specs.Writes.{Writes, StopsWriting}
+use Rattle.lc_text.specs.declared.printing.PrintFault.{PrintFault}
+use Rattle.lc_text.specs.declared.printing.PrintFault.TheVariants as print
+use Rattle.lc_text.specs.declared.running.Outcome.{Outcome}
+use Rattle.lc_text.specs.declared.running.Outcome.TheVariants.{Clean, SomeFaults}
+use Rattle.lc_text.specs.declared.running.RunFault.{RunFault}
+use Rattle.lc_text.specs.declared.running.RunFault.TheVariants.{Walk, Memory, Write}
+
+-- what a walk by these options answers over a tree whose listings and files may be these
+abbrev pub Walks : (List ℕ → Listings) → (List ℕ → Contents) → Options → Result Report WalkFault → Type 0
+Walks lists gives o answer = WalkAnswers (MayAnswer lists gives) (asked_by o) o.max_dirs o.threads (top_of o) words_promises answer
+
+-- a table that was not written, or not whole
+abbrev pub table_fault : PrintFault → RunFault
+table_fault print.Write = Write
+table_fault print.Memory = Memory
+
+-- a report without faults is clean
+abbrev pub IsOutcomeOf : Report → Outcome → Type 0
+IsOutcomeOf r Clean = r.faults.items ≡ []
+IsOutcomeOf r SomeFaults = r.faults.items ≢ []
+
+module _ {O : Type 0} (may_take : O → List ℕ → Result ℕ Failed → O → Type 0) (walks : Result Report WalkFault → Type 0) where
+  abbrev pub AnswersRun : O → Result Outcome RunFault → O → Type 0
+  -- the table of the report was written whole
+  AnswersRun out (Ok outcome) wrote = (r : Report) × walks (Ok r) × IsOutcomeOf r outcome × Writes may_take out (table_text_of r) wrote
+  -- the walk gave no report, and nothing was written
+  AnswersRun out (Err (Walk f)) wrote = walks (Err f) × (wrote ≡ out)
+  AnswersRun out (Err Memory) wrote = wrote ≡ out
+  -- a prefix of the table was written
+  AnswersRun out (Err Write) wrote = (r : Report) × walks (Ok r) × StopsWriting may_take out (table_text_of r) wrote

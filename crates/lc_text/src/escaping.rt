@@ -1,0 +1,87 @@
+//! How paths are printed.
+
+ghost use Rattle.std.specs.Prelude.{◌≡◌, ◌<◌, ◌++◌, IfOk, OnOk};
+ghost use Rattle.std.specs.List.{list_all};
+ghost use Rattle.lc_text.specs.Escape.{hex_digit, is_control, is_plain, escape_byte, escape_bytes, escape_path};
+
+use std::alloc::{AllocError, Global};
+
+fn hex_digit(n: u8) -> u8
+    requires { n < 16 }
+    ensures { result ≡ hex_digit n }
+{
+    if n < 10 { b'0' + n } else { b'a' - 10 + n }
+}
+
+fn is_control(b: u8) -> bool
+    ensures { result ≡ is_control b }
+{
+    b < 32 || b == 127
+}
+
+fn push_escaped_byte(text: &mut Vec<u8>, b: u8) -> Result<(), AllocError>
+    ensures { OnOk result (text.new.items ≡ text.old.items ++ escape_byte b) }
+{
+    if b == b'\\' {
+        text.extend_from_slice(b"\\\\")
+    } else if is_control(b) {
+        text.extend_from_slice(&[b'\\', b'x', hex_digit(b / 16), hex_digit(b % 16)])
+    } else {
+        text.extend_from_slice(&[b])
+    }
+}
+
+fn is_plain(b: u8) -> bool
+    ensures { result ≡ is_plain b }
+{
+    b != b'\\' && !is_control(b)
+}
+
+fn are_plain(bytes: &[u8]) -> bool
+    ensures { result ≡ list_all is_plain bytes.now }
+{
+    bytes.iter().all(|b| is_plain(*b))
+}
+
+fn push_each_escaped(text: &mut Vec<u8>, bytes: &[u8]) -> Result<(), AllocError>
+    ensures { OnOk result (text.new.items ≡ text.old.items ++ escape_bytes bytes.now) }
+{
+    for b in bytes {
+        push_escaped_byte(text, *b)?;
+    }
+    Ok(())
+}
+
+/// Appends bytes as they are printed: a backslash as two, a control byte as `\x` and two digits.
+pub(crate) fn push_escaped(text: &mut Vec<u8>, bytes: &[u8]) -> Result<(), AllocError>
+    ensures { OnOk result (text.new.items ≡ text.old.items ++ escape_bytes bytes.now) }
+{
+    // Most paths have nothing to escape, and are copied whole.
+    if are_plain(bytes) {
+        text.extend_from_slice(bytes)
+    } else {
+        push_each_escaped(text, bytes)
+    }
+}
+
+/// Appends a path as [`escape`] has it.
+pub(crate) fn push_path(text: &mut Vec<u8>, path: &[u8]) -> Result<(), AllocError>
+    ensures { OnOk result (text.new.items ≡ text.old.items ++ escape_path path.now) }
+{
+    if path.is_empty() {
+        text.extend_from_slice(b".")
+    } else {
+        push_escaped(text, path)
+    }
+}
+
+/// A path as it is printed, on one line and without a tab, whatever its bytes; the top's empty path is a dot.
+///
+/// `t`, the byte 1 and `.c` are printed `t\x01.c`, and `a\b` is printed `a\\b`.
+pub fn escape(alloc: Global, path: &[u8]) -> Result<Vec<u8>, AllocError>
+    ensures { IfOk result (λ text. text.items ≡ escape_path path.now) }
+{
+    let mut text = Vec::new(alloc);
+    push_path(&mut text, path)?;
+    Ok(text)
+}

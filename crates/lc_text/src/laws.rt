@@ -1,0 +1,10 @@
+//! Laws of the definitions that the contracts cite. The functions do nothing: their contracts are what is proved.
+
+ghost use Rattle.std.specs.Prelude.{◌≡◌, ◌++◌, ℕ, List, Vec};
+ghost use Rattle.std.specs.Global.{Global};
+ghost use Rattle.lc_text.specs.Writes.{AppendsAll, Writes};
+
+/// A text that was written to a vector stands at its end, however the writes cut it.
+pub fn a_vector_takes_the_text()
+    ensures { (old new : Vec ℕ Global) (text : List ℕ) → Writes AppendsAll old text new → new.items ≡ old.items ++ text }
+{}

@@ -1,0 +1,84 @@
+//! The rules of a file, read from its source.
+
+ghost use Rattle.std.specs.Prelude.{◌≡◌, ◌≢◌};
+ghost use Rattle.lc_text.specs.RuleReads.{ReadsRules, file_fault, bytes_fault};
+ghost use Rattle.lc_text.specs.declared.rules.RulesFileFault.TheVariants.{TooLong, Memory};
+
+use lc_census::{Source, WholeFault, new_buffer, read_whole};
+use lc_rules::{IgnoreFile, MAX_RULE_BYTES, RuleFault};
+use std::alloc::{AllocError, Global};
+use std::io;
+use thiserror::Error;
+
+/// Why a file gave no rules.
+#[derive(Debug, Clone, Copy, PartialEq, Eq, Error)]
+pub enum RulesFileFault {
+    /// It was not opened, or a read failed.
+    #[error("cannot read rules")]
+    Unread,
+    /// It has over 1,048,576 bytes.
+    #[error("rules too long")]
+    TooLong,
+    /// There is no memory for it.
+    #[error("out of memory")]
+    Memory,
+}
+
+impl From<AllocError> for RulesFileFault {
+    ghost from_gives = { λ _ fault. fault ≡ Memory };
+
+    fn from(_refused: AllocError) -> RulesFileFault {
+        RulesFileFault::Memory
+    }
+}
+
+/// From a file that was not opened.
+impl From<io::Error> for RulesFileFault {
+    ghost from_gives = { λ _ fault. fault ≢ TooLong };
+
+    fn from(error: io::Error) -> RulesFileFault {
+        match error.kind() {
+            io::ErrorKind::OutOfMemory => RulesFileFault::Memory,
+            _ => RulesFileFault::Unread,
+        }
+    }
+}
+
+impl From<WholeFault> for RulesFileFault {
+    ghost from_gives = { λ whole fault. fault ≡ file_fault whole };
+
+    fn from(fault: WholeFault) -> RulesFileFault {
+        match fault {
+            WholeFault::Read => RulesFileFault::Unread,
+            WholeFault::TooLong => RulesFileFault::TooLong,
+            WholeFault::Memory => RulesFileFault::Memory,
+        }
+    }
+}
+
+impl From<RuleFault> for RulesFileFault {
+    ghost from_gives = { λ rule fault. fault ≡ bytes_fault rule };
+
+    fn from(fault: RuleFault) -> RulesFileFault {
+        match fault {
+            RuleFault::TooLong => RulesFileFault::TooLong,
+            RuleFault::Memory => RulesFileFault::Memory,
+        }
+    }
+}
+
+/// Reads a file of rules to its end, at most one byte past the limit of their length.
+///
+/// ```
+/// let mut file = StdSource(fs::open(rt, ".gitignore")?);
+/// let rules = read_rules(rt.alloc(), &mut file)?;
+/// ```
+pub fn read_rules<S: Source>(alloc: Global, file: &mut S) -> Result<IgnoreFile, RulesFileFault>
+    ensures { ReadsRules S.may_give file.old result file.new }
+{
+    let mut buffer = new_buffer(alloc)?;
+    let mut bytes = Vec::new(alloc);
+    read_whole(&mut buffer, &mut bytes, file, MAX_RULE_BYTES)?;
+    let rules = IgnoreFile::read(alloc, &bytes)?;
+    Ok(rules)
+}

@@ -1,0 +1,91 @@
+//! A run: the walk of a tree, and the table of what it found.
+
+ghost use Rattle.std.specs.Prelude.{◌≡◌};
+ghost use Rattle.lc_walk.specs.WalkOptions.{AreWithinLimits};
+ghost use Rattle.lc_text.specs.Runs.{IsOutcomeOf, Walks, AnswersRun, table_fault};
+ghost use Rattle.lc_text.specs.declared.running.RunFault.TheVariants.{Walk};
+
+use crate::printing::PrintFault;
+use crate::sink::Sink;
+use crate::tables::table;
+use lc_tree::Tree;
+use lc_walk::{Options, Report, WalkFault, walk};
+use std::alloc::Global;
+use std::sync::Wait;
+use std::thread::Threads;
+use thiserror::Error;
+
+/// Whether a table that was written has a fault.
+#[derive(Debug, Clone, Copy, PartialEq, Eq)]
+pub enum Outcome {
+    /// Every directory and every file that was met was read.
+    Clean,
+    /// The table has a line for each directory or file that was not read.
+    SomeFaults,
+}
+
+/// Why a table was not written, or not whole.
+#[derive(Debug, Clone, Copy, PartialEq, Eq, Error)]
+pub enum RunFault {
+    /// The walk gave no report. Nothing was written.
+    #[error("the walk gave no report")]
+    Walk(WalkFault),
+    /// There is no memory for the text. Nothing was written.
+    #[error("out of memory")]
+    Memory,
+    /// A write failed, or took nothing. What was written is a prefix of the table.
+    #[error("cannot write")]
+    Write,
+}
+
+impl From<WalkFault> for RunFault {
+    ghost from_gives = { λ walk fault. fault ≡ Walk walk };
+
+    fn from(fault: WalkFault) -> RunFault {
+        RunFault::Walk(fault)
+    }
+}
+
+impl From<PrintFault> for RunFault {
+    ghost from_gives = { λ print fault. fault ≡ table_fault print };
+
+    fn from(fault: PrintFault) -> RunFault {
+        match fault {
+            PrintFault::Write => RunFault::Write,
+            PrintFault::Memory => RunFault::Memory,
+        }
+    }
+}
+
+fn outcome_of(report: &Report) -> Outcome
+    ensures { IsOutcomeOf report.now result }
+{
+    if report.faults.is_empty() {
+        Outcome::Clean
+    } else {
+        Outcome::SomeFaults
+    }
+}
+
+/// Walks a tree, and writes the table of what it found ([`table`]).
+///
+/// ```
+/// let tree = SysTree::new(&rt, rt.alloc(), "src")?;
+/// let outcome = run(&rt, rt.alloc(), &tree, &options, &mut out)?;
+/// assert_eq!(outcome, Outcome::Clean);
+/// ```
+pub fn run<T: Tree, R: Threads + Wait + Sync, O: Sink>(
+    rt: &R,
+    alloc: Global,
+    tree: &T,
+    options: &Options,
+    out: &mut O,
+) -> Result<Outcome, RunFault>
+    requires limits { AreWithinLimits options.now }
+    ensures { AnswersRun O.may_take (Walks (T.lists tree.now) (T.gives tree.now) options.now) out.old result out.new }
+{
+    let report = walk(rt, alloc, tree, options)?;
+    let outcome = outcome_of(&report);
+    table(alloc, &report, out)?;
+    Ok(outcome)
+}

@@ -1,0 +1,8 @@
+//! What no clause says: worked cases, that calls succeed where there is memory, and streams that misbehave.
+
+mod failing_trees;
+mod interrupted;
+mod runs;
+mod streams;
+mod tables;
+mod texts;

@@ -1,0 +1,180 @@
+//! Readers and writers that give or take little, fail or never end: what is written is a prefix, and whole only on success.
+
+use crate::trials::{Narrow, WhenFull};
+use crate::{CheckFault, RulesFileFault, check, check_joined, read_rules};
+use lc_census::Source;
+use lc_census::trials::{Bytewise, Counted, Endless, Failing};
+use lc_rules::IgnoreFile;
+use std::alloc::{AllocError, Global};
+use std::process::Abort;
+use std::test::Fail;
+
+const RULES: &[u8] = b"a\n";
+
+const PATHS: &[u8] = b"a\nb\n";
+
+const JOINED: &[u8] = b"a\n--\na\nb\n";
+
+const TEXT: &[u8] = b"ignored\ta\nnone\tb\n";
+
+/// How a writer is made: how much it takes at once, and what it answers when it is full.
+pub(super) const WRITERS: [(usize, WhenFull); 4] = [
+    (1, WhenFull::TakesNothing),
+    (1, WhenFull::Fails),
+    (7, WhenFull::TakesNothing),
+    (7, WhenFull::Fails),
+];
+
+/// Whether as much of the text was taken as there was room for, with success only where this is all of it.
+pub(super) fn is_as_taken(out: &Narrow, room: usize, text: &[u8], is_done: bool) -> bool {
+    out.taken.len() == room && text.starts_with(&out.taken) && is_done == (room == text.len())
+}
+
+/// The rules with which the paths give the text.
+fn rules_of(alloc: Global) -> Result<IgnoreFile, AllocError> {
+    match IgnoreFile::read(alloc, RULES) {
+        Ok(rules) => Ok(rules),
+        Err(_) => Err(AllocError),
+    }
+}
+
+/// A check of paths, or a joined one, but for want of memory.
+fn checked<S: Source>(
+    alloc: Global,
+    is_joined: bool,
+    input: &mut S,
+    out: &mut Narrow,
+) -> Result<Result<(), CheckFault>, AllocError> {
+    let answer = if is_joined {
+        check_joined(alloc, input, out)
+    } else {
+        let rules = rules_of(alloc)?;
+        check(alloc, &rules, input, out)
+    };
+    match answer {
+        Err(CheckFault::Memory) => Err(AllocError),
+        answer => Ok(answer),
+    }
+}
+
+fn compare_writes<R: AllocGlobal + Abort>(
+    rt: &R,
+    is_joined: bool,
+    bytes: &[u8],
+    writer: (usize, WhenFull),
+) -> Result<(), Fail> {
+    let (step, when_full) = writer;
+    for room in 0..=TEXT.len() {
+        let mut out = Narrow::new(rt.alloc(), step, room, when_full)?;
+        let answer = checked(rt.alloc(), is_joined, &mut Bytewise(bytes), &mut out)?;
+        assert!(rt;
+            answer == Ok(()) || answer == Err(CheckFault::Write),
+            "at {room}"
+        );
+        assert!(rt;
+            is_as_taken(&out, room, TEXT, answer == Ok(())),
+            "at {room}"
+        );
+    }
+    Ok(())
+}
+
+#[test]
+fn writes_stop_at_every_place(rt: HostRuntime) -> Result<(), Fail> {
+    for writer in WRITERS {
+        compare_writes(&rt, true, JOINED, writer)?;
+        compare_writes(&rt, false, PATHS, writer)?;
+    }
+    Ok(())
+}
+
+fn compare_reads<R: AllocGlobal + Abort>(
+    rt: &R,
+    is_joined: bool,
+    bytes: &[u8],
+) -> Result<(), Fail> {
+    for given in 0..=bytes.len() {
+        let mut out = Narrow::new(rt.alloc(), 64, 64, WhenFull::Fails)?;
+        let mut input = Failing(&bytes[..given]);
+        let whole = checked(rt.alloc(), is_joined, &mut input, &mut out)?;
+        assert!(rt; whole == Err(CheckFault::Read), "at {given}");
+        let mut input = Bytewise(Failing(&bytes[..given]));
+        let bytewise = checked(rt.alloc(), is_joined, &mut input, &mut out)?;
+        assert!(rt; bytewise == Err(CheckFault::Read), "at {given}");
+        assert!(rt; out.taken.is_empty(), "at {given}");
+    }
+    Ok(())
+}
+
+#[test]
+fn reads_fail_at_every_place(rt: HostRuntime) -> Result<(), Fail> {
+    compare_reads(&rt, true, JOINED)?;
+    compare_reads(&rt, false, PATHS)
+}
+
+#[test]
+fn an_input_without_end_is_too_long(rt: HostRuntime) -> Result<(), Fail> {
+    for is_joined in [false, true] {
+        let mut input = Counted::new(Endless);
+        let mut out = Narrow::new(rt.alloc(), 64, 64, WhenFull::Fails)?;
+        let answer = checked(rt.alloc(), is_joined, &mut input, &mut out)?;
+        assert!(rt; answer == Err(CheckFault::InputTooLong));
+        // 256 buffers of 65,536 bytes, and the first byte past the limit.
+        assert!(rt; input.reads == 257);
+        assert!(rt; out.taken.is_empty());
+    }
+    Ok(())
+}
+
+/// A rule of so many letters, dashes and a path.
+fn one_long_rule(alloc: Global, letters: usize) -> Result<Vec<u8>, AllocError> {
+    let mut joined = vec![in alloc; b'a'; letters]?;
+    joined.extend_from_slice(b"\n--\nb\n")?;
+    Ok(joined)
+}
+
+#[test]
+fn joined_rules_at_their_limit(rt: HostRuntime) -> Result<(), Fail> {
+    // The line feed after the rule is one of its bytes.
+    for (letters, wanted) in [
+        (1_048_575, Ok(())),
+        (1_048_576, Err(CheckFault::RulesTooLong)),
+    ] {
+        let joined = one_long_rule(rt.alloc(), letters)?;
+        let mut out = Narrow::new(rt.alloc(), 64, 64, WhenFull::Fails)?;
+        let answer = checked(rt.alloc(), true, &mut joined.as_slice(), &mut out)?;
+        assert!(rt; answer == wanted, "at {letters}");
+        assert!(rt; out.taken.is_empty() != answer.is_ok());
+    }
+    Ok(())
+}
+
+/// How many rules a file has, but for want of memory.
+fn rule_count<S: Source>(
+    alloc: Global,
+    file: &mut S,
+) -> Result<Result<usize, RulesFileFault>, AllocError> {
+    match read_rules(alloc, file) {
+        Ok(rules) => Ok(Ok(rules.len())),
+        Err(RulesFileFault::Memory) => Err(AllocError),
+        Err(fault) => Ok(Err(fault)),
+    }
+}
+
+#[test]
+fn files_of_rules(rt: HostRuntime) -> Result<(), Fail> {
+    let file = b"a\n# b\n\n!c".as_slice();
+    assert!(rt; rule_count(rt.alloc(), &mut Bytewise(file))? == Ok(2));
+    for given in 0..=file.len() {
+        let answer = rule_count(rt.alloc(), &mut Failing(&file[..given]))?;
+        assert!(rt; answer == Err(RulesFileFault::Unread), "at {given}");
+    }
+    let mut endless = Counted::new(Endless);
+    let answer = rule_count(rt.alloc(), &mut endless)?;
+    assert!(rt; answer == Err(RulesFileFault::TooLong));
+    // 16 buffers of 65,536 bytes, and the first byte past the limit.
+    assert!(rt; endless.reads == 17);
+    let longest = vec![in rt.alloc(); b'a'; 1_048_576]?;
+    assert!(rt; rule_count(rt.alloc(), &mut longest.as_slice())? == Ok(1));
+    Ok(())
+}

@@ -1,0 +1,69 @@
+//! A writer for tests, of any crate: what it takes is known, and its contract says it.
+
+ghost use Rattle.std.specs.Prelude.{◌≡◌, [], IfOk};
+ghost use Rattle.lc_text.specs.TrialWrites.{TakesSome};
+
+use crate::sink::Sink;
+use lc_census::Failed;
+use std::alloc::{AllocError, Global};
+
+/// What a writer answers once it has no room.
+#[derive(Debug, Clone, Copy, PartialEq, Eq)]
+pub enum WhenFull {
+    /// A write takes nothing.
+    TakesNothing,
+    /// A write fails.
+    Fails,
+}
+
+/// A writer that takes at most so many bytes at once, and only so many in all.
+///
+/// ```
+/// let mut out = Narrow::new(rt.alloc(), 1, 10, WhenFull::Fails)?; // ten writes of a byte, and then failures
+/// ```
+#[derive(Drop)]
+pub struct Narrow {
+    /// What it took.
+    pub taken: Vec<u8>,
+    step: usize,
+    room: usize,
+    when_full: WhenFull,
+}
+
+impl Narrow {
+    /// Nothing was taken so far. The memory for all that it may take is taken at once.
+    pub fn new(
+        alloc: Global,
+        step: usize,
+        room: usize,
+        when_full: WhenFull,
+    ) -> Result<Narrow, AllocError>
+        ensures { IfOk result (λ out. out.taken.items ≡ []) }
+    {
+        Ok(Narrow {
+            taken: Vec::with_capacity(alloc, room)?,
+            step,
+            room,
+            when_full,
+        })
+    }
+}
+
+impl Sink for Narrow {
+    ghost may_take = { λ old bytes answer new. TakesSome old.taken.items bytes answer new.taken.items };
+
+    fn write(&mut self, bytes: &[u8]) -> Result<usize, Failed> {
+        let left = self.room.saturating_sub(self.taken.len());
+        let count = bytes.len().min(self.step).min(left);
+        if count == 0 {
+            return match self.when_full {
+                WhenFull::TakesNothing => Ok(0),
+                WhenFull::Fails => Err(Failed),
+            };
+        }
+        match self.taken.extend_from_slice(&bytes[..count]) {
+            Ok(()) => Ok(count),
+            Err(_) => Err(Failed),
+        }
+    }
+}
