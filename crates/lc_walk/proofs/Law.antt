@@ -11,7 +11,7 @@ use Rattle.lc_board.specs.declared.event.Event.{Event}
 use Rattle.lc_board.specs.declared.answers.Ended.{Ended}
 use Rattle.lc_board.specs.declared.answers.Ended.TheVariants as ended
 use Rattle.lc_board.proofs.PartsOfWhole.{part_says_whole}
-use Rattle.lc_walk.specs.Paths.{segments}
+use Rattle.lc_tree.specs.Paths.{names_of_path}
 use Rattle.lc_level.specs.Answers.{Answers, no_answers, Tree}
 use Rattle.lc_level.specs.Job.{JobModel}
 use Rattle.lc_level.specs.Level.{level}
@@ -29,7 +29,7 @@ use Rattle.lc_board.proofs.Weights.{each-map, each-append, flat_map-on, times, p
 use Rattle.lc_board.proofs.PostedNumbers.{start, top_posted, Known, known}
 use Rattle.lc_walk.proofs.Reach.{reach, reach_times}
 use Rattle.lc_walk.proofs.Levels.{apart_level, good_level, IsChild}
-use Rattle.lc_walk.proofs.Places.{segments-path_in}
+use Rattle.lc_walk.proofs.Places.{names_of_path-path_in}
 use Rattle.lc_walk.proofs.Core.{Grows, walk_is, Finds, finds, under_rows, PlacedUnder, under_places, same_head, same_tail}
 
 same_some : {A : Type 0} (x y : A) → Some x ≡ Some y → x ≡ y
@@ -196,7 +196,7 @@ module _ (ask : Asked) (full : Bool) (capacity workers : ℕ) (top : JobModel) (
     -- ---- a tree that answers each place once
 
     abbrev pub place_at : ℕ → List (List ℕ)
-    place_at i = segments (job_at i).path
+    place_at i = names_of_path (job_at i).path
 
     place_under : (i : ℕ) (cs : List (List ℕ × JobModel)) (ps : List (ℕ × JobModel)) → AllByRecursion (IsChild (job_at i).path) cs → jobs_of ps ≡ jobs_of cs →
         AllByRecursion (λ p. job_at p.0 ≡ p.1) ps → PlacedUnder place_at i cs ps
@@ -205,7 +205,7 @@ module _ (ask : Asked) (full : Bool) (capacity workers : ℕ) (top : JobModel) (
     place_under i (c ∷ cs) (p ∷ ps) a e k =
         let this : p.1 ≡ c.1 = same_head p.1 c.1 (jobs_of ps) (jobs_of cs) e in
         let rest : jobs_of ps ≡ jobs_of cs = same_tail p.1 c.1 (jobs_of ps) (jobs_of cs) e in (
-          ap (λ (j : JobModel). segments j.path) (k.0 ∙ this) ∙ ap segments a.0.1 ∙ segments-path_in (job_at i).path c.0 a.0.0,
+          ap (λ (j : JobModel). names_of_path j.path) (k.0 ∙ this) ∙ ap names_of_path a.0.1 ∙ names_of_path-path_in (job_at i).path c.0 a.0.0,
           place_under i cs ps a.1 rest k.1,
         )
 
@@ -214,7 +214,7 @@ module _ (ask : Asked) (full : Bool) (capacity workers : ℕ) (top : JobModel) (
 
     pub of_one_tree : (t : Tree) → top.path ≡ [] →
         ((i : ℕ) (e : Ended Row) → slice_get rows i ≡ Some e →
-        level ask.archive (job_of (row_of e)) (answers i) ≡ level ask.archive (job_of (row_of e)) (t (segments (job_of (row_of e)).path))) →
+        level ask.archive (job_of (row_of e)) (answers i) ≡ level ask.archive (job_of (row_of e)) (t (names_of_path (job_of (row_of e)).path))) →
         (depth : ℕ) → capacity ≤ depth → IsPermutation (walk_of ask.archive depth top t) (rows_found ask rows answers)
     of_one_tree t at_top agree depth deep =
         by_reach depth deep _
@@ -231,7 +231,7 @@ module _ (ask : Asked) (full : Bool) (capacity workers : ℕ) (top : JobModel) (
             let r = row_here rows i (inside i a) in
             let job : job_of (row_of r.row) ≡ job_at i = ap (job_or top) (sym r.is) in
             ap (λ p. level ask.archive (job_at i) (t p)) (nil_end (place_at i))
-            ∙ subst (λ j. level ask.archive j (t (segments j.path)) ≡ level ask.archive j (answers i)) job (sym (agree i r.row r.is))
+            ∙ subst (λ j. level ask.archive j (t (names_of_path j.path)) ≡ level ask.archive j (answers i)) job (sym (agree i r.row r.is))
 
         tree_grows : Grows (found_at ask.archive) (children_at ask.archive) h job_at answers (λ i p. t (place_at i ++ p))
         tree_grows = record {
@@ -241,7 +241,7 @@ module _ (ask : Asked) (full : Bool) (capacity workers : ℕ) (top : JobModel) (
         }
 
         whole_tree : (λ (p : List (List ℕ)). t (place_at 0 ++ p)) ≡ t
-        whole_tree = ap {B = List (List ℕ) → Answers} (λ (x : List (List ℕ)) (p : List (List ℕ)). t (x ++ p)) (ap (λ (j : JobModel). segments j.path) top_job ∙ ap segments at_top)
+        whole_tree = ap {B = List (List ℕ) → Answers} (λ (x : List (List ℕ)) (p : List (List ℕ)). t (x ++ p)) (ap (λ (j : JobModel). names_of_path j.path) top_job ∙ ap names_of_path at_top)
 
 pub core_law : CoreLaw
 core_law ask full capacity workers top h rows answers walked whole depth deep = of_rows ask full capacity workers top h rows answers walked whole depth deep

@@ -5,7 +5,7 @@ use Rattle.std.proofs.lemmas.Grind.{flat_map-append}
 use Rattle.std.proofs.lemmas.List.{append_cancel_left}
 use Rattle.lc_tree.specs.declared.fault_word.FaultWord.{FaultWord}
 use Rattle.lc_glob.specs.Path.{path_in}
-use Rattle.lc_walk.specs.Paths.{segments}
+use Rattle.lc_tree.specs.Paths.{names_of_path}
 use Rattle.lc_level.specs.Answers.{Item, file_item, directory_item, other_item, Tree, name_of}
 use Rattle.lc_level.specs.Job.{JobModel}
 use Rattle.lc_level.specs.RuleFiles.{extended}
@@ -16,7 +16,7 @@ use Rattle.lc_level.specs.Tidy.{IsTidy}
 use Rattle.lc_board.proofs.Weights.{each-map, each-append}
 use Rattle.lc_level.proofs.Tidy.{IsGoodName, Spread, bytes_other}
 use Rattle.lc_walk.proofs.Levels.{IsOwnPlace, own_level_keeps, tidy_items, IsChild, each_child}
-use Rattle.lc_walk.proofs.Places.{segments-path_in}
+use Rattle.lc_walk.proofs.Places.{names_of_path-path_in}
 
 -- no element stands twice
 abbrev pub Distinct : {A : Type 0} → List A → Type 0
@@ -25,10 +25,10 @@ Distinct (x ∷ xs) = AllByRecursion (λ y. x ≢ y) xs × Distinct xs
 
 -- a path at or below a directory, and at or below a name in it
 abbrev pub Below : List ℕ → List ℕ → Type 0
-Below d x = (rest : List (List ℕ)) × (segments x ≡ segments d ++ rest)
+Below d x = (rest : List (List ℕ)) × (names_of_path x ≡ names_of_path d ++ rest)
 
 abbrev pub Under : List ℕ → List ℕ → List ℕ → Type 0
-Under d n x = (rest : List (List ℕ)) × (segments x ≡ segments d ++ n ∷ rest)
+Under d n x = (rest : List (List ℕ)) × (names_of_path x ≡ names_of_path d ++ n ∷ rest)
 
 distinct-append : {A : Type 0} (xs ys : List A) → Distinct xs → Distinct ys → AllByRecursion (λ x. AllByRecursion (λ y. x ≢ y) ys) xs → Distinct (xs ++ ys)
 distinct-append [] ys a b c = b
@@ -39,7 +39,7 @@ head_is m n xs ys e = cc
 
 apart_under : (d m n x y : List ℕ) → Under d m x → Under d n y → m ≢ n → x ≢ y
 apart_under d m n x y u v a e =
-    a (head_is m n u.0 v.0 (append_cancel_left (segments d) (m ∷ u.0) (n ∷ v.0) (sym u.1 ∙ ap segments e ∙ v.1)))
+    a (head_is m n u.0 v.0 (append_cancel_left (names_of_path d) (m ∷ u.0) (n ∷ v.0) (sym u.1 ∙ ap names_of_path e ∙ v.1)))
 
 -- ---- groups of paths, each below its own name
 
@@ -218,7 +218,7 @@ module _ (archive : Bool) (pick : Found → List (List ℕ)) (keep : JobModel �
 
   own_are : (d : List ℕ) (ns : List (List ℕ)) → AllByRecursion IsGoodName ns → AllByRecursion (IsGroup d) (map (λ n. (n, path_in d n ∷ [])) ns)
   own_are d [] a = tt
-  own_are d (n ∷ ns) a = (((([], segments-path_in d n a.0), tt), (tt, tt)), own_are d ns a.1)
+  own_are d (n ∷ ns) a = (((([], names_of_path-path_in d n a.0), tt), (tt, tt)), own_are d ns a.1)
 
   children_are : (k : ℕ) (d : List ℕ) (t : Tree) (cs : List (List ℕ × JobModel)) → AllByRecursion (IsChild d) cs →
       ((j : JobModel) (u : List ℕ) → IsFine j.path (paths (walk k j (λ p. t (u ∷ p))))) →
@@ -228,7 +228,7 @@ module _ (archive : Bool) (pick : Found → List (List ℕ)) (keep : JobModel �
       let r = rec c.1 c.0 in (
         (
           each-map (Below c.1.path) (Under d c.0)
-              (λ x b. (b.0, b.1 ∙ ap (λ p. segments p ++ b.0) a.0.1 ∙ ap (λ l. l ++ b.0) (segments-path_in d c.0 a.0.0) ∙ append_assoc (segments d) (c.0 ∷ []) b.0)) (paths (walk k c.1 (λ p. t (c.0 ∷ p)))) r.0,
+              (λ x b. (b.0, b.1 ∙ ap (λ p. names_of_path p ++ b.0) a.0.1 ∙ ap (λ l. l ++ b.0) (names_of_path-path_in d c.0 a.0.0) ∙ append_assoc (names_of_path d) (c.0 ∷ []) b.0)) (paths (walk k c.1 (λ p. t (c.0 ∷ p)))) r.0,
           r.1,
         ),
         children_are k d t cs a.1 rec,
@@ -271,9 +271,9 @@ module _ (archive : Bool) (pick : Found → List (List ℕ)) (keep : JobModel �
       subst (IsFine j.path) (sym whole) (groups_below j.path (owns ++ kids) groups, groups_distinct j.path (owns ++ kids) groups distinct)
 
   own_below : (d p : List ℕ) → IsOwnPlace d p → Below d p
-  own_below d p (inl e) = ([], ap segments e ∙ sym (append-nil (segments d)))
-  own_below d p (inr (inl n)) = (n.0 ∷ [], ap segments n.2 ∙ segments-path_in d n.0 n.1)
-  own_below d p (inr (inr e)) = (segments p, ap (λ x. segments x ++ segments p) (sym e))
+  own_below d p (inl e) = ([], ap names_of_path e ∙ sym (append-nil (names_of_path d)))
+  own_below d p (inr (inl n)) = (n.0 ∷ [], ap names_of_path n.2 ∙ names_of_path-path_in d n.0 n.1)
+  own_below d p (inr (inr e)) = (names_of_path p, ap (λ x. names_of_path x ++ names_of_path p) (sym e))
 
   of_fault : (d p : List ℕ) (ps : List (List ℕ)) → IsOwnPlace d p → (ps ≡ []) ⊎ (ps ≡ p ∷ []) → IsFine d (ps ++ [])
   of_fault d p ps o (inl e) = subst (λ l. IsFine d (l ++ [])) (sym e) (tt, tt)

@@ -3,7 +3,7 @@ use Rattle.std.proofs.Common.{◌≡◌, ◌≢◌, ℕ, ◌==◌, Bool, true, f
 use Rattle.std.specs.List.{onto_first, AllByRecursion}
 use Rattle.std.proofs.lemmas.List.Splits.{slice_split-cons_yes, slice_split-cons_no}
 use Rattle.lc_glob.specs.Path.{path_in, segments_of}
-use Rattle.lc_walk.specs.Paths.{segments}
+use Rattle.lc_tree.specs.Paths.{names_of_path}
 use Rattle.lc_level.proofs.Tidy.{IsGoodName}
 
 -- bytes cut at each slash, byte by byte
@@ -49,12 +49,12 @@ cut-append : (xs ys : List ℕ) → cut (xs ++ 47 ∷ ys) ≡ cut xs ++ cut ys
 cut-append [] ys = refl
 cut-append (b ∷ bs) ys = join_cond (b == 47) b (cut bs) (cut ys) (cut (bs ++ 47 ∷ ys)) (cut-append bs ys) (cut_some bs)
 
-segments_name : (n : List ℕ) → IsGoodName n → segments n ≡ n ∷ []
-segments_name [] g = absurd (g.0 refl)
-segments_name (b ∷ bs) g = is_cut (b ∷ bs) ∙ cut_name (b ∷ bs) g.1
+names_of_name : (n : List ℕ) → IsGoodName n → names_of_path n ≡ n ∷ []
+names_of_name [] g = absurd (g.0 refl)
+names_of_name (b ∷ bs) g = is_cut (b ∷ bs) ∙ cut_name (b ∷ bs) g.1
 
-pub segments-path_in : (p n : List ℕ) → IsGoodName n → segments (path_in p n) ≡ segments p ++ n ∷ []
-segments-path_in [] n g = segments_name n g
-segments-path_in (b ∷ bs) n g =
+pub names_of_path-path_in : (p n : List ℕ) → IsGoodName n → names_of_path (path_in p n) ≡ names_of_path p ++ n ∷ []
+names_of_path-path_in [] n g = names_of_name n g
+names_of_path-path_in (b ∷ bs) n g =
     is_cut (b ∷ bs ++ 47 ∷ n) ∙ cut-append (b ∷ bs) n ∙ ap (λ v. cut (b ∷ bs) ++ v) (cut_name n g.1)
     ∙ ap (λ v. v ++ n ∷ []) (sym (is_cut (b ∷ bs)))

@@ -5,7 +5,7 @@ use Rattle.lc_board.specs.LegalHistory.{IsLegal}
 use Rattle.lc_board.specs.Part.{part}
 use Rattle.lc_board.specs.declared.event.Event.{Event}
 use Rattle.lc_board.specs.declared.answers.Ended.{Ended}
-use Rattle.lc_walk.specs.Paths.{segments}
+use Rattle.lc_tree.specs.Paths.{names_of_path}
 use Rattle.lc_level.specs.Answers.{Answers, no_answers, Tree}
 use Rattle.lc_level.specs.Job.{JobModel}
 use Rattle.lc_level.specs.Level.{level}
@@ -51,7 +51,7 @@ OneAnswerLaw =
     (h : List (Event JobModel Row)) (rows : List (Ended Row)) (answers : ℕ → Answers) →
     Walked ask full capacity workers top h rows answers → AreWhole rows → top.path ≡ [] →
     ((i : ℕ) (e : Ended Row) → slice_get rows i ≡ Some e →
-    level ask.archive (job_of (row_of e)) (answers i) ≡ level ask.archive (job_of (row_of e)) (t (segments (job_of (row_of e)).path))) →
+    level ask.archive (job_of (row_of e)) (answers i) ≡ level ask.archive (job_of (row_of e)) (t (names_of_path (job_of (row_of e)).path))) →
     (depth : ℕ) → capacity ≤ depth →
     IsPermutation (walk_of ask.archive depth top t) (rows_found ask rows answers)
 

@@ -9,7 +9,6 @@ pub mod Laws
 pub mod Marks
 pub mod NodeWalks
 pub mod Passes
-pub mod Paths
 pub mod Posting
 pub mod Report
 pub mod ReportLines

@@ -6,7 +6,7 @@ use Rattle.lc_board.specs.declared.answers.Ended.{Ended}
 use Rattle.lc_walk.specs.ReportLines.{file_paths, fault_paths}
 use Rattle.lc_tree.specs.ByteOrder.{AreInOrder}
 use Rattle.lc_walk.specs.declared.report.Report.{Report}
-use Rattle.lc_walk.specs.Paths.{segments}
+use Rattle.lc_tree.specs.Paths.{names_of_path}
 use Rattle.lc_level.specs.Answers.{Answers, Tree}
 use Rattle.lc_level.specs.Job.{JobModel}
 use Rattle.lc_level.specs.Level.{level}
@@ -24,7 +24,7 @@ use Rattle.lc_walk.specs.declared.walk_fault.WalkFault.TheVariants.{Memory, TooM
 -- a tree that for each path answers as one tree does, as far as a level tells
 abbrev pub IsOneAnswer : Bool → (List ℕ → Answers → Type 0) → Tree → Type 0
 IsOneAnswer archive MayAnswer t =
-    (j : JobModel) (a : Answers) → MayAnswer j.path a → level archive j a ≡ level archive j (t (segments j.path))
+    (j : JobModel) (a : Answers) → MayAnswer j.path a → level archive j a ≡ level archive j (t (names_of_path j.path))
 
 module _ (MayAnswer : List ℕ → Answers → Type 0) (ask : Asked) (capacity workers : ℕ) (top : JobModel) where
   -- lawful rows in place for a legal history that is over, with the top job at 0, whose answers the tree may give
