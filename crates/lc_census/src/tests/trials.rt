@@ -1,4 +1,4 @@
-//! What the readers for tests give, and the failures that no clause tells apart from a reader that is always at its end.
+//! What the readers for tests give, read by read.
 
 use crate::trials::{Bytewise, Counted, Endless, Failing};
 use crate::{Failed, Source};
