@@ -3,7 +3,7 @@ mod Blank
 mod Bools
 mod Counts
 pub mod Exact
-mod OneCutting
+pub mod OneCutting
 mod Rest
 pub mod Runs
 mod Small

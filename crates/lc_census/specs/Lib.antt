@@ -8,4 +8,5 @@ pub mod Limits
 pub mod Reads
 pub mod Scan
 pub mod StdReads
+pub mod TrialReads
 pub mod Whole

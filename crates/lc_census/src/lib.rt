@@ -7,6 +7,7 @@
 //! - `whole`: the bytes of a reader, up to a limit
 //! - `scan`, `plain`, `lanes`: the two bodies of the census, a byte at a time and by vectors, under one contract; they
 //!   are public for benchmarks alone
+//! - `trials`: readers for tests of any crate
 //! - `laws`: what is true of the definitions that the contracts cite
 #![tactic(auto)]
 
@@ -19,6 +20,7 @@ mod scan;
 mod source;
 mod std_source;
 mod totals;
+pub mod trials;
 mod whole;
 
 pub use census::Census;
@@ -28,7 +30,7 @@ pub use laws::{a_slice_gives_its_bytes, bytes_have_one_cutting, the_limits_are_t
 pub use plain::scan_plain;
 pub use scan::Scan;
 pub use source::{Failed, Source};
-pub use std_source::StdSource;
+pub use std_source::{MAX_TRIES, StdSource};
 pub use totals::{Count, Eol};
 pub use whole::{WholeFault, read_whole};
 

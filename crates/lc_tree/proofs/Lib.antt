@@ -2,4 +2,5 @@ pub mod Contents
 pub mod Entries
 pub mod OneAnswer
 pub mod OneOrder
+mod Readings
 pub mod Sorting

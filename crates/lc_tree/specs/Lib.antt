@@ -1,11 +1,12 @@
 pub mod ByteOrder
+pub mod FailingTrees
 pub mod Kinds
 pub mod Listing
 pub mod MemTrees
 pub mod Nodes
 pub mod OneAnswer
+pub mod Paths
 pub mod SomeAnswers
-pub mod SomeCuttings
 pub mod SysTrees
 pub mod TreeFaults
 pub mod Trees

@@ -1,8 +1,8 @@
 -- The parts of a tree of memory, and which of them stands at a path.
 use Rattle.std.specs.Prelude.{ℕ, List, [], ◌∷◌, Option, Some, None, Vec, find, option_map, option_and_then, bytes_eq}
 use Rattle.std.specs.declared.alloc.Global.{Global}
-use Rattle.lc_glob.specs.Path.{segments_of}
 use Rattle.lc_tree.specs.Listing.{EntryModel}
+use Rattle.lc_tree.specs.Paths.{names_of_path}
 use Rattle.lc_tree.specs.declared.entry.Kind.{Kind}
 use Rattle.lc_tree.specs.declared.entry.Kind.TheVariants.{File, Dir, Other}
 use Rattle.lc_tree.specs.declared.node.Node.{Node, out-Node}
@@ -46,11 +46,6 @@ child_of name node = child_within name (out-Node node)
 abbrev pub node_below : List (List ℕ) → Node → Option Node
 node_below [] node = Some node
 node_below (name ∷ names) node = option_and_then (λ (child : Node). node_below names child) (child_of name node)
-
--- the names of a path; the empty path, that of the top, has none
-abbrev pub names_of_path : List ℕ → List (List ℕ)
-names_of_path [] = []
-names_of_path (b ∷ bs) = segments_of (b ∷ bs)
 
 -- the node at a path
 abbrev pub node_at : Node → List ℕ → Option Node

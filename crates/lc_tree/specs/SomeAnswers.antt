@@ -4,6 +4,7 @@ use Rattle.std.specs.List.{concat}
 use Rattle.std.proofs.Math.Nat.{le-pred_of_lt}
 use Rattle.std.proofs.lemmas.Bool.{cases_lt}
 use Rattle.std.proofs.lemmas.List.{append-nil, take-append-drop, length-take-le}
+use Rattle.lc_census.proofs.OneCutting.{cut, cut_is}
 use Rattle.lc_census.specs.Census.{IsCensus, count_of}
 use Rattle.lc_census.specs.Reads.{at_neither}
 use Rattle.lc_census.specs.declared.totals.Count.{Count}
@@ -11,7 +12,6 @@ use Rattle.lc_tree.specs.MemTrees.{Content, AreSome, GivesContent}
 use Rattle.lc_tree.specs.Trees.{MayCount, MayReadRules}
 use Rattle.lc_tree.specs.declared.fault_word.FaultWord.{FaultWord}
 use Rattle.lc_tree.specs.declared.fault_word.FaultWord.TheVariants.{Read, Long}
-use Rattle.lc_tree.specs.SomeCuttings.{some_cutting}
 
 -- the bytes as one piece, or as none
 abbrev one_piece : List ℕ → List (List ℕ)
@@ -40,11 +40,9 @@ some_count c = by_end c.bytes c.fails
     by_end : (bytes : List ℕ) (fails : Bool) → (r : Result Count FaultWord) × MayCount (GivesContent (content bytes fails)) r
     by_end bytes true = (Err Read, (one_piece bytes, (is_some bytes, joined bytes, refl)))
     by_end bytes false =
-        let cutting = some_cutting bytes in
-        let census : IsCensus bytes (count_of bytes cutting.0) = (cutting.0, cutting.1, refl) in (
-          Ok (count_of bytes cutting.0),
-          (one_piece bytes, (is_some bytes, joined bytes, refl), subst (λ (l : List ℕ). IsCensus l (count_of bytes cutting.0)) (sym (joined bytes)) census),
-        )
+        let count = count_of bytes (cut bytes) in
+        let census : IsCensus bytes count = (cut bytes, cut_is bytes, refl) in
+        (Ok count, (one_piece bytes, (is_some bytes, joined bytes, refl), subst (λ (l : List ℕ). IsCensus l count) (sym (joined bytes)) census))
 
 -- the first bytes of a longer file
 first_bytes : (bytes : List ℕ) (fails : Bool) (n : ℕ) → n ≤ length bytes

@@ -3,8 +3,9 @@
 //! - `tree`: the trait `Tree`
 //! - `entry`, `listing`: the entries of one directory, in the order of their names
 //! - `read_fault`: why a tree did not answer; `fault_word`: how a report tells of it
-//! - `sys_tree`, `sys_entries`: a directory of the system as a tree
+//! - `sys_tree`, `sys_entries`: a directory of the system as a tree; `system_call`: calls that signals interrupt
 //! - `node`, `mem_tree`, `mem_file`: a tree of memory
+//! - `sketch`, `trials`: trees for tests of any crate
 //! - `laws`: what is true of the definitions that the contracts cite
 #![tactic(auto)]
 
@@ -19,7 +20,9 @@ mod read_fault;
 mod sketch;
 mod sys_entries;
 mod sys_tree;
+mod system_call;
 mod tree;
+pub mod trials;
 
 pub use entry::{Entry, Kind};
 pub use fault_word::FaultWord;

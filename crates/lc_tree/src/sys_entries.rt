@@ -3,10 +3,12 @@ ghost use Rattle.std.specs.Prelude.{◌≡◌, ◌↔◌, IsTrue, string_bytes};
 ghost use Rattle.std.specs.Fs.{file_type, IsFile, IsDir};
 ghost use Rattle.lc_tree.specs.Kinds.{is_file, is_dir};
 
+use crate::system_call::uninterrupted;
 use crate::{Entry, Kind, ReadFault};
+use lc_census::{Failed, Source, StdSource};
 use std::alloc::Global;
 use std::fs::Metadata;
-use std::io::{ErrorKind, Read};
+use std::io::ErrorKind;
 use std::rt::Files;
 
 /// The length of the buffer of one read of a directory, which has room for the names of a few hundred entries.
@@ -18,9 +20,10 @@ pub(crate) fn entries_of<R: Files>(
     alloc: Global,
     path: String,
 ) -> Result<Vec<Entry>, ReadFault> {
-    let Ok(mut dir) = files.open_dir(path.as_str()) else {
+    let Ok(dir) = uninterrupted(|| files.open_dir(path.as_str())) else {
         return Err(ReadFault::Failed);
     };
+    let mut dir = StdSource(dir);
     let mut path = path;
     if !path.as_str().ends_with('/') {
         path.push('/')?;
@@ -34,7 +37,7 @@ pub(crate) fn entries_of<R: Files>(
 fn read_names<R: Files>(
     files: &R,
     alloc: Global,
-    dir: &mut R::Dir,
+    dir: &mut StdSource<R::Dir>,
     path: &mut String,
     entries: &mut Vec<Entry>,
 ) -> Result<(), ReadFault> {
@@ -43,7 +46,7 @@ fn read_names<R: Files>(
         match dir.read(&mut names) {
             Ok(0) => return Ok(()),
             Ok(len) => add_entries(files, alloc, &names[..len], path, entries)?,
-            Err(_) => return Err(ReadFault::Failed),
+            Err(Failed) => return Err(ReadFault::Failed),
         }
     }
     Err(ReadFault::Failed)
@@ -96,7 +99,7 @@ fn kind_of<R: Files>(files: &R, path: &mut String, name: &str) -> Result<Option<
 
 // What stands at a path.
 fn kind_at<R: Files>(files: &R, path: &str) -> Result<Option<Kind>, ReadFault> {
-    match files.symlink_metadata(path) {
+    match uninterrupted(|| files.symlink_metadata(path)) {
         Ok(found) => Ok(Some(kind_from(&found))),
         Err(error) if error.kind() == ErrorKind::NotFound => Ok(None),
         Err(_) => Err(ReadFault::Failed),

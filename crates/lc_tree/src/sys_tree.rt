@@ -3,6 +3,7 @@ ghost use Rattle.std.specs.Prelude.{◌≡◌, ◌++◌, IfOk, MatchResult, stri
 ghost use Rattle.lc_tree.specs.SysTrees.{top_text, IsFaultOfOpening};
 
 use crate::sys_entries::entries_of;
+use crate::system_call::uninterrupted;
 use crate::{Listing, ReadFault, Tree};
 use lc_census::StdSource;
 use std::alloc::{AllocError, Global};
@@ -17,7 +18,8 @@ const NAME_ROOM: usize = 256;
 ///
 /// Symbolic links below it, and all that is neither a regular file nor a directory, are `Kind::Other`. What the system
 /// does not give is `ReadFault::Failed`, and a name that is not UTF-8 makes its directory `ReadFault::Unnamed`. An entry
-/// that is removed while its directory is listed is left out.
+/// that is removed while its directory is listed is left out. A call that a signal interrupts is tried again, up to
+/// `MAX_TRIES` times in all.
 ///
 /// Between the look at an entry and its opening the file may be replaced: then what stands there is opened, also through
 /// a symbolic link, and a named pipe waits for its writer.
@@ -97,10 +99,12 @@ where
 
     fn open_file(&self, alloc: Global, path: &[u8]) -> Result<StdSource<R::File>, ReadFault> {
         let text = self.full_path(alloc, path)?;
-        match OpenOptions::new()
-            .read(true)
-            .open(self.files, text.as_str())
-        {
+        let opened = uninterrupted(|| {
+            OpenOptions::new()
+                .read(true)
+                .open(self.files, text.as_str())
+        });
+        match opened {
             Ok(file) => Ok(StdSource(file)),
             Err(_) => Err(ReadFault::Failed),
         }

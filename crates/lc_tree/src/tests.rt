@@ -2,6 +2,8 @@
 //! succeed.
 
 mod given_names;
+mod interrupted_calls;
 mod listings;
 mod mem_trees;
 mod real_folders;
+mod trial_trees;

@@ -1,4 +1,4 @@
-use crate::tests::byte_by_byte::{ByteByByte, Last};
+use crate::trials::{Bytewise, Counted, Endless, Failing};
 use crate::{CensusFault, Count, Eol, StdSource, count, count_in, count_within};
 use std::alloc::AllocError;
 use std::io::{Error, ErrorKind, Read, Result as IoResult};
@@ -33,7 +33,7 @@ fn reads_up_to_the_end_within_its_turns(rt: HostRuntime) -> Result<(), Fail> {
         (2, Err(CensusFault::Endless), 2),
         (0, Err(CensusFault::Endless), 0),
     ] {
-        let mut reader = ByteByByte::new(b"ab", Last::End);
+        let mut reader = Counted::new(Bytewise(b"ab".as_slice()));
         let found = count_within(rt.alloc(), &mut reader, turns);
         assert_eq!(&rt; answered(found, reader.reads)?, want, "{turns} turns");
         assert_eq!(&rt; reader.reads, reads, "{turns} turns");
@@ -44,14 +44,13 @@ fn reads_up_to_the_end_within_its_turns(rt: HostRuntime) -> Result<(), Fail> {
 
 #[test]
 fn an_endless_reader_is_read_1000_times(rt: HostRuntime) -> Result<(), Fail> {
-    let mut reader = ByteByByte::new(b"a\r", Last::More);
+    let mut reader = Counted::new(Bytewise(Endless));
     let found = count_within(rt.alloc(), &mut reader, 1_000);
     assert_eq!(&rt; answered(found, reader.reads)?, Err(CensusFault::Endless));
     assert_eq!(&rt; reader.reads, 1_000);
     Ok(())
 }
 
-// The reads after the one that fails would meet the end.
 #[test]
 fn a_failed_read_is_the_last(rt: HostRuntime) -> Result<(), Fail> {
     for (name, bytes, reads) in [
@@ -61,11 +60,11 @@ fn a_failed_read_is_the_last(rt: HostRuntime) -> Result<(), Fail> {
         ("after a CR", b"a\r".as_slice(), 3),
     ] {
         let mut buffer = [0u8; 16];
-        let mut reader = ByteByByte::new(bytes, Last::Failure);
+        let mut reader = Counted::new(Bytewise(Failing(bytes)));
         let found = count_in(&mut buffer, &mut reader, 1_000);
         assert_eq!(&rt; found, Err(CensusFault::Read), "{name}");
         assert_eq!(&rt; reader.reads, reads, "{name}");
-        let mut reader = ByteByByte::new(bytes, Last::Failure);
+        let mut reader = Counted::new(Bytewise(Failing(bytes)));
         let found = count(rt.alloc(), &mut reader);
         assert_eq!(&rt;
             answered(found, reader.reads)?,
@@ -102,32 +101,54 @@ fn counts_a_slice_and_a_reader_of_std(rt: HostRuntime) -> Result<(), Fail> {
     Ok(())
 }
 
-/// Is interrupted at its first read, as a system call may be. A second would meet the end.
+/// A reader of std that gives its bytes one a read, and errors of one kind at all reads but each so many-th.
 #[derive(Drop)]
-struct Interrupted {
+struct Failings<'a> {
+    left: &'a [u8],
+    kind: ErrorKind,
+    period: u64,
     reads: u64,
 }
 
-impl Read for Interrupted {
-    fn read(&mut self, _buffer: &mut [u8]) -> IoResult<usize> {
+impl Read for Failings<'_> {
+    fn read(&mut self, buffer: &mut [u8]) -> IoResult<usize> {
         self.reads = self.reads.saturating_add(1);
-        if self.reads == 1 {
-            Err(Error::from(ErrorKind::Interrupted))
-        } else {
-            Ok(0)
+        if self.reads % self.period.max(1) != 0 {
+            return Err(Error::from(self.kind));
         }
+        let Some((first, others)) = self.left.split_first() else {
+            return Ok(0);
+        };
+        let Some(place) = buffer.first_mut() else {
+            return Ok(0);
+        };
+        *place = *first;
+        self.left = others;
+        Ok(1)
     }
 }
 
 #[test]
-fn each_read_is_one_of_the_reader_of_std(rt: HostRuntime) {
+fn only_interrupted_reads_are_tried_again(rt: HostRuntime) {
+    let whole = Ok(count_of(2, 0, 4, Eol::CrLf));
+    let failed = Err(CensusFault::Read);
     let mut buffer = [0u8; 16];
-    let mut reader = StdSource(Interrupted { reads: 0 });
-    for (want, reads) in [
-        (Err(CensusFault::Read), 1),
-        (Ok(count_of(0, 0, 0, Eol::NoEnd)), 2),
+    for (kind, period, want, reads) in [
+        (ErrorKind::Interrupted, 1, whole, 5),
+        (ErrorKind::Interrupted, 2, whole, 10),
+        (ErrorKind::Interrupted, 1_000, whole, 5_000),
+        (ErrorKind::Interrupted, 65_536, whole, 327_680),
+        (ErrorKind::Interrupted, 65_537, failed, 65_536),
+        (ErrorKind::WouldBlock, 2, failed, 1),
+        (ErrorKind::Other, 2, failed, 1),
     ] {
-        assert_eq!(&rt; count_in(&mut buffer, &mut reader, 1_000), want);
-        assert_eq!(&rt; reader.0.reads, reads);
+        let mut reader = StdSource(Failings {
+            left: b"a\r\nb",
+            kind,
+            period,
+            reads: 0,
+        });
+        assert_eq!(&rt; count_in(&mut buffer, &mut reader, 1_000), want, "{period}");
+        assert_eq!(&rt; reader.0.reads, reads, "{period}");
     }
 }

@@ -1,13 +1,13 @@
-use crate::tests::byte_by_byte::{ByteByByte, Last};
+use crate::trials::{Bytewise, Endless, Failing};
 use crate::{WholeFault, new_buffer, read_whole};
 use std::alloc::AllocError;
+use std::process::Abort;
 use std::test::Fail;
 
-/// What is shown, the reader's bytes and what comes after them, the limit, the answer, and the bytes that are left.
+/// What is shown, the reader's bytes, the limit, the answer, and the bytes that are left.
 type Case = (
     &'static str,
     &'static [u8],
-    Last,
     u16,
     Result<(), WholeFault>,
     &'static [u8],
@@ -17,33 +17,23 @@ const TOO_LONG: Result<(), WholeFault> = Err(WholeFault::TooLong);
 
 const FAILED: Result<(), WholeFault> = Err(WholeFault::Read);
 
-const CASES: &[Case] = &[
-    ("no byte", b"", Last::End, 3, Ok(()), b""),
-    ("some bytes", b"ab", Last::End, 3, Ok(()), b"ab"),
-    ("at the limit", b"abc", Last::End, 3, Ok(()), b"abc"),
-    ("one byte past it", b"abcd", Last::End, 3, TOO_LONG, b"abcd"),
-    ("far past it", b"abcdefg", Last::End, 3, TOO_LONG, b"abcd"),
-    ("without an end", b"", Last::More, 3, TOO_LONG, b"xxxx"),
-    ("none allowed, none there", b"", Last::End, 0, Ok(()), b""),
-    ("none allowed", b"ab", Last::End, 0, TOO_LONG, b"a"),
-    (
-        "a first read that fails",
-        b"",
-        Last::Failure,
-        3,
-        FAILED,
-        b"",
-    ),
-    ("a second", b"a", Last::Failure, 3, FAILED, b"a"),
-    (
-        "a failure at the limit",
-        b"abc",
-        Last::Failure,
-        3,
-        FAILED,
-        b"abc",
-    ),
-    ("one past it", b"abcd", Last::Failure, 3, TOO_LONG, b"abcd"),
+// Readers that come to their end.
+const ENDING: &[Case] = &[
+    ("no byte", b"", 3, Ok(()), b""),
+    ("some bytes", b"ab", 3, Ok(()), b"ab"),
+    ("at the limit", b"abc", 3, Ok(()), b"abc"),
+    ("one byte past it", b"abcd", 3, TOO_LONG, b"abcd"),
+    ("far past it", b"abcdefg", 3, TOO_LONG, b"abcd"),
+    ("none allowed, none there", b"", 0, Ok(()), b""),
+    ("none allowed", b"ab", 0, TOO_LONG, b"a"),
+];
+
+// Readers that fail in place of their end.
+const FAILING: &[Case] = &[
+    ("a first read that fails", b"", 3, FAILED, b""),
+    ("a second", b"a", 3, FAILED, b"a"),
+    ("a failure at the limit", b"abc", 3, FAILED, b"abc"),
+    ("one past it", b"abcd", 3, TOO_LONG, b"abcd"),
 ];
 
 // One desk for all.
@@ -51,16 +41,35 @@ const CASES: &[Case] = &[
 fn reads_whole_up_to_the_limit(rt: HostRuntime) -> Result<(), Fail> {
     let mut buffer = [0u8; 3];
     let mut bytes = Vec::new(rt.alloc());
-    for (name, given, last, limit, want, left) in CASES {
-        let mut reader = ByteByByte::new(given, *last);
-        let limit = usize::from(*limit);
-        let found = read_whole(&mut buffer, &mut bytes, &mut reader, limit);
-        if found == Err(WholeFault::Memory) {
-            return Err(AllocError.into());
-        }
-        assert_eq!(&rt; found, *want, "{name}");
-        assert_eq!(&rt; bytes.as_slice(), *left, "{name}");
+    for (name, given, limit, want, left) in ENDING {
+        let mut reader = Bytewise(*given);
+        let found = read_whole(&mut buffer, &mut bytes, &mut reader, usize::from(*limit));
+        check_whole(&rt, name, found, *want, &bytes, left)?;
     }
+    for (name, given, limit, want, left) in FAILING {
+        let mut reader = Bytewise(Failing(given));
+        let found = read_whole(&mut buffer, &mut bytes, &mut reader, usize::from(*limit));
+        check_whole(&rt, name, found, *want, &bytes, left)?;
+    }
+    let mut reader = Bytewise(Endless);
+    let found = read_whole(&mut buffer, &mut bytes, &mut reader, 3);
+    check_whole(&rt, "without an end", found, TOO_LONG, &bytes, b"xxxx")?;
+    Ok(())
+}
+
+fn check_whole(
+    rt: &impl Abort,
+    name: &str,
+    found: Result<(), WholeFault>,
+    want: Result<(), WholeFault>,
+    bytes: &[u8],
+    left: &[u8],
+) -> Result<(), AllocError> {
+    if found == Err(WholeFault::Memory) {
+        return Err(AllocError);
+    }
+    assert_eq!(rt; found, want, "{name}");
+    assert_eq!(rt; bytes, left, "{name}");
     Ok(())
 }
 

@@ -9,7 +9,7 @@ use std::test::Fail;
 use std::{fs, io};
 
 /// A folder with a file, a directory with a file, a link to each, and one to nothing.
-fn make_folder(rt: &HostRuntime, dir: &str) -> io::Result<()> {
+pub(super) fn make_folder(rt: &HostRuntime, dir: &str) -> io::Result<()> {
     let alloc = rt.alloc();
     let _ = fs::remove_dir_all(rt, dir);
     fs::create_dir_all(rt, format!(in alloc; "{dir}/b")?.as_str())?;
@@ -25,7 +25,7 @@ fn make_folder(rt: &HostRuntime, dir: &str) -> io::Result<()> {
     Ok(())
 }
 
-fn check_listing<T: Tree>(
+pub(super) fn check_listing<T: Tree>(
     rt: &impl Abort,
     alloc: Global,
     tree: &T,
@@ -43,7 +43,7 @@ fn check_listing<T: Tree>(
     Ok(())
 }
 
-fn check_not_listed<T: Tree>(
+pub(super) fn check_not_listed<T: Tree>(
     rt: &impl Abort,
     alloc: Global,
     tree: &T,
@@ -58,7 +58,7 @@ fn check_not_listed<T: Tree>(
 }
 
 /// The first bytes that the file at a path gives, or none where it is not opened.
-fn check_file<T: Tree>(
+pub(super) fn check_file<T: Tree>(
     rt: &impl Abort,
     alloc: Global,
     tree: &T,

@@ -1,0 +1,21 @@
+-- What another tree may answer once one of its calls may fail.
+use Rattle.std.specs.Prelude.{◌≡◌, ℕ, ◌⊎◌, [], ◌∷◌, Err}
+use Rattle.lc_census.specs.Reads.{Answer, gave, failed, at_end, at_failure, at_neither}
+use Rattle.lc_tree.specs.Trees.{Listings, Contents}
+use Rattle.lc_tree.specs.declared.fault_word.FaultWord.TheVariants.{Read}
+
+-- a read answers as the file does, or fails and leaves it as it was
+abbrev pub MayFail : {F : Type 0} → (F → ℕ → Answer → F → Type 0) → F → ℕ → Answer → F → Type 0
+MayFail may_give old room (gave piece) new = may_give old room (gave piece) new
+MayFail may_give old room failed new = may_give old room failed new ⊎ (new ≡ old)
+
+-- a listing is the tree's, or can't be read
+abbrev pub ListsOrFails : Listings → Listings
+ListsOrFails lists answer = lists answer ⊎ (answer ≡ Err Read)
+
+-- the reads of a file give what the tree's do, or fail at once or after some of its pieces
+abbrev pub GivesOrFails : Contents → Contents
+GivesOrFails gives pieces at_end = gives pieces at_end
+GivesOrFails gives pieces at_neither = gives pieces at_neither
+GivesOrFails gives [] at_failure = Unit {0}
+GivesOrFails gives (piece ∷ pieces) at_failure = gives (piece ∷ pieces) at_failure ⊎ gives (piece ∷ pieces) at_neither

@@ -1,0 +1,11 @@
+//! Trees for tests, of any crate: each is over another tree, and says by its contract what of it may differ.
+
+mod bytewise_tree;
+mod failing_call;
+mod failing_file;
+mod failing_tree;
+
+pub use bytewise_tree::BytewiseTree;
+pub use failing_call::FailingCall;
+pub use failing_file::FailingFile;
+pub use failing_tree::FailingTree;

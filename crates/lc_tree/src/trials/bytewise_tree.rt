@@ -1,0 +1,38 @@
+//! A tree whose files give a byte a read.
+ghost use Rattle.lc_tree.specs.Trees.{Opens};
+
+use crate::{Listing, ReadFault, Tree};
+use lc_census::trials::Bytewise;
+use std::alloc::Global;
+
+/// Another tree, whose files give at most one byte a read.
+///
+/// ```
+/// let node = sketch.node(rt.alloc())?;
+/// let tree = BytewiseTree(MemTree::new(&node));
+/// ```
+#[derive(Debug, Drop)]
+pub struct BytewiseTree<T>(pub T);
+
+impl<T: Tree> Tree for BytewiseTree<T> {
+    type File = Bytewise<T::File>;
+
+    ghost lists = { λ t path. T.lists t.0 path };
+
+    ghost gives = { λ t path. T.gives t.0 path };
+
+    fn list(&self, alloc: Global, path: &[u8]) -> Result<Listing, ReadFault> {
+        self.0.list(alloc, path)
+    }
+
+    fn open_file(&self, alloc: Global, path: &[u8]) -> Result<Bytewise<T::File>, ReadFault> {
+        match self.0.open_file(alloc, path) {
+            Ok(file) => Ok(Bytewise(file)),
+            Err(fault) => Err(fault),
+        }
+    }
+
+    ghost some_count = { λ t path. T.some_count t.0 path };
+
+    ghost some_rules = { λ t path. T.some_rules t.0 path };
+}

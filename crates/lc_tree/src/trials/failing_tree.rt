@@ -1,0 +1,59 @@
+//! A tree of which one call fails.
+
+use super::failing_call::FailingCall;
+use super::failing_file::FailingFile;
+use crate::{Listing, ReadFault, Tree};
+use std::alloc::Global;
+
+/// Another tree, of which one call fails: a listing, an opening of a file or a read of one, all counted together.
+///
+/// A listing and an opening then answer `ReadFault::Failed`.
+///
+/// ```
+/// let call = FailingCall::new(2); // the third
+/// let tree = FailingTree { tree: &tree, call: &call };
+/// ```
+#[derive(Drop)]
+pub struct FailingTree<'a, T> {
+    /// The tree itself.
+    pub tree: &'a T,
+    /// Which call fails.
+    pub call: &'a FailingCall,
+}
+
+impl<'a, T: Tree> Tree for FailingTree<'a, T> {
+    type File = FailingFile<'a, T::File>;
+
+    ghost use Rattle.std.specs.Prelude.{[], Err};
+    ghost use Rattle.std.proofs.Common.{lit≤};
+    ghost use Rattle.lc_tree.specs.FailingTrees.{ListsOrFails, GivesOrFails};
+    ghost use Rattle.lc_tree.specs.declared.fault_word.FaultWord.TheVariants.{Read};
+
+    ghost lists = { λ t path. ListsOrFails (T.lists t.tree.now path) };
+
+    ghost gives = { λ t path. GivesOrFails (T.gives t.tree.now path) };
+
+    fn list(&self, alloc: Global, path: &[u8]) -> Result<Listing, ReadFault> {
+        if self.call.fails() {
+            return Err(ReadFault::Failed);
+        }
+        self.tree.list(alloc, path)
+    }
+
+    fn open_file(&self, alloc: Global, path: &[u8]) -> Result<FailingFile<'a, T::File>, ReadFault> {
+        if self.call.fails() {
+            return Err(ReadFault::Failed);
+        }
+        match self.tree.open_file(alloc, path) {
+            Ok(file) => Ok(FailingFile {
+                file,
+                call: self.call,
+            }),
+            Err(fault) => Err(fault),
+        }
+    }
+
+    ghost some_count = { λ t path. (Err Read, ([], tt)) };
+
+    ghost some_rules = { λ t path. (Err Read, ([], tt, lit≤ tt)) };
+}
