@@ -2,6 +2,7 @@
 
 mod boards;
 mod drawn;
+mod failures;
 mod gate;
 mod keys;
 mod limits;

@@ -9,7 +9,7 @@ fn is_same_row(row: &TallyRow, other: &TallyRow) -> bool {
     row.ext == other.ext && row.text == other.text && row.eol == other.eol && sums && lines
 }
 
-fn is_same_file(file: &FileLine, other: &FileLine) -> bool {
+pub(super) fn is_same_file(file: &FileLine, other: &FileLine) -> bool {
     file.path == other.path && file.text == other.text && file.count == other.count
 }
 
