@@ -1,5 +1,5 @@
-use Rattle.std.proofs.Common.{◌≡◌, ℕ, ◌≤◌, false, List, Option, Some, sym, subst}
-use Rattle.lc_board.specs.ClosedBoard.{Promises, Settled, RefusesClose, Unfinished, Differs, Finished}
+use Rattle.std.proofs.Common.{ℕ, ◌≤◌, false, List}
+use Rattle.lc_board.specs.ClosedBoard.{Promises, Settled, RefusesClose}
 use Rattle.lc_board.specs.Pass.{Pass}
 use Rattle.lc_board.specs.declared.answers.CloseFault.{CloseFault}
 use Rattle.lc_board.specs.declared.answers.CloseFault.TheVariants as close
