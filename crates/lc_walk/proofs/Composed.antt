@@ -1,9 +1,10 @@
 -- From a closed board, and from what its workers left, to a closed walk and its report.
-use Rattle.std.proofs.Common.{◌≡◌, ℕ, zero, suc, ◌<◌, ◌≤◌, ◌||◌, Bool, true, false, cond, List, [], ◌∷◌, length, slice_get, map, refl, sym, ◌∙◌, ap, arith, subst, Option, Some, None, inl, inr, IsPermutation, append-nil}
-use Rattle.std.specs.List.{flat_map, list_any, AllByRecursion}
-use Rattle.std.proofs.lemmas.List.Sorted.{IsPermutation-sym, IsPermutation-trans}
-use Rattle.lc_board.specs.Part.{worker_of, part}
-use Rattle.lc_board.specs.RowsInPlace.{row_given, InPlace}
+use Rattle.std.proofs.Common.{◌≡◌, ℕ, zero, suc, ◌<◌, ◌≤◌, ◌||◌, Bool, true, false, cond, List, [], ◌∷◌, ◌++◌, length, slice_get, map, refl, sym, ◌∙◌, ap, arith, subst, Option, Some, None, inl, inr, IsPermutation}
+use Rattle.std.specs.List.{flat_map, list_any, range_with_len, enumerate_from}
+use Rattle.std.proofs.lemmas.List.Sorted.{IsPermutation-sym}
+use Rattle.lc_board.specs.Ends.{Saying, RowsHold, ender, ends}
+use Rattle.lc_board.specs.Part.{part}
+use Rattle.lc_board.specs.RowsInPlace.{InPlace}
 use Rattle.lc_board.specs.Pass.{Pass}
 use Rattle.lc_board.specs.ClosedBoard.{Promises, Settled}
 use Rattle.lc_board.specs.declared.event.Event.{Event}
@@ -26,10 +27,9 @@ use Rattle.lc_walk.specs.TreeOfRows.{numbers_below, child_number, tree_from, chi
 use Rattle.lc_walk.specs.Walked.{Walked, AreWhole, row_found, rows_found}
 use Rattle.lc_walk.specs.WalkReport.{line_of, tallied_in, file_in, fault_in, directory_in, tallied_of, files_of, faults_of, directories_of, IsReportOf}
 use Rattle.lc_walk.specs.Assembled.{directories_by_row, files_by_row, faults_by_row, directories_in_rows, files_in_rows, faults_in_rows}
-use Rattle.lc_walk.specs.Worked.{MayStand, AreLawful, returned_files, files_given, files_of_pass, files_of_passes}
+use Rattle.lc_walk.specs.Worked.{MayStand, IsLawfulEnd, AreLawful, returned_files, files_given, files_of_pass, files_of_passes}
 use Rattle.lc_walk.proofs.Broken.{NoneFor, unbroken}
 use Rattle.lc_walk.proofs.Fuller.{fuller_says}
-use Rattle.lc_walk.proofs.Given.{contributes, each_part, Chosen, choose}
 use Rattle.lc_walk.specs.WalkAnswers.{SomeRows, IsWalkReport}
 use Rattle.std.specs.List.{IsDistinct}
 use Rattle.std.specs.List.Sorted.{IsStrictlySortedBy}
@@ -41,16 +41,12 @@ use Rattle.lc_walk.proofs.PathsApart.{paths_once_law, file_lines_apart, fault_li
 use Rattle.lc_level.specs.declared.cause.Cause.TheVariants.{Memory}
 use Rattle.lc_walk.specs.declared.row.Row.{Row}
 use Rattle.lc_walk.specs.declared.row.Row.TheVariants.{Listed, Faulted, Broken}
-use Rattle.lc_board.proofs.Weights.{each-map, flat_map-on, permuted_lists}
+use Rattle.lc_board.proofs.EndsInPlace.{rows_hold}
+use Rattle.lc_board.proofs.RowsOfWorkers.{rows_are_ends}
+use Rattle.lc_board.proofs.Weights.{each-map, flat_map-on}
 use Rattle.lc_walk.proofs.Moves.{lists_moved}
 use Rattle.lc_walk.proofs.Law.{core_law, one_answer_law}
-use Rattle.lc_walk.proofs.Ends.{ender, ended_by, ends, IsTold, all_told, by_ender, ender_within, ends_are, parts_of, parts_whole}
-use Rattle.lc_walk.proofs.Listings.{flat_twice, tallied_went, files_went, faults_went, directories_went, got_here, by_number, below_all}
-
--- ---- a row that is lawful where posts may have been refused is so wherever they may have been
-
-fuller_row : (ask : Asked) (full fuller : Bool) (h : List (Event JobModel Row)) (i : ℕ) (e : Ended Row) (a : Answers) → (full ≡ true → fuller ≡ true) → IsLawful ask full h i e a → IsLawful ask fuller h i e a
-fuller_row ask full fuller h i e a f l = record { job_is = l.job_is; tidy = l.tidy; says = fuller_says ask full fuller e a _ f l.says }
+use Rattle.lc_walk.proofs.Listings.{flat_twice, tallied_went, files_went, faults_went, directories_went, got_here, by_number, by_place, below_all, numbers_from_0}
 
 or_left : (a b : Bool) → a ≡ true → (a || b) ≡ true
 or_left true b e = refl
@@ -60,13 +56,28 @@ or_right : (a b : Bool) → b ≡ true → (a || b) ≡ true
 or_right true b e = refl
 or_right false b e = e
 
-pub some_full : (passes : List (Pass JobModel Row)) (w : ℕ) (p : Pass JobModel Row) → slice_get passes w ≡ Some p → p.full ≡ true → list_any (λ q. q.full) passes ≡ true
-some_full [] w p is f = cc
-some_full (q ∷ qs) zero p is f = let same : q ≡ p = one q p is in or_left q.full (list_any (λ q. q.full) qs) (ap (λ (x : Pass JobModel Row). x.full) same ∙ f)
-  where
-    one : (x y : Pass JobModel Row) → Some x ≡ Some y → x ≡ y
-    one x y e = cc
-some_full (q ∷ qs) (suc w) p is f = or_right q.full (list_any (λ q. q.full) qs) (some_full qs w p is f)
+-- whether a post of a pass was answered Full
+abbrev pub is_full : Option (Pass JobModel Row) → Bool
+is_full None = false
+is_full (Some p) = p.full
+
+some_full : (passes : List (Pass JobModel Row)) (w : ℕ) → is_full (slice_get passes w) ≡ true → list_any (λ q. q.full) passes ≡ true
+some_full [] w f = f
+some_full (q ∷ qs) zero f = or_left q.full (list_any (λ q. q.full) qs) f
+some_full (q ∷ qs) (suc w) f = or_right q.full (list_any (λ q. q.full) qs) (some_full qs w f)
+
+-- the files of the rows that some events gave, by answers that stand for their numbers
+abbrev files_by_end : Asked → Ended Row → Answers → List CountedFile
+files_by_end ask (ended.Returned r) a = returned_files ask r a
+files_by_end ask (ended.Faulted r) a = []
+
+files_by_ends : (ask : Asked) (by : ℕ → Answers) (m : List (Event JobModel Row)) → files_given ask m (map (λ x. by x.0) (ends m)) ≡ flat_map (λ x. files_by_end ask x.1 (by x.0)) (ends m)
+files_by_ends ask by [] = refl
+files_by_ends ask by (Post w p i j ∷ m) = files_by_ends ask by m
+files_by_ends ask by (Claim w i j ∷ m) = files_by_ends ask by m
+files_by_ends ask by (Return w i r ∷ m) = ap (λ l. returned_files ask r (by i) ++ l) (files_by_ends ask by m)
+files_by_ends ask by (Fault w i r ∷ m) = files_by_ends ask by m
+files_by_ends ask by (Over w ∷ m) = files_by_ends ask by m
 
 abbrev or_no_answers : Option (Ended Row) → Answers → Answers
 or_no_answers None a = no_answers
@@ -79,17 +90,16 @@ module _ (ask : Asked) (MayAnswer : List ℕ → Answers → Type 0) (capacity w
   abbrev pub history : List (Event JobModel Row)
   history = settled.history
 
-  -- by number, what each worker's answers are
-  pub chosen : (w : ℕ) → Chosen ask MayAnswer settled.history w (slice_get passes w) (given w)
-  chosen w = choose ask MayAnswer capacity workers settled.history settled.legal w (slice_get passes w) (given w)
-      (λ p is. subst (λ m. AreLawful ask p.full MayAnswer m (given w)) (sym (settled.parts w p is)) (lawful w p is))
+  -- what a worker's own list says of an end
+  abbrev pub Lawful : Saying JobModel Row Answers
+  Lawful w got posts e a = IsLawfulEnd ask (is_full (slice_get passes w)) MayAnswer got posts e a
 
-  abbrev pub by : ℕ → ℕ → Answers
-  by w = (chosen w).by
+  pub held : RowsHold Lawful workers settled.history passes rows given
+  held = rows_hold Lawful no_answers capacity workers top promises passes rows settled keeps count given
+      (λ w p is. subst (λ full. AreLawful ask full MayAnswer p.mine (given w)) (sym (ap is_full is)) (lawful w p is))
 
-  -- the answers of a number are those of the worker that ended it
   abbrev pub answers : ℕ → Answers
-  answers i = or_no_answers (slice_get rows i) (by (ender history i) i)
+  answers i = or_no_answers (slice_get rows i) (held.by i)
 
   abbrev pub full : Bool
   full = list_any (λ (p : Pass JobModel Row). p.full) passes
@@ -97,17 +107,16 @@ module _ (ask : Asked) (MayAnswer : List ℕ → Answers → Type 0) (capacity w
   in_place : InPlace top history rows
   in_place = settled.in_place keeps
 
-  answers_are : (i : ℕ) (e : Ended Row) → slice_get rows i ≡ Some e → answers i ≡ by (ender history i) i
-  answers_are i e is = ap (λ o. or_no_answers o (by (ender history i) i)) is
+  answers_are : (i : ℕ) (e : Ended Row) → slice_get rows i ≡ Some e → answers i ≡ held.by i
+  answers_are i e is = ap (λ o. or_no_answers o (held.by i)) is
 
   pub lawful_here : (i : ℕ) (e : Ended Row) → slice_get rows i ≡ Some e → IsLawful ask full history i e (answers i) × MayStand MayAnswer (row_of e) (answers i)
   lawful_here i e is =
-      let given_here : row_given history i ≡ Some e = sym (in_place.given i) ∙ is in
-      let low = ender_within capacity workers history settled.legal i e given_here in
-      let p = got_here passes (ender history i) (omega arith) in
-      let l = (chosen (ender history i)).lawful p.0 p.1 i e (by_ender i e history given_here) in
-      let whole = fuller_row ask p.0.full full history i e (by (ender history i) i) (some_full passes (ender history i) p.0 p.1) l.0 in
-      (subst (IsLawful ask full history i e) (sym (answers_are i e is)) whole, subst (MayStand MayAnswer (row_of e)) (sym (answers_are i e is)) l.1)
+      let l = held.holds i e is in
+      subst (λ a. IsLawful ask full history i e a × MayStand MayAnswer (row_of e) a) (sym (answers_are i e is)) (
+        record { job_is = l.job_is; tidy = l.tidy; says = fuller_says ask (is_full (slice_get passes (ender history i))) full e (held.by i) _ (some_full passes (ender history i)) l.says },
+        l.may,
+      )
 
   pub walked : Walked ask full capacity workers top history rows answers
   walked = record {
@@ -139,59 +148,31 @@ module _ (ask : Asked) (MayAnswer : List ℕ → Answers → Type 0) (capacity w
 
   -- ---- the files of all passes are those of the rows
 
-  abbrev by_end : Option (Ended Row) → Answers → List CountedFile
-  by_end None a = []
-  by_end (Some (ended.Returned r)) a = returned_files ask r a
-  by_end (Some (ended.Faulted r)) a = []
+  abbrev by_end : ℕ × Ended Row → List CountedFile
+  by_end x = files_by_end ask x.1 (held.by x.0)
 
-  abbrev by_row : ℕ → List CountedFile
-  by_row i = by_end (slice_get rows i) (answers i)
-
-  one_event : (e : Event JobModel Row) → IsTold history e → contributes ask answers e ≡ flat_map by_row (ended_by e)
-  one_event (Post w p i j) t = refl
-  one_event (Claim w i j) t = refl
-  one_event (Return w i r) t = sym (append-nil (by_row i) ∙ ap (λ o. by_end o (answers i)) (in_place.given i ∙ t.0))
-  one_event (Fault w i r) t = sym (append-nil (by_row i) ∙ ap (λ o. by_end o (answers i)) (in_place.given i ∙ t.0))
-  one_event (Over w) t = refl
-
-  told : AllByRecursion (IsTold history) history
-  told = all_told capacity workers history settled.legal
-
-  by_numbers : flat_map (contributes ask answers) history ≡ flat_map by_row (ends history)
-  by_numbers =
-      flat_map-on (contributes ask answers) (λ e. flat_map by_row (ended_by e)) history (each-map (IsTold history) (λ e. contributes ask answers e ≡ flat_map by_row (ended_by e)) one_event history told)
-      ∙ sym (flat_twice by_row ended_by history)
-
-  own_event : (w : ℕ) (e : Event JobModel Row) → IsTold history e × (worker_of e ≡ w) → contributes ask (by w) e ≡ contributes ask answers e
-  own_event w (Post v p i j) t = refl
-  own_event w (Claim v i j) t = refl
-  own_event w (Return v i r) t =
-      let here : slice_get rows i ≡ Some (ended.Returned r) = in_place.given i ∙ t.0.0 in
-      ap (returned_files ask r) (ap (λ u. by u i) (sym (t.0.1 ∙ t.1)) ∙ sym (answers_are i (ended.Returned r) here))
-  own_event w (Fault v i r) t = refl
-  own_event w (Over v) t = refl
-
-  one_pass : (w : ℕ) (p : Pass JobModel Row) → slice_get passes w ≡ Some p → files_of_pass ask (given w) (slice_get passes w) ≡ flat_map (contributes ask answers) (part w history)
+  one_pass : (w : ℕ) (p : Pass JobModel Row) → slice_get passes w ≡ Some p → files_of_pass ask (given w) (slice_get passes w) ≡ flat_map by_end (ends (part w history))
   one_pass w p is =
-      ap (files_of_pass ask (given w)) is
-      ∙ ap (λ m. files_given ask m (given w)) (sym (settled.parts w p is))
-      ∙ sym ((chosen w).files p is)
-      ∙ flat_map-on (contributes ask (by w)) (contributes ask answers) (part w history)
-      (each-map (λ e. IsTold history e × (worker_of e ≡ w)) (λ e. contributes ask (by w) e ≡ contributes ask answers e) (own_event w) (part w history) (each_part (IsTold history) w history told))
+      ap (files_of_pass ask (given w)) is ∙ ap (files_given ask p.mine) (held.given_by w p is) ∙ files_by_ends ask held.by p.mine
+      ∙ ap (λ m. flat_map by_end (ends m)) (sym (settled.parts w p is))
 
-  all_passes : files_of_passes ask given passes ≡ flat_map (contributes ask answers) (parts_of workers history)
+  all_passes : files_of_passes ask given passes ≡ flat_map by_end (flat_map (λ w. ends (part w history)) (range_with_len 0 workers))
   all_passes =
-      flat_map-on (λ w. files_of_pass ask (given w) (slice_get passes w)) (λ w. flat_map (contributes ask answers) (part w history)) (numbers_below (length passes))
-      (each-map (λ w. w < length passes) (λ w. files_of_pass ask (given w) (slice_get passes w) ≡ flat_map (contributes ask answers) (part w history))
+      flat_map-on (λ w. files_of_pass ask (given w) (slice_get passes w)) (λ w. flat_map by_end (ends (part w history))) (numbers_below (length passes))
+      (each-map (λ w. w < length passes) (λ w. files_of_pass ask (given w) (slice_get passes w) ≡ flat_map by_end (ends (part w history)))
       (λ w b. let p = got_here passes w b in one_pass w p.0 p.1) (numbers_below (length passes)) (below_all (length passes)))
-      ∙ sym (flat_twice (contributes ask answers) (λ w. part w history) (numbers_below (length passes)))
-      ∙ ap (λ n. flat_map (contributes ask answers) (parts_of n history)) count
+      ∙ sym (flat_twice by_end (λ w. ends (part w history)) (numbers_below (length passes)))
+      ∙ ap (λ ns. flat_map by_end (flat_map (λ w. ends (part w history)) ns)) (numbers_from_0 (length passes) ∙ ap (range_with_len 0) count)
+
+  by_rows : IsPermutation (files_of_passes ask given passes) (flat_map by_end (enumerate_from 0 rows))
+  by_rows = subst (λ l. IsPermutation l (flat_map by_end (enumerate_from 0 rows))) (sym all_passes)
+      (lists_moved by_end _ (enumerate_from 0 rows) (rows_are_ends capacity workers top history rows settled.legal settled.over settled.numbers in_place))
 
   module _ (whole : AreWhole rows) where
     -- ---- what one row says is what it found
 
     record RowFinds (e : Ended Row) (a : Answers) : Type 0 where
-      pub tally : by_end (Some e) a ≡ tallied_of (found_at ask.archive (job_of (row_of e)) a)
+      pub tally : files_by_end ask e a ≡ tallied_of (found_at ask.archive (job_of (row_of e)) a)
       pub files : ask.files ≡ true → files_of (found_at ask.archive (job_of (row_of e)) a) ≡ files_by_row (row_of e)
       pub faults : faults_of (found_at ask.archive (job_of (row_of e)) a) ≡ faults_by_row (row_of e)
       pub directories : directories_of (found_at ask.archive (job_of (row_of e)) a) ≡ directories_by_row (row_of e)
@@ -233,21 +214,14 @@ module _ (ask : Asked) (MayAnswer : List ℕ → Answers → Type 0) (capacity w
         flat_map g (row_found ask (slice_get rows i) (answers i)) ≡ flat_map g (found_at ask.archive (job_of (row_of e)) (answers i))
     at_row g i e is = ap (λ o. flat_map g (row_found ask o (answers i))) is
 
-    tally_rows : flat_map by_row (numbers_below (length rows)) ≡ tallied_of found
+    tally_rows : flat_map by_end (enumerate_from 0 rows) ≡ tallied_of found
     tally_rows =
-        flat_map-on by_row (λ i. flat_map tallied_in (row_found ask (slice_get rows i) (answers i))) (numbers_below (length rows))
-        (each-map (λ i. i < length rows) (λ i. by_row i ≡ flat_map tallied_in (row_found ask (slice_get rows i) (answers i)))
-        (λ i b. let r = got_here rows i b in ap (λ o. by_end o (answers i)) r.1 ∙ (finds_here i r.0 r.1).tally ∙ sym (at_row tallied_in i r.0 r.1)) (numbers_below (length rows)) (below_all (length rows)))
+        sym (by_place (λ i. flat_map tallied_in (row_found ask (slice_get rows i) (answers i))) by_end rows
+        (λ i e is. at_row tallied_in i e is ∙ sym (finds_here i e is).tally ∙ ap (files_by_end ask e) (answers_are i e is)))
         ∙ sym (spread_out tallied_in)
 
     pub files_found : IsPermutation (files_of_passes ask given passes) (tallied_of found)
-    files_found =
-        subst (λ l. IsPermutation l (tallied_of found)) (sym all_passes)
-        (IsPermutation-trans _ (flat_map (contributes ask answers) history) _
-        (lists_moved (contributes ask answers) (parts_of workers history) history (parts_whole capacity workers history settled.legal))
-        (subst (λ l. IsPermutation l (tallied_of found)) (sym by_numbers)
-        (subst (IsPermutation (flat_map by_row (ends history))) tally_rows
-        (permuted_lists by_row (ends history) (numbers_below (length rows)) (ends_are capacity workers history settled.legal settled.over (length rows) settled.numbers)))))
+    files_found = subst (IsPermutation (files_of_passes ask given passes)) tally_rows by_rows
 
     file_rows : ask.files ≡ true → files_of found ≡ files_in_rows rows
     file_rows t = spread_out file_in ∙ by_number (λ i. flat_map file_in (row_found ask (slice_get rows i) (answers i))) (λ e. files_by_row (row_of e)) rows
@@ -286,7 +260,7 @@ module _ (ask : Asked) (MayAnswer : List ℕ → Answers → Type 0) (capacity w
     unfolding IsStrictlySortedBy
     no_entries = record { good = refl; order = tt; few = omega arith }
 
-    tidy_or : (i : ℕ) (o : Option (Ended Row)) → slice_get rows i ≡ o → IsTidy (or_no_answers o (by (ender history i) i))
+    tidy_or : (i : ℕ) (o : Option (Ended Row)) → slice_get rows i ≡ o → IsTidy (or_no_answers o (held.by i))
     tidy_or i None is = no_entries
     tidy_or i (Some e) is = subst IsTidy (answers_are i e is) (lawful_here i e is).0.tidy
 

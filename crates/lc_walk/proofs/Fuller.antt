@@ -1,5 +1,6 @@
 -- What is lawful where posts may have been refused is so wherever they may have been.
-use Rattle.std.proofs.Common.{◌≡◌, ℕ, Bool, true, List, [], ◌∷◌}
+use Rattle.std.proofs.Common.{◌≡◌, ℕ, Bool, true, List, [], ◌∷◌, Option}
+use Rattle.lc_board.specs.Holding.{job_held, posts_held}
 use Rattle.lc_board.specs.declared.event.Event.{Event}
 use Rattle.lc_board.specs.declared.event.Event.TheVariants.{Post, Claim, Return, Fault, Over}
 use Rattle.lc_board.specs.declared.answers.Ended.{Ended}
@@ -27,8 +28,8 @@ fuller_says ask full fuller (ended.Faulted (Faulted r)) a posts f s = s
 fuller_says ask full fuller (ended.Faulted (Broken r)) a posts f s = s
 
 module _ (ask : Asked) (full fuller : Bool) (MayAnswer : List ℕ → Answers → Type 0) (f : full ≡ true → fuller ≡ true) where
-  fuller_end : (m : List (Event JobModel Row)) (e : Ended Row) (a : Answers) → IsLawfulEnd ask full MayAnswer m e a → IsLawfulEnd ask fuller MayAnswer m e a
-  fuller_end m e a l = record { job_is = l.job_is; tidy = l.tidy; says = fuller_says ask full fuller e a _ f l.says; may = l.may }
+  fuller_end : (got : Option JobModel) (posts : List (ℕ × JobModel)) (e : Ended Row) (a : Answers) → IsLawfulEnd ask full MayAnswer got posts e a → IsLawfulEnd ask fuller MayAnswer got posts e a
+  fuller_end got posts e a l = record { job_is = l.job_is; tidy = l.tidy; says = fuller_says ask full fuller e a _ f l.says; may = l.may }
 
   pub fuller_all : (m : List (Event JobModel Row)) (given : List Answers) → AreLawful ask full MayAnswer m given → AreLawful ask fuller MayAnswer m given
   fuller_all [] [] l = tt
@@ -36,7 +37,7 @@ module _ (ask : Asked) (full fuller : Bool) (MayAnswer : List ℕ → Answers �
   fuller_all (Post w p i j ∷ m) given l = fuller_all m given l
   fuller_all (Claim w i j ∷ m) given l = fuller_all m given l
   fuller_all (Return w i r ∷ m) [] l = absurd l
-  fuller_all (Return w i r ∷ m) (a ∷ given) l = (fuller_end m (ended.Returned r) a l.0, fuller_all m given l.1)
+  fuller_all (Return w i r ∷ m) (a ∷ given) l = (fuller_end (job_held m) (posts_held m) (ended.Returned r) a l.0, fuller_all m given l.1)
   fuller_all (Fault w i r ∷ m) [] l = absurd l
-  fuller_all (Fault w i r ∷ m) (a ∷ given) l = (fuller_end m (ended.Faulted r) a l.0, fuller_all m given l.1)
+  fuller_all (Fault w i r ∷ m) (a ∷ given) l = (fuller_end (job_held m) (posts_held m) (ended.Faulted r) a l.0, fuller_all m given l.1)
   fuller_all (Over w ∷ m) given l = fuller_all m given l

@@ -3,14 +3,11 @@ pub mod ChildPlaces
 pub mod Composed
 pub mod Core
 pub mod CrewWorked
-pub mod Ends
 pub mod FilesByPlace
 pub mod Filtered
 pub mod Fuller
 pub mod Gathering
-pub mod Given
 pub mod Growing
-pub mod Holds
 pub mod Joining
 pub mod Keys
 pub mod Law

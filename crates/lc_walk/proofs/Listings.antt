@@ -1,6 +1,6 @@
 -- What the parts of a level give to a report, and lists by number.
-use Rattle.std.proofs.Common.{◌≡◌, ℕ, zero, suc, ◌<◌, List, [], ◌∷◌, ◌++◌, length, slice_get, map, refl, sym, ◌∙◌, ap, arith, Option, Some, None, append-nil, append_assoc}
-use Rattle.std.specs.List.{flat_map, AllByRecursion}
+use Rattle.std.proofs.Common.{◌≡◌, ℕ, zero, suc, ◌+◌, ◌<◌, List, [], ◌∷◌, ◌++◌, length, slice_get, map, refl, sym, ◌∙◌, ap, arith, subst, Option, Some, None, append-nil, append_assoc}
+use Rattle.std.specs.List.{flat_map, range_with_len, enumerate_from, AllByRecursion}
 use Rattle.std.proofs.lemmas.Grind.{flat_map-append}
 use Rattle.std.proofs.lemmas.List.Folds.{flat_map-map}
 use Rattle.std.proofs.lemmas.List.Concat.{flat_map_single}
@@ -66,6 +66,36 @@ or_none f (Some x) = f x
 in_order : {A B : Type 0} (f : A → List B) (xs : List A) → flat_map (λ i. or_none f (slice_get xs i)) (numbers_below (length xs)) ≡ flat_map f xs
 in_order f [] = refl
 in_order f (x ∷ xs) = front (λ i. or_none f (slice_get (x ∷ xs) i)) (length xs) ∙ ap (λ l. f x ++ l) (in_order f xs)
+
+-- a range that is one longer
+range_more : (a n : ℕ) → range_with_len a (suc n) ≡ range_with_len a n ++ (a + n) ∷ []
+range_more a zero = let here : a ≡ a + 0 = omega arith in ap (λ k. k ∷ []) here
+range_more a (suc n) =
+    let last : a + 1 + n ≡ a + suc n = omega arith in
+    ap (λ ks. a ∷ ks) (range_more (a + 1) n ∙ ap (λ k. range_with_len (a + 1) n ++ k ∷ []) last)
+
+pub numbers_from_0 : (n : ℕ) → numbers_below n ≡ range_with_len 0 n
+numbers_from_0 zero = refl
+numbers_from_0 (suc n) =
+    let last : n ≡ 0 + n = omega arith in
+    ap (λ ks. ks ++ n ∷ []) (numbers_from_0 n) ∙ ap (λ k. range_with_len 0 n ++ k ∷ []) last ∙ sym (range_more 0 n)
+
+from_place : {A B : Type 0} (g : ℕ → List B) (f : ℕ × A → List B) (xs : List A) (a : ℕ) → ((i : ℕ) (x : A) → slice_get xs i ≡ Some x → g (a + i) ≡ f (a + i, x)) →
+    flat_map g (range_with_len a (length xs)) ≡ flat_map f (enumerate_from a xs)
+from_place g f [] a e = refl
+from_place g f (x ∷ xs) a e =
+    let zeroth : a + 0 ≡ a = omega arith in
+    let first : g a ≡ f (a, x) = subst (λ k. g k ≡ f (k, x)) zeroth (e 0 x refl) in
+    let next : (i : ℕ) → a + suc i ≡ a + 1 + i = λ i. omega arith in
+    ap (λ l. l ++ flat_map g (range_with_len (a + 1) (length xs))) first
+    ∙ ap (λ l. f (a, x) ++ l) (from_place g f xs (a + 1) (λ i y is. subst (λ k. g k ≡ f (k, y)) (next i) (e (suc i) y is)))
+
+-- what each number gives, where it is what its element gives with that number
+pub by_place : {A B : Type 0} (g : ℕ → List B) (f : ℕ × A → List B) (xs : List A) → ((i : ℕ) (x : A) → slice_get xs i ≡ Some x → g i ≡ f (i, x)) →
+    flat_map g (numbers_below (length xs)) ≡ flat_map f (enumerate_from 0 xs)
+by_place g f xs e =
+    let same : (i : ℕ) → i ≡ 0 + i = λ i. omega arith in
+    ap (flat_map g) (numbers_from_0 (length xs)) ∙ from_place g f xs 0 (λ i x is. subst (λ k. g k ≡ f (k, x)) (same i) (e i x is))
 
 pub below_all : (n : ℕ) → AllByRecursion (λ i. i < n) (numbers_below n)
 below_all zero = tt

@@ -46,7 +46,7 @@ no_entries = record { good = refl; order = tt; few = omega arith }
 
 module _ (ask : Asked) (lists : List ℕ → Listings) (gives : List ℕ → Contents) where
   abbrev Lawful : Pass JobModel Row → JobModel → Cause → Answers → Type 0
-  Lawful p j c a = IsLawfulEnd ask p.full (MayAnswer lists gives) p.mine (ended.Returned (Broken (record { job = j; cause = c }))) a
+  Lawful p j c a = IsLawfulEnd ask p.full (MayAnswer lists gives) (job_held p.mine) (posts_held p.mine) (ended.Returned (Broken (record { job = j; cause = c }))) a
 
   -- a directory was given up before anything was posted
   pub memory_end : (p : Pass JobModel Row) (j : JobModel) → HoldsJob j p → Lawful p j Memory no_answers
@@ -142,7 +142,7 @@ module _ (ask : Asked) (lists : List ℕ → Listings) (gives : List ℕ → Con
         own_children : children_at ask.archive row.job counted.0 ≡ o.children.items
         own_children = ap children_of at_row
 
-        lawful : IsLawfulEnd ask q.full (MayAnswer lists gives) q.mine (ended.Returned (Listed row)) counted.0
+        lawful : IsLawfulEnd ask q.full (MayAnswer lists gives) (job_held q.mine) (posts_held q.mine) (ended.Returned (Listed row)) counted.0
         lawful = record {
           job_is = job_now _ x ∙ ap Some (sym job);
           tidy = counted.2;

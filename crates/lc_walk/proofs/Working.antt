@@ -2,6 +2,7 @@
 use Rattle.std.proofs.Common.{◌≡◌, ◌≢◌, ◌⊎◌, inl, inr, ℕ, Bool, List, [], ◌∷◌, ◌++◌, refl, sym, ◌∙◌, ap, subst, Option, Some, None, Result, Ok, Err, append_assoc}
 use Rattle.std.specs.List.{AllByRecursion}
 use Rattle.std.specs.declared.alloc.AllocError.{AllocError}
+use Rattle.lc_board.specs.Holding.{job_held, posts_held}
 use Rattle.lc_board.specs.Pass.{Pass, held_number, after_claim, after_give, after_fault}
 use Rattle.lc_board.specs.declared.event.Event.{Event}
 use Rattle.lc_board.specs.declared.event.Event.TheVariants.{Post, Claim, Return, Fault, Over}
@@ -98,7 +99,7 @@ module _ (ask : Asked) (MayAnswer : List ℕ → Answers → Type 0) where
   }
 
   -- a claim is ended by a lawful row, of which the tally gets the files
-  pub works_give : (p : Pass JobModel Row) (r : Row) (a : Answers) (t u : Option TallyModel) → IsLawfulEnd ask p.full MayAnswer p.mine (ended.Returned r) a →
+  pub works_give : (p : Pass JobModel Row) (r : Row) (a : Answers) (t u : Option TallyModel) → IsLawfulEnd ask p.full MayAnswer (job_held p.mine) (posts_held p.mine) (ended.Returned r) a →
       ((fs : List CountedFile) → TalliesFor t fs → TalliesFor u (returned_files ask r a ++ fs)) → (u ≡ None → IsBrokenBy Memory r ⊎ (t ≡ None)) → GoesOn ask MayAnswer p (after_give p r) t u
   works_give p r a t u l more none first w = record {
     worker = w.worker;
@@ -114,7 +115,7 @@ module _ (ask : Asked) (MayAnswer : List ℕ → Answers → Type 0) where
       at (inl b) = inl b
       at (inr e) = inr (w.untallied e)
 
-  pub works_fault : (p : Pass JobModel Row) (r : Row) (a : Answers) (t : Option TallyModel) → IsLawfulEnd ask p.full MayAnswer p.mine (ended.Faulted r) a → GoesOn ask MayAnswer p (after_fault p r) t t
+  pub works_fault : (p : Pass JobModel Row) (r : Row) (a : Answers) (t : Option TallyModel) → IsLawfulEnd ask p.full MayAnswer (job_held p.mine) (posts_held p.mine) (ended.Faulted r) a → GoesOn ask MayAnswer p (after_fault p r) t t
   works_fault p r a t l first w = record {
     worker = w.worker;
     since = Fault p.worker (held_number p) r ∷ w.since;
@@ -127,7 +128,7 @@ module _ (ask : Asked) (MayAnswer : List ℕ → Answers → Type 0) where
 
   -- a directory was given up
   pub serves_broken : (p : Pass JobModel Row) (j : JobModel) (c : Cause) (a : Answers) (t u : TallyModel) (result : Result (Unit {0}) AllocError) →
-      IsLawfulEnd ask p.full MayAnswer p.mine (ended.Returned (Broken (record { job = j; cause = c }))) a → GivesUp c result → (c ≢ Memory → t ≡ u) →
+      IsLawfulEnd ask p.full MayAnswer (job_held p.mine) (posts_held p.mine) (ended.Returned (Broken (record { job = j; cause = c }))) a → GivesUp c result → (c ≢ Memory → t ≡ u) →
       Serves ask MayAnswer p (after_give p (Broken (record { job = j; cause = c }))) t u result
   serves_broken p j Memory a t u (Ok _) l g same = absurd g
   serves_broken p j Memory a t u (Err _) l g same = works_give p _ a (Some t) None l (λ fs s. tt) (λ e. inl refl)

@@ -4,9 +4,8 @@ use Rattle.lc_board.specs.Pass.{Pass}
 use Rattle.lc_board.specs.declared.event.Event.{Event}
 use Rattle.lc_board.specs.declared.event.Event.TheVariants.{Post, Claim, Return, Fault, Over}
 use Rattle.lc_board.specs.declared.answers.Ended.{Ended}
-use Rattle.lc_board.specs.declared.answers.Ended.TheVariants as ended
 use Rattle.lc_walk.specs.Tally.{TallyModel, CountedFile, StandsFor}
-use Rattle.lc_board.specs.Holding.{job_held, posts_held}
+use Rattle.lc_board.specs.Ends.{EachEnd}
 use Rattle.lc_level.specs.Answers.{Answers}
 use Rattle.lc_level.specs.Job.{JobModel}
 use Rattle.lc_walk.specs.Rows.{row_of, job_of}
@@ -29,28 +28,18 @@ returned_files ask (Broken r) a = []
 abbrev pub MayStand : (List ℕ → Answers → Type 0) → Row → Answers → Type 0
 MayStand MayAnswer r a = IsBrokenBy Memory r ⊎ MayAnswer (job_of r).path a
 
--- a row is lawful with these answers for the claim that it ends, and the tree may give them. It speaks of that claim alone: until
--- the board is closed nothing says that no number is got twice
+-- a row is lawful with these answers for the claim that it ends, by the job and the posts of that claim, and the tree may give them
 pub record IsLawfulEnd (ask : Asked) (full : Bool) (MayAnswer : List ℕ → Answers → Type 0)
-    (m : List (Event JobModel Row)) (e : Ended Row) (a : Answers) : Type 0 where
-  pub job_is : job_held m ≡ Some (job_of (row_of e))
+    (got : Option JobModel) (posts : List (ℕ × JobModel)) (e : Ended Row) (a : Answers) : Type 0 where
+  pub job_is : got ≡ Some (job_of (row_of e))
   pub tidy : IsTidy a
-  pub says : Says ask full e a (posts_held m)
+  pub says : Says ask full e a posts
   pub may : MayStand MayAnswer (row_of e) a
 
--- each row that some events gave is lawful with its answers: one for each row, the newest first
+-- each row that some events gave is lawful with its answers: one for each row, the newest first. It speaks of each claim alone: until
+-- the board is closed nothing says that no number is got twice
 abbrev pub AreLawful : Asked → Bool → (List ℕ → Answers → Type 0) → List (Event JobModel Row) → List Answers → Type 0
-AreLawful ask full MayAnswer [] [] = Unit {0}
-AreLawful ask full MayAnswer [] (a ∷ given) = ⊥
-AreLawful ask full MayAnswer (Post w p i j ∷ m) given = AreLawful ask full MayAnswer m given
-AreLawful ask full MayAnswer (Claim w i j ∷ m) given = AreLawful ask full MayAnswer m given
-AreLawful ask full MayAnswer (Return w i r ∷ m) [] = ⊥
-AreLawful ask full MayAnswer (Return w i r ∷ m) (a ∷ given) =
-    IsLawfulEnd ask full MayAnswer m (ended.Returned r) a × AreLawful ask full MayAnswer m given
-AreLawful ask full MayAnswer (Fault w i r ∷ m) [] = ⊥
-AreLawful ask full MayAnswer (Fault w i r ∷ m) (a ∷ given) =
-    IsLawfulEnd ask full MayAnswer m (ended.Faulted r) a × AreLawful ask full MayAnswer m given
-AreLawful ask full MayAnswer (Over w ∷ m) given = AreLawful ask full MayAnswer m given
+AreLawful ask full MayAnswer m given = EachEnd (λ got posts e a. IsLawfulEnd ask full MayAnswer got posts e a) m given
 
 -- the counted files of the rows that were returned as Listed, by these answers
 abbrev pub files_given : Asked → List (Event JobModel Row) → List Answers → List CountedFile

@@ -1,9 +1,17 @@
 //! What extensions, tallies and reports say of values from outside, and that each call can succeed.
 
+mod boards;
+mod drawn;
+mod failures;
 mod gate;
 mod keys;
+mod limits;
 mod names;
+mod other_boards;
 mod reports;
+mod rows;
+mod same;
+mod stress;
 mod tallies;
 mod walked;
 mod walks;

@@ -1,4 +1,6 @@
 //! Walks of trees of memory, over both shared boards, with 1, 2 and 16 workers.
+ghost use Rattle.std.specs.Prelude.{◌≤◌};
+ghost use Rattle.lc_board.specs.Limits.{capacity_limit, workers_limit};
 ghost use Rattle.lc_walk.specs.WalkOptions.{AreWithinLimits};
 
 use crate::{Options, Report, Row, TallyRow, WalkFault, walk_on};
@@ -11,6 +13,8 @@ use std::alloc::{AllocError, Global};
 use std::process::Abort;
 use std::sync::{Arc, Wait};
 use std::thread::Threads;
+
+pub(super) const NONE: TextState = TextState::Unspecified;
 
 /// What is asked of a walk, but for the number of its workers.
 #[derive(Clone, Copy)]
@@ -42,7 +46,31 @@ pub(super) struct Found<'a> {
     pub(super) faults: &'a [(&'a [u8], FaultWord)],
 }
 
+/// What a walk finds where there is no fault.
+pub(super) fn without_faults<'a>(rows: &'a [Sum<'a>], directories: u64) -> Found<'a> {
+    Found {
+        rows,
+        directories,
+        faults: &[],
+    }
+}
+
 pub(super) type Wanted<'a> = Result<Found<'a>, WalkFault>;
+
+/// A walk of the whole tree by so many workers.
+pub(super) fn walk_options(threads: u32, max_dirs: u32) -> Options
+    requires threads { (1 ≤ threads) × (threads ≤ workers_limit) }
+    requires room { (1 ≤ max_dirs) × (max_dirs ≤ capacity_limit) }
+    ensures limits { AreWithinLimits result }
+{
+    Options {
+        threads,
+        max_dirs,
+        files: false,
+        exclude: None,
+        archive: false,
+    }
+}
 
 fn is_sum(row: &TallyRow, wanted: Sum) -> bool {
     let ext = match &row.ext {
@@ -80,7 +108,8 @@ fn check_report(rt: &impl Abort, name: &str, report: &Report, wanted: Found) {
     }
 }
 
-fn check_on<B: Shared<Job, Row>, T: Tree, R: Threads + Wait + Sync + Abort>(
+/// The walk of the tree finds this.
+pub(super) fn check_on<B: Shared<Job, Row>, T: Tree, R: Threads + Wait + Sync + Abort>(
     rt: &R,
     alloc: Global,
     tree: &T,

@@ -1,14 +1,12 @@
 //! What walks find.
 
-use crate::tests::walked::{Asked, Found, Sum, Wanted, all, check};
+use crate::tests::walked::{Asked, Found, NONE, Sum, all, check, without_faults};
 use crate::{Options, WalkFault, walk};
 use lc_census::Eol;
 use lc_rules::TextState;
 use lc_tree::{FaultWord, MemTree, Sketch};
 use std::alloc::AllocError;
 use std::test::Fail;
-
-const NONE: TextState = TextState::Unspecified;
 
 const LINE: Sketch = Sketch::File(b"x\n");
 
@@ -26,15 +24,6 @@ const IGNORING: Sketch = Sketch::Dir(&[
     ),
 ]);
 
-/// What a walk finds where there is no fault.
-fn found<'a>(rows: &'a [Sum<'a>], directories: u64) -> Found<'a> {
-    Found {
-        rows,
-        directories,
-        faults: &[],
-    }
-}
-
 #[test]
 fn rules_of_the_tree_are_applied(rt: HostRuntime) -> Result<(), Fail> {
     let rows: [Sum; 3] = [
@@ -47,7 +36,7 @@ fn rules_of_the_tree_are_applied(rt: HostRuntime) -> Result<(), Fail> {
         rt.alloc(),
         "a tree",
         all(IGNORING),
-        Ok(found(&rows, 3)),
+        Ok(without_faults(&rows, 3)),
     )?;
     Ok(())
 }
@@ -67,7 +56,13 @@ fn attributes_say_which_files_are_text(rt: HostRuntime) -> Result<(), Fail> {
         (Some(b"c"), TextState::Set, Eol::Lf, [1, 2, 0, 4]),
         (Some(b"c"), TextState::Set, Eol::CrLf, [1, 2, 1, 5]),
     ];
-    check(&rt, rt.alloc(), "a tree", all(TEXTS), Ok(found(&rows, 1)))?;
+    check(
+        &rt,
+        rt.alloc(),
+        "a tree",
+        all(TEXTS),
+        Ok(without_faults(&rows, 1)),
+    )?;
     Ok(())
 }
 
@@ -134,43 +129,6 @@ fn faults_are_told_and_not_counted(rt: HostRuntime) -> Result<(), Fail> {
     Ok(())
 }
 
-const ONE_FILE: Sketch = Sketch::Dir(&[(b"a", Sketch::File(b"q"))]);
-
-const ONE_DIRECTORY: Sketch = Sketch::Dir(&[(b"s", Sketch::Dir(&[]))]);
-
-const LONG: [u8; 4097] = [b'a'; 4097];
-
-const LONG_NAME: Sketch = Sketch::Dir(&[(&LONG, LINE)]);
-
-#[test]
-fn limits_of_a_walk(rt: HostRuntime) -> Result<(), Fail> {
-    let one: [Sum; 1] = [(None, NONE, Eol::NoEnd, [1, 1, 0, 1])];
-    let cases: [(&str, Sketch, u32, Wanted); 4] = [
-        ("one directory of one", ONE_FILE, 1, Ok(found(&one, 1))),
-        (
-            "two directories of one",
-            ONE_DIRECTORY,
-            1,
-            Err(WalkFault::TooManyDirs),
-        ),
-        (
-            "two directories of two",
-            ONE_DIRECTORY,
-            2,
-            Ok(found(&[], 2)),
-        ),
-        ("a long name", LONG_NAME, 2, Err(WalkFault::TooDeep)),
-    ];
-    for (name, tree, max_dirs, wanted) in cases {
-        let asked = Asked {
-            max_dirs,
-            ..all(tree)
-        };
-        check(&rt, rt.alloc(), name, asked, wanted)?;
-    }
-    Ok(())
-}
-
 const INCLUDING: Sketch = Sketch::Dir(&[
     (b".gitignore", Sketch::File(b"!x.c\n")),
     (b"x.c", LINE),
@@ -202,7 +160,7 @@ fn every_rule_file_of_the_tree_overrides_the_exclude_file(rt: HostRuntime) -> Re
             exclude,
             ..all(tree)
         };
-        check(&rt, rt.alloc(), name, asked, Ok(found(rows, 1)))?;
+        check(&rt, rt.alloc(), name, asked, Ok(without_faults(rows, 1)))?;
     }
     Ok(())
 }
@@ -242,7 +200,13 @@ fn an_archive_leaves_out_what_is_not_exported(rt: HostRuntime) -> Result<(), Fai
             archive,
             ..all(EXPORTED)
         };
-        check(&rt, rt.alloc(), name, asked, Ok(found(rows, directories)))?;
+        check(
+            &rt,
+            rt.alloc(),
+            name,
+            asked,
+            Ok(without_faults(rows, directories)),
+        )?;
     }
     Ok(())
 }
@@ -279,14 +243,14 @@ fn nothing_of_git_is_counted(rt: HostRuntime) -> Result<(), Fail> {
         rt.alloc(),
         "its rule files",
         all(WITH_INFO),
-        Ok(found(&ruled, 1)),
+        Ok(without_faults(&ruled, 1)),
     )?;
     check(
         &rt,
         rt.alloc(),
         "a file and a link",
         all(WITH_LINK),
-        Ok(found(&linked, 1)),
+        Ok(without_faults(&linked, 1)),
     )?;
     Ok(())
 }
