@@ -1,0 +1,27 @@
+"""Which names a crate gives to others, and which type or trait a function belongs to: what the scripts over the crates share."""
+
+import pathlib
+import re
+
+TOP = pathlib.Path(__file__).resolve().parent.parent
+
+
+def exported(folder):
+    """The names and the modules that a library gives to others; None for a program."""
+    lib = folder / "src" / "lib.rt"
+    if not lib.exists():
+        return None
+    text = lib.read_text()
+    names = {name for use in re.findall(r"^pub use ([^;]*);", text, re.M | re.S) for name in re.findall(r"\w+", use)}
+    return names | set(re.findall(r"^pub mod (\w+);", text, re.M))
+
+
+def owner_in(kind, head):
+    """The type or the trait that a line `impl ..` or `trait ..` is of, and whether its functions are a trait's."""
+    is_trait = kind == "trait" or " for " in head
+    return re.match(r"\w+", head.split(" for ")[0].strip())[0], is_trait
+
+
+def is_seen(public, name, file):
+    """Whether others may name it: a name or a module that the library gives, or anything of a program."""
+    return public is None or name in public or file.stem in public and file.parent.name == "src"
