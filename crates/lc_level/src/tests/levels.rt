@@ -1,8 +1,10 @@
 //! Directories that are listed: which entries are left in, and what becomes of the files.
 
-use crate::tests::work::{Asked, Level, check, top};
+use crate::tests::work::{Asked, Level, check, check_tops, top};
 use lc_rules::TextState;
 use lc_tree::{FaultWord, Sketch};
+use std::alloc::{AllocError, Global};
+use std::process::Abort;
 use std::test::Fail;
 
 const NONE: TextState = TextState::Unspecified;
@@ -19,6 +21,8 @@ const KINDS: Sketch = Sketch::Dir(&[
     (b"c", Sketch::Closed),
 ]);
 
+static BELOW_KINDS: Sketch = Sketch::Dir(&[(b"s", KINDS)]);
+
 #[test]
 fn entries_of_each_kind(rt: HostRuntime) -> Result<(), Fail> {
     let wanted = Level {
@@ -28,7 +32,7 @@ fn entries_of_each_kind(rt: HostRuntime) -> Result<(), Fail> {
     };
     let below = Asked {
         below: Some(b"s"),
-        ..top(Sketch::Dir(&[(b"s", KINDS)]))
+        ..top(BELOW_KINDS)
     };
     check(&rt, rt.alloc(), "at the top", top(KINDS), Ok(wanted))?;
     check(&rt, rt.alloc(), "below it", below, Ok(wanted))?;
@@ -37,89 +41,112 @@ fn entries_of_each_kind(rt: HostRuntime) -> Result<(), Fail> {
 
 const WITH_HEAD: Sketch = Sketch::Dir(&[(b"HEAD", LINE)]);
 
-#[test]
-fn git_is_left_out(rt: HostRuntime) -> Result<(), Fail> {
-    let cases: [(&str, Sketch); 4] = [
-        (
-            "a directory",
-            Sketch::Dir(&[(b".git", EMPTY), (b"a", LINE)]),
-        ),
-        ("a file", Sketch::Dir(&[(b".git", LINE), (b"a", LINE)])),
-        (
-            "another kind",
-            Sketch::Dir(&[(b".git", Sketch::Other), (b"a", LINE)]),
-        ),
-        (
-            "with a file",
-            Sketch::Dir(&[(b".git", WITH_HEAD), (b"a", LINE)]),
-        ),
-    ];
-    let wanted = Level {
-        files: &[(b"a", NONE)],
-        faults: &[],
-        children: &[],
-    };
-    for (case, directory) in cases {
-        check(&rt, rt.alloc(), case, top(directory), Ok(wanted))?;
-        let nested = [(b"s".as_slice(), directory)];
+static GITS: [(&str, Sketch); 4] = [
+    (
+        "a directory",
+        Sketch::Dir(&[(b".git", EMPTY), (b"a", LINE)]),
+    ),
+    ("a file", Sketch::Dir(&[(b".git", LINE), (b"a", LINE)])),
+    (
+        "another kind",
+        Sketch::Dir(&[(b".git", Sketch::Other), (b"a", LINE)]),
+    ),
+    (
+        "with a file",
+        Sketch::Dir(&[(b".git", WITH_HEAD), (b"a", LINE)]),
+    ),
+];
+
+const A_ALONE: Level = Level {
+    files: &[(b"a", NONE)],
+    faults: &[],
+    children: &[],
+};
+
+/// Each tree below the top is this level.
+fn check_below(
+    rt: &impl Abort,
+    alloc: Global,
+    trees: &[(&str, Sketch)],
+    wanted: Level,
+) -> Result<(), AllocError> {
+    for (case, tree) in trees {
+        let nested = [(b"s".as_slice(), *tree)];
         let below = Asked {
             below: Some(b"s"),
             ..top(Sketch::Dir(&nested))
         };
-        check(&rt, rt.alloc(), case, below, Ok(wanted))?;
+        check(rt, alloc, case, below, Ok(wanted))?;
     }
     Ok(())
 }
 
 #[test]
-fn rules_of_the_tree(rt: HostRuntime) -> Result<(), Fail> {
-    let files_and_directory: Level = Level {
-        files: &[(b".gitignore", NONE), (b"a", NONE), (b"b", NONE)],
-        faults: &[],
-        children: &[b"d"],
-    };
-    let no_directory = Level {
-        children: &[],
-        ..files_and_directory
-    };
-    let a_and_directory = Level {
-        files: &[(b"a", NONE)],
-        ..files_and_directory
-    };
-    let cases: [(&str, &[u8], Level); 5] = [
-        ("no rule", b"", files_and_directory),
-        ("a pattern for directories", b"a/\nd/\n", no_directory),
-        ("ignored and included", b"*\n!a\n!d/\n", a_and_directory),
-        (
-            "it ignores itself, and applies",
-            b".*\nb\n",
-            a_and_directory,
-        ),
-        (
-            "the last rule decides",
-            b"!b\nb\n.gitignore\n",
-            a_and_directory,
-        ),
+fn git_is_left_out(rt: HostRuntime) -> Result<(), Fail> {
+    check_tops(&rt, rt.alloc(), &GITS, A_ALONE)?;
+    check_below(&rt, rt.alloc(), &GITS, A_ALONE)?;
+    Ok(())
+}
+
+const FILES_AND_DIRECTORY: Level = Level {
+    files: &[(b".gitignore", NONE), (b"a", NONE), (b"b", NONE)],
+    faults: &[],
+    children: &[b"d"],
+};
+
+const NO_DIRECTORY: Level = Level {
+    files: &[(b".gitignore", NONE), (b"a", NONE), (b"b", NONE)],
+    faults: &[],
+    children: &[],
+};
+
+const A_AND_DIRECTORY: Level = Level {
+    files: &[(b"a", NONE)],
+    faults: &[],
+    children: &[b"d"],
+};
+
+static RULES: [(&str, &[u8], Level); 5] = [
+    ("no rule", b"", FILES_AND_DIRECTORY),
+    ("a pattern for directories", b"a/\nd/\n", NO_DIRECTORY),
+    ("ignored and included", b"*\n!a\n!d/\n", A_AND_DIRECTORY),
+    (
+        "it ignores itself, and applies",
+        b".*\nb\n",
+        A_AND_DIRECTORY,
+    ),
+    (
+        "the last rule decides",
+        b"!b\nb\n.gitignore\n",
+        A_AND_DIRECTORY,
+    ),
+];
+
+fn check_rules(
+    rt: &impl Abort,
+    alloc: Global,
+    case: &str,
+    rules: &[u8],
+    wanted: Level,
+) -> Result<(), AllocError> {
+    let entries = [
+        (b".gitignore".as_slice(), Sketch::File(rules)),
+        (b"a".as_slice(), LINE),
+        (b"b".as_slice(), LINE),
+        (b"d".as_slice(), EMPTY),
     ];
-    for (case, bytes, wanted) in cases {
-        let entries = [
-            (b".gitignore".as_slice(), Sketch::File(bytes)),
-            (b"a".as_slice(), LINE),
-            (b"b".as_slice(), LINE),
-            (b"d".as_slice(), EMPTY),
-        ];
-        check(
-            &rt,
-            rt.alloc(),
-            case,
-            top(Sketch::Dir(&entries)),
-            Ok(wanted),
-        )?;
+    check(rt, alloc, case, top(Sketch::Dir(&entries)), Ok(wanted))
+}
+
+#[test]
+fn rules_of_the_tree(rt: HostRuntime) -> Result<(), Fail> {
+    for (case, rules, wanted) in &RULES {
+        check_rules(&rt, rt.alloc(), case, rules, *wanted)?;
     }
     Ok(())
 }
 
-const INCLUDING: Sketch = Sketch::Dir(&[
+static INCLUDING: Sketch = Sketch::Dir(&[
     (b".gitignore", Sketch::File(b"!x.c\n")),
     (b"x.c", LINE),
     (b"y.c", LINE),
@@ -199,11 +226,13 @@ const BY_DIRECTORY: Level = Level {
     children: &[],
 };
 
+static NOT_THE_TOP: Sketch = Sketch::Dir(&[(b"s", REPOSITORY)]);
+
 #[test]
 fn repository_rules_of_the_top_alone(rt: HostRuntime) -> Result<(), Fail> {
     let below = Asked {
         below: Some(b"s"),
-        ..top(Sketch::Dir(&[(b"s", REPOSITORY)]))
+        ..top(NOT_THE_TOP)
     };
     check(
         &rt,
@@ -223,39 +252,33 @@ const DIRECTORY_THERE: Sketch = Sketch::Dir(&[(b"info", Sketch::Dir(&[(b"exclude
 
 const LINK_THERE: Sketch = Sketch::Dir(&[(b"info", Sketch::Dir(&[(b"exclude", Sketch::Other)]))]);
 
+static WITHOUT_INFO: [(&str, Sketch); 5] = [
+    ("no info", Sketch::Dir(&[(b".git", EMPTY), (b"a", LINE)])),
+    (
+        "info is a file",
+        Sketch::Dir(&[(b".git", INFO_FILE), (b"a", LINE)]),
+    ),
+    (
+        "an empty info",
+        Sketch::Dir(&[(b".git", EMPTY_INFO), (b"a", LINE)]),
+    ),
+    (
+        "exclude is a directory",
+        Sketch::Dir(&[(b".git", DIRECTORY_THERE), (b"a", LINE)]),
+    ),
+    (
+        "exclude is a link",
+        Sketch::Dir(&[(b".git", LINK_THERE), (b"a", LINE)]),
+    ),
+];
+
 #[test]
 fn what_is_no_file_there_is_absent(rt: HostRuntime) -> Result<(), Fail> {
-    let cases: [(&str, Sketch); 5] = [
-        ("no info", Sketch::Dir(&[(b".git", EMPTY), (b"a", LINE)])),
-        (
-            "info is a file",
-            Sketch::Dir(&[(b".git", INFO_FILE), (b"a", LINE)]),
-        ),
-        (
-            "an empty info",
-            Sketch::Dir(&[(b".git", EMPTY_INFO), (b"a", LINE)]),
-        ),
-        (
-            "exclude is a directory",
-            Sketch::Dir(&[(b".git", DIRECTORY_THERE), (b"a", LINE)]),
-        ),
-        (
-            "exclude is a link",
-            Sketch::Dir(&[(b".git", LINK_THERE), (b"a", LINE)]),
-        ),
-    ];
-    let wanted = Level {
-        files: &[(b"a", NONE)],
-        faults: &[],
-        children: &[],
-    };
-    for (case, directory) in cases {
-        check(&rt, rt.alloc(), case, top(directory), Ok(wanted))?;
-    }
+    check_tops(&rt, rt.alloc(), &WITHOUT_INFO, A_ALONE)?;
     Ok(())
 }
 
-const NO_RULE_FILES: Sketch = Sketch::Dir(&[
+static NO_RULE_FILES: Sketch = Sketch::Dir(&[
     (b".gitattributes", Sketch::Other),
     (b".gitignore", EMPTY),
     (b"a", LINE),
@@ -281,7 +304,7 @@ fn rule_files_of_other_kinds_are_absent(rt: HostRuntime) -> Result<(), Fail> {
 const EXPORT_IGNORE: &[u8] =
     b"docs/ export-ignore\n*.tmp export-ignore\nx.tmp -export-ignore\n*.y export-ignore=1\n";
 
-const EXPORTED: Sketch = Sketch::Dir(&[
+static EXPORTED: Sketch = Sketch::Dir(&[
     (b".gitattributes", Sketch::File(EXPORT_IGNORE)),
     (b"a.tmp", LINE),
     (b"b.y", LINE),

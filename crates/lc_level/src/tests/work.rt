@@ -85,20 +85,71 @@ fn job_of(
     Ok(None)
 }
 
-fn are_wanted(found: &CountedFiles, children: &[Vec<u8>], wanted: &Level) -> bool {
-    found.files.len() == wanted.files.len()
-        && found.faults.len() == wanted.faults.len()
-        && children.len() == wanted.children.len()
-        && found.files.iter().zip(wanted.files).all(|(file, (name, text))| file.name.as_slice()
-            == *name
+/// What the work on a directory found.
+#[derive(Drop)]
+struct Found {
+    counted: CountedFiles,
+    children: Vec<Vec<u8>>,
+}
+
+/// Opens the directory of the job and counts its files.
+fn work(
+    alloc: Global,
+    tree: &MemTree,
+    job: &Job,
+    archive: bool,
+    desk: &mut Desk,
+) -> Result<Result<Found, Unlisted>, AllocError> {
+    let opened = match open_level(alloc, tree, job, archive, desk) {
+        Ok(opened) => opened,
+        Err(Unlisted::Broken(Cause::Memory)) => return Err(AllocError),
+        Err(unlisted) => return Ok(Err(unlisted)),
+    };
+    let Opened {
+        job,
+        files,
+        children,
+    } = opened;
+    let mut names = Vec::new(alloc);
+    for child in children {
+        names.push(child.name)?;
+    }
+    let counted = count_files(alloc, tree, &job, files, desk)?;
+    let children = names;
+    Ok(Ok(Found { counted, children }))
+}
+
+fn are_files(found: &CountedFiles, wanted: &[(&[u8], TextState)]) -> bool {
+    found.files.len() == wanted.len()
+        && found.files.iter().zip(wanted).all(|(file, (name, text))| file.name.as_slice() == *name
             && file.text == *text)
-        && found.faults.iter().zip(wanted.faults).all(|(fault, (name, word))| fault.name.as_slice()
+}
+
+fn are_faults(found: &CountedFiles, wanted: &[(&[u8], FaultWord)]) -> bool {
+    found.faults.len() == wanted.len()
+        && found.faults.iter().zip(wanted).all(|(fault, (name, word))| fault.name.as_slice()
             == *name
             && fault.word == *word)
-        && children
+}
+
+fn are_children(found: &[Vec<u8>], wanted: &[&[u8]]) -> bool {
+    found.len() == wanted.len()
+        && found
             .iter()
-            .zip(wanted.children)
+            .zip(wanted)
             .all(|(child, name)| child.as_slice() == *name)
+}
+
+fn is_wanted(found: &Result<Found, Unlisted>, wanted: &Result<Level, Unlisted>) -> bool {
+    match (found, wanted) {
+        (Ok(found), Ok(level)) => {
+            are_files(&found.counted, level.files)
+                && are_faults(&found.counted, level.faults)
+                && are_children(&found.children, level.children)
+        }
+        (Err(unlisted), Err(wanted)) => unlisted == wanted,
+        (Ok(_), Err(_)) | (Err(_), Ok(_)) => false,
+    }
 }
 
 /// Works on the directory, and compares.
@@ -116,25 +167,20 @@ pub(crate) fn check(
         assert!(rt; false, "{case}: no such directory");
         return Ok(());
     };
-    match open_level(alloc, &tree, &job, asked.archive, &mut desk) {
-        Err(Unlisted::Broken(Cause::Memory)) => return Err(AllocError),
-        Err(unlisted) => assert!(rt; wanted.err() == Some(unlisted), "{case}: {unlisted:?}"),
-        Ok(opened) => {
-            let Opened {
-                job,
-                files,
-                children,
-            } = opened;
-            let mut names = Vec::new(alloc);
-            for child in children {
-                names.push(child.name)?;
-            }
-            let found = count_files(alloc, &tree, &job, files, &mut desk)?;
-            match wanted {
-                Ok(wanted) => assert!(rt; are_wanted(&found, &names, &wanted), "{case}"),
-                Err(wanted) => assert!(rt; false, "{case}: {wanted:?} is wanted"),
-            }
-        }
+    let found = work(alloc, &tree, &job, asked.archive, &mut desk)?;
+    assert!(rt; is_wanted(&found, &wanted), "{case}");
+    Ok(())
+}
+
+/// Each tree's top is this level.
+pub(crate) fn check_tops(
+    rt: &impl Abort,
+    alloc: Global,
+    trees: &[(&str, Sketch)],
+    wanted: Level,
+) -> Result<(), AllocError> {
+    for (case, tree) in trees {
+        check(rt, alloc, case, top(*tree), Ok(wanted))?;
     }
     Ok(())
 }
