@@ -1,6 +1,7 @@
 //! What listings say of values from outside, what folders of the system and trees of memory give, and that each call can
 //! succeed.
 
+mod checks;
 mod given_names;
 mod interrupted_calls;
 mod listings;

@@ -1,7 +1,7 @@
 //! What the names that a system gives make of a listing.
 
-use crate::{Kind, ReadFault, SysTree, Tree};
-use std::alloc::{AllocError, Allocator, Global};
+use crate::{Kind, Listing, ReadFault, SysTree, Tree};
+use std::alloc::{Allocator, Global};
 use std::fs::{File, Metadata, OpenOptions};
 use std::io;
 use std::io::{ErrorKind, Read};
@@ -103,49 +103,50 @@ impl<'a> Files for System<'a> {
     }
 }
 
-/// The kinds of a listing in order, or its fault.
-fn check_kinds(
-    rt: &impl Abort,
-    alloc: Global,
-    reads: Reads,
-    wanted: Result<&[Kind], ReadFault>,
-) -> Result<(), AllocError> {
+/// The answers of the reads of a directory, and the kinds of its listing in order, or its fault.
+type Case<'a> = (Reads<'a>, Result<&'a [Kind], ReadFault>);
+
+fn are_kinds(listing: &Listing, wanted: &[Kind]) -> bool {
+    listing
+        .entries()
+        .iter()
+        .map(|entry| entry.kind)
+        .eq(wanted.iter().copied())
+}
+
+fn check_kinds(rt: &impl Abort, alloc: Global, case: Case) -> Result<(), ReadFault> {
+    let (reads, wanted) = case;
     let system = System { reads };
     let tree = SysTree::new(&system, alloc, "top")?;
-    match (tree.list(alloc, b""), wanted) {
-        (Err(ReadFault::Memory), _) => return Err(AllocError),
-        (Ok(listing), Ok(kinds)) => {
-            let same = listing
-                .entries()
-                .iter()
-                .map(|entry| entry.kind)
-                .eq(kinds.iter().copied());
-            assert!(rt; same, "{reads:?}");
-        }
-        (listing, wanted) => assert!(rt; listing.err() == wanted.err(), "{reads:?}"),
-    }
+    let same = match (tree.list(alloc, b""), wanted) {
+        (Err(ReadFault::Memory), _) => return Err(ReadFault::Memory),
+        (Ok(listing), Ok(kinds)) => are_kinds(&listing, kinds),
+        (listing, wanted) => listing.err() == wanted.err(),
+    };
+    assert!(rt; same, "{reads:?}");
     Ok(())
 }
 
+static CASES: [Case; 10] = [
+    (&[], Ok(&[])),
+    (&[Some(b".\0..\0")], Ok(&[])),
+    (&[Some(b"f\0.\0d\0..\0")], Ok(&[Kind::Dir, Kind::File])),
+    (
+        &[Some(b"l\0"), Some(b"f\0")],
+        Ok(&[Kind::File, Kind::Other]),
+    ),
+    (&[Some(b"f\0gone\0")], Ok(&[Kind::File])),
+    (&[Some(b"f\0denied\0x\0")], Err(ReadFault::Failed)),
+    (&[Some(b"f\0"), None], Err(ReadFault::Failed)),
+    (&[Some(b"f\0f\xFF\0")], Err(ReadFault::Unnamed)),
+    (&[Some(b"f\0"), Some(b"f\0")], Err(ReadFault::Twice)),
+    (&[Some(b"f/f\0")], Err(ReadFault::BadName)),
+];
+
 #[test]
 fn names_make_listings(rt: HostRuntime) -> Result<(), Fail> {
-    let cases: [(Reads, Result<&[Kind], ReadFault>); 10] = [
-        (&[], Ok(&[])),
-        (&[Some(b".\0..\0")], Ok(&[])),
-        (&[Some(b"f\0.\0d\0..\0")], Ok(&[Kind::Dir, Kind::File])),
-        (
-            &[Some(b"l\0"), Some(b"f\0")],
-            Ok(&[Kind::File, Kind::Other]),
-        ),
-        (&[Some(b"f\0gone\0")], Ok(&[Kind::File])),
-        (&[Some(b"f\0denied\0x\0")], Err(ReadFault::Failed)),
-        (&[Some(b"f\0"), None], Err(ReadFault::Failed)),
-        (&[Some(b"f\0f\xFF\0")], Err(ReadFault::Unnamed)),
-        (&[Some(b"f\0"), Some(b"f\0")], Err(ReadFault::Twice)),
-        (&[Some(b"f/f\0")], Err(ReadFault::BadName)),
-    ];
-    for (reads, wanted) in cases {
-        check_kinds(&rt, rt.alloc(), reads, wanted)?;
+    for case in &CASES {
+        check_kinds(&rt, rt.alloc(), *case)?;
     }
     Ok(())
 }

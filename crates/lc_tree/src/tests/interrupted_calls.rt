@@ -1,11 +1,13 @@
 //! Calls of the system that signals interrupt.
 
-use crate::tests::real_folders::{check_file, check_listing, check_not_listed, make_folder};
-use crate::{Kind, SysTree};
-use std::alloc::Allocator;
+use crate::tests::checks::{Given, Listed, check_files, check_listings};
+use crate::tests::real_folders::{TOP, make_folder};
+use crate::{ReadFault, SysTree};
+use std::alloc::{Allocator, Global};
 use std::fs;
 use std::fs::{Metadata, OpenOptions};
 use std::io::{Error, ErrorKind, Read, Result as IoResult};
+use std::process::Abort;
 use std::rt::Files;
 use std::sync::atomic::{AtomicU64, Ordering};
 use std::test::Fail;
@@ -106,50 +108,57 @@ impl<'a, R: Files> Files for Interrupted<'a, R> {
     }
 }
 
+static LISTED: [(&[u8], Listed); 1] = [(b"", Ok(TOP))];
+
+static READ: [(&[u8], Given); 1] = [(b"a", Ok((b"one\n", Ok(()))))];
+
+/// A tree each so many-th call of which is not interrupted gives these.
+fn check_period<R: Files + Sync + Abort>(
+    rt: &R,
+    alloc: Global,
+    dir: &str,
+    period: u64,
+    listed: &[(&[u8], Listed)],
+    read: &[(&[u8], Given)],
+) -> Result<(), ReadFault>
+where
+    R::File: Send,
+    R::Dir: Send,
+{
+    let signals = Signals {
+        calls: AtomicU64::new(0),
+        period,
+    };
+    let files = Interrupted {
+        files: rt,
+        signals: &signals,
+    };
+    let tree = SysTree::new(&files, alloc, dir)?;
+    check_listings(rt, alloc, &tree, listed)?;
+    signals.calls.store(0, Ordering::SeqCst);
+    check_files(rt, alloc, &tree, read)
+}
+
 #[test]
 fn interrupted_calls_are_tried_again(rt: HostRuntime) -> Result<(), Fail> {
     let dir = "lc_tree_interrupted";
     make_folder(&rt, dir)?;
     for period in [1, 2, 65_536] {
-        let signals = Signals {
-            calls: AtomicU64::new(0),
-            period,
-        };
-        let files = Interrupted {
-            files: &rt,
-            signals: &signals,
-        };
-        let tree = SysTree::new(&files, rt.alloc(), dir)?;
-        let top: [(&[u8], Kind); 5] = [
-            (b"a", Kind::File),
-            (b"b", Kind::Dir),
-            (b"to_a", Kind::Other),
-            (b"to_b", Kind::Other),
-            (b"to_nothing", Kind::Other),
-        ];
-        check_listing(&rt, rt.alloc(), &tree, b"", &top)?;
-        check_file(&rt, rt.alloc(), &tree, b"a", Some(b"one\n"))?;
+        check_period(&rt, rt.alloc(), dir, period, &LISTED, &READ)?;
     }
     fs::remove_dir_all(&rt, dir)?;
     Ok(())
 }
 
+static NOT_LISTED: [(&[u8], Listed); 1] = [(b"", Err(ReadFault::Failed))];
+
+static NOT_READ: [(&[u8], Given); 1] = [(b"a", Err(ReadFault::Failed))];
+
 #[test]
 fn tries_of_interrupted_calls_end(rt: HostRuntime) -> Result<(), Fail> {
     let dir = "lc_tree_always_interrupted";
     make_folder(&rt, dir)?;
-    let signals = Signals {
-        calls: AtomicU64::new(0),
-        period: 65_537,
-    };
-    let files = Interrupted {
-        files: &rt,
-        signals: &signals,
-    };
-    let tree = SysTree::new(&files, rt.alloc(), dir)?;
-    check_not_listed(&rt, rt.alloc(), &tree, b"")?;
-    signals.calls.store(0, Ordering::SeqCst);
-    check_file(&rt, rt.alloc(), &tree, b"a", None)?;
+    check_period(&rt, rt.alloc(), dir, 65_537, &NOT_LISTED, &NOT_READ)?;
     fs::remove_dir_all(&rt, dir)?;
     Ok(())
 }

@@ -1,9 +1,9 @@
 //! What trees of memory answer.
 
-use crate::{Kind, MemTree, Node, ReadFault, Tree};
-use lc_census::{WholeFault, read_whole};
+use crate::tests::checks::{Entries, Given, Listed, check_files, check_listings};
+use crate::{Kind, MemTree, Node, ReadFault};
+use lc_census::WholeFault;
 use std::alloc::{AllocError, Global};
-use std::process::Abort;
 use std::test::Fail;
 
 type Children = Vec<(Vec<u8>, Node)>;
@@ -49,68 +49,44 @@ fn tree(alloc: Global) -> Result<Node, AllocError> {
     Ok(Node::Dir(top))
 }
 
-/// The names and kinds of a listing, or its fault.
-type Listed<'a> = Result<&'a [(&'a [u8], Kind)], ReadFault>;
+const TOP: Entries = &[
+    (b"all", Kind::Dir),
+    (b"bad", Kind::Dir),
+    (b"twice", Kind::Dir),
+];
 
-fn check_listing(
-    rt: &impl Abort,
-    alloc: Global,
-    tree: &MemTree,
-    path: &[u8],
-    wanted: Listed,
-) -> Result<(), ReadFault> {
-    match (tree.list(alloc, path), wanted) {
-        (Err(ReadFault::Memory), _) => return Err(ReadFault::Memory),
-        (Ok(listing), Ok(wanted)) => {
-            assert!(rt; listing.entries().len() == wanted.len(), "{path:?}");
-            for (entry, (name, kind)) in listing.entries().iter().zip(wanted) {
-                assert!(rt;
-                    entry.name.as_slice() == *name && entry.kind == *kind,
-                    "{path:?}, {name:?}"
-                );
-            }
-        }
-        (listing, wanted) => assert!(rt; listing.err() == wanted.err(), "{path:?}"),
-    }
-    Ok(())
-}
+const ALL: Entries = &[
+    (b"closed", Kind::Dir),
+    (b"empty", Kind::File),
+    (b"failing", Kind::File),
+    (b"file", Kind::File),
+    (b"other", Kind::Other),
+];
+
+static DIRECTORIES: [(&[u8], Listed); 13] = [
+    (b"", Ok(TOP)),
+    (b"all", Ok(ALL)),
+    (b"twice", Err(ReadFault::Twice)),
+    (b"bad", Err(ReadFault::BadName)),
+    (b"all/closed", Err(ReadFault::Failed)),
+    (b"all/file", Err(ReadFault::Failed)),
+    (b"all/other", Err(ReadFault::Failed)),
+    (b"missing", Err(ReadFault::Failed)),
+    (b"all/missing", Err(ReadFault::Failed)),
+    (b"all/file/x", Err(ReadFault::Failed)),
+    (b"/all", Err(ReadFault::Failed)),
+    (b"all/", Err(ReadFault::Failed)),
+    (b"al", Err(ReadFault::Failed)),
+];
 
 #[test]
 fn directories_are_listed(rt: HostRuntime) -> Result<(), Fail> {
-    let top: [(&[u8], Kind); 3] = [
-        (b"all", Kind::Dir),
-        (b"bad", Kind::Dir),
-        (b"twice", Kind::Dir),
-    ];
-    let all: [(&[u8], Kind); 5] = [
-        (b"closed", Kind::Dir),
-        (b"empty", Kind::File),
-        (b"failing", Kind::File),
-        (b"file", Kind::File),
-        (b"other", Kind::Other),
-    ];
-    let cases: [(&[u8], Listed); 13] = [
-        (b"", Ok(&top)),
-        (b"all", Ok(&all)),
-        (b"twice", Err(ReadFault::Twice)),
-        (b"bad", Err(ReadFault::BadName)),
-        (b"all/closed", Err(ReadFault::Failed)),
-        (b"all/file", Err(ReadFault::Failed)),
-        (b"all/other", Err(ReadFault::Failed)),
-        (b"missing", Err(ReadFault::Failed)),
-        (b"all/missing", Err(ReadFault::Failed)),
-        (b"all/file/x", Err(ReadFault::Failed)),
-        (b"/all", Err(ReadFault::Failed)),
-        (b"all/", Err(ReadFault::Failed)),
-        (b"al", Err(ReadFault::Failed)),
-    ];
     let node = tree(rt.alloc())?;
-    let tree = MemTree::new(&node);
-    for (path, wanted) in cases {
-        check_listing(&rt, rt.alloc(), &tree, path, wanted)?;
-    }
+    check_listings(&rt, rt.alloc(), &MemTree::new(&node), &DIRECTORIES)?;
     Ok(())
 }
+
+static NOT_LISTED: [(&[u8], Listed); 1] = [(b"", Err(ReadFault::Failed))];
 
 #[test]
 fn tops_of_other_kinds_are_not_listed(rt: HostRuntime) -> Result<(), Fail> {
@@ -122,63 +98,35 @@ fn tops_of_other_kinds_are_not_listed(rt: HostRuntime) -> Result<(), Fail> {
         Node::Failing(Vec::new(alloc)),
     ];
     for top in &tops {
-        check_listing(&rt, alloc, &MemTree::new(top), b"", Err(ReadFault::Failed))?;
+        check_listings(&rt, alloc, &MemTree::new(top), &NOT_LISTED)?;
     }
     Ok(())
 }
 
-/// The bytes that a file gives and how its reads stop, or why it is not opened.
-type Given<'a> = Result<(&'a [u8], Result<(), WholeFault>), ReadFault>;
-
-fn check_file(
-    rt: &impl Abort,
-    alloc: Global,
-    tree: &MemTree,
-    path: &[u8],
-    wanted: Given,
-) -> Result<(), AllocError> {
-    let mut file = match tree.open_file(alloc, path) {
-        Ok(file) => file,
-        Err(fault) => {
-            assert!(rt; wanted.err() == Some(fault), "{path:?}");
-            return Ok(());
-        }
-    };
-    let mut buffer = [0; 2];
-    let mut bytes = Vec::new(alloc);
-    let stop = read_whole(&mut buffer, &mut bytes, &mut file, 100);
-    if stop == Err(WholeFault::Memory) {
-        return Err(AllocError);
-    }
-    assert!(rt; wanted == Ok((bytes.as_slice(), stop)), "{path:?}");
-    Ok(())
-}
+static FILES: [(&[u8], Given); 9] = [
+    (b"all/file", Ok((b"one\ntwo", Ok(())))),
+    (b"all/empty", Ok((b"", Ok(())))),
+    (b"all/failing", Ok((b"xyz", Err(WholeFault::Read)))),
+    (b"twice/x", Ok((b"", Err(WholeFault::Read)))),
+    (b"all/closed", Err(ReadFault::Failed)),
+    (b"all/other", Err(ReadFault::Failed)),
+    (b"all/missing", Err(ReadFault::Failed)),
+    (b"all", Err(ReadFault::Failed)),
+    (b"", Err(ReadFault::Failed)),
+];
 
 #[test]
 fn files_give_their_bytes(rt: HostRuntime) -> Result<(), Fail> {
-    let cases: [(&[u8], Given); 9] = [
-        (b"all/file", Ok((b"one\ntwo", Ok(())))),
-        (b"all/empty", Ok((b"", Ok(())))),
-        (b"all/failing", Ok((b"xyz", Err(WholeFault::Read)))),
-        (b"twice/x", Ok((b"", Err(WholeFault::Read)))),
-        (b"all/closed", Err(ReadFault::Failed)),
-        (b"all/other", Err(ReadFault::Failed)),
-        (b"all/missing", Err(ReadFault::Failed)),
-        (b"all", Err(ReadFault::Failed)),
-        (b"", Err(ReadFault::Failed)),
-    ];
     let node = tree(rt.alloc())?;
-    let tree = MemTree::new(&node);
-    for (path, wanted) in cases {
-        check_file(&rt, rt.alloc(), &tree, path, wanted)?;
-    }
+    check_files(&rt, rt.alloc(), &MemTree::new(&node), &FILES)?;
+    Ok(())
+}
+
+static TOP_FILE: [(&[u8], Given); 1] = [(b"", Ok((b"top", Ok(()))))];
+
+#[test]
+fn top_may_be_a_file(rt: HostRuntime) -> Result<(), Fail> {
     let top = Node::File(b"top".to_vec(rt.alloc())?);
-    check_file(
-        &rt,
-        rt.alloc(),
-        &MemTree::new(&top),
-        b"",
-        Ok((b"top", Ok(()))),
-    )?;
+    check_files(&rt, rt.alloc(), &MemTree::new(&top), &TOP_FILE)?;
     Ok(())
 }

@@ -1,123 +1,105 @@
 //! What folders of the system give.
 
-use crate::{Kind, ReadFault, SysTree, Tree};
-use lc_census::Source;
+use crate::tests::checks::{Entries, Given, Listed, check_files, check_listings};
+use crate::{Kind, ReadFault, SysTree};
+use lc_census::WholeFault;
 use std::alloc::Global;
 use std::os::unix::fs::symlink;
 use std::process::Abort;
+use std::rt::Files;
 use std::test::Fail;
 use std::{fs, io};
 
+fn write(rt: &HostRuntime, dir: &str, name: &str, bytes: &[u8]) -> io::Result<()> {
+    let path = format!(in rt.alloc(); "{dir}/{name}")?;
+    fs::write(rt, path.as_str(), bytes)
+}
+
+fn link(rt: &HostRuntime, dir: &str, name: &str, to: &str) -> io::Result<()> {
+    let path = format!(in rt.alloc(); "{dir}/{name}")?;
+    symlink(rt, to, path.as_str())
+}
+
 /// A folder with a file, a directory with a file, a link to each, and one to nothing.
 pub(super) fn make_folder(rt: &HostRuntime, dir: &str) -> io::Result<()> {
-    let alloc = rt.alloc();
     let _ = fs::remove_dir_all(rt, dir);
-    fs::create_dir_all(rt, format!(in alloc; "{dir}/b")?.as_str())?;
-    fs::write(
-        rt,
-        format!(in alloc; "{dir}/a")?.as_str(),
-        b"one\n".as_slice(),
-    )?;
-    fs::write(rt, format!(in alloc; "{dir}/b/c")?.as_str(), b"".as_slice())?;
-    for (name, path) in [("to_a", "a"), ("to_b", "b"), ("to_nothing", "missing")] {
-        symlink(rt, path, format!(in alloc; "{dir}/{name}")?.as_str())?;
-    }
-    Ok(())
+    fs::create_dir_all(rt, format!(in rt.alloc(); "{dir}/b")?.as_str())?;
+    write(rt, dir, "a", b"one\n")?;
+    write(rt, dir, "b/c", b"")?;
+    link(rt, dir, "to_a", "a")?;
+    link(rt, dir, "to_b", "b")?;
+    link(rt, dir, "to_nothing", "missing")
 }
 
-pub(super) fn check_listing<T: Tree>(
-    rt: &impl Abort,
-    alloc: Global,
-    tree: &T,
-    path: &[u8],
-    wanted: &[(&[u8], Kind)],
-) -> Result<(), ReadFault> {
-    let listing = tree.list(alloc, path)?;
-    assert!(rt; listing.entries().len() == wanted.len(), "{path:?}");
-    for (entry, (name, kind)) in listing.entries().iter().zip(wanted) {
-        assert!(rt;
-            entry.name.as_slice() == *name && entry.kind == *kind,
-            "{path:?}, {name:?}"
-        );
-    }
-    Ok(())
-}
-
-pub(super) fn check_not_listed<T: Tree>(
-    rt: &impl Abort,
-    alloc: Global,
-    tree: &T,
-    path: &[u8],
-) -> Result<(), ReadFault> {
-    let answer = tree.list(alloc, path).err();
-    if answer == Some(ReadFault::Memory) {
-        return Err(ReadFault::Memory);
-    }
-    assert!(rt; answer == Some(ReadFault::Failed), "{path:?}");
-    Ok(())
-}
-
-/// The first bytes that the file at a path gives, or none where it is not opened.
-pub(super) fn check_file<T: Tree>(
-    rt: &impl Abort,
-    alloc: Global,
-    tree: &T,
-    path: &[u8],
-    wanted: Option<&[u8]>,
-) -> Result<(), ReadFault> {
-    let mut buffer = [0; 8];
-    match tree.open_file(alloc, path) {
-        Ok(mut file) => {
-            let taken = file.read(&mut buffer).ok();
-            assert!(rt; taken.map(|taken| &buffer[..taken]) == wanted, "{path:?}");
-        }
-        Err(ReadFault::Memory) => return Err(ReadFault::Memory),
-        Err(fault) => assert!(rt; fault == ReadFault::Failed && wanted == None, "{path:?}"),
-    }
-    Ok(())
-}
+static FILES: [(&[u8], Given); 5] = [
+    (b"a", Ok((b"one\n", Ok(())))),
+    (b"b/c", Ok((b"", Ok(())))),
+    (b"b", Ok((b"", Err(WholeFault::Read)))),
+    (b"missing", Err(ReadFault::Failed)),
+    (b"a/\xFF", Err(ReadFault::Failed)),
+];
 
 #[test]
 fn files_are_opened(rt: HostRuntime) -> Result<(), Fail> {
     let dir = "lc_tree_files";
     make_folder(&rt, dir)?;
     let tree = SysTree::new(&rt, rt.alloc(), dir)?;
-    let cases: [(&[u8], Option<&[u8]>); 5] = [
-        (b"a", Some(b"one\n")),
-        (b"b/c", Some(b"")),
-        (b"b", None),
-        (b"missing", None),
-        (b"a/\xFF", None),
-    ];
-    for (path, wanted) in cases {
-        check_file(&rt, rt.alloc(), &tree, path, wanted)?;
-    }
+    check_files(&rt, rt.alloc(), &tree, &FILES)?;
     fs::remove_dir_all(&rt, dir)?;
     Ok(())
 }
 
+pub(super) const TOP: Entries = &[
+    (b"a", Kind::File),
+    (b"b", Kind::Dir),
+    (b"to_a", Kind::Other),
+    (b"to_b", Kind::Other),
+    (b"to_nothing", Kind::Other),
+];
+
+static FOLDERS: [(&[u8], Listed); 6] = [
+    (b"", Ok(TOP)),
+    (b"b", Ok(&[(b"c", Kind::File)])),
+    (b"a", Err(ReadFault::Failed)),
+    (b"to_b", Err(ReadFault::Failed)),
+    (b"missing", Err(ReadFault::Failed)),
+    (b"b/\xFF", Err(ReadFault::Failed)),
+];
+
 #[test]
 fn folders_are_listed(rt: HostRuntime) -> Result<(), Fail> {
-    make_folder(&rt, "lc_tree_folder")?;
-    let top: [(&[u8], Kind); 5] = [
-        (b"a", Kind::File),
-        (b"b", Kind::Dir),
-        (b"to_a", Kind::Other),
-        (b"to_b", Kind::Other),
-        (b"to_nothing", Kind::Other),
-    ];
-    let tree = SysTree::new(&rt, rt.alloc(), "lc_tree_folder")?;
-    check_listing(&rt, rt.alloc(), &tree, b"", &top)?;
-    check_listing(&rt, rt.alloc(), &tree, b"b", &[(b"c", Kind::File)])?;
-    for path in [b"a".as_slice(), b"to_b", b"missing", b"b/\xFF"] {
-        check_not_listed(&rt, rt.alloc(), &tree, path)?;
+    let dir = "lc_tree_folder";
+    make_folder(&rt, dir)?;
+    let tree = SysTree::new(&rt, rt.alloc(), dir)?;
+    check_listings(&rt, rt.alloc(), &tree, &FOLDERS)?;
+    fs::remove_dir_all(&rt, dir)?;
+    Ok(())
+}
+
+static TOPS: [(&str, &[(&[u8], Listed)]); 5] = [
+    ("lc_tree_tops/to_b", &[(b"", Ok(&[(b"c", Kind::File)]))]),
+    ("", &[(b"", Err(ReadFault::Failed))]),
+    ("lc_tree_tops/a", &[(b"", Err(ReadFault::Failed))]),
+    ("lc_tree_tops/missing", &[(b"", Err(ReadFault::Failed))]),
+    ("a\0", &[(b"", Err(ReadFault::Failed))]),
+];
+
+fn check_tops<R: Files + Sync + Abort>(rt: &R, alloc: Global) -> Result<(), ReadFault>
+where
+    R::File: Send,
+    R::Dir: Send,
+{
+    for (top, wanted) in &TOPS {
+        let tree = SysTree::new(rt, alloc, top)?;
+        check_listings(rt, alloc, &tree, wanted)?;
     }
-    let linked = SysTree::new(&rt, rt.alloc(), "lc_tree_folder/to_b")?;
-    check_listing(&rt, rt.alloc(), &linked, b"", &[(b"c", Kind::File)])?;
-    for dir in ["", "lc_tree_folder/a", "lc_tree_folder/missing", "a\0"] {
-        let tree = SysTree::new(&rt, rt.alloc(), dir)?;
-        check_not_listed(&rt, rt.alloc(), &tree, b"")?;
-    }
-    fs::remove_dir_all(&rt, "lc_tree_folder")?;
+    Ok(())
+}
+
+#[test]
+fn tops_are_followed_where_they_are_links(rt: HostRuntime) -> Result<(), Fail> {
+    make_folder(&rt, "lc_tree_tops")?;
+    check_tops(&rt, rt.alloc())?;
+    fs::remove_dir_all(&rt, "lc_tree_tops")?;
     Ok(())
 }

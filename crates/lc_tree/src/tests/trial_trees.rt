@@ -4,6 +4,7 @@ use crate::trials::{BytewiseTree, FailingCall, FailingTree};
 use crate::{MemTree, ReadFault, Sketch, Tree};
 use lc_census::Source;
 use std::alloc::Global;
+use std::process::Abort;
 use std::test::Fail;
 
 const TOP: Sketch = Sketch::Dir(&[(b"f", Sketch::File(b"one"))]);
@@ -26,26 +27,29 @@ fn ask<T: Tree>(alloc: Global, tree: &T) -> Result<Answered, ReadFault> {
     Ok([listed, Some(0), first, second])
 }
 
+/// The place of the call that fails, what is answered, and how many calls are begun.
+const FAILING: [(u64, Answered, u64); 5] = [
+    (0, [None, Some(0), Some(2), Some(1)], 4),
+    (1, [Some(1), None, None, None], 2),
+    (2, [Some(1), Some(0), None, Some(2)], 4),
+    (3, [Some(1), Some(0), Some(2), None], 4),
+    (4, [Some(1), Some(0), Some(2), Some(1)], 4),
+];
+
+fn check_failing(rt: &impl Abort, alloc: Global, tree: &MemTree) -> Result<(), ReadFault> {
+    for (place, wanted, begun) in FAILING {
+        let call = FailingCall::new(place);
+        let failing = FailingTree { tree, call: &call };
+        let same = ask(alloc, &failing)? == wanted && call.begun() == begun;
+        assert!(rt; same, "{place}");
+    }
+    Ok(())
+}
+
 #[test]
 fn one_call_fails(rt: HostRuntime) -> Result<(), Fail> {
-    let cases: [(u64, Answered, u64); 5] = [
-        (0, [None, Some(0), Some(2), Some(1)], 4),
-        (1, [Some(1), None, None, None], 2),
-        (2, [Some(1), Some(0), None, Some(2)], 4),
-        (3, [Some(1), Some(0), Some(2), None], 4),
-        (4, [Some(1), Some(0), Some(2), Some(1)], 4),
-    ];
     let node = TOP.node(rt.alloc())?;
-    let tree = MemTree::new(&node);
-    for (place, wanted, begun) in cases {
-        let call = FailingCall::new(place);
-        let failing = FailingTree {
-            tree: &tree,
-            call: &call,
-        };
-        assert!(rt; ask(rt.alloc(), &failing)? == wanted, "{place}");
-        assert_eq!(rt; call.begun(), begun, "{place}");
-    }
+    check_failing(&rt, rt.alloc(), &MemTree::new(&node))?;
     Ok(())
 }
 
