@@ -61,7 +61,7 @@ const C_UNCOUNTED: Case<'static> = Case {
 
 /// What the worker does in turn, with its first call of the tree and the one after its last, and the table where one of these fails.
 /// A listing is one call. A file is opened, read, and read to its end.
-const STEPS: [(u64, u64, Case<'static>); 7] = [
+const STEPS: &[(u64, u64, Case<'static>)] = &[
     (0, 1, TOP_UNREAD),
     (1, 4, RULES_UNREAD),
     (4, 7, RULES_UNCOUNTED),
@@ -88,8 +88,8 @@ fn each_call_of_one_worker_fails(rt: HostRuntime) -> Result<(), Fail> {
     let node = FIRST_CASE.top.node(rt.alloc())?;
     let tree = MemTree::new(&node);
     for (from, to, case) in STEPS {
-        for place in from..to {
-            compare_failing(&rt, &tree, place, &case)?;
+        for place in *from..*to {
+            compare_failing(&rt, &tree, place, case)?;
         }
     }
     let calls = compare_failing(&rt, &tree, 15, &FIRST_CASE)?;

@@ -159,7 +159,7 @@ fn a_run_stops_at_every_place(rt: HostRuntime) -> Result<(), Fail> {
     let mut text = HEADER.to_vec(rt.alloc())?;
     text.extend_from_slice(WHOLE)?;
     for writer in WRITERS {
-        compare_writes(&rt, &MemTree::new(&node), &text, writer)?;
+        compare_writes(&rt, &MemTree::new(&node), &text, *writer)?;
     }
     Ok(())
 }

@@ -18,7 +18,7 @@ const JOINED: &[u8] = b"a\n--\na\nb\n";
 const TEXT: &[u8] = b"ignored\ta\nnone\tb\n";
 
 /// How a writer is made: how much it takes at once, and what it answers when it is full.
-pub(super) const WRITERS: [(usize, WhenFull); 4] = [
+pub(super) const WRITERS: &[(usize, WhenFull)] = &[
     (1, WhenFull::TakesNothing),
     (1, WhenFull::Fails),
     (7, WhenFull::TakesNothing),
@@ -91,8 +91,8 @@ fn compare_writes<R: AllocGlobal + Abort>(
 #[test]
 fn writes_stop_at_every_place(rt: HostRuntime) -> Result<(), Fail> {
     for writer in WRITERS {
-        compare_writes(&rt, true, JOINED, writer)?;
-        compare_writes(&rt, false, PATHS, writer)?;
+        compare_writes(&rt, true, JOINED, *writer)?;
+        compare_writes(&rt, false, PATHS, *writer)?;
     }
     Ok(())
 }

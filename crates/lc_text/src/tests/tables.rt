@@ -213,7 +213,7 @@ fn a_table_stops_at_every_place(rt: HostRuntime) -> Result<(), Fail> {
     let report = report_of(rt.alloc(), &CASES[2])?;
     let text = table_text(rt.alloc(), &report)?;
     for writer in WRITERS {
-        compare_writes(&rt, &report, &text, writer)?;
+        compare_writes(&rt, &report, &text, *writer)?;
     }
     Ok(())
 }
