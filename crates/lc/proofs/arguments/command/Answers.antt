@@ -1,4 +1,4 @@
-use Rattle.std.proofs.Common.{◌≡◌, ◌∙◌, ◌||◌, Bool, ap, ap₂}
+use Rattle.std.proofs.Common.{◌∙◌, ◌||◌, Bool, ap, ap₂}
 use Rattle.clap.specs.Simple.{App, with_subcommand}
 use Rattle.lc.proofs.arguments.command.Goals as goal
 
