@@ -50,5 +50,8 @@ check_app = with_rule (bare_app (codes "check")) (word_rule (codes "FILE"))
 abbrev pub bare_lc_app : App
 bare_lc_app = on_top (λ (s : Shape). record s { no_binary_name = true; has_version = true }) (new_app (codes "lc"))
 
+abbrev pub counting_app : App
+counting_app = with_subcommand bare_lc_app count_app.top
+
 abbrev pub lc_app : App
-lc_app = with_subcommand (with_subcommand bare_lc_app count_app.top) check_app.top
+lc_app = with_subcommand counting_app check_app.top

@@ -1,7 +1,7 @@
 //! What the words of a command line ask for.
 
 ghost use Rattle.std.specs.Prelude.{◌≡◌, IfOk, map};
-ghost use Rattle.lc.specs.CommandLine.{bare_lc_app, lc_app};
+ghost use Rattle.lc.specs.CommandLine.{bare_lc_app, counting_app, lc_app};
 ghost use Rattle.lc.specs.CountArgs.{IsCommandOf};
 ghost use Rattle.lc.specs.Explained.{Explains, AnswersOthers};
 ghost use Rattle.lc.specs.Words.{AnswersWords};
@@ -51,13 +51,20 @@ fn bare<'a>(alloc: Global) -> Result<Command<'a>, AllocError>
     )
 }
 
+fn with_count<'a>(alloc: Global) -> Result<Command<'a>, AllocError>
+    ensures { IfOk result (IsCommandOf counting_app) }
+{
+    let count = count::command(alloc)?;
+    let command = bare(alloc)?.subcommand(count)?;
+    Ok(command)
+}
+
 /// The command line without the program's name, for what belongs to no command: help, the version, refusals.
 fn command<'a>(alloc: Global) -> Result<Command<'a>, AllocError>
     ensures { IfOk result (IsCommandOf lc_app) }
 {
-    let count = count::command(alloc)?;
     let check = check::command(alloc)?;
-    let command = bare(alloc)?.subcommand(count)?.subcommand(check)?;
+    let command = with_count(alloc)?.subcommand(check)?;
     Ok(command)
 }
 

@@ -10,7 +10,7 @@ use std::alloc::{AllocError, AllocFailed, Global};
 use std::io::Write;
 
 /// Why the program gives up. Each is one line on standard error and the status 3.
-#[derive(Debug, Clone, Copy, PartialEq, Eq)]
+#[derive(Clone, Copy)]
 pub(crate) enum Cause {
     Memory,
     TooManyDirs,

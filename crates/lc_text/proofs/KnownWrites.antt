@@ -1,5 +1,5 @@
 -- What a writer is known to hold after a write that took nothing, and another.
-use Rattle.std.proofs.Common.{◌≡◌, ◌∙◌, ◌++◌, ℕ, List, Option, Some, None, ap}
+use Rattle.std.proofs.Common.{◌∙◌, ◌++◌, ℕ, List, Option, Some, None, ap}
 use Rattle.std.specs.Io.KnownBytes.{Keeps, Appends}
 
 pub keeps_and_keeps : (old mid new : Option (List ℕ)) → Keeps old mid → Keeps mid new → Keeps old new

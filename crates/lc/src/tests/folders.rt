@@ -1,12 +1,8 @@
 //! The program over folders of the system.
 
-use crate::program::program;
-use std::alloc::AllocError;
-use std::process::Abort;
+use crate::tests::programs::compare;
 use std::rt::Files;
-use std::sync::Wait;
 use std::test::Fail;
-use std::thread::Threads;
 use std::{fs, io};
 
 /// The folder of the tests, which stands where they run.
@@ -80,35 +76,12 @@ fn make_folder<R: Files + AllocGlobal>(rt: &R) -> io::Result<()> {
     Ok(())
 }
 
-fn compare<R: Files + Threads + Wait + Sync + AllocGlobal + Abort>(
-    rt: &R,
-    case: &Case,
-) -> Result<(), Fail>
-where
-    R::File: Send,
-    R::Dir: Send,
-{
-    let (name, words, status, text, errors) = *case;
-    let mut input: &[u8] = b"";
-    let mut out = Vec::with_capacity(rt.alloc(), 1_024)?;
-    let mut err = Vec::with_capacity(rt.alloc(), 64)?;
-    let found = program(rt, words, &mut input, &mut out, &mut err);
-    if err.as_slice() == b"lc: out of memory\n".as_slice() {
-        assert!(rt; found == 3 && out.is_empty(), "{name}");
-        return Err(AllocError.into());
-    }
-    assert!(rt; found == status, "{name}");
-    assert!(rt; out.as_slice() == text, "{name}");
-    assert!(rt; err.as_slice() == errors, "{name}");
-    Ok(())
-}
-
 #[test]
 fn counts(rt: HostRuntime) -> Result<(), Fail> {
     let _ = fs::remove_dir_all(&rt, TOP);
     make_folder(&rt)?;
-    for case in CASES {
-        compare(&rt, case)?;
+    for (name, words, status, text, errors) in CASES {
+        compare(&rt, name, words, (*status, text, errors))?;
     }
     fs::remove_dir_all(&rt, TOP)?;
     Ok(())

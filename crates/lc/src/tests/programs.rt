@@ -25,6 +25,11 @@ const ANSWERED: &[Answered] = &[
 /// What is shown, words, and the line on standard error that is wanted.
 type GivenUp = (&'static str, &'static [&'static str], &'static [u8]);
 
+/// Whether this says that memory was refused.
+fn is_refused(err: &[u8]) -> bool {
+    err == b"lc: out of memory\n".as_slice()
+}
+
 const UNREAD: &[u8] = b"lc: cannot read rules\n";
 
 const TOO_LONG: &[u8] = b"lc: rules too long\n";
@@ -47,7 +52,7 @@ const GIVEN_UP: &[GivenUp] = &[
 ];
 
 /// Runs the program, and compares its status, its output and its errors.
-fn compare<R: Files + Threads + Wait + Sync + AllocGlobal + Abort>(
+pub(super) fn compare<R: Files + Threads + Wait + Sync + AllocGlobal + Abort>(
     rt: &R,
     name: &str,
     words: &[&str],
@@ -62,13 +67,11 @@ where
     let mut out = Vec::with_capacity(rt.alloc(), text.len())?;
     let mut err = Vec::with_capacity(rt.alloc(), 64)?;
     let found = program(rt, words, &mut input, &mut out, &mut err);
-    if err.as_slice() == b"lc: out of memory\n".as_slice() {
-        assert!(rt; found == 3 && out.is_empty(), "{name}");
+    if found == 3 && out.is_empty() && is_refused(&err) {
         return Err(AllocError.into());
     }
-    assert!(rt; found == status, "{name}");
-    assert!(rt; out.as_slice() == text, "{name}");
-    assert!(rt; err.as_slice() == errors, "{name}");
+    let is_wanted = found == status && out.as_slice() == text && err.as_slice() == errors;
+    assert!(rt; is_wanted, "{name}: {found}");
     Ok(())
 }
 
@@ -88,26 +91,40 @@ fn causes(rt: HostRuntime) -> Result<(), Fail> {
     Ok(())
 }
 
-/// Standard output stops at each place. The status tells of it, whether or not standard error can.
+/// Standard output stops at this place, and the status tells of it, whether or not standard error can.
+fn compare_stopped<R: Files + Threads + Wait + Sync + AllocGlobal + Abort>(
+    rt: &R,
+    asked: &Answered,
+    room: usize,
+    told: usize,
+) -> Result<(), Fail>
+where
+    R::File: Send,
+    R::Dir: Send,
+{
+    let (_, words, text) = *asked;
+    let mut input: &[u8] = b"a\n--\na\n";
+    let mut out = Narrow::new(rt.alloc(), 5, room, WhenFull::Fails)?;
+    let mut err = Narrow::new(rt.alloc(), 64, told, WhenFull::TakesNothing)?;
+    let found = program(rt, words, &mut input, &mut out, &mut err);
+    if found == 3 && (is_refused(&err.taken) || (out.taken.is_empty() && room > 0)) {
+        return Err(AllocError.into());
+    }
+    let is_prefix = out.taken.len() == room && text.starts_with(&out.taken);
+    let is_told = err.taken.as_slice() == b"lc: cannot write\n".as_slice();
+    assert!(rt;
+        found == 3 && is_prefix && is_told == (told > 0),
+        "at {room}: {found}"
+    );
+    Ok(())
+}
+
 #[test]
 fn an_output_that_stops(rt: HostRuntime) -> Result<(), Fail> {
-    let (_, words, text) = ANSWERED[2];
-    for room in 0..text.len() {
-        for told in [0, 64] {
-            let mut input: &[u8] = b"a\n--\na\n";
-            let mut out = Narrow::new(rt.alloc(), 5, room, WhenFull::Fails)?;
-            let mut err = Narrow::new(rt.alloc(), 64, told, WhenFull::TakesNothing)?;
-            let found = program(&rt, words, &mut input, &mut out, &mut err);
-            assert!(rt; found == 3, "at {room}");
-            let is_refused = err.taken.as_slice() == b"lc: out of memory\n".as_slice();
-            if is_refused || (out.taken.is_empty() && room > 0) {
-                return Err(AllocError.into());
-            }
-            let is_prefix = out.taken.len() == room && text.starts_with(&out.taken);
-            assert!(rt; is_prefix, "at {room}");
-            let is_told = err.taken.as_slice() == b"lc: cannot write\n".as_slice();
-            assert!(rt; is_told == (told > 0), "at {room}");
-        }
+    let asked = &ANSWERED[2];
+    for room in 0..asked.2.len() {
+        compare_stopped(&rt, asked, room, 0)?;
+        compare_stopped(&rt, asked, room, 64)?;
     }
     Ok(())
 }
@@ -134,26 +151,42 @@ const TEXTS: &[(&[&str], u8, &str)] = &[
     (&["no-such-command"], 2, "no-such-command"),
 ];
 
+/// The text stands on its stream, the other one is silent, and the input is left alone.
+fn compare_text<R: Files + Threads + Wait + Sync + AllocGlobal + Abort>(
+    rt: &R,
+    words: &[&str],
+    status: u8,
+    part: &str,
+) -> Result<(), Fail>
+where
+    R::File: Send,
+    R::Dir: Send,
+{
+    let mut input: &[u8] = b"a\n";
+    let mut out = Vec::with_capacity(rt.alloc(), 8_192)?;
+    let mut err = Vec::with_capacity(rt.alloc(), 8_192)?;
+    let found = program(rt, words, &mut input, &mut out, &mut err);
+    if found == 3 && out.is_empty() && is_refused(&err) {
+        return Err(AllocError.into());
+    }
+    let (text, silent) = if status == 0 {
+        (&out, &err)
+    } else {
+        (&err, &out)
+    };
+    let is_shown = str::from_utf8(text).is_ok_and(|text| text.contains(part));
+    let is_alone = silent.is_empty() && input == b"a\n".as_slice();
+    assert!(rt;
+        found == status && is_shown && is_alone,
+        "{words:?}: {part}"
+    );
+    Ok(())
+}
+
 #[test]
 fn help_and_refused_words(rt: HostRuntime) -> Result<(), Fail> {
     for (words, status, part) in TEXTS {
-        let mut input: &[u8] = b"a\n";
-        let mut out = Vec::with_capacity(rt.alloc(), 8_192)?;
-        let mut err = Vec::with_capacity(rt.alloc(), 8_192)?;
-        let found = program(&rt, words, &mut input, &mut out, &mut err);
-        if err.as_slice() == b"lc: out of memory\n".as_slice() {
-            assert!(rt; found == 3 && out.is_empty(), "{words:?}");
-            return Err(AllocError.into());
-        }
-        assert!(rt; found == *status, "{words:?}");
-        let (text, silent) = if *status == 0 {
-            (&out, &err)
-        } else {
-            (&err, &out)
-        };
-        let shown = str::from_utf8(text).is_ok_and(|text| text.contains(*part));
-        assert!(rt; shown && silent.is_empty(), "{words:?}: {part}");
-        assert!(rt; input == b"a\n".as_slice(), "{words:?}");
+        compare_text(&rt, words, *status, part)?;
     }
     Ok(())
 }

@@ -3,7 +3,8 @@
 //! Paths come in runs that share their directories, so what the rules say of these is asked once for a run.
 
 ghost use Rattle.std.specs.Prelude.{◌≡◌, ℕ, ◌<◌, ◌≤◌, length, take, false, true, MatchOption};
-ghost use Rattle.lc_text.specs.CheckText.{file_verdict, is_ignored, is_ignored_parent, has_ignored_parent, IsClearTo, verdict_word, path_word};
+ghost use Rattle.lc_text.specs.CheckText.{file_verdict, is_ignored, is_ignored_parent, has_ignored_parent, IsClearTo};
+ghost use Rattle.lc_text.specs.CheckText.{verdict_word, path_word};
 
 use crate::checking::path_line::is_bad_path;
 use lc_rules::{IgnoreFile, Verdict};

@@ -2,10 +2,10 @@
 
 ghost use Rattle.std.specs.Prelude.{◌≤◌};
 
-use crate::{Outcome, RunFault, run};
+use crate::tests::asking::{WITH_FILES, answer_of};
+use crate::{Outcome, RunFault};
 use lc_tree::trials::{FailingCall, FailingTree};
-use lc_tree::{MemTree, Sketch, Tree};
-use lc_walk::{Options, WalkFault};
+use lc_tree::{MemTree, Sketch};
 use std::alloc::AllocError;
 use std::process::Abort;
 use std::sync::Wait;
@@ -52,6 +52,12 @@ struct Told {
     faults: usize,
 }
 
+/// What they tell where no call fails.
+const WHOLE: Told = Told {
+    files: 4,
+    faults: 0,
+};
+
 fn is_counted(table: &[u8], path: &[u8]) -> bool {
     table.split(|b| *b == b'\n').any(|line| {
         line.starts_with(b"file\t")
@@ -82,60 +88,44 @@ fn lines_told(table: &[u8]) -> Option<Told> {
     Some(Told { files, faults })
 }
 
-/// The outcome of a run over the tree and its table, but for want of memory.
-fn answer_of<R: Threads + Wait + Sync + AllocGlobal, T: Tree>(
+/// How many calls a walk makes: three listings, and six times a file is opened, read, and read to its end.
+const CALLS: u64 = 21;
+
+/// The outcome of a run of which this call fails, what its table tells, and how many calls it made.
+fn answer_at<R: Threads + Wait + Sync + AllocGlobal>(
     rt: &R,
-    tree: &T,
+    tree: &MemTree<'_>,
+    place: u64,
     threads: u32,
-) -> Result<(Result<Outcome, RunFault>, Vec<u8>), AllocError>
+) -> Result<(Result<Outcome, RunFault>, Option<Told>, u64), AllocError>
     requires threads { (1 ≤ threads) × (threads ≤ 16) }
 {
-    let options = Options {
-        threads,
-        max_dirs: 16,
-        files: true,
-        exclude: None,
-        archive: false,
-    };
-    let mut out = Vec::with_capacity(rt.alloc(), 1_024)?;
-    match run(rt, rt.alloc(), tree, &options, &mut out) {
-        Err(RunFault::Memory | RunFault::Walk(WalkFault::Memory)) => Err(AllocError),
-        answer => Ok((answer, out)),
-    }
+    let call = FailingCall::new(place);
+    let failing = FailingTree { tree, call: &call };
+    let mut table = Vec::with_capacity(rt.alloc(), 1_024)?;
+    let answer = answer_of(rt, &failing, &WITH_FILES, threads, 16, &mut table)?;
+    Ok((answer, lines_told(&table), call.begun()))
 }
 
-/// Each call of a walk fails in turn: the table then has one fault more and each line of a file as it was or not at all, up to
-/// the first place that no call of the walk has.
+/// Each call of a walk fails in turn: the table then has one fault more, and each line of a file as it was or not at all.
 fn compare<R: Threads + Wait + Sync + AllocGlobal + Abort>(rt: &R, threads: u32) -> Result<(), Fail>
     requires threads { (1 ≤ threads) × (threads ≤ 16) }
 {
     let node = TOP.node(rt.alloc())?;
     let tree = MemTree::new(&node);
-    for place in 0..64 {
-        let call = FailingCall::new(place);
-        let failing = FailingTree {
-            tree: &tree,
-            call: &call,
-        };
-        let (answer, table) = answer_of(rt, &failing, threads)?;
-        let found = lines_told(&table);
-        if call.begun() <= place {
-            assert!(rt; answer == Ok(Outcome::Clean), "{place}");
-            assert!(rt;
-                found
-                    == Some(Told {
-                        files: 4,
-                        faults: 0
-                    }),
-                "{place}"
-            );
-            assert!(rt; place > 12, "{place} calls");
-            return Ok(());
-        }
-        assert!(rt; answer == Ok(Outcome::SomeFaults), "{place}");
-        assert!(rt; found.is_some_and(|told| told.faults == 1), "{place}");
+    for place in 0..CALLS {
+        let (answer, told, _) = answer_at(rt, &tree, place, threads)?;
+        let has_one_fault = told.is_some_and(|told| told.faults == 1);
+        assert!(rt;
+            answer == Ok(Outcome::SomeFaults) && has_one_fault,
+            "{place}: {told:?}"
+        );
     }
-    assert!(rt; false, "the calls don't end");
+    let found = answer_at(rt, &tree, CALLS, threads)?;
+    assert!(rt;
+        found == (Ok(Outcome::Clean), Some(WHOLE), CALLS),
+        "{found:?}"
+    );
     Ok(())
 }
 

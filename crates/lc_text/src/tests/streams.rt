@@ -18,16 +18,32 @@ const JOINED: &[u8] = b"a\n--\na\nb\n";
 const TEXT: &[u8] = b"ignored\ta\nnone\tb\n";
 
 /// How a writer is made: how much it takes at once, and what it answers when it is full.
-pub(super) const WRITERS: [(usize, WhenFull); 4] = [
+pub(super) const WRITERS: &[(usize, WhenFull)] = &[
     (1, WhenFull::TakesNothing),
     (1, WhenFull::Fails),
     (7, WhenFull::TakesNothing),
     (7, WhenFull::Fails),
 ];
 
-/// Whether as much of the text was taken as there was room for, with success only where this is all of it.
-pub(super) fn is_as_taken(out: &Narrow, room: usize, text: &[u8], is_done: bool) -> bool {
-    out.taken.len() == room && text.starts_with(&out.taken) && is_done == (room == text.len())
+/// As much of the text was taken as there was room for, by a call that is done if that is all of it, and else was stopped.
+pub(super) fn compare_taken<R: Abort>(
+    rt: &R,
+    out: &Narrow,
+    room: usize,
+    text: &[u8],
+    is_done: bool,
+    is_stopped: bool,
+) -> Result<(), Fail> {
+    let is_right = if room == text.len() {
+        is_done
+    } else {
+        is_stopped
+    };
+    assert!(rt;
+        is_right && out.taken.len() == room && text.starts_with(&out.taken),
+        "at {room}"
+    );
+    Ok(())
 }
 
 /// The rules with which the paths give the text.
@@ -63,18 +79,11 @@ fn compare_writes<R: AllocGlobal + Abort>(
     bytes: &[u8],
     writer: (usize, WhenFull),
 ) -> Result<(), Fail> {
-    let (step, when_full) = writer;
     for room in 0..=TEXT.len() {
-        let mut out = Narrow::new(rt.alloc(), step, room, when_full)?;
+        let mut out = Narrow::new(rt.alloc(), writer.0, room, writer.1)?;
         let answer = checked(rt.alloc(), is_joined, &mut Bytewise(bytes), &mut out)?;
-        assert!(rt;
-            answer == Ok(()) || answer == Err(CheckFault::Write),
-            "at {room}"
-        );
-        assert!(rt;
-            is_as_taken(&out, room, TEXT, answer == Ok(())),
-            "at {room}"
-        );
+        let is_stopped = answer == Err(CheckFault::Write);
+        compare_taken(rt, &out, room, TEXT, answer == Ok(()), is_stopped)?;
     }
     Ok(())
 }
@@ -82,9 +91,25 @@ fn compare_writes<R: AllocGlobal + Abort>(
 #[test]
 fn writes_stop_at_every_place(rt: HostRuntime) -> Result<(), Fail> {
     for writer in WRITERS {
-        compare_writes(&rt, true, JOINED, writer)?;
-        compare_writes(&rt, false, PATHS, writer)?;
+        compare_writes(&rt, true, JOINED, *writer)?;
+        compare_writes(&rt, false, PATHS, *writer)?;
     }
+    Ok(())
+}
+
+/// An input of which a read fails is answered by that, and nothing is written.
+fn compare_failed<R: AllocGlobal + Abort, S: Source>(
+    rt: &R,
+    is_joined: bool,
+    input: &mut S,
+    given: usize,
+) -> Result<(), Fail> {
+    let mut out = Narrow::new(rt.alloc(), 64, 64, WhenFull::Fails)?;
+    let answer = checked(rt.alloc(), is_joined, input, &mut out)?;
+    assert!(rt;
+        answer == Err(CheckFault::Read) && out.taken.is_empty(),
+        "at {given}"
+    );
     Ok(())
 }
 
@@ -94,14 +119,9 @@ fn compare_reads<R: AllocGlobal + Abort>(
     bytes: &[u8],
 ) -> Result<(), Fail> {
     for given in 0..=bytes.len() {
-        let mut out = Narrow::new(rt.alloc(), 64, 64, WhenFull::Fails)?;
-        let mut input = Failing(&bytes[..given]);
-        let whole = checked(rt.alloc(), is_joined, &mut input, &mut out)?;
-        assert!(rt; whole == Err(CheckFault::Read), "at {given}");
-        let mut input = Bytewise(Failing(&bytes[..given]));
-        let bytewise = checked(rt.alloc(), is_joined, &mut input, &mut out)?;
-        assert!(rt; bytewise == Err(CheckFault::Read), "at {given}");
-        assert!(rt; out.taken.is_empty(), "at {given}");
+        let front = &bytes[..given];
+        compare_failed(rt, is_joined, &mut Failing(front), given)?;
+        compare_failed(rt, is_joined, &mut Bytewise(Failing(front)), given)?;
     }
     Ok(())
 }
@@ -118,10 +138,12 @@ fn an_input_without_end_is_too_long(rt: HostRuntime) -> Result<(), Fail> {
         let mut input = Counted::new(Endless);
         let mut out = Narrow::new(rt.alloc(), 64, 64, WhenFull::Fails)?;
         let answer = checked(rt.alloc(), is_joined, &mut input, &mut out)?;
-        assert!(rt; answer == Err(CheckFault::InputTooLong));
         // 256 buffers of 65,536 bytes, and the first byte past the limit.
-        assert!(rt; input.reads == 257);
-        assert!(rt; out.taken.is_empty());
+        assert!(rt;
+            answer == Err(CheckFault::InputTooLong) && input.reads == 257 && out.taken.is_empty(),
+            "{is_joined}: {answer:?} after {} reads",
+            input.reads
+        );
     }
     Ok(())
 }
@@ -143,38 +165,49 @@ fn joined_rules_at_their_limit(rt: HostRuntime) -> Result<(), Fail> {
         let joined = one_long_rule(rt.alloc(), letters)?;
         let mut out = Narrow::new(rt.alloc(), 64, 64, WhenFull::Fails)?;
         let answer = checked(rt.alloc(), true, &mut joined.as_slice(), &mut out)?;
-        assert!(rt; answer == wanted, "at {letters}");
-        assert!(rt; out.taken.is_empty() != answer.is_ok());
+        assert!(rt;
+            answer == wanted && out.taken.is_empty() != answer.is_ok(),
+            "at {letters}"
+        );
     }
     Ok(())
 }
 
-/// How many rules a file has, but for want of memory.
-fn rule_count<S: Source>(
-    alloc: Global,
+/// A file has so many rules, or gives none for this cause.
+fn compare_rules<R: AllocGlobal + Abort, S: Source>(
+    rt: &R,
     file: &mut S,
-) -> Result<Result<usize, RulesFileFault>, AllocError> {
-    match read_rules(alloc, file) {
-        Ok(rules) => Ok(Ok(rules.len())),
-        Err(RulesFileFault::Memory) => Err(AllocError),
-        Err(fault) => Ok(Err(fault)),
-    }
+    wanted: Result<usize, RulesFileFault>,
+) -> Result<(), Fail> {
+    let answer = match read_rules(rt.alloc(), file) {
+        Ok(rules) => Ok(rules.len()),
+        Err(RulesFileFault::Memory) => return Err(AllocError.into()),
+        Err(fault) => Err(fault),
+    };
+    assert!(rt; answer == wanted, "{wanted:?}: {answer:?}");
+    Ok(())
 }
 
 #[test]
 fn files_of_rules(rt: HostRuntime) -> Result<(), Fail> {
     let file = b"a\n# b\n\n!c".as_slice();
-    assert!(rt; rule_count(rt.alloc(), &mut Bytewise(file))? == Ok(2));
+    compare_rules(&rt, &mut Bytewise(file), Ok(2))?;
     for given in 0..=file.len() {
-        let answer = rule_count(rt.alloc(), &mut Failing(&file[..given]))?;
-        assert!(rt; answer == Err(RulesFileFault::Unread), "at {given}");
+        compare_rules(
+            &rt,
+            &mut Failing(&file[..given]),
+            Err(RulesFileFault::Unread),
+        )?;
     }
-    let mut endless = Counted::new(Endless);
-    let answer = rule_count(rt.alloc(), &mut endless)?;
-    assert!(rt; answer == Err(RulesFileFault::TooLong));
-    // 16 buffers of 65,536 bytes, and the first byte past the limit.
-    assert!(rt; endless.reads == 17);
     let longest = vec![in rt.alloc(); b'a'; 1_048_576]?;
-    assert!(rt; rule_count(rt.alloc(), &mut longest.as_slice())? == Ok(1));
+    compare_rules(&rt, &mut longest.as_slice(), Ok(1))
+}
+
+#[test]
+fn rules_without_end_are_too_long(rt: HostRuntime) -> Result<(), Fail> {
+    let mut endless = Counted::new(Endless);
+    compare_rules(&rt, &mut endless, Err(RulesFileFault::TooLong))?;
+    // 16 buffers of 65,536 bytes, and the first byte past the limit.
+    assert!(rt; endless.reads == 17, "{} reads", endless.reads);
     Ok(())
 }

@@ -1,13 +1,15 @@
 //! Reports, and the text of their table.
 
-use crate::tests::streams::{WRITERS, is_as_taken};
-use crate::trials::Narrow;
+use crate::tests::asking::HEADER;
+use crate::tests::streams::{WRITERS, compare_taken};
+use crate::trials::{Narrow, WhenFull};
 use crate::{PrintFault, table, table_text};
 use lc_census::{Count, Eol};
 use lc_rules::TextState;
 use lc_tree::FaultWord;
 use lc_walk::{FaultLine, FileLine, Report, Sums, TallyRow};
 use std::alloc::{AllocError, Global};
+use std::process::Abort;
 use std::test::Fail;
 
 /// An extension, a text state, a class, and the files, lines, blank lines and bytes.
@@ -104,8 +106,6 @@ const CASES: &[Case] = &[
     },
 ];
 
-const HEADER: &[u8] = b"ext\ttext\teol\tfiles\tlines\tblank\tbytes\n";
-
 fn row_of(alloc: Global, parts: &Row) -> Result<TallyRow, AllocError> {
     let (extension, text, eol, [files, lines, blank, bytes]) = *parts;
     let ext = match extension {
@@ -137,34 +137,45 @@ fn file_of(alloc: Global, parts: &File) -> Result<FileLine, AllocError> {
     })
 }
 
-fn report_of(alloc: Global, case: &Case) -> Result<Report, AllocError> {
+fn rows_of(alloc: Global, case: &Case) -> Result<Vec<TallyRow>, AllocError> {
     let mut rows = Vec::new(alloc);
     for row in case.rows {
         rows.push(row_of(alloc, row)?)?;
     }
+    Ok(rows)
+}
+
+fn files_of(alloc: Global, case: &Case) -> Result<Vec<FileLine>, AllocError> {
     let mut files = Vec::new(alloc);
     for file in case.files {
         files.push(file_of(alloc, file)?)?;
     }
+    Ok(files)
+}
+
+fn faults_of(alloc: Global, case: &Case) -> Result<Vec<FaultLine>, AllocError> {
     let mut faults = Vec::new(alloc);
     for (path, word) in case.faults {
-        faults.push(FaultLine {
-            path: path.to_vec(alloc)?,
-            word: *word,
-        })?;
+        let path = path.to_vec(alloc)?;
+        faults.push(FaultLine { path, word: *word })?;
     }
-    let [counted, lines, blank, bytes] = case.totals;
-    Ok(Report {
-        rows,
-        totals: Sums {
-            files: counted,
-            lines: u128::from(lines),
-            blank: u128::from(blank),
-            bytes: u128::from(bytes),
-        },
-        directories: case.directories,
+    Ok(faults)
+}
+
+fn report_of(alloc: Global, case: &Case) -> Result<Report, AllocError> {
+    let [files, lines, blank, bytes] = case.totals;
+    let totals = Sums {
         files,
-        faults,
+        lines: u128::from(lines),
+        blank: u128::from(blank),
+        bytes: u128::from(bytes),
+    };
+    Ok(Report {
+        rows: rows_of(alloc, case)?,
+        totals,
+        directories: case.directories,
+        files: files_of(alloc, case)?,
+        faults: faults_of(alloc, case)?,
     })
 }
 
@@ -173,11 +184,26 @@ fn tables(rt: HostRuntime) -> Result<(), Fail> {
     for case in CASES {
         let report = report_of(rt.alloc(), case)?;
         let text = table_text(rt.alloc(), &report)?;
-        let Some(lines) = text.as_slice().strip_prefix(HEADER) else {
-            assert!(rt; false, "{}", case.name);
-            return Ok(());
-        };
-        assert!(rt; lines == case.lines, "{}", case.name);
+        let lines = text.as_slice().strip_prefix(HEADER);
+        assert!(rt; lines == Some(case.lines), "{}", case.name);
+    }
+    Ok(())
+}
+
+fn compare_writes<R: AllocGlobal + Abort>(
+    rt: &R,
+    report: &Report,
+    text: &[u8],
+    writer: (usize, WhenFull),
+) -> Result<(), Fail> {
+    for room in 0..=text.len() {
+        let mut out = Narrow::new(rt.alloc(), writer.0, room, writer.1)?;
+        let answer = table(rt.alloc(), report, &mut out);
+        if answer == Err(PrintFault::Memory) && out.taken.is_empty() {
+            return Err(AllocError.into());
+        }
+        let is_stopped = answer == Err(PrintFault::Write);
+        compare_taken(rt, &out, room, text, answer == Ok(()), is_stopped)?;
     }
     Ok(())
 }
@@ -186,23 +212,8 @@ fn tables(rt: HostRuntime) -> Result<(), Fail> {
 fn a_table_stops_at_every_place(rt: HostRuntime) -> Result<(), Fail> {
     let report = report_of(rt.alloc(), &CASES[2])?;
     let text = table_text(rt.alloc(), &report)?;
-    for (step, when_full) in WRITERS {
-        for room in 0..=text.len() {
-            let mut out = Narrow::new(rt.alloc(), step, room, when_full)?;
-            let answer = table(rt.alloc(), &report, &mut out);
-            if answer == Err(PrintFault::Memory) {
-                assert!(rt; out.taken.is_empty());
-                return Err(AllocError.into());
-            }
-            assert!(rt;
-                answer == Ok(()) || answer == Err(PrintFault::Write),
-                "at {room}"
-            );
-            assert!(rt;
-                is_as_taken(&out, room, &text, answer == Ok(())),
-                "at {room}"
-            );
-        }
+    for writer in WRITERS {
+        compare_writes(&rt, &report, &text, *writer)?;
     }
     Ok(())
 }

@@ -1,4 +1,3 @@
-use Rattle.std.proofs.Common.{◌≡◌}
 use Rattle.lc_text.specs.Runs.{Walks}
 use Rattle.lc_text.proofs.Stopping.{run_stops}
 use Rattle.lc_text.proofs.running.run.Goals as goal

@@ -1,5 +1,4 @@
-use Rattle.std.proofs.Common.{◌≡◌, map, codes, refl, Ok, Err}
-use Rattle.clap.specs.Faults.{fault_of}
+use Rattle.std.proofs.Common.{map, codes, refl, Ok}
 use Rattle.clap.specs.Matches.{found_of}
 use Rattle.clap.specs.Simple.{matches_of}
 use Rattle.lc.specs.CommandLine.{check_app}
