@@ -148,28 +148,6 @@ fn check_calls<B: Shared<Job, Row>, R: Threads + Wait + Sync + Abort>(
     Ok(())
 }
 
-fn check_failures<B: Shared<Job, Row>, R: Threads + Wait + Sync + Abort>(
-    rt: &R,
-    alloc: Global,
-) -> Result<(), AllocError> {
-    let node = TREE.node(alloc)?;
-    let tree = MemTree::new(&node);
-    check_calls::<B, R>(rt, alloc, &tree, 1)?;
-    check_calls::<B, R>(rt, alloc, &tree, 4)
-}
-
-#[test]
-fn one_call_fails_over_words(rt: HostRuntime) -> Result<(), Fail> {
-    check_failures::<Words<Job, Row>, HostRuntime>(&rt, rt.alloc())?;
-    Ok(())
-}
-
-#[test]
-fn one_call_fails_over_locked(rt: HostRuntime) -> Result<(), Fail> {
-    check_failures::<Locked<Job, Row>, HostRuntime>(&rt, rt.alloc())?;
-    Ok(())
-}
-
 /// The files, lines, blank lines and bytes that a walk finds, its directories, and what is at fault.
 type Finding<'a> = ([u64; 4], u64, Option<&'a [u8]>);
 
@@ -264,6 +242,7 @@ fn check_walk<B: Shared<Job, Row>, R: Threads + Wait + Sync + Abort>(
     Ok(call.begun())
 }
 
+/// The call of each line of the table fails, and there is no other call.
 fn check_asked<B: Shared<Job, Row>, R: Threads + Wait + Sync + Abort>(
     rt: &R,
     alloc: Global,
@@ -277,13 +256,7 @@ fn check_asked<B: Shared<Job, Row>, R: Threads + Wait + Sync + Abort>(
     Ok(())
 }
 
-#[test]
-fn each_listing_and_each_file_fails(rt: HostRuntime) -> Result<(), Fail> {
-    check_asked::<Words<Job, Row>, HostRuntime>(&rt, rt.alloc())?;
-    check_asked::<Locked<Job, Row>, HostRuntime>(&rt, rt.alloc())?;
-    Ok(())
-}
-
+/// Each file fails.
 fn check_unread<B: Shared<Job, Row>, R: Threads + Wait + Sync + Abort>(
     rt: &R,
     alloc: Global,
@@ -295,9 +268,26 @@ fn check_unread<B: Shared<Job, Row>, R: Threads + Wait + Sync + Abort>(
     Ok(())
 }
 
+fn check_failures<B: Shared<Job, Row>, R: Threads + Wait + Sync + Abort>(
+    rt: &R,
+    alloc: Global,
+) -> Result<(), AllocError> {
+    let node = TREE.node(alloc)?;
+    let tree = MemTree::new(&node);
+    check_calls::<B, R>(rt, alloc, &tree, 1)?;
+    check_calls::<B, R>(rt, alloc, &tree, 4)?;
+    check_asked::<B, R>(rt, alloc)?;
+    check_unread::<B, R>(rt, alloc)
+}
+
 #[test]
-fn a_file_that_cannot_be_read(rt: HostRuntime) -> Result<(), Fail> {
-    check_unread::<Words<Job, Row>, HostRuntime>(&rt, rt.alloc())?;
-    check_unread::<Locked<Job, Row>, HostRuntime>(&rt, rt.alloc())?;
+fn one_call_fails_over_words(rt: HostRuntime) -> Result<(), Fail> {
+    check_failures::<Words<Job, Row>, HostRuntime>(&rt, rt.alloc())?;
+    Ok(())
+}
+
+#[test]
+fn one_call_fails_over_locked(rt: HostRuntime) -> Result<(), Fail> {
+    check_failures::<Locked<Job, Row>, HostRuntime>(&rt, rt.alloc())?;
     Ok(())
 }
