@@ -15,6 +15,7 @@ pub mod Levels
 pub mod Listings
 pub mod Marking
 pub mod Moves
+pub mod PathNames
 pub mod PathsApart
 pub mod PathsOnce
 pub mod Places

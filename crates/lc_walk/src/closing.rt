@@ -1,5 +1,5 @@
 //! The end of a walk over any shared board: the board is closed, and its rows are assembled.
-ghost use Rattle.std.specs.Prelude.{◌≡◌, ℕ, ◌≤◌, [], Some, slice_get, vec_len, map};
+ghost use Rattle.std.specs.Prelude.{◌≡◌, ℕ, ◌≤◌, Bool, [], Some, slice_get, vec_len, map};
 ghost use Rattle.lc_walk.specs.Passes.{HaveWorked, asked};
 ghost use Rattle.lc_level.specs.TreeAnswers.{MayAnswer};
 ghost use Rattle.lc_walk.specs.WalkAnswers.{WalkAnswers};
@@ -33,11 +33,9 @@ impl From<CloseFault> for WalkFault {
 /// Closes the board of workers that have all found it over, and assembles its rows.
 pub fn finish<B: Shared<Job, Row>, T: Tree>(
     alloc: Global,
-    tree: &T,
     board: B,
     passes: Vec<B::Pass>,
     files: bool,
-    archive: bool,
     tally: Tally,
 ) -> Result<Report, WalkFault>
     requires room { (1 ≤ B.capacity_of board) × (B.capacity_of board ≤ 1048576) }
@@ -45,14 +43,12 @@ pub fn finish<B: Shared<Job, Row>, T: Tree>(
     requires top { (root : JobModel) × B.is_root board root × (root.path ≡ []) }
     requires all { vec_len passes ≡ B.workers_of board }
     requires each { (w : ℕ) (p : B.Pass) → slice_get passes.items w ≡ Some p → B.owns board p × ((B.Pass.view p).worker ≡ w) }
-    requires worked { HaveWorked (asked files archive) (MayAnswer (T.lists tree.now) (T.gives tree.now))
-        (map (λ p. B.Pass.view p) passes.items) tally }
-    ensures { (root : JobModel) → B.is_root board root → root.path ≡ [] →
-        WalkAnswers (MayAnswer (T.lists tree.entry.now) (T.gives tree.entry.now)) (asked files archive)
+    ensures { (tree : T) (archive : Bool) →
+        HaveWorked (asked files archive) (MayAnswer (T.lists tree) (T.gives tree)) (map (λ p. B.Pass.view p) passes.items) tally →
+        (root : JobModel) → B.is_root board root → root.path ≡ [] →
+        WalkAnswers (MayAnswer (T.lists tree) (T.gives tree)) (asked files archive)
         (B.capacity_of board) (B.workers_of board) root B.promises result }
 {
-    let _tree = tree;
-    let _archive = archive;
     match board.close(passes) {
         Ok(closed) => assemble(alloc, closed, files, tally),
         Err(fault) => Err(WalkFault::from(fault)),

@@ -52,15 +52,7 @@ pub fn walk_on<B: Shared<Job, Row>, T: Tree, R: Threads + Wait + Sync>(
         return Err(WalkFault::Memory);
     };
     let Gathered { passes, tally } = gathered;
-    finish(
-        alloc,
-        tree,
-        board,
-        passes,
-        options.files,
-        options.archive,
-        tally,
-    )
+    finish::<B, T>(alloc, board, passes, options.files, tally)
 }
 
 /// Walks a tree: what it finds is what the recursive walk over the returned listings and censuses finds.

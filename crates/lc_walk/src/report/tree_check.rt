@@ -1,6 +1,6 @@
 //! Whether rows make a tree.
-ghost use Rattle.std.specs.Prelude.{◌≡◌, ℕ, ◌+◌, ◌<◌, ◌≤◌, ◌^◌, List, true, false, length, slice_get, slice_set, replicate, Some};
-ghost use Rattle.std.specs.Prelude.{IfOk, IfErr, OnOk, OnErr};
+ghost use Rattle.std.specs.Prelude.{◌≡◌, ◌≢◌, ℕ, ◌+◌, ◌<◌, ◌≤◌, ◌^◌, List, true, false, length, slice_get, slice_set, replicate, Some};
+ghost use Rattle.std.specs.Prelude.{IfOk, IfErr, OnOk, OnErr, MatchOption};
 ghost use Rattle.lc_walk.specs.Rows.{row_of, job_of, children_in};
 ghost use Rattle.lc_glob.specs.Path.{path_in};
 ghost use Rattle.lc_walk.specs.Assembled.{IsPlaced};
@@ -9,7 +9,6 @@ ghost use Rattle.lc_walk.specs.Marks.{Marks, IsNext, IsPathAt, RefusesTree};
 use crate::report::row_lines::row_of;
 use crate::row::{Child, Row};
 use lc_board::Ended;
-use lc_level::path_in;
 use std::alloc::{AllocError, Global};
 
 /// Why rows make no tree.
@@ -42,18 +41,29 @@ pub fn children_of(row: &Row) -> &[Child]
     }
 }
 
-/// The path of a child is that of its directory with its name.
-fn is_child_path(
-    alloc: Global,
-    directory: &[u8],
-    child: &Child,
-    path: &[u8],
-) -> Result<bool, AllocError>
-    ensures { IfOk result (λ b. (b ≡ true → path.now ≡ path_in directory.now child.now.name)
-        × (b ≡ false → path.now ≡ path_in directory.now child.now.name → ⊥)) }
+/// The name by which a directory has an entry of this path.
+fn name_in<'a>(directory: &[u8], path: &'a [u8]) -> Option<&'a [u8]>
+    ensures { MatchOption result ((name : List ℕ) → path.entry.now ≢ path_in directory.now name)
+        (λ name. path.entry.now ≡ path_in directory.now name.now) }
 {
-    let own = path_in(alloc, directory, &child.name)?;
-    Ok(own.as_slice() == path)
+    if directory.is_empty() {
+        return Some(path);
+    }
+    let Some(below) = path.strip_prefix(directory) else {
+        return None;
+    };
+    below.strip_prefix(b"/")
+}
+
+/// The path of a child is that of its directory with its name.
+fn is_child_path(directory: &[u8], child: &Child, path: &[u8]) -> bool
+    ensures is { result ≡ true → path.now ≡ path_in directory.now child.now.name }
+    ensures other { result ≡ false → path.now ≢ path_in directory.now child.now.name }
+{
+    match name_in(directory, path) {
+        Some(name) => name == child.name.as_slice(),
+        None => false,
+    }
 }
 
 fn number_of(child: &Child) -> usize
@@ -87,7 +97,6 @@ fn path_at(rows: &[Ended<Row>], at: usize) -> &[u8]
 
 /// Marks the number of the next child.
 fn hang(
-    alloc: Global,
     rows: &[Ended<Row>],
     at: usize,
     place: usize,
@@ -115,10 +124,7 @@ fn hang(
         return Err(TreeFault::Torn(number as u32));
     }
     let path = path_at(rows, number);
-    let Ok(same) = is_child_path(alloc, path_at(rows, at), child, path) else {
-        return Err(TreeFault::Memory);
-    };
-    if !same {
+    if !is_child_path(path_at(rows, at), child, path) {
         return Err(TreeFault::Torn(number as u32));
     }
     mark(hung, number);
@@ -126,12 +132,7 @@ fn hang(
 }
 
 /// Marks the numbers of all children of a row.
-fn hang_row(
-    alloc: Global,
-    rows: &[Ended<Row>],
-    at: usize,
-    hung: &mut [bool],
-) -> Result<(), TreeFault>
+fn hang_row(rows: &[Ended<Row>], at: usize, hung: &mut [bool]) -> Result<(), TreeFault>
     requires at { at < length rows.now }
     requires few { length rows.now ≤ 2 ^ 32 }
     requires marks { Marks rows.now at 0 hung.old }
@@ -140,7 +141,7 @@ fn hang_row(
 {
     let children = children_of(row_of(&rows[at]));
     for place in 0..children.len() {
-        hang(alloc, rows, at, place, &children[place], hung)?;
+        hang(rows, at, place, &children[place], hung)?;
     }
     Ok(())
 }
@@ -161,7 +162,7 @@ fn hang_all(alloc: Global, rows: &[Ended<Row>]) -> Result<Vec<bool>, TreeFault>
         return Err(TreeFault::Memory);
     };
     for at in 0..rows.len() {
-        hang_row(alloc, rows, at, &mut hung)?;
+        hang_row(rows, at, &mut hung)?;
     }
     Ok(hung)
 }

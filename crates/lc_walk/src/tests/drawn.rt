@@ -2,8 +2,8 @@
 ghost use Rattle.std.specs.Prelude.{◌<◌, ◌≤◌};
 ghost use Rattle.lc_board.specs.Limits.{workers_limit};
 
-use crate::tests::walked::walk_options;
-use crate::{Report, Row, Sums, WalkFault, walk_on};
+use crate::tests::walked::{report_of, walk_options};
+use crate::{Report, Row, Sums, walk_on};
 use lc_board::Shared;
 use lc_level::Job;
 use lc_tree::{MemTree, Node};
@@ -145,6 +145,14 @@ pub(super) fn draw_tree(alloc: Global, seed: u64, directories: u32) -> Result<Dr
     })
 }
 
+/// What is known of the tree, and no fault.
+fn has_found(report: &Report, drawn: &Drawn) -> bool {
+    report.totals == drawn.sums
+        && report.directories == u64::from(drawn.directories)
+        && report.files.len() as u64 == drawn.sums.files
+        && report.faults.is_empty()
+}
+
 /// What the walk of a drawn tree finds, with room for just its directories: what is known of it, and no fault.
 pub(super) fn walk_drawn<B: Shared<Job, Row>, R: Threads + Wait + Sync + Abort>(
     rt: &R,
@@ -158,21 +166,14 @@ pub(super) fn walk_drawn<B: Shared<Job, Row>, R: Threads + Wait + Sync + Abort>(
     assert!(rt; 1 <= max_dirs && max_dirs <= 1_048_576);
     let mut options = walk_options(threads, max_dirs);
     options.files = true;
-    match walk_on::<B, MemTree, R>(rt, alloc, &MemTree::new(&drawn.top), &options) {
-        Ok(report) => {
-            assert!(rt;
-                report.totals == drawn.sums,
-                "{threads}: {:?}",
-                report.totals
-            );
-            assert_eq!(rt; report.directories, u64::from(max_dirs));
-            assert_eq!(rt; report.files.len() as u64, drawn.sums.files);
-            assert!(rt; report.faults.is_empty(), "{threads}: {:?}", report.faults);
-            Ok(report)
-        }
-        Err(fault) => {
-            assert!(rt; fault == WalkFault::Memory, "{threads}: {fault:?}");
-            Err(AllocError)
-        }
-    }
+    let answer = walk_on::<B, MemTree, R>(rt, alloc, &MemTree::new(&drawn.top), &options);
+    let report = report_of(rt, answer)?;
+    assert!(rt;
+        has_found(&report, drawn),
+        "{threads}: {:?}, {} directories, {:?}",
+        report.totals,
+        report.directories,
+        report.faults
+    );
+    Ok(report)
 }

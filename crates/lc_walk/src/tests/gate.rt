@@ -2,9 +2,11 @@
 ghost use Rattle.std.specs.Prelude.{◌≤◌};
 ghost use Rattle.lc_board.specs.Limits.{workers_limit};
 
+use crate::tests::walked::{has_faults, report_of};
 use crate::{Options, Report, WalkFault, walk};
 use lc_tree::{FaultWord, Listing, MemFile, MemTree, ReadFault, Sketch, Tree};
 use std::alloc::{AllocError, Global};
+use std::process::Abort;
 use std::sync::Wait;
 use std::sync::atomic::{AtomicUsize, Ordering};
 use std::test::Fail;
@@ -128,36 +130,40 @@ fn walk_gate_together<R: Threads + Wait + Sync>(
     walk_gate(rt, alloc, sketch, directories, threads)
 }
 
-#[test]
-fn workers_list_at_the_same_time(rt: HostRuntime) -> Result<(), Fail> {
-    let cases: [(Sketch, usize, u32, u64); 2] = [(TWO, 2, 2, 2), (SIXTEEN, 16, 16, 16)];
-    for (sketch, directories, threads, files) in cases {
-        assert!(rt; 1 <= threads && threads <= 16);
-        match walk_gate_together(&rt, rt.alloc(), sketch, directories, threads) {
-            Ok(report) => {
-                assert!(rt; report.faults.is_empty() && report.totals.files == files);
-                assert_eq!(rt; report.directories, files + 1);
-            }
-            Err(fault) => {
-                assert_eq!(rt; fault, WalkFault::Memory);
-                return Ok(Err(AllocError)?);
-            }
-        }
+/// Trees of so many directories below the top, each with a file.
+const CASES: [(Sketch, u32); 2] = [(TWO, 2), (SIXTEEN, 16)];
+
+/// As many workers as there are directories list them at the same time.
+fn check_together<R: Threads + Wait + Sync + Abort>(
+    rt: &R,
+    alloc: Global,
+) -> Result<(), AllocError> {
+    for (sketch, many) in CASES {
+        assert!(rt; 1 <= many && many <= 16);
+        let answer = walk_gate_together(rt, alloc, sketch, many as usize, many);
+        let report = report_of(rt, answer)?;
+        assert!(rt;
+            report.faults.is_empty()
+                && report.totals.files == u64::from(many)
+                && report.directories == u64::from(many) + 1,
+            "{many}: {report:?}"
+        );
     }
     Ok(())
 }
 
 #[test]
+fn workers_list_at_the_same_time(rt: HostRuntime) -> Result<(), Fail> {
+    check_together(&rt, rt.alloc())?;
+    Ok(())
+}
+
+#[test]
 fn one_worker_lists_one_after_another(rt: HostRuntime) -> Result<(), Fail> {
-    match walk_gate(&rt, rt.alloc(), TWO, 2, 1) {
-        Ok(report) => {
-            assert_eq!(rt; report.faults.len(), 1);
-            assert!(rt; report.faults[0].word == FaultWord::Read && report.totals.files == 1);
-            Ok(())
-        }
-        Err(fault) => {
-            assert_eq!(rt; fault, WalkFault::Memory);
-            Ok(Err(AllocError)?)
-        }
-    }
+    let report = report_of(&rt, walk_gate(&rt, rt.alloc(), TWO, 2, 1))?;
+    assert!(rt;
+        has_faults(&report.faults, &[(b"a", FaultWord::Read)]) && report.totals.files == 1,
+        "{report:?}"
+    );
+    Ok(())
 }

@@ -1,7 +1,7 @@
 //! The order of keys, part by part.
 
 use super::tallies::put;
-use crate::Tally;
+use crate::{Tally, TallyRow};
 use lc_census::Eol;
 use lc_rules::TextState;
 use std::alloc::{AllocError, Global};
@@ -10,63 +10,69 @@ use std::test::Fail;
 
 type Key<'a> = (Option<&'a [u8]>, TextState, Eol);
 
-/// Whether a tally of files of these keys, added from the last to the first, has them in this order.
+fn has_keys(rows: &[TallyRow], keys: &[Key]) -> bool {
+    for (row, (extension, text, eol)) in rows.iter().zip(keys) {
+        let own = match &row.ext {
+            Some(bytes) => Some(bytes.as_slice()),
+            None => None,
+        };
+        if own != *extension || row.text != *text || row.eol != *eol {
+            return false;
+        }
+    }
+    rows.len() == keys.len()
+}
+
+/// A tally of files of these keys, added from the last to the first, has them in this order.
 fn check(rt: &impl Abort, alloc: Global, keys: &[Key]) -> Result<(), AllocError> {
     let mut tally = Tally::new(alloc);
     for (extension, text, eol) in keys.iter().rev() {
         put(rt, &mut tally, *extension, *text, *eol)?;
     }
     let rows = tally.rows()?;
-    assert_eq!(rt; rows.len(), keys.len());
-    for (row, (extension, text, eol)) in rows.iter().zip(keys) {
-        let own = match &row.ext {
-            Some(bytes) => Some(bytes.as_slice()),
-            None => None,
-        };
-        assert!(rt;
-            own == *extension && row.text == *text && row.eol == *eol,
-            "{row:?}"
-        );
-    }
+    assert!(rt; has_keys(&rows, keys), "{rows:?}");
     Ok(())
 }
+
+const EXTENSIONS: [Key; 5] = [
+    (None, TextState::Unspecified, Eol::Nul),
+    (Some(b"b"), TextState::Unspecified, Eol::Nul),
+    (Some(b"c"), TextState::Unset, Eol::Mixed),
+    (Some(b"ca"), TextState::Set, Eol::NoEnd),
+    (Some(b"\xFF"), TextState::Set, Eol::NoEnd),
+];
 
 #[test]
 fn no_extension_before_extensions_by_bytes(rt: HostRuntime) -> Result<(), Fail> {
-    let keys: [Key; 5] = [
-        (None, TextState::Unspecified, Eol::Nul),
-        (Some(b"b"), TextState::Unspecified, Eol::Nul),
-        (Some(b"c"), TextState::Unset, Eol::Mixed),
-        (Some(b"ca"), TextState::Set, Eol::NoEnd),
-        (Some(b"\xFF"), TextState::Set, Eol::NoEnd),
-    ];
-    check(&rt, rt.alloc(), &keys)?;
+    check(&rt, rt.alloc(), &EXTENSIONS)?;
     Ok(())
 }
+
+const TEXT_STATES: [Key; 5] = [
+    (Some(b"c"), TextState::Set, Eol::Nul),
+    (Some(b"c"), TextState::Unset, Eol::Mixed),
+    (Some(b"c"), TextState::Auto, Eol::Cr),
+    (Some(b"c"), TextState::Other, Eol::Lf),
+    (Some(b"c"), TextState::Unspecified, Eol::NoEnd),
+];
 
 #[test]
 fn text_states_of_one_extension(rt: HostRuntime) -> Result<(), Fail> {
-    let keys: [Key; 5] = [
-        (Some(b"c"), TextState::Set, Eol::Nul),
-        (Some(b"c"), TextState::Unset, Eol::Mixed),
-        (Some(b"c"), TextState::Auto, Eol::Cr),
-        (Some(b"c"), TextState::Other, Eol::Lf),
-        (Some(b"c"), TextState::Unspecified, Eol::NoEnd),
-    ];
-    check(&rt, rt.alloc(), &keys)?;
+    check(&rt, rt.alloc(), &TEXT_STATES)?;
     Ok(())
 }
 
+const CLASSES: [Key; 6] = [
+    (None, TextState::Auto, Eol::NoEnd),
+    (None, TextState::Auto, Eol::Lf),
+    (None, TextState::Auto, Eol::CrLf),
+    (None, TextState::Auto, Eol::Cr),
+    (None, TextState::Auto, Eol::Mixed),
+    (None, TextState::Auto, Eol::Nul),
+];
+
 #[test]
 fn classes_of_one_extension_and_text_state(rt: HostRuntime) -> Result<(), Fail> {
-    let keys: [Key; 6] = [
-        (None, TextState::Auto, Eol::NoEnd),
-        (None, TextState::Auto, Eol::Lf),
-        (None, TextState::Auto, Eol::CrLf),
-        (None, TextState::Auto, Eol::Cr),
-        (None, TextState::Auto, Eol::Mixed),
-        (None, TextState::Auto, Eol::Nul),
-    ];
-    check(&rt, rt.alloc(), &keys)?;
+    check(&rt, rt.alloc(), &CLASSES)?;
     Ok(())
 }

@@ -1,14 +1,14 @@
-//! How much a walk takes: directories, segments and bytes of a path.
+//! How much a walk takes: directories, segments and bytes of a path, bytes of a rule file.
 
 use crate::tests::drawn::{draw_tree, walk_drawn};
 use crate::tests::walked::{
-    Asked, NONE, Sum, Wanted, all, check, check_on, walk_options, without_faults,
+    ASKED, Asked, Case, FOUND, Found, NONE, Wanted, check, check_on, walk_options,
 };
 use crate::{Row, WalkFault};
 use lc_board::{Locked, Words};
 use lc_census::Eol;
 use lc_level::Job;
-use lc_tree::{MemTree, Node, Sketch};
+use lc_tree::{FaultWord, MemTree, Node, Sketch};
 use std::alloc::{AllocError, Global};
 use std::process::Abort;
 use std::sync::Wait;
@@ -19,33 +19,56 @@ const ONE_FILE: Sketch = Sketch::Dir(&[(b"a", Sketch::File(b"q"))]);
 
 const ONE_DIRECTORY: Sketch = Sketch::Dir(&[(b"s", Sketch::Dir(&[]))]);
 
+const THE_FILE: Found = Found {
+    rows: &[(None, NONE, Eol::NoEnd, [1, 1, 0, 1])],
+    ..FOUND
+};
+
+const FEW: [Case; 4] = [
+    (
+        "one directory of one",
+        Asked {
+            tree: ONE_FILE,
+            max_dirs: 1,
+            ..ASKED
+        },
+        Ok(THE_FILE),
+    ),
+    (
+        "one of the most",
+        Asked {
+            tree: ONE_FILE,
+            max_dirs: 1_048_576,
+            ..ASKED
+        },
+        Ok(THE_FILE),
+    ),
+    (
+        "two directories of one",
+        Asked {
+            tree: ONE_DIRECTORY,
+            max_dirs: 1,
+            ..ASKED
+        },
+        Err(WalkFault::TooManyDirs),
+    ),
+    (
+        "two of two",
+        Asked {
+            tree: ONE_DIRECTORY,
+            max_dirs: 2,
+            ..ASKED
+        },
+        Ok(Found {
+            directories: 2,
+            ..FOUND
+        }),
+    ),
+];
+
 #[test]
 fn few_directories(rt: HostRuntime) -> Result<(), Fail> {
-    let one: [Sum; 1] = [(None, NONE, Eol::NoEnd, [1, 1, 0, 1])];
-    let full = Err(WalkFault::TooManyDirs);
-    let cases: [(&str, Sketch, u32, Wanted); 4] = [
-        (
-            "one directory of one",
-            ONE_FILE,
-            1,
-            Ok(without_faults(&one, 1)),
-        ),
-        (
-            "one of the most",
-            ONE_FILE,
-            1_048_576,
-            Ok(without_faults(&one, 1)),
-        ),
-        ("two directories of one", ONE_DIRECTORY, 1, full),
-        ("two of two", ONE_DIRECTORY, 2, Ok(without_faults(&[], 2))),
-    ];
-    for (name, tree, max_dirs, wanted) in cases {
-        let asked = Asked {
-            max_dirs,
-            ..all(tree)
-        };
-        check(&rt, rt.alloc(), name, asked, wanted)?;
-    }
+    check(&rt, rt.alloc(), &FEW)?;
     Ok(())
 }
 
@@ -68,20 +91,33 @@ const MOST: u32 = 65_536;
 
 const SEED: u64 = 12_345;
 
-#[test]
-fn as_many_directories_as_are_taken(rt: HostRuntime) -> Result<(), Fail> {
-    let alloc = rt.alloc();
+/// The walks of a tree of the most directories, by four workers.
+fn check_most<R: Threads + Wait + Sync + Abort>(rt: &R, alloc: Global) -> Result<(), AllocError> {
     let drawn = draw_tree(alloc, SEED, MOST)?;
-    walk_drawn::<Words<Job, Row>, HostRuntime>(&rt, alloc, &drawn, 4)?;
-    walk_drawn::<Locked<Job, Row>, HostRuntime>(&rt, alloc, &drawn, 4)?;
-    let more = draw_tree(alloc, SEED, MOST + 1)?;
+    walk_drawn::<Words<Job, Row>, R>(rt, alloc, &drawn, 4)?;
+    walk_drawn::<Locked<Job, Row>, R>(rt, alloc, &drawn, 4)?;
+    Ok(())
+}
+
+/// The walks of one with a directory more.
+fn check_one_more<R: Threads + Wait + Sync + Abort>(
+    rt: &R,
+    alloc: Global,
+) -> Result<(), AllocError> {
+    let drawn = draw_tree(alloc, SEED, MOST + 1)?;
     check_node(
-        &rt,
+        rt,
         alloc,
         "one more",
-        &more.top,
+        &drawn.top,
         Err(WalkFault::TooManyDirs),
-    )?;
+    )
+}
+
+#[test]
+fn as_many_directories_as_are_taken(rt: HostRuntime) -> Result<(), Fail> {
+    check_most(&rt, rt.alloc())?;
+    check_one_more(&rt, rt.alloc())?;
     Ok(())
 }
 
@@ -96,35 +132,116 @@ fn nested(alloc: Global, depth: u32, name: &[u8], inner: Node) -> Result<Node, A
     Ok(node)
 }
 
-#[test]
-fn deep_directories(rt: HostRuntime) -> Result<(), Fail> {
-    let alloc = rt.alloc();
-    let cases: [(&str, u32, Wanted); 2] = [
-        ("256 segments", 256, Ok(without_faults(&[], 257))),
-        ("257 segments", 257, Err(WalkFault::TooDeep)),
-    ];
-    for (name, depth, wanted) in cases {
-        let top = nested(alloc, depth, b"d", Node::Dir(Vec::new(alloc)))?;
-        check_node(&rt, alloc, name, &top, wanted)?;
+/// A walk of nested directories: its name, how many, the name of each, what the last and what the first have beside, and what is found.
+type Nest<'a> = (&'a str, u32, &'a [u8], Entries<'a>, Entries<'a>, Wanted<'a>);
+
+type Entries<'a> = &'a [(&'a [u8], Sketch<'a>)];
+
+fn check_nests<R: Threads + Wait + Sync + Abort>(
+    rt: &R,
+    alloc: Global,
+    cases: &[Nest],
+) -> Result<(), AllocError> {
+    for (case, depth, name, last, first, wanted) in cases {
+        let mut top = nested(alloc, *depth, name, Sketch::Dir(last).node(alloc)?)?;
+        if let Node::Dir(entries) = &mut top {
+            for (name, sketch) in *first {
+                entries.push((name.to_vec(alloc)?, sketch.node(alloc)?))?;
+            }
+        }
+        check_node(rt, alloc, case, &top, *wanted)?;
     }
     Ok(())
 }
 
-const LETTERS: [u8; 257] = [b'a'; 257];
+const DEEP: [Nest; 2] = [
+    (
+        "256 segments",
+        256,
+        b"d",
+        &[],
+        &[],
+        Ok(Found {
+            directories: 257,
+            ..FOUND
+        }),
+    ),
+    ("257 segments", 257, b"d", &[], &[], Err(WalkFault::TooDeep)),
+];
+
+#[test]
+fn deep_directories(rt: HostRuntime) -> Result<(), Fail> {
+    check_nests(&rt, rt.alloc(), &DEEP)?;
+    Ok(())
+}
+
+const LONG: [u8; 255] = [b'a'; 255];
+
+const LONGER: [u8; 256] = [b'a'; 256];
+
+const LONGEST: [u8; 257] = [b'a'; 257];
+
+const EMPTY: Sketch = Sketch::File(b"");
+
+const IGNORED: (&[u8], Sketch) = (b".gitignore", Sketch::File(b"*\n!*/\n"));
+
+/// The last entry has a path of so many bytes.
+const LONG_PATHS: [Nest; 4] = [
+    (
+        "4,096 bytes",
+        15,
+        &LONG,
+        &[(&LONGER, EMPTY)],
+        &[],
+        Ok(Found {
+            rows: &[(None, NONE, Eol::NoEnd, [1, 0, 0, 0])],
+            directories: 16,
+            faults: &[],
+        }),
+    ),
+    (
+        "4,097 bytes",
+        15,
+        &LONG,
+        &[(&LONGEST, EMPTY)],
+        &[],
+        Err(WalkFault::TooDeep),
+    ),
+    (
+        "4,097 bytes of a link",
+        15,
+        &LONG,
+        &[(&LONGEST, Sketch::Other)],
+        &[],
+        Err(WalkFault::TooDeep),
+    ),
+    (
+        "4,097 bytes of an ignored file",
+        15,
+        &LONG,
+        &[(&LONGEST, EMPTY)],
+        &[IGNORED],
+        Err(WalkFault::TooDeep),
+    ),
+];
 
 #[test]
 fn long_paths(rt: HostRuntime) -> Result<(), Fail> {
+    check_nests(&rt, rt.alloc(), &LONG_PATHS)?;
+    Ok(())
+}
+
+const IN_D: Found = Found {
+    faults: &[(b"d/.gitignore", FaultWord::Long)],
+    ..FOUND
+};
+
+#[test]
+fn a_rule_file_of_a_byte_too_many(rt: HostRuntime) -> Result<(), Fail> {
     let alloc = rt.alloc();
-    let one: [Sum; 1] = [(None, NONE, Eol::NoEnd, [1, 0, 0, 0])];
-    let cases: [(&str, &[u8], Wanted); 2] = [
-        ("4,096 bytes", &LETTERS[..256], Ok(without_faults(&one, 16))),
-        ("4,097 bytes", &LETTERS, Err(WalkFault::TooDeep)),
-    ];
-    for (case, name, wanted) in cases {
-        let entries = [(name, Sketch::File(b""))];
-        let inner = Sketch::Dir(&entries).node(alloc)?;
-        let top = nested(alloc, 15, &LETTERS[..255], inner)?;
-        check_node(&rt, alloc, case, &top, wanted)?;
-    }
+    let file = Node::File(vec![in alloc; b'\n'; 1_048_577]?);
+    let directory = nested(alloc, 1, b".gitignore", file)?;
+    let top = nested(alloc, 1, b"d", directory)?;
+    check_node(&rt, alloc, "1,048,577 bytes", &top, Ok(IN_D))?;
     Ok(())
 }

@@ -1,8 +1,10 @@
 //! Walks over boards that only tests have.
+ghost use Rattle.std.specs.Prelude.{◌≤◌};
+ghost use Rattle.lc_board.specs.Limits.{workers_limit};
 
 use crate::tests::boards::{Crowded, Slow};
 use crate::tests::drawn::{draw_tree, walk_drawn};
-use crate::tests::walked::{NONE, Sum, Wanted, check_on, walk_options, without_faults};
+use crate::tests::walked::{FOUND, Found, NONE, Wanted, check_on, walk_options};
 use crate::{Row, WalkFault};
 use lc_board::{Locked, Shared, Words};
 use lc_census::Eol;
@@ -14,50 +16,69 @@ use std::sync::Wait;
 use std::test::Fail;
 use std::thread::Threads;
 
-const ONE_FILE: Sketch = Sketch::Dir(&[(b"a", Sketch::File(b"q"))]);
+/// The name of a walk, its tree, and what it finds.
+type Case<'a> = (&'a str, Sketch<'a>, Wanted<'a>);
 
-const ONE_DIRECTORY: Sketch = Sketch::Dir(&[(b"s", Sketch::Dir(&[]))]);
+const CASES: [Case; 2] = [
+    (
+        "the top alone",
+        Sketch::Dir(&[(b"a", Sketch::File(b"q"))]),
+        Ok(Found {
+            rows: &[(None, NONE, Eol::NoEnd, [1, 1, 0, 1])],
+            ..FOUND
+        }),
+    ),
+    (
+        "one more",
+        Sketch::Dir(&[(b"s", Sketch::Dir(&[]))]),
+        Err(WalkFault::TooManyDirs),
+    ),
+];
 
 fn check_crowded<B: Shared<Job, Row>, R: Threads + Wait + Sync + Abort>(
     rt: &R,
     alloc: Global,
-) -> Result<(), AllocError> {
-    let one: [Sum; 1] = [(None, NONE, Eol::NoEnd, [1, 1, 0, 1])];
-    let cases: [(&str, Sketch, Wanted); 2] = [
-        ("the top alone", ONE_FILE, Ok(without_faults(&one, 1))),
-        ("one more", ONE_DIRECTORY, Err(WalkFault::TooManyDirs)),
-    ];
-    for (name, sketch, wanted) in cases {
+    threads: u32,
+) -> Result<(), AllocError>
+    requires { (1 ≤ threads) × (threads ≤ workers_limit) }
+{
+    let options = walk_options(threads, 100);
+    for (name, sketch, wanted) in CASES {
         let node = sketch.node(alloc)?;
-        for threads in [1, 4] {
-            let options = walk_options(threads, 100);
-            check_on::<Crowded<B>, MemTree, R>(
-                rt,
-                alloc,
-                &MemTree::new(&node),
-                &options,
-                name,
-                wanted,
-            )?;
-        }
+        check_on::<B, MemTree, R>(rt, alloc, &MemTree::new(&node), &options, name, wanted)?;
     }
     Ok(())
 }
 
+fn check_crowds<B: Shared<Job, Row>, R: Threads + Wait + Sync + Abort>(
+    rt: &R,
+    alloc: Global,
+) -> Result<(), AllocError> {
+    check_crowded::<B, R>(rt, alloc, 1)?;
+    check_crowded::<B, R>(rt, alloc, 4)
+}
+
 #[test]
 fn a_board_that_is_full_from_the_start(rt: HostRuntime) -> Result<(), Fail> {
-    check_crowded::<Words<Job, Row>, HostRuntime>(&rt, rt.alloc())?;
-    check_crowded::<Locked<Job, Row>, HostRuntime>(&rt, rt.alloc())?;
+    check_crowds::<Crowded<Words<Job, Row>>, HostRuntime>(&rt, rt.alloc())?;
+    check_crowds::<Crowded<Locked<Job, Row>>, HostRuntime>(&rt, rt.alloc())?;
+    Ok(())
+}
+
+/// A drawn tree is walked by one worker and by four.
+fn check_slow<B: Shared<Job, Row>, R: Threads + Wait + Sync + Abort>(
+    rt: &R,
+    alloc: Global,
+) -> Result<(), AllocError> {
+    let drawn = draw_tree(alloc, 31, 100)?;
+    walk_drawn::<B, R>(rt, alloc, &drawn, 1)?;
+    walk_drawn::<B, R>(rt, alloc, &drawn, 4)?;
     Ok(())
 }
 
 #[test]
 fn a_board_that_puts_claims_off(rt: HostRuntime) -> Result<(), Fail> {
-    let alloc = rt.alloc();
-    let drawn = draw_tree(alloc, 31, 100)?;
-    for threads in [1, 4] {
-        walk_drawn::<Slow<Words<Job, Row>>, HostRuntime>(&rt, alloc, &drawn, threads)?;
-        walk_drawn::<Slow<Locked<Job, Row>>, HostRuntime>(&rt, alloc, &drawn, threads)?;
-    }
+    check_slow::<Slow<Words<Job, Row>>, HostRuntime>(&rt, rt.alloc())?;
+    check_slow::<Slow<Locked<Job, Row>>, HostRuntime>(&rt, rt.alloc())?;
     Ok(())
 }

@@ -1,11 +1,13 @@
 //! The lists of a report.
 
 use super::tallies::put;
+use super::walked::has_faults;
 use crate::{FaultLine, FileLine, Report, Tally};
 use lc_census::{Count, Eol};
 use lc_rules::TextState;
 use lc_tree::FaultWord;
 use std::alloc::{AllocError, Global};
+use std::process::Abort;
 use std::test::Fail;
 
 fn file(alloc: Global, path: &[u8]) -> Result<FileLine, AllocError> {
@@ -29,27 +31,47 @@ fn fault(alloc: Global, path: &[u8], word: FaultWord) -> Result<FaultLine, Alloc
     })
 }
 
+fn has_paths(files: &[FileLine], wanted: &[&[u8]]) -> bool {
+    for (file, path) in files.iter().zip(wanted) {
+        if file.path.as_slice() != *path {
+            return false;
+        }
+    }
+    files.len() == wanted.len()
+}
+
+/// The report of a tally of one file, and of three directories, has these lists in this order.
+fn check(rt: &impl Abort, report: &Report, files: &[&[u8]], faults: &[(&[u8], FaultWord)]) {
+    assert!(rt;
+        report.rows.len() == 1
+            && report.totals.files == 1
+            && report.directories == 3
+            && has_paths(&report.files, files)
+            && has_faults(&report.faults, faults),
+        "{report:?}"
+    );
+}
+
+const PATHS: [&[u8]; 3] = [b"d/a.c", b"d.c", b"a.c"];
+
+const IN_ORDER: [&[u8]; 3] = [b"a.c", b"d.c", b"d/a.c"];
+
+const FAULTS_IN_ORDER: [(&[u8], FaultWord); 2] = [(b"", FaultWord::Read), (b"e", FaultWord::Long)];
+
 #[test]
 fn lists_by_paths_bytes(rt: HostRuntime) -> Result<(), Fail> {
     let alloc = rt.alloc();
     let mut tally = Tally::new(alloc);
     put(&rt, &mut tally, Some(b"c"), TextState::Set, Eol::Lf)?;
     let mut files = Vec::new(alloc);
-    for path in [b"d/a.c".as_slice(), b"d.c", b"a.c"] {
+    for path in PATHS {
         files.push(file(alloc, path)?)?;
     }
     let mut faults = Vec::new(alloc);
-    faults.push(fault(alloc, b"e", FaultWord::Long)?)?;
-    faults.push(fault(alloc, b"", FaultWord::Read)?)?;
+    for (path, word) in FAULTS_IN_ORDER.iter().rev() {
+        faults.push(fault(alloc, path, *word)?)?;
+    }
     let report = Report::new(&tally, 3, files, faults)?;
-    assert!(rt; report.rows.len() == 1 && report.totals.files == 1 && report.directories == 3);
-    assert_eq!(rt; report.files.len(), 3);
-    assert!(rt; report.files[0].path.as_slice() == b"a.c".as_slice());
-    assert!(rt; report.files[1].path.as_slice() == b"d.c".as_slice());
-    assert!(rt; report.files[2].path.as_slice() == b"d/a.c".as_slice());
-    assert_eq!(rt; report.faults.len(), 2);
-    assert!(rt;
-        report.faults[0].word == FaultWord::Read && report.faults[1].word == FaultWord::Long
-    );
+    check(&rt, &report, &IN_ORDER, &FAULTS_IN_ORDER);
     Ok(())
 }

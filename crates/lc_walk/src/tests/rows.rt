@@ -24,17 +24,22 @@ fn start_one<B: Shared<Job, Row>>(alloc: Global) -> Result<(B, B::Pass), AllocEr
 
 /// Closes the board of one worker.
 fn close_one<B: Shared<Job, Row>>(
+    rt: &impl Abort,
     alloc: Global,
     board: B,
     pass: B::Pass,
-) -> Result<Closed<Row>, CloseFault>
+) -> Result<Closed<Row>, AllocError>
     requires crew { B.workers_of board ≡ 1 }
     requires pass { B.owns board pass × ((B.Pass.view pass).worker ≡ 0) }
 {
     let mut passes = Vec::new(alloc);
-    match passes.push(pass) {
-        Ok(()) => board.close(passes),
-        Err(_) => Err(CloseFault::Memory),
+    passes.push(pass)?;
+    match board.close(passes) {
+        Ok(closed) => Ok(closed),
+        Err(fault) => {
+            assert_eq!(rt; fault, CloseFault::Memory);
+            Err(AllocError)
+        }
     }
 }
 
@@ -62,6 +67,16 @@ impl Said {
     }
 }
 
+/// A row says this, or that memory was refused.
+fn check_row(rt: &impl Abort, row: &Ended<Row>, wanted: Said) -> Result<(), AllocError> {
+    let said = Said::by(row);
+    if said == Said::Broken(Cause::Memory) && said != wanted {
+        return Err(AllocError);
+    }
+    assert_eq!(rt; said, wanted);
+    Ok(())
+}
+
 /// The rows of the board of one worker say this.
 fn check_rows<B: Shared<Job, Row>>(
     rt: &impl Abort,
@@ -74,23 +89,12 @@ fn check_rows<B: Shared<Job, Row>>(
     requires pass { B.owns board pass × ((B.Pass.view pass).worker ≡ 0) }
     ensures { IfOk result (λ c. vec_len c.rows ≡ length wanted.now) }
 {
-    match close_one(alloc, board, pass) {
-        Ok(closed) => {
-            for (row, wanted) in closed.rows.iter().zip(wanted) {
-                let said = Said::by(row);
-                if said == Said::Broken(Cause::Memory) && said != *wanted {
-                    return Err(AllocError);
-                }
-                assert_eq!(rt; said, *wanted);
-            }
-            assert_eq!(rt; closed.rows.len(), wanted.len());
-            Ok(closed)
-        }
-        Err(fault) => {
-            assert_eq!(rt; fault, CloseFault::Memory);
-            Err(AllocError)
-        }
+    let closed = close_one(rt, alloc, board, pass)?;
+    for (row, wanted) in closed.rows.iter().zip(wanted) {
+        check_row(rt, row, *wanted)?;
     }
+    assert_eq!(rt; closed.rows.len(), wanted.len());
+    Ok(closed)
 }
 
 const LINE: Sketch = Sketch::File(b"x\n");
@@ -136,6 +140,18 @@ fn a_row_of_each_kind(rt: HostRuntime) -> Result<(), Fail> {
 
 const ONE_IN_THE_OTHER: Sketch = Sketch::Dir(&[(b"d", Sketch::Dir(&[(b"e", Sketch::Dir(&[]))]))]);
 
+/// The last child directory of a job's.
+fn last_child<T: Tree>(alloc: Global, tree: &T, job: &Job) -> Result<Job, AllocError> {
+    let mut desk = Desk::new(alloc)?;
+    let Ok(mut opened) = open_level(alloc, tree, job, false, &mut desk) else {
+        return Err(AllocError);
+    };
+    match opened.children.pop() {
+        Some(child) => Ok(child.job),
+        None => Err(AllocError),
+    }
+}
+
 /// Posts a child of the top, and then gives the top up as where memory is refused.
 fn break_top<B: Shared<Job, Row>, T: Tree, W: Wait>(
     rt: &W,
@@ -153,16 +169,9 @@ fn break_top<B: Shared<Job, Row>, T: Tree, W: Wait>(
     let Claim::Got(_, job) = board.claim(rt, pass) else {
         return Err(AllocError);
     };
-    let mut desk = Desk::new(alloc)?;
-    let Ok(mut opened) = open_level(alloc, tree, &job, false, &mut desk) else {
+    let child = last_child(alloc, tree, &job)?;
+    if board.post(rt, pass, child).is_err() {
         return Err(AllocError);
-    };
-    let Some(child) = opened.children.pop() else {
-        return Err(AllocError);
-    };
-    match board.post(rt, pass, child.job) {
-        Ok(_) => {}
-        Err(_) => return Err(AllocError),
     }
     let cause = Cause::Memory;
     board.give(rt, pass, Row::Broken(BrokenRow { job, cause }));

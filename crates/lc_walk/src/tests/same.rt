@@ -1,7 +1,6 @@
 //! Whether two walks found the same.
 
 use crate::{FaultLine, FileLine, Report, TallyRow};
-use std::process::Abort;
 
 fn is_same_row(row: &TallyRow, other: &TallyRow) -> bool {
     let sums = row.files == other.files && row.bytes == other.bytes;
@@ -17,31 +16,38 @@ fn is_same_fault(fault: &FaultLine, other: &FaultLine) -> bool {
     fault.path == other.path && fault.word == other.word
 }
 
-/// A report, of the trial of this number, says the same as another, line by line.
-pub(super) fn check_same(rt: &impl Abort, number: u32, report: &Report, wanted: &Report) {
-    assert!(rt;
-        report.totals == wanted.totals,
-        "{number}: {:?}",
-        report.totals
-    );
-    assert!(rt;
-        report.directories == wanted.directories,
-        "{number}: {}",
-        report.directories
-    );
-    assert!(rt; report.rows.len() == wanted.rows.len(), "{number}: rows");
-    for (row, other) in report.rows.iter().zip(&wanted.rows) {
-        assert!(rt; is_same_row(row, other), "{number}: {row:?}");
+fn has_same_rows(report: &Report, other: &Report) -> bool {
+    for (row, other) in report.rows.iter().zip(&other.rows) {
+        if !is_same_row(row, other) {
+            return false;
+        }
     }
-    assert!(rt; report.files.len() == wanted.files.len(), "{number}: files");
-    for (file, other) in report.files.iter().zip(&wanted.files) {
-        assert!(rt; is_same_file(file, other), "{number}: {file:?}");
+    report.rows.len() == other.rows.len()
+}
+
+fn has_same_files(report: &Report, other: &Report) -> bool {
+    for (file, other) in report.files.iter().zip(&other.files) {
+        if !is_same_file(file, other) {
+            return false;
+        }
     }
-    assert!(rt;
-        report.faults.len() == wanted.faults.len(),
-        "{number}: faults"
-    );
-    for (fault, other) in report.faults.iter().zip(&wanted.faults) {
-        assert!(rt; is_same_fault(fault, other), "{number}: {fault:?}");
+    report.files.len() == other.files.len()
+}
+
+fn has_same_faults(report: &Report, other: &Report) -> bool {
+    for (fault, other) in report.faults.iter().zip(&other.faults) {
+        if !is_same_fault(fault, other) {
+            return false;
+        }
     }
+    report.faults.len() == other.faults.len()
+}
+
+/// Two reports say the same, line by line.
+pub(super) fn is_same(report: &Report, other: &Report) -> bool {
+    report.totals == other.totals
+        && report.directories == other.directories
+        && has_same_rows(report, other)
+        && has_same_files(report, other)
+        && has_same_faults(report, other)
 }

@@ -2,7 +2,7 @@
 
 use crate::Row;
 use crate::tests::drawn::{draw_tree, walk_drawn};
-use crate::tests::same::check_same;
+use crate::tests::same::is_same;
 use lc_board::{Locked, Shared, Words};
 use lc_level::Job;
 use std::alloc::{AllocError, Global};
@@ -24,7 +24,7 @@ fn check_runs<B: Shared<Job, Row>, R: Threads + Wait + Sync + Abort>(
     let wanted = walk_drawn::<Words<Job, Row>, R>(rt, alloc, &drawn, 1)?;
     for run in 0..RUNS {
         let report = walk_drawn::<B, R>(rt, alloc, &drawn, 16)?;
-        check_same(rt, run, &report, &wanted);
+        assert!(rt; is_same(&report, &wanted), "{run}: {:?}", report.totals);
     }
     Ok(())
 }

@@ -3,7 +3,7 @@ ghost use Rattle.std.specs.Prelude.{◌≤◌};
 ghost use Rattle.lc_board.specs.Limits.{capacity_limit, workers_limit};
 ghost use Rattle.lc_walk.specs.WalkOptions.{AreWithinLimits};
 
-use crate::{Options, Report, Row, TallyRow, WalkFault, walk_on};
+use crate::{FaultLine, Options, Report, Row, TallyRow, WalkFault, walk_on};
 use lc_board::{Locked, Shared, Words};
 use lc_census::Eol;
 use lc_level::Job;
@@ -25,15 +25,13 @@ pub(super) struct Asked<'a> {
     pub(super) max_dirs: u32,
 }
 
-/// All that is asked of a tree by default.
-pub(super) fn all(tree: Sketch) -> Asked {
-    Asked {
-        tree,
-        exclude: None,
-        archive: false,
-        max_dirs: 100,
-    }
-}
+/// What is asked by default, of no entries.
+pub(super) const ASKED: Asked = Asked {
+    tree: Sketch::Dir(&[]),
+    exclude: None,
+    archive: false,
+    max_dirs: 100,
+};
 
 /// The extension, text state and line ends of a row; its files, lines, blank lines and bytes.
 pub(super) type Sum<'a> = (Option<&'a [u8]>, TextState, Eol, [u64; 4]);
@@ -46,16 +44,17 @@ pub(super) struct Found<'a> {
     pub(super) faults: &'a [(&'a [u8], FaultWord)],
 }
 
-/// What a walk finds where there is no fault.
-pub(super) fn without_faults<'a>(rows: &'a [Sum<'a>], directories: u64) -> Found<'a> {
-    Found {
-        rows,
-        directories,
-        faults: &[],
-    }
-}
+/// What is found in one directory without an entry.
+pub(super) const FOUND: Found = Found {
+    rows: &[],
+    directories: 1,
+    faults: &[],
+};
 
 pub(super) type Wanted<'a> = Result<Found<'a>, WalkFault>;
+
+/// The name of a walk, what is asked of it, and what it finds.
+pub(super) type Case<'a> = (&'a str, Asked<'a>, Wanted<'a>);
 
 /// A walk of the whole tree by so many workers.
 pub(super) fn walk_options(threads: u32, max_dirs: u32) -> Options
@@ -87,24 +86,41 @@ fn is_sum(row: &TallyRow, wanted: Sum) -> bool {
         && row.bytes == u128::from(bytes)
 }
 
-fn check_report(rt: &impl Abort, name: &str, report: &Report, wanted: Found) {
-    assert!(rt; report.rows.len() == wanted.rows.len(), "{name}: rows");
-    for (row, sum) in report.rows.iter().zip(wanted.rows) {
-        assert!(rt; is_sum(row, *sum), "{name}: {row:?}");
+fn has_rows(rows: &[TallyRow], wanted: &[Sum]) -> bool {
+    for (row, sum) in rows.iter().zip(wanted) {
+        if !is_sum(row, *sum) {
+            return false;
+        }
     }
-    assert!(rt;
-        report.directories == wanted.directories,
-        "{name}: directories"
-    );
-    assert!(rt;
-        report.faults.len() == wanted.faults.len(),
-        "{name}: faults"
-    );
-    for (fault, (path, word)) in report.faults.iter().zip(wanted.faults) {
-        assert!(rt;
-            fault.path.as_slice() == *path && fault.word == *word,
-            "{name}: {fault:?}"
-        );
+    rows.len() == wanted.len()
+}
+
+pub(super) fn has_faults(faults: &[FaultLine], wanted: &[(&[u8], FaultWord)]) -> bool {
+    for (fault, (path, word)) in faults.iter().zip(wanted) {
+        if fault.path.as_slice() != *path || fault.word != *word {
+            return false;
+        }
+    }
+    faults.len() == wanted.len()
+}
+
+fn has_found(report: &Report, wanted: Found) -> bool {
+    report.directories == wanted.directories
+        && has_rows(&report.rows, wanted.rows)
+        && has_faults(&report.faults, wanted.faults)
+}
+
+/// The report of a walk that nothing can stop but a refusal of memory.
+pub(super) fn report_of(
+    rt: &impl Abort,
+    answer: Result<Report, WalkFault>,
+) -> Result<Report, AllocError> {
+    match answer {
+        Ok(report) => Ok(report),
+        Err(fault) => {
+            assert_eq!(rt; fault, WalkFault::Memory);
+            Err(AllocError)
+        }
     }
 }
 
@@ -121,7 +137,7 @@ pub(super) fn check_on<B: Shared<Job, Row>, T: Tree, R: Threads + Wait + Sync + 
 {
     match (walk_on::<B, T, R>(rt, alloc, tree, options), wanted) {
         (Err(WalkFault::Memory), _) => return Err(AllocError),
-        (Ok(report), Ok(found)) => check_report(rt, name, &report, found),
+        (Ok(report), Ok(found)) => assert!(rt; has_found(&report, found), "{name}: {report:?}"),
         (Ok(_), Err(fault)) => assert!(rt; false, "{name}: no {fault:?}"),
         (Err(fault), wanted) => assert!(rt; wanted.err() == Some(fault), "{name}: {fault:?}"),
     }
@@ -143,7 +159,7 @@ fn exclude_file(
 }
 
 /// The walk of the tree finds this, over each board and with each number of workers.
-pub(super) fn check<R: Threads + Wait + Sync + Abort>(
+fn check_case<R: Threads + Wait + Sync + Abort>(
     rt: &R,
     alloc: Global,
     name: &str,
@@ -164,6 +180,18 @@ pub(super) fn check<R: Threads + Wait + Sync + Abort>(
         };
         check_on::<Words<Job, Row>, MemTree, R>(rt, alloc, &tree, &options, name, wanted)?;
         check_on::<Locked<Job, Row>, MemTree, R>(rt, alloc, &tree, &options, name, wanted)?;
+    }
+    Ok(())
+}
+
+/// Each walk finds what it is to find, over each board and with each number of workers.
+pub(super) fn check<R: Threads + Wait + Sync + Abort>(
+    rt: &R,
+    alloc: Global,
+    cases: &[Case],
+) -> Result<(), AllocError> {
+    for (name, asked, wanted) in cases {
+        check_case(rt, alloc, name, *asked, *wanted)?;
     }
     Ok(())
 }

@@ -1,12 +1,15 @@
 //! What walks find.
 
-use crate::tests::walked::{Asked, Found, NONE, Sum, all, check, without_faults};
-use crate::{Options, WalkFault, walk};
+use crate::tests::walked::{ASKED, Asked, Case, FOUND, Found, NONE, check, report_of};
+use crate::{Options, Report, walk};
 use lc_census::Eol;
 use lc_rules::TextState;
 use lc_tree::{FaultWord, MemTree, Sketch};
-use std::alloc::AllocError;
+use std::alloc::{AllocError, Global};
+use std::process::Abort;
+use std::sync::Wait;
 use std::test::Fail;
+use std::thread::Threads;
 
 const LINE: Sketch = Sketch::File(b"x\n");
 
@@ -24,20 +27,26 @@ const IGNORING: Sketch = Sketch::Dir(&[
     ),
 ]);
 
+const WITH_RULES: [Case; 1] = [(
+    "a tree",
+    Asked {
+        tree: IGNORING,
+        ..ASKED
+    },
+    Ok(Found {
+        rows: &[
+            (None, NONE, Eol::Lf, [1, 3, 0, 24]),
+            (Some(b"c"), NONE, Eol::CrLf, [1, 1, 0, 8]),
+            (Some(b"log"), NONE, Eol::Lf, [1, 1, 0, 2]),
+        ],
+        directories: 3,
+        faults: &[],
+    }),
+)];
+
 #[test]
 fn rules_of_the_tree_are_applied(rt: HostRuntime) -> Result<(), Fail> {
-    let rows: [Sum; 3] = [
-        (None, NONE, Eol::Lf, [1, 3, 0, 24]),
-        (Some(b"c"), NONE, Eol::CrLf, [1, 1, 0, 8]),
-        (Some(b"log"), NONE, Eol::Lf, [1, 1, 0, 2]),
-    ];
-    check(
-        &rt,
-        rt.alloc(),
-        "a tree",
-        all(IGNORING),
-        Ok(without_faults(&rows, 3)),
-    )?;
+    check(&rt, rt.alloc(), &WITH_RULES)?;
     Ok(())
 }
 
@@ -48,21 +57,26 @@ const TEXTS: Sketch = Sketch::Dir(&[
     (b"z.c", Sketch::File(b"a\r\n\r\n")),
 ]);
 
+const WITH_ATTRIBUTES: [Case; 1] = [(
+    "a tree",
+    Asked {
+        tree: TEXTS,
+        ..ASKED
+    },
+    Ok(Found {
+        rows: &[
+            (None, NONE, Eol::Lf, [1, 2, 0, 20]),
+            (Some(b"b"), TextState::Unset, Eol::Nul, [1, 1, 0, 2]),
+            (Some(b"c"), TextState::Set, Eol::Lf, [1, 2, 0, 4]),
+            (Some(b"c"), TextState::Set, Eol::CrLf, [1, 2, 1, 5]),
+        ],
+        ..FOUND
+    }),
+)];
+
 #[test]
 fn attributes_say_which_files_are_text(rt: HostRuntime) -> Result<(), Fail> {
-    let rows: [Sum; 4] = [
-        (None, NONE, Eol::Lf, [1, 2, 0, 20]),
-        (Some(b"b"), TextState::Unset, Eol::Nul, [1, 1, 0, 2]),
-        (Some(b"c"), TextState::Set, Eol::Lf, [1, 2, 0, 4]),
-        (Some(b"c"), TextState::Set, Eol::CrLf, [1, 2, 1, 5]),
-    ];
-    check(
-        &rt,
-        rt.alloc(),
-        "a tree",
-        all(TEXTS),
-        Ok(without_faults(&rows, 1)),
-    )?;
+    check(&rt, rt.alloc(), &WITH_ATTRIBUTES)?;
     Ok(())
 }
 
@@ -81,51 +95,73 @@ const PARENT: Sketch = Sketch::Dir(&[(b"d", Sketch::Dir(&[(b"..", LINE)]))]);
 
 const CLOSED_GIT: Sketch = Sketch::Dir(&[(b".git", Sketch::Closed), (b"a", LINE)]);
 
-#[test]
-fn faults_are_told_and_not_counted(rt: HostRuntime) -> Result<(), Fail> {
-    let one: [Sum; 1] = [(Some(b"c"), NONE, Eol::Lf, [1, 1, 0, 2])];
-    let cases: [(&str, Sketch, &[Sum], u64, &[(&[u8], FaultWord)]); 5] = [
-        (
-            "a closed top",
-            Sketch::Closed,
-            &[],
-            0,
-            &[(b"", FaultWord::Read)],
-        ),
-        (
-            "a failing rule file",
-            FAILING,
-            &one,
-            1,
-            &[
+const WITH_FAULTS: [Case; 5] = [
+    (
+        "a closed top",
+        Asked {
+            tree: Sketch::Closed,
+            ..ASKED
+        },
+        Ok(Found {
+            directories: 0,
+            faults: &[(b"", FaultWord::Read)],
+            ..FOUND
+        }),
+    ),
+    (
+        "a failing rule file",
+        Asked {
+            tree: FAILING,
+            ..ASKED
+        },
+        Ok(Found {
+            rows: &[(Some(b"c"), NONE, Eol::Lf, [1, 1, 0, 2])],
+            directories: 1,
+            faults: &[
                 (b"b.c", FaultWord::Read),
                 (b"d/.gitignore", FaultWord::Read),
             ],
-        ),
-        ("a name twice", TWICE, &[], 1, &[(b"d", FaultWord::Twice)]),
-        (
-            "a parent's name",
-            PARENT,
-            &[],
-            1,
-            &[(b"d", FaultWord::Name)],
-        ),
-        (
-            "a closed .git",
-            CLOSED_GIT,
-            &[],
-            0,
-            &[(b".git", FaultWord::Read)],
-        ),
-    ];
-    for (name, tree, rows, directories, faults) in cases {
-        let wanted = Found {
-            rows,
-            directories,
-            faults,
-        };
-        check(&rt, rt.alloc(), name, all(tree), Ok(wanted))?;
-    }
+        }),
+    ),
+    (
+        "a name twice",
+        Asked {
+            tree: TWICE,
+            ..ASKED
+        },
+        Ok(Found {
+            faults: &[(b"d", FaultWord::Twice)],
+            ..FOUND
+        }),
+    ),
+    (
+        "a parent's name",
+        Asked {
+            tree: PARENT,
+            ..ASKED
+        },
+        Ok(Found {
+            faults: &[(b"d", FaultWord::Name)],
+            ..FOUND
+        }),
+    ),
+    (
+        "a closed .git",
+        Asked {
+            tree: CLOSED_GIT,
+            ..ASKED
+        },
+        Ok(Found {
+            directories: 0,
+            faults: &[(b".git", FaultWord::Read)],
+            ..FOUND
+        }),
+    ),
+];
+
+#[test]
+fn faults_are_told_and_not_counted(rt: HostRuntime) -> Result<(), Fail> {
+    check(&rt, rt.alloc(), &WITH_FAULTS)?;
     Ok(())
 }
 
@@ -140,28 +176,49 @@ const SELF_IGNORED: Sketch = Sketch::Dir(&[
     (b"x.c", LINE),
 ]);
 
+const WITH_AN_EXCLUDE_FILE: [Case; 3] = [
+    (
+        "with it",
+        Asked {
+            tree: INCLUDING,
+            exclude: Some(b"*.c"),
+            ..ASKED
+        },
+        Ok(Found {
+            rows: &[
+                (None, NONE, Eol::Lf, [1, 1, 0, 5]),
+                (Some(b"c"), NONE, Eol::Lf, [1, 1, 0, 2]),
+            ],
+            ..FOUND
+        }),
+    ),
+    (
+        "without it",
+        Asked {
+            tree: INCLUDING,
+            ..ASKED
+        },
+        Ok(Found {
+            rows: &[
+                (None, NONE, Eol::Lf, [1, 1, 0, 5]),
+                (Some(b"c"), NONE, Eol::Lf, [2, 2, 0, 4]),
+            ],
+            ..FOUND
+        }),
+    ),
+    (
+        "a file that ignores itself",
+        Asked {
+            tree: SELF_IGNORED,
+            ..ASKED
+        },
+        Ok(FOUND),
+    ),
+];
+
 #[test]
 fn every_rule_file_of_the_tree_overrides_the_exclude_file(rt: HostRuntime) -> Result<(), Fail> {
-    let excluded: [Sum; 2] = [
-        (None, NONE, Eol::Lf, [1, 1, 0, 5]),
-        (Some(b"c"), NONE, Eol::Lf, [1, 1, 0, 2]),
-    ];
-    let whole: [Sum; 2] = [
-        (None, NONE, Eol::Lf, [1, 1, 0, 5]),
-        (Some(b"c"), NONE, Eol::Lf, [2, 2, 0, 4]),
-    ];
-    let cases: [(&str, Sketch, Option<&[u8]>, &[Sum]); 3] = [
-        ("with it", INCLUDING, Some(b"*.c"), &excluded),
-        ("without it", INCLUDING, None, &whole),
-        ("a file that ignores itself", SELF_IGNORED, None, &[]),
-    ];
-    for (name, tree, exclude, rows) in cases {
-        let asked = Asked {
-            exclude,
-            ..all(tree)
-        };
-        check(&rt, rt.alloc(), name, asked, Ok(without_faults(rows, 1)))?;
-    }
+    check(&rt, rt.alloc(), &WITH_AN_EXCLUDE_FILE)?;
     Ok(())
 }
 
@@ -179,35 +236,45 @@ const EXPORTED: Sketch = Sketch::Dir(&[
     (b"s", Sketch::Dir(&[(b"docs", LINE)])),
 ]);
 
+const FOR_AN_ARCHIVE: [Case; 2] = [
+    (
+        "an archive",
+        Asked {
+            tree: EXPORTED,
+            archive: true,
+            ..ASKED
+        },
+        Ok(Found {
+            rows: &[
+                (None, NONE, Eol::Lf, [2, 5, 0, 83]),
+                (Some(b"tmp"), NONE, Eol::Lf, [1, 1, 0, 2]),
+                (Some(b"y"), NONE, Eol::Lf, [1, 1, 0, 2]),
+            ],
+            directories: 2,
+            faults: &[],
+        }),
+    ),
+    (
+        "the tree",
+        Asked {
+            tree: EXPORTED,
+            ..ASKED
+        },
+        Ok(Found {
+            rows: &[
+                (None, NONE, Eol::Lf, [3, 6, 0, 85]),
+                (Some(b"tmp"), NONE, Eol::Lf, [2, 2, 0, 4]),
+                (Some(b"y"), NONE, Eol::Lf, [1, 1, 0, 2]),
+            ],
+            directories: 3,
+            faults: &[],
+        }),
+    ),
+];
+
 #[test]
 fn an_archive_leaves_out_what_is_not_exported(rt: HostRuntime) -> Result<(), Fail> {
-    let archived: [Sum; 3] = [
-        (None, NONE, Eol::Lf, [2, 5, 0, 83]),
-        (Some(b"tmp"), NONE, Eol::Lf, [1, 1, 0, 2]),
-        (Some(b"y"), NONE, Eol::Lf, [1, 1, 0, 2]),
-    ];
-    let whole: [Sum; 3] = [
-        (None, NONE, Eol::Lf, [3, 6, 0, 85]),
-        (Some(b"tmp"), NONE, Eol::Lf, [2, 2, 0, 4]),
-        (Some(b"y"), NONE, Eol::Lf, [1, 1, 0, 2]),
-    ];
-    let cases: [(&str, bool, &[Sum], u64); 2] = [
-        ("an archive", true, &archived, 2),
-        ("the tree", false, &whole, 3),
-    ];
-    for (name, archive, rows, directories) in cases {
-        let asked = Asked {
-            archive,
-            ..all(EXPORTED)
-        };
-        check(
-            &rt,
-            rt.alloc(),
-            name,
-            asked,
-            Ok(without_faults(rows, directories)),
-        )?;
-    }
+    check(&rt, rt.alloc(), &FOR_AN_ARCHIVE)?;
     Ok(())
 }
 
@@ -231,34 +298,57 @@ const WITH_LINK: Sketch = Sketch::Dir(&[
     (b"link", Sketch::Other),
 ]);
 
+const WITH_GIT: [Case; 2] = [
+    (
+        "its rule files",
+        Asked {
+            tree: WITH_INFO,
+            ..ASKED
+        },
+        Ok(Found {
+            rows: &[
+                (None, NONE, Eol::Lf, [2, 2, 0, 14]),
+                (Some(b"c"), TextState::Set, Eol::Lf, [1, 1, 0, 2]),
+            ],
+            ..FOUND
+        }),
+    ),
+    (
+        "a file and a link",
+        Asked {
+            tree: WITH_LINK,
+            ..ASKED
+        },
+        Ok(Found {
+            rows: &[(None, NONE, Eol::Lf, [1, 1, 0, 6])],
+            ..FOUND
+        }),
+    ),
+];
+
 #[test]
 fn nothing_of_git_is_counted(rt: HostRuntime) -> Result<(), Fail> {
-    let ruled: [Sum; 2] = [
-        (None, NONE, Eol::Lf, [2, 2, 0, 14]),
-        (Some(b"c"), TextState::Set, Eol::Lf, [1, 1, 0, 2]),
-    ];
-    let linked: [Sum; 1] = [(None, NONE, Eol::Lf, [1, 1, 0, 6])];
-    check(
-        &rt,
-        rt.alloc(),
-        "its rule files",
-        all(WITH_INFO),
-        Ok(without_faults(&ruled, 1)),
-    )?;
-    check(
-        &rt,
-        rt.alloc(),
-        "a file and a link",
-        all(WITH_LINK),
-        Ok(without_faults(&linked, 1)),
-    )?;
+    check(&rt, rt.alloc(), &WITH_GIT)?;
     Ok(())
 }
 
-#[test]
-fn files_that_are_asked_for_stand_in_order(rt: HostRuntime) -> Result<(), Fail> {
-    let alloc = rt.alloc();
-    let node = TEXTS.node(alloc)?;
+fn has_files(report: &Report, wanted: &[(&[u8], u64)]) -> bool {
+    for (file, (path, bytes)) in report.files.iter().zip(wanted) {
+        if file.path.as_slice() != *path || file.count.bytes != *bytes {
+            return false;
+        }
+    }
+    report.files.len() == wanted.len()
+}
+
+/// A walk by two workers tells these files, with their bytes.
+fn check_files<R: Threads + Wait + Sync + Abort>(
+    rt: &R,
+    alloc: Global,
+    tree: Sketch,
+    wanted: &[(&[u8], u64)],
+) -> Result<(), AllocError> {
+    let node = tree.node(alloc)?;
     let options = Options {
         threads: 2,
         max_dirs: 1,
@@ -266,25 +356,20 @@ fn files_that_are_asked_for_stand_in_order(rt: HostRuntime) -> Result<(), Fail> 
         exclude: None,
         archive: false,
     };
-    let report = match walk(&rt, alloc, &MemTree::new(&node), &options) {
-        Ok(report) => report,
-        Err(fault) => {
-            assert_eq!(rt; fault, WalkFault::Memory);
-            return Ok(Err(AllocError)?);
-        }
-    };
-    let wanted: [(&[u8], u64); 4] = [
-        (b".gitattributes", 20),
-        (b"x.c", 4),
-        (b"y.b", 2),
-        (b"z.c", 5),
-    ];
-    assert_eq!(rt; report.files.len(), wanted.len());
-    for (file, (path, bytes)) in report.files.iter().zip(&wanted) {
-        assert!(rt;
-            file.path.as_slice() == *path && file.count.bytes == *bytes,
-            "{file:?}"
-        );
-    }
+    let report = report_of(rt, walk(rt, alloc, &MemTree::new(&node), &options))?;
+    assert!(rt; has_files(&report, wanted), "{report:?}");
+    Ok(())
+}
+
+const FILES: [(&[u8], u64); 4] = [
+    (b".gitattributes", 20),
+    (b"x.c", 4),
+    (b"y.b", 2),
+    (b"z.c", 5),
+];
+
+#[test]
+fn files_that_are_asked_for_stand_in_order(rt: HostRuntime) -> Result<(), Fail> {
+    check_files(&rt, rt.alloc(), TEXTS, &FILES)?;
     Ok(())
 }

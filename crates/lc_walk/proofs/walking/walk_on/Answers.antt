@@ -1,4 +1,4 @@
-use Rattle.std.proofs.Common.{◌≡◌, ◌<◌, length, map, slice_get, Some, sym, ap, ◌∙◌, subst, refl}
+use Rattle.std.proofs.Common.{rules, ◌≡◌, ◌<◌, length, map, slice_get, Some, sym, ap, ◌∙◌, subst, refl}
 use Rattle.std.proofs.lemmas.Option.{slice_get-get_or}
 use Rattle.lc_board.proofs.ReturnedPasses.{still_in_order, taken_in_order}
 use Rattle.lc_level.specs.TreeAnswers.{MayAnswer}
@@ -25,12 +25,15 @@ finish-requires-clause-each g c κs within =
     (λ i q x low. let r = c.in-Ok-run_all.ensures.each i q x (subst (λ n. i < n) (sym c.in-Ok-start.passes.ok.0) low) in (r.0, r.1.worked.worker)))
     w p (ap (λ ps. slice_get ps w) (sym c.in-Some.ensures.passes) ∙ at)
 
-pub finish-requires-clause-worked : goal.finish-requires-clause-worked
-finish-requires-clause-worked g c κs within =
+pub returns : goal.returns
+returns g c =
     let view = g.B.Pass.Token.view in
     let ask = asked_by c.args.options.now in
     let may = MayAnswer (g.T.Tree.lists c.args.tree.now) (g.T.Tree.gives c.args.tree.now) in
-    subst (λ ps. HaveWorked ask may (map view ps) c.in-Some.gathered.tally) (sym c.in-Some.ensures.passes)
-    (have_worked view ask may c.in-Ok-start.passes.items c.in-Ok-run_all.workers.items (same_count g c) (λ w p is. (c.in-Ok-start.ensures.passes w p is).1)
+    let same = sym c.in-Ok-run_all.workers.ok.0 ∙ c.in-Ok-run_all.ensures.all ∙ c.in-Ok-start.passes.ok.0 in
+    let told = c.finish.ensures c.args.tree.now c.args.options.now.archive
+    (subst (λ ps. HaveWorked ask may (map view ps) c.in-Some.gathered.tally) (sym c.in-Some.ensures.passes)
+    (have_worked view ask may c.in-Ok-start.passes.items c.in-Ok-run_all.workers.items same (λ w p is. (c.in-Ok-start.ensures.passes w p is).1)
     (λ i q x low. (c.in-Ok-run_all.ensures.each i q x (subst (λ n. i < n) (sym c.in-Ok-start.passes.ok.0) low)).1)
-    c.in-Some.ensures.over c.in-Some.gathered.tally c.in-Some.ensures.tally)
+    c.in-Some.ensures.over c.in-Some.gathered.tally c.in-Some.ensures.tally)) in
+    search (rules, told)

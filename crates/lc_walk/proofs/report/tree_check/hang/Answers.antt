@@ -27,12 +27,12 @@ returns-then-at-number-clause-torn c = λ p.
     torn_low c.args.rows.now c.args.at c.args.place c.args.child.now c.requires.next
     (omega (arith, c.if-number-eq0.false, same)) (omega (arith, c.if-number-rows.false, same)) (omega (arith, c.if-at-number.true, same)) (subst (IsPlaced c.args.rows.now) same p)
 
-pub returns-then-not-same-clause-torn : goal.returns-then-not-same-clause-torn
-returns-then-not-same-clause-torn c = λ p.
+pub returns-then-not-is_child_path-clause-torn : goal.returns-then-not-is_child_path-clause-torn
+returns-then-not-is_child_path-clause-torn c = λ p.
     let same = c.number_of-number.ensures.same in
     torn_path c.args.rows.now c.args.at c.args.place c.args.child.now c.path_at.result.now c.path_at-path.result.now c.requires.next c.path_at.ensures
     (subst (λ k. IsPathAt c.args.rows.now k c.path_at-path.result.now) same c.path_at-path.ensures)
-    (omega (arith, c.if-number-eq0.false, same)) (c.in-Ok.ensures.1 c.if-not-same.true) (subst (IsPlaced c.args.rows.now) same p)
+    (omega (arith, c.if-number-eq0.false, same)) (c.is_child_path.ensures.other c.if-not-is_child_path.true) (subst (IsPlaced c.args.rows.now) same p)
 
 pub returns-clause-marks : goal.returns-clause-marks
 returns-clause-marks c =
@@ -41,4 +41,4 @@ returns-clause-marks c =
     (marks_set c.args.rows.now c.args.at c.args.place c.args.child.now c.path_at.result.now c.path_at-path.result.now c.args.hung.now c.requires.next c.path_at.ensures
     (subst (λ k. IsPathAt c.args.rows.now k c.path_at-path.result.now) same c.path_at-path.ensures)
     (omega (arith, c.if-number-eq0.false, same)) (omega (arith, c.if-number-rows.false, same)) (omega (arith, c.if-at-number.false, same))
-    (ap (slice_get c.args.hung.now) (sym same) ∙ c.is_marked.ensures ∙ ap Some c.if-is_marked.false) (c.in-Ok.ensures.0 c.if-not-same.false) c.requires.marks)
+    (ap (slice_get c.args.hung.now) (sym same) ∙ c.is_marked.ensures ∙ ap Some c.if-is_marked.false) (c.is_child_path.ensures.is c.if-not-is_child_path.false) c.requires.marks)

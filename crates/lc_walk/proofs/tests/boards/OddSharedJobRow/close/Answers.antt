@@ -5,7 +5,7 @@ use Rattle.lc_board.specs.declared.answers.CloseFault.{CloseFault}
 use Rattle.lc_board.specs.declared.answers.CloseFault.TheVariants as close
 use Rattle.lc_board.specs.declared.answers.Ended.{Ended}
 use Rattle.lc_board.proofs.RowsOfWorkers.{stays_legal}
-use Rattle.lc_walk.proofs.tests.boards.CrowdedSharedJobRow.close.Goals as goal
+use Rattle.lc_walk.proofs.tests.boards.OddSharedJobRow.close.Goals as goal
 
 -- what such a board promises
 abbrev crowded : Promises → Promises
@@ -55,6 +55,6 @@ pub returns-in-Ok-clause-settled : goal.returns-in-Ok-clause-settled
 returns-in-Ok-clause-settled g c root is =
     settled_larger _ c.args.self.capacity _ c.args.self.room g.B.Shared.promises _ root c.in-Ok.closed.rows.items (c.in-Ok.ensures.settled root is)
 
-pub returns-in-Err-clause-fault : goal.returns-in-Err-clause-fault
-returns-in-Err-clause-fault g c =
+pub returns-clause-fault : goal.returns-clause-fault
+returns-clause-fault g c =
     refused_larger _ c.args.self.capacity _ c.args.self.room g.B.Shared.promises _ c.in-Err.fault c.in-Err.ensures.fault
