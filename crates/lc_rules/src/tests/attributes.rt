@@ -78,15 +78,21 @@ fn check(rt: &impl Abort, alloc: Global, cases: &[Case]) -> Result<(), AllocErro
     Ok(())
 }
 
+fn text_of(parts: &[Part], alloc: Global, path: &[u8]) -> Result<TextState, AllocError> {
+    let chain = chain_of(alloc, parts)?;
+    Ok(chain.text(alloc, path)?)
+}
+
 fn check_texts(rt: &impl Abort, alloc: Global, cases: &[TextCase]) -> Result<(), AllocError> {
     for (parts, path, text) in cases {
-        let found = chain_of(alloc, parts)?.text(alloc, path)?;
+        let found = text_of(parts, alloc, path)?;
         assert!(rt; found == *text, "{} parts, {path:?}", parts.len());
     }
     Ok(())
 }
 
-const WORDS: [Case; 14] = [
+// Tables are statics, since a constant is unfolded in the proof of each use; one that points at another can't be a static.
+static WORDS: [Case; 14] = [
     (b"*.c text", b"a.c", b"text", State::Set),
     (b"*.c -text", b"a.c", b"text", State::Unset),
     (b"*.c text\n*.c !text", b"a.c", b"text", State::Unspecified),
@@ -114,7 +120,7 @@ fn words(rt: HostRuntime) -> Result<(), Fail> {
     Ok(())
 }
 
-const LINES: [Case; 8] = [
+static LINES: [Case; 8] = [
     (b"#* text", b"#a", b"text", State::Unspecified),
     (b"  #* text", b"#a", b"text", State::Unspecified),
     (b"\xEF\xBB\xBFa text", b"a", b"text", State::Set),
@@ -131,7 +137,7 @@ fn lines(rt: HostRuntime) -> Result<(), Fail> {
     Ok(())
 }
 
-const QUOTED_PATTERNS: [Case; 10] = [
+static QUOTED_PATTERNS: [Case; 10] = [
     (b"\"a b\" text", b"a b", b"text", State::Set),
     (b"\"a b\"text", b"a b", b"text", State::Set),
     (b"\"\\101\" -text", b"A", b"text", State::Unset),
@@ -155,7 +161,7 @@ fn quoted_patterns(rt: HostRuntime) -> Result<(), Fail> {
     Ok(())
 }
 
-const MACROS: [Case; 14] = [
+static MACROS: [Case; 14] = [
     (b"*.a binary", b"x.a", b"text", State::Unset),
     (b"*.a binary", b"x.a", b"binary", State::Set),
     (b"*.a binary\n*.a -binary", b"x.a", b"binary", State::Unset),
@@ -208,7 +214,7 @@ fn macros(rt: HostRuntime) -> Result<(), Fail> {
     Ok(())
 }
 
-const LATER_ASSIGNMENTS_DECIDE: [Case; 6] = [
+static LATER_ASSIGNMENTS_DECIDE: [Case; 6] = [
     (b"*.w text -text", b"a.w", b"text", State::Unset),
     (b"*.w -text text", b"a.w", b"text", State::Set),
     (b"*.v text\n*.v -text", b"a.v", b"text", State::Unset),
@@ -246,13 +252,13 @@ fn the_attribute_text(rt: HostRuntime) -> Result<(), Fail> {
     Ok(())
 }
 
-const MANUAL: [Part; 3] = [
+static MANUAL: [Part; 3] = [
     Part::File(0, b"abc foo bar baz"),
     Part::File(1, b"ab* merge=filfre\nabc -foo -bar\n*.c frotz"),
     Part::NoFile(2),
 ];
 
-const MANUAL_STATES: [(&'static [u8], State<'static>); 5] = [
+static MANUAL_STATES: [(&'static [u8], State<'static>); 5] = [
     (b"foo", State::Unset),
     (b"bar", State::Unset),
     (b"baz", State::Set),
@@ -302,7 +308,7 @@ fn macros_of_the_top_file_alone(rt: HostRuntime) -> Result<(), Fail> {
     Ok(())
 }
 
-const INFO_FIRST: [Part; 3] = [
+static INFO_FIRST: [Part; 3] = [
     Part::Info(b"*.c text"),
     Part::File(0, b"*.c -text"),
     Part::File(1, b"*.c !text"),

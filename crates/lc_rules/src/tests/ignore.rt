@@ -41,7 +41,7 @@ fn is_too_long(alloc: Global, bytes: &[u8]) -> bool {
     matches!(IgnoreFile::read(alloc, bytes), Err(RuleFault::TooLong))
 }
 
-const LINES: [Case; 8] = [
+static LINES: [Case; 8] = [
     (b"a\nb", b"b", FILE, Verdict::Ignored),
     (b"\n\na\n\n", b"a", FILE, Verdict::Ignored),
     (b"\xEF\xBB\xBFa", b"a", FILE, Verdict::Ignored),
@@ -58,7 +58,7 @@ fn lines(rt: HostRuntime) -> Result<(), Fail> {
     Ok(())
 }
 
-const COMMENTS: [Case; 3] = [
+static COMMENTS: [Case; 3] = [
     (b"#a", b"#a", FILE, Verdict::NoRule),
     (b"\\#a", b"#a", FILE, Verdict::Ignored),
     (b" #a", b" #a", FILE, Verdict::Ignored),
@@ -70,7 +70,7 @@ fn comments(rt: HostRuntime) -> Result<(), Fail> {
     Ok(())
 }
 
-const TRAILING_SPACES_QUOTED: [Case; 10] = [
+static TRAILING_SPACES_QUOTED: [Case; 10] = [
     (b"a  ", b"a", FILE, Verdict::Ignored),
     (b"a\\ ", b"a ", FILE, Verdict::Ignored),
     (b"a\\ ", b"a", FILE, Verdict::NoRule),
@@ -89,7 +89,7 @@ fn trailing_spaces_quoted(rt: HostRuntime) -> Result<(), Fail> {
     Ok(())
 }
 
-const NEGATION: [Case; 4] = [
+static NEGATION: [Case; 4] = [
     (b"!a", b"a", FILE, Verdict::Included),
     (b"\\!a", b"!a", FILE, Verdict::Ignored),
     (b"!!a", b"!a", FILE, Verdict::Included),
@@ -102,7 +102,7 @@ fn negation(rt: HostRuntime) -> Result<(), Fail> {
     Ok(())
 }
 
-const LAST_MATCH_DECIDES: [Case; 4] = [
+static LAST_MATCH_DECIDES: [Case; 4] = [
     (b"*.o\n!k.o", b"k.o", FILE, Verdict::Included),
     (b"*.o\n!k.o", b"a.o", FILE, Verdict::Ignored),
     (b"!k.o\n*.o", b"k.o", FILE, Verdict::Ignored),
@@ -115,7 +115,7 @@ fn last_match_decides(rt: HostRuntime) -> Result<(), Fail> {
     Ok(())
 }
 
-const MANUAL_EXAMPLE_CHECK: [Case; 9] = [
+static MANUAL_EXAMPLE_CHECK: [Case; 9] = [
     (
         b"/*\n!/foo\n/foo/*\n!/foo/bar",
         b"foo",
@@ -163,7 +163,7 @@ fn manual_example_check(rt: HostRuntime) -> Result<(), Fail> {
     Ok(())
 }
 
-const SEPARATORS: [Case; 14] = [
+static SEPARATORS: [Case; 14] = [
     (b"frotz", b"a/b/frotz", FILE, Verdict::Ignored),
     (b"/frotz", b"frotz", FILE, Verdict::Ignored),
     (b"/frotz", b"a/frotz", FILE, Verdict::NoRule),
@@ -186,7 +186,7 @@ fn separators(rt: HostRuntime) -> Result<(), Fail> {
     Ok(())
 }
 
-const WILDCARDS: [Case; 13] = [
+static WILDCARDS: [Case; 13] = [
     (b"*.c", b"a.c", FILE, Verdict::Ignored),
     (b"a*c", b"ac", FILE, Verdict::Ignored),
     (b"/a*c", b"a/c", FILE, Verdict::NoRule),
@@ -208,7 +208,7 @@ fn wildcards(rt: HostRuntime) -> Result<(), Fail> {
     Ok(())
 }
 
-const DOUBLE_STARS: [Case; 9] = [
+static DOUBLE_STARS: [Case; 9] = [
     (b"**/foo", b"foo", FILE, Verdict::Ignored),
     (b"**/foo", b"a/b/foo", FILE, Verdict::Ignored),
     (b"abc/**", b"abc", DIR, Verdict::NoRule),
@@ -226,7 +226,7 @@ fn double_stars(rt: HostRuntime) -> Result<(), Fail> {
     Ok(())
 }
 
-const BRACKETS: [Case; 16] = [
+static BRACKETS: [Case; 16] = [
     (b"[a-c]", b"b", FILE, Verdict::Ignored),
     (b"[]a]", b"]", FILE, Verdict::Ignored),
     (b"[]a]", b"b", FILE, Verdict::NoRule),
@@ -251,7 +251,7 @@ fn brackets(rt: HostRuntime) -> Result<(), Fail> {
     Ok(())
 }
 
-const DEAD_PATTERNS: [Case; 6] = [
+static DEAD_PATTERNS: [Case; 6] = [
     (b"[[:foo:]]", b"f", FILE, Verdict::NoRule),
     (b"[ab", b"[ab", FILE, Verdict::NoRule),
     (b"a\\", b"a\\", FILE, Verdict::NoRule),
