@@ -48,7 +48,7 @@ fn a_million_stars_match_a_long_name(rt: HostRuntime) -> Result<(), Fail> {
 }
 
 /// Patterns that one path is asked of, and whether they match it.
-const PATTERNS: [(&'static [u8], bool); 3] = [
+static PATTERNS: [(&'static [u8], bool); 3] = [
     (b"*.o", true),
     (b"/src/**/a.o", true),
     (b"/gen/a.o", false),
@@ -65,7 +65,7 @@ fn a_path_is_asked_of_several_patterns(rt: HostRuntime) -> Result<(), Fail> {
 }
 
 /// A pattern, a path, whether it matches, and the byte tests: none where the lengths differ.
-const COUNTED: [(&'static [u8], &'static [u8], (bool, u64)); 6] = [
+static COUNTED: [(&'static [u8], &'static [u8], (bool, u64)); 6] = [
     (b"*.o", b"src/main.o", (true, 2)),
     (b"*.o", b"src/main.c", (false, 2)),
     (b"*.o", b"o", (false, 0)),
@@ -84,7 +84,7 @@ fn literals_are_compared_as_bytes(rt: HostRuntime) -> Result<(), Fail> {
 }
 
 /// What stands before and after 1,000 literals, whether the pattern matches 4,096 of them, and the most byte tests.
-const AROUND: [(&'static [u8], &'static [u8], (bool, u64)); 4] = [
+static AROUND: [(&'static [u8], &'static [u8], (bool, u64)); 4] = [
     (b"*", b"", (true, 1002)),
     (b"*", b"b", (false, 1001)),
     (b"a*a*", b"", (true, 1002)),

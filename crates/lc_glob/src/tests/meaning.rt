@@ -36,7 +36,7 @@ fn check_told(
     Ok(())
 }
 
-const STAR: [Case; 5] = [
+static STAR: [Case; 5] = [
     (b"foo/*", b"foo/test.json", FILE, true),
     (b"foo/*", b"foo/bar", DIR, true),
     (b"f*o", b"fo", FILE, true),
@@ -50,7 +50,7 @@ fn star_stops_at_slash(rt: HostRuntime) -> Result<(), Fail> {
     Ok(())
 }
 
-const LAST_DOUBLE_STAR: [Case; 5] = [
+static LAST_DOUBLE_STAR: [Case; 5] = [
     (b"abc/**", b"abc/x", FILE, true),
     (b"abc/**", b"abc/x/y", FILE, true),
     (b"/**", b"a", FILE, true),
@@ -64,7 +64,7 @@ fn last_double_star_matches_what_is_below(rt: HostRuntime) -> Result<(), Fail> {
     Ok(())
 }
 
-const DOUBLE_STAR: [Case; 9] = [
+static DOUBLE_STAR: [Case; 9] = [
     (b"a/**/b", b"a/b", FILE, true),
     (b"a/**/b", b"a/x/b", FILE, true),
     (b"a/**/b", b"a/x/y/b", FILE, true),
@@ -82,7 +82,7 @@ fn double_star_matches_any_depth(rt: HostRuntime) -> Result<(), Fail> {
     Ok(())
 }
 
-const OTHER_STARS: [Case; 6] = [
+static OTHER_STARS: [Case; 6] = [
     (b"x**/b", b"x/b", FILE, true),
     (b"x**/b", b"xyz/b", FILE, true),
     (b"***/b", b"q/b", FILE, true),
@@ -97,7 +97,7 @@ fn other_runs_of_stars_are_one_star(rt: HostRuntime) -> Result<(), Fail> {
     Ok(())
 }
 
-const LAST_SEPARATOR: [Case; 6] = [
+static LAST_SEPARATOR: [Case; 6] = [
     (b"doc/frotz/", b"doc/frotz", DIR, true),
     (b"frotz/", b"frotz", DIR, true),
     (b"frotz/", b"a/frotz", DIR, true),
@@ -112,7 +112,7 @@ fn last_separator_asks_for_directory(rt: HostRuntime) -> Result<(), Fail> {
     Ok(())
 }
 
-const MEMBERS: [Case; 15] = [
+static MEMBERS: [Case; 15] = [
     (b"[]a]", b"]", FILE, true),
     (b"[]a]", b"a", FILE, true),
     (b"[!a-c]", b"d", FILE, true),
@@ -136,7 +136,7 @@ fn bracket_stands_for_members(rt: HostRuntime) -> Result<(), Fail> {
     Ok(())
 }
 
-const OTHER_BYTES: [Case; 7] = [
+static OTHER_BYTES: [Case; 7] = [
     (b"[]a]", b"b", FILE, false),
     (b"[!a-c]", b"b", FILE, false),
     (b"[^a-c]", b"b", FILE, false),
@@ -152,7 +152,7 @@ fn bracket_stands_for_nothing_else(rt: HostRuntime) -> Result<(), Fail> {
     Ok(())
 }
 
-const CLASSES: [Case; 15] = [
+static CLASSES: [Case; 15] = [
     (b"[[:alpha:]]", b"Z", FILE, true),
     (b"[[:lower:]]", b"z", FILE, true),
     (b"[[:upper:]]", b"A", FILE, true),
@@ -176,7 +176,7 @@ fn classes_are_ascii(rt: HostRuntime) -> Result<(), Fail> {
     Ok(())
 }
 
-const QUOTED: [Case; 9] = [
+static QUOTED: [Case; 9] = [
     (b"\\#a", b"#a", FILE, true),
     (b"\\!b", b"!b", FILE, true),
     (b"\\*", b"*", FILE, true),
@@ -196,7 +196,7 @@ fn backslash_quotes(rt: HostRuntime) -> Result<(), Fail> {
 
 const DEAD: Told = (true, false, false);
 
-const DEAD_PATTERNS: [(&'static [u8], Told); 9] = [
+static DEAD_PATTERNS: [(&'static [u8], Told); 9] = [
     (b"[[:foo:]]", DEAD),
     (b"[ab", DEAD),
     (b"[a\\", DEAD),
@@ -217,7 +217,7 @@ fn dead_patterns_are_told(rt: HostRuntime) -> Result<(), Fail> {
     Ok(())
 }
 
-const SEPARATORS: [(&'static [u8], Told); 7] = [
+static SEPARATORS: [(&'static [u8], Told); 7] = [
     (b"a", (false, false, false)),
     (b"a/", (false, true, false)),
     (b"/a", (false, false, true)),
@@ -233,7 +233,7 @@ fn separators_anchor_and_ask_for_directory(rt: HostRuntime) -> Result<(), Fail> 
     Ok(())
 }
 
-const DOCUMENTED: [Case; 8] = [
+static DOCUMENTED: [Case; 8] = [
     (b"/build/**/*.o", b"build/x86/main.o", FILE, true),
     (b"frotz/", b"a/frotz", DIR, true),
     (b"*.[oa]", b"main.a", FILE, true),

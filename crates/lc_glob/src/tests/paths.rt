@@ -4,7 +4,7 @@ use crate::cut_at_first;
 use crate::path::{depth_of, is_good_name, is_good_path, is_too_deep, is_too_long, push_name};
 use std::test::Fail;
 
-const NAMES: [(&'static [u8], bool); 12] = [
+static NAMES: [(&'static [u8], bool); 12] = [
     (b"a", true),
     (b"...", true),
     (b".git", true),
@@ -26,7 +26,7 @@ fn names_that_a_directory_can_have(rt: HostRuntime) {
     }
 }
 
-const PATHS: [(&'static [u8], bool); 10] = [
+static PATHS: [(&'static [u8], bool); 10] = [
     (b"a", true),
     (b"a/b", true),
     (b"a/.../c", true),
@@ -60,7 +60,7 @@ fn longest_and_deepest_path(rt: HostRuntime) -> Result<(), Fail> {
 }
 
 /// Names, and the path after each was pushed.
-const PUSHED: [(&'static [u8], &'static [u8]); 2] = [(b"src", b"src"), (b"main.c", b"src/main.c")];
+static PUSHED: [(&'static [u8], &'static [u8]); 2] = [(b"src", b"src"), (b"main.c", b"src/main.c")];
 
 #[test]
 fn name_is_pushed_after_a_slash(rt: HostRuntime) -> Result<(), Fail> {
@@ -73,7 +73,7 @@ fn name_is_pushed_after_a_slash(rt: HostRuntime) -> Result<(), Fail> {
 }
 
 /// A byte, what is cut at its first place, and the two parts.
-const CUTS: [(u8, &'static [u8], (&'static [u8], Option<&'static [u8]>)); 3] = [
+static CUTS: [(u8, &'static [u8], (&'static [u8], Option<&'static [u8]>)); 3] = [
     (b'=', b"eol=lf=", (b"eol", Some(b"lf="))),
     (b'=', b"eol", (b"eol", None)),
     (b'\n', b"\n", (b"", Some(b""))),
