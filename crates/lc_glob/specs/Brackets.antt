@@ -16,7 +16,19 @@ spans [] = []
 spans (a ∷ []) = []
 spans (a ∷ b ∷ ends) = (a, b) ∷ spans ends
 
--- the bytes of a class, in ASCII; 9 is the tab, and 9 to 13 are the tab, the line's ends and what stands between them
+-- the bytes of a class with more than letters and digits, in ASCII; 9 is the tab, and 9 to 13 are the tab, the line's ends
+-- and what stands between them
+abbrev pub other_class_of : List ℕ → Option (List (ℕ × ℕ))
+other_class_of name =
+    named (bytes_eq name (codes "blank")) (spans (codes "  ") ++ (9, 9) ∷ [])
+    (named (bytes_eq name (codes "space")) (spans (codes "  ") ++ (9, 13) ∷ [])
+    (named (bytes_eq name (codes "cntrl")) ((0, 31) ∷ (127, 127) ∷ [])
+    (named (bytes_eq name (codes "graph")) (spans (codes "!~"))
+    (named (bytes_eq name (codes "print")) (spans (codes " ~"))
+    (named (bytes_eq name (codes "punct")) (spans (codes "!/:@[`{~"))
+    None)))))
+
+-- the bytes of a class, in ASCII
 abbrev pub class_of : List ℕ → Option (List (ℕ × ℕ))
 class_of name =
     named (bytes_eq name (codes "alpha")) (spans (codes "AZaz"))
@@ -25,13 +37,7 @@ class_of name =
     (named (bytes_eq name (codes "digit")) (spans (codes "09"))
     (named (bytes_eq name (codes "xdigit")) (spans (codes "09AFaf"))
     (named (bytes_eq name (codes "alnum")) (spans (codes "09AZaz"))
-    (named (bytes_eq name (codes "blank")) (spans (codes "  ") ++ (9, 9) ∷ [])
-    (named (bytes_eq name (codes "space")) (spans (codes "  ") ++ (9, 13) ∷ [])
-    (named (bytes_eq name (codes "cntrl")) ((0, 31) ∷ (127, 127) ∷ [])
-    (named (bytes_eq name (codes "graph")) (spans (codes "!~"))
-    (named (bytes_eq name (codes "print")) (spans (codes " ~"))
-    (named (bytes_eq name (codes "punct")) (spans (codes "!/:@[`{~"))
-    None)))))))))))
+    (other_class_of name))))))
 
 -- the element that begins with the byte b, and how many of the bytes after b it takes: a byte, or one that is quoted
 abbrev pub element : ℕ → List ℕ → Option (ℕ × ℕ)

@@ -2,7 +2,8 @@
 
 ghost use Rattle.std.specs.Prelude.{◌≡◌, ◌<◌, ◌≤◌, ◌+◌, length, [], ◌∷◌, MatchOption, IfOk, IfSome, Some, None, true, not, ◌&&◌, ◌==◌};
 ghost use Rattle.lc_glob.specs.Bytes.{closing};
-ghost use Rattle.lc_glob.specs.Brackets.{element, first_close, range_from, class_of, item, plain_item, colon_of, items, bracket};
+ghost use Rattle.lc_glob.specs.Brackets.{class_of, other_class_of};
+ghost use Rattle.lc_glob.specs.Brackets.{element, first_close, range_from, item, plain_item, colon_of, items, bracket};
 ghost use Rattle.lc_glob.specs.BracketSteps.{ColonIs, PushesItem};
 ghost use Rattle.lc_glob.specs.Tokens.{class};
 
@@ -41,6 +42,27 @@ fn range_at(x: u8, taken: usize, rest: &[u8]) -> Option<((u8, u8), usize)>
     Some(((x, x.max(y)), taken + 2 + more))
 }
 
+/// The ranges of a class with more than letters and digits, in ASCII.
+fn other_class_at(name: &[u8]) -> Option<&'static [(u8, u8)]>
+    ensures { MatchOption result (other_class_of name.now ≡ None) (λ r. other_class_of name.now ≡ Some r.now) }
+{
+    if name == b"blank".as_slice() {
+        Some(&[(b' ', b' '), (b'\t', b'\t')])
+    } else if name == b"space".as_slice() {
+        Some(&[(b' ', b' '), (b'\t', b'\r')])
+    } else if name == b"cntrl".as_slice() {
+        Some(&[(0, 31), (127, 127)])
+    } else if name == b"graph".as_slice() {
+        Some(&[(b'!', b'~')])
+    } else if name == b"print".as_slice() {
+        Some(&[(b' ', b'~')])
+    } else if name == b"punct".as_slice() {
+        Some(&[(b'!', b'/'), (b':', b'@'), (b'[', b'`'), (b'{', b'~')])
+    } else {
+        None
+    }
+}
+
 /// The ranges of a class, in ASCII.
 fn class_at(name: &[u8]) -> Option<&'static [(u8, u8)]>
     ensures { MatchOption result (class_of name.now ≡ None) (λ r. class_of name.now ≡ Some r.now) }
@@ -57,20 +79,8 @@ fn class_at(name: &[u8]) -> Option<&'static [(u8, u8)]>
         Some(&[(b'0', b'9'), (b'A', b'F'), (b'a', b'f')])
     } else if name == b"alnum".as_slice() {
         Some(&[(b'0', b'9'), (b'A', b'Z'), (b'a', b'z')])
-    } else if name == b"blank".as_slice() {
-        Some(&[(b' ', b' '), (b'\t', b'\t')])
-    } else if name == b"space".as_slice() {
-        Some(&[(b' ', b' '), (b'\t', b'\r')])
-    } else if name == b"cntrl".as_slice() {
-        Some(&[(0, 31), (127, 127)])
-    } else if name == b"graph".as_slice() {
-        Some(&[(b'!', b'~')])
-    } else if name == b"print".as_slice() {
-        Some(&[(b' ', b'~')])
-    } else if name == b"punct".as_slice() {
-        Some(&[(b'!', b'/'), (b':', b'@'), (b'[', b'`'), (b'{', b'~')])
     } else {
-        None
+        other_class_at(name)
     }
 }
 

@@ -8,7 +8,7 @@ ghost use Rattle.lc_glob.specs.Views.{token_model};
 use crate::token::Token;
 
 /// How many bytes were tested. The number stops at the greatest `u64`.
-#[derive(Debug, Drop)]
+#[derive(Drop)]
 pub(crate) struct ByteTests {
     made: u64,
 }

@@ -17,7 +17,7 @@ use std::alloc::{AllocError, Global};
 use std::mem;
 
 /// What the bytes are read as, one after the other.
-#[derive(Debug, Drop)]
+#[derive(Drop)]
 enum Lexeme {
     Separator,
     One(Token),

@@ -2,261 +2,265 @@
 
 use crate::{Candidate, Pattern};
 use std::alloc::{AllocError, Global};
+use std::process::Abort;
 use std::test::Fail;
 
-/// A pattern, a path, and whether that is a directory.
-type Case = (&'static str, &'static str, bool);
+const FILE: bool = false;
 
-/// The first case whose pattern gives another answer for its path.
-fn wrong(alloc: Global, cases: &[Case], answer: bool) -> Result<Option<Case>, AllocError> {
-    for case in cases {
-        let (pattern, path, is_dir) = *case;
-        let pattern = Pattern::read(alloc, pattern.as_bytes())?;
-        if pattern.matches(path.as_bytes(), is_dir) != answer {
-            return Ok(Some(*case));
-        }
+const DIR: bool = true;
+
+/// A pattern, a path and its kind, and whether they match.
+type Case = (&'static [u8], &'static [u8], bool, bool);
+
+/// Whether a pattern is dead, for directories only, and anchored.
+type Told = (bool, bool, bool);
+
+fn check(rt: &impl Abort, alloc: Global, cases: &[Case]) -> Result<(), AllocError> {
+    for (pattern, path, is_dir, answer) in cases {
+        let found = Pattern::read(alloc, pattern)?.matches(path, *is_dir);
+        assert!(rt; found == *answer, "{pattern:?} {path:?}");
     }
-    Ok(None)
+    Ok(())
 }
+
+fn check_told(
+    rt: &impl Abort,
+    alloc: Global,
+    cases: &[(&'static [u8], Told)],
+) -> Result<(), AllocError> {
+    for (pattern, told) in cases {
+        let read = Pattern::read(alloc, pattern)?;
+        let found = (read.is_dead(), read.is_dir_only(), read.is_anchored());
+        assert!(rt; found == *told, "{pattern:?}");
+    }
+    Ok(())
+}
+
+static STAR: [Case; 5] = [
+    (b"foo/*", b"foo/test.json", FILE, true),
+    (b"foo/*", b"foo/bar", DIR, true),
+    (b"f*o", b"fo", FILE, true),
+    (b"foo/*", b"foo/bar/hello.c", FILE, false),
+    (b"f*o", b"f/o", FILE, false),
+];
 
 #[test]
 fn star_stops_at_slash(rt: HostRuntime) -> Result<(), Fail> {
-    let yes: [Case; 3] = [
-        ("foo/*", "foo/test.json", false),
-        ("foo/*", "foo/bar", true),
-        ("f*o", "fo", false),
-    ];
-    let no: [Case; 2] = [("foo/*", "foo/bar/hello.c", false), ("f*o", "f/o", false)];
-    assert_eq!(rt; wrong(rt.alloc(), &yes, true)?, None);
-    assert_eq!(rt; wrong(rt.alloc(), &no, false)?, None);
+    check(&rt, rt.alloc(), &STAR)?;
     Ok(())
 }
+
+static LAST_DOUBLE_STAR: [Case; 5] = [
+    (b"abc/**", b"abc/x", FILE, true),
+    (b"abc/**", b"abc/x/y", FILE, true),
+    (b"/**", b"a", FILE, true),
+    (b"/**", b"a/b", FILE, true),
+    (b"abc/**", b"abc", DIR, false),
+];
 
 #[test]
 fn last_double_star_matches_what_is_below(rt: HostRuntime) -> Result<(), Fail> {
-    let yes: [Case; 4] = [
-        ("abc/**", "abc/x", false),
-        ("abc/**", "abc/x/y", false),
-        ("/**", "a", false),
-        ("/**", "a/b", false),
-    ];
-    assert_eq!(rt; wrong(rt.alloc(), &yes, true)?, None);
-    let no: [Case; 1] = [("abc/**", "abc", true)];
-    assert_eq!(rt; wrong(rt.alloc(), &no, false)?, None);
+    check(&rt, rt.alloc(), &LAST_DOUBLE_STAR)?;
     Ok(())
 }
+
+static DOUBLE_STAR: [Case; 9] = [
+    (b"a/**/b", b"a/b", FILE, true),
+    (b"a/**/b", b"a/x/b", FILE, true),
+    (b"a/**/b", b"a/x/y/b", FILE, true),
+    (b"**/foo", b"foo", FILE, true),
+    (b"**/foo", b"a/b/foo", FILE, true),
+    (b"a/**/b/**/c", b"a/x/b/b/y/c", FILE, true),
+    (b"a/**/b", b"x/a/b", FILE, false),
+    (b"a/**/b", b"a/b/c", FILE, false),
+    (b"a/**/b/**/c", b"a/x/y/c", FILE, false),
+];
 
 #[test]
 fn double_star_matches_any_depth(rt: HostRuntime) -> Result<(), Fail> {
-    let yes: [Case; 6] = [
-        ("a/**/b", "a/b", false),
-        ("a/**/b", "a/x/b", false),
-        ("a/**/b", "a/x/y/b", false),
-        ("**/foo", "foo", false),
-        ("**/foo", "a/b/foo", false),
-        ("a/**/b/**/c", "a/x/b/b/y/c", false),
-    ];
-    let no: [Case; 3] = [
-        ("a/**/b", "x/a/b", false),
-        ("a/**/b", "a/b/c", false),
-        ("a/**/b/**/c", "a/x/y/c", false),
-    ];
-    assert_eq!(rt; wrong(rt.alloc(), &yes, true)?, None);
-    assert_eq!(rt; wrong(rt.alloc(), &no, false)?, None);
+    check(&rt, rt.alloc(), &DOUBLE_STAR)?;
     Ok(())
 }
+
+static OTHER_STARS: [Case; 6] = [
+    (b"x**/b", b"x/b", FILE, true),
+    (b"x**/b", b"xyz/b", FILE, true),
+    (b"***/b", b"q/b", FILE, true),
+    (b"**", b"a/b", FILE, true),
+    (b"x**/b", b"x/y/b", FILE, false),
+    (b"***/b", b"q/r/b", FILE, false),
+];
 
 #[test]
 fn other_runs_of_stars_are_one_star(rt: HostRuntime) -> Result<(), Fail> {
-    let yes: [Case; 4] = [
-        ("x**/b", "x/b", false),
-        ("x**/b", "xyz/b", false),
-        ("***/b", "q/b", false),
-        ("**", "a/b", false),
-    ];
-    let no: [Case; 2] = [("x**/b", "x/y/b", false), ("***/b", "q/r/b", false)];
-    assert_eq!(rt; wrong(rt.alloc(), &yes, true)?, None);
-    assert_eq!(rt; wrong(rt.alloc(), &no, false)?, None);
+    check(&rt, rt.alloc(), &OTHER_STARS)?;
     Ok(())
 }
+
+static LAST_SEPARATOR: [Case; 6] = [
+    (b"doc/frotz/", b"doc/frotz", DIR, true),
+    (b"frotz/", b"frotz", DIR, true),
+    (b"frotz/", b"a/frotz", DIR, true),
+    (b"doc/frotz/", b"doc/frotz", FILE, false),
+    (b"doc/frotz/", b"a/doc/frotz", DIR, false),
+    (b"frotz/", b"frotz", FILE, false),
+];
 
 #[test]
 fn last_separator_asks_for_directory(rt: HostRuntime) -> Result<(), Fail> {
-    let yes: [Case; 3] = [
-        ("doc/frotz/", "doc/frotz", true),
-        ("frotz/", "frotz", true),
-        ("frotz/", "a/frotz", true),
-    ];
-    let no: [Case; 3] = [
-        ("doc/frotz/", "doc/frotz", false),
-        ("doc/frotz/", "a/doc/frotz", true),
-        ("frotz/", "frotz", false),
-    ];
-    assert_eq!(rt; wrong(rt.alloc(), &yes, true)?, None);
-    assert_eq!(rt; wrong(rt.alloc(), &no, false)?, None);
+    check(&rt, rt.alloc(), &LAST_SEPARATOR)?;
     Ok(())
 }
+
+static MEMBERS: [Case; 15] = [
+    (b"[]a]", b"]", FILE, true),
+    (b"[]a]", b"a", FILE, true),
+    (b"[!a-c]", b"d", FILE, true),
+    (b"[^a-c]", b"d", FILE, true),
+    (b"[z-a]", b"z", FILE, true),
+    (b"[a/b]", b"a", FILE, true),
+    (b"[a/b]", b"b", FILE, true),
+    (b"[a/b]", b"x/a", FILE, true),
+    (b"[[:digit:]-]", b"7", FILE, true),
+    (b"[[:digit:]-]", b"-", FILE, true),
+    (b"[[:]", b"[", FILE, true),
+    (b"[[:]", b":", FILE, true),
+    (b"[a-]", b"a", FILE, true),
+    (b"[a-]", b"-", FILE, true),
+    (b"[\\]]", b"]", FILE, true),
+];
 
 #[test]
 fn bracket_stands_for_members(rt: HostRuntime) -> Result<(), Fail> {
-    let yes: [Case; 15] = [
-        ("[]a]", "]", false),
-        ("[]a]", "a", false),
-        ("[!a-c]", "d", false),
-        ("[^a-c]", "d", false),
-        ("[z-a]", "z", false),
-        ("[a/b]", "a", false),
-        ("[a/b]", "b", false),
-        ("[a/b]", "x/a", false),
-        ("[[:digit:]-]", "7", false),
-        ("[[:digit:]-]", "-", false),
-        ("[[:]", "[", false),
-        ("[[:]", ":", false),
-        ("[a-]", "a", false),
-        ("[a-]", "-", false),
-        ("[\\]]", "]", false),
-    ];
-    assert_eq!(rt; wrong(rt.alloc(), &yes, true)?, None);
+    check(&rt, rt.alloc(), &MEMBERS)?;
     Ok(())
 }
+
+static OTHER_BYTES: [Case; 7] = [
+    (b"[]a]", b"b", FILE, false),
+    (b"[!a-c]", b"b", FILE, false),
+    (b"[^a-c]", b"b", FILE, false),
+    (b"[z-a]", b"a", FILE, false),
+    (b"[[:digit:]-]", b"a", FILE, false),
+    (b"[a-]", b"b", FILE, false),
+    (b"a[!b]c", b"a/c", FILE, false),
+];
 
 #[test]
 fn bracket_stands_for_nothing_else(rt: HostRuntime) -> Result<(), Fail> {
-    let no: [Case; 7] = [
-        ("[]a]", "b", false),
-        ("[!a-c]", "b", false),
-        ("[^a-c]", "b", false),
-        ("[z-a]", "a", false),
-        ("[[:digit:]-]", "a", false),
-        ("[a-]", "b", false),
-        ("a[!b]c", "a/c", false),
-    ];
-    assert_eq!(rt; wrong(rt.alloc(), &no, false)?, None);
+    check(&rt, rt.alloc(), &OTHER_BYTES)?;
     Ok(())
 }
+
+static CLASSES: [Case; 15] = [
+    (b"[[:alpha:]]", b"Z", FILE, true),
+    (b"[[:lower:]]", b"z", FILE, true),
+    (b"[[:upper:]]", b"A", FILE, true),
+    (b"[[:digit:]]", b"0", FILE, true),
+    (b"[[:xdigit:]]", b"F", FILE, true),
+    (b"[[:alnum:]]", b"9", FILE, true),
+    (b"[[:blank:]]", b"\t", FILE, true),
+    (b"[[:space:]]", b"\r", FILE, true),
+    (b"[[:cntrl:]]", b"\x7f", FILE, true),
+    (b"[[:graph:]]", b"~", FILE, true),
+    (b"[[:print:]]", b" ", FILE, true),
+    (b"[[:punct:]]", b"@", FILE, true),
+    (b"[[:lower:]]", b"Z", FILE, false),
+    (b"[[:punct:]]", b"a", FILE, false),
+    (b"[[:alpha:]]", b"\xe4", FILE, false),
+];
 
 #[test]
 fn classes_are_ascii(rt: HostRuntime) -> Result<(), Fail> {
-    let yes: [Case; 12] = [
-        ("[[:alpha:]]", "Z", false),
-        ("[[:lower:]]", "z", false),
-        ("[[:upper:]]", "A", false),
-        ("[[:digit:]]", "0", false),
-        ("[[:xdigit:]]", "F", false),
-        ("[[:alnum:]]", "9", false),
-        ("[[:blank:]]", "\t", false),
-        ("[[:space:]]", "\r", false),
-        ("[[:cntrl:]]", "\x7f", false),
-        ("[[:graph:]]", "~", false),
-        ("[[:print:]]", " ", false),
-        ("[[:punct:]]", "@", false),
-    ];
-    let no: [Case; 2] = [("[[:lower:]]", "Z", false), ("[[:punct:]]", "a", false)];
-    assert_eq!(rt; wrong(rt.alloc(), &yes, true)?, None);
-    assert_eq!(rt; wrong(rt.alloc(), &no, false)?, None);
-    assert!(rt; !Pattern::read(rt.alloc(), b"[[:alpha:]]")?.matches(b"\xe4", false));
+    check(&rt, rt.alloc(), &CLASSES)?;
     Ok(())
 }
+
+static QUOTED: [Case; 9] = [
+    (b"\\#a", b"#a", FILE, true),
+    (b"\\!b", b"!b", FILE, true),
+    (b"\\*", b"*", FILE, true),
+    (b"a\\\\", b"a\\", FILE, true),
+    (b"p\\/q", b"p/q", FILE, true),
+    (b"[[:upper:]]?", b"Q1", FILE, true),
+    (b"\\*", b"a", FILE, false),
+    (b"p\\/q", b"x/p/q", FILE, false),
+    (b"[[:upper:]]?", b"q1", FILE, false),
+];
 
 #[test]
 fn backslash_quotes(rt: HostRuntime) -> Result<(), Fail> {
-    let yes: [Case; 6] = [
-        ("\\#a", "#a", false),
-        ("\\!b", "!b", false),
-        ("\\*", "*", false),
-        ("a\\\\", "a\\", false),
-        ("p\\/q", "p/q", false),
-        ("[[:upper:]]?", "Q1", false),
-    ];
-    let no: [Case; 3] = [
-        ("\\*", "a", false),
-        ("p\\/q", "x/p/q", false),
-        ("[[:upper:]]?", "q1", false),
-    ];
-    assert_eq!(rt; wrong(rt.alloc(), &yes, true)?, None);
-    assert_eq!(rt; wrong(rt.alloc(), &no, false)?, None);
+    check(&rt, rt.alloc(), &QUOTED)?;
     Ok(())
 }
+
+const DEAD: Told = (true, false, false);
+
+static DEAD_PATTERNS: [(&'static [u8], Told); 9] = [
+    (b"[[:foo:]]", DEAD),
+    (b"[ab", DEAD),
+    (b"[a\\", DEAD),
+    (b"[[:a", DEAD),
+    (b"a\\", DEAD),
+    (b"a//b", DEAD),
+    (b"//", DEAD),
+    (b"/", DEAD),
+    (b"", DEAD),
+];
 
 #[test]
 fn dead_patterns_are_told(rt: HostRuntime) -> Result<(), Fail> {
-    let dead: [&'static str; 9] = [
-        "[[:foo:]]",
-        "[ab",
-        "[a\\",
-        "[[:a",
-        "a\\",
-        "a//b",
-        "//",
-        "/",
-        "",
-    ];
-    for text in &dead {
-        let pattern = Pattern::read(rt.alloc(), text.as_bytes())?;
-        let told = (
-            pattern.is_dead(),
-            pattern.is_dir_only(),
-            pattern.is_anchored(),
-        );
-        assert_eq!(rt; (*text, told), (*text, (true, false, false)));
-        assert!(rt; !pattern.matches(b"a", true), "{text}");
+    check_told(&rt, rt.alloc(), &DEAD_PATTERNS)?;
+    for (pattern, _) in &DEAD_PATTERNS {
+        check(&rt, rt.alloc(), &[(pattern, b"a", DIR, false)])?;
     }
     Ok(())
 }
 
+static SEPARATORS: [(&'static [u8], Told); 7] = [
+    (b"a", (false, false, false)),
+    (b"a/", (false, true, false)),
+    (b"/a", (false, false, true)),
+    (b"/a/", (false, true, true)),
+    (b"a/b", (false, false, true)),
+    (b"\\/a", (false, false, true)),
+    (b"[a/b]", (false, false, false)),
+];
+
 #[test]
 fn separators_anchor_and_ask_for_directory(rt: HostRuntime) -> Result<(), Fail> {
-    // A pattern, whether it is for directories only, and whether it is anchored.
-    let told: [(&'static str, bool, bool); 7] = [
-        ("a", false, false),
-        ("a/", true, false),
-        ("/a", false, true),
-        ("/a/", true, true),
-        ("a/b", false, true),
-        ("\\/a", false, true),
-        ("[a/b]", false, false),
-    ];
-    for (text, is_dir_only, is_anchored) in &told {
-        let pattern = Pattern::read(rt.alloc(), text.as_bytes())?;
-        let found = (
-            pattern.is_dead(),
-            pattern.is_dir_only(),
-            pattern.is_anchored(),
-        );
-        assert_eq!(rt;
-            (*text, found),
-            (*text, (false, *is_dir_only, *is_anchored))
-        );
-    }
+    check_told(&rt, rt.alloc(), &SEPARATORS)?;
     Ok(())
+}
+
+static DOCUMENTED: [Case; 8] = [
+    (b"/build/**/*.o", b"build/x86/main.o", FILE, true),
+    (b"frotz/", b"a/frotz", DIR, true),
+    (b"*.[oa]", b"main.a", FILE, true),
+    (b"*.o", b"src/main.o", FILE, true),
+    (b"[a-z]", b"m", FILE, true),
+    (b"/build/**/*.o", b"src/build/main.o", FILE, false),
+    (b"*.[oa]", b"main.c", FILE, false),
+    (b"[!a-z]", b"m", FILE, false),
+];
+
+/// How many patterns stand behind the last one that matches.
+fn behind_the_last(patterns: &[Pattern], path: &[u8]) -> Option<usize> {
+    let candidate = Candidate::new(path);
+    patterns
+        .iter()
+        .rev()
+        .position(|pattern| pattern.matches_candidate(&candidate, false))
 }
 
 /// The examples of the crate's documentation.
 #[test]
 fn documented_examples(rt: HostRuntime) -> Result<(), Fail> {
-    let yes: [Case; 5] = [
-        ("/build/**/*.o", "build/x86/main.o", false),
-        ("frotz/", "a/frotz", true),
-        ("*.[oa]", "main.a", false),
-        ("*.o", "src/main.o", false),
-        ("[a-z]", "m", false),
-    ];
-    let no: [Case; 3] = [
-        ("/build/**/*.o", "src/build/main.o", false),
-        ("*.[oa]", "main.c", false),
-        ("[!a-z]", "m", false),
-    ];
-    assert_eq!(rt; wrong(rt.alloc(), &yes, true)?, None);
-    assert_eq!(rt; wrong(rt.alloc(), &no, false)?, None);
-    let patterns = [
-        Pattern::read(rt.alloc(), b"*.c")?,
-        Pattern::read(rt.alloc(), b"/src")?,
-    ];
-    let candidate = Candidate::new(b"src/main.c");
-    let last = patterns
-        .iter()
-        .rev()
-        .position(|pattern| pattern.matches_candidate(&candidate, false));
-    assert_eq!(rt; last, Some(1));
+    check(&rt, rt.alloc(), &DOCUMENTED)?;
+    let mut patterns = Vec::new(rt.alloc());
+    for text in [b"*.c".as_slice(), b"/src"] {
+        patterns.push(Pattern::read(rt.alloc(), text)?)?;
+    }
+    assert!(rt; behind_the_last(&patterns, b"src/main.c") == Some(1));
     Ok(())
 }

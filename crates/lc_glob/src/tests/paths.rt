@@ -4,30 +4,46 @@ use crate::cut_at_first;
 use crate::path::{depth_of, is_good_name, is_good_path, is_too_deep, is_too_long, push_name};
 use std::test::Fail;
 
-#[test]
-fn names_that_a_directory_can_have(rt: HostRuntime) -> Result<(), Fail> {
-    let good: [&'static [u8]; 6] = [b"a", b"...", b".git", b" ", b"\xff", b"a\n"];
-    let bad: [&'static [u8]; 6] = [b"", b".", b"..", b"a/b", b"/", b"a\0"];
-    for name in &good {
-        assert!(rt; is_good_name(name), "{name:?}");
-    }
-    for name in &bad {
-        assert!(rt; !is_good_name(name), "{name:?}");
-    }
-    Ok(())
-}
+static NAMES: [(&'static [u8], bool); 12] = [
+    (b"a", true),
+    (b"...", true),
+    (b".git", true),
+    (b" ", true),
+    (b"\xff", true),
+    (b"a\n", true),
+    (b"", false),
+    (b".", false),
+    (b"..", false),
+    (b"a/b", false),
+    (b"/", false),
+    (b"a\0", false),
+];
 
 #[test]
-fn paths_that_a_tree_can_have(rt: HostRuntime) -> Result<(), Fail> {
-    let good: [&'static [u8]; 3] = [b"a", b"a/b", b"a/.../c"];
-    let bad: [&'static [u8]; 7] = [b"", b"/a", b"a/", b"a//b", b"a/./b", b"..", b"a/b\0"];
-    for path in &good {
-        assert!(rt; is_good_path(path), "{path:?}");
+fn names_that_a_directory_can_have(rt: HostRuntime) {
+    for (name, is_good) in &NAMES {
+        assert!(rt; is_good_name(name) == *is_good, "{name:?}");
     }
-    for path in &bad {
-        assert!(rt; !is_good_path(path), "{path:?}");
+}
+
+static PATHS: [(&'static [u8], bool); 10] = [
+    (b"a", true),
+    (b"a/b", true),
+    (b"a/.../c", true),
+    (b"", false),
+    (b"/a", false),
+    (b"a/", false),
+    (b"a//b", false),
+    (b"a/./b", false),
+    (b"..", false),
+    (b"a/b\0", false),
+];
+
+#[test]
+fn paths_that_a_tree_can_have(rt: HostRuntime) {
+    for (path, is_good) in &PATHS {
+        assert!(rt; is_good_path(path) == *is_good, "{path:?}");
     }
-    Ok(())
 }
 
 #[test]
@@ -43,23 +59,29 @@ fn longest_and_deepest_path(rt: HostRuntime) -> Result<(), Fail> {
     Ok(())
 }
 
+/// Names, and the path after each was pushed.
+static PUSHED: [(&'static [u8], &'static [u8]); 2] = [(b"src", b"src"), (b"main.c", b"src/main.c")];
+
 #[test]
 fn name_is_pushed_after_a_slash(rt: HostRuntime) -> Result<(), Fail> {
     let mut path = Vec::new(rt.alloc());
-    push_name(&mut path, b"src")?;
-    assert!(rt; path.as_slice() == b"src".as_slice());
-    push_name(&mut path, b"main.c")?;
-    assert!(rt; path.as_slice() == b"src/main.c".as_slice());
+    for (name, after) in &PUSHED {
+        push_name(&mut path, name)?;
+        assert!(rt; path.as_slice() == *after, "{name:?}");
+    }
     Ok(())
 }
 
+/// A byte, what is cut at its first place, and the two parts.
+static CUTS: [(u8, &'static [u8], (&'static [u8], Option<&'static [u8]>)); 3] = [
+    (b'=', b"eol=lf=", (b"eol", Some(b"lf="))),
+    (b'=', b"eol", (b"eol", None)),
+    (b'\n', b"\n", (b"", Some(b""))),
+];
+
 #[test]
-fn bytes_are_cut_at_the_first(rt: HostRuntime) -> Result<(), Fail> {
-    let (name, value) = cut_at_first(b'=', b"eol=lf=");
-    assert!(rt; name == b"eol".as_slice() && value == Some(b"lf=".as_slice()));
-    let (all, none) = cut_at_first(b'=', b"eol");
-    assert!(rt; all == b"eol".as_slice() && none == None);
-    let (none, rest) = cut_at_first(b'\n', b"\n");
-    assert!(rt; none.is_empty() && rest == Some(b"".as_slice()));
-    Ok(())
+fn bytes_are_cut_at_the_first(rt: HostRuntime) {
+    for (byte, bytes, parts) in &CUTS {
+        assert!(rt; cut_at_first(*byte, bytes) == *parts, "{bytes:?}");
+    }
 }
