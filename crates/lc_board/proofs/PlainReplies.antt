@@ -117,6 +117,11 @@ holder (h ∷ hs) zero o k low e s = sym e ∙ s
 holder (h ∷ hs) (suc w) o k low e s = holder hs w o k (omega (arith, low)) e s
 
 module _ {J R : Type 0} where
+  pub left_inside : (xs : List (Cell J R)) (k : ℕ) → IsLeft (slice_get xs k) → k < length xs
+  left_inside [] k x = absurd x
+  left_inside (c ∷ xs) zero x = omega arith
+  left_inside (c ∷ xs) (suc k) x = omega (arith, left_inside xs k x)
+
   left_open : (o : Option (Cell J R)) → IsOpen o → IsLeft o
   left_open None x = x
   left_open (Some (Waiting j)) x = tt

@@ -1,13 +1,24 @@
-use Rattle.std.proofs.Common.{◌≢◌, ℕ, ◌+◌, ◌∙◌, false, get_or, set, sym, ap, arith, get_or-set_same, get_or-set_other}
+use Rattle.std.proofs.Common.{◌≢◌, ℕ, ◌<◌, ◌+◌, ◌∙◌, false, get_or, set, sym, ap, arith, get_or-set_same, get_or-set_other}
 use mathlib.Core.Logic.{dite}
 use mathlib.Core.Option.{some, some-injective}
 use native.Mathlib.Decide.{ℕ_discrete}
 use lib.ListN.{get_elem?}
-use Rattle.std.specs.Mem.Slots.{slots_items, slots_filled, slots_counts}
+use Rattle.std.specs.Mem.Slots.{slots_items, slots_filled, slots_len, slots_counts}
 use Rattle.lc_board.specs.WordCode.{has_ended}
 use Rattle.lc_board.specs.declared.words.view.Slot.TheVariants.{Row}
 use Rattle.lc_board.proofs.WordCloses.{word_here, rows_more}
 use Rattle.lc_board.proofs.words.close.take_rows.Goals as goal
+
+pub word-requires : goal.word-requires
+word-requires g c = rw c.loop-number.invariant.same_words (omega (arith, c.loop-number-test.true, c.requires.sizes), c.requires.full.0)
+
+pub take-requires : goal.take-requires
+take-requires g c = let inv = c.loop-number.invariant in
+    let near : c.loop-number.number < slots_len c.loop-number.closed.slots = omega (arith, c.loop-number-test.true, inv.same_len, c.requires.sizes) in
+    (near, inv.filled c.loop-number.number (omega arith) near)
+
+pub push_reserved-requires : goal.push_reserved-requires
+push_reserved-requires g c = let inv = c.loop-number.invariant in omega (arith, inv.taken, inv.room, c.loop-number-test.true)
 
 pub unreachable-requires : goal.unreachable-requires
 unreachable-requires g c = let inv = c.loop-number.invariant in let x = c.requires.rows c.loop-number.number c.loop-number-test.true in
