@@ -1,7 +1,7 @@
 //! What a worker does on a board.
 
 /// One event of a board, with the job or the row that it moves.
-#[derive(Clone, Copy, PartialEq, Eq, Debug, Drop)]
+#[derive(PartialEq, Eq, Debug, Drop)]
 pub enum Event<J, R> {
     /// The worker, which has claimed the parent, made the number open with this job.
     Post {
