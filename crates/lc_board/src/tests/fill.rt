@@ -151,7 +151,21 @@ fn work_all<B: Shared<Job, Row>, R: Threads + Wait + Sync>(
     thread::map_vec(rt, passes, &run)
 }
 
-/// Fills a board by so many workers: each number ends with its own row, and the first children have the first paths.
+/// Each number ended with its own row, and the root alone has no path.
+fn are_own<R: Abort>(rt: &R, capacity: u32, rows: &[Ended<Row>]) {
+    assert_eq!(rt; rows.len(), capacity as usize);
+    for (number, row) in rows.iter().enumerate() {
+        let own = match row {
+            Ended::Returned(row) => {
+                row.number as usize == number && row.job.path.is_empty() == (number == 0)
+            }
+            Ended::Faulted(_) => false,
+        };
+        assert!(rt; own, "{number}");
+    }
+}
+
+/// Fills a board by so many workers.
 fn fill<B: Shared<Job, Row>, R: Threads + Wait + Abort + Sync>(
     rt: &R,
     alloc: Global,
@@ -165,17 +179,7 @@ fn fill<B: Shared<Job, Row>, R: Threads + Wait + Abort + Sync>(
     let (board, passes) = B::start(alloc, capacity, workers, root)?;
     let passes = work_all(rt, &board, passes)?;
     match board.close(passes) {
-        Ok(closed) => {
-            assert_eq!(rt; closed.rows.len(), capacity as usize);
-            for (number, row) in closed.rows.iter().enumerate() {
-                let Ended::Returned(row) = row else {
-                    assert!(rt; false, "{number}");
-                    continue;
-                };
-                assert_eq!(rt; row.number as usize, number);
-                assert_eq!(rt; row.job.path.is_empty(), number == 0);
-            }
-        }
+        Ok(closed) => are_own(rt, capacity, &closed.rows),
         Err(CloseFault::Memory) => return Err(AllocError),
         Err(fault) => assert!(rt; false, "{fault:?}"),
     }

@@ -3,7 +3,7 @@ use crate::answers::CloseFault;
 use crate::locked::Locked;
 use crate::shared::Shared;
 use crate::tests::script::{Call, ROOT, Told};
-use crate::tests::shared_scripts::tell;
+use crate::tests::shared_scripts::expect;
 use std::alloc::Global;
 use std::test::Fail;
 
@@ -12,14 +12,9 @@ fn passes_of_another_board(rt: HostRuntime) -> Result<(), Fail> {
     let alloc: Global = rt.alloc();
     let (board, mut passes) = Locked::<u32, u32>::start(alloc, 1, 1, ROOT)?;
     let (_, others) = Locked::<u32, u32>::start(alloc, 1, 1, ROOT)?;
-    assert_eq!(rt; passes.len(), 1);
-    if tell(&rt, &board, &mut passes[0], Call::Claim(0)) == Told::NoClaim {
-        return Ok(());
-    }
-    assert_eq!(rt;
-        tell(&rt, &board, &mut passes[0], Call::Give(0, 1)),
-        Told::Done
-    );
+    let pass = &mut passes[0];
+    expect(&rt, &board, pass, Call::Claim(0), Told::Got(0, ROOT))?;
+    expect(&rt, &board, pass, Call::Give(0, 1), Told::Done)?;
     assert_eq!(rt; board.close(others), Err(CloseFault::Mismatch(0)));
     Ok(())
 }

@@ -3,10 +3,11 @@ ghost use Rattle.std.specs.Prelude.{◌≡◌, ◌≤◌, ◌<◌, length};
 ghost use Rattle.lc_board.specs.PlainBoard.{workers_of};
 ghost use Rattle.lc_board.specs.Limits.{capacity_limit, workers_limit};
 
-use crate::answers::{CloseFault, Closed, Ended};
+use crate::answers::{CloseFault, Closed};
 use crate::plain::Plain;
 use crate::tests::script::{
-    Call, FAULT, FULL, OWN_POST, ROOT, TWO_WORKERS, Told, answers, has_rows,
+    Call, FAULT, FAULTED, FULL, OWN_POST, RETURNED, ROOT, TWO_ROWS, TWO_WORKERS, Told, answers,
+    has_rows,
 };
 use std::alloc::{AllocError, Global};
 use std::process::Abort;
@@ -51,7 +52,7 @@ fn run<R: Abort>(
     let mut board = Plain::<u32, u32>::start(alloc, capacity, workers, ROOT)?;
     assert!(rt; !board.is_over());
     for (call, told) in script {
-        answers(rt, tell(&mut board, *call), *told)?;
+        answers(rt, *call, tell(&mut board, *call), *told)?;
         assert_eq!(rt; board.is_over(), board.first_left().is_none());
     }
     Ok(board.into_rows(alloc))
@@ -60,10 +61,9 @@ fn run<R: Abort>(
 #[test]
 fn scripts_on_plain(rt: HostRuntime) -> Result<(), Fail> {
     let alloc: Global = rt.alloc();
-    let rows = [Ended::Returned(10), Ended::Returned(11)];
-    has_rows(&rt, run(&rt, alloc, 2, 2, &TWO_WORKERS)?, &rows)?;
-    has_rows(&rt, run(&rt, alloc, 1, 1, &FULL)?, &[Ended::Returned(10)])?;
-    has_rows(&rt, run(&rt, alloc, 1, 1, &FAULT)?, &[Ended::Faulted(10)])?;
+    has_rows(&rt, run(&rt, alloc, 2, 2, &TWO_WORKERS)?, &TWO_ROWS)?;
+    has_rows(&rt, run(&rt, alloc, 1, 1, &FULL)?, &RETURNED)?;
+    has_rows(&rt, run(&rt, alloc, 1, 1, &FAULT)?, &FAULTED)?;
     let unfinished = run(&rt, alloc, 2, 1, &OWN_POST)?;
     assert_eq!(rt; unfinished, Err(CloseFault::Unfinished(1)));
     Ok(())

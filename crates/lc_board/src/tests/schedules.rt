@@ -2,7 +2,7 @@
 ghost use Rattle.std.specs.Prelude.{◌≡◌, ◌≤◌, ◌<◌, Some, None};
 ghost use Rattle.lc_board.specs.Pass.{holding};
 
-use crate::answers::{CloseFault, Ended};
+use crate::answers::{CloseFault, Closed, Ended};
 use crate::locked::Locked;
 use crate::locked::pass::LockedPass;
 use crate::shared::{Shared, Token};
@@ -20,6 +20,20 @@ use std::test::Fail;
 const NAMED: u32 = 14;
 
 const STEPS: u32 = 72;
+
+/// The rows where the third number is posted under the root.
+const BY_ROOT: [Ended<u32>; 3] = [
+    Ended::Returned(ROOT),
+    Ended::Returned(0),
+    Ended::Returned(0),
+];
+
+/// The rows where it is posted under the second number.
+const BY_OTHER: [Ended<u32>; 3] = [
+    Ended::Returned(ROOT),
+    Ended::Returned(0),
+    Ended::Returned(1),
+];
 
 /// What a worker remembers between two steps.
 #[derive(Clone, Copy, Drop)]
@@ -165,8 +179,36 @@ fn step<B: Shared<u32, u32>, C: Claims<B>, W: Wait>(
     Ok(())
 }
 
-/// Makes the steps in the order of the schedule. The board ends with the root's job, a job posted under the root, and one posted under
-/// either of these.
+/// Who makes the step of this turn.
+fn worker_at(schedule: u32, turn: u32) -> usize
+    ensures { result < 2 }
+{
+    if turn < NAMED {
+        (schedule >> turn) as usize % 2
+    } else {
+        turn as usize % 2
+    }
+}
+
+fn is_either(rows: &[Ended<u32>]) -> bool {
+    rows == BY_ROOT.as_slice() || rows == BY_OTHER.as_slice()
+}
+
+/// The board was closed with the root's job, a job posted under the root, and one posted under either of these.
+fn has_either<R: Abort>(
+    rt: &R,
+    schedule: u32,
+    closed: Result<Closed<u32>, CloseFault>,
+) -> Result<(), AllocError> {
+    match closed {
+        Ok(closed) => assert!(rt; is_either(&closed.rows), "{schedule}"),
+        Err(CloseFault::Memory) => return Err(AllocError),
+        Err(fault) => assert!(rt; false, "{schedule}: {fault:?}"),
+    }
+    Ok(())
+}
+
+/// Makes the steps in the order of the schedule.
 fn follow<B: Shared<u32, u32>, C: Claims<B>, R: Wait + Abort>(
     rt: &R,
     alloc: Global,
@@ -175,36 +217,10 @@ fn follow<B: Shared<u32, u32>, C: Claims<B>, R: Wait + Abort>(
     let (board, mut passes) = B::start(alloc, 3, 2, ROOT)?;
     let mut memories = [NOTHING; 2];
     for turn in 0..STEPS {
-        let worker = if turn < NAMED {
-            (schedule >> turn) & 1
-        } else {
-            turn & 1
-        } as usize;
-        assert!(rt; worker < passes.len() && worker < 2);
+        let worker = worker_at(schedule, turn);
         step::<B, C, R>(rt, &board, &mut passes[worker], &mut memories[worker])?;
     }
-    match board.close(passes) {
-        Ok(closed) => {
-            let by_root = [
-                Ended::Returned(ROOT),
-                Ended::Returned(0),
-                Ended::Returned(0),
-            ];
-            let by_other = [
-                Ended::Returned(ROOT),
-                Ended::Returned(0),
-                Ended::Returned(1),
-            ];
-            let rows = closed.rows.as_slice();
-            assert!(rt;
-                rows == by_root.as_slice() || rows == by_other.as_slice(),
-                "{schedule}"
-            );
-        }
-        Err(CloseFault::Memory) => return Err(AllocError),
-        Err(fault) => assert!(rt; false, "{schedule}: {fault:?}"),
-    }
-    Ok(())
+    has_either(rt, schedule, board.close(passes))
 }
 
 /// Every schedule.

@@ -7,7 +7,7 @@ use std::process::Abort;
 pub const ROOT: u32 = 7;
 
 /// One call, by the worker that stands first.
-#[derive(Clone, Copy, Drop)]
+#[derive(Clone, Copy, Debug, Drop)]
 pub enum Call {
     Claim(u32),
     Post(u32, u32),
@@ -64,12 +64,17 @@ impl From<Result<u32, PostFault<u32>>> for Told {
     }
 }
 
+/// A call answered what it is to answer.
+pub fn says<R: Abort>(rt: &R, call: Call, answer: Told, told: Told) {
+    assert_eq!(rt; answer, told, "{call:?}");
+}
+
 /// A call answered what it is to answer, if there was memory for it.
-pub fn answers<R: Abort>(rt: &R, answer: Told, told: Told) -> Result<(), AllocError> {
+pub fn answers<R: Abort>(rt: &R, call: Call, answer: Told, told: Told) -> Result<(), AllocError> {
     match answer {
         Told::NoClaim => return Err(AllocError),
         Told::NoPost(_) => return Err(AllocError),
-        _ => assert_eq!(rt; answer, told),
+        _ => says(rt, call, answer, told),
     }
     Ok(())
 }
@@ -87,6 +92,15 @@ pub fn has_rows<R: Abort>(
     }
     Ok(())
 }
+
+/// The rows of `TWO_WORKERS`.
+pub const TWO_ROWS: [Ended<u32>; 2] = [Ended::Returned(10), Ended::Returned(11)];
+
+/// The row of `FULL`.
+pub const RETURNED: [Ended<u32>; 1] = [Ended::Returned(10)];
+
+/// The row of `FAULT`.
+pub const FAULTED: [Ended<u32>; 1] = [Ended::Faulted(10)];
 
 /// Two workers on a board of two numbers: the second waits for the first to post, and both find the end.
 pub const TWO_WORKERS: [(Call, Told); 9] = [

@@ -2,11 +2,12 @@
 ghost use Rattle.std.specs.Prelude.{◌≡◌, ◌≤◌, ◌<◌, Some};
 ghost use Rattle.lc_board.specs.Limits.{capacity_limit, workers_limit};
 
-use crate::answers::{CloseFault, Closed, Ended};
+use crate::answers::{CloseFault, Closed};
 use crate::locked::Locked;
 use crate::shared::{Shared, Token};
 use crate::tests::script::{
-    Call, FAULT, FULL, OWN_POST, ROOT, TWO_WORKERS, Told, answers, has_rows,
+    Call, FAULT, FAULTED, FULL, OWN_POST, RETURNED, ROOT, TWO_ROWS, TWO_WORKERS, Told, answers,
+    has_rows,
 };
 use crate::words::Words;
 use std::alloc::{AllocError, Global};
@@ -36,6 +37,21 @@ pub fn tell<B: Shared<u32, u32>, W: Wait>(rt: &W, board: &B, pass: &mut B::Pass,
     }
 }
 
+/// Makes a call, which answers so if there is memory for it.
+pub fn expect<B: Shared<u32, u32>, R: Wait + Abort>(
+    rt: &R,
+    board: &B,
+    pass: &mut B::Pass,
+    call: Call,
+    told: Told,
+) -> Result<(), AllocError>
+    requires { B.owns board.now pass.old }
+    ensures pass { B.owns board.now pass.new }
+    ensures worker { (B.Pass.view pass.new).worker ≡ (B.Pass.view pass.old).worker }
+{
+    answers(rt, call, tell(rt, board, pass, call), told)
+}
+
 /// Makes the calls on a new board, compares the answers, and closes the board.
 fn run<B: Shared<u32, u32>, R: Wait + Abort>(
     rt: &R,
@@ -51,8 +67,7 @@ fn run<B: Shared<u32, u32>, R: Wait + Abort>(
     for (call, told) in script {
         let worker = call.worker() as usize;
         assert!(rt; worker < passes.len());
-        let answer = tell(rt, &board, &mut passes[worker], *call);
-        answers(rt, answer, *told)?;
+        expect(rt, &board, &mut passes[worker], *call, *told)?;
     }
     Ok(board.close(passes))
 }
@@ -62,18 +77,9 @@ fn scripts_on<B: Shared<u32, u32>, R: Wait + Abort>(
     rt: &R,
     alloc: Global,
 ) -> Result<(), AllocError> {
-    let rows = [Ended::Returned(10), Ended::Returned(11)];
-    has_rows(rt, run::<B, R>(rt, alloc, 2, 2, &TWO_WORKERS)?, &rows)?;
-    has_rows(
-        rt,
-        run::<B, R>(rt, alloc, 1, 1, &FULL)?,
-        &[Ended::Returned(10)],
-    )?;
-    has_rows(
-        rt,
-        run::<B, R>(rt, alloc, 1, 1, &FAULT)?,
-        &[Ended::Faulted(10)],
-    )?;
+    has_rows(rt, run::<B, R>(rt, alloc, 2, 2, &TWO_WORKERS)?, &TWO_ROWS)?;
+    has_rows(rt, run::<B, R>(rt, alloc, 1, 1, &FULL)?, &RETURNED)?;
+    has_rows(rt, run::<B, R>(rt, alloc, 1, 1, &FAULT)?, &FAULTED)?;
     let unfinished = run::<B, R>(rt, alloc, 2, 1, &OWN_POST)?;
     assert_eq!(rt; unfinished, Err(CloseFault::Unfinished(1)));
     Ok(())

@@ -6,8 +6,8 @@ use Rattle.lc_board.proofs.tests.shared_scripts.run.Goals as goal
 pub loop-call-init : goal.loop-call-init
 loop-call-init g c = (c.in_ok-board.ensures.count, λ w p at. let s = c.in_ok-board.ensures.passes w p at in (s.0, ap (λ v. v.worker) s.1))
 
-pub tell-answer-requires-after_bounds : goal.tell-answer-requires-after_bounds
-tell-answer-requires-after_bounds g c κs within =
+pub expect-requires-after_bounds : goal.expect-requires-after_bounds
+expect-requires-after_bounds g c κs within =
     let low : c.worker-worker.result < length c.loop-call.passes.items = omega (arith, c.loop-call.passes.ok.0) in
     (c.loop-call.invariant.1 _ _ (slice_get_read _ _ _ _ refl low c.index_mut.ensures.value)).0
 
@@ -16,9 +16,9 @@ loop-call-preserved g c =
     let low : c.worker-worker.result < length c.loop-call.passes.items = omega (arith, c.loop-call.passes.ok.0) in
     let was = c.loop-call.invariant.1 _ _ (slice_get_read _ _ _ _ refl low c.index_mut.ensures.value) in (
       c.loop-call.invariant.0,
-      each_set (λ w o. (p : _) → o ≡ Some p → g.B.Shared.owns c.in_ok-board.board p × ((g.B.Pass.Token.view p).worker ≡ w)) c.loop-call.passes.items c.worker-worker.result c.tell-answer.new.pass low
+      each_set (λ w o. (p : _) → o ≡ Some p → g.B.Shared.owns c.in_ok-board.board p × ((g.B.Pass.Token.view p).worker ≡ w)) c.loop-call.passes.items c.worker-worker.result c.expect.new.pass low
           (λ p e.
-          let is : c.tell-answer.new.pass ≡ p = cc e in
-          subst (λ q. g.B.Shared.owns c.in_ok-board.board q × ((g.B.Pass.Token.view q).worker ≡ c.worker-worker.result)) is (c.tell-answer.ensures.pass, c.tell-answer.ensures.worker ∙ was.1))
+          let is : c.expect.new.pass ≡ p = cc e in
+          subst (λ q. g.B.Shared.owns c.in_ok-board.board q × ((g.B.Pass.Token.view q).worker ≡ c.worker-worker.result)) is (c.expect.ensures.pass, c.expect.ensures.worker ∙ was.1))
           (λ w off p at. c.loop-call.invariant.1 w p at),
     )
