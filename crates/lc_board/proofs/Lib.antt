@@ -18,6 +18,7 @@ pub mod BareHistories
 pub mod RecordedSteps
 pub mod Weaving
 pub mod Closing
+pub mod Comparing
 pub mod ReturnedPasses
 pub mod Growths
 pub mod WordCodes

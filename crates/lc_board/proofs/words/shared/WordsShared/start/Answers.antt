@@ -31,3 +31,9 @@ loop-worker-preserved g c =
       λ w p e. more.0 w p (ap (λ z. slice_get z w) (sym items) ∙ e),
       λ p e. more.1 p (ap (λ z. slice_get z 0) (sym items) ∙ e),
     )
+
+pub returns-clause-passes : goal.returns-clause-passes
+returns-clause-passes g c w p at = let new = c.loop-worker.invariant.1 w p at in (new.0, new.1)
+
+pub returns-clause-unseen : goal.returns-clause-unseen
+returns-clause-unseen g c w p at = (c.loop-worker.invariant.1 w p at).2
