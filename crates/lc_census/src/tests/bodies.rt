@@ -44,7 +44,7 @@ fn both_bodies_agree_at_every_place_of_a_vector(rt: HostRuntime) {
 #[test]
 fn scans_go_on_where_another_stopped(rt: HostRuntime) {
     let after_cr = scan_plain(Scan::new(), b"\r");
-    assert_eq!(&rt; scan_lanes(after_cr, b"\n").crlf, 1);
-    assert_eq!(&rt; scan_plain(after_cr, b"\n").crlf, 1);
-    assert_eq!(&rt; scan_lanes(after_cr, b"\n").blank, 1);
+    let by_lanes = scan_lanes(after_cr, b"\n");
+    let by_bytes = scan_plain(after_cr, b"\n");
+    assert_eq!(&rt; (by_lanes.crlf, by_lanes.blank, by_bytes.crlf), (1, 1, 1));
 }

@@ -73,23 +73,21 @@ fn check_whole(
     Ok(())
 }
 
+/// A limit, the answer, and the bytes that are left.
+const LIMITS: [(&str, usize, Result<(), WholeFault>, &[u8]); 3] = [
+    ("at the end", 8, Ok(()), b"*.o\n!a.o"),
+    ("a byte before it", 7, TOO_LONG, b"*.o\n!a.o"),
+    ("after a line", 4, TOO_LONG, b"*.o\n!"),
+];
+
 #[test]
 fn reads_a_slice_in_pieces(rt: HostRuntime) -> Result<(), Fail> {
     let mut buffer = [0u8; 3];
     let mut bytes = Vec::new(rt.alloc());
-    for (limit, want, left) in [
-        (8u16, Ok(()), b"*.o\n!a.o".as_slice()),
-        (7, TOO_LONG, b"*.o\n!a.o".as_slice()),
-        (4, TOO_LONG, b"*.o\n!".as_slice()),
-    ] {
+    for (name, limit, want, left) in &LIMITS {
         let mut reader = b"*.o\n!a.o".as_slice();
-        let limit = usize::from(limit);
-        let found = read_whole(&mut buffer, &mut bytes, &mut reader, limit);
-        if found == Err(WholeFault::Memory) {
-            return Err(AllocError.into());
-        }
-        assert_eq!(&rt; found, want, "{limit}");
-        assert_eq!(&rt; bytes.as_slice(), left, "{limit}");
+        let found = read_whole(&mut buffer, &mut bytes, &mut reader, *limit);
+        check_whole(&rt, name, found, *want, &bytes, left)?;
     }
     Ok(())
 }
@@ -101,10 +99,6 @@ fn reads_by_a_new_buffer(rt: HostRuntime) -> Result<(), Fail> {
     let mut bytes = Vec::new(rt.alloc());
     let mut reader = b"*.o\n".as_slice();
     let found = read_whole(&mut buffer, &mut bytes, &mut reader, 4);
-    if found == Err(WholeFault::Memory) {
-        return Err(AllocError.into());
-    }
-    assert_eq!(&rt; found, Ok(()));
-    assert_eq!(&rt; bytes.as_slice(), b"*.o\n".as_slice());
+    check_whole(&rt, "a new buffer", found, Ok(()), &bytes, b"*.o\n")?;
     Ok(())
 }
