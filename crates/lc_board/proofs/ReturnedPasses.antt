@@ -1,7 +1,8 @@
 -- Passes that come back from their workers, in order.
-use Rattle.std.proofs.Common.{◌≡◌, ℕ, zero, suc, ◌<◌, List, [], ◌∷◌, length, map, slice_get, slice_index_or, Some, refl, ◌∙◌, ap, subst, arith}
+use Rattle.std.proofs.Common.{◌≡◌, ℕ, zero, suc, ◌<◌, List, [], ◌∷◌, length, map, slice_get, slice_set, slice_index_or, Some, refl, ◌∙◌, ap, subst, arith}
 use Rattle.std.proofs.lemmas.Option.{slice_get_within, get_or_from_slice_get, slice_get-get_or}
 use Rattle.lc_board.specs.Pass.{Pass, new_pass}
+use Rattle.lc_board.proofs.Places.{each_set}
 
 same_some : {A : Type 0} (x y : A) → Some x ≡ Some y → x ≡ y
 same_some x y e = cc
@@ -34,3 +35,12 @@ pub taken_in_order : {J R P Q : Type 0} (view : P → Pass J R) (owns : P → Ty
 taken_in_order view owns pass back each w p at =
     let q = mapped_from pass back w p at in
     subst (λ x. owns x × ((view x).worker ≡ w)) q.2 (each w q.0 q.1)
+
+-- and so they are where one of them made a call, which left it the board's and its worker's
+pub used_in_order : {J R P : Type 0} (view : P → Pass J R) (owns : P → Type 0) (ps : List P) (i : ℕ) (old new : P) → slice_get ps i ≡ Some old
+    → ((w : ℕ) (p : P) → slice_get ps w ≡ Some p → owns p × ((view p).worker ≡ w)) → owns new → (view new).worker ≡ (view old).worker
+    → (w : ℕ) (p : P) → slice_get (slice_set ps i new) w ≡ Some p → owns p × ((view p).worker ≡ w)
+used_in_order {P = P} view owns ps i old new here each own same =
+    each_set (λ w o. (p : P) → o ≡ Some p → owns p × ((view p).worker ≡ w)) ps i new (slice_get_within ps i old here)
+    (λ p e. let is : new ≡ p = cc e in subst (λ q. owns q × ((view q).worker ≡ i)) is (own, same ∙ (each i old here).1))
+    (λ w _. each w)

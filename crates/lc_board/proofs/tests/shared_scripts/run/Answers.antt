@@ -1,6 +1,6 @@
-use Rattle.std.proofs.Common.{◌≡◌, ◌<◌, Some, length, refl, ◌∙◌, ap, subst, arith}
+use Rattle.std.proofs.Common.{◌<◌, length, refl, ap, arith}
 use Rattle.std.proofs.lemmas.Option.{slice_get_read}
-use Rattle.lc_board.proofs.Places.{each_set}
+use Rattle.lc_board.proofs.ReturnedPasses.{used_in_order}
 use Rattle.lc_board.proofs.tests.shared_scripts.run.Goals as goal
 
 pub loop-call-init : goal.loop-call-init
@@ -14,11 +14,7 @@ expect-requires-after_bounds g c κs within =
 pub loop-call-preserved : goal.loop-call-preserved
 loop-call-preserved g c =
     let low : c.worker-worker.result < length c.loop-call.passes.items = omega (arith, c.loop-call.passes.ok.0) in
-    let was = c.loop-call.invariant.1 _ _ (slice_get_read _ _ _ _ refl low c.index_mut.ensures.value) in (
+    let here = slice_get_read _ _ _ _ refl low c.index_mut.ensures.value in (
       c.loop-call.invariant.0,
-      each_set (λ w o. (p : _) → o ≡ Some p → g.B.Shared.owns c.in_ok-board.board p × ((g.B.Pass.Token.view p).worker ≡ w)) c.loop-call.passes.items c.worker-worker.result c.expect.new.pass low
-          (λ p e.
-          let is : c.expect.new.pass ≡ p = cc e in
-          subst (λ q. g.B.Shared.owns c.in_ok-board.board q × ((g.B.Pass.Token.view q).worker ≡ c.worker-worker.result)) is (c.expect.ensures.pass, c.expect.ensures.worker ∙ was.1))
-          (λ w off p at. c.loop-call.invariant.1 w p at),
+      used_in_order g.B.Pass.Token.view (g.B.Shared.owns c.in_ok-board.board) c.loop-call.passes.items _ _ c.expect.new.pass here c.loop-call.invariant.1 c.expect.ensures.pass c.expect.ensures.worker,
     )
