@@ -95,7 +95,7 @@ fn decide_by_info<'a>(
 
 /// The attribute files that speak of a directory's entries: those of the tree from the top down, each with the depth of
 /// its directory, and that of `.git/info`. A later one overrides those before it, and that of `.git/info` overrides all.
-/// KnownMacros are `binary`, which is built in, those of the first file, where it was read as top-level, and those of
+/// The macros known are `binary`, which is built in, those of the first file, where it was read as top-level, and those of
 /// `.git/info`; a later one overrides one of its name before it.
 #[derive(Drop)]
 pub struct AttrChain {
