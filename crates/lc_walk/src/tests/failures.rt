@@ -177,7 +177,7 @@ const IGNORING: Sketch = ignoring!(File, File, File, File, File);
 
 /// What one worker asks of it, in its order: the place of the call that lists a directory or opens a file, and what is found where
 /// that call fails.
-const ASKED: [(u64, Finding); 7] = [
+const ASKED: &[(u64, Finding)] = &[
     (0, ([0, 0, 0, 0], 0, Some(b""))),
     (1, ([0, 0, 0, 0], 0, Some(b".gitignore"))),
     (4, ([2, 2, 0, 10], 3, Some(b".gitignore"))),
@@ -193,7 +193,7 @@ const CALLS: u64 = 15;
 const WHOLE: Finding = ([3, 5, 0, 34], 3, None);
 
 /// The tree with a file that can't be read, and what is then found.
-const UNREAD: [(Sketch, Finding); 5] = [
+const UNREAD: &[(Sketch, Finding)] = &[
     (
         ignoring!(Failing, File, File, File, File),
         ([0, 0, 0, 0], 0, Some(b".gitignore")),
@@ -248,7 +248,7 @@ fn check_asked<B: Shared<Job, Row>, R: Threads + Wait + Sync + Abort>(
     alloc: Global,
 ) -> Result<(), AllocError> {
     let top = IGNORING.node(alloc)?;
-    for (place, wanted) in &ASKED {
+    for (place, wanted) in ASKED {
         check_walk::<B, R>(rt, alloc, &top, *place, *wanted)?;
     }
     let begun = check_walk::<B, R>(rt, alloc, &top, CALLS, WHOLE)?;
@@ -261,7 +261,7 @@ fn check_unread<B: Shared<Job, Row>, R: Threads + Wait + Sync + Abort>(
     rt: &R,
     alloc: Global,
 ) -> Result<(), AllocError> {
-    for (tree, wanted) in &UNREAD {
+    for (tree, wanted) in UNREAD {
         let top = tree.node(alloc)?;
         check_walk::<B, R>(rt, alloc, &top, u64::MAX, *wanted)?;
     }

@@ -131,7 +131,7 @@ fn walk_gate_together<R: Threads + Wait + Sync>(
 }
 
 /// Trees of so many directories below the top, each with a file.
-const CASES: [(Sketch, u32); 2] = [(TWO, 2), (SIXTEEN, 16)];
+const CASES: &[(Sketch, u32)] = &[(TWO, 2), (SIXTEEN, 16)];
 
 /// As many workers as there are directories list them at the same time.
 fn check_together<R: Threads + Wait + Sync + Abort>(
@@ -139,8 +139,9 @@ fn check_together<R: Threads + Wait + Sync + Abort>(
     alloc: Global,
 ) -> Result<(), AllocError> {
     for (sketch, many) in CASES {
+        let many = *many;
         assert!(rt; 1 <= many && many <= 16);
-        let answer = walk_gate_together(rt, alloc, sketch, many as usize, many);
+        let answer = walk_gate_together(rt, alloc, *sketch, many as usize, many);
         let report = report_of(rt, answer)?;
         assert!(rt;
             report.faults.is_empty()

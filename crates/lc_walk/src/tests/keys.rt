@@ -34,7 +34,7 @@ fn check(rt: &impl Abort, alloc: Global, keys: &[Key]) -> Result<(), AllocError>
     Ok(())
 }
 
-const EXTENSIONS: [Key; 5] = [
+const EXTENSIONS: &[Key] = &[
     (None, TextState::Unspecified, Eol::Nul),
     (Some(b"b"), TextState::Unspecified, Eol::Nul),
     (Some(b"c"), TextState::Unset, Eol::Mixed),
@@ -44,11 +44,11 @@ const EXTENSIONS: [Key; 5] = [
 
 #[test]
 fn no_extension_before_extensions_by_bytes(rt: HostRuntime) -> Result<(), Fail> {
-    check(&rt, rt.alloc(), &EXTENSIONS)?;
+    check(&rt, rt.alloc(), EXTENSIONS)?;
     Ok(())
 }
 
-const TEXT_STATES: [Key; 5] = [
+const TEXT_STATES: &[Key] = &[
     (Some(b"c"), TextState::Set, Eol::Nul),
     (Some(b"c"), TextState::Unset, Eol::Mixed),
     (Some(b"c"), TextState::Auto, Eol::Cr),
@@ -58,11 +58,11 @@ const TEXT_STATES: [Key; 5] = [
 
 #[test]
 fn text_states_of_one_extension(rt: HostRuntime) -> Result<(), Fail> {
-    check(&rt, rt.alloc(), &TEXT_STATES)?;
+    check(&rt, rt.alloc(), TEXT_STATES)?;
     Ok(())
 }
 
-const CLASSES: [Key; 6] = [
+const CLASSES: &[Key] = &[
     (None, TextState::Auto, Eol::NoEnd),
     (None, TextState::Auto, Eol::Lf),
     (None, TextState::Auto, Eol::CrLf),
@@ -73,6 +73,6 @@ const CLASSES: [Key; 6] = [
 
 #[test]
 fn classes_of_one_extension_and_text_state(rt: HostRuntime) -> Result<(), Fail> {
-    check(&rt, rt.alloc(), &CLASSES)?;
+    check(&rt, rt.alloc(), CLASSES)?;
     Ok(())
 }

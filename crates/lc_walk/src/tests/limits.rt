@@ -24,7 +24,7 @@ const THE_FILE: Found = Found {
     ..FOUND
 };
 
-const FEW: [Case; 4] = [
+const FEW: &[Case] = &[
     (
         "one directory of one",
         Asked {
@@ -68,7 +68,7 @@ const FEW: [Case; 4] = [
 
 #[test]
 fn few_directories(rt: HostRuntime) -> Result<(), Fail> {
-    check(&rt, rt.alloc(), &FEW)?;
+    check(&rt, rt.alloc(), FEW)?;
     Ok(())
 }
 
@@ -154,7 +154,7 @@ fn check_nests<R: Threads + Wait + Sync + Abort>(
     Ok(())
 }
 
-const DEEP: [Nest; 2] = [
+const DEEP: &[Nest] = &[
     (
         "256 segments",
         256,
@@ -171,7 +171,7 @@ const DEEP: [Nest; 2] = [
 
 #[test]
 fn deep_directories(rt: HostRuntime) -> Result<(), Fail> {
-    check_nests(&rt, rt.alloc(), &DEEP)?;
+    check_nests(&rt, rt.alloc(), DEEP)?;
     Ok(())
 }
 
@@ -186,7 +186,7 @@ const EMPTY: Sketch = Sketch::File(b"");
 const IGNORED: (&[u8], Sketch) = (b".gitignore", Sketch::File(b"*\n!*/\n"));
 
 /// The last entry has a path of so many bytes.
-const LONG_PATHS: [Nest; 4] = [
+const LONG_PATHS: &[Nest] = &[
     (
         "4,096 bytes",
         15,
@@ -227,7 +227,7 @@ const LONG_PATHS: [Nest; 4] = [
 
 #[test]
 fn long_paths(rt: HostRuntime) -> Result<(), Fail> {
-    check_nests(&rt, rt.alloc(), &LONG_PATHS)?;
+    check_nests(&rt, rt.alloc(), LONG_PATHS)?;
     Ok(())
 }
 

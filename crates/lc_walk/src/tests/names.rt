@@ -3,7 +3,7 @@
 use crate::extension;
 use std::test::Fail;
 
-const CASES: [(&[u8], Option<&[u8]>); 9] = [
+const CASES: &[(&[u8], Option<&[u8]>)] = &[
     (b".gitignore", None),
     (b"x.", None),
     (b"Makefile", None),
@@ -17,7 +17,7 @@ const CASES: [(&[u8], Option<&[u8]>); 9] = [
 
 #[test]
 fn extensions(rt: HostRuntime) -> Result<(), Fail> {
-    for (name, wanted) in &CASES {
+    for (name, wanted) in CASES {
         assert!(rt; extension(name) == *wanted, "{name:?}");
     }
     Ok(())

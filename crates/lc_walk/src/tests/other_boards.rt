@@ -19,7 +19,7 @@ use std::thread::Threads;
 /// The name of a walk, its tree, and what it finds.
 type Case<'a> = (&'a str, Sketch<'a>, Wanted<'a>);
 
-const CASES: [Case; 2] = [
+const CASES: &[Case] = &[
     (
         "the top alone",
         Sketch::Dir(&[(b"a", Sketch::File(b"q"))]),
@@ -45,7 +45,7 @@ fn check_crowded<B: Shared<Job, Row>, R: Threads + Wait + Sync + Abort>(
     let options = walk_options(threads, 100);
     for (name, sketch, wanted) in CASES {
         let node = sketch.node(alloc)?;
-        check_on::<B, MemTree, R>(rt, alloc, &MemTree::new(&node), &options, name, wanted)?;
+        check_on::<B, MemTree, R>(rt, alloc, &MemTree::new(&node), &options, name, *wanted)?;
     }
     Ok(())
 }

@@ -52,11 +52,11 @@ fn check(rt: &impl Abort, report: &Report, files: &[&[u8]], faults: &[(&[u8], Fa
     );
 }
 
-const PATHS: [&[u8]; 3] = [b"d/a.c", b"d.c", b"a.c"];
+const PATHS: &[&[u8]] = &[b"d/a.c", b"d.c", b"a.c"];
 
-const IN_ORDER: [&[u8]; 3] = [b"a.c", b"d.c", b"d/a.c"];
+const IN_ORDER: &[&[u8]] = &[b"a.c", b"d.c", b"d/a.c"];
 
-const FAULTS_IN_ORDER: [(&[u8], FaultWord); 2] = [(b"", FaultWord::Read), (b"e", FaultWord::Long)];
+const FAULTS_IN_ORDER: &[(&[u8], FaultWord)] = &[(b"", FaultWord::Read), (b"e", FaultWord::Long)];
 
 #[test]
 fn lists_by_paths_bytes(rt: HostRuntime) -> Result<(), Fail> {
@@ -72,6 +72,6 @@ fn lists_by_paths_bytes(rt: HostRuntime) -> Result<(), Fail> {
         faults.push(fault(alloc, path, *word)?)?;
     }
     let report = Report::new(&tally, 3, files, faults)?;
-    check(&rt, &report, &IN_ORDER, &FAULTS_IN_ORDER);
+    check(&rt, &report, IN_ORDER, FAULTS_IN_ORDER);
     Ok(())
 }

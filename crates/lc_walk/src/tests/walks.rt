@@ -27,7 +27,7 @@ const IGNORING: Sketch = Sketch::Dir(&[
     ),
 ]);
 
-const WITH_RULES: [Case; 1] = [(
+const WITH_RULES: &[Case] = &[(
     "a tree",
     Asked {
         tree: IGNORING,
@@ -46,7 +46,7 @@ const WITH_RULES: [Case; 1] = [(
 
 #[test]
 fn rules_of_the_tree_are_applied(rt: HostRuntime) -> Result<(), Fail> {
-    check(&rt, rt.alloc(), &WITH_RULES)?;
+    check(&rt, rt.alloc(), WITH_RULES)?;
     Ok(())
 }
 
@@ -57,7 +57,7 @@ const TEXTS: Sketch = Sketch::Dir(&[
     (b"z.c", Sketch::File(b"a\r\n\r\n")),
 ]);
 
-const WITH_ATTRIBUTES: [Case; 1] = [(
+const WITH_ATTRIBUTES: &[Case] = &[(
     "a tree",
     Asked {
         tree: TEXTS,
@@ -76,7 +76,7 @@ const WITH_ATTRIBUTES: [Case; 1] = [(
 
 #[test]
 fn attributes_say_which_files_are_text(rt: HostRuntime) -> Result<(), Fail> {
-    check(&rt, rt.alloc(), &WITH_ATTRIBUTES)?;
+    check(&rt, rt.alloc(), WITH_ATTRIBUTES)?;
     Ok(())
 }
 
@@ -95,7 +95,7 @@ const PARENT: Sketch = Sketch::Dir(&[(b"d", Sketch::Dir(&[(b"..", LINE)]))]);
 
 const CLOSED_GIT: Sketch = Sketch::Dir(&[(b".git", Sketch::Closed), (b"a", LINE)]);
 
-const WITH_FAULTS: [Case; 5] = [
+const WITH_FAULTS: &[Case] = &[
     (
         "a closed top",
         Asked {
@@ -161,7 +161,7 @@ const WITH_FAULTS: [Case; 5] = [
 
 #[test]
 fn faults_are_told_and_not_counted(rt: HostRuntime) -> Result<(), Fail> {
-    check(&rt, rt.alloc(), &WITH_FAULTS)?;
+    check(&rt, rt.alloc(), WITH_FAULTS)?;
     Ok(())
 }
 
@@ -176,7 +176,7 @@ const SELF_IGNORED: Sketch = Sketch::Dir(&[
     (b"x.c", LINE),
 ]);
 
-const WITH_AN_EXCLUDE_FILE: [Case; 3] = [
+const WITH_AN_EXCLUDE_FILE: &[Case] = &[
     (
         "with it",
         Asked {
@@ -218,7 +218,7 @@ const WITH_AN_EXCLUDE_FILE: [Case; 3] = [
 
 #[test]
 fn every_rule_file_of_the_tree_overrides_the_exclude_file(rt: HostRuntime) -> Result<(), Fail> {
-    check(&rt, rt.alloc(), &WITH_AN_EXCLUDE_FILE)?;
+    check(&rt, rt.alloc(), WITH_AN_EXCLUDE_FILE)?;
     Ok(())
 }
 
@@ -236,7 +236,7 @@ const EXPORTED: Sketch = Sketch::Dir(&[
     (b"s", Sketch::Dir(&[(b"docs", LINE)])),
 ]);
 
-const FOR_AN_ARCHIVE: [Case; 2] = [
+const FOR_AN_ARCHIVE: &[Case] = &[
     (
         "an archive",
         Asked {
@@ -274,7 +274,7 @@ const FOR_AN_ARCHIVE: [Case; 2] = [
 
 #[test]
 fn an_archive_leaves_out_what_is_not_exported(rt: HostRuntime) -> Result<(), Fail> {
-    check(&rt, rt.alloc(), &FOR_AN_ARCHIVE)?;
+    check(&rt, rt.alloc(), FOR_AN_ARCHIVE)?;
     Ok(())
 }
 
@@ -298,7 +298,7 @@ const WITH_LINK: Sketch = Sketch::Dir(&[
     (b"link", Sketch::Other),
 ]);
 
-const WITH_GIT: [Case; 2] = [
+const WITH_GIT: &[Case] = &[
     (
         "its rule files",
         Asked {
@@ -328,7 +328,7 @@ const WITH_GIT: [Case; 2] = [
 
 #[test]
 fn nothing_of_git_is_counted(rt: HostRuntime) -> Result<(), Fail> {
-    check(&rt, rt.alloc(), &WITH_GIT)?;
+    check(&rt, rt.alloc(), WITH_GIT)?;
     Ok(())
 }
 
@@ -361,7 +361,7 @@ fn check_files<R: Threads + Wait + Sync + Abort>(
     Ok(())
 }
 
-const FILES: [(&[u8], u64); 4] = [
+const FILES: &[(&[u8], u64)] = &[
     (b".gitattributes", 20),
     (b"x.c", 4),
     (b"y.b", 2),
@@ -370,6 +370,6 @@ const FILES: [(&[u8], u64); 4] = [
 
 #[test]
 fn files_that_are_asked_for_stand_in_order(rt: HostRuntime) -> Result<(), Fail> {
-    check_files(&rt, rt.alloc(), TEXTS, &FILES)?;
+    check_files(&rt, rt.alloc(), TEXTS, FILES)?;
     Ok(())
 }
