@@ -43,7 +43,8 @@ module _ {I O E : Type 0} (may_give : I → ℕ → Answer → I → Type 0) (lo
   -- the request of the words had this reply
   abbrev pub Replies : List (List ℕ) → I → O → Reply → I → O → Type 0
   Replies words input out reply read wrote =
-      (faults_in words ≡ []) × ((request : Request) × Asks words request × AnswersRequest may_give loads may_take request input out reply read wrote)
+      (faults_in words ≡ [])
+      × ((request : Request) × Asks words request × AnswersRequest may_give loads may_take request input out reply read wrote)
 
   -- the words ask for a text, nothing was read, and it was shown
   abbrev pub Shows : List (List ℕ) → I → O → E → Ending → I → O → E → Type 0

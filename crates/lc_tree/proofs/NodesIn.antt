@@ -1,5 +1,5 @@
 -- The node under a name of a directory.
-use Rattle.std.proofs.Common.{◌≡◌, ℕ, ◌==◌, Bool, true, false, not, ◌&&◌, ◌||◌, cond, List, [], ◌∷◌, ◌++◌, length, map, Option, Some, None, refl, sym, ◌∙◌, ap, arith, bytes_eq}
+use Rattle.std.proofs.Common.{◌≡◌, ◌≢◌, ℕ, ◌==◌, Bool, true, false, not, ◌&&◌, ◌||◌, cond, List, [], ◌∷◌, ◌++◌, length, map, Option, Some, None, refl, sym, ◌∙◌, ap, arith, bytes_eq}
 use Rattle.std.specs.Prelude.{find, option_map, option_and_then}
 use Rattle.std.specs.List.{AllByRecursion, IsDistinct, list_any, onto_first}
 use Rattle.std.specs.Ordering.{eq_by_cmp}
@@ -50,10 +50,15 @@ no_slash true nul any e = cc
 no_slash false nul true e = cc
 no_slash false nul false e = refl
 
+pub names_below : (path name : List ℕ) → name ≢ [] → list_any (λ b. b == 47) name ≡ false → names_of_path (path_in path name) ≡ names_of_path path ++ name ∷ []
+names_below [] [] some none = absurd (some refl)
+names_below [] (b ∷ bs) some none = one_segment (b ∷ bs) none
+names_below (c ∷ cs) name some none = last_segment (c ∷ cs) name none
+
 pub names_in : (path name : List ℕ) → is_good_name name ≡ true → names_of_path (path_in path name) ≡ names_of_path path ++ name ∷ []
-names_in [] [] good = cc
-names_in [] (b ∷ bs) good = one_segment (b ∷ bs) (no_slash (is_no_name (b ∷ bs)) (list_any (λ c. c == 0) (b ∷ bs)) (list_any (λ c. c == 47) (b ∷ bs)) good)
-names_in (c ∷ cs) name good = last_segment (c ∷ cs) name (no_slash (is_no_name name) (list_any (λ b. b == 0) name) (list_any (λ b. b == 47) name) good)
+names_in path [] good = cc
+names_in path (b ∷ bs) good =
+    names_below path (b ∷ bs) (λ e. cc) (no_slash (is_no_name (b ∷ bs)) (list_any (λ c. c == 0) (b ∷ bs)) (list_any (λ c. c == 47) (b ∷ bs)) good)
 
 -- ---- the node there
 

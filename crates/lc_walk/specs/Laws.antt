@@ -51,7 +51,8 @@ OneAnswerLaw =
     (h : List (Event JobModel Row)) (rows : List (Ended Row)) (answers : ℕ → Answers) →
     Walked ask full capacity workers top h rows answers → AreWhole rows → top.path ≡ [] →
     ((i : ℕ) (e : Ended Row) → slice_get rows i ≡ Some e →
-    level ask.archive (job_of (row_of e)) (answers i) ≡ level ask.archive (job_of (row_of e)) (t (names_of_path (job_of (row_of e)).path))) →
+    level ask.archive (job_of (row_of e)) (answers i)
+    ≡ level ask.archive (job_of (row_of e)) (t (names_of_path (job_of (row_of e)).path))) →
     (depth : ℕ) → capacity ≤ depth →
     IsPermutation (walk_of ask.archive depth top t) (rows_found ask rows answers)
 
