@@ -33,6 +33,3 @@ pub use source::{Failed, Source};
 pub use std_source::{MAX_TRIES, StdSource};
 pub use totals::{Count, Eol};
 pub use whole::{WholeFault, read_whole};
-
-#[cfg(test)]
-mod tests;

@@ -32,8 +32,6 @@ mod path_segment;
 mod pattern;
 mod reading;
 mod segment;
-#[cfg(test)]
-mod tests;
 mod token;
 
 pub use candidate::Candidate;

@@ -46,6 +46,3 @@ pub use opening::{Opened, open_level};
 pub use paths::path_in;
 pub use place::Place;
 pub use unlisted::Unlisted;
-
-#[cfg(test)]
-mod tests;

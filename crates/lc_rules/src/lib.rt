@@ -31,6 +31,3 @@ pub use ignore_file::IgnoreFile;
 pub use resolver::decides_by_equations;
 pub use states::{State, TextState};
 pub use verdicts::Verdict;
-
-#[cfg(test)]
-mod tests;

@@ -28,6 +28,3 @@ pub use running::{Outcome, RunFault, run};
 pub use sink::{Sink, StdSink};
 pub use tables::table;
 pub use tables::text::table_text;
-
-#[cfg(test)]
-mod tests;

@@ -35,6 +35,3 @@ pub use read_fault::ReadFault;
 pub use sketch::Sketch;
 pub use sys_tree::SysTree;
 pub use tree::Tree;
-
-#[cfg(test)]
-mod tests;

@@ -32,6 +32,3 @@ pub use tally::{Sums, Tally, TallyRow, extension};
 pub use walk_fault::WalkFault;
 pub use walking::{walk, walk_on};
 pub use worker::{End, Worked, work};
-
-#[cfg(test)]
-mod tests;

@@ -1,0 +1,186 @@
+//! One directory's work on a sketch, and what is wanted of it.
+
+use lc_level::{Cause, CountedFiles, Desk, Job, Opened, Unlisted, count_files, open_level};
+use lc_rules::{IgnoreFile, RuleFault, TextState};
+use lc_tree::{FaultWord, MemTree, Sketch};
+use std::alloc::{AllocError, Global};
+use std::process::Abort;
+use std::sync::Arc;
+
+/// What is asked of a directory's work.
+#[derive(Clone, Copy)]
+pub(crate) struct Asked<'a> {
+    /// The tree, and the name of the directory below its top, if it isn't the top.
+    pub(crate) tree: Sketch<'a>,
+    pub(crate) below: Option<&'a [u8]>,
+    /// The rules of an exclude file.
+    pub(crate) exclude: Option<&'a [u8]>,
+    pub(crate) archive: bool,
+}
+
+/// The names of the counted files with their text states, those of the others with their faults, and the child directories.
+#[derive(Clone, Copy)]
+pub(crate) struct Level<'a> {
+    pub(crate) files: &'a [(&'a [u8], TextState)],
+    pub(crate) faults: &'a [(&'a [u8], FaultWord)],
+    pub(crate) children: &'a [&'a [u8]],
+}
+
+/// The top itself, without an exclude file, and not as an archive.
+pub(crate) fn top(tree: Sketch) -> Asked {
+    Asked {
+        tree,
+        below: None,
+        exclude: None,
+        archive: false,
+    }
+}
+
+fn exclude_file(
+    alloc: Global,
+    rules: Option<&[u8]>,
+) -> Result<Option<Arc<IgnoreFile, Global>>, AllocError> {
+    let Some(rules) = rules else {
+        return Ok(None);
+    };
+    match IgnoreFile::read(alloc, rules) {
+        Ok(file) => Ok(Some(Arc::new(alloc, file)?)),
+        Err(RuleFault::TooLong) | Err(RuleFault::Memory) => Err(AllocError),
+    }
+}
+
+/// What opening a directory answers, but for want of memory.
+pub(crate) fn open(
+    alloc: Global,
+    tree: &MemTree,
+    job: &Job,
+    archive: bool,
+    desk: &mut Desk,
+) -> Result<Result<Opened, Unlisted>, AllocError> {
+    match open_level(alloc, tree, job, archive, desk) {
+        Err(Unlisted::Broken(Cause::Memory)) => Err(AllocError),
+        answer => Ok(answer),
+    }
+}
+
+/// The job of the directory that is asked about.
+fn job_of(
+    alloc: Global,
+    tree: &MemTree,
+    asked: &Asked,
+    desk: &mut Desk,
+) -> Result<Option<Job>, AllocError> {
+    let top = Job::top(alloc, exclude_file(alloc, asked.exclude)?)?;
+    let Some(below) = asked.below else {
+        return Ok(Some(top));
+    };
+    let Ok(opened) = open(alloc, tree, &top, asked.archive, desk)? else {
+        return Ok(None);
+    };
+    for child in opened.children {
+        if child.name.as_slice() == below {
+            return Ok(Some(child.job));
+        }
+    }
+    Ok(None)
+}
+
+/// What the work on a directory found.
+#[derive(Drop)]
+struct Found {
+    counted: CountedFiles,
+    children: Vec<Vec<u8>>,
+}
+
+/// Opens the directory of the job and counts its files.
+fn work(
+    alloc: Global,
+    tree: &MemTree,
+    job: &Job,
+    archive: bool,
+    desk: &mut Desk,
+) -> Result<Result<Found, Unlisted>, AllocError> {
+    let opened = match open_level(alloc, tree, job, archive, desk) {
+        Ok(opened) => opened,
+        Err(Unlisted::Broken(Cause::Memory)) => return Err(AllocError),
+        Err(unlisted) => return Ok(Err(unlisted)),
+    };
+    let Opened {
+        job,
+        files,
+        children,
+    } = opened;
+    let mut names = Vec::new(alloc);
+    for child in children {
+        names.push(child.name)?;
+    }
+    let counted = count_files(alloc, tree, &job, files, desk)?;
+    let children = names;
+    Ok(Ok(Found { counted, children }))
+}
+
+fn are_files(found: &CountedFiles, wanted: &[(&[u8], TextState)]) -> bool {
+    found.files.len() == wanted.len()
+        && found.files.iter().zip(wanted).all(|(file, (name, text))| file.name.as_slice() == *name
+            && file.text == *text)
+}
+
+fn are_faults(found: &CountedFiles, wanted: &[(&[u8], FaultWord)]) -> bool {
+    found.faults.len() == wanted.len()
+        && found.faults.iter().zip(wanted).all(|(fault, (name, word))| fault.name.as_slice()
+            == *name
+            && fault.word == *word)
+}
+
+fn are_children(found: &[Vec<u8>], wanted: &[&[u8]]) -> bool {
+    found.len() == wanted.len()
+        && found
+            .iter()
+            .zip(wanted)
+            .all(|(child, name)| child.as_slice() == *name)
+}
+
+fn is_wanted(found: &Result<Found, Unlisted>, wanted: &Result<Level, Unlisted>) -> bool {
+    match (found, wanted) {
+        (Ok(found), Ok(level)) => {
+            are_files(&found.counted, level.files)
+                && are_faults(&found.counted, level.faults)
+                && are_children(&found.children, level.children)
+        }
+        (Err(unlisted), Err(wanted)) => unlisted == wanted,
+        (Ok(_), Err(_)) | (Err(_), Ok(_)) => false,
+    }
+}
+
+/// Works on the directory, and compares.
+pub(crate) fn check(
+    rt: &impl Abort,
+    alloc: Global,
+    case: &str,
+    asked: Asked,
+    wanted: Result<Level, Unlisted>,
+) -> Result<(), AllocError> {
+    let node = asked.tree.node(alloc)?;
+    let tree = MemTree::new(&node);
+    let mut desk = Desk::new(alloc)?;
+    let Some(job) = job_of(alloc, &tree, &asked, &mut desk)? else {
+        assert!(rt; false, "{case}: no such directory");
+        return Ok(());
+    };
+    let found = work(alloc, &tree, &job, asked.archive, &mut desk)?;
+    assert!(rt; is_wanted(&found, &wanted), "{case}");
+    Ok(())
+}
+
+/// Each tree's top is this level.
+pub(crate) fn check_tops(
+    rt: &impl Abort,
+    alloc: Global,
+    trees: &[(&str, Sketch)],
+    wanted: Level,
+) -> Result<(), AllocError> {
+    for (case, tree) in trees {
+        check(rt, alloc, case, top(*tree), Ok(wanted))?;
+    }
+    Ok(())
+}

@@ -1,0 +1,5 @@
+//! The tests of what one directory gives.
+#![tactic(auto)]
+
+#[cfg(test)]
+mod level;

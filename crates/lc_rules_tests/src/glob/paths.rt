@@ -1,0 +1,87 @@
+//! What a path and its names are, and how bytes are cut.
+
+use lc_glob::cut_at_first;
+use lc_glob::path::{depth_of, is_good_name, is_good_path, is_too_deep, is_too_long, push_name};
+use std::test::Fail;
+
+static NAMES: [(&'static [u8], bool); 12] = [
+    (b"a", true),
+    (b"...", true),
+    (b".git", true),
+    (b" ", true),
+    (b"\xff", true),
+    (b"a\n", true),
+    (b"", false),
+    (b".", false),
+    (b"..", false),
+    (b"a/b", false),
+    (b"/", false),
+    (b"a\0", false),
+];
+
+#[test]
+fn names_that_a_directory_can_have(rt: HostRuntime) {
+    for (name, is_good) in &NAMES {
+        assert!(rt; is_good_name(name) == *is_good, "{name:?}");
+    }
+}
+
+static PATHS: [(&'static [u8], bool); 10] = [
+    (b"a", true),
+    (b"a/b", true),
+    (b"a/.../c", true),
+    (b"", false),
+    (b"/a", false),
+    (b"a/", false),
+    (b"a//b", false),
+    (b"a/./b", false),
+    (b"..", false),
+    (b"a/b\0", false),
+];
+
+#[test]
+fn paths_that_a_tree_can_have(rt: HostRuntime) {
+    for (path, is_good) in &PATHS {
+        assert!(rt; is_good_path(path) == *is_good, "{path:?}");
+    }
+}
+
+#[test]
+fn longest_and_deepest_path(rt: HostRuntime) -> Result<(), Fail> {
+    let bytes = vec![in rt.alloc(); b'a'; 4097]?;
+    assert!(rt; !is_too_long(&bytes[..4096]) && is_too_long(&bytes));
+    let mut path = Vec::new(rt.alloc());
+    assert!(rt; depth_of(&path) == 0);
+    for depth in 1..=257 {
+        push_name(&mut path, b"d")?;
+        assert!(rt; depth_of(&path) == depth && is_too_deep(&path) == (depth > 256));
+    }
+    Ok(())
+}
+
+/// Names, and the path after each was pushed.
+static PUSHED: [(&'static [u8], &'static [u8]); 2] = [(b"src", b"src"), (b"main.c", b"src/main.c")];
+
+#[test]
+fn name_is_pushed_after_a_slash(rt: HostRuntime) -> Result<(), Fail> {
+    let mut path = Vec::new(rt.alloc());
+    for (name, after) in &PUSHED {
+        push_name(&mut path, name)?;
+        assert!(rt; path.as_slice() == *after, "{name:?}");
+    }
+    Ok(())
+}
+
+/// A byte, what is cut at its first place, and the two parts.
+static CUTS: [(u8, &'static [u8], (&'static [u8], Option<&'static [u8]>)); 3] = [
+    (b'=', b"eol=lf=", (b"eol", Some(b"lf="))),
+    (b'=', b"eol", (b"eol", None)),
+    (b'\n', b"\n", (b"", Some(b""))),
+];
+
+#[test]
+fn bytes_are_cut_at_the_first(rt: HostRuntime) {
+    for (byte, bytes, parts) in &CUTS {
+        assert!(rt; cut_at_first(*byte, bytes) == *parts, "{bytes:?}");
+    }
+}

@@ -1,0 +1,7 @@
+//! The tests of patterns, paths and rules.
+#![tactic(auto)]
+
+#[cfg(test)]
+mod glob;
+#[cfg(test)]
+mod rules;

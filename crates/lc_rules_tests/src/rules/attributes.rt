@@ -1,0 +1,377 @@
+//! Attribute files. `tools/cases` makes each table of cases from those of `docs/cases/attributes.tsv` whose topic
+//! is its name.
+
+use lc_rules::{AttrChain, AttrFile, RuleFault, State, TextState};
+use std::alloc::{AllocError, Global};
+use std::process::Abort;
+use std::sync::Arc;
+use std::test::Fail;
+
+/// Lines of the top file, the path of a file, an attribute, and its state.
+type Case = (&'static [u8], &'static [u8], &'static [u8], State<'static>);
+
+/// What a chain is made of, from its top on: files of directories at a depth, or none, and the file of `.git/info`.
+#[derive(Drop)]
+enum Part {
+    File(u32, &'static [u8]),
+    NoFile(u32),
+    Info(&'static [u8]),
+    NoInfo,
+}
+
+/// What a chain is made of, the path of a file, and its attribute `text`.
+type TextCase = (&'static [Part], &'static [u8], TextState);
+
+fn read(alloc: Global, bytes: &[u8], top: bool) -> Result<AttrFile, AllocError> {
+    AttrFile::read(alloc, bytes, top).map_err(|_| AllocError)
+}
+
+fn file(alloc: Global, bytes: &[u8], top: bool) -> Result<Arc<AttrFile, Global>, AllocError> {
+    Ok(Arc::new(alloc, read(alloc, bytes, top)?)?)
+}
+
+fn with_part(chain: &AttrChain, alloc: Global, part: &Part) -> Result<AttrChain, AllocError> {
+    match part {
+        Part::File(depth, lines) => {
+            chain.below(alloc, *depth, Some(file(alloc, lines, *depth == 0)?))
+        }
+        Part::NoFile(depth) => chain.below(alloc, *depth, None),
+        Part::Info(lines) => chain.with_info(alloc, Some(file(alloc, lines, true)?)),
+        Part::NoInfo => chain.with_info(alloc, None),
+    }
+}
+
+fn chain_of(alloc: Global, parts: &[Part]) -> Result<AttrChain, AllocError> {
+    let mut chain = AttrChain::top();
+    for part in parts {
+        chain = with_part(&chain, alloc, part)?;
+    }
+    Ok(chain)
+}
+
+fn is_same(a: State, b: State) -> bool {
+    match (a, b) {
+        (State::Set, State::Set) => true,
+        (State::Unset, State::Unset) => true,
+        (State::Unspecified, State::Unspecified) => true,
+        (State::Value(v), State::Value(w)) => v == w,
+        _ => false,
+    }
+}
+
+fn has_state(
+    parts: &[Part],
+    alloc: Global,
+    (path, is_dir): (&[u8], bool),
+    name: &[u8],
+    state: State,
+) -> Result<bool, AllocError> {
+    let chain = chain_of(alloc, parts)?;
+    Ok(is_same(chain.state(alloc, path, is_dir, name)?, state))
+}
+
+fn check(rt: &impl Abort, alloc: Global, cases: &[Case]) -> Result<(), AllocError> {
+    for (lines, path, name, state) in cases {
+        let holds = has_state(&[Part::File(0, lines)], alloc, (path, false), name, *state)?;
+        assert!(rt; holds, "{lines:?} at {path:?}: {name:?}");
+    }
+    Ok(())
+}
+
+fn text_of(parts: &[Part], alloc: Global, path: &[u8]) -> Result<TextState, AllocError> {
+    let chain = chain_of(alloc, parts)?;
+    Ok(chain.text(alloc, path)?)
+}
+
+fn check_texts(rt: &impl Abort, alloc: Global, cases: &[TextCase]) -> Result<(), AllocError> {
+    for (parts, path, text) in cases {
+        let found = text_of(parts, alloc, path)?;
+        assert!(rt; found == *text, "{} parts, {path:?}", parts.len());
+    }
+    Ok(())
+}
+
+// Tables are statics, since a constant is unfolded in the proof of each use; one that points at another can't be a static.
+static WORDS: [Case; 14] = [
+    (b"*.c text", b"a.c", b"text", State::Set),
+    (b"*.c -text", b"a.c", b"text", State::Unset),
+    (b"*.c text\n*.c !text", b"a.c", b"text", State::Unspecified),
+    (b"*.c eol=lf", b"a.c", b"eol", State::Value(b"lf")),
+    (b"*.c a=b=c", b"a.c", b"a", State::Value(b"b=c")),
+    (b"*.c a=", b"a.c", b"a", State::Value(b"")),
+    (b"*.c -a=b", b"a.c", b"a", State::Unset),
+    (b"*.c !a=b", b"a.c", b"a", State::Unspecified),
+    (b"*.c", b"a.c", b"a", State::Unspecified),
+    (
+        b" \t*.c\ttext  eol=lf\r\n",
+        b"a.c",
+        b"eol",
+        State::Value(b"lf"),
+    ),
+    (b"*.c a:b text", b"a.c", b"text", State::Unspecified),
+    (b"*.c text --b", b"a.c", b"text", State::Unspecified),
+    (b"*.c text =b", b"a.c", b"text", State::Unspecified),
+    (b"*.c A.b-c_9", b"a.c", b"A.b-c_9", State::Set),
+];
+
+#[test]
+fn words(rt: HostRuntime) -> Result<(), Fail> {
+    check(&rt, rt.alloc(), &WORDS)?;
+    Ok(())
+}
+
+static LINES: [Case; 8] = [
+    (b"#* text", b"#a", b"text", State::Unspecified),
+    (b"  #* text", b"#a", b"text", State::Unspecified),
+    (b"\xEF\xBB\xBFa text", b"a", b"text", State::Set),
+    (b"\n \t\r\n\na text", b"a", b"text", State::Set),
+    (b"!x text", b"x", b"text", State::Unspecified),
+    (b"\"!x\" text", b"!x", b"text", State::Unspecified),
+    (b"\\!x text", b"!x", b"text", State::Set),
+    (b"/t text", b"s/t", b"text", State::Unspecified),
+];
+
+#[test]
+fn lines(rt: HostRuntime) -> Result<(), Fail> {
+    check(&rt, rt.alloc(), &LINES)?;
+    Ok(())
+}
+
+static QUOTED_PATTERNS: [Case; 10] = [
+    (b"\"a b\" text", b"a b", b"text", State::Set),
+    (b"\"a b\"text", b"a b", b"text", State::Set),
+    (b"\"\\101\" -text", b"A", b"text", State::Unset),
+    (b"\"\\t\" text", b"\t", b"text", State::Set),
+    (
+        b"\"\\a\\b\\f\\v\\r\\n\" text",
+        b"\x07\x08\x0C\x0B\r\n",
+        b"text",
+        State::Set,
+    ),
+    (b"\"\\\"\" text", b"\"", b"text", State::Set),
+    (b"\"a text", b"\"a", b"text", State::Unspecified),
+    (b"\"\\x\" text", b"x", b"text", State::Unspecified),
+    (b"\"\\401\" text", b"\x01", b"text", State::Unspecified),
+    (b"\"[attr]m\" text", b"m", b"text", State::Unspecified),
+];
+
+#[test]
+fn quoted_patterns(rt: HostRuntime) -> Result<(), Fail> {
+    check(&rt, rt.alloc(), &QUOTED_PATTERNS)?;
+    Ok(())
+}
+
+static MACROS: [Case; 14] = [
+    (b"*.a binary", b"x.a", b"text", State::Unset),
+    (b"*.a binary", b"x.a", b"binary", State::Set),
+    (b"*.a binary\n*.a -binary", b"x.a", b"binary", State::Unset),
+    (
+        b"*.a binary\n*.a -binary",
+        b"x.a",
+        b"text",
+        State::Unspecified,
+    ),
+    (b"*.a binary=1", b"x.a", b"text", State::Unspecified),
+    (
+        b"[attr]one two\n[attr]two one x\n*.q one",
+        b"y.q",
+        b"one",
+        State::Set,
+    ),
+    (
+        b"[attr]one two\n[attr]two one x\n*.q one",
+        b"y.q",
+        b"two",
+        State::Set,
+    ),
+    (
+        b"[attr]one two\n[attr]two one x\n*.q one",
+        b"y.q",
+        b"x",
+        State::Set,
+    ),
+    (b"[attr]m m a\n*.q m", b"y.q", b"a", State::Set),
+    (b"[attr]binary x\n*.m binary", b"a.m", b"x", State::Set),
+    (
+        b"[attr]binary x\n*.m binary",
+        b"a.m",
+        b"text",
+        State::Unspecified,
+    ),
+    (
+        b"*.q m\n[attr]m a\n[attr]m b",
+        b"y.q",
+        b"a",
+        State::Unspecified,
+    ),
+    (b"[attr] a\n*.q m", b"t", b"a", State::Set),
+    (b"[attr]-m a\n*.q a", b"y.q", b"a", State::Set),
+];
+
+#[test]
+fn macros(rt: HostRuntime) -> Result<(), Fail> {
+    check(&rt, rt.alloc(), &MACROS)?;
+    Ok(())
+}
+
+static LATER_ASSIGNMENTS_DECIDE: [Case; 6] = [
+    (b"*.w text -text", b"a.w", b"text", State::Unset),
+    (b"*.w -text text", b"a.w", b"text", State::Set),
+    (b"*.v text\n*.v -text", b"a.v", b"text", State::Unset),
+    (b"*.v text\n*.x -text", b"a.v", b"text", State::Set),
+    (b"[attr]m -text\n*.v m text", b"a.v", b"text", State::Set),
+    (b"[attr]m -text\n*.v text m", b"a.v", b"text", State::Unset),
+];
+
+#[test]
+fn later_assignments_decide(rt: HostRuntime) -> Result<(), Fail> {
+    check(&rt, rt.alloc(), &LATER_ASSIGNMENTS_DECIDE)?;
+    Ok(())
+}
+
+const TEXT_LINES: [Part; 1] = [Part::File(
+    0,
+    b"*.t text=auto\n*.u text=crlf\n*.s text\n*.n -text\n*.v text\n*.v !text\nd/ text",
+)];
+
+const TEXTS: [TextCase; 7] = [
+    (&TEXT_LINES, b"b.t", TextState::Auto),
+    (&TEXT_LINES, b"b.u", TextState::Other),
+    (&TEXT_LINES, b"b.s", TextState::Set),
+    (&TEXT_LINES, b"b.n", TextState::Unset),
+    (&TEXT_LINES, b"b.v", TextState::Unspecified),
+    (&TEXT_LINES, b"b.x", TextState::Unspecified),
+    (&TEXT_LINES, b"d", TextState::Unspecified),
+];
+
+#[test]
+fn the_attribute_text(rt: HostRuntime) -> Result<(), Fail> {
+    check_texts(&rt, rt.alloc(), &TEXTS)?;
+    let of_directory = has_state(&TEXT_LINES, rt.alloc(), (b"d", true), b"text", State::Set)?;
+    assert!(rt; of_directory);
+    Ok(())
+}
+
+static MANUAL: [Part; 3] = [
+    Part::File(0, b"abc foo bar baz"),
+    Part::File(1, b"ab* merge=filfre\nabc -foo -bar\n*.c frotz"),
+    Part::NoFile(2),
+];
+
+static MANUAL_STATES: [(&'static [u8], State<'static>); 5] = [
+    (b"foo", State::Unset),
+    (b"bar", State::Unset),
+    (b"baz", State::Set),
+    (b"merge", State::Value(b"filfre")),
+    (b"frotz", State::Unspecified),
+];
+
+#[test]
+fn manual_example_states(rt: HostRuntime) -> Result<(), Fail> {
+    for (name, state) in &MANUAL_STATES {
+        let holds = has_state(&MANUAL, rt.alloc(), (b"t/abc", false), name, *state)?;
+        assert!(rt; holds, "{name:?}");
+    }
+    check_texts(
+        &rt,
+        rt.alloc(),
+        &[(&MANUAL, b"t/abc", TextState::Unspecified)],
+    )?;
+    Ok(())
+}
+
+const TOP_MACRO: [Part; 2] = [
+    Part::File(0, b"[attr]m -text"),
+    Part::File(1, b"[attr]sub -text\n*.z sub\n*.y m"),
+];
+
+const BELOW_THE_TOP: [Part; 1] = [Part::File(1, b"*.z binary")];
+
+const TOP_MACROS: [TextCase; 4] = [
+    (&TOP_MACRO, b"t/a.z", TextState::Unspecified),
+    (&TOP_MACRO, b"t/a.y", TextState::Unset),
+    (&BELOW_THE_TOP, b"t/a.z", TextState::Unset),
+    (&[], b"a", TextState::Unspecified),
+];
+
+#[test]
+fn macros_of_the_top_file_alone(rt: HostRuntime) -> Result<(), Fail> {
+    check_texts(&rt, rt.alloc(), &TOP_MACROS)?;
+    let of_name = has_state(
+        &TOP_MACRO,
+        rt.alloc(),
+        (b"t/a.z", false),
+        b"sub",
+        State::Set,
+    )?;
+    assert!(rt; of_name);
+    Ok(())
+}
+
+static INFO_FIRST: [Part; 3] = [
+    Part::Info(b"*.c text"),
+    Part::File(0, b"*.c -text"),
+    Part::File(1, b"*.c !text"),
+];
+
+#[test]
+fn info_attributes_override_the_tree(rt: HostRuntime) -> Result<(), Fail> {
+    check_texts(&rt, rt.alloc(), &[(&INFO_FIRST, b"t/a.c", TextState::Set)])?;
+    Ok(())
+}
+
+const NO_INFO: [Part; 2] = [Part::File(0, b"*.c -text"), Part::NoInfo];
+
+const INFO_LAST: [Part; 3] = [
+    Part::File(0, b"*.c -text"),
+    Part::NoInfo,
+    Part::Info(b"*.c text"),
+];
+
+const PUT_LAST: [TextCase; 2] = [
+    (&NO_INFO, b"a.c", TextState::Unset),
+    (&INFO_LAST, b"a.c", TextState::Set),
+];
+
+#[test]
+fn info_attributes_put_last(rt: HostRuntime) -> Result<(), Fail> {
+    check_texts(&rt, rt.alloc(), &PUT_LAST)?;
+    Ok(())
+}
+
+const NO_INFO_MACROS: [Part; 1] = [Part::File(0, b"[attr]m text\n*.c m")];
+
+const INFO_MACROS: [Part; 3] = [
+    Part::File(0, b"[attr]m text\n*.c m"),
+    Part::Info(b"[attr]m -text\n[attr]src text"),
+    Part::File(1, b"*.d src"),
+];
+
+const MACROS_OF_INFO: [TextCase; 3] = [
+    (&NO_INFO_MACROS, b"a.c", TextState::Set),
+    (&INFO_MACROS, b"a.c", TextState::Unset),
+    (&INFO_MACROS, b"t/a.d", TextState::Set),
+];
+
+#[test]
+fn macros_of_info_override_those_of_the_top(rt: HostRuntime) -> Result<(), Fail> {
+    check_texts(&rt, rt.alloc(), &MACROS_OF_INFO)?;
+    Ok(())
+}
+
+fn is_too_long(alloc: Global, bytes: &[u8]) -> bool {
+    matches!(AttrFile::read(alloc, bytes, true), Err(RuleFault::TooLong))
+}
+
+fn is_top(alloc: Global, bytes: &[u8], top: bool) -> Result<bool, AllocError> {
+    Ok(read(alloc, bytes, top)?.is_top())
+}
+
+#[test]
+fn at_most_a_mebibyte(rt: HostRuntime) -> Result<(), Fail> {
+    let bytes = vec![in rt.alloc(); b'a'; 1_048_577]?;
+    assert!(rt; is_too_long(rt.alloc(), &bytes));
+    assert!(rt; is_top(rt.alloc(), &bytes[1..], true)?);
+    assert!(rt; !is_top(rt.alloc(), b"a", false)?);
+    Ok(())
+}

@@ -1,0 +1,5 @@
+//! The tests of what is printed.
+#![tactic(auto)]
+
+#[cfg(test)]
+mod text;

@@ -1,0 +1,169 @@
+//! The table of a run by one worker of which a call fails, whichever it is, and of one that meets a file whose reads fail.
+
+use crate::text::asking::{Case, compare, compare_all};
+use crate::text::runs::{BUILD, FIRST_CASE, IGNORE, KEPT, LOG, RULES, SRC};
+use lc_text::Outcome;
+use lc_tree::trials::{FailingCall, FailingTree};
+use lc_tree::{MemTree, Sketch};
+use std::process::Abort;
+use std::sync::Wait;
+use std::test::Fail;
+use std::thread::Threads;
+
+const TOP_UNREAD: Case<'static> = Case {
+    name: "the_top_is_not_listed",
+    outcome: Outcome::SomeFaults,
+    lines: b"total\t*\t*\t0\t0\t0\t0\ndirectories\t0\nfault\tread\t.\n",
+    ..FIRST_CASE
+};
+
+const RULES_UNREAD: Case<'static> = Case {
+    name: "a_gitignore_that_is_not_read_as_rules",
+    outcome: Outcome::SomeFaults,
+    lines: b"total\t*\t*\t0\t0\t0\t0\ndirectories\t0\nfault\tread\t.gitignore\n",
+    ..FIRST_CASE
+};
+
+const RULES_UNCOUNTED: Case<'static> = Case {
+    name: "a_gitignore_that_is_not_counted",
+    outcome: Outcome::SomeFaults,
+    lines: b".c\t-\tcrlf\t1\t1\t0\t8\n.log\t-\tlf\t1\t1\t0\t2\ntotal\t*\t*\t2\t2\t0\t10\ndirectories\t3\nfault\tread\t.gitignore\n",
+    ..FIRST_CASE
+};
+
+const LOG_UNCOUNTED: Case<'static> = Case {
+    name: "a_kept_file_that_is_not_counted",
+    outcome: Outcome::SomeFaults,
+    lines: b"-\t-\tlf\t1\t3\t0\t24\n.c\t-\tcrlf\t1\t1\t0\t8\ntotal\t*\t*\t2\t4\t0\t32\ndirectories\t3\nfault\tread\tkeep.log\n",
+    ..FIRST_CASE
+};
+
+const SRC_UNREAD: Case<'static> = Case {
+    name: "a_directory_that_is_not_listed",
+    outcome: Outcome::SomeFaults,
+    lines: b"-\t-\tlf\t1\t3\t0\t24\n.log\t-\tlf\t1\t1\t0\t2\ntotal\t*\t*\t2\t4\t0\t26\ndirectories\t1\nfault\tread\tsrc\n",
+    ..FIRST_CASE
+};
+
+const BUILD_UNREAD: Case<'static> = Case {
+    name: "a_directory_below_it_that_is_not_listed",
+    outcome: Outcome::SomeFaults,
+    lines: b"-\t-\tlf\t1\t3\t0\t24\n.log\t-\tlf\t1\t1\t0\t2\ntotal\t*\t*\t2\t4\t0\t26\ndirectories\t2\nfault\tread\tsrc/build\n",
+    ..FIRST_CASE
+};
+
+const C_UNCOUNTED: Case<'static> = Case {
+    name: "a_file_below_that_is_not_counted",
+    outcome: Outcome::SomeFaults,
+    lines: b"-\t-\tlf\t1\t3\t0\t24\n.log\t-\tlf\t1\t1\t0\t2\ntotal\t*\t*\t2\t4\t0\t26\ndirectories\t3\nfault\tread\tsrc/build/y.c\n",
+    ..FIRST_CASE
+};
+
+/// What the worker does in turn, with its first call of the tree and the one after its last, and the table where one of these fails.
+/// A listing is one call. A file is opened, read, and read to its end. The last call is the one before 15.
+const STEPS: &[(u64, u64, Case<'static>)] = &[
+    (0, 1, TOP_UNREAD),
+    (1, 4, RULES_UNREAD),
+    (4, 7, RULES_UNCOUNTED),
+    (7, 10, LOG_UNCOUNTED),
+    (10, 11, SRC_UNREAD),
+    (11, 12, BUILD_UNREAD),
+    (12, 15, C_UNCOUNTED),
+    (15, 16, FIRST_CASE),
+];
+
+/// Where one of these calls fails, whichever it is, the run ends as the case says.
+fn compare_failing<R: Threads + Wait + Sync + AllocGlobal + Abort>(
+    rt: &R,
+    tree: &MemTree<'_>,
+    from: u64,
+    to: u64,
+    case: &Case<'_>,
+) -> Result<(), Fail> {
+    for place in from..to {
+        let call = FailingCall::new(place);
+        let failing = FailingTree { tree, call: &call };
+        compare(rt, &failing, case, 1)?;
+    }
+    Ok(())
+}
+
+#[test]
+fn each_call_of_one_worker_fails(rt: HostRuntime) -> Result<(), Fail> {
+    let node = FIRST_CASE.top.node(rt.alloc())?;
+    let tree = MemTree::new(&node);
+    for (from, to, case) in STEPS {
+        compare_failing(&rt, &tree, *from, *to, case)?;
+    }
+    Ok(())
+}
+
+/// The tree with a file that fails, once it has given its bytes, in place of each of its files.
+const FAILING_FILES: &[Case<'static>] = &[
+    Case {
+        name: "a_gitignore_that_fails",
+        top: Sketch::Dir(&[
+            (b".gitignore", Sketch::Failing(RULES)),
+            LOG,
+            KEPT,
+            BUILD,
+            SRC,
+        ]),
+        ..RULES_UNREAD
+    },
+    Case {
+        name: "an_ignored_file_that_fails",
+        top: Sketch::Dir(&[
+            IGNORE,
+            (b"a.log", Sketch::Failing(b"x\n")),
+            KEPT,
+            BUILD,
+            SRC,
+        ]),
+        ..FIRST_CASE
+    },
+    Case {
+        name: "a_kept_file_that_fails",
+        top: Sketch::Dir(&[
+            IGNORE,
+            LOG,
+            (b"keep.log", Sketch::Failing(b"k\n")),
+            BUILD,
+            SRC,
+        ]),
+        ..LOG_UNCOUNTED
+    },
+    Case {
+        name: "a_file_that_fails_in_an_ignored_directory",
+        top: Sketch::Dir(&[
+            IGNORE,
+            LOG,
+            KEPT,
+            (b"build", Sketch::Dir(&[(b"x.c", Sketch::Failing(b"x\n"))])),
+            SRC,
+        ]),
+        ..FIRST_CASE
+    },
+    Case {
+        name: "a_file_that_fails_two_levels_down",
+        top: Sketch::Dir(&[
+            IGNORE,
+            LOG,
+            KEPT,
+            BUILD,
+            (
+                b"src",
+                Sketch::Dir(&[(
+                    b"build",
+                    Sketch::Dir(&[(b"y.c", Sketch::Failing(b"int y;\r\n"))]),
+                )]),
+            ),
+        ]),
+        ..C_UNCOUNTED
+    },
+];
+
+#[test]
+fn each_file_fails(rt: HostRuntime) -> Result<(), Fail> {
+    compare_all(&rt, FAILING_FILES)
+}

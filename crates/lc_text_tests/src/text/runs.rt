@@ -1,0 +1,174 @@
+//! Runs over trees of memory: their tables, by any number of workers, and where they stop.
+
+use crate::text::asking::{Asked, Case, HEADER, PLAIN, WITH_FILES, answer_of, compare_all};
+use crate::text::streams::{WRITERS, compare_taken};
+use lc_text::trials::{Narrow, WhenFull};
+use lc_text::{Outcome, RunFault};
+use lc_tree::{MemTree, Sketch};
+use lc_walk::WalkFault;
+use std::process::Abort;
+use std::sync::Wait;
+use std::test::Fail;
+use std::thread::Threads;
+
+/// What stands in a directory: a name, and what has it.
+type Entry = (&'static [u8], Sketch<'static>);
+
+pub(super) const RULES: &[u8] = b"*.log\n!keep.log\n/build/\n";
+
+pub(super) const IGNORE: Entry = (b".gitignore", Sketch::File(RULES));
+
+pub(super) const LOG: Entry = (b"a.log", Sketch::File(b"x\n"));
+
+pub(super) const KEPT: Entry = (b"keep.log", Sketch::File(b"k\n"));
+
+pub(super) const BUILD: Entry = (b"build", Sketch::Dir(&[(b"x.c", Sketch::File(b"x\n"))]));
+
+pub(super) const SRC: Entry = (
+    b"src",
+    Sketch::Dir(&[(
+        b"build",
+        Sketch::Dir(&[(b"y.c", Sketch::File(b"int y;\r\n"))]),
+    )]),
+);
+
+const FIRST: Sketch<'static> = Sketch::Dir(&[IGNORE, LOG, KEPT, BUILD, SRC]);
+
+/// The lines of its table.
+const WHOLE: &[u8] =
+    b"-\t-\tlf\t1\t3\t0\t24\n.c\t-\tcrlf\t1\t1\t0\t8\n.log\t-\tlf\t1\t1\t0\t2\ntotal\t*\t*\t3\t5\t0\t34\ndirectories\t3\n";
+
+pub(super) const FIRST_CASE: Case<'static> = Case {
+    name: "ignored_and_kept",
+    top: FIRST,
+    asked: PLAIN,
+    outcome: Outcome::Clean,
+    lines: WHOLE,
+};
+
+const ARCHIVE: Sketch<'static> = Sketch::Dir(&[
+    (
+        b".gitattributes",
+        Sketch::File(
+            b"docs/ export-ignore\n*.tmp export-ignore\nx.tmp -export-ignore\n*.y export-ignore=1\n",
+        ),
+    ),
+    (b"a.tmp", Sketch::File(b"t\n")),
+    (b"x.tmp", Sketch::File(b"x\n")),
+    (b"b.y", Sketch::File(b"y\n")),
+    (b"docs", Sketch::Dir(&[(b"d", Sketch::File(b"d\n"))])),
+    (b"s", Sketch::Dir(&[(b"docs", Sketch::File(b"f\n"))])),
+]);
+
+const CASES: &[Case<'static>] = &[
+    FIRST_CASE,
+    Case {
+        name: "text_states_with_files",
+        top: Sketch::Dir(&[
+            (b".gitattributes", Sketch::File(b"*.c text\n*.b binary\n")),
+            (b"x.c", Sketch::File(b"a\nb\n")),
+            (b"y.b", Sketch::File(b"\0\n")),
+            (b"z.c", Sketch::File(b"a\r\n\r\n")),
+        ]),
+        asked: WITH_FILES,
+        outcome: Outcome::Clean,
+        lines: b"-\t-\tlf\t1\t2\t0\t20\n.b\tunset\tnul\t1\t1\t0\t2\n.c\tset\tlf\t1\t2\t0\t4\n.c\tset\tcrlf\t1\t2\t1\t5\ntotal\t*\t*\t4\t7\t1\t31\ndirectories\t1\nfile\t-\tlf\t2\t0\t20\t.gitattributes\nfile\tset\tlf\t2\t0\t4\tx.c\nfile\tunset\tnul\t1\t0\t2\ty.b\nfile\tset\tcrlf\t2\t1\t5\tz.c\n",
+    },
+    Case {
+        name: "a_top_that_is_not_listed",
+        top: Sketch::Closed,
+        asked: PLAIN,
+        outcome: Outcome::SomeFaults,
+        lines: b"total\t*\t*\t0\t0\t0\t0\ndirectories\t0\nfault\tread\t.\n",
+    },
+    Case {
+        name: "a_file_and_a_rule_file_that_fail",
+        top: Sketch::Dir(&[
+            (b"a.c", Sketch::File(b"x\n")),
+            (b"b.c", Sketch::Failing(b"yy\n")),
+            (
+                b"d",
+                Sketch::Dir(&[
+                    (b".gitignore", Sketch::Failing(b"")),
+                    (b"z", Sketch::File(b"z\n")),
+                ]),
+            ),
+        ]),
+        asked: PLAIN,
+        outcome: Outcome::SomeFaults,
+        lines: b".c\t-\tlf\t1\t1\t0\t2\ntotal\t*\t*\t1\t1\t0\t2\ndirectories\t1\nfault\tread\tb.c\nfault\tread\td/.gitignore\n",
+    },
+    Case {
+        name: "excluding_rules",
+        top: Sketch::Dir(&[
+            (b".gitignore", Sketch::File(b"!x.c\n")),
+            (b"x.c", Sketch::File(b"1\n")),
+            (b"y.c", Sketch::File(b"1\n")),
+        ]),
+        asked: Asked {
+            exclude: b"*.c\n",
+            ..PLAIN
+        },
+        outcome: Outcome::Clean,
+        lines: b"-\t-\tlf\t1\t1\t0\t5\n.c\t-\tlf\t1\t1\t0\t2\ntotal\t*\t*\t2\t2\t0\t7\ndirectories\t1\n",
+    },
+    Case {
+        name: "the_view_of_an_archive",
+        top: ARCHIVE,
+        asked: Asked {
+            archive: true,
+            ..PLAIN
+        },
+        outcome: Outcome::Clean,
+        lines: b"-\t-\tlf\t2\t5\t0\t83\n.tmp\t-\tlf\t1\t1\t0\t2\n.y\t-\tlf\t1\t1\t0\t2\ntotal\t*\t*\t4\t7\t0\t87\ndirectories\t2\n",
+    },
+    Case {
+        name: "no_view_of_an_archive",
+        top: ARCHIVE,
+        asked: PLAIN,
+        outcome: Outcome::Clean,
+        lines: b"-\t-\tlf\t3\t6\t0\t85\n.tmp\t-\tlf\t2\t2\t0\t4\n.y\t-\tlf\t1\t1\t0\t2\ntotal\t*\t*\t6\t9\t0\t91\ndirectories\t3\n",
+    },
+];
+
+#[test]
+fn tables_of_trees(rt: HostRuntime) -> Result<(), Fail> {
+    compare_all(&rt, CASES)
+}
+
+/// The first tree's table to a writer that stops at each place.
+fn compare_writes<R: Threads + Wait + Sync + AllocGlobal + Abort>(
+    rt: &R,
+    tree: &MemTree<'_>,
+    text: &[u8],
+    writer: (usize, WhenFull),
+) -> Result<(), Fail> {
+    for room in 0..=text.len() {
+        let mut out = Narrow::new(rt.alloc(), writer.0, room, writer.1)?;
+        let answer = answer_of(rt, tree, &PLAIN, 2, 16, &mut out)?;
+        let is_done = answer == Ok(Outcome::Clean);
+        let is_stopped = answer == Err(RunFault::Write);
+        compare_taken(rt, &out, room, text, is_done, is_stopped)?;
+    }
+    Ok(())
+}
+
+#[test]
+fn a_run_stops_at_every_place(rt: HostRuntime) -> Result<(), Fail> {
+    let node = FIRST.node(rt.alloc())?;
+    let mut text = HEADER.to_vec(rt.alloc())?;
+    text.extend_from_slice(WHOLE)?;
+    for writer in WRITERS {
+        compare_writes(&rt, &MemTree::new(&node), &text, *writer)?;
+    }
+    Ok(())
+}
+
+#[test]
+fn too_many_directories(rt: HostRuntime) -> Result<(), Fail> {
+    let node = FIRST.node(rt.alloc())?;
+    let mut out = Vec::new(rt.alloc());
+    let answer = answer_of(&rt, &MemTree::new(&node), &PLAIN, 2, 2, &mut out)?;
+    assert!(rt; answer == Err(RunFault::Walk(WalkFault::TooManyDirs)) && out.is_empty());
+    Ok(())
+}

@@ -1,0 +1,219 @@
+//! Reports, and the text of their table.
+
+use crate::text::asking::HEADER;
+use crate::text::streams::{WRITERS, compare_taken};
+use lc_census::{Count, Eol};
+use lc_rules::TextState;
+use lc_text::trials::{Narrow, WhenFull};
+use lc_text::{PrintFault, table, table_text};
+use lc_tree::FaultWord;
+use lc_walk::{FaultLine, FileLine, Report, Sums, TallyRow};
+use std::alloc::{AllocError, Global};
+use std::process::Abort;
+use std::test::Fail;
+
+/// An extension, a text state, a class, and the files, lines, blank lines and bytes.
+type Row = (Option<&'static [u8]>, TextState, Eol, [u64; 4]);
+
+/// A path, a text state, a class, and the lines, blank lines and bytes.
+type File = (&'static [u8], TextState, Eol, [u64; 3]);
+
+/// What is shown, the rows, the totals, the directories, the files, the faults, and the lines after the header.
+struct Case {
+    name: &'static str,
+    rows: &'static [Row],
+    totals: [u64; 4],
+    directories: u64,
+    files: &'static [File],
+    faults: &'static [(&'static [u8], FaultWord)],
+    lines: &'static [u8],
+}
+
+const NONE: TextState = TextState::Unspecified;
+
+const CASES: &[Case] = &[
+    Case {
+        name: "a_line_for_each_key",
+        rows: &[
+            (None, NONE, Eol::Lf, [1, 3, 0, 24]),
+            (Some(b"c"), NONE, Eol::CrLf, [1, 1, 0, 8]),
+            (Some(b"log"), NONE, Eol::Lf, [1, 1, 0, 2]),
+        ],
+        totals: [3, 5, 0, 34],
+        directories: 3,
+        files: &[],
+        faults: &[],
+        lines: b"-\t-\tlf\t1\t3\t0\t24\n.c\t-\tcrlf\t1\t1\t0\t8\n.log\t-\tlf\t1\t1\t0\t2\ntotal\t*\t*\t3\t5\t0\t34\ndirectories\t3\n",
+    },
+    Case {
+        name: "files_with_their_text_states",
+        rows: &[
+            (None, NONE, Eol::Lf, [1, 2, 0, 20]),
+            (Some(b"b"), TextState::Unset, Eol::Nul, [1, 1, 0, 2]),
+            (Some(b"c"), TextState::Set, Eol::Lf, [1, 2, 0, 4]),
+            (Some(b"c"), TextState::Set, Eol::CrLf, [1, 2, 1, 5]),
+        ],
+        totals: [4, 7, 1, 31],
+        directories: 1,
+        files: &[
+            (b".gitattributes", NONE, Eol::Lf, [2, 0, 20]),
+            (b"x.c", TextState::Set, Eol::Lf, [2, 0, 4]),
+            (b"y.b", TextState::Unset, Eol::Nul, [1, 0, 2]),
+            (b"z.c", TextState::Set, Eol::CrLf, [2, 1, 5]),
+        ],
+        faults: &[],
+        lines: b"-\t-\tlf\t1\t2\t0\t20\n.b\tunset\tnul\t1\t1\t0\t2\n.c\tset\tlf\t1\t2\t0\t4\n.c\tset\tcrlf\t1\t2\t1\t5\ntotal\t*\t*\t4\t7\t1\t31\ndirectories\t1\nfile\t-\tlf\t2\t0\t20\t.gitattributes\nfile\tset\tlf\t2\t0\t4\tx.c\nfile\tunset\tnul\t1\t0\t2\ty.b\nfile\tset\tcrlf\t2\t1\t5\tz.c\n",
+    },
+    Case {
+        name: "a_top_that_is_not_read",
+        rows: &[],
+        totals: [0, 0, 0, 0],
+        directories: 0,
+        files: &[],
+        faults: &[(b"", FaultWord::Read)],
+        lines: b"total\t*\t*\t0\t0\t0\t0\ndirectories\t0\nfault\tread\t.\n",
+    },
+    Case {
+        name: "faults_of_a_file_and_of_a_rule_file",
+        rows: &[(Some(b"c"), NONE, Eol::Lf, [1, 1, 0, 2])],
+        totals: [1, 1, 0, 2],
+        directories: 1,
+        files: &[],
+        faults: &[
+            (b"b.c", FaultWord::Read),
+            (b"d/.gitignore", FaultWord::Read),
+        ],
+        lines: b".c\t-\tlf\t1\t1\t0\t2\ntotal\t*\t*\t1\t1\t0\t2\ndirectories\t1\nfault\tread\tb.c\nfault\tread\td/.gitignore\n",
+    },
+    Case {
+        name: "every_word_and_escapes",
+        rows: &[
+            (Some(b"a\tb"), TextState::Auto, Eol::NoEnd, [1, 0, 0, 0]),
+            (Some(b"c"), TextState::Other, Eol::Cr, [1, 1, 0, 2]),
+            (Some(b"c"), TextState::Other, Eol::Mixed, [1, 1, 0, 2]),
+        ],
+        totals: [3, 2, 0, 18_446_744_073_709_551_615],
+        directories: 65_536,
+        files: &[(b"a\\b/c\n", TextState::Auto, Eol::Mixed, [1, 0, 1])],
+        faults: &[
+            (b"\x7f", FaultWord::Name),
+            (b"t", FaultWord::Twice),
+            (b"m", FaultWord::Many),
+            (b"l", FaultWord::Long),
+            (b"e", FaultWord::Endless),
+        ],
+        lines: b".a\\x09b\tauto\tnone\t1\t0\t0\t0\n.c\tother\tcr\t1\t1\t0\t2\n.c\tother\tmixed\t1\t1\t0\t2\ntotal\t*\t*\t3\t2\t0\t18446744073709551615\ndirectories\t65536\nfile\tauto\tmixed\t1\t0\t1\ta\\\\b/c\\x0a\nfault\tname\t\\x7f\nfault\ttwice\tt\nfault\tmany\tm\nfault\tlong\tl\nfault\tendless\te\n",
+    },
+];
+
+fn row_of(alloc: Global, parts: &Row) -> Result<TallyRow, AllocError> {
+    let (extension, text, eol, [files, lines, blank, bytes]) = *parts;
+    let ext = match extension {
+        Some(name) => Some(name.to_vec(alloc)?),
+        None => None,
+    };
+    Ok(TallyRow {
+        ext,
+        text,
+        eol,
+        files,
+        lines: u128::from(lines),
+        blank: u128::from(blank),
+        bytes: u128::from(bytes),
+    })
+}
+
+fn file_of(alloc: Global, parts: &File) -> Result<FileLine, AllocError> {
+    let (path, text, eol, [lines, blank, bytes]) = *parts;
+    Ok(FileLine {
+        path: path.to_vec(alloc)?,
+        text,
+        count: Count {
+            lines,
+            blank,
+            bytes,
+            eol,
+        },
+    })
+}
+
+fn rows_of(alloc: Global, case: &Case) -> Result<Vec<TallyRow>, AllocError> {
+    let mut rows = Vec::new(alloc);
+    for row in case.rows {
+        rows.push(row_of(alloc, row)?)?;
+    }
+    Ok(rows)
+}
+
+fn files_of(alloc: Global, case: &Case) -> Result<Vec<FileLine>, AllocError> {
+    let mut files = Vec::new(alloc);
+    for file in case.files {
+        files.push(file_of(alloc, file)?)?;
+    }
+    Ok(files)
+}
+
+fn faults_of(alloc: Global, case: &Case) -> Result<Vec<FaultLine>, AllocError> {
+    let mut faults = Vec::new(alloc);
+    for (path, word) in case.faults {
+        let path = path.to_vec(alloc)?;
+        faults.push(FaultLine { path, word: *word })?;
+    }
+    Ok(faults)
+}
+
+fn report_of(alloc: Global, case: &Case) -> Result<Report, AllocError> {
+    let [files, lines, blank, bytes] = case.totals;
+    let totals = Sums {
+        files,
+        lines: u128::from(lines),
+        blank: u128::from(blank),
+        bytes: u128::from(bytes),
+    };
+    Ok(Report {
+        rows: rows_of(alloc, case)?,
+        totals,
+        directories: case.directories,
+        files: files_of(alloc, case)?,
+        faults: faults_of(alloc, case)?,
+    })
+}
+
+#[test]
+fn tables(rt: HostRuntime) -> Result<(), Fail> {
+    for case in CASES {
+        let report = report_of(rt.alloc(), case)?;
+        let text = table_text(rt.alloc(), &report)?;
+        let lines = text.as_slice().strip_prefix(HEADER);
+        assert!(rt; lines == Some(case.lines), "{}", case.name);
+    }
+    Ok(())
+}
+
+fn compare_writes<R: AllocGlobal + Abort>(
+    rt: &R,
+    report: &Report,
+    text: &[u8],
+    writer: (usize, WhenFull),
+) -> Result<(), Fail> {
+    for room in 0..=text.len() {
+        let mut out = Narrow::new(rt.alloc(), writer.0, room, writer.1)?;
+        let answer = table(rt.alloc(), report, &mut out);
+        if answer == Err(PrintFault::Memory) && out.taken.is_empty() {
+            return Err(AllocError.into());
+        }
+        let is_stopped = answer == Err(PrintFault::Write);
+        compare_taken(rt, &out, room, text, answer == Ok(()), is_stopped)?;
+    }
+    Ok(())
+}
+
+#[test]
+fn a_table_stops_at_every_place(rt: HostRuntime) -> Result<(), Fail> {
+    let report = report_of(rt.alloc(), &CASES[2])?;
+    let text = table_text(rt.alloc(), &report)?;
+    for writer in WRITERS {
+        compare_writes(&rt, &report, &text, *writer)?;
+    }
+    Ok(())
+}

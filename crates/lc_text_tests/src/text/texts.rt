@@ -1,0 +1,155 @@
+//! Rules and paths, and the text of their check.
+
+use lc_rules::IgnoreFile;
+use lc_text::{CheckFault, check_joined, check_text, escape};
+use std::alloc::{AllocError, Global};
+use std::process::Abort;
+use std::test::Fail;
+
+/// What is shown, rules and paths joined, and the text.
+type Case = (&'static str, &'static [u8], &'static [u8]);
+
+const RULES: &[Case] = &[
+    (
+        "manual_example_check",
+        b"/*\n!/foo\n/foo/*\n!/foo/bar\n--\nfoo/\nother/\nfoo/x\nfoo/bar/\nfoo/bar/z\nother/y\n",
+        b"included\tfoo/\nignored\tother/\nignored\tfoo/x\nincluded\tfoo/bar/\nnone\tfoo/bar/z\nbelow\tother/y\n",
+    ),
+    (
+        "one_level_below_a_star",
+        b"foo/*\n--\nfoo/test.json\nfoo/bar/\nfoo/bar/hello.c\n",
+        b"ignored\tfoo/test.json\nignored\tfoo/bar/\nbelow\tfoo/bar/hello.c\n",
+    ),
+    (
+        "trailing_spaces_quoted",
+        b"a\\ \na\\\\ \n   \nfoo \r\n--\na \na\\\na\nfoo\n",
+        b"ignored\ta \nignored\ta\\\\\nnone\ta\nignored\tfoo\n",
+    ),
+    (
+        "plain_patterns",
+        b"*.o\n!k.o\nd/\n--\na.o\nk.o\nd/\nd\nd/x\nz\n",
+        b"ignored\ta.o\nincluded\tk.o\nignored\td/\nnone\td\nbelow\td/x\nnone\tz\n",
+    ),
+    ("a_bracket", b"[a]\n--\na", b"ignored\ta\n"),
+    (
+        "quoted_marks_classes_and_slashes",
+        b"\\#a\n\\!b\n[[:upper:]]?\np\\/q\n--\n#a\n!b\nQ1\nq1\np/q\nx/p/q\n",
+        b"ignored\t#a\nignored\t!b\nignored\tQ1\nnone\tq1\nignored\tp/q\nnone\tx/p/q\n",
+    ),
+];
+
+const LINES: &[Case] = &[
+    (
+        "bad_paths",
+        b"a\n--\na\n/a\n\na//b\n./a",
+        b"ignored\ta\nbad\t/a\nbad\t\nbad\ta//b\nbad\t./a\n",
+    ),
+    ("no_dashes_no_paths", b"a\n", b""),
+    ("nothing", b"", b""),
+    ("dashes_with_a_return", b"a\n--\r\na\n", b"ignored\ta\n"),
+    ("only_the_first_dashes_count", b"--\n--\n", b"none\t--\n"),
+    (
+        "a_return_is_part_of_a_path",
+        b"a\n--\na\r\n",
+        b"none\ta\\x0d\n",
+    ),
+    (
+        "control_bytes_are_escaped",
+        b"--\na\tb\x7f\xff",
+        b"none\ta\\x09b\\x7f\xff\n",
+    ),
+    ("a_slash_alone", b"--\n/\n", b"bad\t/\n"),
+    ("two_slashes_at_the_end", b"--\na//\n", b"bad\ta//\n"),
+    ("a_nul", b"--\na\0", b"bad\ta\\x00\n"),
+    (
+        "dots",
+        b"--\na/..\n..\n...\n",
+        b"bad\ta/..\nbad\t..\nnone\t...\n",
+    ),
+];
+
+/// Paths in runs that share directories, so that what is known of these is used.
+const RUNS: &[Case] = &[
+    (
+        "a_run_below_one_directory",
+        b"x/\n--\nx/a\nx/b\nx/y/c\nx\nx/\nxy/a\n",
+        b"below\tx/a\nbelow\tx/b\nbelow\tx/y/c\nnone\tx\nignored\tx/\nnone\txy/a\n",
+    ),
+    (
+        "up_and_down",
+        b"/a/b/c\n!/a/b/c/d\n--\na/b/c/d\na/b/e\na/b/c/d\na/bb/c/d\na/b/\na/b/c/\n",
+        b"below\ta/b/c/d\nnone\ta/b/e\nbelow\ta/b/c/d\nnone\ta/bb/c/d\nnone\ta/b/\nignored\ta/b/c/\n",
+    ),
+    (
+        "a_file_that_was_a_directory",
+        b"b\n--\na/b/c\na/b\na/bc\n",
+        b"below\ta/b/c\nignored\ta/b\nnone\ta/bc\n",
+    ),
+];
+
+fn compare<R: Abort + AllocGlobal>(rt: &R, cases: &[Case]) -> Result<(), Fail> {
+    for (name, joined, text) in cases {
+        let mut input: &[u8] = joined;
+        let mut out = Vec::with_capacity(rt.alloc(), text.len())?;
+        let answer = check_joined(rt.alloc(), &mut input, &mut out);
+        if answer == Err(CheckFault::Memory) {
+            return Err(AllocError.into());
+        }
+        assert!(rt; answer == Ok(()), "{name}");
+        assert!(rt; out.as_slice() == *text, "{name}");
+    }
+    Ok(())
+}
+
+#[test]
+fn rules_decide(rt: HostRuntime) -> Result<(), Fail> {
+    compare(&rt, RULES)
+}
+
+#[test]
+fn lines_are_read(rt: HostRuntime) -> Result<(), Fail> {
+    compare(&rt, LINES)
+}
+
+#[test]
+fn shared_directories(rt: HostRuntime) -> Result<(), Fail> {
+    compare(&rt, RUNS)
+}
+
+/// The text of one path, which is repeated so often, with slashes between.
+fn deep(alloc: Global, name: &[u8], times: usize) -> Result<Vec<u8>, AllocError> {
+    let mut path = Vec::with_capacity(alloc, 8192)?;
+    for _ in 0..times {
+        path.extend_from_slice(name)?;
+        path.extend_from_slice(b"/")?;
+    }
+    Ok(path)
+}
+
+#[test]
+fn limits_of_a_path(rt: HostRuntime) -> Result<(), Fail> {
+    let alloc = rt.alloc();
+    let Ok(rules) = IgnoreFile::read(alloc, b"**/a/b\n") else {
+        return Err(AllocError.into());
+    };
+    // 2,047 directories and a file: 4,096 bytes with the slash of a directory, which doesn't count.
+    let mut path = deep(alloc, b"a", 2048)?;
+    assert!(rt; check_text(alloc, &rules, &path)?.starts_with(b"none\ta/"));
+    path.extend_from_slice(b"bc")?;
+    assert!(rt; check_text(alloc, &rules, &path)?.starts_with(b"bad\ta/"));
+    Ok(())
+}
+
+#[test]
+fn escapes(rt: HostRuntime) -> Result<(), Fail> {
+    let cases: [(&[u8], &[u8]); 4] = [
+        (b"t\x01.c", b"t\\x01.c"),
+        (b"a\\b", b"a\\\\b"),
+        (b"", b"."),
+        (b"\x1f \x7f\xe4", b"\\x1f \\x7f\xe4"),
+    ];
+    for (path, text) in cases {
+        assert!(rt; escape(rt.alloc(), path)?.as_slice() == text);
+    }
+    Ok(())
+}

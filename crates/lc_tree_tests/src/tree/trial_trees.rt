@@ -1,0 +1,63 @@
+//! Which call of a failing tree fails, and what a read of one byte gives.
+
+use lc_census::Source;
+use lc_tree::trials::{BytewiseTree, FailingCall, FailingTree};
+use lc_tree::{MemTree, ReadFault, Sketch, Tree};
+use std::alloc::Global;
+use std::process::Abort;
+use std::test::Fail;
+
+const TOP: Sketch = Sketch::Dir(&[(b"f", Sketch::File(b"one"))]);
+
+/// How many entries the top has, whether its file is opened, and how many bytes two reads of it give.
+type Answered = [Option<usize>; 4];
+
+fn ask<T: Tree>(alloc: Global, tree: &T) -> Result<Answered, ReadFault> {
+    let listed = match tree.list(alloc, b"") {
+        Ok(listing) => Some(listing.entries().len()),
+        Err(ReadFault::Memory) => return Err(ReadFault::Memory),
+        Err(_) => None,
+    };
+    let Ok(mut file) = tree.open_file(alloc, b"f") else {
+        return Ok([listed, None, None, None]);
+    };
+    let mut buffer = [0; 2];
+    let first = file.read(&mut buffer).ok();
+    let second = file.read(&mut buffer).ok();
+    Ok([listed, Some(0), first, second])
+}
+
+/// The place of the call that fails, what is answered, and how many calls are begun.
+const FAILING: [(u64, Answered, u64); 5] = [
+    (0, [None, Some(0), Some(2), Some(1)], 4),
+    (1, [Some(1), None, None, None], 2),
+    (2, [Some(1), Some(0), None, Some(2)], 4),
+    (3, [Some(1), Some(0), Some(2), None], 4),
+    (4, [Some(1), Some(0), Some(2), Some(1)], 4),
+];
+
+fn check_failing(rt: &impl Abort, alloc: Global, tree: &MemTree) -> Result<(), ReadFault> {
+    for (place, wanted, begun) in FAILING {
+        let call = FailingCall::new(place);
+        let failing = FailingTree { tree, call: &call };
+        let same = ask(alloc, &failing)? == wanted && call.begun() == begun;
+        assert!(rt; same, "{place}");
+    }
+    Ok(())
+}
+
+#[test]
+fn one_call_fails(rt: HostRuntime) -> Result<(), Fail> {
+    let node = TOP.node(rt.alloc())?;
+    check_failing(&rt, rt.alloc(), &MemTree::new(&node))?;
+    Ok(())
+}
+
+#[test]
+fn files_give_a_byte_a_read(rt: HostRuntime) -> Result<(), Fail> {
+    let node = TOP.node(rt.alloc())?;
+    let tree = BytewiseTree(MemTree::new(&node));
+    let answered = ask(rt.alloc(), &tree)?;
+    assert!(rt; answered == [Some(1), Some(0), Some(1), Some(1)]);
+    Ok(())
+}

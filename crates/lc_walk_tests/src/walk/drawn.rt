@@ -1,0 +1,179 @@
+//! Trees of memory that are drawn from a seed, with what is known of them while they are made.
+ghost use Rattle.std.specs.Prelude.{◌<◌, ◌≤◌};
+ghost use Rattle.lc_board.specs.Limits.{workers_limit};
+
+use crate::walk::walked::{report_of, walk_options};
+use lc_board::Shared;
+use lc_level::Job;
+use lc_tree::{MemTree, Node};
+use lc_walk::{Report, Row, Sums, walk_on};
+use std::alloc::{AllocError, Global};
+use std::process::Abort;
+use std::sync::Wait;
+use std::thread::Threads;
+
+type Entries = Vec<(Vec<u8>, Node)>;
+
+/// A tree, with the sums over its files that are not ignored.
+#[derive(Drop)]
+pub(super) struct Drawn {
+    pub(super) top: Node,
+    pub(super) directories: u32,
+    pub(super) sums: Sums,
+}
+
+/// Numbers drawn by xorshift.
+#[derive(Drop)]
+struct Draws {
+    state: u64,
+}
+
+impl Draws {
+    /// The next number below a bound.
+    fn below(&mut self, bound: usize) -> usize
+        requires { 0 < bound }
+        ensures { result < bound }
+    {
+        let mut state = self.state;
+        state ^= state << 13;
+        state ^= state >> 7;
+        state ^= state << 17;
+        self.state = state;
+        state as usize % bound
+    }
+}
+
+/// The names of files, in the order in which directories have them.
+const NAMES: [&[u8]; 3] = [b"a.c", IGNORED, b"c"];
+
+const IGNORED: &[u8] = b"b.log";
+
+/// Rules for one directory alone.
+const RULES: &[u8] = b"/b.log\n";
+
+/// Up to 40 bytes, some of them line ends.
+fn draw_text(alloc: Global, draws: &mut Draws) -> Result<Vec<u8>, AllocError> {
+    let mut bytes = Vec::new(alloc);
+    for _ in 0..draws.below(41) {
+        let byte = if draws.below(5) == 0 { b'\n' } else { b'x' };
+        bytes.push(byte)?;
+    }
+    Ok(bytes)
+}
+
+/// The sums with a file of these bytes more.
+fn with_file(sums: Sums, bytes: &[u8]) -> Sums {
+    let mut sums = sums;
+    sums.files = sums.files.wrapping_add(1);
+    sums.bytes = sums.bytes.wrapping_add(bytes.len() as u128);
+    for line in bytes.split_inclusive(|byte| *byte == b'\n') {
+        sums.lines = sums.lines.wrapping_add(1);
+        if line == b"\n".as_slice() {
+            sums.blank = sums.blank.wrapping_add(1);
+        }
+    }
+    sums
+}
+
+/// One to three files, and a rule file where it is asked for.
+fn draw_files(
+    alloc: Global,
+    draws: &mut Draws,
+    sums: &mut Sums,
+    ruled: bool,
+) -> Result<Entries, AllocError> {
+    let mut entries = Vec::new(alloc);
+    if ruled {
+        *sums = with_file(*sums, RULES);
+        entries.push((
+            b".gitignore".to_vec(alloc)?,
+            Node::File(RULES.to_vec(alloc)?),
+        ))?;
+    }
+    for name in NAMES.iter().take(1 + draws.below(3)) {
+        let bytes = draw_text(alloc, draws)?;
+        if !ruled || *name != IGNORED {
+            *sums = with_file(*sums, &bytes);
+        }
+        entries.push((name.to_vec(alloc)?, Node::File(bytes)))?;
+    }
+    Ok(entries)
+}
+
+/// Hangs each directory that is left under one of those before it, or under the top.
+fn hang_all(
+    alloc: Global,
+    draws: &mut Draws,
+    left: Vec<Entries>,
+    top: Entries,
+) -> Result<Node, AllocError> {
+    let mut left = left;
+    let mut top = top;
+    for _ in 0..left.len() {
+        let Some(entries) = left.pop() else {
+            break;
+        };
+        let name = format!(in alloc; "d{}", left.len())?.into_bytes();
+        let child = (name, Node::Dir(entries));
+        let parent = draws.below(left.len() + 1);
+        match left.get_mut(parent) {
+            Some(parent) => parent.push(child)?,
+            None => top.push(child)?,
+        }
+    }
+    Ok(Node::Dir(top))
+}
+
+/// A tree of so many directories, one at least, with a rule file in every tenth.
+pub(super) fn draw_tree(alloc: Global, seed: u64, directories: u32) -> Result<Drawn, AllocError> {
+    let mut draws = Draws { state: seed };
+    let mut sums = Sums {
+        files: 0,
+        lines: 0,
+        blank: 0,
+        bytes: 0,
+    };
+    let top = draw_files(alloc, &mut draws, &mut sums, true)?;
+    let mut left = Vec::new(alloc);
+    for number in 1..directories {
+        left.push(draw_files(alloc, &mut draws, &mut sums, number % 10 == 0)?)?;
+    }
+    Ok(Drawn {
+        top: hang_all(alloc, &mut draws, left, top)?,
+        directories,
+        sums,
+    })
+}
+
+/// What is known of the tree, and no fault.
+fn has_found(report: &Report, drawn: &Drawn) -> bool {
+    report.totals == drawn.sums
+        && report.directories == u64::from(drawn.directories)
+        && report.files.len() as u64 == drawn.sums.files
+        && report.faults.is_empty()
+}
+
+/// What the walk of a drawn tree finds, with room for just its directories: what is known of it, and no fault.
+pub(super) fn walk_drawn<B: Shared<Job, Row>, R: Threads + Wait + Sync + Abort>(
+    rt: &R,
+    alloc: Global,
+    drawn: &Drawn,
+    threads: u32,
+) -> Result<Report, AllocError>
+    requires { (1 ≤ threads) × (threads ≤ workers_limit) }
+{
+    let max_dirs = drawn.directories;
+    assert!(rt; 1 <= max_dirs && max_dirs <= 1_048_576);
+    let mut options = walk_options(threads, max_dirs);
+    options.files = true;
+    let answer = walk_on::<B, MemTree, R>(rt, alloc, &MemTree::new(&drawn.top), &options);
+    let report = report_of(rt, answer)?;
+    assert!(rt;
+        has_found(&report, drawn),
+        "{threads}: {:?}, {} directories, {:?}",
+        report.totals,
+        report.directories,
+        report.faults
+    );
+    Ok(report)
+}

@@ -1,0 +1,214 @@
+//! The rows that one worker gives, over both shared boards.
+ghost use Rattle.std.specs.Prelude.{◌≡◌, None, IfOk, OnOk, length, vec_len};
+ghost use Rattle.lc_board.specs.Pass.{holding, new_pass};
+
+use crate::walk::walked::walk_options;
+use lc_board::{Claim, CloseFault, Closed, Ended, Locked, Shared, Words};
+use lc_level::{Cause, Desk, Job, Place, open_level};
+use lc_tree::{FaultWord, MemTree, Sketch, Tree};
+use lc_walk::{BrokenRow, End, Row, WalkFault, Worked, assemble, work};
+use std::alloc::{AllocError, Global};
+use std::process::Abort;
+use std::sync::Wait;
+use std::test::Fail;
+
+/// A board of four numbers for one worker, and its pass.
+fn start_one<B: Shared<Job, Row>>(alloc: Global) -> Result<(B, B::Pass), AllocError>
+    ensures crew { IfOk result (λ b. B.workers_of b.0 ≡ 1) }
+    ensures pass { IfOk result (λ b. B.owns b.0 b.1 × (B.Pass.view b.1 ≡ new_pass 0)) }
+{
+    let (board, mut passes) = B::start(alloc, 4, 1, Job::top(alloc, None)?)?;
+    let pass = passes.remove(0);
+    Ok((board, pass))
+}
+
+/// Closes the board of one worker.
+fn close_one<B: Shared<Job, Row>>(
+    rt: &impl Abort,
+    alloc: Global,
+    board: B,
+    pass: B::Pass,
+) -> Result<Closed<Row>, AllocError>
+    requires crew { B.workers_of board ≡ 1 }
+    requires pass { B.owns board pass × ((B.Pass.view pass).worker ≡ 0) }
+{
+    let mut passes = Vec::new(alloc);
+    passes.push(pass)?;
+    match board.close(passes) {
+        Ok(closed) => Ok(closed),
+        Err(fault) => {
+            assert_eq!(rt; fault, CloseFault::Memory);
+            Err(AllocError)
+        }
+    }
+}
+
+/// What a row says, but for names.
+#[derive(Clone, Copy, Debug, Drop, PartialEq, Eq)]
+enum Said {
+    /// How many files and child directories it has.
+    Listed(usize, usize),
+    Faulted(Place, FaultWord),
+    Broken(Cause),
+    /// It was given as no such row is.
+    Amiss,
+}
+
+impl Said {
+    fn by(row: &Ended<Row>) -> Said {
+        match row {
+            Ended::Returned(Row::Listed(row)) => {
+                Said::Listed(row.files().len(), row.children().len())
+            }
+            Ended::Faulted(Row::Faulted(row)) => Said::Faulted(row.place, row.word),
+            Ended::Returned(Row::Broken(row)) => Said::Broken(row.cause),
+            _ => Said::Amiss,
+        }
+    }
+}
+
+/// A row says this, or that memory was refused.
+fn check_row(rt: &impl Abort, row: &Ended<Row>, wanted: Said) -> Result<(), AllocError> {
+    let said = Said::by(row);
+    if said == Said::Broken(Cause::Memory) && said != wanted {
+        return Err(AllocError);
+    }
+    assert_eq!(rt; said, wanted);
+    Ok(())
+}
+
+/// The rows of the board of one worker say this.
+fn check_rows<B: Shared<Job, Row>>(
+    rt: &impl Abort,
+    alloc: Global,
+    board: B,
+    pass: B::Pass,
+    wanted: &[Said],
+) -> Result<Closed<Row>, AllocError>
+    requires crew { B.workers_of board ≡ 1 }
+    requires pass { B.owns board pass × ((B.Pass.view pass).worker ≡ 0) }
+    ensures { IfOk result (λ c. vec_len c.rows ≡ length wanted.now) }
+{
+    let closed = close_one(rt, alloc, board, pass)?;
+    for (row, wanted) in closed.rows.iter().zip(wanted) {
+        check_row(rt, row, *wanted)?;
+    }
+    assert_eq!(rt; closed.rows.len(), wanted.len());
+    Ok(closed)
+}
+
+const LINE: Sketch = Sketch::File(b"x\n");
+
+const LONG: [u8; 4097] = [b'a'; 4097];
+
+const EACH_KIND: Sketch = Sketch::Dir(&[
+    (b"closed", Sketch::Closed),
+    (b"deep", Sketch::Dir(&[(&LONG, LINE)])),
+    (b"file", LINE),
+    (b"listed", Sketch::Dir(&[(b"a", LINE), (b"b", LINE)])),
+]);
+
+fn check_each_kind<B: Shared<Job, Row>, R: Wait + Abort>(
+    rt: &R,
+    alloc: Global,
+) -> Result<(), AllocError> {
+    let node = EACH_KIND.node(alloc)?;
+    let (board, pass) = start_one::<B>(alloc)?;
+    let tree = MemTree::new(&node);
+    let mut options = walk_options(1, 4);
+    options.files = true;
+    let Worked { pass, end, .. } = work(rt, alloc, &board, pass, &tree, &options);
+    if end == End::Memory {
+        return Err(AllocError);
+    }
+    let wanted = [
+        Said::Listed(1, 3),
+        Said::Faulted(Place::Directory, FaultWord::Read),
+        Said::Broken(Cause::TooDeep),
+        Said::Listed(2, 0),
+    ];
+    check_rows(rt, alloc, board, pass, &wanted)?;
+    Ok(())
+}
+
+#[test]
+fn a_row_of_each_kind(rt: HostRuntime) -> Result<(), Fail> {
+    check_each_kind::<Words<Job, Row>, HostRuntime>(&rt, rt.alloc())?;
+    check_each_kind::<Locked<Job, Row>, HostRuntime>(&rt, rt.alloc())?;
+    Ok(())
+}
+
+const ONE_IN_THE_OTHER: Sketch = Sketch::Dir(&[(b"d", Sketch::Dir(&[(b"e", Sketch::Dir(&[]))]))]);
+
+/// The last child directory of a job's.
+fn last_child<T: Tree>(alloc: Global, tree: &T, job: &Job) -> Result<Job, AllocError> {
+    let mut desk = Desk::new(alloc)?;
+    let Ok(mut opened) = open_level(alloc, tree, job, false, &mut desk) else {
+        return Err(AllocError);
+    };
+    match opened.children.pop() {
+        Some(child) => Ok(child.job),
+        None => Err(AllocError),
+    }
+}
+
+/// Posts a child of the top, and then gives the top up as where memory is refused.
+fn break_top<B: Shared<Job, Row>, T: Tree, W: Wait>(
+    rt: &W,
+    alloc: Global,
+    board: &B,
+    pass: &mut B::Pass,
+    tree: &T,
+) -> Result<(), AllocError>
+    requires pass { B.owns board.now pass.old }
+    requires free { holding (B.Pass.view pass.old) ≡ None }
+    ensures pass { OnOk result (B.owns board.now pass.new) }
+    ensures free { OnOk result (holding (B.Pass.view pass.new) ≡ None) }
+    ensures worker { OnOk result ((B.Pass.view pass.new).worker ≡ (B.Pass.view pass.old).worker) }
+{
+    let Claim::Got(_, job) = board.claim(rt, pass) else {
+        return Err(AllocError);
+    };
+    let child = last_child(alloc, tree, &job)?;
+    if board.post(rt, pass, child).is_err() {
+        return Err(AllocError);
+    }
+    let cause = Cause::Memory;
+    board.give(rt, pass, Row::Broken(BrokenRow { job, cause }));
+    Ok(())
+}
+
+fn check_broken_top<B: Shared<Job, Row>, R: Wait + Abort>(
+    rt: &R,
+    alloc: Global,
+) -> Result<(), AllocError> {
+    let node = ONE_IN_THE_OTHER.node(alloc)?;
+    let tree = MemTree::new(&node);
+    let (board, mut pass) = start_one::<B>(alloc)?;
+    break_top(rt, alloc, &board, &mut pass, &tree)?;
+    let Worked { pass, end, tally } = work(rt, alloc, &board, pass, &tree, &walk_options(1, 4));
+    if end == End::Memory {
+        return Err(AllocError);
+    }
+    let wanted = [
+        Said::Broken(Cause::Memory),
+        Said::Listed(0, 1),
+        Said::Listed(0, 0),
+    ];
+    let closed = check_rows(rt, alloc, board, pass, &wanted)?;
+    let Some(tally) = tally else {
+        return Err(AllocError);
+    };
+    match assemble(alloc, closed, true, tally) {
+        Ok(report) => assert!(rt; false, "{report:?}"),
+        Err(fault) => assert_eq!(rt; fault, WalkFault::Memory),
+    }
+    Ok(())
+}
+
+#[test]
+fn a_row_that_was_refused_memory_after_a_post(rt: HostRuntime) -> Result<(), Fail> {
+    check_broken_top::<Words<Job, Row>, HostRuntime>(&rt, rt.alloc())?;
+    check_broken_top::<Locked<Job, Row>, HostRuntime>(&rt, rt.alloc())?;
+    Ok(())
+}
