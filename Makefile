@@ -21,8 +21,9 @@ crates/lc/out/cpu: FORCE
 run: lc
 	@./lc count .
 
+# rt alone would run fewer checks side by side, since it counts a check's memory for more than it takes
 test: rt
-	rt ci
+	RT_JOBS=$${RT_JOBS:-$$(tools/build --cores)} rt ci
 
 # each allocation of the tests fails in turn; every public call that takes memory has a test
 test-memory: rt

@@ -6,6 +6,11 @@ import re
 TOP = pathlib.Path(__file__).resolve().parent.parent
 
 
+def crates():
+    """The folders of the crates but those of tests alone."""
+    return sorted(it for it in (TOP / "crates").iterdir() if it.is_dir() and not it.name.endswith("_tests"))
+
+
 def exported(folder):
     """The names and the modules that a library gives to others; None for a program."""
     lib = folder / "src" / "lib.rt"
