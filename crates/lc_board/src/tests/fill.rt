@@ -153,7 +153,7 @@ fn work_all<B: Shared<Job, Row>, R: Threads + Wait + Sync>(
 
 /// Each number ended with its own row, and the root alone has no path.
 fn are_own<R: Abort>(rt: &R, capacity: u32, rows: &[Ended<Row>]) {
-    assert_eq!(rt; rows.len(), capacity as usize);
+    assert!(rt; rows.len() == capacity as usize);
     for (number, row) in rows.iter().enumerate() {
         let own = match row {
             Ended::Returned(row) => {

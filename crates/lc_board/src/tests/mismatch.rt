@@ -15,6 +15,6 @@ fn passes_of_another_board(rt: HostRuntime) -> Result<(), Fail> {
     let pass = &mut passes[0];
     expect(&rt, &board, pass, Call::Claim(0), Told::Got(0, ROOT))?;
     expect(&rt, &board, pass, Call::Give(0, 1), Told::Done)?;
-    assert_eq!(rt; board.close(others), Err(CloseFault::Mismatch(0)));
+    assert!(rt; board.close(others) == Err(CloseFault::Mismatch(0)));
     Ok(())
 }

@@ -66,7 +66,7 @@ impl From<Result<u32, PostFault<u32>>> for Told {
 
 /// A call answered what it is to answer.
 pub fn says<R: Abort>(rt: &R, call: Call, answer: Told, told: Told) {
-    assert_eq!(rt; answer, told, "{call:?}");
+    assert!(rt; answer == told, "{call:?}");
 }
 
 /// A call answered what it is to answer, if there was memory for it.
@@ -86,7 +86,7 @@ pub fn has_rows<R: Abort>(
     rows: &[Ended<u32>],
 ) -> Result<(), AllocError> {
     match closed {
-        Ok(closed) => assert_eq!(rt; closed.rows.as_slice(), rows),
+        Ok(closed) => assert!(rt; closed.rows.as_slice() == rows),
         Err(CloseFault::Memory) => return Err(AllocError),
         Err(fault) => assert!(rt; false, "{fault:?}"),
     }

@@ -81,7 +81,7 @@ fn scripts_on<B: Shared<u32, u32>, R: Wait + Abort>(
     has_rows(rt, run::<B, R>(rt, alloc, 1, 1, &FULL)?, &RETURNED)?;
     has_rows(rt, run::<B, R>(rt, alloc, 1, 1, &FAULT)?, &FAULTED)?;
     let unfinished = run::<B, R>(rt, alloc, 2, 1, &OWN_POST)?;
-    assert_eq!(rt; unfinished, Err(CloseFault::Unfinished(1)));
+    assert!(rt; unfinished == Err(CloseFault::Unfinished(1)));
     Ok(())
 }
 

@@ -31,9 +31,8 @@ fn both_bodies_agree_at_every_place_of_a_vector(rt: HostRuntime) {
             let want = if place == 0 { first } else { inside };
             let end = if place < 58 { 64 } else { 128 };
             bytes[place..place + 6].copy_from_slice(&word);
-            assert_eq!(&rt;
-                scan_lanes(Scan::new(), &bytes[..end]),
-                want,
+            assert!(&rt;
+                scan_lanes(Scan::new(), &bytes[..end]) == want,
                 "word {number} at {place}"
             );
             bytes[place..place + 6].copy_from_slice(b"xxxxxx");
@@ -46,5 +45,5 @@ fn scans_go_on_where_another_stopped(rt: HostRuntime) {
     let after_cr = scan_plain(Scan::new(), b"\r");
     let by_lanes = scan_lanes(after_cr, b"\n");
     let by_bytes = scan_plain(after_cr, b"\n");
-    assert_eq!(&rt; (by_lanes.crlf, by_lanes.blank, by_bytes.crlf), (1, 1, 1));
+    assert!(&rt; (by_lanes.crlf, by_lanes.blank, by_bytes.crlf) == (1, 1, 1));
 }

@@ -21,8 +21,8 @@ const AB: Outcome = Ok(Count {
 
 /// A count answered so, by so many reads.
 fn says(rt: &impl Abort, name: &str, found: Outcome, made: u64, want: Outcome, reads: u64) {
-    assert_eq!(rt; found, want, "{name}");
-    assert_eq!(rt; made, reads, "{name}");
+    assert!(rt; found == want, "{name}");
+    assert!(rt; made == reads, "{name}");
 }
 
 /// The same, but that want of memory is passed up, after which no read was made.
@@ -116,7 +116,7 @@ fn counts_a_slice_and_a_reader_of_std(rt: HostRuntime) -> Result<(), Fail> {
     let mut reader = StdSource(b"a\r\nb\n".as_slice());
     let found = count(rt.alloc(), &mut reader);
     answers(&rt, "a reader of std", found, 0, TWO_LINES, 0)?;
-    assert_eq!(&rt; (slice.len(), reader.0.len()), (0, 0));
+    assert!(&rt; (slice.len(), reader.0.len()) == (0, 0));
     Ok(())
 }
 

@@ -14,7 +14,7 @@ fn gives<S: Source>(rt: &impl Abort, reader: &mut S, room: usize, want: &[u8])
         Ok(count) => Ok(&buffer[..count]),
         Err(failed) => Err(failed),
     };
-    assert_eq!(rt; found, Ok(want), "into {room}");
+    assert!(rt; found == Ok(want), "into {room}");
 }
 
 #[test]
@@ -32,7 +32,7 @@ fn fails_after_its_bytes(rt: HostRuntime) {
     gives(&rt, &mut reader, 2, b"ab");
     gives(&rt, &mut reader, 2, b"c");
     for time in 1..3 {
-        assert_eq!(&rt; reader.read(&mut [0u8; 2]), Err(Failed), "time {time}");
+        assert!(&rt; reader.read(&mut [0u8; 2]) == Err(Failed), "time {time}");
     }
 }
 
@@ -49,5 +49,5 @@ fn counts_reads(rt: HostRuntime) {
     gives(&rt, &mut reader, 2, b"ab");
     gives(&rt, &mut reader, 7, b"cde");
     gives(&rt, &mut reader, 1, b"");
-    assert_eq!(&rt; (reader.reads, reader.longest), (3, 7));
+    assert!(&rt; (reader.reads, reader.longest) == (3, 7));
 }

@@ -37,7 +37,7 @@ fn close_one<B: Shared<Job, Row>>(
     match board.close(passes) {
         Ok(closed) => Ok(closed),
         Err(fault) => {
-            assert_eq!(rt; fault, CloseFault::Memory);
+            assert!(rt; fault == CloseFault::Memory);
             Err(AllocError)
         }
     }
@@ -73,7 +73,7 @@ fn check_row(rt: &impl Abort, row: &Ended<Row>, wanted: Said) -> Result<(), Allo
     if said == Said::Broken(Cause::Memory) && said != wanted {
         return Err(AllocError);
     }
-    assert_eq!(rt; said, wanted);
+    assert!(rt; said == wanted);
     Ok(())
 }
 
@@ -93,7 +93,7 @@ fn check_rows<B: Shared<Job, Row>>(
     for (row, wanted) in closed.rows.iter().zip(wanted) {
         check_row(rt, row, *wanted)?;
     }
-    assert_eq!(rt; closed.rows.len(), wanted.len());
+    assert!(rt; closed.rows.len() == wanted.len());
     Ok(closed)
 }
 
@@ -201,7 +201,7 @@ fn check_broken_top<B: Shared<Job, Row>, R: Wait + Abort>(
     };
     match assemble(alloc, closed, true, tally) {
         Ok(report) => assert!(rt; false, "{report:?}"),
-        Err(fault) => assert_eq!(rt; fault, WalkFault::Memory),
+        Err(fault) => assert!(rt; fault == WalkFault::Memory),
     }
     Ok(())
 }

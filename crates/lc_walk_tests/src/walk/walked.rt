@@ -118,7 +118,7 @@ pub(super) fn report_of(
     match answer {
         Ok(report) => Ok(report),
         Err(fault) => {
-            assert_eq!(rt; fault, WalkFault::Memory);
+            assert!(rt; fault == WalkFault::Memory);
             Err(AllocError)
         }
     }
