@@ -1,6 +1,7 @@
 /* Loaded before a program: makes the call FAILING_NUMBER, the first being 1, of the function FAILING_CALL fail with the error
-   FAILING_ERRNO, and keeps how often each function was called in the file that COUNT_FILE names, as longs in the order of
-   `names`. For tools/test-faults. */
+   FAILING_ERRNO, and where FAILING_ON is set all later ones too. With SHORT set, reads and writes take a byte at most. The file that
+   COUNT_FILE names then has how often each function was called, as longs in the order of `names`, and the path of the first call that
+   failed, ended by a NUL. For tools/test-faults. */
 #define _GNU_SOURCE
 #include <dirent.h>
 #include <dlfcn.h>
@@ -9,6 +10,7 @@
 #include <pthread.h>
 #include <stdarg.h>
 #include <stdatomic.h>
+#include <stdio.h>
 #include <stdlib.h>
 #include <string.h>
 #include <sys/mman.h>
@@ -16,10 +18,18 @@
 #include <sys/types.h>
 #include <unistd.h>
 
-enum { OPEN, GETDENTS, STATX, READ, WRITE, PTHREAD_CREATE, ALLOCATION, FUNCTIONS };
-static const char *names[FUNCTIONS] = {"open", "getdents64", "statx", "read", "write", "pthread_create", "allocation"};
+enum { OPEN, OPENAT, GETDENTS, STATX, READ, WRITE, CLOSE, PTHREAD_CREATE, ALLOCATION, FUNCTIONS };
+static const char *names[FUNCTIONS] = {"open",  "openat", "getdents64",     "statx",     "read",
+                                       "write", "close",  "pthread_create", "allocation"};
+
+struct record {
+  atomic_long counts[FUNCTIONS];
+  char path[4200];
+};
 
 static int (*real_open)(const char *, int, ...);
+static int (*real_openat)(int, const char *, int, ...);
+static int (*real_close)(int);
 static ssize_t (*real_getdents64)(int, void *, size_t);
 static int (*real_statx)(int, const char *, int, unsigned, struct statx *);
 static ssize_t (*real_read)(int, void *, size_t);
@@ -31,24 +41,28 @@ static void *(*real_calloc)(size_t, size_t);
 static void *(*real_aligned_alloc)(size_t, size_t);
 static int (*real_posix_memalign)(void **, size_t, size_t);
 
-static atomic_long own_counts[FUNCTIONS];
-static atomic_long *counts = own_counts;
+static struct record own_record;
+static struct record *record = &own_record;
 static int failing = -1;
 static long number = -1;
 static int error = EIO;
+static int goes_on;
+static int is_short;
 
 static void count_in_file(const char *name) {
   int file = real_open(name, O_RDWR | O_CREAT | O_TRUNC, 0600);
-  if (file < 0 || ftruncate(file, sizeof own_counts) != 0)
+  if (file < 0 || ftruncate(file, sizeof own_record) != 0)
     return;
-  void *shared = mmap(NULL, sizeof own_counts, PROT_READ | PROT_WRITE, MAP_SHARED, file, 0);
+  void *shared = mmap(NULL, sizeof own_record, PROT_READ | PROT_WRITE, MAP_SHARED, file, 0);
   if (shared != MAP_FAILED)
-    counts = shared;
-  close(file);
+    record = shared;
+  real_close(file);
 }
 
 __attribute__((constructor)) static void begin(void) {
   real_open = dlsym(RTLD_NEXT, "open");
+  real_openat = dlsym(RTLD_NEXT, "openat");
+  real_close = dlsym(RTLD_NEXT, "close");
   real_getdents64 = dlsym(RTLD_NEXT, "getdents64");
   real_statx = dlsym(RTLD_NEXT, "statx");
   real_read = dlsym(RTLD_NEXT, "read");
@@ -66,10 +80,12 @@ __attribute__((constructor)) static void begin(void) {
   if (text)
     count_in_file(text);
   for (int i = 0; i < FUNCTIONS; i++)
-    atomic_store(&counts[i], 0);
+    atomic_store(&record->counts[i], 0);
   text = getenv("FAILING_NUMBER");
   if (text)
     number = atol(text);
+  goes_on = getenv("FAILING_ON") != NULL;
+  is_short = getenv("SHORT") != NULL;
   text = getenv("FAILING_CALL");
   for (int i = 0; text && i < FUNCTIONS; i++)
     if (strcmp(text, names[i]) == 0)
@@ -77,10 +93,32 @@ __attribute__((constructor)) static void begin(void) {
 }
 
 static int fails(int function) {
-  if (atomic_fetch_add(&counts[function], 1) + 1 != number || function != failing)
+  long made = atomic_fetch_add(&record->counts[function], 1) + 1;
+  if (function != failing || number < 1 || !(made == number || (goes_on && made > number)))
     return 0;
   errno = error;
   return 1;
+}
+
+/* The same of a call that is given a path. */
+static int fails_at(int function, const char *path) {
+  int found = fails(function);
+  if (found && !record->path[0])
+    strncpy(record->path, path, sizeof record->path - 1);
+  return found;
+}
+
+/* The same of a call that is given a file, whose path is that by which it was opened. */
+static int fails_in(int function, int file) {
+  int found = fails(function);
+  if (found && !record->path[0]) {
+    char link[40];
+    snprintf(link, sizeof link, "/proc/self/fd/%d", file);
+    if (readlink(link, record->path, sizeof record->path - 1) < 0)
+      record->path[0] = '?';
+    errno = error;
+  }
+  return found;
 }
 
 int open(const char *path, int flags, ...) {
@@ -88,23 +126,38 @@ int open(const char *path, int flags, ...) {
   va_start(rest, flags);
   mode_t mode = va_arg(rest, mode_t);
   va_end(rest);
-  return fails(OPEN) ? -1 : real_open(path, flags, mode);
+  return fails_at(OPEN, path) ? -1 : real_open(path, flags, mode);
+}
+
+int openat(int directory, const char *path, int flags, ...) {
+  va_list rest;
+  va_start(rest, flags);
+  mode_t mode = va_arg(rest, mode_t);
+  va_end(rest);
+  return fails_at(OPENAT, path) ? -1 : real_openat(directory, path, flags, mode);
+}
+
+int close(int file) {
+  int failed = fails(CLOSE), closed = real_close(file);
+  if (failed)
+    errno = error;
+  return failed ? -1 : closed;
 }
 
 ssize_t getdents64(int file, void *buffer, size_t size) {
-  return fails(GETDENTS) ? -1 : real_getdents64(file, buffer, size);
+  return fails_in(GETDENTS, file) ? -1 : real_getdents64(file, buffer, size);
 }
 
 int statx(int directory, const char *path, int flags, unsigned mask, struct statx *found) {
-  return fails(STATX) ? -1 : real_statx(directory, path, flags, mask, found);
+  return fails_at(STATX, path) ? -1 : real_statx(directory, path, flags, mask, found);
 }
 
 ssize_t read(int file, void *buffer, size_t size) {
-  return fails(READ) ? -1 : real_read(file, buffer, size);
+  return fails_in(READ, file) ? -1 : real_read(file, buffer, is_short && size > 1 ? 1 : size);
 }
 
 ssize_t write(int file, const void *buffer, size_t size) {
-  return fails(WRITE) ? -1 : real_write(file, buffer, size);
+  return fails(WRITE) ? -1 : real_write(file, buffer, is_short && size > 1 ? 1 : size);
 }
 
 int pthread_create(pthread_t *thread, const pthread_attr_t *attributes, void *(*run)(void *), void *argument) {

@@ -262,29 +262,62 @@ def extension(path):
     return name[dot + 1:] if dot > 0 and dot + 1 < len(name) else None
 
 
+class Fault(Exception):
+    """What can't be read of a directory, by its path."""
+
+
 class Walk:
-    """The recursive walk of a tree: a dictionary of names, a folder a dictionary, a file its bytes, anything else None."""
+    """The recursive walk of a tree: a dictionary of names, a folder a dictionary, a file its bytes, anything else None.
 
-    def __init__(self, tree, archive=False, exclude=b""):
-        self.files, self.directories, self.archive = [], 0, archive
-        info = tree.get(b".git")
-        info = info.get(b"info") if isinstance(info, dict) else None
-        info = info if isinstance(info, dict) else {}
-        rules = [(0, *rule) for text in (exclude, self.file(info, b"exclude")) for rule in rules_of(text)]
-        self.info, self.macros = attribute_lines(self.file(info, b"attributes"), True)
-        self.level(tree, b"", rules, [], {b"binary": [(b"diff", b"unset"), (b"merge", b"unset"), (b"text", b"unset")]})
+    `failing` has what can't be read: pairs of "list" and a directory's path, "rules" or "count" and a file's.
+    """
 
-    @staticmethod
-    def file(entries, name):
-        return entries[name] if isinstance(entries.get(name), bytes) else b""
+    def __init__(self, tree, archive=False, exclude=b"", failing=()):
+        self.files, self.faults, self.directories, self.archive, self.failing = [], [], 0, archive, failing
+        try:
+            info = self.info_of(tree)
+            rules = [(0, *rule) for text in (exclude, self.rules_in(info, b".git/info/", b"exclude")) for rule in rules_of(text)]
+            self.info, self.macros = attribute_lines(self.rules_in(info, b".git/info/", b"attributes"), True)
+        except Fault as fault:
+            self.faults.append(fault.args[0])
+            return
+        self.walk(tree, b"", rules, [], {b"binary": [(b"diff", b"unset"), (b"merge", b"unset"), (b"text", b"unset")]})
+
+    def info_of(self, tree):
+        """The entries of .git/info, none where that is no directory."""
+        found = tree
+        for path, name in ((b".", b".git"), (b".git", b"info"), (b".git/info", None)):
+            self.ask("list", path)
+            if name is not None:
+                found = found.get(name)
+                if not isinstance(found, dict):
+                    return {}
+        return found
+
+    def ask(self, what, path):
+        if (what, path) in self.failing:
+            raise Fault(path)
+
+    def rules_in(self, entries, above, name):
+        if not isinstance(entries.get(name), bytes):
+            return b""
+        self.ask("rules", above + name)
+        return entries[name]
+
+    def walk(self, entries, above, rules, lines, macros):
+        try:
+            self.ask("list", above[:-1] or b".")
+            rule_file, attribute_file = (self.rules_in(entries, above, name) for name in (b".gitignore", b".gitattributes"))
+        except Fault as fault:
+            self.faults.append(fault.args[0])
+            return
+        offset = len(above)
+        own, own_macros = attribute_lines(attribute_file, not above)
+        rules = rules + [(offset, *rule) for rule in rules_of(rule_file)]
+        self.level(entries, above, rules, lines + [(offset, *line) for line in own], {**macros, **own_macros})
 
     def level(self, entries, above, rules, lines, macros):
         self.directories += 1
-        offset = len(above)
-        rules = rules + [(offset, *rule) for rule in rules_of(self.file(entries, b".gitignore"))]
-        own, own_macros = attribute_lines(self.file(entries, b".gitattributes"), not above)
-        lines = lines + [(offset, *line) for line in own]
-        macros = {**macros, **own_macros}
         for name, entry in entries.items():
             path, is_dir = above + name, isinstance(entry, dict)
             if name == b".git" or entry is None or verdict_of(rules, path, is_dir) == b"ignored":
@@ -293,7 +326,9 @@ class Walk:
             if self.archive and states.get(b"export-ignore") == b"set":
                 continue
             if is_dir:
-                self.level(entry, path + b"/", rules, lines, macros)
+                self.walk(entry, path + b"/", rules, lines, macros)
+            elif ("count", path) in self.failing:
+                self.faults.append(path)
             else:
                 self.files.append((path, text_state(states.get(b"text", b"unspecified")), *census(entry)))
 
@@ -315,4 +350,5 @@ class Walk:
         out.append(b"directories\t%d" % self.directories)
         for path, text, lines, blank, size, eol in sorted(self.files):
             out.append(b"\t".join([b"file", text.encode(), eol.encode(), *(b"%d" % it for it in (lines, blank, size)), escaped(path)]))
+        out += [b"fault\tread\t" + escaped(path) for path in sorted(self.faults)]
         return b"\n".join(out) + b"\n"
