@@ -5,7 +5,7 @@ PREFIX ?= /usr/local
 CPU ?= $(or $(shell cat crates/lc/out/cpu 2> /dev/null),x86-64-v2)
 SHELL := /bin/bash
 
-.PHONY: run test test-memory test-program test-faults test-fuzz install clean rt FORCE
+.PHONY: run test test-memory test-program test-git test-faults test-fuzz install clean rt FORCE
 
 lc: $(shell find crates -name out -prune -o -type f -print 2>/dev/null) crates.txt tools/build crates/lc/out/cpu | rt
 	@echo "make: proves lc and all that it stands on, then builds it for $(CPU): some minutes the first time, seconds after an edit"
@@ -35,6 +35,10 @@ test-program: lc
 	tools/cases
 	tools/definitions
 	tools/test-program
+
+# random rules and trees through git, a fixed small part of them
+test-git: lc
+	tools/test-git
 
 # each call of the system that a run makes fails in turn, with each of its errors; then trees and rules that are as large as they can
 # be, and a tree that changes while it is walked
