@@ -5,7 +5,7 @@ PREFIX ?= /usr/local
 CPU ?= $(or $(shell cat crates/lc/out/cpu 2> /dev/null),x86-64-v2)
 SHELL := /bin/bash
 
-.PHONY: run test test-memory test-program test-git test-faults test-fuzz install clean rt FORCE
+.PHONY: run test test-memory test-program test-git test-faults test-fuzz install uninstall dist deb clean rt FORCE
 
 lc: $(shell find crates -name out -prune -o -type f -print 2>/dev/null) crates.txt tools/build crates/lc/out/cpu | rt
 	@echo "make: proves lc and all that it stands on, then builds it for $(CPU): some minutes the first time, seconds after an edit"
@@ -34,6 +34,8 @@ test-memory: rt
 test-program: lc
 	tools/cases
 	tools/definitions
+	tools/edits
+	tools/examples
 	tools/test-program
 
 # random rules and trees through git, a fixed small part of them
@@ -51,15 +53,27 @@ test-faults: lc
 test-fuzz: lc
 	tools/test-fuzz
 
-install: lc
+# these take ./lc as it is, and make it only where there is none
+install: $(if $(wildcard lc),,lc)
 	install -D -m 755 lc $(DESTDIR)$(PREFIX)/bin/lc
 	install -D -m 644 man/lc.1 $(DESTDIR)$(PREFIX)/share/man/man1/lc.1
 	install -D -m 644 completions/lc.bash $(DESTDIR)$(PREFIX)/share/bash-completion/completions/lc
 	install -D -m 644 completions/_lc $(DESTDIR)$(PREFIX)/share/zsh/site-functions/_lc
 	install -D -m 644 completions/lc.fish $(DESTDIR)$(PREFIX)/share/fish/vendor_completions.d/lc.fish
 
+uninstall:
+	rm -f $(addprefix $(DESTDIR)$(PREFIX)/,bin/lc share/man/man1/lc.1 share/bash-completion/completions/lc \
+	  share/zsh/site-functions/_lc share/fish/vendor_completions.d/lc.fish)
+
+# in dist/, with their checksums: a tarball, and a package for Debian
+dist: $(if $(wildcard lc),,lc)
+	tools/dist tarball
+
+deb: $(if $(wildcard lc),,lc)
+	tools/dist deb
+
 clean:
-	rm -rf lc crates/*/out bench/*/data
+	rm -rf lc dist crates/*/out bench/*/data
 
 rt:
 	@command -v rt > /dev/null || { echo "make: the Rattle kit's command rt is not on the PATH; install the kit that README.md names, and put its folder bin on the PATH" >&2; exit 1; }

@@ -1,15 +1,21 @@
 # Completions of lc for bash.
 
 _lc() {
-  local current=${COMP_WORDS[COMP_CWORD]} previous=${COMP_WORDS[COMP_CWORD - 1]}
+  local current=${COMP_WORDS[COMP_CWORD]} option=${COMP_WORDS[COMP_CWORD - 1]}
   COMPREPLY=()
   if [ "$COMP_CWORD" -eq 1 ]; then
     mapfile -t COMPREPLY < <(compgen -W 'count check help --help --version' -- "$current")
     return
   fi
+  # bash takes the = of --threads=8 as a word
+  if [ "$current" = = ]; then
+    current=
+  elif [ "$option" = = ]; then
+    option=${COMP_WORDS[COMP_CWORD - 2]}
+  fi
   case ${COMP_WORDS[1]} in
     count)
-      case $previous in
+      case $option in
         --threads) mapfile -t COMPREPLY < <(compgen -W '1 2 4 8 16' -- "$current") ;;
         --max-dirs) mapfile -t COMPREPLY < <(compgen -W '65536 1048576' -- "$current") ;;
         --exclude-from) mapfile -t COMPREPLY < <(compgen -f -- "$current") ;;
