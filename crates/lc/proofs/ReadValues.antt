@@ -2,8 +2,8 @@
 use Rattle.std.proofs.Common.{◌++◌, ◌||◌, ◌≡◌, ◌∙◌, ◌<◌, ◌≤◌, ap, ℕ, zero, suc, Bool, true, false, List, [], ◌∷◌, length, Option, Some, None, refl, sym, subst, inl, inr, arith}
 use Rattle.std.specs.List.{All, slice_index_or}
 use Rattle.std.specs.Str.{bytes_eq}
-use Rattle.std.specs.Prelude.{option_map, slice_get, unwrap_or, ◌^◌, Result, pos, IfSome}
-use Rattle.std.specs.Str.Parse.{ParsesUnsigned}
+use Rattle.std.specs.Prelude.{option_map, slice_get, unwrap_or, ◌^◌, Result, Ok, pos}
+use Rattle.std.specs.Str.Parse.{ParsesUnsigned, digits_value, without_leading_plus}
 use Rattle.clap.specs.Lexer.{without_minus}
 use Rattle.clap.specs.Values.{IsSignedIn}
 use Rattle.clap.specs.Matches.{ReadsOne}
@@ -173,20 +173,19 @@ read_in_chain start cmd xs k d m chain args groups globals all distinct lt p q p
     q (ap (λ x. x.value_parser) elem ∙ rules.parser q parser) t (rw same-now text) in
     (got.0, got.1, subst (λ (c : Bool). Accepts c q got.0) (ap (λ x. x.ignore_case) elem ∙ rules.ignore_case) got.2)
 
--- a number that was read lies in the range of its parser
-pub in_range : (E : Type 0) (G : List ℕ → Result ℕ E → Type 0) (low high : ℕ) (o : Option (List ℕ)) (r : Option ℕ)
+-- a number that was read, or that of the default in its place, lies in the range of its parser and is the one that the text says
+pub number_read : (E : Type 0) (G : List ℕ → Result ℕ E → Type 0) (low high other : ℕ) (default : List ℕ) (o : Option (List ℕ)) (r : Option ℕ) (n : ℕ)
     → (o ≡ None → r ≡ None) → ((t : List ℕ) → o ≡ Some t → ReadsOne G t r)
     → ((u : List ℕ) (x : Result ℕ E) → G u x → ParsesUnsigned 32 10 u x) → high < 2 ^ 32
     → ((t : List ℕ) → o ≡ Some t → (v : List ℕ) × (t ≡ without_minus v) × IsSignedIn (pos low) (pos high) v)
-    → IfSome r (λ n. (low ≤ n) × (n ≤ high))
-in_range E G low high None r none value only fits read = rw (none refl) tt
-in_range E G low high (Some t) r none value only fits read =
+    → low ≤ other → other ≤ high → other ≡ digits_value 10 (without_leading_plus default) → n ≡ unwrap_or r other
+    → (low ≤ n) × (n ≤ high) × (n ≡ digits_value 10 (without_leading_plus (unwrap_or o default)))
+number_read E G low high other default None r n none value only fits read least most says is =
+    let n_is : n ≡ other = is ∙ ap (λ (v : Option ℕ). unwrap_or v other) (none refl) in
+    (rw n_is least, rw n_is most, n_is ∙ says)
+number_read E G low high other default (Some t) r n none value only fits read least most says is =
     let got = read t refl in
     let one = signed_reads E G 32 low high got.0 r (subst (λ (u : List ℕ). ReadsOne G u r) got.1 (value t refl)) only fits got.2 in
-    rw one.1 (one.2, one.3)
-
--- and so does a number that stands in its place, where that lies in the range
-pub in_range_or : (low high other : ℕ) (r : Option ℕ) (n : ℕ) → IfSome r (λ n. (low ≤ n) × (n ≤ high)) → low ≤ other → other ≤ high
-    → n ≡ unwrap_or r other → (low ≤ n) × (n ≤ high)
-in_range_or low high other None n within least most is = rw is (least, most)
-in_range_or low high other (Some v) n within least most is = rw is within
+    let given : G t (Ok one.0) = subst (λ (v : Option ℕ). ReadsOne G t v) one.1 (value t refl) in
+    let n_is : n ≡ one.0 = is ∙ ap (λ (v : Option ℕ). unwrap_or v other) one.1 in
+    (rw n_is one.2, rw n_is one.3, n_is ∙ (only t (Ok one.0) given).1)

@@ -1,7 +1,8 @@
 -- Words that fail, and what is said of them.
-use Rattle.std.proofs.Common.{◌≡◌, ◌∙◌, Bool, true, false, List, [], refl, ap, sym, subst, inl, inr, Result, Err, Option, Some, None, codes}
+use Rattle.std.proofs.Common.{◌≡◌, ◌∙◌, ℕ, Bool, true, false, List, [], refl, ap, sym, subst, inl, inr, Result, Err, Option, Some, None, codes}
 use Rattle.std.specs.Borrow.{Bor}
 use Rattle.std.specs.Prelude.{option_map, unwrap_or}
+use Rattle.std.specs.Str.Parse.{digits_value, without_leading_plus}
 use Rattle.clap.specs.Faults.{fault_of, is_simple_and_free}
 use Rattle.clap.specs.Kinds.{FailsBy, HasKind, Kinds}
 use Rattle.clap.specs.Simple.{App, HasMatchesOf, app_of, is_simple, matches_of}
@@ -17,7 +18,7 @@ use Rattle.clap.specs.declared.parser.matches.Found.{Found}
 use Rattle.clap.proofs.OnLiterals.{clap_on_literals}
 use Rattle.lc.specs.CommandLine.{count_app, check_app, lc_app}
 use Rattle.lc.specs.Explained.{Explains}
-use Rattle.lc.specs.Words.{IsFlag, IsText, IsNoRequestBy}
+use Rattle.lc.specs.Words.{IsFlag, IsNumber, IsText, IsNoRequestBy}
 use Rattle.lc.specs.declared.arguments.NoRequest.{NoRequest}
 use Rattle.lc.specs.declared.arguments.NoRequest.TheVariants.{Shown, Refused, Memory}
 
@@ -99,3 +100,9 @@ pub flag_of : (rows : List Row) (f : Found) (id : Text) (b : Bool) → rows_of f
 flag_of rows f id b are set unset =
     let same : one_text f id ≡ one_of id rows = one_text-rows f id ∙ ap (one_of id) are in
     (λ yes. set (same ∙ yes), λ not_set. unset (same ∙ not_set))
+
+pub number_of : (rows : List Row) (f : Found) (id default : Text) (n : ℕ) → rows_of f ≡ rows
+    → n ≡ digits_value 10 (without_leading_plus (unwrap_or (one_text f id) default)) → IsNumber id default rows n
+number_of rows f id default n are is =
+    let same : one_text f id ≡ one_of id rows = one_text-rows f id ∙ ap (one_of id) are in
+    is ∙ ap (λ (o : Option Text). digits_value 10 (without_leading_plus (unwrap_or o default))) same

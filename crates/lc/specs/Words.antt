@@ -1,6 +1,7 @@
 -- What the words of a command line ask for.
-use Rattle.std.specs.Prelude.{◌≡◌, ◌≢◌, ◌⊎◌, ◌≤◌, ℕ, Bool, true, false, cond, List, [], ◌∷◌, pos, Option, Some, Result, Ok, Err, unwrap_or, option_map, codes}
+use Rattle.std.specs.Prelude.{◌≡◌, ◌≢◌, ◌⊎◌, ◌≤◌, ℕ, Bool, true, false, cond, List, [], ◌∷◌, pos, Some, Result, Ok, Err, unwrap_or, option_map, codes}
 use Rattle.std.specs.Str.{bytes_eq}
+use Rattle.std.specs.Str.Parse.{digits_value, without_leading_plus}
 use Rattle.clap.specs.Built.{IsParsedFrom}
 use Rattle.clap.specs.Faults.{fault_of}
 use Rattle.clap.specs.Kinds.{IsAmong, Kinds}
@@ -45,9 +46,15 @@ abbrev pub IsFlag : List ℕ → List Row → Bool → Type 0
 IsFlag id rows set =
     (one_of id rows ≡ Some (codes "true") → set ≡ true) × (one_of id rows ≡ Some (codes "false") → set ≡ false)
 
+-- the number that was read in digits, or that of the default where nothing was read
+abbrev pub IsNumber : List ℕ → List ℕ → List Row → ℕ → Type 0
+IsNumber id default rows n = n ≡ digits_value 10 (without_leading_plus (unwrap_or (one_of id rows) default))
+
 -- the count that was asked for, by what was read of each argument
 pub record IsCountOf (rows : List Row) (c : CountRequest) : Type 0 where
   pub within : IsCountWithinLimits c
+  pub threads : IsNumber (codes "threads") (codes "4") rows c.threads
+  pub max_dirs : IsNumber (codes "max-dirs") (codes "65536") rows c.max_dirs
   pub files : IsFlag (codes "files") rows c.files
   pub archive : IsFlag (codes "archive") rows c.archive
   pub exclude : option_map (λ s. s.now) c.exclude_from ≡ first_of (codes "exclude-from") rows

@@ -3,8 +3,8 @@ use Rattle.std.specs.Str.Parse.{ParsesUnsigned, ExplainsUnsignedError, HasUnsign
 use Rattle.clap.specs.Matches.{found_of, one_text}
 use Rattle.clap.specs.Simple.{matches_of}
 use Rattle.lc.specs.CommandLine.{count_app}
-use Rattle.lc.proofs.ReadValues.{in_range, in_range_or}
-use Rattle.lc.proofs.WordFaults.{count_is_free, count_is_simple, fails_as, flag_of, matches_as, no_request_of, text_of, text_or}
+use Rattle.lc.proofs.ReadValues.{number_read}
+use Rattle.lc.proofs.WordFaults.{count_is_free, count_is_simple, fails_as, flag_of, matches_as, no_request_of, number_of, text_of, text_or}
 use Rattle.lc.proofs.arguments.count.CountRequest.read.Goals as goal
 
 pub returns-in-Err : goal.returns-in-Err
@@ -21,17 +21,17 @@ returns g c =
     let parse = c.in-Ok-try_get_matches_from.ensures in
     let rows = matches_of count_app words in
     let are = matches_as command count_app words m is count_is_simple parse.matches in
-    let threads = in_range _ (λ bs r. ParsesUnsigned 32 10 bs r × ExplainsUnsignedError 10 bs r × HasUnsignedDigitsIfOk bs r) 1 16
-    (one_text (found_of m) (codes "threads")) c.get_one.result c.get_one.ensures.none c.get_one.ensures.value (λ u x h. h.0) (omega arith)
-    (reads.0 m parse.parsed) in
-    let max_dirs = in_range _ (λ bs r. ParsesUnsigned 32 10 bs r × ExplainsUnsignedError 10 bs r × HasUnsignedDigitsIfOk bs r) 1 1048576
-    (one_text (found_of m) (codes "max-dirs")) c.get_one-2.result c.get_one-2.ensures.none c.get_one-2.ensures.value (λ u x h. h.0) (omega arith)
-    (reads.1 m parse.parsed) in
-    let few_threads = in_range_or 1 16 4 c.get_one.result c.unwrap_or-threads.result threads (omega arith) (omega arith) c.unwrap_or-threads.ensures in
-    let few_dirs = in_range_or 1 1048576 65536 c.get_one-2.result c.unwrap_or-max_dirs.result max_dirs (omega arith) (omega arith) c.unwrap_or-max_dirs.ensures in (
+    let threads = number_read _ (λ bs r. ParsesUnsigned 32 10 bs r × ExplainsUnsignedError 10 bs r × HasUnsignedDigitsIfOk bs r) 1 16 4 (codes "4")
+    (one_text (found_of m) (codes "threads")) c.get_one.result c.unwrap_or-threads.result c.get_one.ensures.none c.get_one.ensures.value
+    (λ u x h. h.0) (omega arith) (reads.0 m parse.parsed) (omega arith) (omega arith) refl c.unwrap_or-threads.ensures in
+    let max_dirs = number_read _ (λ bs r. ParsesUnsigned 32 10 bs r × ExplainsUnsignedError 10 bs r × HasUnsignedDigitsIfOk bs r) 1 1048576 65536 (codes "65536")
+    (one_text (found_of m) (codes "max-dirs")) c.get_one-2.result c.unwrap_or-max_dirs.result c.get_one-2.ensures.none c.get_one-2.ensures.value
+    (λ u x h. h.0) (omega arith) (reads.1 m parse.parsed) (omega arith) (omega arith) refl c.unwrap_or-max_dirs.ensures in (
       fails_as command count_app words (Ok m) is count_is_free parse.kinds,
       record {
-        within = (few_threads.0, few_threads.1, few_dirs.0, few_dirs.1);
+        within = (threads.0, threads.1, max_dirs.0, max_dirs.1);
+        threads = number_of rows (found_of m) (codes "threads") (codes "4") c.unwrap_or-threads.result are threads.2;
+        max_dirs = number_of rows (found_of m) (codes "max-dirs") (codes "65536") c.unwrap_or-max_dirs.result are max_dirs.2;
         files = flag_of rows (found_of m) (codes "files") c.get_flag.result are c.get_flag.ensures.value c.get_flag.ensures.other;
         archive = flag_of rows (found_of m) (codes "archive") c.get_flag-2.result are c.get_flag-2.ensures.value c.get_flag-2.ensures.other;
         exclude = text_of rows (found_of m) (codes "exclude-from") c.get_str.result are c.get_str.ensures;
