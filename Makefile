@@ -5,7 +5,7 @@ PREFIX ?= /usr/local
 CPU ?= $(or $(shell cat crates/lc/out/cpu 2> /dev/null),x86-64-v2)
 SHELL := /bin/bash
 
-.PHONY: run test test-memory test-program test-git test-faults test-fuzz install uninstall dist deb clean rt FORCE
+.PHONY: run test test-memory test-program test-git test-faults test-fuzz test-memcheck install uninstall dist deb clean rt FORCE
 
 lc: $(shell find crates -name out -prune -o -type f -print 2>/dev/null) crates.txt tools/build crates/lc/out/cpu | rt
 	@echo "make: proves lc and all that it stands on, then builds it for $(CPU): some minutes the first time, seconds after an edit"
@@ -52,6 +52,10 @@ test-faults: lc
 # random rules and random trees, against a model of docs/RULES.md (not part of the gate)
 test-fuzz: lc
 	tools/test-fuzz
+
+# the built program under valgrind's memcheck; no part of the gate
+test-memcheck: lc
+	tools/test-memcheck
 
 # these take ./lc as it is, and make it only where there is none
 install: $(if $(wildcard lc),,lc)

@@ -1,5 +1,6 @@
 -- What is read of a number among several arguments lies in its range.
-use Rattle.std.proofs.Common.{◌≡◌, ◌∙◌, ◌<◌, ℕ, zero, suc, Bool, true, false, not, ◌&&◌, ◌||◌, List, [], ◌∷◌, length, map, get_or, refl, sym, ap, subst, arith}
+use Rattle.std.proofs.Common.{◌≡◌, ◌∙◌, ◌<◌, ℕ, zero, suc, Bool, true, false, not, ◌&&◌, ◌||◌, List, [], ◌∷◌, length, map, get_or, refl}
+use Rattle.std.proofs.Common.{sym, ap, subst, arith}
 use Rattle.std.specs.Prelude.{pos, Some}
 use Rattle.std.specs.List.{All, list_any, slice_index_or}
 use Rattle.std.specs.Str.{bytes_eq}
@@ -48,10 +49,12 @@ length_ids (x ∷ xs) = ap suc (length_ids xs)
 first_apart : (x : Arg) (xs : List Arg) → not (list_any (bytes_eq x.id.now) (ids_of xs)) ≡ true → (k : ℕ) (d : Arg) → k < length xs
     → x.id.now ≡ (slice_index_or xs k d).id.now → ⊥
 first_apart x xs none k d low same =
-    let there : bytes_eq x.id.now (get_or (ids_of xs) k []) ≡ true = (bytes_eq-Decides x.id.now (get_or (ids_of xs) k [])).1 (same ∙ sym (id_at xs k d low)) in
+    let there : bytes_eq x.id.now (get_or (ids_of xs) k []) ≡ true = (bytes_eq-Decides x.id.now (get_or (ids_of xs) k [])).1
+    (same ∙ sym (id_at xs k d low)) in
     let within : k < length (ids_of xs) = rw (length_ids xs) low in
     not_true _ none (list_any_at (bytes_eq x.id.now) (ids_of xs) k [] within there)
 
+-- arguments whose names pass the test have distinct names
 pub distinct_ids : (xs : List Arg) → are_apart (ids_of xs) ≡ true → HasDistinctIds xs
 distinct_ids [] apart j k d e low high same = absurd (omega arith)
 distinct_ids (x ∷ xs) apart zero zero d e low high same = refl
@@ -66,18 +69,22 @@ distinct_ids (x ∷ xs) apart (suc j) (suc k) d e low high same =
     ap suc (distinct_ids xs parts.1 j k d e (omega arith) (omega arith) same)
 
 -- a number that stands among the arguments which a bare command was given in turn
-pub reads_within : (word : List ℕ) (bare command : Command) (xs : List Arg) → IsBare word bare → AddsInTurn AddsArg bare xs command → All FitsChain xs
+pub reads_within : (word : List ℕ) (bare command : Command) (xs : List Arg) → IsBare word bare → AddsInTurn AddsArg bare xs command
+    → All FitsChain xs
     → are_apart (ids_of xs) ≡ true → (k : ℕ) (d : Arg) → k < length xs
-    → (name : List ℕ) (most : ℕ) (default : List ℕ) → IsArgOf (number_rule name most default) (slice_index_or xs k d) → ReadsWithin command name 1 most
+    → (name : List ℕ) (most : ℕ) (default : List ℕ) → IsArgOf (number_rule name most default) (slice_index_or xs k d)
+    → ReadsWithin command name 1 most
 reads_within word bare command xs empty added fits apart k d within name most default number m parsed text read =
-    read_in_chain bare command xs k d m added empty.1 empty.2 empty.0.1 fits (distinct_ids xs apart) within parsed (Signed (pos 1) (pos most))
+    read_in_chain bare command xs k d m added empty.1 empty.2 empty.0.1 fits (distinct_ids xs apart) within parsed
+    (Signed (pos 1) (pos most))
     (ap (λ (r : Rule). r.parser) number.0) text
     (subst (λ (i : List ℕ). one_text (found_of m) i ≡ Some text) (sym (ap (λ (r : Rule). r.id) number.0)) read)
 
 -- a command that is given arguments in turn has their rules in turn
 pub rules_in_turn : (old new : Command) (xs : List Arg) → AddsInTurn AddsArg old xs new → All FitsChain xs → (a : App) → app_of old ≡ a
     → (app_of new ≡ with_rules a (map rule_of xs)) × ((out-Command old).has_globals ≡ false → (out-Command new).has_globals ≡ false)
-rules_in_turn old new [] added fits a is = (ap app_of (sym added) ∙ is, λ local. ap (λ (c : Command). (out-Command c).has_globals) (sym added) ∙ local)
+rules_in_turn old new [] added fits a is =
+    (ap app_of (sym added) ∙ is, λ local. ap (λ (c : Command). (out-Command c).has_globals) (sym added) ∙ local)
 rules_in_turn old new (x ∷ xs) added fits a is =
     let fit = fits 0 x (omega arith) in
     let step = added.1 in

@@ -7,6 +7,7 @@ use Rattle.lc_text.specs.declared.rules.RulesFileFault.{RulesFileFault}
 use Rattle.lc_text.specs.declared.rules.RulesFileFault.TheVariants as fault
 use Rattle.lc.specs.Requests.{LoadsRules}
 
+-- what reading the opened file answered is what loading answers
 pub loads_rules : {F : Type 0} (may_give : F → ℕ → Answer → F → Type 0) (answer : Result (List RuleModel) RulesFileFault) (file read : F)
     → ReadsRules may_give file answer read → LoadsRules may_give answer
 loads_rules may_give (Ok rules) file read reads = (file, read, reads)

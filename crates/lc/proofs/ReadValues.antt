@@ -1,5 +1,6 @@
 -- A value that was read of an argument passed the argument's parser.
-use Rattle.std.proofs.Common.{◌++◌, ◌||◌, ◌≡◌, ◌∙◌, ◌<◌, ◌≤◌, ap, ℕ, zero, suc, Bool, true, false, List, [], ◌∷◌, length, Option, Some, None, refl, sym, subst, inl, inr, arith}
+use Rattle.std.proofs.Common.{◌++◌, ◌||◌, ◌≡◌, ◌∙◌, ◌<◌, ◌≤◌, ap, ℕ, zero, suc, Bool, true, false, List, [], ◌∷◌, length, Option, Some}
+use Rattle.std.proofs.Common.{None, refl, sym, subst, inl, inr, arith}
 use Rattle.std.specs.List.{All, slice_index_or}
 use Rattle.std.specs.Str.{bytes_eq}
 use Rattle.std.specs.Prelude.{option_map, slice_get, unwrap_or, ◌^◌, Result, Ok, pos}
@@ -13,7 +14,8 @@ use Rattle.std.proofs.lemmas.Slice.Eq.{bytes_eq-Decides}
 use Rattle.std.proofs.lemmas.List.{append-nil, append_assoc}
 use Rattle.std.proofs.lemmas.List.Elements.{All-get_or, All-nil}
 use Rattle.clap.specs.Facts.{args_of, groups_of, IsParsed, Entry, EntryPasses, PassesArg, HasReading, parser_of, parser_of_value}
-use Rattle.clap.specs.Built.{AddsInTurn, HasDistinctIds, FitsChain, KeepsList, IsPlain, IsPlainArg, IsParsedFrom, IsAuto, AddsArg, SameRules}
+use Rattle.clap.specs.Built.{AddsInTurn, HasDistinctIds, FitsChain, KeepsList, IsPlain, IsPlainArg, IsParsedFrom, IsAuto, AddsArg}
+use Rattle.clap.specs.Built.{SameRules}
 use Rattle.clap.specs.Matches.{matched_of, one_text, found_of, has_subcommand}
 use Rattle.clap.specs.Values.{Accepts, read_as, reading_of}
 use Rattle.clap.specs.declared.builder.value_parser.Reading.{Reading}
@@ -137,8 +139,10 @@ read_of old m p plain globals k d lt unique named own q parser t text =
         let bad : None ≡ Some t = rw e at text in
         cc
     go (Some x) e parsed =
-        let got = entry_by_id (EntryPasses p.built) (found_of m).entries.items (slice_index_or (args_of old) k d).id.now x parsed.values e in
-        entry_gives p.built (slice_index_or (args_of old) k d).id.now (λ (v : List ℕ). Accepts (slice_index_or (args_of old) k d).ignore_case q v) (reading_of q) x got.0 t
+        let got = entry_by_id (EntryPasses p.built) (found_of m).entries.items (slice_index_or (args_of old) k d).id.now x
+        parsed.values e in
+        entry_gives p.built (slice_index_or (args_of old) k d).id.now
+        (λ (v : List ℕ). Accepts (slice_index_or (args_of old) k d).ignore_case q v) (reading_of q) x got.0 t
         (p.from.plain plain).1 named (only_reading old m p k d lt unique own q parser) (passes_read old m p k d lt unique own q parser)
         (rw e at text) got.1 ((bytes_eq-Decides got.0.0.now (slice_index_or (args_of old) k d).id.now).0 got.2) got.3
 
@@ -174,7 +178,8 @@ read_in_chain start cmd xs k d m chain args groups globals all distinct lt p q p
     (got.0, got.1, subst (λ (c : Bool). Accepts c q got.0) (ap (λ x. x.ignore_case) elem ∙ rules.ignore_case) got.2)
 
 -- a number that was read, or that of the default in its place, lies in the range of its parser and is the one that the text says
-pub number_read : (E : Type 0) (G : List ℕ → Result ℕ E → Type 0) (low high other : ℕ) (default : List ℕ) (o : Option (List ℕ)) (r : Option ℕ) (n : ℕ)
+pub number_read : (E : Type 0) (G : List ℕ → Result ℕ E → Type 0) (low high other : ℕ) (default : List ℕ) (o : Option (List ℕ))
+    (r : Option ℕ) (n : ℕ)
     → (o ≡ None → r ≡ None) → ((t : List ℕ) → o ≡ Some t → ReadsOne G t r)
     → ((u : List ℕ) (x : Result ℕ E) → G u x → ParsesUnsigned 32 10 u x) → high < 2 ^ 32
     → ((t : List ℕ) → o ≡ Some t → (v : List ℕ) × (t ≡ without_minus v) × IsSignedIn (pos low) (pos high) v)

@@ -1,5 +1,6 @@
 -- Words that fail, and what is said of them.
-use Rattle.std.proofs.Common.{◌≡◌, ◌∙◌, ℕ, Bool, true, false, List, [], refl, ap, sym, subst, inl, inr, Result, Err, Option, Some, None, codes}
+use Rattle.std.proofs.Common.{◌≡◌, ◌∙◌, ℕ, Bool, true, false, List, [], refl, ap, sym, subst, inl, inr, Result, Err, Option, Some, None}
+use Rattle.std.proofs.Common.{codes}
 use Rattle.std.specs.Borrow.{Bor}
 use Rattle.std.specs.Prelude.{option_map, unwrap_or}
 use Rattle.std.specs.Str.Parse.{digits_value, without_leading_plus}
@@ -22,22 +23,27 @@ use Rattle.lc.specs.Words.{IsFlag, IsNumber, IsText, IsNoRequestBy}
 use Rattle.lc.specs.declared.arguments.NoRequest.{NoRequest}
 use Rattle.lc.specs.declared.arguments.NoRequest.TheVariants.{Shown, Refused, Memory}
 
+-- the command count is of the simple kind, of which clap says all
 pub count_is_simple : is_simple count_app ≡ true
 unfolding clap_on_literals
 count_is_simple = refl
 
+-- and asks for nothing that clap leaves open
 pub count_is_free : is_simple_and_free count_app ≡ true
 unfolding clap_on_literals
 count_is_free = refl
 
+-- so is check
 pub check_is_simple : is_simple check_app ≡ true
 unfolding clap_on_literals
 check_is_simple = refl
 
+-- and it asks for nothing more
 pub check_is_free : is_simple_and_free check_app ≡ true
 unfolding clap_on_literals
 check_is_free = refl
 
+-- nor does lc
 pub lc_is_free : is_simple_and_free lc_app ≡ true
 unfolding clap_on_literals
 lc_is_free = refl
@@ -62,7 +68,8 @@ no_request_by kinds e (Refused text) has is = elim has [
 no_request_by kinds e Memory has is = tt
 
 -- a command that clap sees as this one fails as this one
-pub fails_as : {T : Type 0} (c : Command) (a : App) (words : List Text) (answer : Result T Error) → app_of c ≡ a → is_simple_and_free a ≡ true
+pub fails_as : {T : Type 0} (c : Command) (a : App) (words : List Text) (answer : Result T Error) → app_of c ≡ a
+    → is_simple_and_free a ≡ true
     → (is_simple_and_free (app_of c) ≡ true → FailsBy (fault_of (app_of c) words) answer) → FailsBy (fault_of a words) answer
 fails_as c a words answer is free kinds =
     subst (λ (b : App). FailsBy (fault_of b words) answer) is (kinds (ap is_simple_and_free is ∙ free))
@@ -87,20 +94,25 @@ pub text_or : (rows : List Row) (f : Found) (id : Text) (o : Option (Bor Text)) 
 text_or rows f id o other result are read empty is =
     go o is (read ∙ (first_value-rows f id ∙ ap (first_of id) are))
   where
-    go : (o' : Option (Bor Text)) → result ≡ unwrap_or o' other → option_map (λ s. s.now) o' ≡ first_of id rows → result.now ≡ unwrap_or (first_of id rows) []
+    go : (o' : Option (Bor Text)) → result ≡ unwrap_or o' other → option_map (λ s. s.now) o' ≡ first_of id rows
+        → result.now ≡ unwrap_or (first_of id rows) []
     go None e g = ap (λ (b : Bor Text). b.now) e ∙ (empty ∙ ap (λ (v : Option Text). unwrap_or v []) g)
     go (Some t) e g = ap (λ (b : Bor Text). b.now) e ∙ ap (λ (v : Option Text). unwrap_or v []) g
 
-pub text_of : (rows : List Row) (f : Found) (id : Text) (o : Option (Bor Text)) → rows_of f ≡ rows → option_map (λ s. s.now) o ≡ first_value f id
+-- a text that was read is the first of its argument
+pub text_of : (rows : List Row) (f : Found) (id : Text) (o : Option (Bor Text)) → rows_of f ≡ rows
+    → option_map (λ s. s.now) o ≡ first_value f id
     → option_map (λ s. s.now) o ≡ first_of id rows
 text_of rows f id o are read = read ∙ (first_value-rows f id ∙ ap (first_of id) are)
 
+-- a flag that was read is that of the words
 pub flag_of : (rows : List Row) (f : Found) (id : Text) (b : Bool) → rows_of f ≡ rows
     → (one_text f id ≡ Some (codes "true") → b ≡ true) → (one_text f id ≡ Some (codes "false") → b ≡ false) → IsFlag id rows b
 flag_of rows f id b are set unset =
     let same : one_text f id ≡ one_of id rows = one_text-rows f id ∙ ap (one_of id) are in
     (λ yes. set (same ∙ yes), λ not_set. unset (same ∙ not_set))
 
+-- a number that was read is that of the words, or the default
 pub number_of : (rows : List Row) (f : Found) (id default : Text) (n : ℕ) → rows_of f ≡ rows
     → n ≡ digits_value 10 (without_leading_plus (unwrap_or (one_text f id) default)) → IsNumber id default rows n
 number_of rows f id default n are is =

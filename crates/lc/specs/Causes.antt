@@ -23,6 +23,12 @@ cause_line UnreadInput = codes "lc: cannot read input\n"
 cause_line InputTooLong = codes "lc: input too long\n"
 cause_line Unwritten = codes "lc: cannot write\n"
 
+-- its line has a number
+abbrev pub HasNumber : Cause → Type 0
+HasNumber (Torn _) = Unit {0}
+HasNumber (Mismatch _) = Unit {0}
+HasNumber _ = ⊥
+
 -- a file that gave no rules
 abbrev pub rules_cause : RulesFileFault → Cause
 rules_cause rules.Unread = UnreadRules

@@ -48,7 +48,7 @@ check_app = with_rule (bare_app (codes "check")) (word_rule (codes "FILE"))
 
 -- for what belongs to no command
 abbrev pub bare_lc_app : App
-bare_lc_app = on_top (λ (s : Shape). record s { no_binary_name = true; has_version = true }) (new_app (codes "lc"))
+bare_lc_app = on_top (λ (s : Shape). record s { no_binary_name = true; has_version = true; has_long_version = true }) (new_app (codes "lc"))
 
 abbrev pub counting_app : App
 counting_app = with_subcommand bare_lc_app count_app.top

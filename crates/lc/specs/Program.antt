@@ -1,15 +1,14 @@
 -- How the program ends on words, by what it read, wrote and told.
-use Rattle.std.specs.Prelude.{◌≡◌, ◌⊎◌, ℕ, List, [], Result, Ok, Err}
+use Rattle.std.specs.Prelude.{◌≡◌, ◌⊎◌, ℕ, Bool, true, false, List, [], ◌∷◌, Result, Ok, Err, codes}
 use Rattle.lc_census.specs.declared.source.Failed.{Failed}
 use Rattle.lc_census.specs.Reads.{Answer}
-use Rattle.lc.specs.Causes.{cause_line}
+use Rattle.lc.specs.Causes.{HasNumber, cause_line}
 use Rattle.lc.specs.Requests.{Loaded, Reply, AnswersRequest}
 use Rattle.lc.specs.Words.{Asks, MayRefuse, MayShow, faults_in}
-use Rattle.lc_text.specs.Writes.{Writes, AnswersPrint}
+use Rattle.lc_text.specs.Writes.{Writes, StopsWriting}
 use Rattle.lc.specs.declared.arguments.Request.{Request}
 use Rattle.lc.specs.declared.cause.Cause.{Cause}
 use Rattle.lc.specs.declared.cause.Cause.TheVariants.{Memory, Unwritten}
-use Rattle.lc_text.specs.declared.printing.PrintFault.{PrintFault}
 use Rattle.lc.specs.declared.program.Ending.{Ending}
 use Rattle.lc.specs.declared.program.Ending.TheVariants.{Done, SomeFaults, Misused, GaveUp}
 use Rattle.lc_text.specs.declared.running.Outcome.TheVariants as outcome
@@ -20,14 +19,24 @@ status_of SomeFaults = 1
 status_of Misused = 2
 status_of (GaveUp _) = 3
 
-module _ {E : Type 0} (may_take : E → List ℕ → Result ℕ Failed → E → Type 0) where
-  -- this text was written, as far as the stream takes it
-  abbrev pub Tells : E → List ℕ → E → Type 0
-  Tells err text told = (answer : Result (Unit {0}) PrintFault) × AnswersPrint may_take err text answer told
+-- what the program reads without words
+abbrev pub introduction : List ℕ
+introduction = codes "lc: reads the lines of an ignore file, a line --, and paths from standard input; lc --help says more\n"
 
-  -- the line of the cause, or that of want of memory where there is none for it
+module _ {E : Type 0} (may_take : E → List ℕ → Result ℕ Failed → E → Type 0) where
+  -- this text was written, or a prefix of it and then a write failed or took nothing
+  abbrev pub Tells : E → List ℕ → E → Type 0
+  Tells err text told = Writes may_take err text told ⊎ StopsWriting may_take err text told
+
+  -- it is told what is read, where there are no words and the input is typed; else nothing is
+  abbrev pub Introduces : {W : Type 0} → List W → Bool → E → E → Type 0
+  Introduces [] true err told = Tells err introduction told
+  Introduces [] false err told = told ≡ err
+  Introduces (_ ∷ _) is_typed err told = told ≡ err
+
+  -- the line of the cause; in place of one with a number perhaps that of want of memory
   abbrev pub TellsCause : E → Cause → E → Type 0
-  TellsCause err cause told = Tells err (cause_line cause) told ⊎ Tells err (cause_line Memory) told
+  TellsCause err cause told = Tells err (cause_line cause) told ⊎ (HasNumber cause × Tells err (cause_line Memory) told)
 
 -- a text was written, as help is; or it was not, or not whole
 abbrev pub EndsShown : {O E : Type 0} → (O → List ℕ → Result ℕ Failed → O → Type 0) → (E → List ℕ → Result ℕ Failed → E → Type 0)
@@ -36,7 +45,7 @@ EndsShown may_take may_tell text out err Done wrote told = Writes may_take out t
 EndsShown may_take may_tell text out err SomeFaults wrote told = ⊥
 EndsShown may_take may_tell text out err Misused wrote told = ⊥
 EndsShown may_take may_tell text out err (GaveUp cause) wrote told =
-    (cause ≡ Unwritten) × Tells may_take out text wrote × TellsCause may_tell err cause told
+    (cause ≡ Unwritten) × StopsWriting may_take out text wrote × TellsCause may_tell err cause told
 
 module _ {I O E : Type 0} (may_give : I → ℕ → Answer → I → Type 0) (loads : Loaded) (may_take : O → List ℕ → Result ℕ Failed → O → Type 0)
     (may_tell : E → List ℕ → Result ℕ Failed → E → Type 0) where

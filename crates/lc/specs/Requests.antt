@@ -88,7 +88,8 @@ AnswersJoined may_give may_take input out reply read wrote =
     (answer : Result (Unit {0}) CheckFault) × (reply ≡ checked answer)
     × AnswersCheck may_give may_take rules_part joined_text input out answer read wrote
 
-module _ {I O : Type 0} (may_give : I → ℕ → Answer → I → Type 0) (loads : Loaded) (may_take : O → List ℕ → Result ℕ Failed → O → Type 0) where
+module _ {I O : Type 0} (may_give : I → ℕ → Answer → I → Type 0) (loads : Loaded)
+    (may_take : O → List ℕ → Result ℕ Failed → O → Type 0) where
   -- a check of paths by the rules of the file, or this gave no rules and nothing was read or written
   abbrev pub AnswersFile : I → O → Reply → I → O → Type 0
   AnswersFile input out reply read wrote =

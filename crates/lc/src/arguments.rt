@@ -45,7 +45,9 @@ fn bare<'a>(alloc: Global) -> Result<Command<'a>, AllocError>
         Command::new(alloc, "lc")
             .about(help::ABOUT)
             .after_help(help::AFTER)
-            .version("0.1.0")
+            .after_long_help(help::AFTER_LONG)
+            .version(help::VERSION)
+            .long_version(help::LONG_VERSION)
             .no_binary_name(true)
             .bin_name("lc")?,
     )
@@ -68,13 +70,16 @@ fn command<'a>(alloc: Global) -> Result<Command<'a>, AllocError>
     Ok(command)
 }
 
-/// What an error of `clap` says, with an example where an argument is missing.
-fn explained(alloc: Global, error: &Error, example: &str) -> NoRequest
+/// What an error of `clap` says, with an example of the command with its operand where an argument is missing or a word is
+/// no command.
+fn explained(alloc: Global, error: &Error, command: &str, operand: &str) -> NoRequest
     ensures { Explains error.now result }
 {
     let text = match error.kind() {
         ErrorKind::OutOfMemory => return NoRequest::Memory,
-        ErrorKind::MissingRequiredArgument => format!(in alloc; "{error}\nExample: {example}\n"),
+        ErrorKind::MissingRequiredArgument | ErrorKind::InvalidSubcommand => {
+            format!(in alloc; "{error}\nExample: {command} {operand}\n")
+        }
         _ => format!(in alloc; "{error}"),
     };
     let Ok(text) = text else {
@@ -87,6 +92,16 @@ fn explained(alloc: Global, error: &Error, example: &str) -> NoRequest
     }
 }
 
+/// The directory that a first word may have meant which is no command: itself, where a shell takes it as it stands.
+fn meant_directory(word: &str) -> &str {
+    let is_plain = |byte: u8| byte.is_ascii_alphanumeric()
+        || matches!(byte, b'.' | b'_' | b'-' | b'/');
+    if word.is_empty() || word.starts_with('-') || word == "help" || !word.bytes().all(is_plain) {
+        return ".";
+    }
+    word
+}
+
 /// What words ask for that name no command.
 fn read_others<'w, W: AsStr>(alloc: Global, words: &'w [W]) -> Result<Request<'w>, NoRequest>
     ensures { AnswersOthers (map W.text words.entry.now) result }
@@ -97,7 +112,12 @@ fn read_others<'w, W: AsStr>(alloc: Global, words: &'w [W]) -> Result<Request<'w
     match command.try_get_matches_from(words) {
         // As `--` alone.
         Ok(_) => Ok(Request::CheckJoined),
-        Err(error) => Err(explained(alloc, &error, help::EXAMPLE)),
+        Err(error) => {
+            let directory = words
+                .first()
+                .map_or(".", |word| meant_directory(word.as_str()));
+            Err(explained(alloc, &error, help::COUNT, directory))
+        }
     }
 }
 

@@ -1,13 +1,14 @@
 //! Why the program gives up, and what it says then on standard error.
 
-ghost use Rattle.std.specs.Prelude.{◌≡◌, IfOk};
-ghost use Rattle.lc.specs.Causes.{cause_line, check_cause, rules_cause, run_cause};
+ghost use Rattle.std.specs.Prelude.{◌≡◌, IfOk, IsErr};
+ghost use Rattle.std.specs.Cow.{cow_str_bytes};
+ghost use Rattle.lc.specs.Causes.{HasNumber, cause_line, check_cause, rules_cause, run_cause};
 ghost use Rattle.lc.specs.declared.cause.Cause.TheVariants.{Memory};
 
 use lc_text::{CheckFault, RulesFileFault, RunFault};
 use lc_walk::WalkFault;
 use std::alloc::{AllocError, AllocFailed, Global};
-use std::io::Write;
+use std::borrow::CowStr;
 
 /// Why the program gives up. Each is one line on standard error and the status 3.
 #[derive(Clone, Copy)]
@@ -25,28 +26,30 @@ pub(crate) enum Cause {
 }
 
 impl Cause {
-    /// The line, with its line feed.
-    pub(crate) fn line(self, alloc: Global) -> Result<Vec<u8>, AllocError>
-        ensures { IfOk result (λ line. line.items ≡ cause_line self) }
+    /// The line, with its line feed. One with a number takes memory.
+    pub(crate) fn line(self, alloc: Global) -> Result<CowStr<'static>, AllocError>
+        ensures line { IfOk result (λ line. cow_str_bytes line ≡ cause_line self) }
+        ensures refused { IsErr result → HasNumber self }
     {
-        let mut line = Vec::new(alloc);
-        match self {
-            Cause::Memory => line.extend_from_slice(b"lc: out of memory\n")?,
-            Cause::TooManyDirs => line.extend_from_slice(b"lc: too many directories\n")?,
-            Cause::TooDeep => line.extend_from_slice(b"lc: path too deep\n")?,
+        let line = match self {
+            Cause::Memory => "lc: out of memory\n",
+            Cause::TooManyDirs => "lc: too many directories\n",
+            Cause::TooDeep => "lc: path too deep\n",
             Cause::Torn(number) => {
-                writeln!(line, "lc: internal: directory {number} torn").map_err(|_| AllocError)?;
+                let line = format!(in alloc; "lc: internal: directory {number} torn\n")?;
+                return Ok(CowStr::Owned(line));
             }
             Cause::Mismatch(worker) => {
-                writeln!(line, "lc: internal: worker {worker} mismatch").map_err(|_| AllocError)?;
+                let line = format!(in alloc; "lc: internal: worker {worker} mismatch\n")?;
+                return Ok(CowStr::Owned(line));
             }
-            Cause::UnreadRules => line.extend_from_slice(b"lc: cannot read rules\n")?,
-            Cause::RulesTooLong => line.extend_from_slice(b"lc: rules too long\n")?,
-            Cause::UnreadInput => line.extend_from_slice(b"lc: cannot read input\n")?,
-            Cause::InputTooLong => line.extend_from_slice(b"lc: input too long\n")?,
-            Cause::Unwritten => line.extend_from_slice(b"lc: cannot write\n")?,
-        }
-        Ok(line)
+            Cause::UnreadRules => "lc: cannot read rules\n",
+            Cause::RulesTooLong => "lc: rules too long\n",
+            Cause::UnreadInput => "lc: cannot read input\n",
+            Cause::InputTooLong => "lc: input too long\n",
+            Cause::Unwritten => "lc: cannot write\n",
+        };
+        Ok(CowStr::Borrowed(line))
     }
 }
 

@@ -14,7 +14,7 @@ use lc_census::StdSource;
 use lc_text::StdSink;
 use std::alloc::AllocError;
 use std::env;
-use std::io::ErrorKind;
+use std::io::{ErrorKind, IsTerminal};
 use std::process::ExitCode;
 
 fn main(rt: HostRuntime) -> ExitCode {
@@ -33,6 +33,7 @@ fn main(rt: HostRuntime) -> ExitCode {
     let Ok(words) = words else {
         return ExitCode::from(program::give_up(rt.alloc(), Cause::Memory, &mut err).status());
     };
+    program::introduce(&words, rt.stdin().is_terminal(), &mut err);
     let mut input = StdSource(rt.stdin());
     let mut out = StdSink(rt.stdout());
     ExitCode::from(program::program(&rt, &words, &mut input, &mut out, &mut err))

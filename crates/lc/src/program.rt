@@ -2,7 +2,7 @@
 
 ghost use Rattle.std.specs.Prelude.{◌≡◌, map};
 ghost use Rattle.lc.specs.Words.{IsWithinLimits, IsCountWithinLimits};
-ghost use Rattle.lc.specs.Program.{Tells, TellsCause, EndsShown, Ends, status_of};
+ghost use Rattle.lc.specs.Program.{Tells, TellsCause, Introduces, EndsShown, Ends, status_of};
 ghost use Rattle.lc.specs.Requests.{LoadsRules, AnswersExcluded, AnswersFile, AnswersJoined, AnswersCount, AnswersRequest};
 ghost use Rattle.lc.specs.declared.program.Ending.{Ending};
 ghost use Rattle.lc.specs.declared.program.Ending.TheVariants as ending;
@@ -48,6 +48,19 @@ impl Ending {
     }
 }
 
+/// Says what is read, where no words are given and the input is typed: else the program would seem to hang.
+pub(crate) fn introduce<W, E: Sink>(words: &[W], is_typed: bool, err: &mut E)
+    ensures { Introduces E.may_take words.now is_typed err.old err.new }
+{
+    if words.is_empty() && is_typed {
+        // Help says it too.
+        let _ = print(
+            err,
+            b"lc: reads the lines of an ignore file, a line --, and paths from standard input; lc --help says more\n",
+        );
+    }
+}
+
 /// Says why the words are refused.
 pub(crate) fn misuse<E: Sink>(why: &str, err: &mut E) -> Ending
     ensures ending { result ≡ ending.Misused }
@@ -64,7 +77,7 @@ pub(crate) fn give_up<E: Sink>(alloc: Global, cause: Cause, err: &mut E) -> Endi
     ensures told { TellsCause E.may_take err.old cause err.new }
 {
     let _ = match cause.line(alloc) {
-        Ok(line) => print(err, &line),
+        Ok(line) => print(err, line.as_str().as_bytes()),
         Err(AllocError) => print(err, b"lc: out of memory\n"),
     };
     Ending::GaveUp(cause)

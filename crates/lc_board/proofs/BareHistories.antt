@@ -12,7 +12,8 @@ module _ {J : Type 0} where
   abbrev numbered : ℕ × J → ℕ × Unit {0}
   numbered x = (x.0, tt)
 
-  more_posts : (b : Bool) (xs : List (ℕ × J)) (ys : List (ℕ × Unit {0})) (i : ℕ) (j : J) → map numbered xs ≡ ys → map numbered (cond b (xs ++ (i, j) ∷ []) xs) ≡ cond b (ys ++ (i, tt) ∷ []) ys
+  more_posts : (b : Bool) (xs : List (ℕ × J)) (ys : List (ℕ × Unit {0})) (i : ℕ) (j : J) → map numbered xs ≡ ys
+      → map numbered (cond b (xs ++ (i, j) ∷ []) xs) ≡ cond b (ys ++ (i, tt) ∷ []) ys
   more_posts true xs ys i j e = map-append numbered xs ((i, j) ∷ []) ∙ ap (λ (zs : List (ℕ × Unit {0})). zs ++ (i, tt) ∷ []) e
   more_posts false xs ys i j e = e
 
@@ -21,6 +22,7 @@ module _ {J : Type 0} where
   none_numbered (x ∷ xs) e = absurd (cc e)
 
 module _ {J R : Type 0} where
+  -- an event without its values is of the same worker
   pub worker_bare : (e : Event J R) → worker_of (bare e) ≡ worker_of e
   worker_bare (Post w p i j) = refl
   worker_bare (Claim w i j) = refl
@@ -28,6 +30,7 @@ module _ {J R : Type 0} where
   worker_bare (Fault w i r) = refl
   worker_bare (Over w) = refl
 
+  -- values say nothing of a number's status
   pub status_bare : (h : List (Event J R)) (k : ℕ) → status (map bare h) k ≡ status h k
   status_bare [] k = refl
   status_bare (Post w p i j ∷ h) k = ap (λ s. cond (k == i) Open s) (status_bare h k)
@@ -36,6 +39,7 @@ module _ {J R : Type 0} where
   status_bare (Fault w i r ∷ h) k = ap (λ s. cond (k == i) Faulted s) (status_bare h k)
   status_bare (Over w ∷ h) k = status_bare h k
 
+  -- nor of what was posted under it
   pub posts_bare : (p : ℕ) (h : List (Event J R)) → map numbered (posts_under p h) ≡ posts_under p (map bare h)
   posts_bare p [] = refl
   posts_bare p (Post w q i j ∷ h) = more_posts (p == q) (posts_under p h) (posts_under p (map bare h)) i j (posts_bare p h)
@@ -58,18 +62,23 @@ module _ {J R : Type 0} where
   allowed_back c h (Fault w i r) a = (sym (status_bare h i) ∙ a.0, none_numbered (posts_under i h) (posts_bare i h ∙ a.1))
   allowed_back c h (Over w) a = λ k. (λ s. (a k).0 (status_bare h k ∙ s), λ v s. (a k).1 v (status_bare h k ∙ s))
 
+  -- a legal history is legal without its values
   pub legal_bare : (c n : ℕ) (h : List (Event J R)) → IsLegal c n h → IsLegal c n (map bare h)
   legal_bare c n [] l = tt
   legal_bare c n (e ∷ h) l = (legal_bare c n h l.0, subst (λ w. w < n) (sym (worker_bare e)) l.1, allowed_bare c h e l.2)
 
+  -- a history is legal if it is so without its values
   pub legal_back : (c n : ℕ) (h : List (Event J R)) → IsLegal c n (map bare h) → IsLegal c n h
   legal_back c n [] l = tt
   legal_back c n (e ∷ h) l = (legal_back c n h l.0, subst (λ w. w < n) (worker_bare e) l.1, allowed_back c h e l.2)
 
-  more_part : (a b : Bool) (e : Event J R) (xs : List (Event J R)) (ys : List BareEvent) → a ≡ b → ys ≡ map bare xs → cond a (bare e ∷ ys) ys ≡ map bare (cond b (e ∷ xs) xs)
+  more_part : (a b : Bool) (e : Event J R) (xs : List (Event J R)) (ys : List BareEvent) → a ≡ b → ys ≡ map bare xs
+      → cond a (bare e ∷ ys) ys ≡ map bare (cond b (e ∷ xs) xs)
   more_part a true e xs ys s t = ap (λ q. cond q (bare e ∷ ys) ys) s ∙ ap (λ zs. bare e ∷ zs) t
   more_part a false e xs ys s t = ap (λ q. cond q (bare e ∷ ys) ys) s ∙ t
 
+  -- a worker's part without values is the part of the history without them
   pub part_bare : (w : ℕ) (h : List (Event J R)) → part w (map bare h) ≡ map bare (part w h)
   part_bare w [] = refl
-  part_bare w (e ∷ h) = more_part (worker_of (bare e) == w) (worker_of e == w) e (part w h) (part w (map bare h)) (ap (λ v. v == w) (worker_bare e)) (part_bare w h)
+  part_bare w (e ∷ h) = more_part (worker_of (bare e) == w) (worker_of e == w) e (part w h) (part w (map bare h))
+      (ap (λ v. v == w) (worker_bare e)) (part_bare w h)

@@ -28,7 +28,9 @@ idle_given true false e = absurd (cc e)
 idle_given false true e = absurd (cc e)
 idle_given false false e = absurd (cc e)
 
-over_two : (a b : Bool) → let s = cond b Returned (cond a Returned (cond b (Claimed 1) (cond b Open (cond a (Claimed 0) (cond a Open Absent))))) in (s ≢ Open) × ((w : ℕ) → s ≢ Claimed w)
+over_two : (a b : Bool) → let s = cond b Returned
+    (cond a Returned (cond b (Claimed 1) (cond b Open (cond a (Claimed 0) (cond a Open Absent))))) in (s ≢ Open)
+    × ((w : ℕ) → s ≢ Claimed w)
 over_two true true = (λ e. absurd (cc e), λ w e. absurd (cc e))
 over_two true false = (λ e. absurd (cc e), λ w e. absurd (cc e))
 over_two false true = (λ e. absurd (cc e), λ w e. absurd (cc e))
@@ -40,7 +42,8 @@ over_fault false = (λ e. absurd (cc e), λ w e. absurd (cc e))
 
 -- a fact of 0, of 1 and of all other numbers
 each_of_two : (P : ℕ → Type 0) → P 0 → P 1 → ((k : ℕ) → k ≢ 0 → k ≢ 1 → P k) → (k : ℕ) → P k
-each_of_two P zeroth first others k = each P 0 zeroth (λ m n. each (λ i. i ≢ 0 → P i) 1 (λ _. first) (λ i off away. others i away off) m n) k
+each_of_two P zeroth first others k =
+    each P 0 zeroth (λ m n. each (λ i. i ≢ 0 → P i) 1 (λ _. first) (λ i off away. others i away off) m n) k
 
 past_one : (k : ℕ) → k ≢ 0 → k ≢ 1 → 2 ≤ k
 past_one k a b = let x : k ≢ 0 = a in let y : k ≢ 1 = b in omega (arith, x, y)
@@ -58,13 +61,16 @@ numbers_two = each_of_two (λ k. (status two_workers k ≡ Absent) ↔ (2 ≤ k)
     (λ k a b. (λ e. past_one k a b, λ low. absent_two k a b))
 
 given_two : (k : ℕ) → slice_get two_rows k ≡ row_given two_workers k
-given_two = each_of_two (λ k. slice_get two_rows k ≡ row_given two_workers k) refl refl (λ k a b. slice_get_past two_rows k (past_one k a b) ∙ sym (rw (ne_eqb k 0 a, ne_eqb k 1 b) refl))
+given_two = each_of_two (λ k. slice_get two_rows k ≡ row_given two_workers k) refl refl
+    (λ k a b. slice_get_past two_rows k (past_one k a b) ∙ sym (rw (ne_eqb k 0 a, ne_eqb k 1 b) refl))
 
 handed_two : (k : ℕ) → job_got two_workers k ≡ job_posted {J = ℕ} {R = ℕ} 7 two_workers k
-handed_two = each_of_two (λ k. job_got two_workers k ≡ job_posted {J = ℕ} {R = ℕ} 7 two_workers k) refl refl (λ k a b. rw (ne_eqb k 0 a, ne_eqb k 1 b) refl)
+handed_two = each_of_two (λ k. job_got two_workers k ≡ job_posted {J = ℕ} {R = ℕ} 7 two_workers k) refl refl
+    (λ k a b. rw (ne_eqb k 0 a, ne_eqb k 1 b) refl)
 
 given_fault : (k : ℕ) → slice_get fault_row k ≡ row_given one_fault k
-given_fault = each (λ k. slice_get fault_row k ≡ row_given one_fault k) 0 refl (λ k a. slice_get_past fault_row k (past_zero k a) ∙ sym (rw (ne_eqb k 0 a) refl))
+given_fault = each (λ k. slice_get fault_row k ≡ row_given one_fault k) 0 refl
+    (λ k a. slice_get_past fault_row k (past_zero k a) ∙ sym (rw (ne_eqb k 0 a) refl))
 
 handed_fault : (k : ℕ) → job_got one_fault k ≡ job_posted {J = ℕ} {R = ℕ} 7 one_fault k
 handed_fault = each (λ k. job_got one_fault k ≡ job_posted {J = ℕ} {R = ℕ} 7 one_fault k) 0 refl (λ k a. rw (ne_eqb k 0 a) refl)
@@ -85,11 +91,16 @@ alone : IsLegal {J = ℕ} {R = ℕ} 2 1 (Claim 0 0 7 ∷ [])
 alone = (tt, omega arith, (refl, λ k. idle_first 0 (k == 0)))
 
 own_legal : IsLegal 2 1 own_post
-own_legal = (((alone, omega arith, (refl, refl, omega arith, omega arith)), omega arith, refl), omega arith, (refl, λ k. idle_given (k == 0) (k == 1)))
+own_legal = (
+  ((alone, omega arith, (refl, refl, omega arith, omega arith)), omega arith, refl),
+  omega arith,
+  (refl, λ k. idle_given (k == 0) (k == 1)),
+)
 
 fault_legal : IsLegal 1 1 one_fault
 fault_legal = (((tt, omega arith, (refl, λ k. idle_first 0 (k == 0))), omega arith, (refl, refl)), omega arith, λ k. over_fault (k == 0))
 
+-- the scripts of the tests are legal histories, by computation
 pub scripts_are_legal : ScriptsAreLegal
 scripts_are_legal = record {
   two_legal = two_legal;

@@ -1,5 +1,6 @@
 -- From what is said of each end in its worker's part to what is said of the ends in the whole history.
-use Rattle.std.proofs.Common.{◌≡◌, ◌≢◌, ℕ, zero, suc, ◌<◌, ◌==◌, Bool, true, false, cond, List, [], ◌∷◌, length, slice_get, map, refl, sym, ◌∙◌, ap, subst, Option, Some, None, arith}
+use Rattle.std.proofs.Common.{◌≡◌, ◌≢◌, ℕ, zero, suc, ◌<◌, ◌==◌, Bool, true, false, cond, List, [], ◌∷◌, length, slice_get, map, refl}
+use Rattle.std.proofs.Common.{sym, ◌∙◌, ap, subst, Option, Some, None, arith}
 use Rattle.std.specs.List.{AllByRecursion}
 use Rattle.std.proofs.lemmas.Option.{slice_get_within}
 use Rattle.lc_board.specs.State.{Claimed, status}
@@ -27,7 +28,8 @@ same_some x y e = cc
 none_some : {A : Type 0} (x : A) → None ≡ Some x → ⊥
 none_some x e = absurd (cc e)
 
-within_or : {A : Type 0} (b : Bool) (x y : Option A) (z : A) (v w n : ℕ) → v < n → (y ≡ Some z → w < n) → cond b x y ≡ Some z → cond b v w < n
+within_or : {A : Type 0} (b : Bool) (x y : Option A) (z : A) (v w n : ℕ) → v < n → (y ≡ Some z → w < n) → cond b x y ≡ Some z
+    → cond b v w < n
 within_or true x y z v w n low rec e = low
 within_or false x y z v w n low rec e = rec e
 
@@ -36,7 +38,8 @@ no_witness Q [] x = refl
 no_witness Q (a ∷ given) x = absurd x
 
 -- a witness by another function that says the same at each end
-map_on : {R A : Type 0} (f g : ℕ → A) (xs : List (ℕ × Ended R)) → AllByRecursion (λ x. f x.0 ≡ g x.0) xs → map (λ x. f x.0) xs ≡ map (λ x. g x.0) xs
+map_on : {R A : Type 0} (f g : ℕ → A) (xs : List (ℕ × Ended R)) → AllByRecursion (λ x. f x.0 ≡ g x.0) xs
+    → map (λ x. f x.0) xs ≡ map (λ x. g x.0) xs
 map_on f g [] a = refl
 map_on f g (x ∷ xs) a = ap (λ y. y ∷ map (λ z. f z.0) xs) a.0 ∙ ap (λ ys. g x.0 ∷ ys) (map_on f g xs a.1)
 
@@ -45,7 +48,8 @@ module _ {J R A : Type 0} (P : Saying J R A) (c n : ℕ) where
   Lawful h given = (w : ℕ) → w < n → EachEnd (P w) (part w h) (given w)
 
   -- one event more that ends nothing
-  goes_on : (h : List (Event J R)) (e : Event J R) (given : ℕ → List A) → IsLegal c n (e ∷ h) → ((i : ℕ) → row_given (e ∷ h) i ≡ row_given h i)
+  goes_on : (h : List (Event J R)) (e : Event J R) (given : ℕ → List A) → IsLegal c n (e ∷ h)
+      → ((i : ℕ) → row_given (e ∷ h) i ≡ row_given h i)
       → ((w : ℕ) → ends (part w (e ∷ h)) ≡ ends (part w h)) → EndsHold P n h given → EndsHold P n (e ∷ h) given
   goes_on h e given l same none old = record {
     by = old.by;
@@ -68,7 +72,8 @@ module _ {J R A : Type 0} (P : Saying J R A) (c n : ℕ) where
     pub posts : (i : ℕ) → posts_under i (e ∷ h) ≡ posts_under i h
     pub one : (m : List (Event J R)) → ends (e ∷ m) ≡ (k, d) ∷ ends m
 
-  module _ (h : List (Event J R)) (e : Event J R) (k v : ℕ) (d : Ended R) (l : IsLegal c n (e ∷ h)) (is : IsEnd h e k v d) (given : ℕ → List A) (a : A) (rest : List A) (first : given v ≡ a ∷ rest)
+  module _ (h : List (Event J R)) (e : Event J R) (k v : ℕ) (d : Ended R) (l : IsLegal c n (e ∷ h)) (is : IsEnd h e k v d)
+      (given : ℕ → List A) (a : A) (rest : List A) (first : given v ≡ a ∷ rest)
       (here : P v (job_held (part v h)) (posts_held (part v h)) d a) (old : EndsHold P n h (put given v rest)) where
     abbrev by : ℕ → A
     by = put old.by k a
@@ -123,43 +128,71 @@ module _ {J R A : Type 0} (P : Saying J R A) (c n : ℕ) where
     with_end = record { by = by; holds = each SaidOf k said_here said_else; given_by = each GivenBy v given_here given_else }
 
   -- the witnesses but the newest one of v
-  fewer : (h : List (Event J R)) (e : Event J R) (v : ℕ) (given : ℕ → List A) (rest : List A) → worker_of e ≡ v → EachEnd (P v) (part v h) rest → Lawful (e ∷ h) given → Lawful h (put given v rest)
+  fewer : (h : List (Event J R)) (e : Event J R) (v : ℕ) (given : ℕ → List A) (rest : List A) → worker_of e ≡ v
+      → EachEnd (P v) (part v h) rest → Lawful (e ∷ h) given → Lawful h (put given v rest)
   fewer h e v given rest own mine all w low =
       at_put given v rest (λ u g. EachEnd (P u) (part u h) g) w mine
       (λ away. subst (λ m. EachEnd (P w) m (given w)) (part_else w h e (λ z. away (sym z ∙ own))) (all w low))
 
-  returned : (h : List (Event J R)) (v k : ℕ) (r : R) (given : ℕ → List A) (g : List A) → given v ≡ g → IsLegal c n (Return v k r ∷ h) → EachEnd (P v) (Return v k r ∷ part v h) g
+  returned : (h : List (Event J R)) (v k : ℕ) (r : R) (given : ℕ → List A) (g : List A) → given v ≡ g → IsLegal c n (Return v k r ∷ h)
+      → EachEnd (P v) (Return v k r ∷ part v h) g
       → ((f : ℕ → List A) → Lawful h f → EndsHold P n h f) → Lawful (Return v k r ∷ h) given → EndsHold P n (Return v k r ∷ h) given
   returned h v k r given [] is l x rec all = absurd x
   returned h v k r given (a ∷ rest) is l x rec all =
-      with_end h (Return v k r) k v (ended.Returned r) l (record { own = refl; held = l.2; rows = λ i. refl; enders = λ i. refl; jobs = λ i. refl; posts = λ i. refl; one = λ m. refl }) given a rest is x.0
+      with_end h (Return v k r) k v (ended.Returned r) l
+      (record {
+        own = refl;
+        held = l.2;
+        rows = λ i. refl;
+        enders = λ i. refl;
+        jobs = λ i. refl;
+        posts = λ i. refl;
+        one = λ m. refl;
+      }) given a rest is x.0
       (rec (put given v rest) (fewer h (Return v k r) v given rest refl x.1 all))
 
-  faulted : (h : List (Event J R)) (v k : ℕ) (r : R) (given : ℕ → List A) (g : List A) → given v ≡ g → IsLegal c n (Fault v k r ∷ h) → EachEnd (P v) (Fault v k r ∷ part v h) g
+  faulted : (h : List (Event J R)) (v k : ℕ) (r : R) (given : ℕ → List A) (g : List A) → given v ≡ g → IsLegal c n (Fault v k r ∷ h)
+      → EachEnd (P v) (Fault v k r ∷ part v h) g
       → ((f : ℕ → List A) → Lawful h f → EndsHold P n h f) → Lawful (Fault v k r ∷ h) given → EndsHold P n (Fault v k r ∷ h) given
   faulted h v k r given [] is l x rec all = absurd x
   faulted h v k r given (a ∷ rest) is l x rec all =
-      with_end h (Fault v k r) k v (ended.Faulted r) l (record { own = refl; held = l.2.0; rows = λ i. refl; enders = λ i. refl; jobs = λ i. refl; posts = λ i. refl; one = λ m. refl }) given a rest is x.0
+      with_end h (Fault v k r) k v (ended.Faulted r) l
+      (record {
+        own = refl;
+        held = l.2.0;
+        rows = λ i. refl;
+        enders = λ i. refl;
+        jobs = λ i. refl;
+        posts = λ i. refl;
+        one = λ m. refl;
+      }) given a rest is x.0
       (rec (put given v rest) (fewer h (Fault v k r) v given rest refl x.1 all))
 
-  own_part : (h : List (Event J R)) (e : Event J R) (given : ℕ → List A) → Lawful (e ∷ h) given → worker_of e < n → EachEnd (P (worker_of e)) (e ∷ part (worker_of e) h) (given (worker_of e))
-  own_part h e given all low = subst (λ m. EachEnd (P (worker_of e)) m (given (worker_of e))) (part_own (worker_of e) h e refl) (all (worker_of e) low)
+  own_part : (h : List (Event J R)) (e : Event J R) (given : ℕ → List A) → Lawful (e ∷ h) given → worker_of e < n
+      → EachEnd (P (worker_of e)) (e ∷ part (worker_of e) h) (given (worker_of e))
+  own_part h e given all low =
+      subst (λ m. EachEnd (P (worker_of e)) m (given (worker_of e))) (part_own (worker_of e) h e refl) (all (worker_of e) low)
 
 -- an event that ends nothing leaves a part's witnesses
 module _ {J R A : Type 0} where
-  past_post : (Q : Option J → List (ℕ × J) → Ended R → A → Type 0) (v p k : ℕ) (j : J) (m : List (Event J R)) (g : List A) (b : Bool) → EachEnd Q (cond b (Post v p k j ∷ m) m) g → EachEnd Q m g
+  past_post : (Q : Option J → List (ℕ × J) → Ended R → A → Type 0) (v p k : ℕ) (j : J) (m : List (Event J R)) (g : List A) (b : Bool)
+      → EachEnd Q (cond b (Post v p k j ∷ m) m) g → EachEnd Q m g
   past_post Q v p k j m g true x = x
   past_post Q v p k j m g false x = x
 
-  past_claim : (Q : Option J → List (ℕ × J) → Ended R → A → Type 0) (v k : ℕ) (j : J) (m : List (Event J R)) (g : List A) (b : Bool) → EachEnd Q (cond b (Claim v k j ∷ m) m) g → EachEnd Q m g
+  past_claim : (Q : Option J → List (ℕ × J) → Ended R → A → Type 0) (v k : ℕ) (j : J) (m : List (Event J R)) (g : List A) (b : Bool)
+      → EachEnd Q (cond b (Claim v k j ∷ m) m) g → EachEnd Q m g
   past_claim Q v k j m g true x = x
   past_claim Q v k j m g false x = x
 
-  past_over : (Q : Option J → List (ℕ × J) → Ended R → A → Type 0) (v : ℕ) (m : List (Event J R)) (g : List A) (b : Bool) → EachEnd Q (cond b (Over v ∷ m) m) g → EachEnd Q m g
+  past_over : (Q : Option J → List (ℕ × J) → Ended R → A → Type 0) (v : ℕ) (m : List (Event J R)) (g : List A) (b : Bool)
+      → EachEnd Q (cond b (Over v ∷ m) m) g → EachEnd Q m g
   past_over Q v m g true x = x
   past_over Q v m g false x = x
 
-  pub ends_hold : (P : Saying J R A) (blank : A) (c n : ℕ) (h : List (Event J R)) → IsLegal c n h → (given : ℕ → List A) → ((w : ℕ) → w < n → EachEnd (P w) (part w h) (given w)) → EndsHold P n h given
+  -- what is said of each end in its worker's part holds of all ends of the history
+  pub ends_hold : (P : Saying J R A) (blank : A) (c n : ℕ) (h : List (Event J R)) → IsLegal c n h → (given : ℕ → List A)
+      → ((w : ℕ) → w < n → EachEnd (P w) (part w h) (given w)) → EndsHold P n h given
   ends_hold P blank c n [] l given all = record {
     by = λ i. blank;
     holds = λ i e g. absurd (none_some e g);
@@ -172,9 +205,11 @@ module _ {J R A : Type 0} where
       goes_on P c n h (Claim v k j) given l (λ i. refl) (λ w. no_end (Claim v k j) (part w h) refl (v == w))
       (ends_hold P blank c n h l.0 given (λ w low. past_claim (P w) v k j (part w h) (given w) (v == w) (all w low)))
   ends_hold P blank c n (Return v k r ∷ h) l given all =
-      returned P c n h v k r given (given v) refl l (own_part P c n h (Return v k r) given all l.1) (λ f lawful. ends_hold P blank c n h l.0 f lawful) all
+      returned P c n h v k r given (given v) refl l (own_part P c n h (Return v k r) given all l.1)
+      (λ f lawful. ends_hold P blank c n h l.0 f lawful) all
   ends_hold P blank c n (Fault v k r ∷ h) l given all =
-      faulted P c n h v k r given (given v) refl l (own_part P c n h (Fault v k r) given all l.1) (λ f lawful. ends_hold P blank c n h l.0 f lawful) all
+      faulted P c n h v k r given (given v) refl l (own_part P c n h (Fault v k r) given all l.1)
+      (λ f lawful. ends_hold P blank c n h l.0 f lawful) all
   ends_hold P blank c n (Over v ∷ h) l given all =
       goes_on P c n h (Over v) given l (λ i. refl) (λ w. no_end (Over v) (part w h) refl (v == w))
       (ends_hold P blank c n h l.0 given (λ w low. past_over (P w) v (part w h) (given w) (v == w) (all w low)))
@@ -193,17 +228,23 @@ module _ {J R : Type 0} where
   ender_within c n (Post v p k j ∷ h) l i e g = ender_within c n h l.0 i e g
   ender_within c n (Claim v k j ∷ h) l i e g = ender_within c n h l.0 i e g
   ender_within c n (Over v ∷ h) l i e g = ender_within c n h l.0 i e g
-  ender_within c n (Return v k r ∷ h) l i e g = within_or (i == k) (Some (ended.Returned r)) (row_given h i) e v (ender h i) n l.1 (ender_within c n h l.0 i e) g
-  ender_within c n (Fault v k r ∷ h) l i e g = within_or (i == k) (Some (ended.Faulted r)) (row_given h i) e v (ender h i) n l.1 (ender_within c n h l.0 i e) g
+  ender_within c n (Return v k r ∷ h) l i e g =
+      within_or (i == k) (Some (ended.Returned r)) (row_given h i) e v (ender h i) n l.1 (ender_within c n h l.0 i e) g
+  ender_within c n (Fault v k r ∷ h) l i e g =
+      within_or (i == k) (Some (ended.Faulted r)) (row_given h i) e v (ender h i) n l.1 (ender_within c n h l.0 i e) g
 
-  pub rows_hold : {A : Type 0} (P : Saying J R A) (blank : A) (c n : ℕ) (root : J) (promises : Promises) (passes : List (Pass J R)) (rows : List (Ended R)) (settled : Settled c n root promises passes rows)
-      → promises.keeps ≡ true → length passes ≡ n → (given : ℕ → List A) → ((w : ℕ) (p : Pass J R) → slice_get passes w ≡ Some p → EachEnd (P w) p.mine (given w))
+  -- and so of the rows of the closed board
+  pub rows_hold : {A : Type 0} (P : Saying J R A) (blank : A) (c n : ℕ) (root : J) (promises : Promises) (passes : List (Pass J R))
+      (rows : List (Ended R)) (settled : Settled c n root promises passes rows)
+      → promises.keeps ≡ true → length passes ≡ n → (given : ℕ → List A)
+      → ((w : ℕ) (p : Pass J R) → slice_get passes w ≡ Some p → EachEnd (P w) p.mine (given w))
       → RowsHold P n settled.history passes rows given
   rows_hold P blank c n root promises passes rows settled keeps count given all =
       let h = settled.history in
       let placed = settled.in_place keeps in
       let e = ends_hold P blank c n h settled.legal given
-      (λ w low. let p = got_here passes w (omega arith) in subst (λ m. EachEnd (P w) m (given w)) (sym (settled.parts w p.0 p.1)) (all w p.0 p.1)) in
+      (λ w low. let p = got_here passes w (omega arith) in subst (λ m. EachEnd (P w) m (given w)) (sym (settled.parts w p.0 p.1))
+      (all w p.0 p.1)) in
       record {
         by = e.by;
         ender_is = λ i r at. ender_within c n h settled.legal i r (sym (placed.given i) ∙ at);

@@ -1,5 +1,6 @@
 -- A worker's part of a legal history tells which number the worker has claimed, with which job, and what it has posted under it.
-use Rattle.std.proofs.Common.{◌≡◌, ◌≢◌, ℕ, ◌==◌, cond, Bool, true, false, List, [], ◌∷◌, ◌++◌, length, Some, None, refl, sym, ◌∙◌, ap, arith, eq-eqb, length-append}
+use Rattle.std.proofs.Common.{◌≡◌, ◌≢◌, ℕ, ◌==◌, cond, Bool, true, false, List, [], ◌∷◌, ◌++◌, length, Some, None, refl, sym, ◌∙◌, ap}
+use Rattle.std.proofs.Common.{arith, eq-eqb, length-append}
 use Rattle.std.proofs.lemmas.Bool.{eqb-true}
 use Rattle.std.proofs.lemmas.List.{nil_from_length}
 use Rattle.lc_board.specs.State.{Status, Absent, Open, Claimed, Returned, Faulted, status}
@@ -31,7 +32,8 @@ module _ {J R : Type 0} where
     pub yes : (i : ℕ) → holding (part w h) ≡ Some i → status h i ≡ Claimed w
     pub back : (i : ℕ) → status h i ≡ Claimed w → holding (part w h) ≡ Some i
 
-  holding_same : (e : Event J R) → ((q : List (Event J R)) → holding (e ∷ q) ≡ holding q) → (b : Bool) (q : List (Event J R)) → holding (cond b (e ∷ q) q) ≡ holding q
+  holding_same : (e : Event J R) → ((q : List (Event J R)) → holding (e ∷ q) ≡ holding q) → (b : Bool) (q : List (Event J R))
+      → holding (cond b (e ∷ q) q) ≡ holding q
   holding_same e same true q = same q
   holding_same e same false q = refl
 
@@ -50,7 +52,8 @@ module _ {J R : Type 0} where
         back = λ i s. let was = unput (i == k) Open (status h i) (Claimed w) (λ x. absurd (cc x)) s in same ∙ o.back i was.1;
       }
 
-  one_claim : (w u k : ℕ) (j : J) (h : List (Event J R)) (b : Bool) → (u == w) ≡ b → status h k ≡ Open → ((m : ℕ) → status h m ≢ Claimed u) → HoldsOne w h
+  one_claim : (w u k : ℕ) (j : J) (h : List (Event J R)) (b : Bool) → (u == w) ≡ b → status h k ≡ Open
+      → ((m : ℕ) → status h m ≢ Claimed u) → HoldsOne w h
       → ((i : ℕ) → holding (cond b (Claim u k j ∷ part w h) (part w h)) ≡ Some i → status (Claim u k j ∷ h) i ≡ Claimed w)
       × ((i : ℕ) → status (Claim u k j ∷ h) i ≡ Claimed w → holding (cond b (Claim u k j ∷ part w h) (part w h)) ≡ Some i)
   one_claim w u k j h true e ready idle o =
@@ -68,7 +71,8 @@ module _ {J R : Type 0} where
   )
 
   -- the end of a claim, by which the number becomes x
-  one_end : (x : Status) (w u k : ℕ) (e : Event J R) (h : List (Event J R)) (b : Bool) → (u == w) ≡ b → x ≢ Claimed w → holding (e ∷ part w h) ≡ None → status h k ≡ Claimed u → HoldsOne w h
+  one_end : (x : Status) (w u k : ℕ) (e : Event J R) (h : List (Event J R)) (b : Bool) → (u == w) ≡ b → x ≢ Claimed w
+      → holding (e ∷ part w h) ≡ None → status h k ≡ Claimed u → HoldsOne w h
       → ((i : ℕ) → holding (cond b (e ∷ part w h) (part w h)) ≡ Some i → cond (i == k) x (status h i) ≡ Claimed w)
       × ((i : ℕ) → cond (i == k) x (status h i) ≡ Claimed w → holding (cond b (e ∷ part w h) (part w h)) ≡ Some i)
   one_end x w u k e h true is n none held o = (
@@ -85,9 +89,12 @@ module _ {J R : Type 0} where
   holds_one : (c n w : ℕ) (h : List (Event J R)) → IsLegal c n h → HoldsOne w h
   holds_one c n w [] l = record { yes = λ i e. absurd (cc e); back = λ i s. absurd (first_none w (i == 0) s) }
   holds_one c n w (Post u p k j ∷ h) l = one_post w u p k j h l.2.1 (holds_one c n w h l.0)
-  holds_one c n w (Claim u k j ∷ h) l = let x = one_claim w u k j h (u == w) refl l.2.0 l.2.1 (holds_one c n w h l.0) in record { yes = x.0; back = x.1 }
-  holds_one c n w (Return u k r ∷ h) l = let x = one_end Returned w u k (Return u k r) h (u == w) refl (λ y. absurd (cc y)) refl l.2 (holds_one c n w h l.0) in record { yes = x.0; back = x.1 }
-  holds_one c n w (Fault u k r ∷ h) l = let x = one_end Faulted w u k (Fault u k r) h (u == w) refl (λ y. absurd (cc y)) refl l.2.0 (holds_one c n w h l.0) in record { yes = x.0; back = x.1 }
+  holds_one c n w (Claim u k j ∷ h) l = let x = one_claim w u k j h (u == w) refl l.2.0 l.2.1 (holds_one c n w h l.0) in
+      record { yes = x.0; back = x.1 }
+  holds_one c n w (Return u k r ∷ h) l = let x = one_end Returned w u k (Return u k r) h (u == w) refl (λ y. absurd (cc y)) refl l.2
+      (holds_one c n w h l.0) in record { yes = x.0; back = x.1 }
+  holds_one c n w (Fault u k r ∷ h) l = let x = one_end Faulted w u k (Fault u k r) h (u == w) refl (λ y. absurd (cc y)) refl l.2.0
+      (holds_one c n w h l.0) in record { yes = x.0; back = x.1 }
   holds_one c n w (Over u ∷ h) l =
       let o = holds_one c n w h l.0 in
       let same = holding_same (Over u) (λ q. refl) (u == w) (part w h) in
@@ -113,8 +120,10 @@ module _ {J R : Type 0} where
       let t = told i was.1 in
       (t.0, t.1 ∙ sym (at_other i p (posts_under i h ++ (k, j) ∷ []) (posts_under i h) n))
 
-  tell_claim : (w u k : ℕ) (j : J) (h : List (Event J R)) (b : Bool) → (u == w) ≡ b → posts_under k h ≡ [] → ((m : ℕ) → status h m ≢ Claimed u) → AllTold w h
-      → (i : ℕ) (c : Bool) → (i == k) ≡ c → cond c (Claimed u) (status h i) ≡ Claimed w → Tells (cond b (Claim u k j ∷ part w h) (part w h)) i (Claim u k j ∷ h)
+  tell_claim : (w u k : ℕ) (j : J) (h : List (Event J R)) (b : Bool) → (u == w) ≡ b → posts_under k h ≡ []
+      → ((m : ℕ) → status h m ≢ Claimed u) → AllTold w h
+      → (i : ℕ) (c : Bool) → (i == k) ≡ c → cond c (Claimed u) (status h i) ≡ Claimed w
+      → Tells (cond b (Claim u k j ∷ part w h) (part w h)) i (Claim u k j ∷ h)
   tell_claim w u k j h true e none idle told i true f s =
       let is = eqb-true i k f in
       (sym (at_same i k (Some j) (job_got h i) is), sym (ap (λ m. posts_under m h) is ∙ none))
@@ -124,7 +133,8 @@ module _ {J R : Type 0} where
       let t = told i was.1 in
       (t.0 ∙ sym (at_other i k (Some j) (job_got h i) (apart i k (f ∙ was.0))), t.1)
 
-  tell_end : (x : Status) (w u k : ℕ) (e : Event J R) (h : List (Event J R)) (b : Bool) → (u == w) ≡ b → x ≢ Claimed w → status h k ≡ Claimed u → HoldsOne w h → AllTold w h
+  tell_end : (x : Status) (w u k : ℕ) (e : Event J R) (h : List (Event J R)) (b : Bool) → (u == w) ≡ b → x ≢ Claimed w
+      → status h k ≡ Claimed u → HoldsOne w h → AllTold w h
       → (i : ℕ) → cond (i == k) x (status h i) ≡ Claimed w → Tells (cond b (e ∷ part w h) (part w h)) i h
   tell_end x w u k e h true is n held o told i s =
       let was = unput (i == k) x (status h i) (Claimed w) n s in
@@ -142,8 +152,10 @@ module _ {J R : Type 0} where
   all_told c n w (Claim u k j ∷ h) l i s =
       let fresh = open_fresh c n h l.0 k l.2.0 in
       tell_claim w u k j h (u == w) refl fresh.posts l.2.1 (all_told c n w h l.0) i (i == k) refl s
-  all_told c n w (Return u k r ∷ h) l i s = tell_end Returned w u k (Return u k r) h (u == w) refl (λ y. absurd (cc y)) l.2 (holds_one c n w h l.0) (all_told c n w h l.0) i s
-  all_told c n w (Fault u k r ∷ h) l i s = tell_end Faulted w u k (Fault u k r) h (u == w) refl (λ y. absurd (cc y)) l.2.0 (holds_one c n w h l.0) (all_told c n w h l.0) i s
+  all_told c n w (Return u k r ∷ h) l i s =
+      tell_end Returned w u k (Return u k r) h (u == w) refl (λ y. absurd (cc y)) l.2 (holds_one c n w h l.0) (all_told c n w h l.0) i s
+  all_told c n w (Fault u k r ∷ h) l i s =
+      tell_end Faulted w u k (Fault u k r) h (u == w) refl (λ y. absurd (cc y)) l.2.0 (holds_one c n w h l.0) (all_told c n w h l.0) i s
   all_told c n w (Over u ∷ h) l i s = tell_over u i h (u == w) (part w h) (all_told c n w h l.0 i s)
 
   posted_is : (m : List (Event J R)) → posted m ≡ length (posts_held m)
@@ -154,9 +166,11 @@ module _ {J R : Type 0} where
   posted_is (Fault w i r ∷ m) = refl
   posted_is (Over w ∷ m) = posted_is m
 
-  counts_posts : (c n w : ℕ) (h : List (Event J R)) → IsLegal c n h → (i : ℕ) → status h i ≡ Claimed w → posted (part w h) ≡ length (posts_under i h)
+  counts_posts : (c n w : ℕ) (h : List (Event J R)) → IsLegal c n h → (i : ℕ) → status h i ≡ Claimed w
+      → posted (part w h) ≡ length (posts_under i h)
   counts_posts c n w h l i s = posted_is (part w h) ∙ ap length (all_told c n w h l i s).1
 
+  -- a worker's part tells its claim
   pub part_tells_claim : PartTellsClaim J R
   part_tells_claim c n h l w =
       let o = holds_one c n w h l in
@@ -168,6 +182,7 @@ module _ {J R : Type 0} where
         posts_are = λ i s. (told i s).1;
       }
 
+  -- under a number that was just claimed nothing is posted
   pub posted_nothing : PostedNothing J R
   posted_nothing c n h l w i s =
       let count = counts_posts c n w h l i s in (

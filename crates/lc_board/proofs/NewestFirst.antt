@@ -14,5 +14,6 @@ pub newest_push : {A : Type 0} (xs : List A) (x : A) → newest_first (xs ++ x �
 newest_push xs x = onto_push [] xs x
 
 -- the event of a note that is pushed comes first
-pub mine_push : {J R : Type 0} (notes : List (Event (Snapshot J) (Snapshot R))) (n : Event (Snapshot J) (Snapshot R)) → mine_of (notes ++ n ∷ []) ≡ valued n ∷ mine_of notes
+pub mine_push : {J R : Type 0} (notes : List (Event (Snapshot J) (Snapshot R))) (n : Event (Snapshot J) (Snapshot R))
+    → mine_of (notes ++ n ∷ []) ≡ valued n ∷ mine_of notes
 mine_push {J} {R} notes n = ap (λ (ns : List (Event (Snapshot J) (Snapshot R))). map valued ns) (newest_push notes n)

@@ -16,15 +16,18 @@ post_counts : (b : Bool) (s : Status) (p c e : ℕ) → Counts s p c e → (b �
 post_counts true s p c e x is = let y = subst (λ t. Counts t p c e) (is refl) x in (omega (arith, y.0), y.1, y.2)
 post_counts false s p c e x is = x
 
-claim_counts : (b : Bool) (w : ℕ) (s : Status) (p c e : ℕ) → Counts s p c e → (b ≡ true → s ≡ Open) → Counts (cond b (Claimed w) s) p (cond b (c + 1) c) e
+claim_counts : (b : Bool) (w : ℕ) (s : Status) (p c e : ℕ) → Counts s p c e → (b ≡ true → s ≡ Open)
+    → Counts (cond b (Claimed w) s) p (cond b (c + 1) c) e
 claim_counts true w s p c e x is = let y = subst (λ t. Counts t p c e) (is refl) x in (y.0, omega (arith, y.1), y.2)
 claim_counts false w s p c e x is = x
 
-return_counts : (b : Bool) (w : ℕ) (s : Status) (p c e : ℕ) → Counts s p c e → (b ≡ true → s ≡ Claimed w) → Counts (cond b Returned s) p c (cond b (e + 1) e)
+return_counts : (b : Bool) (w : ℕ) (s : Status) (p c e : ℕ) → Counts s p c e → (b ≡ true → s ≡ Claimed w)
+    → Counts (cond b Returned s) p c (cond b (e + 1) e)
 return_counts true w s p c e x is = let y = subst (λ t. Counts t p c e) (is refl) x in (y.0, y.1, omega (arith, y.2))
 return_counts false w s p c e x is = x
 
-fault_counts : (b : Bool) (w : ℕ) (s : Status) (p c e : ℕ) → Counts s p c e → (b ≡ true → s ≡ Claimed w) → Counts (cond b Faulted s) p c (cond b (e + 1) e)
+fault_counts : (b : Bool) (w : ℕ) (s : Status) (p c e : ℕ) → Counts s p c e → (b ≡ true → s ≡ Claimed w)
+    → Counts (cond b Faulted s) p c (cond b (e + 1) e)
 fault_counts true w s p c e x is = let y = subst (λ t. Counts t p c e) (is refl) x in (y.0, y.1, omega (arith, y.2))
 fault_counts false w s p c e x is = x
 
@@ -36,15 +39,18 @@ post_given : {R : Type 0} (b : Bool) (s : Status) (o : Option (Ended R)) → Giv
 post_given true s o x is = subst (λ t. GivenAs t o) (is refl) x
 post_given false s o x is = x
 
-claim_given : {R : Type 0} (b : Bool) (w : ℕ) (s : Status) (o : Option (Ended R)) → GivenAs s o → (b ≡ true → s ≡ Open) → GivenAs (cond b (Claimed w) s) o
+claim_given : {R : Type 0} (b : Bool) (w : ℕ) (s : Status) (o : Option (Ended R)) → GivenAs s o → (b ≡ true → s ≡ Open)
+    → GivenAs (cond b (Claimed w) s) o
 claim_given true w s o x is = subst (λ t. GivenAs t o) (is refl) x
 claim_given false w s o x is = x
 
-return_given : {R : Type 0} (b : Bool) (r : R) (s : Status) (o : Option (Ended R)) → GivenAs s o → GivenAs (cond b Returned s) (cond b (Some (ended.Returned r)) o)
+return_given : {R : Type 0} (b : Bool) (r : R) (s : Status) (o : Option (Ended R)) → GivenAs s o
+    → GivenAs (cond b Returned s) (cond b (Some (ended.Returned r)) o)
 return_given true r s o x = (r, refl)
 return_given false r s o x = x
 
-fault_given : {R : Type 0} (b : Bool) (r : R) (s : Status) (o : Option (Ended R)) → GivenAs s o → GivenAs (cond b Faulted s) (cond b (Some (ended.Faulted r)) o)
+fault_given : {R : Type 0} (b : Bool) (r : R) (s : Status) (o : Option (Ended R)) → GivenAs s o
+    → GivenAs (cond b Faulted s) (cond b (Some (ended.Faulted r)) o)
 fault_given true r s o x = (r, refl)
 fault_given false r s o x = x
 
@@ -53,6 +59,7 @@ module _ {J R : Type 0} where
   pub named : (h : List (Event J R)) (k i : ℕ) (s : Status) → status h i ≡ s → (k == i) ≡ true → status h k ≡ s
   named h k i s is e = ap (λ m. status h m) (eqb-true k i e) ∙ is
 
+  -- nothing happens twice to a number
   pub numbers_once : NumbersOnce J R
   numbers_once c n [] l k = first_counts (k == 0)
   numbers_once c n (Post w p i j ∷ h) l k = post_counts (k == i) _ _ _ _ (numbers_once c n h l.0 k) (named h k i Absent l.2.1)
@@ -61,6 +68,7 @@ module _ {J R : Type 0} where
   numbers_once c n (Fault w i r ∷ h) l k = fault_counts (k == i) w _ _ _ _ (numbers_once c n h l.0 k) (named h k i (Claimed w) l.2.0)
   numbers_once c n (Over w ∷ h) l k = numbers_once c n h l.0 k
 
+  -- an ended number has a row
   pub ended_has_row : EndedHasRow J R
   ended_has_row c n [] l k = first_given R (k == 0)
   ended_has_row c n (Post w p i j ∷ h) l k = post_given (k == i) _ _ (ended_has_row c n h l.0 k) (named h k i Absent l.2.1)

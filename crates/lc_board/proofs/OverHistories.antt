@@ -7,6 +7,7 @@ use Rattle.lc_board.specs.declared.event.Event.{Event}
 use Rattle.lc_board.specs.declared.event.Event.TheVariants.{Post, Claim, Return, Fault, Over}
 
 module _ {J R : Type 0} where
+  -- one event more leaves a history over
   pub over_goes_on : (c : ℕ) (h : List (Event J R)) (e : Event J R) → IsAllowed c h e → IsOver h → IsOver (e ∷ h)
   over_goes_on c h (Post w p i j) a o = absurd ((o p).1 w a.0)
   over_goes_on c h (Claim w i j) a o = absurd ((o i).0 a.0)
@@ -20,10 +21,12 @@ module _ {J R : Type 0} where
   first_is : (x y : Event J R) (xs ys : List (Event J R)) → x ∷ xs ≡ y ∷ ys → x ≡ y
   first_is x y xs ys e = cc e
 
-  over_by : (c w : ℕ) (h m : List (Event J R)) (e : Event J R) (b : Bool) → IsAllowed c h e → (part w h ≡ Over w ∷ m → IsOver h) → cond b (e ∷ part w h) (part w h) ≡ Over w ∷ m → IsOver (e ∷ h)
+  over_by : (c w : ℕ) (h m : List (Event J R)) (e : Event J R) (b : Bool) → IsAllowed c h e → (part w h ≡ Over w ∷ m → IsOver h)
+      → cond b (e ∷ part w h) (part w h) ≡ Over w ∷ m → IsOver (e ∷ h)
   over_by c w h m e true a before is = over_told c w h e (first_is e (Over w) (part w h) m is) a
   over_by c w h m e false a before is = over_goes_on c h e a (before is)
 
+  -- so do many
   pub over_stays : OverStays J R
   over_stays c n [] l w m is = absurd (cc is)
   over_stays c n (e ∷ h) l w m is = over_by c w h m e (worker_of e == w) l.2 (over_stays c n h l.0 w m) is

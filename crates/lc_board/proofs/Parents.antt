@@ -1,5 +1,6 @@
 -- Each number of a legal history but 0 was posted under exactly one number, once.
-use Rattle.std.proofs.Common.{◌≡◌, ◌≢◌, ℕ, ◌<◌, ◌==◌, Bool, true, false, cond, List, [], ◌∷◌, ◌++◌, refl, sym, ◌∙◌, ap, arith, subst, ◌⊎◌, inl, inr, eq-eqb}
+use Rattle.std.proofs.Common.{◌≡◌, ◌≢◌, ℕ, ◌<◌, ◌==◌, Bool, true, false, cond, List, [], ◌∷◌, ◌++◌, refl, sym, ◌∙◌, ap, arith, subst}
+use Rattle.std.proofs.Common.{◌⊎◌, inl, inr, eq-eqb}
 use Rattle.std.specs.List.{AllByRecursion}
 use Rattle.std.proofs.lemmas.Bool.{eqb-true}
 use Rattle.lc_board.specs.State.{Absent, Open, Claimed, status}
@@ -32,7 +33,9 @@ in_either k (x ∷ xs) y (inr i) = at (in_either k xs y i)
     at (inl j) = inl (inr j)
     at (inr e) = inr e
 
-pub each_in : {J : Type 0} (P : (ℕ × J) → Type 0) (k : ℕ) (cs : List (ℕ × J)) → AllByRecursion P cs → IsIn k cs → (c : ℕ × J) × P c × (c.0 ≡ k)
+-- what holds of all posts holds of that of a number
+pub each_in : {J : Type 0} (P : (ℕ × J) → Type 0) (k : ℕ) (cs : List (ℕ × J)) → AllByRecursion P cs → IsIn k cs
+    → (c : ℕ × J) × P c × (c.0 ≡ k)
 each_in P k [] a i = absurd i
 each_in P k (c ∷ cs) a (inl e) = (c, a.0, e)
 each_in P k (c ∷ cs) a (inr i) = each_in P k cs a.1 i
@@ -62,7 +65,8 @@ in_last : {J : Type 0} (b : Bool) (xs : List (ℕ × J)) (k : ℕ) (j : J) → b
 in_last true xs k j e = in_right k xs ((k, j) ∷ []) (inl refl)
 in_last false xs k j e = cc
 
-out_cond : {J : Type 0} (b : Bool) (k : ℕ) (xs : List (ℕ × J)) (y : ℕ × J) → IsIn k (cond b (xs ++ y ∷ []) xs) → IsIn k xs ⊎ ((y.0 ≡ k) × (b ≡ true))
+out_cond : {J : Type 0} (b : Bool) (k : ℕ) (xs : List (ℕ × J)) (y : ℕ × J) → IsIn k (cond b (xs ++ y ∷ []) xs)
+    → IsIn k xs ⊎ ((y.0 ≡ k) × (b ≡ true))
 out_cond true k xs y i = at (in_either k xs y i)
   where
     at : IsIn k xs ⊎ (y.0 ≡ k) → IsIn k xs ⊎ ((y.0 ≡ k) × (true ≡ true))
@@ -81,6 +85,7 @@ module _ {J R : Type 0} where
       let r = each_in (Known c top h p) k (posts_under p h) (known c n top h l p) i in
       λ a. r.1.there (ap (λ x. status h x) r.2 ∙ a)
 
+  -- a number is posted under a lower one
   pub posted_above : (c n : ℕ) (top : J) (h : List (Event J R)) → IsLegal c n h → (p k : ℕ) → IsIn k (posts_under p h) → p < k
   posted_above c n top h l p k i =
       let r = each_in (Known c top h p) k (posts_under p h) (known c n top h l p) i in
@@ -88,17 +93,22 @@ module _ {J R : Type 0} where
       let same : r.0.0 ≡ k = r.2 in
       omega arith
 
+  -- under one number each is posted once
   pub posts_once : (c n : ℕ) (top : J) (h : List (Event J R)) → IsLegal c n h → (p : ℕ) → IsOnce (posts_under p h)
   posts_once c n top [] l p = tt
-  posts_once c n top (Post w q i j ∷ h) l p = once_cond (p == q) (posts_under p h) (i, j) (posts_once c n top h l.0 p) (λ x. posted_there c n top h l.0 p i x l.2.1)
+  posts_once c n top (Post w q i j ∷ h) l p =
+      once_cond (p == q) (posts_under p h) (i, j) (posts_once c n top h l.0 p) (λ x. posted_there c n top h l.0 p i x l.2.1)
   posts_once c n top (Claim w i j ∷ h) l p = posts_once c n top h l.0 p
   posts_once c n top (Return w i r ∷ h) l p = posts_once c n top h l.0 p
   posts_once c n top (Fault w i r ∷ h) l p = posts_once c n top h l.0 p
   posts_once c n top (Over w ∷ h) l p = posts_once c n top h l.0 p
 
-  pub one_parent : (c n : ℕ) (top : J) (h : List (Event J R)) → IsLegal c n h → (p q k : ℕ) → IsIn k (posts_under p h) → IsIn k (posts_under q h) → p ≡ q
+  -- and under no other number
+  pub one_parent : (c n : ℕ) (top : J) (h : List (Event J R)) → IsLegal c n h → (p q k : ℕ) → IsIn k (posts_under p h)
+      → IsIn k (posts_under q h) → p ≡ q
   one_parent c n top [] l p q k a b = absurd a
-  one_parent c n top (Post w r i j ∷ h) l p q k a b = at (one_parent c n top h l.0 p q k) (out_cond (p == r) k (posts_under p h) (i, j) a) (out_cond (q == r) k (posts_under q h) (i, j) b)
+  one_parent c n top (Post w r i j ∷ h) l p q k a b = at (one_parent c n top h l.0 p q k)
+      (out_cond (p == r) k (posts_under p h) (i, j) a) (out_cond (q == r) k (posts_under q h) (i, j) b)
     where
       never : (x : ℕ) → IsIn k (posts_under x h) → i ≡ k → ⊥
       never x y e = posted_there c n top h l.0 x k y (ap (λ z. status h z) (sym e) ∙ l.2.1)
@@ -118,20 +128,31 @@ module _ {J R : Type 0} where
   abbrev pub HasParent : List (Event J R) → ℕ → Type 0
   HasParent h k = (k ≡ 0) ⊎ ((p : ℕ) × (status h p ≢ Absent) × IsIn k (posts_under p h))
 
-  keep_parent : (h : List (Event J R)) (e : Event J R) (k : ℕ) → ((p : ℕ) → IsIn k (posts_under p h) → IsIn k (posts_under p (e ∷ h))) → HasParent h k → HasParent (e ∷ h) k
+  keep_parent : (h : List (Event J R)) (e : Event J R) (k : ℕ) → ((p : ℕ) → IsIn k (posts_under p h) → IsIn k (posts_under p (e ∷ h)))
+      → HasParent h k → HasParent (e ∷ h) k
   keep_parent h e k f (inl z) = inl z
   keep_parent h e k f (inr p) = inr (p.0, λ a. p.1 (persist e h p.0 a), f p.0 p.2)
 
+  -- a number that is not absent has one above it, but for 0
   pub parent : (c n : ℕ) (h : List (Event J R)) → IsLegal c n h → (k : ℕ) → status h k ≢ Absent → HasParent h k
   parent c n [] l k a = inl (first_is_0 (k == 0) k refl a)
   parent c n (Post w q i j ∷ h) l k a = at (parent c n h l.0 k) (k == i) refl a
     where
-      at : (status h k ≢ Absent → HasParent h k) → (b : Bool) → (k == i) ≡ b → cond b Open (status h k) ≢ Absent → HasParent (Post w q i j ∷ h) k
+      at : (status h k ≢ Absent → HasParent h k) → (b : Bool) → (k == i) ≡ b → cond b Open (status h k) ≢ Absent
+          → HasParent (Post w q i j ∷ h) k
       at rec true e a =
           subst (HasParent (Post w q i j ∷ h)) (sym (eqb-true k i e))
-          (inr (q, λ x. (let was : status h q ≡ Claimed w = l.2.0 in let gone = persist (Post w q i j) h q x in cc), in_last (q == q) (posts_under q h) i j (eq-eqb q q refl)))
+          (inr (
+            q,
+            λ x. (let was : status h q ≡ Claimed w = l.2.0 in let gone = persist (Post w q i j) h q x in cc),
+            in_last (q == q)
+                (posts_under q h) i j (eq-eqb q q refl),
+          ))
       at rec false e a = keep_parent h (Post w q i j) k (λ p x. in_cond (p == q) k (posts_under p h) (i, j) x) (rec a)
-  parent c n (Claim w i j ∷ h) l k a = keep_parent h (Claim w i j) k (λ p x. x) (parent c n h l.0 k (was_there c n h (Claim w i j) l k a refl))
-  parent c n (Return w i r ∷ h) l k a = keep_parent h (Return w i r) k (λ p x. x) (parent c n h l.0 k (was_there c n h (Return w i r) l k a refl))
-  parent c n (Fault w i r ∷ h) l k a = keep_parent h (Fault w i r) k (λ p x. x) (parent c n h l.0 k (was_there c n h (Fault w i r) l k a refl))
+  parent c n (Claim w i j ∷ h) l k a =
+      keep_parent h (Claim w i j) k (λ p x. x) (parent c n h l.0 k (was_there c n h (Claim w i j) l k a refl))
+  parent c n (Return w i r ∷ h) l k a =
+      keep_parent h (Return w i r) k (λ p x. x) (parent c n h l.0 k (was_there c n h (Return w i r) l k a refl))
+  parent c n (Fault w i r ∷ h) l k a =
+      keep_parent h (Fault w i r) k (λ p x. x) (parent c n h l.0 k (was_there c n h (Fault w i r) l k a refl))
   parent c n (Over w ∷ h) l k a = keep_parent h (Over w) k (λ p x. x) (parent c n h l.0 k a)

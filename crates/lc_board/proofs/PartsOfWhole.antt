@@ -1,5 +1,6 @@
 -- What a worker's part says of a number that the worker claimed is what the whole history says.
-use Rattle.std.proofs.Common.{◌≡◌, ◌≢◌, ℕ, ◌<◌, ◌==◌, cond, Bool, true, false, List, [], ◌∷◌, ◌++◌, Some, None, refl, sym, ◌∙◌, ap, subst, arith, eq-eqb}
+use Rattle.std.proofs.Common.{◌≡◌, ◌≢◌, ℕ, ◌<◌, ◌==◌, cond, Bool, true, false, List, [], ◌∷◌, ◌++◌, Some, None, refl, sym, ◌∙◌, ap}
+use Rattle.std.proofs.Common.{subst, arith, eq-eqb}
 use Rattle.std.proofs.lemmas.Bool.{eqb-true, ne_eqb}
 use Rattle.lc_board.specs.State.{Status, Absent, Open, Claimed, Returned, Faulted, status}
 use Rattle.lc_board.specs.Part.{worker_of, part}
@@ -80,20 +81,30 @@ module _ {J R : Type 0} where
   fault_off w k i r n = record { posts = λ h. refl; got = λ h. refl; given = λ h. at_other i k _ _ n }
 
   -- events that give nobody a job
-  got_same : (e : Event J R) (i : ℕ) → ((q : List (Event J R)) → job_got (e ∷ q) i ≡ job_got q i) → (b : Bool) (q : List (Event J R)) → job_got (cond b (e ∷ q) q) i ≡ job_got q i
+  got_same : (e : Event J R) (i : ℕ) → ((q : List (Event J R)) → job_got (e ∷ q) i ≡ job_got q i) → (b : Bool) (q : List (Event J R))
+      → job_got (cond b (e ∷ q) q) i ≡ job_got q i
   got_same e i none true q = none q
   got_same e i none false q = refl
 
   post_under : (w p k : ℕ) (j : J) (h : List (Event J R)) → IsTaken w p h → IsTaken w p (Post w p k j ∷ h)
   post_under w p k j h t = record {
-    own = rw (eq-eqb w w refl) (record { posts = rw (eq-eqb p p refl) (ap (λ (xs : List (ℕ × J)). xs ++ (k, j) ∷ []) t.own.posts); got = t.own.got; given = t.own.given });
+    own = rw (eq-eqb w w refl) (record {
+      posts = rw (eq-eqb p p refl) (ap (λ (xs : List (ℕ × J)). xs ++ (k, j) ∷ []) t.own.posts);
+      got = t.own.got;
+      given = t.own.given;
+    });
     others = λ v n. got_same (Post w p k j) p (λ q. refl) (w == v) (part v h) ∙ t.others v n;
   }
 
   claim_here : (w k : ℕ) (j : J) (h : List (Event J R)) → IsUntouched k h → IsTaken w k (Claim w k j ∷ h)
   claim_here w k j h u = record {
     own = let mine = u.parts w in
-        rw (eq-eqb w w refl) (record { posts = mine.posts ∙ sym u.whole.posts; got = rw (eq-eqb k k refl) refl; given = mine.given ∙ sym u.whole.given });
+        rw (eq-eqb w w refl) (record {
+          posts = mine.posts ∙ sym u.whole.posts;
+          got = rw (eq-eqb k k refl) refl;
+          given = mine.given
+              ∙ sym u.whole.given;
+        });
     others = λ v n. let its = u.parts v in rw (ne_eqb w v (λ e. n (sym e))) its.got;
   }
 
@@ -110,7 +121,8 @@ module _ {J R : Type 0} where
   }
 
   -- the number that an event names
-  at_post : (w p k i : ℕ) (j : J) (h : List (Event J R)) (b c : Bool) → (i == k) ≡ b → (i == p) ≡ c → status h p ≡ Claimed w → status h k ≡ Absent → p < k → Taker (status h i) i h
+  at_post : (w p k i : ℕ) (j : J) (h : List (Event J R)) (b c : Bool) → (i == k) ≡ b → (i == p) ≡ c → status h p ≡ Claimed w
+      → status h k ≡ Absent → p < k → Taker (status h i) i h
       → Taker (cond b Open (status h i)) i (Post w p k j ∷ h)
   at_post w p k i j h true c e f parent absent less t =
       let n : i ≢ p = λ ip. absurd (omega (arith, less, eqb-true i k e, ip)) in
@@ -124,25 +136,35 @@ module _ {J R : Type 0} where
       subst (λ s. Taker s i (Post w p k j ∷ h)) (sym was) (subst (λ m. IsTaken w m (Post w p k j ∷ h)) (sym (eqb-true i p f)) there)
   at_post w p k i j h false false e f parent absent less t = taker_off (Post w p k j) (status h i) i h (post_off w p k i j (apart i p f)) t
 
-  at_claim : (w k i : ℕ) (j : J) (h : List (Event J R)) (b : Bool) → (i == k) ≡ b → status h k ≡ Open → Taker (status h i) i h → Taker (cond b (Claimed w) (status h i)) i (Claim w k j ∷ h)
+  at_claim : (w k i : ℕ) (j : J) (h : List (Event J R)) (b : Bool) → (i == k) ≡ b → status h k ≡ Open → Taker (status h i) i h
+      → Taker (cond b (Claimed w) (status h i)) i (Claim w k j ∷ h)
   at_claim w k i j h true e ready t =
       let was : status h i ≡ Open = ap (λ m. status h m) (eqb-true i k e) ∙ ready in
       let u : IsUntouched i h = subst (λ s. Taker s i h) was t in
-      subst (λ m. IsTaken w m (Claim w k j ∷ h)) (sym (eqb-true i k e)) (claim_here w k j h (subst (λ m. IsUntouched m h) (eqb-true i k e) u))
+      subst (λ m. IsTaken w m (Claim w k j ∷ h)) (sym (eqb-true i k e))
+      (claim_here w k j h (subst (λ m. IsUntouched m h) (eqb-true i k e) u))
   at_claim w k i j h false e ready t = taker_off (Claim w k j) (status h i) i h (claim_off w k i j (apart i k e)) t
 
-  at_return : (w k i : ℕ) (r : R) (h : List (Event J R)) (b : Bool) → (i == k) ≡ b → status h k ≡ Claimed w → Taker (status h i) i h → Taker (cond b Returned (status h i)) i (Return w k r ∷ h)
+  at_return : (w k i : ℕ) (r : R) (h : List (Event J R)) (b : Bool) → (i == k) ≡ b → status h k ≡ Claimed w → Taker (status h i) i h
+      → Taker (cond b Returned (status h i)) i (Return w k r ∷ h)
   at_return w k i r h true e held t =
       let was : status h i ≡ Claimed w = ap (λ m. status h m) (eqb-true i k e) ∙ held in
-      let own : IsTaken w i h = subst (λ s. Taker s i h) was t in
-      (w, subst (λ m. IsTaken w m (Return w k r ∷ h)) (sym (eqb-true i k e)) (return_here w k r h (subst (λ m. IsTaken w m h) (eqb-true i k e) own)))
+      let own : IsTaken w i h = subst (λ s. Taker s i h) was t in (
+        w,
+        subst (λ m. IsTaken w m (Return w k r ∷ h)) (sym (eqb-true i k e))
+            (return_here w k r h (subst (λ m. IsTaken w m h) (eqb-true i k e) own)),
+      )
   at_return w k i r h false e held t = taker_off (Return w k r) (status h i) i h (return_off w k i r (apart i k e)) t
 
-  at_fault : (w k i : ℕ) (r : R) (h : List (Event J R)) (b : Bool) → (i == k) ≡ b → status h k ≡ Claimed w → Taker (status h i) i h → Taker (cond b Faulted (status h i)) i (Fault w k r ∷ h)
+  at_fault : (w k i : ℕ) (r : R) (h : List (Event J R)) (b : Bool) → (i == k) ≡ b → status h k ≡ Claimed w → Taker (status h i) i h
+      → Taker (cond b Faulted (status h i)) i (Fault w k r ∷ h)
   at_fault w k i r h true e held t =
       let was : status h i ≡ Claimed w = ap (λ m. status h m) (eqb-true i k e) ∙ held in
-      let own : IsTaken w i h = subst (λ s. Taker s i h) was t in
-      (w, subst (λ m. IsTaken w m (Fault w k r ∷ h)) (sym (eqb-true i k e)) (fault_here w k r h (subst (λ m. IsTaken w m h) (eqb-true i k e) own)))
+      let own : IsTaken w i h = subst (λ s. Taker s i h) was t in (
+        w,
+        subst (λ m. IsTaken w m (Fault w k r ∷ h)) (sym (eqb-true i k e))
+            (fault_here w k r h (subst (λ m. IsTaken w m h) (eqb-true i k e) own)),
+      )
   at_fault w k i r h false e held t = taker_off (Fault w k r) (status h i) i h (fault_off w k i r (apart i k e)) t
 
   taker_first : (h : List (Event J R)) (i : ℕ) (b : Bool) → IsUntouched i h → Taker (cond b Open Absent) i h
@@ -157,7 +179,8 @@ module _ {J R : Type 0} where
   taker c n (Claim w k j ∷ h) l i = at_claim w k i j h (i == k) refl l.2.0 (taker c n h l.0 i)
   taker c n (Return w k r ∷ h) l i = at_return w k i r h (i == k) refl l.2 (taker c n h l.0 i)
   taker c n (Fault w k r ∷ h) l i = at_fault w k i r h (i == k) refl l.2.0 (taker c n h l.0 i)
-  taker c n (Over w ∷ h) l i = taker_off (Over w) (status h i) i h (record { posts = λ q. refl; got = λ q. refl; given = λ q. refl }) (taker c n h l.0 i)
+  taker c n (Over w ∷ h) l i = taker_off (Over w) (status h i) i h (record { posts = λ q. refl; got = λ q. refl; given = λ q. refl })
+      (taker c n h l.0 i)
 
   -- nothing was posted under a number that is open
   pub open_fresh : (c n : ℕ) (h : List (Event J R)) → IsLegal c n h → (i : ℕ) → status h i ≡ Open → IsFresh i h
@@ -166,7 +189,8 @@ module _ {J R : Type 0} where
   untouched_none : (i w : ℕ) (j : J) (h : List (Event J R)) → IsUntouched i h → job_got (part w h) i ≡ Some j → ⊥
   untouched_none i w j h u e = let its = u.parts w in let x : None ≡ Some j = sym its.got ∙ e in absurd (cc x)
 
-  taken_says : (v i w : ℕ) (j : J) (h : List (Event J R)) (b : Bool) → (w == v) ≡ b → IsTaken v i h → job_got (part w h) i ≡ Some j → SaysSame i h (part w h)
+  taken_says : (v i w : ℕ) (j : J) (h : List (Event J R)) (b : Bool) → (w == v) ≡ b → IsTaken v i h → job_got (part w h) i ≡ Some j
+      → SaysSame i h (part w h)
   taken_says v i w j h true e t got = subst (λ u. SaysSame i h (part u h)) (sym (eqb-true w v e)) t.own
   taken_says v i w j h false e t got = let x : None ≡ Some j = sym (t.others w (apart w v e)) ∙ got in absurd (cc x)
 
@@ -177,5 +201,6 @@ module _ {J R : Type 0} where
   taker_says Returned i w j h t got = taken_says t.0 i w j h (w == t.0) refl t.1 got
   taker_says Faulted i w j h t got = taken_says t.0 i w j h (w == t.0) refl t.1 got
 
+  -- so says a part what the history says
   pub part_says_whole : PartSaysWhole J R
   part_says_whole c n h l w i j got = taker_says (status h i) i w j h (taker c n h l i) got

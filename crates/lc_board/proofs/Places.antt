@@ -1,14 +1,18 @@
 -- What lies at a place of a list that was written or pushed to.
-use Rattle.std.proofs.Common.{◌≡◌, ◌≢◌, ℕ, zero, suc, ◌<◌, ◌≤◌, ◌==◌, cond, Bool, true, false, not, List, [], ◌∷◌, ◌++◌, length, slice_get, slice_set, slice_index_or, Option, Some, None, refl, sym, ◌∙◌, ap, subst, arith, eq-eqb}
+use Rattle.std.proofs.Common.{◌≡◌, ◌≢◌, ℕ, zero, suc, ◌<◌, ◌≤◌, ◌==◌, cond, Bool, true, false, not, List, [], ◌∷◌, ◌++◌, length}
+use Rattle.std.proofs.Common.{slice_get, slice_set, slice_index_or, Option, Some, None, refl, sym, ◌∙◌, ap, subst, arith, eq-eqb}
 use Rattle.std.proofs.lemmas.Bool.{eqb-true}
 
+-- true is not false
 pub differ : {b : Bool} → b ≡ true → b ≡ false → ⊥
 differ t f = let h : true ≡ false = sym t ∙ f in absurd (cc h)
 
+-- what is not so, where its negation is
 pub not_true : (b : Bool) → not b ≡ true → b ≡ false
 not_true true e = sym e
 not_true false e = refl
 
+-- what is so, where its negation is not
 pub not_false : (b : Bool) → not b ≡ false → b ≡ true
 not_false true e = refl
 not_false false e = sym e
@@ -25,6 +29,7 @@ other_cases : {A : Type 0} (k i : ℕ) (x y : A) → k ≢ i → (b : Bool) → 
 other_cases k i x y n true t = absurd (n (eqb-true k i t))
 other_cases k i x y n false t = refl
 
+-- a case of another number
 pub at_other : {A : Type 0} (k i : ℕ) (x y : A) → k ≢ i → cond (k == i) x y ≡ y
 at_other k i x y n = other_cases k i x y n (k == i) refl
 
@@ -37,11 +42,13 @@ pub each : (P : ℕ → Type 0) (i : ℕ) → P i → ((k : ℕ) → k ≢ i →
 each P i here others k = each_cases P i here others k (k == i) refl
 
 module _ {A : Type 0} where
+  -- the place that was written
   pub get_set_same : (xs : List A) (i : ℕ) (v : A) → i < length xs → slice_get (slice_set xs i v) i ≡ Some v
   get_set_same [] i v h = absurd (omega arith)
   get_set_same (x ∷ xs) zero v h = refl
   get_set_same (x ∷ xs) (suc i) v h = get_set_same xs i v (omega arith)
 
+  -- another place than the one that was written
   pub get_set_other : (xs : List A) (i k : ℕ) (v : A) → k ≢ i → slice_get (slice_set xs i v) k ≡ slice_get xs k
   get_set_other [] i k v h = refl
   get_set_other (x ∷ xs) zero zero v h = absurd (h refl)
@@ -49,21 +56,25 @@ module _ {A : Type 0} where
   get_set_other (x ∷ xs) (suc i) zero v h = refl
   get_set_other (x ∷ xs) (suc i) (suc k) v h = get_set_other xs i k v (λ e. h (ap suc e))
 
+  -- the place that was pushed to
   pub get_push_same : (xs : List A) (v : A) → slice_get (xs ++ v ∷ []) (length xs) ≡ Some v
   get_push_same [] v = refl
   get_push_same (x ∷ xs) v = get_push_same xs v
 
+  -- another place than the one that was pushed to
   pub get_push_other : (xs : List A) (v : A) (k : ℕ) → k ≢ length xs → slice_get (xs ++ v ∷ []) k ≡ slice_get xs k
   get_push_other [] v zero h = absurd (h refl)
   get_push_other [] v (suc k) h = refl
   get_push_other (x ∷ xs) v zero h = refl
   get_push_other (x ∷ xs) v (suc k) h = get_push_other xs v k (λ e. h (ap suc e))
 
+  -- the place that was written, with a default past the end
   pub index_set_same : (xs : List A) (i : ℕ) (v d : A) → i < length xs → slice_index_or (slice_set xs i v) i d ≡ v
   index_set_same [] i v d h = absurd (omega arith)
   index_set_same (x ∷ xs) zero v d h = refl
   index_set_same (x ∷ xs) (suc i) v d h = index_set_same xs i v d (omega arith)
 
+  -- another place, with a default past the end
   pub index_set_other : (xs : List A) (i k : ℕ) (v d : A) → k ≢ i → slice_index_or (slice_set xs i v) k d ≡ slice_index_or xs k d
   index_set_other [] i k v d h = refl
   index_set_other (x ∷ xs) zero zero v d h = absurd (h refl)
@@ -78,13 +89,15 @@ module _ {A : Type 0} where
   get_none (x ∷ xs) (suc k) e = omega (arith, get_none xs k e)
 
   -- each place of a written list
-  pub each_set : (P : ℕ → Option A → Type 0) (xs : List A) (i : ℕ) (v : A) → i < length xs → P i (Some v) → ((k : ℕ) → k ≢ i → P k (slice_get xs k)) → (k : ℕ) → P k (slice_get (slice_set xs i v) k)
+  pub each_set : (P : ℕ → Option A → Type 0) (xs : List A) (i : ℕ) (v : A) → i < length xs → P i (Some v)
+      → ((k : ℕ) → k ≢ i → P k (slice_get xs k)) → (k : ℕ) → P k (slice_get (slice_set xs i v) k)
   each_set P xs i v low here others =
       each (λ k. P k (slice_get (slice_set xs i v) k)) i (subst (P i) (sym (get_set_same xs i v low)) here)
       (λ k n. subst (P k) (sym (get_set_other xs i k v n)) (others k n))
 
   -- each place of a list that was pushed to
-  pub each_push : (P : ℕ → Option A → Type 0) (xs : List A) (v : A) → P (length xs) (Some v) → ((k : ℕ) → k ≢ length xs → P k (slice_get xs k)) → (k : ℕ) → P k (slice_get (xs ++ v ∷ []) k)
+  pub each_push : (P : ℕ → Option A → Type 0) (xs : List A) (v : A) → P (length xs) (Some v)
+      → ((k : ℕ) → k ≢ length xs → P k (slice_get xs k)) → (k : ℕ) → P k (slice_get (xs ++ v ∷ []) k)
   each_push P xs v here others =
       each (λ k. P k (slice_get (xs ++ v ∷ []) k)) (length xs) (subst (P (length xs)) (sym (get_push_same xs v)) here)
       (λ k n. subst (P k) (sym (get_push_other xs v k n)) (others k n))

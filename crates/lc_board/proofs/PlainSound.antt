@@ -1,5 +1,6 @@
 -- What the fields of a board keep over each call.
-use Rattle.std.proofs.Common.{◌≡◌, ◌≢◌, ℕ, zero, suc, ◌<◌, ◌≤◌, ◌+◌, List, [], ◌∷◌, ◌++◌, length, slice_get, slice_set, slice_index_or, replicate, Option, Some, None, refl, sym, ◌∙◌, ap, subst, arith, length-append}
+use Rattle.std.proofs.Common.{◌≡◌, ◌≢◌, ℕ, zero, suc, ◌<◌, ◌≤◌, ◌+◌, List, [], ◌∷◌, ◌++◌, length, slice_get, slice_set, slice_index_or}
+use Rattle.std.proofs.Common.{replicate, Option, Some, None, refl, sym, ◌∙◌, ap, subst, arith, length-append}
 use Rattle.std.proofs.lemmas.List.{length-set}
 use Rattle.std.proofs.lemmas.Option.{slice_get_past, slice_get_within}
 use Rattle.lc_board.specs.Limits.{capacity_limit}
@@ -20,12 +21,14 @@ none_held (suc n) zero = refl
 none_held (suc n) (suc w) = none_held n w
 
 module _ {J R : Type 0} where
+  -- a cell that is held by a worker has its number of posts
   pub held_cell : (w : ℕ) (o : Option (Cell J R)) → IsHeldBy w o → (n : ℕ) × (o ≡ Some (Held w n))
   held_cell w None h = absurd h
   held_cell w (Some (Waiting j)) h = absurd h
   held_cell w (Some (Held v n)) h = (n, ap (λ u. Some (Held u n)) h)
   held_cell w (Some (Done e)) h = absurd h
 
+  -- a cell that is there lies on the board
   pub cell_inside : (xs : List (Cell J R)) (k : ℕ) (c : Cell J R) → slice_get xs k ≡ Some c → k < length xs
   cell_inside xs k c e = slice_get_within xs k c e
 
@@ -33,7 +36,9 @@ module _ {J R : Type 0} where
   pub free_cells : (m : ℕ) (b : Board J R) (w : ℕ) → IsSound m b → held_by b w ≡ None → (k n : ℕ) → cell_at b k ≢ Some (Held w n)
   free_cells m b w s free k n e = let x : None ≡ Some k = sym free ∙ (s.owned k w n e).0 in absurd (cc x)
 
-  pub sound_claim : (m w i : ℕ) (j : J) (b : Board J R) → IsSound m b → held_by b w ≡ None → w < length b.held → m ≡ i → i < length b.cells → cell_at b i ≡ Some (Waiting j)
+  -- over a claim
+  pub sound_claim : (m w i : ℕ) (j : J) (b : Board J R) → IsSound m b → held_by b w ≡ None → w < length b.held → m ≡ i
+      → i < length b.cells → cell_at b i ≡ Some (Waiting j)
       → IsSound (m + 1) (record { capacity = b.capacity; held = slice_set b.held w (Some i); cells = slice_set b.cells i (Held w 0) })
   sound_claim m w i j b s free low next near here =
       let len : length (slice_set b.cells i (Held w 0)) ≡ length b.cells = simp length-set in
@@ -41,27 +46,36 @@ module _ {J R : Type 0} where
         small = s.small;
         fits = rw length-set s.fits;
         reached = omega (arith, len, near, next);
-        below = each_set (λ k o. k < m + 1 → ¬ IsOpen o) b.cells i (Held w 0) near (λ _ x. x) (λ k off less. s.below k (let d : k ≢ i = off in omega (arith, next, less, d)));
+        below = each_set (λ k o. k < m + 1 → ¬ IsOpen o) b.cells i (Held w 0) near (λ _ x. x)
+            (λ k off less. s.below k (let d : k ≢ i = off in omega (arith, next, less, d)));
         above = each_set (λ k o. m + 1 ≤ k → k < length (slice_set b.cells i (Held w 0)) → IsOpen o) b.cells i (Held w 0) near
             (λ far _. absurd (omega (arith, far, next))) (λ k off far less. s.above k (omega (arith, far)) (omega (arith, less, len)));
-        holds = λ v k e. each (λ u. slice_index_or (slice_set b.held w (Some i)) u None ≡ Some k → IsHeldBy u (slice_get (slice_set b.cells i (Held w 0)) k)) w
+        holds = λ v k e. each (λ u. slice_index_or (slice_set b.held w (Some i)) u None ≡ Some k
+            → IsHeldBy u (slice_get (slice_set b.cells i (Held w 0)) k)) w
             (λ x. let is : Some i ≡ Some k = sym (index_set_same b.held w (Some i) None low) ∙ x in let ik : i ≡ k = cc is in
-            subst (λ q. IsHeldBy w (slice_get (slice_set b.cells i (Held w 0)) q)) ik (subst (IsHeldBy w) (sym (get_set_same b.cells i (Held w 0) near)) refl))
+            subst (λ q. IsHeldBy w (slice_get (slice_set b.cells i (Held w 0)) q)) ik
+            (subst (IsHeldBy w) (sym (get_set_same b.cells i (Held w 0) near)) refl))
             (λ u off x. let was : held_by b u ≡ Some k = sym (index_set_other b.held w u (Some i) None off) ∙ x in
             let c = s.holds u k was in
-            let away : k ≢ i = λ ki. let at : cell_at b k ≡ Some (Waiting j) = ap (cell_at b) ki ∙ here in absurd (subst (IsHeldBy u) at c) in
+            let away : k ≢ i = λ ki. let at : cell_at b k ≡ Some (Waiting j) = ap (cell_at b) ki ∙ here in
+            absurd (subst (IsHeldBy u) at c) in
             subst (IsHeldBy u) (sym (get_set_other b.cells i k (Held w 0) away)) c)
             v e;
-        owned = λ k v n. each_set (λ q o. o ≡ Some (Held v n) → (slice_index_or (slice_set b.held w (Some i)) v None ≡ Some q) × (n < length (slice_set b.cells i (Held w 0)))) b.cells i (Held w 0) near
-            (λ x. let is : w ≡ v = cc x in let no : 0 ≡ n = cc x in
-            (subst (λ u. slice_index_or (slice_set b.held w (Some i)) u None ≡ Some i) is (index_set_same b.held w (Some i) None low), omega (arith, no, len, near)))
+        owned = λ k v n. each_set (λ q o. o ≡ Some (Held v n) → (slice_index_or (slice_set b.held w (Some i)) v None ≡ Some q)
+            × (n < length (slice_set b.cells i (Held w 0)))) b.cells i (Held w 0) near
+            (λ x. let is : w ≡ v = cc x in let no : 0 ≡ n = cc x in (
+              subst (λ u. slice_index_or (slice_set b.held w (Some i)) u None ≡ Some i) is (index_set_same b.held w (Some i) None low),
+              omega (arith, no, len, near),
+            ))
             (λ q off x. let was = s.owned q v n x in
             let away : v ≢ w = λ vw. let y : None ≡ Some q = sym free ∙ (ap (held_by b) (sym vw) ∙ was.0) in absurd (cc y) in
             (index_set_other b.held w v (Some i) None away ∙ was.0, omega (arith, was.1, len)))
             k;
       }
 
-  pub sound_post : (m w p n : ℕ) (j : J) (b : Board J R) → IsSound m b → p < length b.cells → length b.cells < b.capacity → cell_at b p ≡ Some (Held w n)
+  -- over a post
+  pub sound_post : (m w p n : ℕ) (j : J) (b : Board J R) → IsSound m b → p < length b.cells → length b.cells < b.capacity
+      → cell_at b p ≡ Some (Held w n)
       → IsSound m (record { capacity = b.capacity; held = b.held; cells = slice_set b.cells p (Held w (n + 1)) ++ Waiting j ∷ [] })
   sound_post m w p n j b s near fits here =
       let ds = slice_set b.cells p (Held w (n + 1)) in
@@ -81,17 +95,23 @@ module _ {J R : Type 0} where
         holds = λ v k e. let c = s.holds v k e in
             each_push (λ q o. IsHeldBy v (slice_get b.cells q) → IsHeldBy v o) ds (Waiting j)
             (λ x. absurd (subst (IsHeldBy v) (slice_get_past b.cells (length ds) (omega (arith, len))) x))
-            (λ q _. each_set (λ r o. IsHeldBy v (slice_get b.cells r) → IsHeldBy v o) b.cells p (Held w (n + 1)) near (λ x. subst (IsHeldBy v) here x) (λ r off x. x) q)
+            (λ q _. each_set (λ r o. IsHeldBy v (slice_get b.cells r) → IsHeldBy v o) b.cells p (Held w (n + 1)) near
+            (λ x. subst (IsHeldBy v) here x) (λ r off x. x) q)
             k c;
-        owned = λ k v u. each_push (λ q o. o ≡ Some (Held v u) → (held_by b v ≡ Some q) × (u < length (ds ++ Waiting j ∷ []))) ds (Waiting j)
+        owned = λ k v u. each_push (λ q o. o ≡ Some (Held v u) → (held_by b v ≡ Some q) × (u < length (ds ++ Waiting j ∷ []))) ds
+            (Waiting j)
             (λ x. absurd (cc x))
-            (λ q _. each_set (λ r o. o ≡ Some (Held v u) → (held_by b v ≡ Some r) × (u < length (ds ++ Waiting j ∷ []))) b.cells p (Held w (n + 1)) near
-            (λ x. let was = s.owned p w n here in let vw : w ≡ v = cc x in let un : n + 1 ≡ u = cc x in (ap (held_by b) (sym vw) ∙ was.0, omega (arith, more, was.1, un)))
+            (λ q _. each_set (λ r o. o ≡ Some (Held v u) → (held_by b v ≡ Some r) × (u < length (ds ++ Waiting j ∷ []))) b.cells p
+            (Held w (n + 1)) near
+            (λ x. let was = s.owned p w n here in let vw : w ≡ v = cc x in let un : n + 1 ≡ u = cc x in
+            (ap (held_by b) (sym vw) ∙ was.0, omega (arith, more, was.1, un)))
             (λ r off x. let was = s.owned r v u x in (was.0, omega (arith, more, was.1))) q)
             k;
       }
 
-  pub sound_end : (m w i n : ℕ) (e : Ended R) (b : Board J R) → IsSound m b → w < length b.held → held_by b w ≡ Some i → i < length b.cells → cell_at b i ≡ Some (Held w n)
+  -- over an end
+  pub sound_end : (m w i n : ℕ) (e : Ended R) (b : Board J R) → IsSound m b → w < length b.held → held_by b w ≡ Some i
+      → i < length b.cells → cell_at b i ≡ Some (Held w n)
       → IsSound m (record { capacity = b.capacity; held = slice_set b.held w None; cells = slice_set b.cells i (Done e) })
   sound_end m w i n e b s low had near here =
       let ds = slice_set b.cells i (Done e) in
@@ -108,13 +128,16 @@ module _ {J R : Type 0} where
             (λ y. let z : None ≡ Some k = sym (index_set_same b.held w None None low) ∙ y in absurd (cc z))
             (λ u off y. let was : held_by b u ≡ Some k = sym (index_set_other b.held w u None None off) ∙ y in
             let c = s.holds u k was in
-            let away : k ≢ i = λ ki. let at : cell_at b k ≡ Some (Held w n) = ap (cell_at b) ki ∙ here in let wu : w ≡ u = subst (IsHeldBy u) at c in off (sym wu) in
+            let away : k ≢ i = λ ki. let at : cell_at b k ≡ Some (Held w n) = ap (cell_at b) ki ∙ here in let wu : w
+            ≡ u = subst (IsHeldBy u) at c in off (sym wu) in
             subst (IsHeldBy u) (sym (get_set_other b.cells i k (Done e) away)) c)
             v x;
-        owned = λ k v u. each_set (λ q o. o ≡ Some (Held v u) → (slice_index_or hs v None ≡ Some q) × (u < length ds)) b.cells i (Done e) near
+        owned = λ k v u. each_set (λ q o. o ≡ Some (Held v u) → (slice_index_or hs v None ≡ Some q) × (u < length ds)) b.cells i
+            (Done e) near
             (λ x. absurd (cc x))
             (λ q off x. let was = s.owned q v u x in
-            let away : v ≢ w = λ vw. let y : Some i ≡ Some q = sym had ∙ (ap (held_by b) (sym vw) ∙ was.0) in let iq : i ≡ q = cc y in off (sym iq) in
+            let away : v ≢ w = λ vw. let y : Some i ≡ Some q = sym had ∙ (ap (held_by b) (sym vw) ∙ was.0) in let iq : i ≡ q = cc y in
+            off (sym iq) in
             (index_set_other b.held w v None None away ∙ was.0, omega (arith, was.1, len)))
             k;
       }
@@ -130,7 +153,9 @@ module _ {J R : Type 0} where
   first_owned root zero w n e = absurd (cc e)
   first_owned root (suc k) w n e = absurd (cc e)
 
-  pub sound_first : (capacity workers : ℕ) (root : J) → 1 ≤ capacity → capacity ≤ capacity_limit → IsSound {R = R} 0 (first_board capacity workers root)
+  -- at the start
+  pub sound_first : (capacity workers : ℕ) (root : J) → 1 ≤ capacity → capacity ≤ capacity_limit
+      → IsSound {R = R} 0 (first_board capacity workers root)
   sound_first capacity workers root one small = record {
     small = small;
     fits = one;

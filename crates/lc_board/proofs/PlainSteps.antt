@@ -1,5 +1,6 @@
 -- Each event that is allowed leads from the state after a history to the state after one event more.
-use Rattle.std.proofs.Common.{◌≡◌, ◌≢◌, ℕ, zero, suc, ◌<◌, ◌≤◌, ◌+◌, List, [], ◌∷◌, ◌++◌, map, length, slice_get, slice_set, Option, Some, None, option_map, refl, sym, ◌∙◌, ap, subst, arith, length-append, ◌↔◌}
+use Rattle.std.proofs.Common.{◌≡◌, ◌≢◌, ℕ, zero, suc, ◌<◌, ◌≤◌, ◌+◌, List, [], ◌∷◌, ◌++◌, map, length, slice_get, slice_set, Option}
+use Rattle.std.proofs.Common.{Some, None, option_map, refl, sym, ◌∙◌, ap, subst, arith, length-append, ◌↔◌}
 use Rattle.std.proofs.lemmas.List.{length-set}
 use Rattle.std.proofs.lemmas.Option.{slice_get-map, slice_get_past, slice_get_within}
 use Rattle.lc_board.specs.State.{Status, Absent, Open, Claimed, Returned, Faulted, status}
@@ -34,20 +35,25 @@ module _ {J R : Type 0} where
     pub got : job_got g k ≡ job_got h k
     pub jobs : job_posted root g k ≡ job_posted root h k
 
-  pub fits_same : (root : J) (h g : List (Event J R)) (k : ℕ) → Agree root h g k → (o : Option (Cell J R)) → Fits root h k o → Fits root g k o
+  -- a cell fits another history that says the same of its number
+  pub fits_same : (root : J) (h g : List (Event J R)) (k : ℕ) → Agree root h g k → (o : Option (Cell J R)) → Fits root h k o
+      → Fits root g k o
   fits_same root h g k a None f = (a.states ∙ f.0, a.posts ∙ f.1, a.given ∙ f.2)
   fits_same root h g k a (Some (Waiting j)) f = (a.states ∙ f.0, a.posts ∙ f.1, a.given ∙ f.2, a.jobs ∙ f.3)
   fits_same root h g k a (Some (Held w n)) f = (a.states ∙ f.0, ap length a.posts ∙ f.1, a.given ∙ f.2, a.got ∙ (f.3 ∙ sym a.jobs))
   fits_same root h g k a (Some (Done e)) f = (a.states ∙ f.0, a.given ∙ f.1, a.got ∙ (f.2 ∙ sym a.jobs))
 
   -- what the status of a number says of its cell
-  pub claimed_cell : (root : J) (h : List (Event J R)) (k w : ℕ) (o : Option (Cell J R)) → Fits root h k o → status h k ≡ Claimed w → (n : ℕ) × (o ≡ Some (Held w n))
+  pub claimed_cell : (root : J) (h : List (Event J R)) (k w : ℕ) (o : Option (Cell J R)) → Fits root h k o → status h k ≡ Claimed w
+      → (n : ℕ) × (o ≡ Some (Held w n))
   claimed_cell root h k w None f s = let e : Absent ≡ Claimed w = sym f.0 ∙ s in absurd (cc e)
   claimed_cell root h k w (Some (Waiting j)) f s = let e : Open ≡ Claimed w = sym f.0 ∙ s in absurd (cc e)
-  claimed_cell root h k w (Some (Held v n)) f s = let e : Claimed v ≡ Claimed w = sym f.0 ∙ s in let same : v ≡ w = cc e in (n, ap (λ u. Some (Held u n)) same)
+  claimed_cell root h k w (Some (Held v n)) f s = let e : Claimed v ≡ Claimed w = sym f.0 ∙ s in let same : v ≡ w = cc e in
+      (n, ap (λ u. Some (Held u n)) same)
   claimed_cell root h k w (Some (Done (ended.Returned r))) f s = let e : Returned ≡ Claimed w = sym f.0 ∙ s in absurd (cc e)
   claimed_cell root h k w (Some (Done (ended.Faulted r))) f s = let e : Faulted ≡ Claimed w = sym f.0 ∙ s in absurd (cc e)
 
+  -- the cell of an open number waits
   pub open_cell : (root : J) (h : List (Event J R)) (k : ℕ) (o : Option (Cell J R)) → Fits root h k o → status h k ≡ Open → IsOpen o
   open_cell root h k None f s = let e : Absent ≡ Open = sym f.0 ∙ s in absurd (cc e)
   open_cell root h k (Some (Waiting j)) f s = tt
@@ -55,12 +61,15 @@ module _ {J R : Type 0} where
   open_cell root h k (Some (Done (ended.Returned r))) f s = let e : Returned ≡ Open = sym f.0 ∙ s in absurd (cc e)
   open_cell root h k (Some (Done (ended.Faulted r))) f s = let e : Faulted ≡ Open = sym f.0 ∙ s in absurd (cc e)
 
+  -- a cell that is held
   pub held_is : (o : Option (Cell J R)) (w n : ℕ) → o ≡ Some (Held w n) → IsHeld o
   held_is o w n e = subst IsHeld (sym e) tt
 
   -- one event more
-  pub after_step : (root : J) (h : List (Event J R)) (e : Event J R) (old new : Board J R) → IsAfter root h old → new.capacity ≡ old.capacity → length new.held ≡ length old.held
-      → worker_of e < length old.held → IsAllowed old.capacity h e → ((k : ℕ) → Fits root (e ∷ h) k (cell_at new k)) → IsAfter root (e ∷ h) new
+  pub after_step : (root : J) (h : List (Event J R)) (e : Event J R) (old new : Board J R) → IsAfter root h old
+      → new.capacity ≡ old.capacity → length new.held ≡ length old.held
+      → worker_of e < length old.held → IsAllowed old.capacity h e → ((k : ℕ) → Fits root (e ∷ h) k (cell_at new k))
+      → IsAfter root (e ∷ h) new
   after_step root h e old new a same count low may fits = record {
     legal =
         subst (λ n. IsLegal new.capacity n (e ∷ h)) (sym count)
@@ -68,11 +77,16 @@ module _ {J R : Type 0} where
     fits = fits;
   }
 
-  pub idle_after : (root : J) (h : List (Event J R)) (b : Board J R) (w : ℕ) → IsAfter root h b → ((k n : ℕ) → cell_at b k ≢ Some (Held w n)) → IsIdle w h
+  -- a worker without a cell has claimed nothing
+  pub idle_after : (root : J) (h : List (Event J R)) (b : Board J R) (w : ℕ) → IsAfter root h b
+      → ((k n : ℕ) → cell_at b k ≢ Some (Held w n)) → IsIdle w h
   idle_after root h b w a free k s = let c = claimed_cell root h k w (cell_at b k) (a.fits k) s in free k c.0 c.1
 
-  pub after_claim : (root : J) (h : List (Event J R)) (old new : Board J R) (w i : ℕ) (j : J) → IsAfter root h old → new.capacity ≡ old.capacity → length new.held ≡ length old.held
-      → w < length old.held → ((k n : ℕ) → cell_at old k ≢ Some (Held w n)) → i < length old.cells → cell_at old i ≡ Some (Waiting j) → new.cells ≡ slice_set old.cells i (Held w 0)
+  -- a claim
+  pub after_claim : (root : J) (h : List (Event J R)) (old new : Board J R) (w i : ℕ) (j : J) → IsAfter root h old
+      → new.capacity ≡ old.capacity → length new.held ≡ length old.held
+      → w < length old.held → ((k n : ℕ) → cell_at old k ≢ Some (Held w n)) → i < length old.cells → cell_at old i ≡ Some (Waiting j)
+      → new.cells ≡ slice_set old.cells i (Held w 0)
       → IsAfter root (Claim w i j ∷ h) new
   after_claim root h old new w i j a same count low free near here cells =
       let was = subst (Fits root h i) here (a.fits i) in
@@ -80,21 +94,34 @@ module _ {J R : Type 0} where
       (λ k. subst (λ (cs : List (Cell J R)). Fits root (Claim w i j ∷ h) k (slice_get cs k)) (sym cells)
       (each_set (Fits root (Claim w i j ∷ h)) old.cells i (Held w 0) near
       (at_same i i _ _ refl, ap length was.1, was.2, at_same i i _ _ refl ∙ sym was.3)
-      (λ m n. fits_same root h (Claim w i j ∷ h) m (record { states = at_other m i _ _ n; posts = refl; given = refl; got = at_other m i _ _ n; jobs = refl }) (slice_get old.cells m) (a.fits m)) k))
+      (λ m n. fits_same root h (Claim w i j ∷ h) m (record {
+        states = at_other m i _ _ n;
+        posts = refl;
+        given = refl;
+        got = at_other m i _ _ n;
+        jobs = refl;
+      }) (slice_get old.cells m) (a.fits m)) k))
 
+  -- where no cell waits and none is held the history is over
   pub over_after : (root : J) (h : List (Event J R)) (b : Board J R) → IsAfter root h b → NoneOpen b → NoneHeld b → IsOver h
   over_after root h b a free held k = (
     λ s. free k (open_cell root h k (cell_at b k) (a.fits k) s),
     λ w s. let c = claimed_cell root h k w (cell_at b k) (a.fits k) s in held k (held_is (cell_at b k) w c.0 c.1),
   )
 
-  pub after_over : (root : J) (h : List (Event J R)) (b : Board J R) (w : ℕ) → IsAfter root h b → w < length b.held → NoneOpen b → NoneHeld b → IsAfter root (Over w ∷ h) b
+  -- an Over
+  pub after_over : (root : J) (h : List (Event J R)) (b : Board J R) (w : ℕ) → IsAfter root h b → w < length b.held → NoneOpen b
+      → NoneHeld b → IsAfter root (Over w ∷ h) b
   after_over root h b w a low free held =
       after_step root h (Over w) b b a refl refl low (over_after root h b a free held)
-      (λ k. fits_same root h (Over w ∷ h) k (record { states = refl; posts = refl; given = refl; got = refl; jobs = refl }) (cell_at b k) (a.fits k))
+      (λ k. fits_same root h (Over w ∷ h) k (record { states = refl; posts = refl; given = refl; got = refl; jobs = refl })
+      (cell_at b k) (a.fits k))
 
-  pub after_post : (root : J) (h : List (Event J R)) (old new : Board J R) (w p n : ℕ) (j : J) → IsAfter root h old → new.capacity ≡ old.capacity → length new.held ≡ length old.held
-      → w < length old.held → p < length old.cells → length old.cells < old.capacity → cell_at old p ≡ Some (Held w n) → new.cells ≡ slice_set old.cells p (Held w (n + 1)) ++ Waiting j ∷ []
+  -- a post
+  pub after_post : (root : J) (h : List (Event J R)) (old new : Board J R) (w p n : ℕ) (j : J) → IsAfter root h old
+      → new.capacity ≡ old.capacity → length new.held ≡ length old.held
+      → w < length old.held → p < length old.cells → length old.cells < old.capacity → cell_at old p ≡ Some (Held w n)
+      → new.cells ≡ slice_set old.cells p (Held w (n + 1)) ++ Waiting j ∷ []
       → IsAfter root (Post w p (length old.cells) j ∷ h) new
   after_post root h old new w p n j a same count low near room here cells =
       let i = length old.cells in
@@ -106,20 +133,38 @@ module _ {J R : Type 0} where
       let apart : i ≢ p = λ e. absurd (omega (arith, near, e)) in
       let back : p ≢ i = λ e. absurd (omega (arith, near, e)) in
       let longer : length (posts_under p h ++ (i, j) ∷ []) ≡ n + 1 = omega (arith, length-append (posts_under p h) ((i, j) ∷ []), was.1) in
-      let at_i : Fits root g i (Some (Waiting j)) = (at_same i i _ _ refl, at_other i p _ _ apart ∙ new_at.1, new_at.2, at_same i i _ _ refl) in
-      let at_p : Fits root g p (Some (Held w (n + 1))) =
-      (at_other p i _ _ back ∙ was.0, ap length (at_same p p (posts_under p h ++ (i, j) ∷ []) (posts_under p h) refl) ∙ longer, was.2, was.3 ∙ sym (at_other p i _ _ back)) in
+      let at_i : Fits root g i (Some (Waiting j)) = (
+        at_same i i _ _ refl,
+        at_other i p _ _ apart ∙ new_at.1,
+        new_at.2,
+        at_same i i _ _ refl,
+      ) in
+      let at_p : Fits root g p (Some (Held w (n + 1))) = (
+        at_other p i _ _ back ∙ was.0,
+        ap length (at_same p p (posts_under p h ++ (i, j) ∷ []) (posts_under p h) refl) ∙ longer,
+        was.2,
+        was.3 ∙ sym (at_other p i _ _ back),
+      ) in
       let rest : (m : ℕ) → m ≢ i → Fits root g m (slice_get ds m) =
       λ m off. each_set (λ q o. q ≢ i → Fits root g q o) old.cells p (Held w (n + 1)) near (λ _. at_p)
-      (λ q other away. fits_same root h g q (record { states = at_other q i _ _ away; posts = at_other q p _ _ other; given = refl; got = refl; jobs = at_other q i _ _ away }) (slice_get old.cells q) (a.fits q)) m off in
+      (λ q other away. fits_same root h g q (record {
+        states = at_other q i _ _ away;
+        posts = at_other q p _ _ other;
+        given = refl;
+        got = refl;
+        jobs = at_other q i _ _ away;
+      }) (slice_get old.cells q) (a.fits q)) m off in
       after_step root h (Post w p i j) old new a same count low (was.0, new_at.0, room, near)
       (λ k. subst (λ (cs : List (Cell J R)). Fits root g k (slice_get cs k)) (sym cells)
       (each_push (Fits root g) ds (Waiting j)
       (subst (λ m. Fits root g m (Some (Waiting j))) (sym len) at_i)
       (λ m off. rest m (λ e. off (e ∙ sym len))) k))
 
-  pub after_return : (root : J) (h : List (Event J R)) (old new : Board J R) (w i n : ℕ) (r : R) → IsAfter root h old → new.capacity ≡ old.capacity → length new.held ≡ length old.held
-      → w < length old.held → i < length old.cells → cell_at old i ≡ Some (Held w n) → new.cells ≡ slice_set old.cells i (Done (ended.Returned r))
+  -- a return
+  pub after_return : (root : J) (h : List (Event J R)) (old new : Board J R) (w i n : ℕ) (r : R) → IsAfter root h old
+      → new.capacity ≡ old.capacity → length new.held ≡ length old.held
+      → w < length old.held → i < length old.cells → cell_at old i ≡ Some (Held w n)
+      → new.cells ≡ slice_set old.cells i (Done (ended.Returned r))
       → IsAfter root (Return w i r ∷ h) new
   after_return root h old new w i n r a same count low near here cells =
       let was = subst (Fits root h i) here (a.fits i) in
@@ -127,10 +172,15 @@ module _ {J R : Type 0} where
       (λ k. subst (λ (cs : List (Cell J R)). Fits root (Return w i r ∷ h) k (slice_get cs k)) (sym cells)
       (each_set (Fits root (Return w i r ∷ h)) old.cells i (Done (ended.Returned r)) near
       (at_same i i _ _ refl, at_same i i _ _ refl, was.3)
-      (λ m off. fits_same root h (Return w i r ∷ h) m (record { states = at_other m i _ _ off; posts = refl; given = at_other m i _ _ off; got = refl; jobs = refl }) (slice_get old.cells m) (a.fits m)) k))
+      (λ m off. fits_same root h (Return w i r ∷ h) m
+      (record { states = at_other m i _ _ off; posts = refl; given = at_other m i _ _ off; got = refl; jobs = refl })
+      (slice_get old.cells m) (a.fits m)) k))
 
-  pub after_fault : (root : J) (h : List (Event J R)) (old new : Board J R) (w i : ℕ) (r : R) → IsAfter root h old → new.capacity ≡ old.capacity → length new.held ≡ length old.held
-      → w < length old.held → i < length old.cells → cell_at old i ≡ Some (Held w 0) → new.cells ≡ slice_set old.cells i (Done (ended.Faulted r))
+  -- a fault
+  pub after_fault : (root : J) (h : List (Event J R)) (old new : Board J R) (w i : ℕ) (r : R) → IsAfter root h old
+      → new.capacity ≡ old.capacity → length new.held ≡ length old.held
+      → w < length old.held → i < length old.cells → cell_at old i ≡ Some (Held w 0)
+      → new.cells ≡ slice_set old.cells i (Done (ended.Faulted r))
       → IsAfter root (Fault w i r ∷ h) new
   after_fault root h old new w i r a same count low near here cells =
       let was = subst (Fits root h i) here (a.fits i) in
@@ -138,12 +188,15 @@ module _ {J R : Type 0} where
       (λ k. subst (λ (cs : List (Cell J R)). Fits root (Fault w i r ∷ h) k (slice_get cs k)) (sym cells)
       (each_set (Fits root (Fault w i r ∷ h)) old.cells i (Done (ended.Faulted r)) near
       (at_same i i _ _ refl, at_same i i _ _ refl, was.3)
-      (λ m off. fits_same root h (Fault w i r ∷ h) m (record { states = at_other m i _ _ off; posts = refl; given = at_other m i _ _ off; got = refl; jobs = refl }) (slice_get old.cells m) (a.fits m)) k))
+      (λ m off. fits_same root h (Fault w i r ∷ h) m
+      (record { states = at_other m i _ _ off; posts = refl; given = at_other m i _ _ off; got = refl; jobs = refl })
+      (slice_get old.cells m) (a.fits m)) k))
 
   first_fits : (root : J) (k : ℕ) (o : Option (Cell J R)) → slice_get (Waiting root ∷ []) k ≡ o → Fits root [] k o
   first_fits root zero o e = subst (Fits root [] 0) e (refl, refl, refl, refl)
   first_fits root (suc k) o e = subst (Fits root [] (suc k)) e (at_other (suc k) 0 _ _ (λ x. absurd (omega (arith, x))), refl, refl)
 
+  -- the first board stands for the empty history
   pub after_first : (capacity count : ℕ) (root : J) → IsAfter {R = R} root [] (first_board capacity count root)
   after_first capacity count root = record { legal = tt; fits = λ k. first_fits root k _ refl }
 
@@ -155,14 +208,33 @@ module _ {J R : Type 0} where
     pub shown : Shows (status h k) o
 
   ends : (root : J) (h : List (Event J R)) (k : ℕ) (o : Option (Ended R)) → Fits {R = R} root h k (option_map cell_of o) → Ends root h k o
-  ends root h k None f = record { over = over_by _ Absent f.0 (λ e. absurd (cc e)) (λ w e. absurd (cc e)); given = sym f.2; handed = λ e x. absurd (cc x); shown = f.0 }
-  ends root h k (Some (ended.Returned r)) f = record { over = over_by _ Returned f.0 (λ e. absurd (cc e)) (λ w e. absurd (cc e)); given = sym f.1; handed = λ e x. f.2; shown = f.0 }
-  ends root h k (Some (ended.Faulted r)) f = record { over = over_by _ Faulted f.0 (λ e. absurd (cc e)) (λ w e. absurd (cc e)); given = sym f.1; handed = λ e x. f.2; shown = f.0 }
+  ends root h k None f = record {
+    over = over_by _ Absent f.0 (λ e. absurd (cc e)) (λ w e. absurd (cc e));
+    given = sym f.2;
+    handed = λ e x. absurd (cc x);
+    shown = f.0;
+  }
+  ends root h k (Some (ended.Returned r)) f = record {
+    over = over_by _ Returned f.0 (λ e. absurd (cc e)) (λ w e. absurd (cc e));
+    given = sym f.1;
+    handed = λ e x. f.2;
+    shown = f.0;
+  }
+  ends root h k (Some (ended.Faulted r)) f = record {
+    over = over_by _ Faulted f.0 (λ e. absurd (cc e)) (λ w e. absurd (cc e));
+    given = sym f.1;
+    handed = λ e x. f.2;
+    shown = f.0;
+  }
 
-  ends_at : (root : J) (h : List (Event J R)) (b : Board J R) (rows : List (Ended R)) → IsAfter root h b → map cell_of rows ≡ b.cells → (k : ℕ) → Ends root h k (slice_get rows k)
-  ends_at root h b rows a is k = ends root h k (slice_get rows k) (subst (Fits root h k) (ap (λ (cs : List (Cell J R)). slice_get cs k) (sym is) ∙ slice_get-map cell_of rows k) (a.fits k))
+  ends_at : (root : J) (h : List (Event J R)) (b : Board J R) (rows : List (Ended R)) → IsAfter root h b → map cell_of rows ≡ b.cells
+      → (k : ℕ) → Ends root h k (slice_get rows k)
+  ends_at root h b rows a is k = ends root h k (slice_get rows k)
+      (subst (Fits root h k) (ap (λ (cs : List (Cell J R)). slice_get cs k) (sym is) ∙ slice_get-map cell_of rows k) (a.fits k))
 
-  pub rows_shown : (root : J) (h : List (Event J R)) (b : Board J R) (rows : List (Ended R)) → IsAfter root h b → map cell_of rows ≡ b.cells → (k : ℕ) → Shows (status h k) (slice_get rows k)
+  -- the rows of a closed board are those of the numbers' ends
+  pub rows_shown : (root : J) (h : List (Event J R)) (b : Board J R) (rows : List (Ended R)) → IsAfter root h b
+      → map cell_of rows ≡ b.cells → (k : ℕ) → Shows (status h k) (slice_get rows k)
   rows_shown root h b rows a is k = (ends_at root h b rows a is k).shown
 
   left_by : (root : J) (h : List (Event J R)) (k : ℕ) (o : Option (Cell J R)) → Fits root h k o → IsLeft o → IsUnended (status h k)
@@ -171,7 +243,9 @@ module _ {J R : Type 0} where
   left_by root h k (Some (Held w n)) f x = subst IsUnended (sym f.0) tt
   left_by root h k (Some (Done e)) f x = absurd x
 
-  pub left_status : (root : J) (h : List (Event J R)) (b : Board J R) (k : ℕ) → IsAfter root h b → IsLeft (cell_at b k) → IsUnended (status h k)
+  -- a number whose cell is left has not ended
+  pub left_status : (root : J) (h : List (Event J R)) (b : Board J R) (k : ℕ) → IsAfter root h b → IsLeft (cell_at b k)
+      → IsUnended (status h k)
   left_status root h b k a x = left_by root h k (cell_at b k) (a.fits k) x
 
   gone_by : (root : J) (h : List (Event J R)) (k : ℕ) (o : Option (Cell J R)) → Fits root h k o → ¬ IsLeft o → ¬ IsUnended (status h k)
@@ -181,24 +255,32 @@ module _ {J R : Type 0} where
   gone_by root h k (Some (Done (ended.Returned r))) f n x = subst IsUnended f.0 x
   gone_by root h k (Some (Done (ended.Faulted r))) f n x = subst IsUnended f.0 x
 
-  pub gone_status : (root : J) (h : List (Event J R)) (b : Board J R) (k : ℕ) → IsAfter root h b → ¬ IsLeft (cell_at b k) → ¬ IsUnended (status h k)
+  -- a number whose cell is not left has
+  pub gone_status : (root : J) (h : List (Event J R)) (b : Board J R) (k : ℕ) → IsAfter root h b → ¬ IsLeft (cell_at b k)
+      → ¬ IsUnended (status h k)
   gone_status root h b k a n = gone_by root h k (cell_at b k) (a.fits k) n
 
   -- the rows of a board on which each number has ended
-  pub rows_placed : (root : J) (h : List (Event J R)) (b : Board J R) (rows : List (Ended R)) → IsAfter root h b → map cell_of rows ≡ b.cells → IsOver h × InPlace root h rows
+  pub rows_placed : (root : J) (h : List (Event J R)) (b : Board J R) (rows : List (Ended R)) → IsAfter root h b
+      → map cell_of rows ≡ b.cells → IsOver h × InPlace root h rows
   rows_placed root h b rows a is =
       let at : (k : ℕ) → Ends root h k (slice_get rows k) = ends_at root h b rows a is in
       (λ k. (at k).over, record { given = λ k. (at k).given; handed = λ k. (at k).handed })
 
-  present : (h : List (Event J R)) (k : ℕ) (cs : List (Cell J R)) (c : Cell J R) → slice_get cs k ≡ Some c → status h k ≢ Absent → (status h k ≡ Absent) ↔ (length cs ≤ k)
+  present : (h : List (Event J R)) (k : ℕ) (cs : List (Cell J R)) (c : Cell J R) → slice_get cs k ≡ Some c → status h k ≢ Absent
+      → (status h k ≡ Absent) ↔ (length cs ≤ k)
   present h k cs c e there = (λ s. absurd (there s), λ past. absurd (omega (arith, slice_get_within cs k c e, past)))
 
-  numbers_at : (root : J) (h : List (Event J R)) (k : ℕ) (cs : List (Cell J R)) (o : Option (Cell J R)) → Fits root h k o → slice_get cs k ≡ o → (status h k ≡ Absent) ↔ (length cs ≤ k)
+  numbers_at : (root : J) (h : List (Event J R)) (k : ℕ) (cs : List (Cell J R)) (o : Option (Cell J R)) → Fits root h k o
+      → slice_get cs k ≡ o → (status h k ≡ Absent) ↔ (length cs ≤ k)
   numbers_at root h k cs None f e = (λ _. get_none cs k e, λ _. f.0)
   numbers_at root h k cs (Some (Waiting j)) f e = present h k cs (Waiting j) e (λ s. let x : Open ≡ Absent = sym f.0 ∙ s in absurd (cc x))
-  numbers_at root h k cs (Some (Held w n)) f e = present h k cs (Held w n) e (λ s. let x : Claimed w ≡ Absent = sym f.0 ∙ s in absurd (cc x))
-  numbers_at root h k cs (Some (Done (ended.Returned r))) f e = present h k cs (Done (ended.Returned r)) e (λ s. let x : Returned ≡ Absent = sym f.0 ∙ s in absurd (cc x))
-  numbers_at root h k cs (Some (Done (ended.Faulted r))) f e = present h k cs (Done (ended.Faulted r)) e (λ s. let x : Faulted ≡ Absent = sym f.0 ∙ s in absurd (cc x))
+  numbers_at root h k cs (Some (Held w n)) f e = present h k cs (Held w n) e
+      (λ s. let x : Claimed w ≡ Absent = sym f.0 ∙ s in absurd (cc x))
+  numbers_at root h k cs (Some (Done (ended.Returned r))) f e = present h k cs (Done (ended.Returned r)) e
+      (λ s. let x : Returned ≡ Absent = sym f.0 ∙ s in absurd (cc x))
+  numbers_at root h k cs (Some (Done (ended.Faulted r))) f e = present h k cs (Done (ended.Faulted r)) e
+      (λ s. let x : Faulted ≡ Absent = sym f.0 ∙ s in absurd (cc x))
 
   -- the numbers of a board are those of its history
   pub has_numbers : (root : J) (h : List (Event J R)) (b : Board J R) → IsAfter root h b → HasNumbers (length b.cells) h

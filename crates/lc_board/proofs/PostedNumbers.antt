@@ -1,5 +1,6 @@
 -- The numbers of a legal history, and what is posted under them.
-use Rattle.std.proofs.Common.{◌≡◌, ◌≢◌, ℕ, ◌+◌, ◌<◌, ◌≤◌, ◌==◌, Bool, true, false, cond, List, [], ◌∷◌, ◌++◌, Option, Some, refl, sym, ◌∙◌, ap, arith, eq-eqb}
+use Rattle.std.proofs.Common.{◌≡◌, ◌≢◌, ℕ, ◌+◌, ◌<◌, ◌≤◌, ◌==◌, Bool, true, false, cond, List, [], ◌∷◌, ◌++◌, Option, Some, refl, sym}
+use Rattle.std.proofs.Common.{◌∙◌, ap, arith, eq-eqb}
 use Rattle.std.specs.List.{AllByRecursion}
 use Rattle.std.proofs.lemmas.Bool.{eqb-true, ne_eqb}
 use Rattle.lc_board.specs.State.{Status, Absent, Open, Claimed, Returned, Faulted, status}
@@ -53,7 +54,8 @@ here : {A : Type 0} (b : Bool) (x y : Option A) → b ≡ true → cond b x y �
 here true x y e = refl
 here false x y e = cc
 
-each_cond : {A : Type 0} (P : A → Type 0) (b : Bool) (xs : List A) (x : A) → AllByRecursion P xs → (b ≡ true → P x) → AllByRecursion P (cond b (xs ++ x ∷ []) xs)
+each_cond : {A : Type 0} (P : A → Type 0) (b : Bool) (xs : List A) (x : A) → AllByRecursion P xs → (b ≡ true → P x)
+    → AllByRecursion P (cond b (xs ++ x ∷ []) xs)
 each_cond P true xs x a y = each-append P xs (x ∷ []) a (y refl, tt)
 each_cond P false xs x a y = a
 
@@ -70,6 +72,7 @@ split_open true s n y z = y refl
 split_open false s n y z = z n
 
 module _ {J R : Type 0} where
+  -- a number that is absent after an event was so before it
   pub persist : (e : Event J R) (h : List (Event J R)) (k : ℕ) → status (e ∷ h) k ≡ Absent → status h k ≡ Absent
   persist (Post w p i j) h k a = (fresh (k == i) Open (status h k) (λ x. cc) a).1
   persist (Claim w i j) h k a = (fresh (k == i) (Claimed w) (status h k) (λ x. cc) a).1
@@ -143,11 +146,15 @@ module _ {J R : Type 0} where
   all_present [] = (λ a. cc, tt)
   all_present (Post w q i j ∷ h) = (
     open_here (i == i) (status h i) (eq-eqb i i refl),
-    each-map (λ k. status h k ≢ Absent) (λ k. status (Post w q i j ∷ h) k ≢ Absent) (λ k n a. n (persist (Post w q i j) h k a)) (numbers h) (all_present h),
+    each-map (λ k. status h k ≢ Absent) (λ k. status (Post w q i j ∷ h) k ≢ Absent) (λ k n a. n (persist (Post w q i j) h k a))
+        (numbers h) (all_present h),
   )
-  all_present (Claim w i j ∷ h) = each-map (λ k. status h k ≢ Absent) (λ k. status (Claim w i j ∷ h) k ≢ Absent) (λ k n a. n (persist (Claim w i j) h k a)) (numbers h) (all_present h)
-  all_present (Return w i r ∷ h) = each-map (λ k. status h k ≢ Absent) (λ k. status (Return w i r ∷ h) k ≢ Absent) (λ k n a. n (persist (Return w i r) h k a)) (numbers h) (all_present h)
-  all_present (Fault w i r ∷ h) = each-map (λ k. status h k ≢ Absent) (λ k. status (Fault w i r ∷ h) k ≢ Absent) (λ k n a. n (persist (Fault w i r) h k a)) (numbers h) (all_present h)
+  all_present (Claim w i j ∷ h) = each-map (λ k. status h k ≢ Absent) (λ k. status (Claim w i j ∷ h) k ≢ Absent)
+      (λ k n a. n (persist (Claim w i j) h k a)) (numbers h) (all_present h)
+  all_present (Return w i r ∷ h) = each-map (λ k. status h k ≢ Absent) (λ k. status (Return w i r ∷ h) k ≢ Absent)
+      (λ k n a. n (persist (Return w i r) h k a)) (numbers h) (all_present h)
+  all_present (Fault w i r ∷ h) = each-map (λ k. status h k ≢ Absent) (λ k. status (Fault w i r ∷ h) k ≢ Absent)
+      (λ k n a. n (persist (Fault w i r) h k a)) (numbers h) (all_present h)
   all_present (Over w ∷ h) = all_present h
 
   -- a number that is present is below the capacity
@@ -199,19 +206,22 @@ module _ {J R : Type 0} where
   known_more : (c : ℕ) (top : J) (h : List (Event J R)) (w q i : ℕ) (j : J) (p : ℕ) (post : ℕ × J) →
       status h i ≡ Absent → Known c top h p post → Known c top (Post w q i j ∷ h) p post
   known_more c top h w q i j p post a k = record {
-    value = pass_by (post.0 == i) (Some j) (job_posted top h post.0) (Some post.1) (ne_eqb post.0 i (λ e. k.there (ap (λ x. status h x) e ∙ a))) k.value;
+    value = pass_by (post.0 == i) (Some j) (job_posted top h post.0) (Some post.1)
+        (ne_eqb post.0 i (λ e. k.there (ap (λ x. status h x) e ∙ a))) k.value;
     there = λ x. k.there (persist (Post w q i j) h post.0 x);
     above = k.above;
     inside = k.inside;
   }
 
+  -- what is known of each post under a number
   pub known : (c n : ℕ) (top : J) (h : List (Event J R)) → IsLegal c n h → (p : ℕ) → AllByRecursion (Known c top h p) (posts_under p h)
   known c n top [] l p = tt
   known c n top (Post w q i j ∷ h) l p =
       let low : q < i = l.2.3 in
       let fits : i < c = l.2.2 in
       each_cond (Known c top (Post w q i j ∷ h) p) (p == q) (posts_under p h) (i, j)
-      (each-map (Known c top h p) (Known c top (Post w q i j ∷ h) p) (λ post k. known_more c top h w q i j p post l.2.1 k) (posts_under p h) (known c n top h l.0 p))
+      (each-map (Known c top h p) (Known c top (Post w q i j ∷ h) p) (λ post k. known_more c top h w q i j p post l.2.1 k)
+      (posts_under p h) (known c n top h l.0 p))
       (λ t. let same = eqb-true p q t in record {
         value = here (i == i) (Some j) (job_posted top h i) (eq-eqb i i refl);
         there = open_here (i == i) (status h i) (eq-eqb i i refl);
@@ -219,18 +229,40 @@ module _ {J R : Type 0} where
         inside = fits;
       })
   known c n top (Claim w i j ∷ h) l p =
-      each-map (Known c top h p) (Known c top (Claim w i j ∷ h) p) (λ post k. record { value = k.value; there = λ x. k.there (persist (Claim w i j) h post.0 x); above = k.above; inside = k.inside }) (posts_under p h) (known c n top h l.0 p)
+      each-map (Known c top h p) (Known c top (Claim w i j ∷ h) p)
+      (λ post k. record {
+        value = k.value;
+        there = λ x. k.there (persist (Claim w i j) h post.0 x);
+        above = k.above;
+        inside = k.inside;
+      }) (posts_under p h) (known c n top h l.0 p)
   known c n top (Return w i r ∷ h) l p =
-      each-map (Known c top h p) (Known c top (Return w i r ∷ h) p) (λ post k. record { value = k.value; there = λ x. k.there (persist (Return w i r) h post.0 x); above = k.above; inside = k.inside }) (posts_under p h) (known c n top h l.0 p)
+      each-map (Known c top h p) (Known c top (Return w i r ∷ h) p)
+      (λ post k. record {
+        value = k.value;
+        there = λ x. k.there (persist (Return w i r) h post.0 x);
+        above = k.above;
+        inside = k.inside;
+      }) (posts_under p h) (known c n top h l.0 p)
   known c n top (Fault w i r ∷ h) l p =
-      each-map (Known c top h p) (Known c top (Fault w i r ∷ h) p) (λ post k. record { value = k.value; there = λ x. k.there (persist (Fault w i r) h post.0 x); above = k.above; inside = k.inside }) (posts_under p h) (known c n top h l.0 p)
+      each-map (Known c top h p) (Known c top (Fault w i r ∷ h) p)
+      (λ post k. record {
+        value = k.value;
+        there = λ x. k.there (persist (Fault w i r) h post.0 x);
+        above = k.above;
+        inside = k.inside;
+      }) (posts_under p h) (known c n top h l.0 p)
   known c n top (Over w ∷ h) l p =
-      each-map (Known c top h p) (Known c top (Over w ∷ h) p) (λ post k. record { value = k.value; there = k.there; above = k.above; inside = k.inside }) (posts_under p h) (known c n top h l.0 p)
+      each-map (Known c top h p) (Known c top (Over w ∷ h) p)
+      (λ post k. record { value = k.value; there = k.there; above = k.above; inside = k.inside }) (posts_under p h)
+      (known c n top h l.0 p)
 
+  -- the job of the top is that of number 0
   pub top_posted : (c n : ℕ) (top : J) (h : List (Event J R)) → IsLegal c n h → job_posted top h 0 ≡ Some top
   top_posted c n top [] l = refl
   top_posted c n top (Post w q i j ∷ h) l =
-      pass_by (0 == i) (Some j) (job_posted top h 0) (Some top) (ne_eqb 0 i (λ e. start h (ap (λ k. status h k) e ∙ l.2.1))) (top_posted c n top h l.0)
+      pass_by (0 == i) (Some j) (job_posted top h 0) (Some top) (ne_eqb 0 i (λ e. start h (ap (λ k. status h k) e ∙ l.2.1)))
+      (top_posted c n top h l.0)
   top_posted c n top (Claim w i j ∷ h) l = top_posted c n top h l.0
   top_posted c n top (Return w i r ∷ h) l = top_posted c n top h l.0
   top_posted c n top (Fault w i r ∷ h) l = top_posted c n top h l.0

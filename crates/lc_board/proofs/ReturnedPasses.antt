@@ -1,5 +1,6 @@
 -- Passes that come back from their workers, in order.
-use Rattle.std.proofs.Common.{◌≡◌, ℕ, zero, suc, ◌<◌, List, [], ◌∷◌, length, map, slice_get, slice_set, slice_index_or, Some, refl, ◌∙◌, ap, subst, arith}
+use Rattle.std.proofs.Common.{◌≡◌, ℕ, zero, suc, ◌<◌, List, [], ◌∷◌, length, map, slice_get, slice_set, slice_index_or, Some, refl, ◌∙◌}
+use Rattle.std.proofs.Common.{ap, subst, arith}
 use Rattle.std.proofs.lemmas.Option.{slice_get_within, get_or_from_slice_get, slice_get-get_or}
 use Rattle.lc_board.specs.Pass.{Pass, new_pass}
 use Rattle.lc_board.proofs.Places.{each_set}
@@ -8,16 +9,20 @@ same_some : {A : Type 0} (x y : A) → Some x ≡ Some y → x ≡ y
 same_some x y e = cc
 
 -- what lies at a place of a mapped list comes from what lies there
-mapped_from : {A B : Type 0} (f : A → B) (xs : List A) (i : ℕ) (y : B) → slice_get (map f xs) i ≡ Some y → (x : A) × (slice_get xs i ≡ Some x) × (f x ≡ y)
+mapped_from : {A B : Type 0} (f : A → B) (xs : List A) (i : ℕ) (y : B) → slice_get (map f xs) i ≡ Some y
+    → (x : A) × (slice_get xs i ≡ Some x) × (f x ≡ y)
 mapped_from f [] i y e = absurd (cc e)
 mapped_from f (x ∷ xs) zero y e = (x, refl, same_some (f x) y e)
 mapped_from f (x ∷ xs) (suc i) y e = mapped_from f xs i y e
 
 -- What comes back from each worker has its pass in it, as `pass` says. Each pass is the board's, and its worker's, where the passes were
 -- new and no call changed the worker
-pub still_in_order : {J R P Q : Type 0} (view : P → Pass J R) (owns : P → Type 0) (pass : Q → P) (ps : List P) (back : List Q) → length back ≡ length ps
+pub still_in_order : {J R P Q : Type 0} (view : P → Pass J R) (owns : P → Type 0) (pass : Q → P) (ps : List P) (back : List Q)
+    → length back ≡ length ps
     → ((w : ℕ) (p : P) → slice_get ps w ≡ Some p → owns p × (view p ≡ new_pass w))
-    → ((w : ℕ) (p : P) (q : Q) → w < length ps → owns (pass (slice_index_or back w q)) × ((view (pass (slice_index_or back w q))).worker ≡ (view (slice_index_or ps w p)).worker))
+    → ((w : ℕ) (p : P) (q : Q) → w < length ps
+    → owns (pass (slice_index_or back w q)) × ((view (pass (slice_index_or back w q))).worker
+    ≡ (view (slice_index_or ps w p)).worker))
     → (w : ℕ) (q : Q) → slice_get back w ≡ Some q → owns (pass q) × ((view (pass q)).worker ≡ w)
 still_in_order view owns pass ps back len started ran w q at =
     let low = slice_get_within back w q at in
@@ -37,7 +42,8 @@ taken_in_order view owns pass back each w p at =
     subst (λ x. owns x × ((view x).worker ≡ w)) q.2 (each w q.0 q.1)
 
 -- and so they are where one of them made a call, which left it the board's and its worker's
-pub used_in_order : {J R P : Type 0} (view : P → Pass J R) (owns : P → Type 0) (ps : List P) (i : ℕ) (old new : P) → slice_get ps i ≡ Some old
+pub used_in_order : {J R P : Type 0} (view : P → Pass J R) (owns : P → Type 0) (ps : List P) (i : ℕ) (old new : P)
+    → slice_get ps i ≡ Some old
     → ((w : ℕ) (p : P) → slice_get ps w ≡ Some p → owns p × ((view p).worker ≡ w)) → owns new → (view new).worker ≡ (view old).worker
     → (w : ℕ) (p : P) → slice_get (slice_set ps i new) w ≡ Some p → owns p × ((view p).worker ≡ w)
 used_in_order {P = P} view owns ps i old new here each own same =

@@ -1,10 +1,13 @@
 -- The numbers that all workers ended are the numbers of a history that is over, each once.
-use Rattle.std.proofs.Common.{◌≡◌, ◌≢◌, ℕ, zero, suc, ◌+◌, ◌<◌, ◌≤◌, ◌==◌, ◌||◌, Bool, true, false, cond, List, [], ◌∷◌, ◌++◌, length, map, slice_get, refl, sym, ◌∙◌, ap, arith, subst, Option, Some, None, ◌⊎◌, inl, inr, IsPermutation, sum_by}
+use Rattle.std.proofs.Common.{◌≡◌, ◌≢◌, ℕ, zero, suc, ◌+◌, ◌<◌, ◌≤◌, ◌==◌, ◌||◌, Bool, true, false, cond, List, [], ◌∷◌, ◌++◌, length}
+use Rattle.std.proofs.Common.{map, slice_get, refl, sym, ◌∙◌, ap, arith, subst, Option, Some, None, ◌⊎◌, inl, inr, IsPermutation}
+use Rattle.std.proofs.Common.{sum_by}
 use Rattle.std.specs.List.{flat_map, range_with_len, enumerate_from, list_any, IsDistinct, AllByRecursion}
 use Rattle.std.proofs.lemmas.Bool.{cases_lt, eqb-true, ne_eqb}
 use Rattle.std.proofs.lemmas.List.Sums.{sum_by-append, sum_by-cons}
 use Rattle.std.proofs.lemmas.Map.Steps.{length-le_from_distinct_below}
-use Rattle.std.proofs.lemmas.List.Sorted.{IsPermutation-refl, IsPermutation-trans, IsPermutation-cons, IsPermutation-middle, IsPermutation-append_right, IsPermutation-map, sum_by-IsPermutation}
+use Rattle.std.proofs.lemmas.List.Sorted.{IsPermutation-refl, IsPermutation-trans, IsPermutation-cons, IsPermutation-middle}
+use Rattle.std.proofs.lemmas.List.Sorted.{IsPermutation-append_right, IsPermutation-map, sum_by-IsPermutation}
 use Rattle.lc_board.specs.State.{Status, Absent, Open, Claimed, Returned, Faulted, status}
 use Rattle.lc_board.specs.Part.{worker_of, part}
 use Rattle.lc_board.specs.LegalHistory.{IsAllowed, IsLegal, IsOver}
@@ -36,11 +39,13 @@ first_posted : (b : Bool) → PostedAs b (cond b Open Absent) 0
 first_posted true = (λ e. refl, λ n. refl)
 first_posted false = (λ e. refl, λ n. absurd (n refl))
 
-post_posted : (b zeroth : Bool) (s : Status) (p : ℕ) → PostedAs zeroth s p → (b ≡ true → s ≡ Absent) → (b ≡ true → zeroth ≡ false) → PostedAs zeroth (cond b Open s) (cond b (p + 1) p)
+post_posted : (b zeroth : Bool) (s : Status) (p : ℕ) → PostedAs zeroth s p → (b ≡ true → s ≡ Absent) → (b ≡ true → zeroth ≡ false)
+    → PostedAs zeroth (cond b Open s) (cond b (p + 1) p)
 post_posted true zeroth s p x is nz = (λ e. absurd (cc e), λ n. ap (λ m. m + 1) (x.0 (is refl)) ∙ ap posts_wanted (sym (nz refl)))
 post_posted false zeroth s p x is nz = x
 
-keep_posted : (b zeroth : Bool) (t s : Status) (p : ℕ) → PostedAs zeroth s p → t ≢ Absent → (b ≡ true → s ≢ Absent) → PostedAs zeroth (cond b t s) p
+keep_posted : (b zeroth : Bool) (t s : Status) (p : ℕ) → PostedAs zeroth s p → t ≢ Absent → (b ≡ true → s ≢ Absent)
+    → PostedAs zeroth (cond b t s) p
 keep_posted true zeroth t s p x n sn = (λ e. absurd (n e), λ _. x.1 (sn refl))
 keep_posted false zeroth t s p x n sn = x
 
@@ -94,22 +99,26 @@ or_else d None = d
 or_else d (Some x) = x
 
 -- the elements by their places are the list with its places
-by_places : {A : Type 0} (d : A) (get : ℕ → Option A) (xs : List A) (a : ℕ) → ((i : ℕ) → get (a + i) ≡ slice_get xs i) → map (λ k. (k, or_else d (get k))) (range_with_len a (length xs)) ≡ enumerate_from a xs
+by_places : {A : Type 0} (d : A) (get : ℕ → Option A) (xs : List A) (a : ℕ) → ((i : ℕ) → get (a + i) ≡ slice_get xs i)
+    → map (λ k. (k, or_else d (get k))) (range_with_len a (length xs)) ≡ enumerate_from a xs
 by_places d get [] a same = refl
 by_places d get (x ∷ xs) a same =
     let zeroth : a + 0 ≡ a = omega arith in
     let first : get a ≡ Some x = ap get (sym zeroth) ∙ same 0 in
     ap (λ o. (a, or_else d o) ∷ map (λ k. (k, or_else d (get k))) (range_with_len (a + 1) (length xs))) first
-    ∙ ap (λ ys. (a, x) ∷ ys) (by_places d get xs (a + 1) (λ i. let next : (a + 1) + i ≡ a + suc i = omega arith in ap get next ∙ same (suc i)))
+    ∙ ap (λ ys. (a, x) ∷ ys) (by_places d get xs (a + 1)
+    (λ i. let next : (a + 1) + i ≡ a + suc i = omega arith in ap get next ∙ same (suc i)))
 
 sum_flat : {A B : Type 0} (f : B → ℕ) (g : A → List B) (xs : List A) → sum_by f (flat_map g xs) ≡ sum_by (λ x. sum_by f (g x)) xs
 sum_flat f g [] = refl
-sum_flat f g (x ∷ xs) = sum_by-append f (g x) (flat_map g xs) ∙ ap (λ n. sum_by f (g x) + n) (sum_flat f g xs) ∙ sym (sum_by-cons (λ y. sum_by f (g y)) x xs)
+sum_flat f g (x ∷ xs) = sum_by-append f (g x) (flat_map g xs) ∙ ap (λ n. sum_by f (g x) + n) (sum_flat f g xs)
+    ∙ sym (sum_by-cons (λ y. sum_by f (g y)) x xs)
 
 abbrev number_of : {R : Type 0} → (ℕ × Ended R) → ℕ
 number_of x = x.0
 
-others_ended : {R : Type 0} (k : ℕ) (xs : List (ℕ × Ended R)) → AllByRecursion (λ x. (k == x.0) ≡ false) xs → AllByRecursion (λ y. (k == y) ≡ false) (map number_of xs)
+others_ended : {R : Type 0} (k : ℕ) (xs : List (ℕ × Ended R)) → AllByRecursion (λ x. (k == x.0) ≡ false) xs
+    → AllByRecursion (λ y. (k == y) ≡ false) (map number_of xs)
 others_ended k [] a = tt
 others_ended k (x ∷ xs) a = (a.0, others_ended k xs a.1)
 
@@ -117,36 +126,50 @@ same_length : {R : Type 0} (xs : List (ℕ × Ended R)) → length (map number_o
 same_length [] = refl
 same_length (x ∷ xs) = ap suc (same_length xs)
 
-with_rows : {R : Type 0} (d : Ended R) (rows : List (Ended R)) (xs : List (ℕ × Ended R)) → AllByRecursion (λ x. slice_get rows x.0 ≡ Some x.1) xs → map (λ k. (k, or_else d (slice_get rows k))) (map number_of xs) ≡ xs
+with_rows : {R : Type 0} (d : Ended R) (rows : List (Ended R)) (xs : List (ℕ × Ended R))
+    → AllByRecursion (λ x. slice_get rows x.0 ≡ Some x.1) xs → map (λ k. (k, or_else d (slice_get rows k))) (map number_of xs) ≡ xs
 with_rows d rows [] a = refl
 with_rows d rows (x ∷ xs) a =
-    ap (λ o. (x.0, or_else d o) ∷ map (λ k. (k, or_else d (slice_get rows k))) (map number_of xs)) a.0 ∙ ap (λ ys. x ∷ ys) (with_rows d rows xs a.1)
+    ap (λ o. (x.0, or_else d o) ∷ map (λ k. (k, or_else d (slice_get rows k))) (map number_of xs)) a.0
+    ∙ ap (λ ys. x ∷ ys) (with_rows d rows xs a.1)
 
 or_cases : (a b : Bool) → (a || b) ≡ true → (a ≡ true) ⊎ (b ≡ true)
 or_cases true b e = inl refl
 or_cases false b e = inr e
 
-below_any : {R : Type 0} (c q : ℕ) (xs : List (ℕ × Ended R)) → AllByRecursion (λ x. x.0 < c) xs → list_any (λ y. q == y) (map number_of xs) ≡ true → q < c
+below_any : {R : Type 0} (c q : ℕ) (xs : List (ℕ × Ended R)) → AllByRecursion (λ x. x.0 < c) xs
+    → list_any (λ y. q == y) (map number_of xs) ≡ true → q < c
 below_any c q [] a e = absurd (cc e)
 below_any c q (x ∷ xs) a e = at (or_cases (q == x.0) (list_any (λ y. q == y) (map number_of xs)) e) (below_any c q xs a.1)
   where
-    at : ((q == x.0) ≡ true) ⊎ (list_any (λ y. q == y) (map number_of xs) ≡ true) → (list_any (λ y. q == y) (map number_of xs) ≡ true → q < c) → q < c
+    at : ((q == x.0) ≡ true) ⊎ (list_any (λ y. q == y) (map number_of xs) ≡ true)
+        → (list_any (λ y. q == y) (map number_of xs) ≡ true → q < c) → q < c
     at (inl t) rec = subst (λ z. z < c) (sym (eqb-true q x.0 t)) a.0
     at (inr t) rec = rec t
 
 module _ {J R : Type 0} where
+  -- a number is posted once if it is not absent, and 0 never
   pub posted_as : (c n : ℕ) (h : List (Event J R)) → IsLegal c n h → (k : ℕ) → PostedAs (k == 0) (status h k) (posts_of k h)
   posted_as c n [] l k = first_posted (k == 0)
   posted_as c n (Post w p i j ∷ h) l k =
       let above : p < i = l.2.3 in
-      post_posted (k == i) (k == 0) _ _ (posted_as c n h l.0 k) (named h k i Absent l.2.1) (λ e. let is = eqb-true k i e in ne_eqb k 0 (λ z. absurd (omega arith)))
-  posted_as c n (Claim w i j ∷ h) l k = keep_posted (k == i) (k == 0) (Claimed w) _ _ (posted_as c n h l.0 k) (λ e. absurd (cc e)) (λ e a. let x = sym (named h k i Open l.2.0 e) ∙ a in absurd (cc x))
-  posted_as c n (Return w i r ∷ h) l k = keep_posted (k == i) (k == 0) Returned _ _ (posted_as c n h l.0 k) (λ e. absurd (cc e)) (λ e a. let x = sym (named h k i (Claimed w) l.2 e) ∙ a in absurd (cc x))
-  posted_as c n (Fault w i r ∷ h) l k = keep_posted (k == i) (k == 0) Faulted _ _ (posted_as c n h l.0 k) (λ e. absurd (cc e)) (λ e a. let x = sym (named h k i (Claimed w) l.2.0 e) ∙ a in absurd (cc x))
+      post_posted (k == i) (k == 0) _ _ (posted_as c n h l.0 k) (named h k i Absent l.2.1)
+      (λ e. let is = eqb-true k i e in ne_eqb k 0 (λ z. absurd (omega arith)))
+  posted_as c n (Claim w i j ∷ h) l k = keep_posted (k == i) (k == 0) (Claimed w) _ _ (posted_as c n h l.0 k) (λ e. absurd (cc e))
+      (λ e a. let x = sym (named h k i Open l.2.0 e) ∙ a in absurd (cc x))
+  posted_as c n (Return w i r ∷ h) l k = keep_posted (k == i) (k == 0) Returned _ _ (posted_as c n h l.0 k) (λ e. absurd (cc e))
+      (λ e a. let x = sym (named h k i (Claimed w) l.2 e) ∙ a in absurd (cc x))
+  posted_as c n (Fault w i r ∷ h) l k = keep_posted (k == i) (k == 0) Faulted _ _ (posted_as c n h l.0 k) (λ e. absurd (cc e))
+      (λ e a. let x = sym (named h k i (Claimed w) l.2.0 e) ∙ a in absurd (cc x))
   posted_as c n (Over w ∷ h) l k = posted_as c n h l.0 k
 
+  -- so each number is posted once
   pub posted_once : PostedOnce J R
-  posted_once c n h l = (let first = posted_as c n h l 0 in first.1 (start h), λ k nz there. let p = posted_as c n h l k in p.1 there ∙ ap posts_wanted (ne_eqb k 0 nz))
+  posted_once c n h l = (
+    let first = posted_as c n h l 0 in first.1 (start h),
+    λ k nz there. let p = posted_as c n h l k in p.1 there
+        ∙ ap posts_wanted (ne_eqb k 0 nz),
+  )
 
   larger_allowed : (c d : ℕ) (h : List (Event J R)) (e : Event J R) → c ≤ d → IsAllowed c h e → IsAllowed d h e
   larger_allowed c d h (Post w p i j) le a = (a.0, a.1, omega (arith, a.2), a.3)
@@ -155,10 +178,12 @@ module _ {J R : Type 0} where
   larger_allowed c d h (Fault w i r) le a = a
   larger_allowed c d h (Over w) le a = a
 
+  -- a legal history is legal for a larger board
   pub stays_legal : StaysLegal J R
   stays_legal c d n [] le l = tt
   stays_legal c d n (e ∷ h) le l = (stays_legal c d n h le l.0, l.1, larger_allowed c d h e le l.2)
 
+  -- there are no more numbers than the capacity
   pub few_numbers : FewNumbers J R
   few_numbers c n m h one l has = at (cases_lt c m)
     where
@@ -168,10 +193,13 @@ module _ {J R : Type 0} where
 
   -- ---- a history has few ends
 
-  apart_from : (c n : ℕ) (h : List (Event J R)) → IsLegal c n h → (w k : ℕ) → status h k ≡ Claimed w → AllByRecursion (λ y. (k == y) ≡ false) (map number_of (ends h))
+  apart_from : (c n : ℕ) (h : List (Event J R)) → IsLegal c n h → (w k : ℕ) → status h k ≡ Claimed w
+      → AllByRecursion (λ y. (k == y) ≡ false) (map number_of (ends h))
   apart_from c n h l w k is =
       others_ended k (ends h)
-      (each-map (IsGiven h) (λ x. (k == x.0) ≡ false) (λ x g. ne_eqb k x.0 (λ e. claimed_has_no_row c n h l w x.0 x.1 (ap (status h) (sym e) ∙ is) g)) (ends h) (ends_given c n h l))
+      (each-map (IsGiven h) (λ x. (k == x.0) ≡ false)
+      (λ x g. ne_eqb k x.0 (λ e. claimed_has_no_row c n h l w x.0 x.1 (ap (status h) (sym e) ∙ is) g)) (ends h)
+      (ends_given c n h l))
 
   distinct : (c n : ℕ) (h : List (Event J R)) → IsLegal c n h → IsDistinct (λ a b. a == b) (map number_of (ends h))
   unfolding IsDistinct
@@ -182,19 +210,22 @@ module _ {J R : Type 0} where
   distinct c n (Fault w i r ∷ h) l = (apart_from c n h l.0 w i l.2.0, distinct c n h l.0)
   distinct c n (Over w ∷ h) l = distinct c n h l.0
 
+  -- and no more ends than numbers
   pub few_ends : FewEnds J R
   few_ends c n h one l =
       subst (λ m. m ≤ c) (same_length (ends h))
       (length-le_from_distinct_below (map number_of (ends h)) c (distinct c n h l)
       (λ q. below_any c q (ends h)
-      (each-map (IsGiven h) (λ x. x.0 < c) (λ x g. let past = row_means_ended c n h l x.0 x.1 g in within c n h l one x.0 past.there) (ends h) (ends_given c n h l))))
+      (each-map (IsGiven h) (λ x. x.0 < c) (λ x g. let past = row_means_ended c n h l x.0 x.1 g in within c n h l one x.0 past.there)
+      (ends h) (ends_given c n h l))))
 
   -- ---- the ends of all workers are those of the history
 
   abbrev ends_by : ℕ → ℕ → List (Event J R) → List (ℕ × Ended R)
   ends_by a n h = flat_map (λ w. ends (part w h)) (range_with_len a n)
 
-  same_by : (e : Event J R) → ((q : List (Event J R)) → ends (e ∷ q) ≡ ends q) → (h : List (Event J R)) (a n : ℕ) → ends_by a n (e ∷ h) ≡ ends_by a n h
+  same_by : (e : Event J R) → ((q : List (Event J R)) → ends (e ∷ q) ≡ ends q) → (h : List (Event J R)) (a n : ℕ)
+      → ends_by a n (e ∷ h) ≡ ends_by a n h
   same_by e none h a zero = refl
   same_by e none h a (suc n) =
       ap (λ xs. xs ++ ends_by (a + 1) n (e ∷ h)) (no_end e (part a h) (none (part a h)) (worker_of e == a))
@@ -206,34 +237,47 @@ module _ {J R : Type 0} where
       ap (λ m. ends m ++ ends_by (a + 1) n (e ∷ h)) (part_else a h e (λ s. absurd (omega arith)))
       ∙ ap (λ xs. ends (part a h) ++ xs) (outside e h (a + 1) n (omega arith))
 
-  one_by : (e : Event J R) (x : ℕ × Ended R) → ((q : List (Event J R)) → ends (e ∷ q) ≡ x ∷ ends q) → (h : List (Event J R)) (a n : ℕ) → a ≤ worker_of e → worker_of e < a + n
+  one_by : (e : Event J R) (x : ℕ × Ended R) → ((q : List (Event J R)) → ends (e ∷ q) ≡ x ∷ ends q) → (h : List (Event J R)) (a n : ℕ)
+      → a ≤ worker_of e → worker_of e < a + n
       → IsPermutation (ends_by a n (e ∷ h)) (x ∷ ends_by a n h)
   one_by e x one h a zero l b = absurd (omega arith)
   one_by e x one h a (suc n) l b = at (cases_lt a (worker_of e)) (λ low. one_by e x one h (a + 1) n (omega arith) (omega arith))
     where
-      at : (a < worker_of e) ⊎ (worker_of e ≤ a) → (a < worker_of e → IsPermutation (ends_by (a + 1) n (e ∷ h)) (x ∷ ends_by (a + 1) n h)) → IsPermutation (ends_by a (suc n) (e ∷ h)) (x ∷ ends_by a (suc n) h)
+      at : (a < worker_of e) ⊎ (worker_of e ≤ a)
+          → (a < worker_of e → IsPermutation (ends_by (a + 1) n (e ∷ h)) (x ∷ ends_by (a + 1) n h))
+          → IsPermutation (ends_by a (suc n) (e ∷ h)) (x ∷ ends_by a (suc n) h)
       at (inl low) rec =
           let rest = rec low in
-          subst (λ m. IsPermutation (ends m ++ ends_by (a + 1) n (e ∷ h)) (x ∷ ends_by a (suc n) h)) (sym (part_else a h e (λ s. absurd (omega arith))))
-          (IsPermutation-trans _ _ _ (IsPermutation-append_right (ends (part a h)) _ _ rest) (IsPermutation-middle (ends (part a h)) x (ends_by (a + 1) n h)))
+          subst (λ m. IsPermutation (ends m ++ ends_by (a + 1) n (e ∷ h)) (x ∷ ends_by a (suc n) h))
+          (sym (part_else a h e (λ s. absurd (omega arith))))
+          (IsPermutation-trans _ _ _ (IsPermutation-append_right (ends (part a h)) _ _ rest)
+          (IsPermutation-middle (ends (part a h)) x (ends_by (a + 1) n h)))
       at (inr up) rec =
           let here : ends (part a (e ∷ h)) ≡ x ∷ ends (part a h) = ap ends (part_own a h e (omega arith)) ∙ one (part a h) in
-          subst (λ ys. IsPermutation ys (x ∷ ends_by a (suc n) h)) (sym (ap (λ xs. xs ++ ends_by (a + 1) n (e ∷ h)) here ∙ ap (λ ys. x ∷ (ends (part a h) ++ ys)) (outside e h (a + 1) n (omega arith))))
+          subst (λ ys. IsPermutation ys (x ∷ ends_by a (suc n) h))
+          (sym (ap (λ xs. xs ++ ends_by (a + 1) n (e ∷ h)) here ∙ ap (λ ys. x ∷ (ends (part a h) ++ ys))
+          (outside e h (a + 1) n (omega arith))))
           (IsPermutation-refl (x ∷ ends_by a (suc n) h))
 
   none_by : (a n : ℕ) (h : List (Event J R)) → h ≡ [] → ends_by a n h ≡ []
   none_by a zero h e = refl
   none_by a (suc n) h e = ap (λ z. ends (part a z) ++ ends_by (a + 1) n h) e ∙ none_by (a + 1) n h e
 
+  -- the ends of all parts are those of the history
   pub ends_of_parts : (c n : ℕ) (h : List (Event J R)) → IsLegal c n h → IsPermutation (ends_by 0 n h) (ends h)
   ends_of_parts c n [] l = subst (λ xs. IsPermutation xs []) (sym (none_by 0 n [] refl)) (IsPermutation-refl [])
-  ends_of_parts c n (Post w p i j ∷ h) l = subst (λ xs. IsPermutation xs (ends h)) (sym (same_by (Post w p i j) (λ q. refl) h 0 n)) (ends_of_parts c n h l.0)
-  ends_of_parts c n (Claim w i j ∷ h) l = subst (λ xs. IsPermutation xs (ends h)) (sym (same_by (Claim w i j) (λ q. refl) h 0 n)) (ends_of_parts c n h l.0)
+  ends_of_parts c n (Post w p i j ∷ h) l =
+      subst (λ xs. IsPermutation xs (ends h)) (sym (same_by (Post w p i j) (λ q. refl) h 0 n)) (ends_of_parts c n h l.0)
+  ends_of_parts c n (Claim w i j ∷ h) l =
+      subst (λ xs. IsPermutation xs (ends h)) (sym (same_by (Claim w i j) (λ q. refl) h 0 n)) (ends_of_parts c n h l.0)
   ends_of_parts c n (Return w i r ∷ h) l =
-      IsPermutation-trans _ _ _ (one_by (Return w i r) (i, ended.Returned r) (λ q. refl) h 0 n (omega arith) (omega (arith, l.1))) (IsPermutation-cons (i, ended.Returned r) _ _ (ends_of_parts c n h l.0))
+      IsPermutation-trans _ _ _ (one_by (Return w i r) (i, ended.Returned r) (λ q. refl) h 0 n (omega arith) (omega (arith, l.1)))
+      (IsPermutation-cons (i, ended.Returned r) _ _ (ends_of_parts c n h l.0))
   ends_of_parts c n (Fault w i r ∷ h) l =
-      IsPermutation-trans _ _ _ (one_by (Fault w i r) (i, ended.Faulted r) (λ q. refl) h 0 n (omega arith) (omega (arith, l.1))) (IsPermutation-cons (i, ended.Faulted r) _ _ (ends_of_parts c n h l.0))
-  ends_of_parts c n (Over w ∷ h) l = subst (λ xs. IsPermutation xs (ends h)) (sym (same_by (Over w) (λ q. refl) h 0 n)) (ends_of_parts c n h l.0)
+      IsPermutation-trans _ _ _ (one_by (Fault w i r) (i, ended.Faulted r) (λ q. refl) h 0 n (omega arith) (omega (arith, l.1)))
+      (IsPermutation-cons (i, ended.Faulted r) _ _ (ends_of_parts c n h l.0))
+  ends_of_parts c n (Over w ∷ h) l =
+      subst (λ xs. IsPermutation xs (ends h)) (sym (same_by (Over w) (λ q. refl) h 0 n)) (ends_of_parts c n h l.0)
 
   -- ---- and the rows of a history that is over
 
@@ -245,30 +289,40 @@ module _ {J R : Type 0} where
   ends_counted p (Return w i r ∷ h) = one_more (p == i) (times p (map number_of (ends h))) (ends_of p h) (ends_counted p h)
   ends_counted p (Fault w i r ∷ h) = one_more (p == i) (times p (map number_of (ends h))) (ends_of p h) (ends_counted p h)
 
-  pub numbers_ended : (c n : ℕ) (h : List (Event J R)) → IsLegal c n h → IsOver h → (m : ℕ) → HasNumbers m h → IsPermutation (map number_of (ends h)) (range_with_len 0 m)
+  -- the numbers of the ends are those below the count, each once
+  pub numbers_ended : (c n : ℕ) (h : List (Event J R)) → IsLegal c n h → IsOver h → (m : ℕ) → HasNumbers m h
+      → IsPermutation (map number_of (ends h)) (range_with_len 0 m)
   numbers_ended c n h l over m has = permuted (map number_of (ends h)) (range_with_len 0 m) (λ p. ends_counted p h ∙ at p (cases_lt p m))
     where
       at : (p : ℕ) → (p < m) ⊎ (m ≤ p) → ends_of p h ≡ times p (range_with_len 0 m)
-      at p (inl b) = ended_once (status h p) _ _ _ (numbers_once c n h l p) (λ a. let past = (has p).0 a in absurd (omega arith)) (over p).0 (over p).1 ∙ sym (once_within p 0 m (omega arith) (omega (arith, b)))
+      at p (inl b) = ended_once (status h p) _ _ _ (numbers_once c n h l p) (λ a. let past = (has p).0 a in absurd (omega arith))
+          (over p).0 (over p).1 ∙ sym (once_within p 0 m (omega arith) (omega (arith, b)))
       at p (inr b) = never_ended (status h p) _ _ _ (numbers_once c n h l p) ((has p).1 b) ∙ sym (not_after p 0 m (omega (arith, b)))
 
-  rows_by : (d : Ended R) (c n : ℕ) (h : List (Event J R)) (rows : List (Ended R)) → IsLegal c n h → IsOver h → HasNumbers (length rows) h → ((k : ℕ) → slice_get rows k ≡ row_given h k) → IsPermutation (ends h) (enumerate_from 0 rows)
+  rows_by : (d : Ended R) (c n : ℕ) (h : List (Event J R)) (rows : List (Ended R)) → IsLegal c n h → IsOver h
+      → HasNumbers (length rows) h → ((k : ℕ) → slice_get rows k ≡ row_given h k) → IsPermutation (ends h) (enumerate_from 0 rows)
   rows_by d c n h rows l over has given =
       let f : ℕ → ℕ × Ended R = λ k. (k, or_else d (slice_get rows k)) in
       let mine : map f (map number_of (ends h)) ≡ ends h =
-      with_rows d rows (ends h) (each-map (IsGiven h) (λ x. slice_get rows x.0 ≡ Some x.1) (λ x g. given x.0 ∙ g) (ends h) (ends_given c n h l)) in
+      with_rows d rows (ends h) (each-map (IsGiven h) (λ x. slice_get rows x.0 ≡ Some x.1) (λ x g. given x.0 ∙ g) (ends h)
+      (ends_given c n h l)) in
       subst (λ xs. IsPermutation xs (enumerate_from 0 rows)) mine
-      (subst (IsPermutation (map f (map number_of (ends h)))) (by_places d (slice_get rows) rows 0 (λ i. let z : 0 + i ≡ i = omega arith in ap (slice_get rows) z))
+      (subst (IsPermutation (map f (map number_of (ends h))))
+      (by_places d (slice_get rows) rows 0 (λ i. let z : 0 + i ≡ i = omega arith in ap (slice_get rows) z))
       (IsPermutation-map f (map number_of (ends h)) (range_with_len 0 (length rows)) (numbers_ended c n h l over (length rows) has)))
 
   -- there is a row, since 0 is a number
-  rows_of_ends : (c n : ℕ) (h : List (Event J R)) (rows : List (Ended R)) → IsLegal c n h → IsOver h → HasNumbers (length rows) h → ((k : ℕ) → slice_get rows k ≡ row_given h k) → IsPermutation (ends h) (enumerate_from 0 rows)
+  rows_of_ends : (c n : ℕ) (h : List (Event J R)) (rows : List (Ended R)) → IsLegal c n h → IsOver h → HasNumbers (length rows) h
+      → ((k : ℕ) → slice_get rows k ≡ row_given h k) → IsPermutation (ends h) (enumerate_from 0 rows)
   rows_of_ends c n h [] l over has given = let none = (has 0).1 (omega arith) in absurd (start h none)
   rows_of_ends c n h (d ∷ rest) l over has given = rows_by d c n h (d ∷ rest) l over has given
 
+  -- the rows with their numbers are the ends of all workers
   pub rows_are_ends : RowsAreEnds J R
-  rows_are_ends c n root h rows l over has placed = IsPermutation-trans _ _ _ (ends_of_parts c n h l) (rows_of_ends c n h rows l over has placed.given)
+  rows_are_ends c n root h rows l over has placed =
+      IsPermutation-trans _ _ _ (ends_of_parts c n h l) (rows_of_ends c n h rows l over has placed.given)
 
+  -- so what is summed over rows is what is summed over ends
   pub sums_of_rows : SumsOfRows J R
   sums_of_rows c n root h rows l over has placed f =
       sum_by-IsPermutation f _ _ (rows_are_ends c n root h rows l over has placed) ∙ sum_flat f (λ w. ends (part w h)) (range_with_len 0 n)

@@ -1,5 +1,6 @@
 -- Values put to a history without values.
-use Rattle.std.proofs.Common.{◌≡◌, ◌≢◌, ℕ, zero, suc, ◌≤◌, ◌==◌, cond, Bool, true, false, List, [], ◌∷◌, map, length, slice_get, Some, refl, sym, ◌∙◌, ap, subst, arith, eq-eqb, ◌↔◌}
+use Rattle.std.proofs.Common.{◌≡◌, ◌≢◌, ℕ, zero, suc, ◌≤◌, ◌==◌, cond, Bool, true, false, List, [], ◌∷◌, map, length, slice_get, Some}
+use Rattle.std.proofs.Common.{refl, sym, ◌∙◌, ap, subst, arith, eq-eqb, ◌↔◌}
 use Rattle.std.proofs.lemmas.Bool.{eqb-true}
 use Rattle.lc_board.specs.State.{Absent, status}
 use Rattle.lc_board.specs.Numbers.{HasNumbers}
@@ -13,7 +14,8 @@ use Rattle.lc_board.specs.declared.answers.Ended.{Ended}
 use Rattle.lc_board.specs.declared.event.Event.{Event}
 use Rattle.lc_board.proofs.BareHistories.{worker_bare, status_bare, legal_bare, legal_back}
 
-skip : (w : ℕ) (e : BareEvent) (es : List BareEvent) (b : Bool) → (worker_of e == w) ≡ b → worker_of e ≢ w → part w es ≡ [] → cond b (e ∷ part w es) (part w es) ≡ []
+skip : (w : ℕ) (e : BareEvent) (es : List BareEvent) (b : Bool) → (worker_of e == w) ≡ b → worker_of e ≢ w → part w es ≡ []
+    → cond b (e ∷ part w es) (part w es) ≡ []
 skip w e es true t d n = absurd (d (eqb-true (worker_of e) w t))
 skip w e es false t d n = n
 
@@ -41,14 +43,21 @@ module _ {J R : Type 0} where
 
   first_of_mine : (e : BareEvent) (es : List BareEvent) (mine : List (Event J R)) → e ∷ es ≡ map bare mine → First e es mine
   first_of_mine e es [] h = absurd (cc h)
-  first_of_mine e es (n ∷ ns) h = record { event = n; rest = ns; mine_is = refl; event_is = let x : bare n ≡ e = cc h in x; rest_is = let x : es ≡ map bare ns = cc h in x }
+  first_of_mine e es (n ∷ ns) h = record {
+    event = n;
+    rest = ns;
+    mine_is = refl;
+    event_is = let x : bare n ≡ e = cc h in x;
+    rest_is = let x : es ≡ map bare ns = cc h in x;
+  }
 
   abbrev others : (v : ℕ) (rest : List (Event J R)) (mines : ℕ → List (Event J R)) → ℕ → List (Event J R)
   others v rest mines w = cond (v == w) rest (mines w)
 
   -- the parts that are left after the first event
   left : (v : ℕ) (e : BareEvent) (es : List BareEvent) (mines : ℕ → List (Event J R)) (f : List (Event J R)) → part v es ≡ map bare f
-      → (w : ℕ) (b : Bool) → (v == w) ≡ b → cond b (e ∷ part w es) (part w es) ≡ map bare (mines w) → part w es ≡ map bare (cond b f (mines w))
+      → (w : ℕ) (b : Bool) → (v == w) ≡ b → cond b (e ∷ part w es) (part w es) ≡ map bare (mines w)
+      → part w es ≡ map bare (cond b f (mines w))
   left v e es mines f is w true t h = subst (λ u. part u es ≡ map bare f) (eqb-true v w t) is
   left v e es mines f is w false t h = h
 
@@ -58,6 +67,7 @@ module _ {J R : Type 0} where
   back v n h f mines is w true t p = ap (λ x. n ∷ x) p ∙ (sym is ∙ ap mines (eqb-true v w t))
   back v n h f mines is w false t p = p
 
+  -- the events of each worker's list, in the order of the stored history
   pub weave : (es : List BareEvent) (mines : ℕ → List (Event J R)) → ((w : ℕ) → part w es ≡ map bare (mines w)) → Woven es mines
   weave [] mines m = record { history = []; bare_is = refl; parts_are = λ w. no_events (mines w) (m w) }
   weave (e ∷ es) mines m =
@@ -85,7 +95,8 @@ module _ {J R : Type 0} where
   mine_of_pass (q ∷ ps) zero p h = ap (λ (x : Pass J R). x.mine) (let t : q ≡ p = cc h in t)
   mine_of_pass (q ∷ ps) (suc w) p h = mine_of_pass ps w p h
 
-  agree : (ps : List (Pass J R)) (f : ℕ → List BareEvent) → ((w : ℕ) (p : Pass J R) → slice_get ps w ≡ Some p → f w ≡ map bare p.mine) → ((w : ℕ) → length ps ≤ w → f w ≡ [])
+  agree : (ps : List (Pass J R)) (f : ℕ → List BareEvent) → ((w : ℕ) (p : Pass J R) → slice_get ps w ≡ Some p → f w ≡ map bare p.mine)
+      → ((w : ℕ) → length ps ≤ w → f w ≡ [])
       → (w : ℕ) → f w ≡ map bare (mine_at ps w)
   unfolding mine_at
   agree [] f inside past w = past w (omega arith)
@@ -93,8 +104,10 @@ module _ {J R : Type 0} where
   agree (p ∷ ps) f inside past (suc w) = agree ps (λ k. f (suc k)) (λ k q h. inside (suc k) q h) (λ k h. past (suc k) (omega arith)) w
 
   -- a stored history that agrees with every pass is that of a closed board
-  pub settled : (capacity workers : ℕ) (root : J) (views : List (Pass J R)) (h : List (Event J R)) (es : List BareEvent) (rows : List (Ended R))
-      → IsLegal capacity workers h → IsOver h → HasNumbers (length rows) h → ((k : ℕ) → Shows (status h k) (slice_get rows k)) → map bare h ≡ es
+  pub settled : (capacity workers : ℕ) (root : J) (views : List (Pass J R)) (h : List (Event J R)) (es : List BareEvent)
+      (rows : List (Ended R))
+      → IsLegal capacity workers h → IsOver h → HasNumbers (length rows) h → ((k : ℕ) → Shows (status h k) (slice_get rows k))
+      → map bare h ≡ es
       → length views ≡ workers → ((w : ℕ) (p : Pass J R) → slice_get views w ≡ Some p → part w es ≡ map bare p.mine)
       → Settled capacity workers root locked_promises views rows
   settled capacity workers root views h es rows legal over numbers shown is len each =

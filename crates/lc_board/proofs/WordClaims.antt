@@ -1,5 +1,6 @@
 -- A look at a word keeps the row of words, and so does a claim of an open number.
-use Rattle.std.proofs.Common.{◌≡◌, ◌≢◌, ℕ, eqb, subst, ◌+◌, ◌*◌, ◌<◌, ◌≤◌, ◌⊎◌, Bool, true, false, List, [], ◌∷◌, length, get_or, set, sym, refl, ap, ◌∙◌, inl, inr, ⊎_elim, arith, length-set, Option, Some, None}
+use Rattle.std.proofs.Common.{◌≡◌, ◌≢◌, ℕ, eqb, subst, ◌+◌, ◌*◌, ◌<◌, ◌≤◌, ◌⊎◌, Bool, true, false, List, [], ◌∷◌, length, get_or, set}
+use Rattle.std.proofs.Common.{sym, refl, ap, ◌∙◌, inl, inr, ⊎_elim, arith, length-set, Option, Some, None}
 use mathlib.Core.Logic.{dite}
 use mathlib.Core.Option.{some, none}
 use native.Mathlib.Decide.{ℕ_discrete, dec_lt}
@@ -33,7 +34,8 @@ use Rattle.lc_board.proofs.WordsMoved.{apart_same, agree_put, held_is, IsNext, r
 low_tells : (cap i low : ℕ) (x : Word) (z : ℕ) → z < low_after cap i low x → (z < low) ⊎ ((z ≡ i) × (has_ended x ≡ true))
 low_tells cap i low x z h = grind (arith, nat_tests)
 
-last_tells : (cap i low : ℕ) (x : Word) → last_look cap i low x ≡ true → (low ≡ i) × ((is_absent x ≡ true) ⊎ ((has_ended x ≡ true) × (i + 1 ≡ cap)))
+last_tells : (cap i low : ℕ) (x : Word) → last_look cap i low x ≡ true
+    → (low ≡ i) × ((is_absent x ≡ true) ⊎ ((has_ended x ≡ true) × (i + 1 ≡ cap)))
 last_tells cap i low x h = grind (arith, nat_tests)
 
 abbrev pub St : Type 0 → Type 0 → Type 0
@@ -43,7 +45,10 @@ module _ {J R : Type 0} where
   abbrev pub updated : View J R → List (Event J R) → View J R
   updated v h = record v { seen = h }
 
-  pub knows_more : (root : Option J) (workers cap : ℕ) (h : List (Event J R)) (faces : ℕ → Word) (owner : ℕ → Option ℕ) (me : ℕ) (v : View J R) → IsLegal cap workers h → Knows root workers h faces owner me v → Knows root workers h faces owner me (record v { seen = h })
+  -- a pass that has seen all knows what it knew
+  pub knows_more : (root : Option J) (workers cap : ℕ) (h : List (Event J R)) (faces : ℕ → Word) (owner : ℕ → Option ℕ) (me : ℕ)
+      (v : View J R) → IsLegal cap workers h → Knows root workers h faces owner me v
+      → Knows root workers h faces owner me (record v { seen = h })
   knows_more root workers cap h faces owner me v l k = record {
     root_is = k.root_is;
     workers_are = k.workers_are;
@@ -54,14 +59,16 @@ module _ {J R : Type 0} where
     owns = k.owns;
     drew = k.drew;
     draws = k.draws;
-    low = λ i below. let a = k.low i below in let b = rank_from cap workers h v.seen l k.seen i in let c = rank_most (status h i) in omega arith;
+    low = λ i below. let a = k.low i below in let b = rank_from cap workers h v.seen l k.seen i in let c = rank_most (status h i) in
+        omega arith;
     front = k.front;
     deals = k.deals;
     joins = k.joins;
   }
 
   -- nothing changes but what the pass has seen
-  pub next_same : (root : Option J) (workers : ℕ) (s : St J R) (r : IsRow root workers s) (worker : ℕ) → IsNext root workers s r worker r.history r.faces s.words s.homes
+  pub next_same : (root : Option J) (workers : ℕ) (s : St J R) (r : IsRow root workers s) (worker : ℕ)
+      → IsNext root workers s r worker r.history r.faces s.words s.homes
   next_same root workers s r worker = record {
     long = refl;
     wide = refl;
@@ -74,7 +81,9 @@ module _ {J R : Type 0} where
     more = λ k e. e;
   }
 
-  pub fair : (root : Option J) (workers cap : ℕ) (h : List (Event J R)) (faces : ℕ → Word) (owner : ℕ → Option ℕ) (me : ℕ) (w : View J R) → w.seen ≡ h → IsLegal cap workers h → IsMatched root h → Knows root workers h faces owner me w → IsFair cap w
+  -- and what it knows is fair
+  pub fair : (root : Option J) (workers cap : ℕ) (h : List (Event J R)) (faces : ℕ → Word) (owner : ℕ → Option ℕ) (me : ℕ)
+      (w : View J R) → w.seen ≡ h → IsLegal cap workers h → IsMatched root h → Knows root workers h faces owner me w → IsFair cap w
   fair root workers cap h faces owner me w same l m k = (
     subst (λ (z : ℕ × List (Event J R)). IsLegal cap z.0 z.1) (λ i. (sym k.workers_are i, sym same i)) l,
     subst (λ (z : Option J × List (Event J R)). IsMatched z.0 z.1) (λ i. (sym k.root_is i, sym same i)) m,
@@ -82,19 +91,28 @@ module _ {J R : Type 0} where
   )
 
   -- the low mark stays where one event is added
-  pub low_stays : (root : Option J) (workers cap : ℕ) (h : List (Event J R)) (faces : ℕ → Word) (owner : ℕ → Option ℕ) (me : ℕ) (v : View J R) (e : Event J R) → IsLegal cap workers (e ∷ h) → Knows root workers h faces owner me v
+  pub low_stays : (root : Option J) (workers cap : ℕ) (h : List (Event J R)) (faces : ℕ → Word) (owner : ℕ → Option ℕ) (me : ℕ)
+      (v : View J R) (e : Event J R) → IsLegal cap workers (e ∷ h) → Knows root workers h faces owner me v
       → (k : ℕ) → k < v.low → rank (status (e ∷ h) k) ≡ 3
-  low_stays root workers cap h faces owner me v e l k i below = let a = k.low i below in let b = rank_from cap workers (e ∷ h) v.seen l (longer h v.seen e k.seen) i in let c = rank_most (status (e ∷ h) i) in omega arith
+  low_stays root workers cap h faces owner me v e l k i below = let a = k.low i below in let b = rank_from cap workers (e ∷ h) v.seen l
+      (longer h v.seen e k.seen) i in let c = rank_most (status (e ∷ h) i) in omega arith
 
-  pub adds : (root : Option J) (workers cap : ℕ) (h : List (Event J R)) (faces : ℕ → Word) (owner : ℕ → Option ℕ) (me : ℕ) (v : View J R) (e : Event J R) (f : ℕ → Word) (w : View J R) → w.seen ≡ e ∷ h → w.mine ≡ e ∷ v.mine
-      → IsLegal cap workers (e ∷ h) → IsMatched root (e ∷ h) → Knows root workers h faces owner me v → Knows root workers (e ∷ h) f owner me w → AddsEvent cap v e w
-  adds root workers cap h faces owner me v e f w same own l m k k' = ((h, k.seen, same), own, fair root workers cap (e ∷ h) f owner me w same l m k')
+  -- an event of its own is one more that it has seen
+  pub adds : (root : Option J) (workers cap : ℕ) (h : List (Event J R)) (faces : ℕ → Word) (owner : ℕ → Option ℕ) (me : ℕ)
+      (v : View J R) (e : Event J R) (f : ℕ → Word) (w : View J R) → w.seen ≡ e ∷ h → w.mine ≡ e ∷ v.mine
+      → IsLegal cap workers (e ∷ h) → IsMatched root (e ∷ h) → Knows root workers h faces owner me v
+      → Knows root workers (e ∷ h) f owner me w → AddsEvent cap v e w
+  adds root workers cap h faces owner me v e f w same own l m k k' =
+      ((h, k.seen, same), own, fair root workers cap (e ∷ h) f owner me w same l m k')
 
   -- the word of a number says what the number is
-  pub face_here : (root : Option J) (workers : ℕ) (s : St J R) (r : IsRow root workers s) (i : ℕ) → i < length s.homes → word_of (get_or s.words i 0) ≡ r.faces i
+  pub face_here : (root : Option J) (workers : ℕ) (s : St J R) (r : IsRow root workers s) (i : ℕ) → i < length s.homes
+      → word_of (get_or s.words i 0) ≡ r.faces i
   face_here root workers s r i near = ap word_of (r.state.shows i near) ∙ decoded (r.faces i)
 
-  pub finds : (root : Option J) (workers : ℕ) (s : St J R) (r : IsRow root workers s) (i me : ℕ) (h' : List (Event J R)) (w : View J R) → IsLegal (length s.homes) workers h' → ((k : ℕ) → status w.seen k ≡ status r.history k)
+  -- what a look tells of a number is so of the history
+  pub finds : (root : Option J) (workers : ℕ) (s : St J R) (r : IsRow root workers s) (i me : ℕ) (h' : List (Event J R)) (w : View J R)
+      → IsLegal (length s.homes) workers h' → ((k : ℕ) → status w.seen k ≡ status r.history k)
       → Knows root workers h' r.faces r.owner me w → w.seen ≡ h' → Finds i (r.faces i) w
   finds root workers s r i me h' w legal same k' is_h = found (r.faces i) refl
     where
@@ -123,24 +141,28 @@ module _ {J R : Type 0} where
   abbrev over_view : View J R → List (Event J R) → ℕ → View J R
   over_view v h low = record v { seen = Over v.worker ∷ h; mine = Over v.worker ∷ v.mine; low = low }
 
-  module _ (root : Option J) (workers me i : ℕ) (v : View J R) (lives : v.live ≡ true) (s : St J R) (r : IsRow root workers s) (at : get_elem? s.views me ≡ some v) (near : i < length s.homes) where
+  module _ (root : Option J) (workers me i : ℕ) (v : View J R) (lives : v.live ≡ true) (s : St J R) (r : IsRow root workers s)
+      (at : get_elem? s.views me ≡ some v) (near : i < length s.homes) where
     km : Knows root workers r.history r.faces r.owner me v
     km = r.each_seat me v at lives
 
     ended_now : (z : ℕ) → z < v.low → rank (status r.history z) ≡ 3
-    ended_now z below = let a = km.low z below in let b = rank_from (length s.homes) workers r.history v.seen r.state.legal km.seen z in let c = rank_most (status r.history z) in omega arith
+    ended_now z below = let a = km.low z below in let b = rank_from
+        (length s.homes) workers r.history v.seen r.state.legal km.seen z in let c = rank_most (status r.history z) in omega arith
 
     ended_here : has_ended (r.faces i) ≡ true → rank (status r.history i) ≡ 3
     ended_here e = ap rank (r.state.agrees i) ∙ ended_rank (r.faces i) e
 
     low_now : (z : ℕ) → z < low_after (length s.homes) i v.low (r.faces i) → rank (status r.history z) ≡ 3
     low_now z below = ⊎_elim (λ (x : z < v.low). ended_now z x)
-        (λ (x : (z ≡ i) × (has_ended (r.faces i) ≡ true)). ap (λ y. rank (status r.history y)) x.0 ∙ ended_here x.1) (low_tells (length s.homes) i v.low (r.faces i) z below)
+        (λ (x : (z ≡ i) × (has_ended (r.faces i) ≡ true)). ap (λ y. rank (status r.history y)) x.0 ∙ ended_here x.1)
+        (low_tells (length s.homes) i v.low (r.faces i) z below)
 
     beyond_now : (z : ℕ) → length s.homes ≤ z → status r.history z ≡ Absent
     beyond_now z far = r.state.agrees z ∙ ap shown (r.state.beyond z far)
 
-    looked_knows : Knows root workers r.history r.faces r.owner me (looked_view v r.history (low_after (length s.homes) i v.low (r.faces i)))
+    looked_knows : Knows root workers r.history r.faces r.owner me
+        (looked_view v r.history (low_after (length s.homes) i v.low (r.faces i)))
     looked_knows = record {
       root_is = km.root_is;
       workers_are = km.workers_are;
@@ -160,12 +182,17 @@ module _ {J R : Type 0} where
     module _ (last : (v.low ≡ i) × ((is_absent (r.faces i) ≡ true) ⊎ ((has_ended (r.faces i) ≡ true) × (i + 1 ≡ length s.homes)))) where
       all_done : (z : ℕ) → (rank (status r.history z) ≡ 3) ⊎ (status r.history z ≡ Absent)
       all_done z = dite (dec_lt z v.low) (λ l. inl (ended_now z l)) (λ n. ⊎_elim
-          (λ (e : is_absent (r.faces i) ≡ true). let le : i ≤ z = (let x = last.0 in omega arith) in inr (r.state.agrees z ∙ ap shown (r.state.together i z le (absent_is (r.faces i) e))))
-          (λ (e : (has_ended (r.faces i) ≡ true) × (i + 1 ≡ length s.homes)). dite (ℕ_discrete z i) (λ is. inl (ap (λ y. rank (status r.history y)) is ∙ ended_here e.0))
+          (λ (e : is_absent (r.faces i) ≡ true). let le : i ≤ z = (let x = last.0 in omega arith) in
+          inr (r.state.agrees z ∙ ap shown (r.state.together i z le (absent_is (r.faces i) e))))
+          (λ (e : (has_ended (r.faces i) ≡ true) × (i + 1 ≡ length s.homes)). dite (ℕ_discrete z i)
+          (λ is. inl (ap (λ y. rank (status r.history y)) is ∙ ended_here e.0))
           (λ ne. let x = last.0 in let y = e.1 in inr (beyond_now z (omega arith)))) last.1)
 
       over_allowed : IsAllowed (length s.homes) r.history (Over v.worker)
-      over_allowed z = ⊎_elim (λ (e : rank (status r.history z) ≡ 3). ((λ is. let x = sym e ∙ ap rank is in omega arith), (λ u is. let x = sym e ∙ ap rank is in omega arith)))
+      over_allowed z = ⊎_elim (λ (e : rank (status r.history z) ≡ 3). (
+        (λ is. let x = sym e ∙ ap rank is in omega arith),
+        (λ u is. let x = sym e ∙ ap rank is in omega arith),
+      ))
           (λ (e : status r.history z ≡ Absent). ((λ is. let x = sym e ∙ is in cc), (λ u is. let x = sym e ∙ is in cc))) (all_done z)
 
       over_legal : IsLegal (length s.homes) workers (Over v.worker ∷ r.history)
@@ -175,7 +202,14 @@ module _ {J R : Type 0} where
       over_next = record {
         long = refl;
         wide = refl;
-        state = record { legal = over_legal; matched = (r.state.matched, tt); shows = r.state.shows; agrees = r.state.agrees; beyond = r.state.beyond; together = r.state.together };
+        state = record {
+          legal = over_legal;
+          matched = (r.state.matched, tt);
+          shows = r.state.shows;
+          agrees = r.state.agrees;
+          beyond = r.state.beyond;
+          together = r.state.together;
+        };
         grows = (Over v.worker ∷ [], refl);
         parts = λ u ne. part_else u r.history (Over v.worker) (λ is. ne (sym is));
         lies = λ z l. lies_stay root r.history (Over v.worker ∷ r.history) s.homes s.homes z refl refl refl (r.faces z) (r.lies z l);
@@ -184,7 +218,8 @@ module _ {J R : Type 0} where
         more = λ z e. e;
       }
 
-      over_knows : Knows root workers (Over v.worker ∷ r.history) r.faces r.owner me (over_view v r.history (low_after (length s.homes) i v.low (r.faces i)))
+      over_knows : Knows root workers (Over v.worker ∷ r.history) r.faces r.owner me
+          (over_view v r.history (low_after (length s.homes) i v.low (r.faces i)))
       over_knows = record {
         root_is = km.root_is;
         workers_are = km.workers_are;
@@ -198,12 +233,20 @@ module _ {J R : Type 0} where
         low = low_now;
         front = km.front;
         deals = km.deals;
-        joins = λ a u m is. let x = km.joins a u m is in record { owned = x.owned; other = x.other; events = part_else u r.history (Over v.worker) (λ w. x.other (sym w)) ∙ x.events; idle = x.idle };
+        joins = λ a u m is. let x = km.joins a u m is in
+            record {
+              owned = x.owned;
+              other = x.other;
+              events = part_else u r.history (Over v.worker) (λ w. x.other (sym w))
+                  ∙ x.events;
+              idle = x.idle;
+            };
       }
 
     -- the step, by whether it is the last look
     pub misses : (b : Bool) → last_look (length s.homes) i v.low (r.faces i) ≡ b
-        → (w : View J R) × IsRow root workers record { words = s.words; homes = s.homes; views = set s.views me w } × Missed (length s.homes) i (r.faces i) v w
+        → (w : View J R) × IsRow root workers record { words = s.words; homes = s.homes; views = set s.views me w }
+        × Missed (length s.homes) i (r.faces i) v w
     misses false is = let w = looked_view v r.history (low_after (length s.homes) i v.low (r.faces i)) in (
       w,
       rebuilt root workers s r me v at lives r.history r.faces s.words s.homes w (next_same root workers s r v.worker) looked_knows,
@@ -215,33 +258,42 @@ module _ {J R : Type 0} where
         low_now,
         beyond_now,
         finds root workers s r i me r.history w r.state.legal (λ z. refl) looked_knows refl,
-        subst (λ b. MatchBool b (AddsEvent (length s.homes) v (Over v.worker) w) (Looks (length s.homes) v w)) (sym is)
-            (km.seen, refl, fair root workers (length s.homes) r.history r.faces r.owner me w refl r.state.legal r.state.matched looked_knows),
+        subst (λ b. MatchBool b (AddsEvent (length s.homes) v (Over v.worker) w) (Looks (length s.homes) v w)) (sym is) (
+          km.seen,
+          refl,
+          fair root workers
+              (length s.homes) r.history r.faces r.owner me w refl r.state.legal r.state.matched looked_knows,
+        ),
       ),
     )
-    misses true is = let last = last_tells (length s.homes) i v.low (r.faces i) is in let w = over_view v r.history (low_after (length s.homes) i v.low (r.faces i)) in (
-      w,
-      rebuilt root workers s r me v at lives (Over v.worker ∷ r.history) r.faces s.words s.homes w (over_next last) (over_knows last),
-      (
-        (refl, refl, refl, refl, refl, refl),
-        refl,
-        refl,
-        refl,
-        low_now,
-        beyond_now,
-        finds root workers s r i me (Over v.worker ∷ r.history) w (over_legal last) (λ z. refl) (over_knows last) refl,
-        subst (λ b. MatchBool b (AddsEvent (length s.homes) v (Over v.worker) w) (Looks (length s.homes) v w)) (sym is)
-            (adds root workers (length s.homes) r.history r.faces r.owner me v (Over v.worker) r.faces w refl refl (over_legal last) (r.state.matched, tt) km (over_knows last)),
-      ),
-    )
+    misses true is = let last = last_tells (length s.homes) i v.low (r.faces i) is in let w = over_view v r.history
+        (low_after (length s.homes) i v.low (r.faces i)) in (
+          w,
+          rebuilt root workers s r me v at lives (Over v.worker ∷ r.history) r.faces s.words s.homes w (over_next last) (over_knows last),
+          (
+            (refl, refl, refl, refl, refl, refl),
+            refl,
+            refl,
+            refl,
+            low_now,
+            beyond_now,
+            finds root workers s r i me (Over v.worker ∷ r.history) w (over_legal last) (λ z. refl) (over_knows last) refl,
+            subst (λ b. MatchBool b (AddsEvent (length s.homes) v (Over v.worker) w) (Looks (length s.homes) v w)) (sym is)
+                (adds root workers (length s.homes) r.history r.faces r.owner me v (Over v.worker) r.faces w refl refl (over_legal last)
+                (r.state.matched, tt) km (over_knows last)),
+          ),
+        )
 
-  pub looks : (root : Option J) (workers slots me : ℕ) (m : Seated J R) (i : ℕ) → m.0.live ≡ true → i < slots → Allows (IsRow root workers) slots me m i (λ n. n) (looked (step slots i 0 0 none) m)
+  -- a look keeps the row of words
+  pub looks : (root : Option J) (workers slots me : ℕ) (m : Seated J R) (i : ℕ) → m.0.live ≡ true → i < slots
+      → Allows (IsRow root workers) slots me m i (λ n. n) (looked (step slots i 0 0 none) m)
   looks root workers slots me m i lives near s r len at fits = let v = m.0 in let near' : i < length s.homes = omega arith in
       let did = misses root workers me i v lives s r at near' (last_look (length s.homes) i v.low (r.faces i)) refl in (
         did.0,
         keeps,
         tt,
-        subst (λ (ws : List ℕ). IsRow root workers record { words = ws; homes = s.homes; views = set s.views me did.0 }) (sym (set-get_or s.words i 0)) did.1,
+        subst (λ (ws : List ℕ). IsRow root workers record { words = ws; homes = s.homes; views = set s.views me did.0 })
+            (sym (set-get_or s.words i 0)) did.1,
         (refl, subst (λ (z : ℕ × Word). Missed z.0 i z.1 v did.0) (λ k. (len k, sym (face_here root workers s r i near') k)) did.2),
       )
 
@@ -250,7 +302,9 @@ module _ {J R : Type 0} where
 
   -- a claim takes the job that was posted
   module _ (root : Option J) (workers me i : ℕ) (v : View J R) (lives : v.live ≡ true) (free : holding v.mine ≡ None) where
-    module _ (s : St J R) (r : IsRow root workers s) (at : get_elem? s.views me ≡ some v) (near : i < length s.homes) (open_there : r.faces i ≡ word.Open) (j : J) (lies : get_elem? s.homes i ≡ some (some (Job j))) (posted_there : job_at root r.history i ≡ Some j) where
+    module _ (s : St J R) (r : IsRow root workers s) (at : get_elem? s.views me ≡ some v) (near : i < length s.homes)
+        (open_there : r.faces i ≡ word.Open) (j : J) (lies : get_elem? s.homes i ≡ some (some (Job j)))
+        (posted_there : job_at root r.history i ≡ Some j) where
       abbrev h : List (Event J R)
       h = r.history
 
@@ -284,12 +338,21 @@ module _ {J R : Type 0} where
         jobs_else = λ z ne. refl;
         rows_else = λ z ne. refl;
         lies_here = tt;
-        busy = λ z w is. let o = at_put r.faces i (word.Claimed v.worker) (λ y f. f ≡ word.Drawn w → r.faces y ≡ word.Drawn w) z (λ x. absurd (cc)) (λ _ x. x) is in let p = r.busy z w o in
-            (p.0, (put_else (status h) i (Claimed v.worker) p.0 (λ (x : p.0 ≡ i). let y : Claimed w ≡ Open = sym p.1 ∙ (ap (status h) x ∙ was) in cc) ∙ p.1));
-        loose = λ u ne. ((λ x. let y = sym open_there ∙ x in cc), (λ x. cc), (λ (x : word.Claimed v.worker ≡ word.Claimed u). let y : v.worker ≡ u = cc in ne (sym y)));
+        busy = λ z w is. let o = at_put r.faces i (word.Claimed v.worker) (λ y f. f ≡ word.Drawn w → r.faces y ≡ word.Drawn w) z
+            (λ x. absurd (cc)) (λ _ x. x) is in let p = r.busy z w o in (
+              p.0,
+              (put_else (status h) i (Claimed v.worker) p.0
+                  (λ (x : p.0 ≡ i). let y : Claimed w ≡ Open = sym p.1 ∙ (ap (status h) x ∙ was) in cc) ∙ p.1),
+            );
+        loose = λ u ne. (
+          (λ x. let y = sym open_there ∙ x in cc),
+          (λ x. cc),
+          (λ (x : word.Claimed v.worker ≡ word.Claimed u). let y : v.worker ≡ u = cc in ne (sym y)),
+        );
       }
 
-      claim_knows : Knows root workers (Claim v.worker i j ∷ r.history) (put r.faces i (word.Claimed v.worker)) r.owner me (added v r.history (Claim v.worker i j))
+      claim_knows : Knows root workers (Claim v.worker i j ∷ r.history) (put r.faces i (word.Claimed v.worker)) r.owner me
+          (added v r.history (Claim v.worker i j))
       claim_knows = record {
         root_is = k.root_is;
         workers_are = k.workers_are;
@@ -298,10 +361,13 @@ module _ {J R : Type 0} where
         seen = whole (e ∷ h);
         own = part_own v.worker h e refl ∙ ap (λ z. e ∷ z) k.mine;
         owns = k.owns;
-        drew = λ z. at_put r.faces i (word.Claimed v.worker) (λ y f. f ≡ word.Drawn v.worker → v.drawn ≡ y + 1) z (λ x. absurd (cc)) (λ _ x. k.drew z x);
-        draws = λ z is. let x = k.draws z is in put_else r.faces i (word.Claimed v.worker) z (λ (o : z ≡ i). let y : word.Drawn v.worker ≡ word.Open = sym x ∙ (ap r.faces o ∙ open_there) in cc) ∙ x;
+        drew = λ z. at_put r.faces i (word.Claimed v.worker) (λ y f. f ≡ word.Drawn v.worker → v.drawn ≡ y + 1) z (λ x. absurd (cc))
+            (λ _ x. k.drew z x);
+        draws = λ z is. let x = k.draws z is in put_else r.faces i (word.Claimed v.worker) z
+            (λ (o : z ≡ i). let y : word.Drawn v.worker ≡ word.Open = sym x ∙ (ap r.faces o ∙ open_there) in cc) ∙ x;
         low = low_stays root workers (length s.homes) h r.faces r.owner me v e claim_legal k;
-        front = λ z below. at_put r.faces i (word.Claimed v.worker) (λ y f. y < v.front → f ≢ word.Absent) z (λ _ x. cc) (λ _. k.front z) below;
+        front = λ z below. at_put r.faces i (word.Claimed v.worker) (λ y f. y < v.front → f ≢ word.Absent) z (λ _ x. cc)
+            (λ _. k.front z) below;
         deals = k.deals;
         joins = λ n u m is. let x = k.joins n u m is in record {
           owned = x.owned;
@@ -311,29 +377,48 @@ module _ {J R : Type 0} where
         };
       }
 
-  pub claims : (root : Option J) (workers slots me : ℕ) (m : Seated J R) (i new : ℕ) → m.0.live ≡ true → i < slots → holding m.0.mine ≡ None → new ≡ 5 + 2 * m.0.worker
+  -- so does an exchange that claims, whether it takes place or not
+  pub claims : (root : Option J) (workers slots me : ℕ) (m : Seated J R) (i new : ℕ) → m.0.live ≡ true → i < slots
+      → holding m.0.mine ≡ None → new ≡ 5 + 2 * m.0.worker
       → Allows (IsRow root workers) slots me m i (λ n. either (eqb n 1) new n) (claimed (step slots i 1 new none) m)
   claims root workers slots me m i new lives near free is s r len at fits = let v = m.0 in let z : ℕ = get_or s.words i 0 in
       let near' : i < length s.homes = omega arith in
-      let G : ℕ → Type 0 = λ n. (w : View J R) × (a : Act (Slot J R)) × Valid s.homes m.1 a × IsRow root workers (stepped s i n me m.1 w a) × claimed (step slots i 1 new none) m z (w, carried_after m.1 a) in
+      let G : ℕ → Type 0 = λ n. (w : View J R) × (a : Act (Slot J R)) × Valid s.homes m.1 a
+      × IsRow root workers (stepped s i n me m.1 w a) × claimed (step slots i 1 new none) m z (w, carried_after m.1 a) in
       exchanged z 1 new G
-      (λ (hit : z ≡ 1). let there : r.faces i ≡ word.Open = sym (face_here root workers s r i near') ∙ ap word_of hit in let l = subst (λ c. Lies root r.history s.homes i c) there (r.lies i near') in
+      (λ (hit : z ≡ 1). let there : r.faces i ≡ word.Open = sym (face_here root workers s r i near') ∙ ap word_of hit in
+      let l = subst (λ c. Lies root r.history s.homes i c) there (r.lies i near') in
       let e : Event J R = Claim v.worker i l.0 in let k = r.each_seat me v at lives in let w = added v r.history e in
-      let turn = claim_turn root workers me i v lives free s r at near' there l.0 l.1 l.2 in let k' = claim_knows root workers me i v lives free s r at near' there l.0 l.1 l.2 in (
+      let turn = claim_turn root workers me i v lives free s r at near' there l.0 l.1 l.2 in
+      let k' = claim_knows root workers me i v lives free s r at near' there l.0 l.1 l.2 in (
         w,
         takes i (Job l.0),
         l.1,
         subst (λ n. IsRow root workers (stepped s i n me m.1 w (takes i (Job l.0)))) (sym is)
-            (rebuilt root workers s r me v at lives (e ∷ r.history) (put r.faces i (word.Claimed v.worker)) (set s.words i (5 + 2 * v.worker)) (set s.homes i none) w (turned root workers s r v.worker i (e ∷ r.history) (word.Claimed v.worker) (set s.homes i none) turn) k'),
-        subst (λ b. MatchBool b (TakesJob (step slots i 1 new none) m (w, carried_after m.1 (takes i (Job l.0)))) (looked (step slots i 1 new none) m z (w, carried_after m.1 (takes i (Job l.0))))) (sym (ap (λ n. is_open (word_of n)) hit))
-            (l.0, (refl, refl, refl, refl, refl, refl), refl, refl, refl, refl, subst (λ c. AddsEvent c v e w) len (adds root workers (length s.homes) r.history r.faces r.owner me v e (put r.faces i (word.Claimed v.worker)) w refl refl turn.legal turn.matched k k')),
+            (rebuilt root workers s r me v at lives (e ∷ r.history) (put r.faces i (word.Claimed v.worker))
+            (set s.words i (5 + 2 * v.worker)) (set s.homes i none) w
+            (turned root workers s r v.worker i (e ∷ r.history) (word.Claimed v.worker) (set s.homes i none) turn) k'),
+        subst (λ b. MatchBool b (TakesJob (step slots i 1 new none) m (w, carried_after m.1 (takes i (Job l.0))))
+            (looked (step slots i 1 new none) m z (w, carried_after m.1 (takes i (Job l.0))))) (sym (ap (λ n. is_open (word_of n)) hit)) (
+              l.0,
+              (refl, refl, refl, refl, refl, refl),
+              refl,
+              refl,
+              refl,
+              refl,
+              subst (λ c. AddsEvent c v e w) len
+                  (adds root workers (length s.homes) r.history r.faces r.owner me v e
+                  (put r.faces i (word.Claimed v.worker)) w refl refl turn.legal turn.matched k k'),
+            ),
       ))
       (λ (miss : z ≢ 1). let did = misses root workers me i v lives s r at near' (last_look (length s.homes) i v.low (r.faces i)) refl in (
         did.0,
         keeps,
         tt,
-        subst (λ (ws : List ℕ). IsRow root workers record { words = ws; homes = s.homes; views = set s.views me did.0 }) (sym (set-get_or s.words i 0)) did.1,
-        subst (λ b. MatchBool b (TakesJob (step slots i 1 new none) m (did.0, carried_after m.1 keeps)) (looked (step slots i 1 new none) m z (did.0, carried_after m.1 keeps)))
+        subst (λ (ws : List ℕ). IsRow root workers record { words = ws; homes = s.homes; views = set s.views me did.0 })
+            (sym (set-get_or s.words i 0)) did.1,
+        subst (λ b. MatchBool b (TakesJob (step slots i 1 new none) m (did.0, carried_after m.1 keeps))
+            (looked (step slots i 1 new none) m z (did.0, carried_after m.1 keeps)))
             (sym (ap is_open (face_here root workers s r i near') ∙ not_open (r.faces i) (λ e. miss (r.state.shows i near' ∙ ap code e))))
             (refl, subst (λ (y : ℕ × Word). Missed y.0 i y.1 v did.0) (λ k. (len k, sym (face_here root workers s r i near') k)) did.2),
       ))

@@ -1,5 +1,6 @@
 -- What a closed row of words says of one history, and of the rows that are taken out of it.
-use Rattle.std.proofs.Common.{◌≡◌, ◌≢◌, ℕ, zero, suc, ◌+◌, ◌<◌, ◌≤◌, ◌==◌, ◌⊎◌, Bool, true, false, cond, ltb, List, [], ◌∷◌, ◌++◌, length, get_or, slice_get, sym, refl, ap, ◌∙◌, subst, inl, inr, ⊎_elim, arith, Option, Some, None}
+use Rattle.std.proofs.Common.{◌≡◌, ◌≢◌, ℕ, zero, suc, ◌+◌, ◌<◌, ◌≤◌, ◌==◌, ◌⊎◌, Bool, true, false, cond, ltb, List, [], ◌∷◌, ◌++◌}
+use Rattle.std.proofs.Common.{length, get_or, slice_get, sym, refl, ap, ◌∙◌, subst, inl, inr, ⊎_elim, arith, Option, Some, None}
 use mathlib.Core.Logic.{dite}
 use mathlib.Core.Option.{some, some-injective, some-ne-none}
 use native.Mathlib.Decide.{ℕ_discrete, dec_lt}
@@ -37,11 +38,13 @@ index_at [] i a e = absurd (some-ne-none a (sym e))
 index_at (x ∷ xs) zero a e = some-injective x a e
 index_at (x ∷ xs) (suc i) a e = index_at xs i a e
 
+-- the word at a place is that of its code
 pub word_here : (codes : List ℕ) (i a : ℕ) → get_elem? codes i ≡ some a → word_at codes i ≡ word_of a
 word_here codes i a e = ap word_of (index_at codes i a e)
 
 -- the worker of a claim is one of the board's
-named_by : (n w : ℕ) (b : Bool) (u : ℕ) (s : Status) → (b ≡ true → u ≡ w → w < n) → (s ≡ Claimed w → w < n) → cond b (Claimed u) s ≡ Claimed w → w < n
+named_by : (n w : ℕ) (b : Bool) (u : ℕ) (s : Status) → (b ≡ true → u ≡ w → w < n) → (s ≡ Claimed w → w < n)
+    → cond b (Claimed u) s ≡ Claimed w → w < n
 named_by n w true u s a c e = a refl (cc e)
 named_by n w false u s a c e = c e
 
@@ -49,16 +52,21 @@ not_named : (n w : ℕ) (b : Bool) (x s : Status) → x ≢ Claimed w → (s ≡
 not_named n w true x s ne c e = absurd (ne e)
 not_named n w false x s ne c e = c e
 
+-- a number is claimed by a worker that there is
 pub claimed_member : {J R : Type 0} (c n : ℕ) (h : List (Event J R)) → IsLegal c n h → (k w : ℕ) → status h k ≡ Claimed w → w < n
 claimed_member c n [] l k w e = go (k == 0) e
   where
     go : (b : Bool) → cond b Open Absent ≡ Claimed w → w < n
     go true x = absurd (cc x)
     go false x = absurd (cc x)
-claimed_member c n (Post v p i j ∷ h) l k w e = not_named n w (k == i) Open (status h k) (λ x. absurd (cc x)) (claimed_member c n h l.0 k w) e
-claimed_member c n (Claim v i j ∷ h) l k w e = named_by n w (k == i) v (status h k) (λ _ is. subst (λ z. z < n) is l.1) (claimed_member c n h l.0 k w) e
-claimed_member c n (Return v i r ∷ h) l k w e = not_named n w (k == i) Returned (status h k) (λ x. absurd (cc x)) (claimed_member c n h l.0 k w) e
-claimed_member c n (Fault v i r ∷ h) l k w e = not_named n w (k == i) Faulted (status h k) (λ x. absurd (cc x)) (claimed_member c n h l.0 k w) e
+claimed_member c n (Post v p i j ∷ h) l k w e =
+    not_named n w (k == i) Open (status h k) (λ x. absurd (cc x)) (claimed_member c n h l.0 k w) e
+claimed_member c n (Claim v i j ∷ h) l k w e =
+    named_by n w (k == i) v (status h k) (λ _ is. subst (λ z. z < n) is l.1) (claimed_member c n h l.0 k w) e
+claimed_member c n (Return v i r ∷ h) l k w e =
+    not_named n w (k == i) Returned (status h k) (λ x. absurd (cc x)) (claimed_member c n h l.0 k w) e
+claimed_member c n (Fault v i r ∷ h) l k w e =
+    not_named n w (k == i) Faulted (status h k) (λ x. absurd (cc x)) (claimed_member c n h l.0 k w) e
 claimed_member c n (Over v ∷ h) l k w e = claimed_member c n h l.0 k w e
 
 module _ {J R : Type 0} where
@@ -70,26 +78,34 @@ module _ {J R : Type 0} where
   GotAs root Returned h k = job_got h k ≡ job_at root h k
   GotAs root Faulted h k = job_got h k ≡ job_at root h k
 
-  got_keep : (root : Option J) (s : Status) (h g : List (Event J R)) (k : ℕ) → job_got g k ≡ job_got h k → job_at root g k ≡ job_at root h k → GotAs root s h k → GotAs root s g k
+  got_keep : (root : Option J) (s : Status) (h g : List (Event J R)) (k : ℕ) → job_got g k ≡ job_got h k
+      → job_at root g k ≡ job_at root h k → GotAs root s h k → GotAs root s g k
   got_keep root Absent h g k a b x = tt
   got_keep root Open h g k a b x = tt
   got_keep root (Claimed w) h g k a b x = a ∙ (x ∙ sym b)
   got_keep root Returned h g k a b x = a ∙ (x ∙ sym b)
   got_keep root Faulted h g k a b x = a ∙ (x ∙ sym b)
 
-  got_post : (root : Option J) (w p i : ℕ) (j : J) (h : List (Event J R)) (k : ℕ) (b : Bool) → (k == i) ≡ b → GotAs root (status h k) h k → GotAs root (cond b Open (status h k)) (Post w p i j ∷ h) k
+  got_post : (root : Option J) (w p i : ℕ) (j : J) (h : List (Event J R)) (k : ℕ) (b : Bool) → (k == i) ≡ b
+      → GotAs root (status h k) h k → GotAs root (cond b Open (status h k)) (Post w p i j ∷ h) k
   got_post root w p i j h k true e x = tt
-  got_post root w p i j h k false e x = got_keep root (status h k) h (Post w p i j ∷ h) k refl (at_other k i (Some j) (job_at root h k) (apart k i e)) x
+  got_post root w p i j h k false e x =
+      got_keep root (status h k) h (Post w p i j ∷ h) k refl (at_other k i (Some j) (job_at root h k) (apart k i e)) x
 
-  got_claim : (root : Option J) (w i : ℕ) (j : J) (h : List (Event J R)) (k : ℕ) (b : Bool) → (k == i) ≡ b → job_at root h i ≡ Some j → GotAs root (status h k) h k → GotAs root (cond b (Claimed w) (status h k)) (Claim w i j ∷ h) k
-  got_claim root w i j h k true e m x = at_same k i (Some j) (job_got h k) (eqb-true k i e) ∙ sym (ap (λ z. job_at root h z) (eqb-true k i e) ∙ m)
-  got_claim root w i j h k false e m x = got_keep root (status h k) h (Claim w i j ∷ h) k (at_other k i (Some j) (job_got h k) (apart k i e)) refl x
+  got_claim : (root : Option J) (w i : ℕ) (j : J) (h : List (Event J R)) (k : ℕ) (b : Bool) → (k == i) ≡ b → job_at root h i ≡ Some j
+      → GotAs root (status h k) h k → GotAs root (cond b (Claimed w) (status h k)) (Claim w i j ∷ h) k
+  got_claim root w i j h k true e m x =
+      at_same k i (Some j) (job_got h k) (eqb-true k i e) ∙ sym (ap (λ z. job_at root h z) (eqb-true k i e) ∙ m)
+  got_claim root w i j h k false e m x =
+      got_keep root (status h k) h (Claim w i j ∷ h) k (at_other k i (Some j) (job_got h k) (apart k i e)) refl x
 
-  got_return : (root : Option J) (w i : ℕ) (r : R) (h : List (Event J R)) (k : ℕ) (b : Bool) → (k == i) ≡ b → status h i ≡ Claimed w → GotAs root (status h k) h k → GotAs root (cond b Returned (status h k)) (Return w i r ∷ h) k
+  got_return : (root : Option J) (w i : ℕ) (r : R) (h : List (Event J R)) (k : ℕ) (b : Bool) → (k == i) ≡ b → status h i ≡ Claimed w
+      → GotAs root (status h k) h k → GotAs root (cond b Returned (status h k)) (Return w i r ∷ h) k
   got_return root w i r h k true e c x = subst (λ s. GotAs root s h k) (ap (λ z. status h z) (eqb-true k i e) ∙ c) x
   got_return root w i r h k false e c x = got_keep root (status h k) h (Return w i r ∷ h) k refl refl x
 
-  got_fault : (root : Option J) (w i : ℕ) (r : R) (h : List (Event J R)) (k : ℕ) (b : Bool) → (k == i) ≡ b → status h i ≡ Claimed w → GotAs root (status h k) h k → GotAs root (cond b Faulted (status h k)) (Fault w i r ∷ h) k
+  got_fault : (root : Option J) (w i : ℕ) (r : R) (h : List (Event J R)) (k : ℕ) (b : Bool) → (k == i) ≡ b → status h i ≡ Claimed w
+      → GotAs root (status h k) h k → GotAs root (cond b Faulted (status h k)) (Fault w i r ∷ h) k
   got_fault root w i r h k true e c x = subst (λ s. GotAs root s h k) (ap (λ z. status h z) (eqb-true k i e) ∙ c) x
   got_fault root w i r h k false e c x = got_keep root (status h k) h (Fault w i r ∷ h) k refl refl x
 
@@ -113,7 +129,8 @@ module _ {J R : Type 0} where
   posted_same root (Fault w i r ∷ h) k = posted_same root h k
   posted_same root (Over w ∷ h) k = posted_same root h k
 
-  handed_by : (root : J) (s : Status) (h : List (Event J R)) (k : ℕ) → rank s ≡ 3 → GotAs (Some root) s h k → job_got h k ≡ job_posted root h k
+  handed_by : (root : J) (s : Status) (h : List (Event J R)) (k : ℕ) → rank s ≡ 3 → GotAs (Some root) s h k
+      → job_got h k ≡ job_posted root h k
   handed_by root Absent h k e x = absurd (omega arith)
   handed_by root Open h k e x = absurd (omega arith)
   handed_by root (Claimed w) h k e x = absurd (omega arith)
@@ -154,28 +171,33 @@ shows_given Faulted o g a b = subst (λ z. Shows Faulted z) (sym g.1) refl
 none_given : {R : Type 0} (s : Status) (o : Option (Ended R)) → s ≡ Absent → GivenAs s o → o ≡ None
 none_given s o e g = subst (λ z. GivenAs z o) e g
 
-module _ {J R : Type 0} (root : J) (workers : ℕ) (passes : List (Pass J R)) (ws : List ℕ) (xs : List (Slot J R)) (r : IsClosedRow (Some root) workers passes ws xs) where
+module _ {J R : Type 0} (root : J) (workers : ℕ) (passes : List (Pass J R)) (ws : List ℕ) (xs : List (Slot J R))
+    (r : IsClosedRow (Some root) workers passes ws xs) where
   -- the word of a number says what the number is
   face_at : (k : ℕ) → k < length xs → word_at ws k ≡ r.faces k
   face_at k low = ap word_of (r.state.shows k low) ∙ decoded (r.faces k)
 
   ended_at : (n k : ℕ) → n ≤ length xs → EndedBelow n ws → k < n → rank (status r.history k) ≡ 3
-  ended_at n k small e below = ap rank (r.state.agrees k) ∙ ended_rank (r.faces k) (ap has_ended (sym (face_at k (omega (arith, below, small)))) ∙ e k below)
+  ended_at n k small e below =
+      ap rank (r.state.agrees k) ∙ ended_rank (r.faces k) (ap has_ended (sym (face_at k (omega (arith, below, small)))) ∙ e k below)
 
   -- the row at a number that has ended
-  pub lies_at : (n k : ℕ) → n ≤ length xs → EndedBelow n ws → k < n → (x : R) × (get_elem? xs k ≡ some (Row x)) × (row_given r.history k ≡ ended_as (shown (word_at ws k)) x)
+  pub lies_at : (n k : ℕ) → n ≤ length xs → EndedBelow n ws → k < n
+      → (x : R) × (get_elem? xs k ≡ some (Row x)) × (row_given r.history k ≡ ended_as (shown (word_at ws k)) x)
   lies_at n k small e below =
       let low : k < length xs = omega (arith, below, small) in
       let p = r.placed k low (ended_at n k small e below) in
       (p.0, p.1, p.2 ∙ (ap (λ z. ended_as z p.0) (r.state.agrees k) ∙ ap (λ c. ended_as (shown c) p.0) (sym (face_at k low))))
 
+  -- where all have ended there is a row for each
   pub all_lie : (n : ℕ) → n ≤ length xs → EndedBelow n ws → HasRows n xs
   all_lie n small e k below = let p = lies_at n k small e below in (p.0, p.1)
 
   absent_from : (n : ℕ) → n ≤ length xs → (n ≡ length xs) ⊎ (is_absent (word_at ws n) ≡ true) → (k : ℕ) → n ≤ k → r.faces k ≡ word.Absent
   absent_from n small o k far = dite (dec_lt k (length xs))
       (λ near. ⊎_elim (λ (e : n ≡ length xs). absurd (omega (arith, e, far, near)))
-      (λ (e : is_absent (word_at ws n) ≡ true). let low : n < length xs = omega (arith, far, near) in r.state.together n k far (sym (face_at n low) ∙ absent_is (word_at ws n) e)) o)
+      (λ (e : is_absent (word_at ws n) ≡ true). let low : n < length xs = omega (arith, far, near) in r.state.together n k far
+      (sym (face_at n low) ∙ absent_is (word_at ws n) e)) o)
       (λ out. r.state.beyond k (omega (arith, out)))
 
   module _ (n : ℕ) (small : n ≤ length xs) (e : EndedBelow n ws) (o : (n ≡ length xs) ⊎ (is_absent (word_at ws n) ≡ true)) where
@@ -183,7 +205,8 @@ module _ {J R : Type 0} (root : J) (workers : ℕ) (passes : List (Pass J R)) (w
     gone k far = r.state.agrees k ∙ ap shown (absent_from n small o k far)
 
     over_now : IsOver r.history
-    over_now k = dite (dec_lt k n) (λ below. ended_over (status r.history k) (ended_at n k small e below)) (λ far. absent_over (status r.history k) (gone k (omega (arith, far))))
+    over_now k = dite (dec_lt k n) (λ below. ended_over (status r.history k) (ended_at n k small e below))
+        (λ far. absent_over (status r.history k) (gone k (omega (arith, far))))
 
     -- memory for the rows is asked for last
     pub finished : Finished (length xs) workers passes
@@ -194,11 +217,15 @@ module _ {J R : Type 0} (root : J) (workers : ℕ) (passes : List (Pass J R)) (w
       given_now k = dite (dec_lt k n)
           (λ below. let p = lies_at n k small e below in taken k p.0 below p.1 ∙ sym p.2)
           (λ far. let out : n ≤ k = omega (arith, far) in
-          slice_get_past rows k (omega (arith, out, count)) ∙ sym (none_given (status r.history k) (row_given r.history k) (gone k out) (ended_has_row (length xs) workers r.history r.state.legal k)))
+          slice_get_past rows k (omega (arith, out, count))
+          ∙ sym (none_given (status r.history k) (row_given r.history k) (gone k out)
+          (ended_has_row (length xs) workers r.history r.state.legal k)))
 
       used_all : (w : ℕ) (p : Pass J R) → slice_get passes w ≡ Some p → p.full ≡ true → length rows ≡ length xs
       used_all w p at full = ⊎_elim (λ (x : n ≡ length xs). count ∙ x)
-          (λ (x : is_absent (word_at ws n) ≡ true). dite (dec_lt n (length xs)) (λ near. absurd (r.used w p at full n near (sym (face_at n near) ∙ absent_is (word_at ws n) x))) (λ out. omega (arith, out, small, count))) o
+          (λ (x : is_absent (word_at ws n) ≡ true). dite (dec_lt n (length xs))
+          (λ near. absurd (r.used w p at full n near (sym (face_at n near) ∙ absent_is (word_at ws n) x)))
+          (λ out. omega (arith, out, small, count))) o
 
       pub settled : Settled (length xs) workers root words_promises passes rows
       settled = record {
@@ -207,22 +234,30 @@ module _ {J R : Type 0} (root : J) (workers : ℕ) (passes : List (Pass J R)) (w
         over = over_now;
         parts = r.parts;
         numbers = λ k. (
-          (λ a. dite (dec_lt k n) (λ below. absurd (ended_there (status r.history k) (ended_at n k small e below) a)) (λ far. omega (arith, far, count))),
+          (λ a. dite (dec_lt k n) (λ below. absurd (ended_there (status r.history k) (ended_at n k small e below) a))
+              (λ far. omega (arith, far, count))),
           (λ far. gone k (omega (arith, far, count))),
         );
-        shown = λ k. let v = over_now k in subst (λ z. Shows (status r.history k) z) (sym (given_now k)) (shows_given (status r.history k) (row_given r.history k) (ended_has_row (length xs) workers r.history r.state.legal k) v.0 v.1);
+        shown = λ k. let v = over_now k in subst (λ z. Shows (status r.history k) z) (sym (given_now k))
+            (shows_given (status r.history k) (row_given r.history k)
+            (ended_has_row (length xs) workers r.history r.state.legal k) v.0 v.1);
         in_place = λ _. record {
           given = given_now;
-          handed = λ k x at. handed_by root (status r.history k) r.history k (ended_at n k small e (omega (arith, slice_get_within rows k x at, count))) (got_right (length xs) workers (Some root) r.history r.state.legal r.state.matched k);
+          handed = λ k x at. handed_by root (status r.history k) r.history k
+              (ended_at n k small e (omega (arith, slice_get_within rows k x at, count)))
+              (got_right (length xs) workers (Some root) r.history r.state.legal r.state.matched k);
         };
         all_used = λ _. used_all;
       }
 
-  pub unfinished : (n : ℕ) → n < length xs → EndedBelow n ws → is_absent (word_at ws n) ≡ false → has_ended (word_at ws n) ≡ false → Unfinished (length xs) workers n words_promises passes
+  -- the first that has not ended is told
+  pub unfinished : (n : ℕ) → n < length xs → EndedBelow n ws → is_absent (word_at ws n) ≡ false → has_ended (word_at ws n) ≡ false
+      → Unfinished (length xs) workers n words_promises passes
   unfinished n low e there going = let face = face_at n low in record {
     history = r.history;
     legal = r.state.legal;
-    left = subst IsUnended (sym (r.state.agrees n)) (open_face (r.faces n) (r.undrawn n) (ap is_absent (sym face) ∙ there) (ap has_ended (sym face) ∙ going));
+    left = subst IsUnended (sym (r.state.agrees n))
+        (open_face (r.faces n) (r.undrawn n) (ap is_absent (sym face) ∙ there) (ap has_ended (sym face) ∙ going));
     least = λ k below. not_unended (status r.history k) (ended_at n k (omega (arith, low)) e below);
     parts = λ _. r.parts;
   }
@@ -234,10 +269,14 @@ get_there (x ∷ xs) zero l = (x, refl)
 get_there (x ∷ xs) (suc i) l = get_there xs i (omega (arith, l))
 
 -- the last element of a list that is the beginning of another
-pub popped : {A : Type 0} (all old new : List A) (x : A) (n : ℕ) → old ≡ new ++ x ∷ [] → length new ≡ n → ((w : ℕ) → w < n + 1 → slice_get old w ≡ slice_get all w) → (slice_get all n ≡ Some x) × ((w : ℕ) → w < n → slice_get new w ≡ slice_get all w)
+pub popped : {A : Type 0} (all old new : List A) (x : A) (n : ℕ) → old ≡ new ++ x ∷ [] → length new ≡ n
+    → ((w : ℕ) → w < n + 1 → slice_get old w ≡ slice_get all w)
+    → (slice_get all n ≡ Some x) × ((w : ℕ) → w < n → slice_get new w ≡ slice_get all w)
 popped {A} all old new x n e len same = (
-  sym (same n (omega arith)) ∙ (ap (λ (z : List A). slice_get z n) e ∙ (ap (λ z. slice_get (new ++ x ∷ []) z) (sym len) ∙ get_push_same new x)),
-  λ w low. sym (get_push_other new x w (λ z. absurd (omega (arith, low, len, z)))) ∙ (ap (λ (z : List A). slice_get z w) (sym e) ∙ same w (omega (arith, low))),
+  sym (same n (omega arith)) ∙ (ap (λ (z : List A). slice_get z n) e
+      ∙ (ap (λ z. slice_get (new ++ x ∷ []) z) (sym len) ∙ get_push_same new x)),
+  λ w low. sym (get_push_other new x w (λ z. absurd (omega (arith, low, len, z))))
+      ∙ (ap (λ (z : List A). slice_get z w) (sym e) ∙ same w (omega (arith, low))),
 )
 
 nat_lt_true : (a b : ℕ) → ltb a b ≡ true → a < b
@@ -272,19 +311,24 @@ module _ {J R : Type 0} where
   now_tells v w = inr (length v.joined, at_middle v.joined w.joined (w.worker, w.mine))
 
   -- one more pass is taken in
-  pub took_in : (slots : ℕ) (passes : List (Pass J R)) (n : ℕ) (v w : View J R) (p : Pass J R) → slice_get passes n ≡ Some p → w.worker ≡ n → p.mine ≡ w.mine → (p.full ≡ true → slots ≤ w.front)
+  pub took_in : (slots : ℕ) (passes : List (Pass J R)) (n : ℕ) (v w : View J R) (p : Pass J R) → slice_get passes n ≡ Some p
+      → w.worker ≡ n → p.mine ≡ w.mine → (p.full ≡ true → slots ≤ w.front)
       → HasTaken slots passes (n + 1) v → HasTaken slots passes n (merged v w)
   took_in slots passes n v w p at num own full has u q above there = dite (ℕ_discrete u n)
       (λ same.
       let x : Some p ≡ Some q = sym at ∙ (ap (λ z. slice_get passes z) (sym same) ∙ there) in
       let is : p ≡ q = cc x in
-      subst (λ (z : Pass J R). Tells (merged v w) u z.mine × (z.full ≡ true → slots ≤ larger v.front w.front)) is
-      (subst (λ (z : ℕ × List (Event J R)). Tells (merged v w) z.0 z.1) (λ i. ((num ∙ sym same) i, sym own i)) (now_tells v w), λ f. larger_right v.front w.front slots (ltb v.front w.front) refl (full f)))
+      subst (λ (z : Pass J R). Tells (merged v w) u z.mine × (z.full ≡ true → slots ≤ larger v.front w.front)) is (
+        subst (λ (z : ℕ × List (Event J R)). Tells (merged v w) z.0 z.1) (λ i. ((num ∙ sym same) i, sym own i)) (now_tells v w),
+        λ f. larger_right v.front w.front slots (ltb v.front w.front) refl (full f),
+      ))
       (λ off.
       let old = has u q (let y : u ≢ n = off in omega (arith, above, y)) there in
       (still_tells v w u q.mine old.0, λ f. larger_left v.front w.front slots (ltb v.front w.front) refl (old.1 f)))
 
-  pub took_first : (slots : ℕ) (passes : List (Pass J R)) (n : ℕ) (v : View J R) (p : Pass J R) → length passes ≡ n + 1 → slice_get passes n ≡ Some p → v.worker ≡ n → p.mine ≡ v.mine → (p.full ≡ true → slots ≤ v.front) → HasTaken slots passes n v
+  -- the last pass is the first that is taken in
+  pub took_first : (slots : ℕ) (passes : List (Pass J R)) (n : ℕ) (v : View J R) (p : Pass J R) → length passes ≡ n + 1
+      → slice_get passes n ≡ Some p → v.worker ≡ n → p.mine ≡ v.mine → (p.full ≡ true → slots ≤ v.front) → HasTaken slots passes n v
   took_first slots passes n v p len at num own full u q above there =
       let low = slice_get_within passes u q there in
       let same : u ≡ n = omega (arith, low, len, above) in
@@ -292,7 +336,8 @@ module _ {J R : Type 0} where
       let is : p ≡ q = cc x in
       subst (λ (z : Pass J R). Tells v u z.mine × (z.full ≡ true → slots ≤ v.front)) is (inl (same ∙ sym num, sym own), full)
 
-  ended_lies : (root : Option J) (h : List (Event J R)) (hs : Homes J R) (k : ℕ) (c : Word) → Lies root h hs k c → rank (shown c) ≡ 3 → (r : R) × (get_elem? hs k ≡ some (some (Row r))) × (row_given h k ≡ ended_as (shown c) r)
+  ended_lies : (root : Option J) (h : List (Event J R)) (hs : Homes J R) (k : ℕ) (c : Word) → Lies root h hs k c → rank (shown c) ≡ 3
+      → (r : R) × (get_elem? hs k ≡ some (some (Row r))) × (row_given h k ≡ ended_as (shown c) r)
   ended_lies root h hs k (word.Drawn w) l e = absurd (omega arith)
   ended_lies root h hs k word.Absent l e = absurd (omega arith)
   ended_lies root h hs k word.Open l e = absurd (omega arith)
@@ -300,16 +345,22 @@ module _ {J R : Type 0} where
   ended_lies root h hs k word.Returned l e = l
   ended_lies root h hs k word.Faulted l e = l
 
-  part_told : (root : Option J) (workers : ℕ) (h : List (Event J R)) (faces : ℕ → Word) (owner : ℕ → Option ℕ) (id : ℕ) (v : View J R) → Knows root workers h faces owner id v → (u : ℕ) (m : List (Event J R)) → Tells v u m → part u h ≡ m
-  part_told root workers h faces owner id v k u m t = ⊎_elim (λ (x : (u ≡ v.worker) × (v.mine ≡ m)). ap (λ z. part z h) x.0 ∙ (k.mine ∙ x.1)) (λ (x : (n : ℕ) × (get_elem? v.joined n ≡ some (u, m))). (k.joins x.0 u m x.1).events) t
+  part_told : (root : Option J) (workers : ℕ) (h : List (Event J R)) (faces : ℕ → Word) (owner : ℕ → Option ℕ) (id : ℕ) (v : View J R)
+      → Knows root workers h faces owner id v → (u : ℕ) (m : List (Event J R)) → Tells v u m → part u h ≡ m
+  part_told root workers h faces owner id v k u m t = ⊎_elim
+      (λ (x : (u ≡ v.worker) × (v.mine ≡ m)). ap (λ z. part z h) x.0 ∙ (k.mine ∙ x.1))
+      (λ (x : (n : ℕ) × (get_elem? v.joined n ≡ some (u, m))). (k.joins x.0 u m x.1).events) t
 
-  not_held : (root : Option J) (workers : ℕ) (h : List (Event J R)) (faces : ℕ → Word) (owner : ℕ → Option ℕ) (id : ℕ) (v : View J R) → Knows root workers h faces owner id v → v.drawn ≡ 0 → (u : ℕ) (m : List (Event J R)) → Tells v u m → (q : ℕ) → faces q ≢ word.Drawn u
+  not_held : (root : Option J) (workers : ℕ) (h : List (Event J R)) (faces : ℕ → Word) (owner : ℕ → Option ℕ) (id : ℕ) (v : View J R)
+      → Knows root workers h faces owner id v → v.drawn ≡ 0 → (u : ℕ) (m : List (Event J R)) → Tells v u m → (q : ℕ)
+      → faces q ≢ word.Drawn u
   not_held root workers h faces owner id v k none u m t q f = ⊎_elim
       (λ (x : (u ≡ v.worker) × (v.mine ≡ m)). let d = k.drew q (f ∙ ap word.Drawn x.0) in absurd (omega (arith, d, none)))
       (λ (x : (n : ℕ) × (get_elem? v.joined n ≡ some (u, m))). (k.joins x.0 u m x.1).idle q f) t
 
   -- a closed row, by the pass that stayed
-  pub gathers : (root : Option J) (workers id : ℕ) (v : View J R) (passes : List (Pass J R)) (ws : List ℕ) (xs : List (Slot J R)) → v.live ≡ true → v.drawn ≡ 0 → length passes ≡ workers → HasTaken (length xs) passes 0 v
+  pub gathers : (root : Option J) (workers id : ℕ) (v : View J R) (passes : List (Pass J R)) (ws : List ℕ) (xs : List (Slot J R))
+      → v.live ≡ true → v.drawn ≡ 0 → length passes ≡ workers → HasTaken (length xs) passes 0 v
       → Final (Seen (IsRow root workers) id v) ws xs → IsClosedRow root workers passes ws xs
   gathers root workers id v passes ws xs lives none len has f =
       let s = f.0 in let r = f.1.0 in let k = r.each_seat id v f.1.1 lives in let size : length s.homes ≡ length xs = f.3 in record {
@@ -323,13 +374,15 @@ module _ {J R : Type 0} where
             let p = get_there passes u (omega (arith, low, len)) in
             not_held root workers r.history r.faces r.owner id v k none u p.0.mine (has u p.0 (omega arith) p.1).0 q e;
         placed = λ q l e.
-            let x = ended_lies root r.history s.homes q (r.faces q) (r.lies q (subst (λ z. q < z) (sym size) l)) (sym (ap rank (r.state.agrees q)) ∙ e) in
+            let x = ended_lies root r.history s.homes q (r.faces q) (r.lies q (subst (λ z. q < z) (sym size) l))
+            (sym (ap rank (r.state.agrees q)) ∙ e) in
             (x.0, f.4 q (Row x.0) x.1, x.2 ∙ ap (λ z. ended_as z x.0) (sym (r.state.agrees q)));
         used = λ w p at full q l. k.front q (let y = (has w p (omega arith) at).1 full in omega (arith, l, y));
       }
 
   -- one more row is taken out
-  pub rows_more : (ws : List ℕ) (xs : List (Slot J R)) (rows : List (Ended R)) (n : ℕ) (x : Word) (row : R) (last : Ended R) → length rows ≡ n → word_at ws n ≡ x → get_elem? xs n ≡ some (Row row) → ended_as (shown x) row ≡ Some last
+  pub rows_more : (ws : List ℕ) (xs : List (Slot J R)) (rows : List (Ended R)) (n : ℕ) (x : Word) (row : R) (last : Ended R)
+      → length rows ≡ n → word_at ws n ≡ x → get_elem? xs n ≡ some (Row row) → ended_as (shown x) row ≡ Some last
       → TakesRows n ws xs rows → TakesRows (n + 1) ws xs (rows ++ last ∷ [])
   rows_more ws xs rows n x row last len word there says old k r low at = dite (ℕ_discrete k n)
       (λ e.
@@ -337,5 +390,7 @@ module _ {J R : Type 0} where
       let same : Row row ≡ Row r = some-injective (Row row) (Row r) (sym there ∙ here) in
       let rows_same : row ≡ r = cc same in
       let words_same : x ≡ word_at ws k = sym word ∙ ap (λ z. word_at ws z) (sym e) in
-      ap (λ z. slice_get (rows ++ last ∷ []) z) (e ∙ sym len) ∙ (get_push_same rows last ∙ (sym says ∙ (ap (λ z. ended_as (shown z) row) words_same ∙ ap (λ z. ended_as (shown (word_at ws k)) z) rows_same))))
+      ap (λ z. slice_get (rows ++ last ∷ []) z) (e ∙ sym len)
+      ∙ (get_push_same rows last ∙ (sym says ∙ (ap (λ z. ended_as (shown z) row) words_same
+      ∙ ap (λ z. ended_as (shown (word_at ws k)) z) rows_same))))
       (λ ne. get_push_other rows last k (λ z. ne (z ∙ len)) ∙ old k r (let y : k ≢ n = ne in omega (arith, low, y)) at)

@@ -1,5 +1,6 @@
 -- A claim ends, by the row that is given; or its slot goes home, as the board is closed.
-use Rattle.std.proofs.Common.{◌≡◌, ◌≢◌, ℕ, subst, ◌+◌, ◌<◌, true, List, [], ◌∷◌, length, get_or, set, sym, refl, ap, ◌∙◌, arith, length-set, Option, Some, None}
+use Rattle.std.proofs.Common.{◌≡◌, ◌≢◌, ℕ, subst, ◌+◌, ◌<◌, true, List, [], ◌∷◌, length, get_or, set, sym, refl, ap, ◌∙◌, arith}
+use Rattle.std.proofs.Common.{length-set, Option, Some, None}
 use mathlib.Core.Logic.{dite}
 use mathlib.Core.Path.{Path}
 use mathlib.Core.Option.{some, none}
@@ -51,11 +52,13 @@ same_end (ended.Faulted r) (ended.Returned q) a b = absurd (omega arith)
 same_end (ended.Faulted r) (ended.Faulted q) a b = ap ended.Faulted b
 
 module _ {J R : Type 0} where
-  end_moves : (w i : ℕ) (x : Ended R) (h : List (Event J R)) (z : ℕ) → status (end_event w i x ∷ h) z ≡ put (status h) i (shown (end_word x)) z
+  end_moves : (w i : ℕ) (x : Ended R) (h : List (Event J R)) (z : ℕ)
+      → status (end_event w i x ∷ h) z ≡ put (status h) i (shown (end_word x)) z
   end_moves w i (ended.Returned r) h z = refl
   end_moves w i (ended.Faulted r) h z = refl
 
-  end_jobs : (root : Option J) (w i : ℕ) (x : Ended R) (h : List (Event J R)) (z : ℕ) → job_at root (end_event w i x ∷ h) z ≡ job_at root h z
+  end_jobs : (root : Option J) (w i : ℕ) (x : Ended R) (h : List (Event J R)) (z : ℕ)
+      → job_at root (end_event w i x ∷ h) z ≡ job_at root h z
   end_jobs root w i (ended.Returned r) h z = refl
   end_jobs root w i (ended.Faulted r) h z = refl
 
@@ -67,23 +70,28 @@ module _ {J R : Type 0} where
   end_right root w i (ended.Returned r) h = tt
   end_right root w i (ended.Faulted r) h = tt
 
-  end_lies : (root : Option J) (i : ℕ) (x : Ended R) (h : List (Event J R)) (hs : Homes J R) → get_elem? hs i ≡ some (some (Row (row_in x))) → row_given h i ≡ Some x → Lies root h hs i (end_word x)
+  end_lies : (root : Option J) (i : ℕ) (x : Ended R) (h : List (Event J R)) (hs : Homes J R)
+      → get_elem? hs i ≡ some (some (Row (row_in x))) → row_given h i ≡ Some x → Lies root h hs i (end_word x)
   end_lies root i (ended.Returned r) h hs a b = (r, a, b)
   end_lies root i (ended.Faulted r) h hs a b = (r, a, b)
 
-  end_allowed : (cap w i posts : ℕ) (x : Ended R) (h : List (Event J R)) → status h i ≡ Claimed w → MayEnd posts x → (posts ≡ 0 → posts_under i h ≡ []) → IsAllowed cap h (end_event w i x)
+  end_allowed : (cap w i posts : ℕ) (x : Ended R) (h : List (Event J R)) → status h i ≡ Claimed w → MayEnd posts x
+      → (posts ≡ 0 → posts_under i h ≡ []) → IsAllowed cap h (end_event w i x)
   end_allowed cap w i posts (ended.Returned r) h c may fresh = c
   end_allowed cap w i posts (ended.Faulted r) h c may fresh = (c, fresh may)
 
+  -- an end frees its worker
   pub end_frees : (w i : ℕ) (x : Ended R) (h : List (Event J R)) → holding (end_event w i x ∷ h) ≡ None
   end_frees w i (ended.Returned r) h = refl
   end_frees w i (ended.Faulted r) h = refl
 
+  -- and it has posted nothing under a next claim
   pub end_posts : (w i : ℕ) (x : Ended R) (h : List (Event J R)) → posted (end_event w i x ∷ h) ≡ 0
   end_posts w i (ended.Returned r) h = refl
   end_posts w i (ended.Faulted r) h = refl
 
-  module _ (root : Option J) (workers me i : ℕ) (v : View J R) (lives : v.live ≡ true) (empty : v.drawn ≡ 0) (claim : holding v.mine ≡ Some i) (x : Ended R) (may : MayEnd (posted v.mine) x)
+  module _ (root : Option J) (workers me i : ℕ) (v : View J R) (lives : v.live ≡ true) (empty : v.drawn ≡ 0)
+      (claim : holding v.mine ≡ Some i) (x : Ended R) (may : MayEnd (posted v.mine) x)
       (s : St J R) (r : IsRow root workers s) (at : get_elem? s.views me ≡ some v) (near : i < length s.homes) where
     abbrev c : Word
     c = end_word x
@@ -113,7 +121,11 @@ module _ {J R : Type 0} where
     nothing e = (posted_nothing (length s.homes) workers r.history r.state.legal v.worker i was).0 (ap posted k.mine ∙ e)
 
     end_legal : IsLegal (length s.homes) workers (e ∷ r.history)
-    end_legal = (r.state.legal, subst (λ u. u < workers) (sym (by_worker J v.worker i x)) k.member, end_allowed (length s.homes) v.worker i (posted v.mine) x r.history was may nothing)
+    end_legal = (
+      r.state.legal,
+      subst (λ u. u < workers) (sym (by_worker J v.worker i x)) k.member,
+      end_allowed (length s.homes) v.worker i (posted v.mine) x r.history was may nothing,
+    )
 
     end_turn : IsTurn root workers s r v.worker i (e ∷ r.history) c (set s.homes i (some (Row (row_in x))))
     end_turn = record {
@@ -129,12 +141,16 @@ module _ {J R : Type 0} where
       homes_else = λ z ne. set_else s.homes i z (some (Row (row_in x))) ne;
       jobs_else = λ z ne. end_jobs root v.worker i x r.history z;
       rows_else = λ z ne. end_rows v.worker i x r.history z ∙ put_else (row_given r.history) i (Some x) z ne;
-      lies_here = end_lies root i x (e ∷ r.history) (set s.homes i (some (Row (row_in x)))) (set_here s.homes i (some (Row (row_in x))) near) (end_rows v.worker i x r.history i ∙ put_here (row_given r.history) i (Some x));
-      busy = λ z w is. let f = at_put r.faces i c (λ y f. f ≡ word.Drawn w → r.faces y ≡ word.Drawn w) z (λ y. absurd (undrawn w y)) (λ _ y. y) is in let b = r.busy z w f in (
-        b.0,
-        end_moves v.worker i x r.history b.0 ∙ (put_else (status r.history) i (shown c) b.0 (λ (y : b.0 ≡ i).
-            let u : w ≡ v.worker = taken_same w v.worker (sym b.1 ∙ (ap (status r.history) y ∙ was)) in let d = k.drew z (f ∙ ap word.Drawn u) in absurd (omega arith)) ∙ b.1),
-      );
+      lies_here = end_lies root i x (e ∷ r.history) (set s.homes i (some (Row (row_in x))))
+          (set_here s.homes i (some (Row (row_in x))) near)
+          (end_rows v.worker i x r.history i ∙ put_here (row_given r.history) i (Some x));
+      busy = λ z w is. let f = at_put r.faces i c (λ y f. f ≡ word.Drawn w → r.faces y ≡ word.Drawn w) z (λ y. absurd (undrawn w y))
+          (λ _ y. y) is in let b = r.busy z w f in (
+            b.0,
+            end_moves v.worker i x r.history b.0 ∙ (put_else (status r.history) i (shown c) b.0 (λ (y : b.0 ≡ i).
+                let u : w ≡ v.worker = taken_same w v.worker (sym b.1 ∙ (ap (status r.history) y ∙ was)) in let d = k.drew z
+                (f ∙ ap word.Drawn u) in absurd (omega arith)) ∙ b.1),
+          );
       loose = λ u ne. ((λ y. let z = sym had ∙ y in cc), undrawn u, (λ y. apart u (ap shown y)));
     }
 
@@ -147,7 +163,8 @@ module _ {J R : Type 0} where
       seen = whole (e ∷ r.history);
       own = part_own v.worker r.history e (by_worker J v.worker i x) ∙ ap (λ z. e ∷ z) k.mine;
       owns = k.owns;
-      drew = λ z. at_put r.faces i c (λ y f. f ≡ word.Drawn v.worker → v.drawn ≡ y + 1) z (λ y. absurd (undrawn v.worker y)) (λ _ y. k.drew z y);
+      drew = λ z. at_put r.faces i c (λ y f. f ≡ word.Drawn v.worker → v.drawn ≡ y + 1) z (λ y. absurd (undrawn v.worker y))
+          (λ _ y. k.drew z y);
       draws = λ z is. absurd (omega arith);
       low = low_stays root workers (length s.homes) r.history r.faces r.owner me v e end_legal k;
       front = λ z below. at_put r.faces i c (λ y f. y < v.front → f ≢ word.Absent) z (λ _ y. there (ap shown y)) (λ _. k.front z) below;
@@ -160,9 +177,13 @@ module _ {J R : Type 0} where
       };
     }
 
-  pub ends_claim : (root : Option J) (workers slots me : ℕ) (m : Seated J R) (i new : ℕ) (x : Ended R) → m.0.live ≡ true → i < slots → m.0.drawn ≡ 0 → holding m.0.mine ≡ Some i → MayEnd (posted m.0.mine) x → new ≡ code (end_word x) → m.1 ≡ (i, Row (row_in x)) ∷ rest m.1
+  -- an exchange that ends a claim keeps the row of words
+  pub ends_claim : (root : Option J) (workers slots me : ℕ) (m : Seated J R) (i new : ℕ) (x : Ended R) → m.0.live ≡ true → i < slots
+      → m.0.drawn ≡ 0 → holding m.0.mine ≡ Some i → MayEnd (posted m.0.mine) x → new ≡ code (end_word x)
+      → m.1 ≡ (i, Row (row_in x)) ∷ rest m.1
       → Allows (IsRow root workers) slots me m i (λ _. new) (steps.ended (step slots i new 0 none) m)
-  ends_claim root workers slots me m i new x lives near empty claim may coded has s r len at fits = let v = m.0 in let near' : i < length s.homes = omega arith in let k0 = r.each_seat me v at lives in
+  ends_claim root workers slots me m i new x lives near empty claim may coded has s r len at fits = let v = m.0 in
+      let near' : i < length s.homes = omega arith in let k0 = r.each_seat me v at lives in
       let e : Event J R = end_event v.worker i x in let w = added v r.history e in
       let turn = end_turn root workers me i v lives empty claim x may s r at near' in
       let k' = end_knows root workers me i v lives empty claim x may s r at near' in
@@ -174,24 +195,40 @@ module _ {J R : Type 0} where
             (subst (λ n. IsRow root workers record { words = set s.words i n; homes = to; views = set s.views me w }) (sym coded)
             (rebuilt root workers s r me v at lives (e ∷ r.history) (put r.faces i (end_word x)) (set s.words i (code (end_word x))) to w
             (turned root workers s r v.worker i (e ∷ r.history) (end_word x) to turn) k')),
-        (((refl, refl, refl, refl, refl, refl), empty, refl, refl, refl), (x, coded, has, subst (λ c. AddsEvent c v e w) len (adds root workers (length s.homes) r.history r.faces r.owner me v e (put r.faces i (end_word x)) w refl refl turn.legal turn.matched k0 k'))),
+        (
+          ((refl, refl, refl, refl, refl, refl), empty, refl, refl, refl),
+          (
+            x,
+            coded,
+            has,
+            subst (λ c. AddsEvent c v e w) len
+                (adds root workers (length s.homes) r.history r.faces r.owner me v e
+                (put r.faces i (end_word x)) w refl refl turn.legal turn.matched k0 k'),
+          ),
+        ),
       )
 
   first_row : (i k : ℕ) (a b : R) (xs ys : List (ℕ × Slot J R)) → (i, Row a) ∷ xs ≡ (k, Row b) ∷ ys → a ≡ b
-  first_row i k a b xs ys e = let h : (i, Row a) ≡ (k, Row b) = cc e in let q : Path (Slot J R) (Row a) (Row b) = ap (λ (p : ℕ × Slot J R). p.1) h in cc q
+  first_row i k a b xs ys e = let h : (i, Row a) ≡ (k, Row b) = cc e in let q : Path (Slot J R) (Row a) (Row b) = ap
+      (λ (p : ℕ × Slot J R). p.1) h in cc q
 
   -- what was told is the end that was made, once the slot was filled with its row
-  pub did_end : (slots i new r worker : ℕ) (x : Ended R) (m m1 m2 : Seated J R) → steps.ended (step slots i new 0 none) m1 r m2 → new ≡ code (end_word x) → m1 ≡ (m.0, (i, Row (row_in x)) ∷ rest m.1) → m.0.worker ≡ worker
+  pub did_end : (slots i new r worker : ℕ) (x : Ended R) (m m1 m2 : Seated J R) → steps.ended (step slots i new 0 none) m1 r m2
+      → new ≡ code (end_word x) → m1 ≡ (m.0, (i, Row (row_in x)) ∷ rest m.1) → m.0.worker ≡ worker
       → AddsEvent slots m.0 (end_event worker i x) m2.0
-  did_end slots i new r worker x m m1 m2 told coded now who = let did = told.1 in let me : Path (View J R) m1.0 m.0 = ap (λ (y : Seated J R). y.0) now in
-      let same : did.0 ≡ x = same_end did.0 x (sym did.1 ∙ coded) (first_row i i (row_in did.0) (row_in x) (rest m1.1) (rest m.1) (sym did.2 ∙ ap (λ (y : Seated J R). y.1) now)) in
+  did_end slots i new r worker x m m1 m2 told coded now who = let did = told.1 in let me : Path (View J R) m1.0 m.0 = ap
+      (λ (y : Seated J R). y.0) now in
+      let same : did.0 ≡ x = same_end did.0 x (sym did.1 ∙ coded)
+      (first_row i i (row_in did.0) (row_in x) (rest m1.1) (rest m.1) (sym did.2 ∙ ap (λ (y : Seated J R). y.1) now)) in
       let by : m1.0.worker ≡ worker = ap (λ (y : View J R). y.worker) me ∙ who in
       subst (λ (z : View J R × ℕ × Ended R). AddsEvent slots z.0 (end_event z.1 i z.2) m2.0) (λ k. (me k, by k, same k)) did.3
 
   -- the slot of a claim goes home, and nothing else changes
-  pub puts_down : (root : Option J) (workers slots me : ℕ) (m : Seated J R) (i : ℕ) → m.0.live ≡ true → i < slots → m.0.drawn ≡ 0 → holding m.0.mine ≡ Some i → m.1 ≡ (i, Empty) ∷ rest m.1
+  pub puts_down : (root : Option J) (workers slots me : ℕ) (m : Seated J R) (i : ℕ) → m.0.live ≡ true → i < slots → m.0.drawn ≡ 0
+      → holding m.0.mine ≡ Some i → m.1 ≡ (i, Empty) ∷ rest m.1
       → Allows (IsRow root workers) slots me m i (λ n. n) (put_down (step slots i 0 0 none) m)
-  puts_down root workers slots me m i lives near empty claim has s r len at fits = let v = m.0 in let near' : i < length s.homes = omega arith in let k0 = r.each_seat me v at lives in
+  puts_down root workers slots me m i lives near empty claim has s r len at fits = let v = m.0 in
+      let near' : i < length s.homes = omega arith in let k0 = r.each_seat me v at lives in
       let there = (held_is root workers s r me v k0 i).0 claim in
       let face : r.faces i ≡ word.Claimed v.worker = of_shown (r.faces i) v.worker (sym (r.state.agrees i) ∙ there) in
       let hs : Homes J R = set s.homes i (some Empty) in
@@ -204,7 +241,8 @@ module _ {J R : Type 0} where
         grows = base.grows;
         parts = base.parts;
         lies = λ z l. dite (ℕ_discrete z i) (λ is. subst (λ c. Lies root r.history hs z c) (sym (ap r.faces is ∙ face)) tt)
-            (λ ne. lies_stay root r.history r.history s.homes hs z (set_else s.homes i z (some Empty) ne) refl refl (r.faces z) (r.lies z l));
+            (λ ne. lies_stay root r.history r.history s.homes hs z (set_else s.homes i z (some Empty) ne) refl refl (r.faces z)
+            (r.lies z l));
         busy = base.busy;
         apart = base.apart;
         more = base.more;
@@ -213,7 +251,9 @@ module _ {J R : Type 0} where
         gives,
         tt,
         subst (λ (c : List (ℕ × Slot J R)). IsRow root workers (stepped s i (get_or s.words i 0) me c w gives)) (sym has)
-            (subst (λ (ws : List ℕ). IsRow root workers record { words = ws; homes = hs; views = set s.views me w }) (sym (set-get_or s.words i 0))
-            (rebuilt root workers s r me v at lives r.history r.faces s.words hs w next (knows_more root workers (length s.homes) r.history r.faces r.owner me v r.state.legal k0))),
+            (subst (λ (ws : List ℕ). IsRow root workers record { words = ws; homes = hs; views = set s.views me w })
+            (sym (set-get_or s.words i 0))
+            (rebuilt root workers s r me v at lives r.history r.faces s.words hs w next
+            (knows_more root workers (length s.homes) r.history r.faces r.owner me v r.state.legal k0))),
         (((refl, refl, refl, refl, refl, refl), empty, refl, refl, refl), (k0.seen, refl)),
       )

@@ -1,5 +1,6 @@
 -- A number is drawn, and then opened with a job.
-use Rattle.std.proofs.Common.{◌≡◌, ◌≢◌, ℕ, eqb, subst, ◌+◌, ◌*◌, ◌<◌, true, cond, List, [], ◌∷◌, length, get_or, set, sym, refl, ap, ◌∙◌, arith, length-set, Option, Some}
+use Rattle.std.proofs.Common.{◌≡◌, ◌≢◌, ℕ, eqb, subst, ◌+◌, ◌*◌, ◌<◌, true, cond, List, [], ◌∷◌, length, get_or, set, sym, refl, ap}
+use Rattle.std.proofs.Common.{◌∙◌, arith, length-set, Option, Some}
 use mathlib.Core.Logic.{dite}
 use mathlib.Core.Option.{some, none}
 use native.Mathlib.Decide.{ℕ_discrete, dec_le}
@@ -38,14 +39,17 @@ module _ {J R : Type 0} where
   passed_view v h i = record v { seen = h; front = i + 1 }
 
   -- a number is drawn, by who has a claim
-  module _ (root : Option J) (workers me i : ℕ) (v : View J R) (lives : v.live ≡ true) (empty : v.drawn ≡ 0) (front : v.front ≡ i) (q : ℕ) (claim : holding v.mine ≡ Some q)
+  module _ (root : Option J) (workers me i : ℕ) (v : View J R) (lives : v.live ≡ true) (empty : v.drawn ≡ 0) (front : v.front ≡ i)
+      (q : ℕ) (claim : holding v.mine ≡ Some q)
       (s : St J R) (r : IsRow root workers s) (at : get_elem? s.views me ≡ some v) (near : i < length s.homes) where
     abbrev k : Knows root workers r.history r.faces r.owner me v
     k = r.each_seat me v at lives
 
     module _ (gone : r.faces i ≡ word.Absent) where
       below_it : (p : ℕ) → holding v.mine ≡ Some p → p < i
-      below_it p is = dite (dec_le i p) (λ le. let x : Absent ≡ Claimed v.worker = sym (r.state.agrees p ∙ ap shown (r.state.together i p le gone)) ∙ (held_is root workers s r me v k p).0 is in absurd (cc)) (λ no. omega arith)
+      below_it p is = dite (dec_le i p) (λ le. let x : Absent ≡ Claimed v.worker = sym
+          (r.state.agrees p ∙ ap shown (r.state.together i p le gone)) ∙ (held_is root workers s r me v k p).0 is in absurd (cc))
+          (λ no. omega arith)
 
       draw_turn : IsTurn root workers s r v.worker i r.history (word.Drawn v.worker) (set s.homes i none)
       draw_turn = record {
@@ -55,7 +59,8 @@ module _ {J R : Type 0} where
         matched = r.state.matched;
         grows = whole r.history;
         parts = λ u ne. refl;
-        agrees = λ z. at_put r.faces i (word.Drawn v.worker) (λ y f. status r.history y ≡ shown f) z (r.state.agrees i ∙ ap shown gone) (λ _. r.state.agrees z);
+        agrees = λ z. at_put r.faces i (word.Drawn v.worker) (λ y f. status r.history y ≡ shown f) z (r.state.agrees i ∙ ap shown gone)
+            (λ _. r.state.agrees z);
         filled = λ _ z below. k.front z (omega arith);
         some_face = λ is. cc;
         homes_else = λ z ne. set_else s.homes i z none ne;
@@ -64,7 +69,11 @@ module _ {J R : Type 0} where
         lies_here = tt;
         busy = λ z w. at_put r.faces i (word.Drawn v.worker) (λ y f. f ≡ word.Drawn w → (p : ℕ) × (status r.history p ≡ Claimed w)) z
             (λ is. (q, (held_is root workers s r me v k q).0 claim ∙ ap Claimed (held_same v.worker w is))) (λ _ is. r.busy z w is);
-        loose = λ u ne. ((λ x. let y = sym gone ∙ x in cc), (λ (x : word.Drawn v.worker ≡ word.Drawn u). ne (sym (held_same v.worker u x))), (λ x. cc));
+        loose = λ u ne. (
+          (λ x. let y = sym gone ∙ x in cc),
+          (λ (x : word.Drawn v.worker ≡ word.Drawn u). ne (sym (held_same v.worker u x))),
+          (λ x. cc),
+        );
       }
 
       draw_knows : Knows root workers r.history (put r.faces i (word.Drawn v.worker)) r.owner me (drawn_view v r.history i)
@@ -76,16 +85,20 @@ module _ {J R : Type 0} where
         seen = whole r.history;
         own = k.mine;
         owns = k.owns;
-        drew = λ z. at_put r.faces i (word.Drawn v.worker) (λ y f. f ≡ word.Drawn v.worker → i + 1 ≡ y + 1) z (λ _. refl) (λ _ x. absurd (let y = k.drew z x in omega arith));
-        draws = λ z is. let e : i ≡ z = omega arith in subst (λ y. put r.faces i (word.Drawn v.worker) y ≡ word.Drawn v.worker) e (put_here r.faces i (word.Drawn v.worker));
+        drew = λ z. at_put r.faces i (word.Drawn v.worker) (λ y f. f ≡ word.Drawn v.worker → i + 1 ≡ y + 1) z (λ _. refl)
+            (λ _ x. absurd (let y = k.drew z x in omega arith));
+        draws = λ z is. let e : i ≡ z = omega arith in subst (λ y. put r.faces i (word.Drawn v.worker) y ≡ word.Drawn v.worker) e
+            (put_here r.faces i (word.Drawn v.worker));
         low = k'.low;
-        front = λ z. at_put r.faces i (word.Drawn v.worker) (λ y f. y < i + 1 → f ≢ word.Absent) z (λ _ x. cc) (λ ne l. k.front z (omega arith));
+        front = λ z. at_put r.faces i (word.Drawn v.worker) (λ y f. y < i + 1 → f ≢ word.Absent) z (λ _ x. cc)
+            (λ ne l. k.front z (omega arith));
         deals = k.deals;
         joins = λ n u m is. let x = k.joins n u m is in record {
           owned = x.owned;
           other = x.other;
           events = x.events;
-          idle = λ z. at_put r.faces i (word.Drawn v.worker) (λ y f. f ≢ word.Drawn u) z (λ y. x.other (sym (held_same v.worker u y))) (λ _. x.idle z);
+          idle = λ z. at_put r.faces i (word.Drawn v.worker) (λ y f. f ≢ word.Drawn u) z (λ y. x.other (sym (held_same v.worker u y)))
+              (λ _. x.idle z);
         };
       }
 
@@ -106,55 +119,80 @@ module _ {J R : Type 0} where
       joins = k.joins;
     }
 
-  pub draws : (root : Option J) (workers slots me : ℕ) (m : Seated J R) (i new q : ℕ) → m.0.live ≡ true → i < slots → m.0.drawn ≡ 0 → m.0.front ≡ i → holding m.0.mine ≡ Some q → new ≡ 4 + 2 * m.0.worker
+  -- an exchange that draws a number keeps the row of words, whether it takes place or not
+  pub draws : (root : Option J) (workers slots me : ℕ) (m : Seated J R) (i new q : ℕ) → m.0.live ≡ true → i < slots → m.0.drawn ≡ 0
+      → m.0.front ≡ i → holding m.0.mine ≡ Some q → new ≡ 4 + 2 * m.0.worker
       → Allows (IsRow root workers) slots me m i (λ x. either (eqb x 0) new x) (drew (step slots i 0 new none) m)
   draws root workers slots me m i new q lives near empty front claim is s r len at fits = let v = m.0 in let z : ℕ = get_or s.words i 0 in
       let near' : i < length s.homes = omega arith in let k0 = r.each_seat me v at lives in
-      let G : ℕ → Type 0 = λ x. (w : View J R) × (a : Act (Slot J R)) × Valid s.homes m.1 a × IsRow root workers (stepped s i x me m.1 w a) × drew (step slots i 0 new none) m z (w, carried_after m.1 a) in
+      let G : ℕ → Type 0 = λ x. (w : View J R) × (a : Act (Slot J R)) × Valid s.homes m.1 a
+      × IsRow root workers (stepped s i x me m.1 w a) × drew (step slots i 0 new none) m z (w, carried_after m.1 a) in
       exchanged z 0 new G
-      (λ (hit : z ≡ 0). let gone : r.faces i ≡ word.Absent = sym (face_here root workers s r i near') ∙ ap word_of hit in let l = subst (λ c. Lies root r.history s.homes i c) gone (r.lies i near') in
+      (λ (hit : z ≡ 0). let gone : r.faces i ≡ word.Absent = sym (face_here root workers s r i near') ∙ ap word_of hit in
+      let l = subst (λ c. Lies root r.history s.homes i c) gone (r.lies i near') in
       let w = drawn_view v r.history i in let k' = draw_knows root workers me i v lives empty front q claim s r at near' gone in (
         w,
         takes i Empty,
         l,
         subst (λ x. IsRow root workers (stepped s i x me m.1 w (takes i Empty))) (sym is)
-            (rebuilt root workers s r me v at lives r.history (put r.faces i (word.Drawn v.worker)) (set s.words i (4 + 2 * v.worker)) (set s.homes i none) w
-            (turned root workers s r v.worker i r.history (word.Drawn v.worker) (set s.homes i none) (draw_turn root workers me i v lives empty front q claim s r at near' gone)) k'),
+            (rebuilt root workers s r me v at lives r.history (put r.faces i (word.Drawn v.worker)) (set s.words i (4 + 2 * v.worker))
+            (set s.homes i none) w
+            (turned root workers s r v.worker i r.history (word.Drawn v.worker) (set s.homes i none)
+            (draw_turn root workers me i v lives empty front q claim s r at near' gone)) k'),
         (
           (refl, refl, refl, refl, refl, refl),
           refl,
           refl,
-          (k0.seen, refl, subst (λ c. IsFair c w) len (fair root workers (length s.homes) r.history (put r.faces i (word.Drawn v.worker)) r.owner me w refl r.state.legal r.state.matched k')),
-          subst (λ b. MatchBool b (TakesEmpty i m (w, carried_after m.1 (takes i Empty))) ((carried_after m.1 (takes i Empty) ≡ m.1) × (w.drawn ≡ v.drawn))) (sym (ap (λ n. is_absent (word_of n)) hit))
+          (
+            k0.seen,
+            refl,
+            subst (λ c. IsFair c w) len (fair root workers (length s.homes) r.history
+                (put r.faces i (word.Drawn v.worker)) r.owner me w refl r.state.legal r.state.matched k'),
+          ),
+          subst (λ b. MatchBool b (TakesEmpty i m (w, carried_after m.1 (takes i Empty)))
+              ((carried_after m.1 (takes i Empty) ≡ m.1) × (w.drawn ≡ v.drawn))) (sym (ap (λ n. is_absent (word_of n)) hit))
               (refl, refl, below_it root workers me i v lives empty front q claim s r at near' gone),
         ),
       ))
-      (λ (miss : z ≢ 0). let w = passed_view v r.history i in let k' = pass_knows root workers me i v lives empty front q claim s r at near' (λ e. miss (r.state.shows i near' ∙ ap code e)) in (
+      (λ (miss : z ≢ 0). let w = passed_view v r.history i in
+      let k' = pass_knows root workers me i v lives empty front q claim s r at near'
+      (λ e. miss (r.state.shows i near' ∙ ap code e)) in (
         w,
         keeps,
         tt,
-        subst (λ (ws : List ℕ). IsRow root workers record { words = ws; homes = s.homes; views = set s.views me w }) (sym (set-get_or s.words i 0))
+        subst (λ (ws : List ℕ). IsRow root workers record { words = ws; homes = s.homes; views = set s.views me w })
+            (sym (set-get_or s.words i 0))
             (rebuilt root workers s r me v at lives r.history r.faces s.words s.homes w (next_same root workers s r v.worker) k'),
         (
           (refl, refl, refl, refl, refl, refl),
           refl,
           refl,
-          (k0.seen, refl, subst (λ c. IsFair c w) len (fair root workers (length s.homes) r.history r.faces r.owner me w refl r.state.legal r.state.matched k')),
+          (
+            k0.seen,
+            refl,
+            subst (λ c. IsFair c w) len (fair root workers
+                (length s.homes) r.history r.faces r.owner me w refl r.state.legal r.state.matched k'),
+          ),
           subst (λ b. MatchBool b (TakesEmpty i m (w, m.1)) ((m.1 ≡ m.1) × (w.drawn ≡ v.drawn)))
-              (sym (ap is_absent (face_here root workers s r i near') ∙ not_absent (r.faces i) (λ e. miss (r.state.shows i near' ∙ ap code e)))) (refl, refl),
+              (sym (ap is_absent (face_here root workers s r i near') ∙ not_absent (r.faces i)
+              (λ e. miss (r.state.shows i near' ∙ ap code e)))) (refl, refl),
         ),
       ))
 
-  pub steps_over : (root : Option J) (workers slots me : ℕ) (m : Seated J R) (i q : ℕ) → m.0.live ≡ true → i < slots → m.0.drawn ≡ 0 → m.0.front ≡ i → holding m.0.mine ≡ Some q
+  -- a look at a number that another has drawn keeps it too
+  pub steps_over : (root : Option J) (workers slots me : ℕ) (m : Seated J R) (i q : ℕ) → m.0.live ≡ true → i < slots → m.0.drawn ≡ 0
+      → m.0.front ≡ i → holding m.0.mine ≡ Some q
       → Allows (IsRow root workers) slots me m i (λ n. n) (stepped_over (step slots i 0 0 none) m)
   steps_over root workers slots me m i q lives near empty front claim s r len at fits = let v = m.0 in let z : ℕ = get_or s.words i 0 in
       let near' : i < length s.homes = omega arith in let k0 = r.each_seat me v at lives in
       dite (ℕ_discrete z 0)
-      (λ (hit : z ≡ 0). let w = updated v r.history in let k' = knows_more root workers (length s.homes) r.history r.faces r.owner me v r.state.legal k0 in (
+      (λ (hit : z ≡ 0). let w = updated v r.history in let k' = knows_more root workers
+      (length s.homes) r.history r.faces r.owner me v r.state.legal k0 in (
         w,
         keeps,
         tt,
-        subst (λ (ws : List ℕ). IsRow root workers record { words = ws; homes = s.homes; views = set s.views me w }) (sym (set-get_or s.words i 0))
+        subst (λ (ws : List ℕ). IsRow root workers record { words = ws; homes = s.homes; views = set s.views me w })
+            (sym (set-get_or s.words i 0))
             (rebuilt root workers s r me v at lives r.history r.faces s.words s.homes w (next_same root workers s r v.worker) k'),
         (
           refl,
@@ -162,22 +200,36 @@ module _ {J R : Type 0} where
           refl,
           refl,
           sym (ap (λ n. cond (is_absent (word_of n)) v.front (i + 1)) hit),
-          (k0.seen, refl, subst (λ c. IsFair c w) len (fair root workers (length s.homes) r.history r.faces r.owner me w refl r.state.legal r.state.matched k')),
+          (
+            k0.seen,
+            refl,
+            subst (λ c. IsFair c w) len (fair root workers
+                (length s.homes) r.history r.faces r.owner me w refl r.state.legal r.state.matched k'),
+          ),
         ),
       ))
-      (λ (miss : z ≢ 0). let w = passed_view v r.history i in let k' = pass_knows root workers me i v lives empty front q claim s r at near' (λ e. miss (r.state.shows i near' ∙ ap code e)) in (
+      (λ (miss : z ≢ 0). let w = passed_view v r.history i in
+      let k' = pass_knows root workers me i v lives empty front q claim s r at near'
+      (λ e. miss (r.state.shows i near' ∙ ap code e)) in (
         w,
         keeps,
         tt,
-        subst (λ (ws : List ℕ). IsRow root workers record { words = ws; homes = s.homes; views = set s.views me w }) (sym (set-get_or s.words i 0))
+        subst (λ (ws : List ℕ). IsRow root workers record { words = ws; homes = s.homes; views = set s.views me w })
+            (sym (set-get_or s.words i 0))
             (rebuilt root workers s r me v at lives r.history r.faces s.words s.homes w (next_same root workers s r v.worker) k'),
         (
           refl,
           (refl, refl, refl, refl, refl, refl),
           refl,
           refl,
-          sym (ap (λ b. cond b v.front (i + 1)) (ap is_absent (face_here root workers s r i near') ∙ not_absent (r.faces i) (λ e. miss (r.state.shows i near' ∙ ap code e)))),
-          (k0.seen, refl, subst (λ c. IsFair c w) len (fair root workers (length s.homes) r.history r.faces r.owner me w refl r.state.legal r.state.matched k')),
+          sym (ap (λ b. cond b v.front (i + 1)) (ap is_absent (face_here root workers s r i near') ∙ not_absent (r.faces i)
+              (λ e. miss (r.state.shows i near' ∙ ap code e)))),
+          (
+            k0.seen,
+            refl,
+            subst (λ c. IsFair c w) len (fair root workers
+                (length s.homes) r.history r.faces r.owner me w refl r.state.legal r.state.matched k'),
+          ),
         ),
       ))
 
@@ -185,7 +237,8 @@ module _ {J R : Type 0} where
   abbrev opened_view : View J R → List (Event J R) → Event J R → View J R
   opened_view v h e = record v { seen = e ∷ h; mine = e ∷ v.mine; drawn = 0 }
 
-  module _ (root : Option J) (workers me i : ℕ) (v : View J R) (lives : v.live ≡ true) (full : v.drawn ≡ i + 1) (p : ℕ) (claim : holding v.mine ≡ Some p) (below : p < i) (j : J)
+  module _ (root : Option J) (workers me i : ℕ) (v : View J R) (lives : v.live ≡ true) (full : v.drawn ≡ i + 1) (p : ℕ)
+      (claim : holding v.mine ≡ Some p) (below : p < i) (j : J)
       (s : St J R) (r : IsRow root workers s) (at : get_elem? s.views me ≡ some v) (near : i < length s.homes) where
     abbrev ko : Knows root workers r.history r.faces r.owner me v
     ko = r.each_seat me v at lives
@@ -217,12 +270,17 @@ module _ {J R : Type 0} where
       jobs_else = λ z ne. put_else (job_at root r.history) i (Some j) z ne;
       rows_else = λ z ne. refl;
       lies_here = (j, set_here s.homes i (some (Job j)) near, put_here (job_at root r.history) i (Some j));
-      busy = λ z w is. let o = at_put r.faces i word.Open (λ y f. f ≡ word.Drawn w → r.faces y ≡ word.Drawn w) z (λ x. absurd (cc)) (λ _ x. x) is in let b = r.busy z w o in
-          (b.0, (put_else (status r.history) i Open b.0 (λ (x : b.0 ≡ i). let y : Claimed w ≡ Absent = sym b.1 ∙ (ap (status r.history) x ∙ is_new) in cc) ∙ b.1));
+      busy = λ z w is. let o = at_put r.faces i word.Open (λ y f. f ≡ word.Drawn w → r.faces y ≡ word.Drawn w) z (λ x. absurd (cc))
+          (λ _ x. x) is in let b = r.busy z w o in (
+            b.0,
+            (put_else (status r.history) i Open b.0
+                (λ (x : b.0 ≡ i). let y : Claimed w ≡ Absent = sym b.1 ∙ (ap (status r.history) x ∙ is_new) in cc) ∙ b.1),
+          );
       loose = λ u ne. ((λ x. ne (sym (held_same v.worker u (sym has ∙ x)))), (λ x. cc), (λ x. cc));
     }
 
-    open_knows : Knows root workers (Post v.worker p i j ∷ r.history) (put r.faces i word.Open) r.owner me (opened_view v r.history (Post v.worker p i j))
+    open_knows : Knows root workers (Post v.worker p i j ∷ r.history) (put r.faces i word.Open) r.owner me
+        (opened_view v r.history (Post v.worker p i j))
     open_knows = record {
       root_is = ko.root_is;
       workers_are = ko.workers_are;
@@ -231,7 +289,8 @@ module _ {J R : Type 0} where
       seen = whole (post ∷ r.history);
       own = part_own v.worker r.history post refl ∙ ap (λ z. post ∷ z) ko.mine;
       owns = ko.owns;
-      drew = λ z. at_put r.faces i word.Open (λ y f. f ≡ word.Drawn v.worker → 0 ≡ y + 1) z (λ x. absurd (cc)) (λ ne x. absurd (let y = ko.drew z x in ne (omega arith)));
+      drew = λ z. at_put r.faces i word.Open (λ y f. f ≡ word.Drawn v.worker → 0 ≡ y + 1) z (λ x. absurd (cc))
+          (λ ne x. absurd (let y = ko.drew z x in ne (omega arith)));
       draws = λ z is. absurd (omega arith);
       low = low_stays root workers (length s.homes) r.history r.faces r.owner me v post post_legal ko;
       front = λ z below. at_put r.faces i word.Open (λ y f. y < v.front → f ≢ word.Absent) z (λ _ x. cc) (λ _. ko.front z) below;
@@ -244,16 +303,32 @@ module _ {J R : Type 0} where
       };
     }
 
-  pub opens : (root : Option J) (workers slots me : ℕ) (m : Seated J R) (i p : ℕ) (j : J) → m.0.live ≡ true → i < slots → m.0.drawn ≡ i + 1 → holding m.0.mine ≡ Some p → p < i → m.1 ≡ (i, Job j) ∷ rest m.1
+  -- and so does the store that opens a drawn number with its job
+  pub opens : (root : Option J) (workers slots me : ℕ) (m : Seated J R) (i p : ℕ) (j : J) → m.0.live ≡ true → i < slots
+      → m.0.drawn ≡ i + 1 → holding m.0.mine ≡ Some p → p < i → m.1 ≡ (i, Job j) ∷ rest m.1
       → Allows (IsRow root workers) slots me m i (λ _. 1) (opened (step slots i 1 0 none) m)
-  opens root workers slots me m i p j lives near full claim below has s r len at fits = let v = m.0 in let near' : i < length s.homes = omega arith in let k0 = r.each_seat me v at lives in
+  opens root workers slots me m i p j lives near full claim below has s r len at fits = let v = m.0 in
+      let near' : i < length s.homes = omega arith in let k0 = r.each_seat me v at lives in
       let e : Event J R = Post v.worker p i j in let w = opened_view v r.history e in
-      let turn = open_turn root workers me i v lives full p claim below j s r at near' in let k' = open_knows root workers me i v lives full p claim below j s r at near' in (
+      let turn = open_turn root workers me i v lives full p claim below j s r at near' in
+      let k' = open_knows root workers me i v lives full p claim below j s r at near' in (
         w,
         gives,
         tt,
         subst (λ (c : List (ℕ × Slot J R)). IsRow root workers (stepped s i 1 me c w gives)) (sym has)
-            (rebuilt root workers s r me v at lives (e ∷ r.history) (put r.faces i word.Open) (set s.words i 1) (set s.homes i (some (Job j))) w
+            (rebuilt root workers s r me v at lives (e ∷ r.history) (put r.faces i word.Open) (set s.words i 1)
+            (set s.homes i (some (Job j))) w
             (turned root workers s r v.worker i (e ∷ r.history) word.Open (set s.homes i (some (Job j))) turn) k'),
-        (((refl, refl, refl, refl, refl, refl), refl, refl, refl, refl), (p, j, claim, has, subst (λ c. AddsEvent c v e w) len (adds root workers (length s.homes) r.history r.faces r.owner me v e (put r.faces i word.Open) w refl refl turn.legal turn.matched k0 k'))),
+        (
+          ((refl, refl, refl, refl, refl, refl), refl, refl, refl, refl),
+          (
+            p,
+            j,
+            claim,
+            has,
+            subst (λ c. AddsEvent c v e w) len
+                (adds root workers (length s.homes) r.history r.faces r.owner me v e
+                (put r.faces i word.Open) w refl refl turn.legal turn.matched k0 k'),
+          ),
+        ),
       )

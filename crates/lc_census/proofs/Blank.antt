@@ -1,12 +1,14 @@
 -- The words of one block tell where a line was blank so far.
-use Rattle.std.proofs.Common.{◌≡◌, ℕ, zero, suc, ◌+◌, ◌%◌, ◌^◌, ◌<◌, Bool, true, false, ◌&&◌, ◌||◌, List, get_or, refl, sym, ap, ap₂, ◌∙◌, arith}
+use Rattle.std.proofs.Common.{◌≡◌, ℕ, zero, suc, ◌+◌, ◌%◌, ◌^◌, ◌<◌, Bool, true, false, ◌&&◌, ◌||◌, List, get_or, refl, sym, ap, ap₂}
+use Rattle.std.proofs.Common.{◌∙◌, arith}
 use lib.Bits.{bit_and, bit_or, bit_xor}
 use mir.Val.{bool_byte}
 use Rattle.std.proofs.Math.Bool.{or-false}
 use Rattle.lc_census.proofs.Bools.{or_left, or_right}
 use Rattle.lc_census.specs.Lanes.{test, xor, Bits, Marks, cr_before, blank_before}
 use Rattle.lc_census.specs.Bytes.{is_cr, is_end, is_space}
-use Rattle.lc_census.proofs.Bits.Test.{test-and, test-or, test-xor, shl, test-shl_one, test-shl_low, test-byte_zero, test-byte_suc, test-mod}
+use Rattle.lc_census.proofs.Bits.Test.{test-and, test-or, test-xor, shl, test-shl_one, test-shl_low, test-byte_zero, test-byte_suc}
+use Rattle.lc_census.proofs.Bits.Test.{test-mod}
 use Rattle.lc_census.proofs.Bits.Adder.{carry, test-add, most}
 
 -- a shift by one, with a bit from the block before
@@ -16,6 +18,7 @@ shifted x c p h i lt =
     test-or (shl 1 x) _ (suc i) ∙ ap₂ (λ a b. a || b) (test-shl_one i x lt) (test-byte_suc c i (omega arith)) ∙ or-false _
     ∙ h i (omega arith)
 
+-- the lowest bit of a word shifted up by one, with a Bool put below
 pub shifted-zero : (x : ℕ) (c : Bool) → test (bit_or (shl 1 x) (bool_byte c)) 0 ≡ c
 shifted-zero x c = test-or (shl 1 x) _ 0 ∙ ap₂ (λ a b. a || b) (test-shl_low 1 0 x (omega arith) (omega arith)) (test-byte_zero c)
 
@@ -60,19 +63,23 @@ module _ (v : List ℕ) (c : Bool) (ends space : ℕ)
   along zero h = ap (λ b. b || false) (shifted-zero ends c) ∙ or-false c
   along (suc i) h =
       ap₂ (λ a b. a || b) (shifted ends c _ hends i h)
-      (ap (λ b. most b (test space i) (carry lone space i)) (test-and starts space i) ∙ carried (test starts i) (test space i) (carry lone space i)
+      (ap (λ b. most b (test space i) (carry lone space i)) (test-and starts space i) ∙ carried (test starts i) (test space i)
+      (carry lone space i)
       ∙ ap₂ (λ a b. a && b) (hspace i (omega arith)) (along i (omega arith)))
       ∙ next (is_end (get_or v i 0)) (blank_before c v i) (is_space (get_or v i 0))
 
+  -- a bit of this word says whether the line is blank before that byte
   pub blank_bits : Bits (bit_or starts (bit_xor (bit_xor ((lone + space) % 2 ^ 64) lone) space)) (blank_before c v)
   blank_bits i h =
       test-or starts _ i
       ∙ ap (λ b. test starts i || b)
       (test-xor _ space i
-      ∙ ap (λ b. xor b (test space i)) (test-xor _ lone i ∙ ap (λ b. xor b (test lone i)) (test-mod (lone + space) i h ∙ test-add lone space i))
+      ∙ ap (λ b. xor b (test space i)) (test-xor _ lone i ∙ ap (λ b. xor b (test lone i))
+      (test-mod (lone + space) i h ∙ test-add lone space i))
       ∙ undone (test lone i) (test space i) (carry lone space i))
       ∙ along i h
 
+-- a bit of this word says whether a carriage return stands before that byte
 pub cr_bits : (v : List ℕ) (c : Bool) (cr : ℕ) → Marks cr is_cr v → Bits (bit_or (shl 1 cr) (bool_byte c)) (cr_before c v)
 unfolding cr_before
 cr_bits v c cr h zero lt = shifted-zero cr c

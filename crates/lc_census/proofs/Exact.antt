@@ -5,9 +5,12 @@ use Rattle.lc_census.specs.Reads.{Answer, gave, failed, Stop, at_end, at_failure
 
 -- a read gives the first of the rest, and at the rest's end either the end or a failure
 pub record IsExact {S : Type 0} (may_give : S → ℕ → Answer → S → Type 0) (rest : S → List ℕ) (fails : S → Bool) : Type 0 where
+  -- a piece is what is read next
   pub piece : (old new : S) (room : ℕ) (piece : List ℕ) → may_give old room (gave piece) new
       → (rest old ≡ piece ++ rest new) × (fails old ≡ fails new)
+  -- an end comes where nothing is left and the reader doesn't fail
   pub end : (old new : S) (room : ℕ) → 0 < room → may_give old room (gave []) new → (rest old ≡ []) × (fails old ≡ false)
+  -- a failure comes where nothing is left and it does
   pub failure : (old new : S) (room : ℕ) → may_give old room failed new → (rest old ≡ []) × (fails old ≡ true)
 
 -- what such reads gave, by how they stopped, of a rest that fails or not
@@ -24,19 +27,22 @@ one_before piece rest middle bytes left fails mid fail at_failure e f given = (e
 one_before piece rest middle bytes left fails mid fail at_neither e f given =
     (e ∙ ap (λ t. piece ++ t) given.0 ∙ sym (append_assoc piece bytes left), f ∙ given.1)
 
-module _ {S : Type 0} (may_give : S → ℕ → Answer → S → Type 0) (rest : S → List ℕ) (fails : S → Bool) (exact : IsExact may_give rest fails) (IsRoom : ℕ → Type 0) where
+module _ {S : Type 0} (may_give : S → ℕ → Answer → S → Type 0) (rest : S → List ℕ) (fails : S → Bool)
+    (exact : IsExact may_give rest fails) (IsRoom : ℕ → Type 0) where
   none_before : (stop : Stop) (old new : S) → Reads may_give IsRoom old [] stop new
       → AreGiven (rest old) (fails old) [] stop (rest new) (fails new)
   none_before at_end old new read = exact.end old new read.0 read.1 read.3
   none_before at_failure old new read = exact.failure old new read.0 read.3
   none_before at_neither old new same = (ap rest same, ap fails same)
 
+  -- what reads gave is the bytes up to some place, and the end or the failure only where nothing is left
   pub pieces_given : (pieces : List (List ℕ)) (stop : Stop) (old new : S) → Reads may_give IsRoom old pieces stop new
       → AreGiven (rest old) (fails old) (concat pieces) stop (rest new) (fails new)
   pieces_given [] stop old new reads = none_before stop old new reads
   pieces_given (piece ∷ pieces) stop old new reads =
       let first = exact.piece old reads.0 reads.2.0 piece reads.2.3 in
-      one_before piece (rest old) (rest reads.0) (concat pieces) (rest new) (fails old) (fails reads.0) (fails new) stop first.0 first.1 (pieces_given pieces stop reads.0 new reads.3)
+      one_before piece (rest old) (rest reads.0) (concat pieces) (rest new) (fails old) (fails reads.0)
+      (fails new) stop first.0 first.1 (pieces_given pieces stop reads.0 new reads.3)
 
   -- the bytes that such reads gave
   pub bytes_given : (old new : S) (bytes : List ℕ) (stop : Stop) → GivesBytes may_give IsRoom old bytes stop new

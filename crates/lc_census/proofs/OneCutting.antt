@@ -4,7 +4,8 @@ use Rattle.std.specs.List.{list_any}
 use Rattle.std.proofs.lemmas.Bool.{cases_Bool}
 use Rattle.lc_census.specs.Bytes.{is_lf, is_cr}
 use Rattle.lc_census.proofs.Bools.{or_left, or_right}
-use Rattle.lc_census.specs.Cutting.{End, lf, cr_lf, cr, Line, Cutting, HasNoEnd, bytes_of, joined, starts_with_lf, AreLines, IsCutting, HasOneCutting}
+use Rattle.lc_census.specs.Cutting.{End, lf, cr_lf, cr, Line, Cutting, HasNoEnd, bytes_of, joined, starts_with_lf, AreLines, IsCutting}
+use Rattle.lc_census.specs.Cutting.{HasOneCutting}
 use Rattle.lc_census.specs.Bytes.{is_end}
 
 abbrev pub line : List ℕ → End → Line
@@ -45,6 +46,7 @@ by_kind P p q r x = at_lf (cases_Bool (is_lf x)) (cases_Bool (is_cr x))
     at_lf (inr e) (inl f) = subst P (sym (eqb-true x 13 f)) q
     at_lf (inr e) (inr f) = r x e f
 
+-- a byte of text before a cutting lengthens its first line
 pub before-text : (x : ℕ) (d : Cutting) → is_lf x ≡ false → is_cr x ≡ false → before x d ≡ with_text x d.lines d.rest
 before-text x d e f = ap (λ b. by_byte b (is_cr x) x d) e ∙ ap (λ b. by_byte false b x d) f
 
@@ -82,6 +84,7 @@ before_is xs d h = by_kind (λ x. IsCutting (x ∷ xs) (before x d))
     (cr_is xs d.lines d.rest h)
     (λ x e f. subst (IsCutting (x ∷ xs)) (sym (before-text x d e f)) (text_is x xs (end_false x e f) d.lines d.rest h))
 
+-- the cutting is one
 pub cut_is : (bytes : List ℕ) → IsCutting bytes (cut bytes)
 cut_is [] = record { lines = tt; rest = refl; whole = refl }
 cut_is (x ∷ xs) = before_is xs (cut xs) (cut_is xs) x
@@ -134,5 +137,6 @@ only (x ∷ xs) [] (y ∷ r) a n e =
     ∙ ap (before x) (only xs [] r tt (or_right (is_end y) (list_any is_end r) n) (tail_is y x r xs e))
 only (x ∷ xs) (l ∷ ls) r a n e = only_line x xs (only xs) l.text l.end ls r a n e
 
+-- there is no other
 pub one_cutting : (bytes : List ℕ) → HasOneCutting bytes
 one_cutting bytes = (cut bytes, cut_is bytes, λ d h. only bytes d.lines d.rest h.lines h.rest h.whole)

@@ -3,6 +3,7 @@ use Rattle.std.proofs.Common.{◌≡◌, ℕ, suc, ◌-◌, ◌<◌, Bool, not, 
 use Rattle.lc_census.specs.Bytes.{is_end}
 use Rattle.lc_census.specs.Fed.{rest_after}
 
+-- the mark after two pieces
 pub rest_after-append : (b : Bool) (xs ys : List ℕ) → rest_after b (xs ++ ys) ≡ rest_after (rest_after b xs) ys
 rest_after-append b [] ys = refl
 rest_after-append b (x ∷ xs) ys = rest_after-append (not (is_end x)) xs ys
@@ -11,6 +12,7 @@ by_last : (b : Bool) (x : ℕ) (xs : List ℕ) → rest_after b (x ∷ xs) ≡ n
 by_last b x [] = refl
 by_last b x (y ∷ ys) = by_last (not (is_end x)) y ys
 
+-- the mark is told by the last byte
 pub rest_after_last : (b : Bool) (xs : List ℕ) → 0 < length xs → rest_after b xs ≡ not (is_end (get_or xs (length xs - 1) 0))
 rest_after_last b [] h = let no : ⊥ = omega arith in absurd no
 rest_after_last b (x ∷ xs) h =

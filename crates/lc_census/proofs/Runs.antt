@@ -10,7 +10,8 @@ module _ {S : Type 0} (may_give : S → ℕ → Answer → S → Type 0) (IsRoom
   pub reads_then : (pieces more : List (List ℕ)) (stop : Stop) (old middle new : S)
       → Reads may_give IsRoom old pieces at_neither middle → Reads may_give IsRoom middle more stop new
       → Reads may_give IsRoom old (pieces ++ more) stop new
-  reads_then [] more stop old middle new same next = let P : S → Type 0 = λ s. Reads may_give IsRoom s more stop new in subst P (sym same) next
+  reads_then [] more stop old middle new same next = let P : S
+      → Type 0 = λ s. Reads may_give IsRoom s more stop new in subst P (sym same) next
   reads_then (piece ∷ pieces) more stop old middle new reads next =
       (reads.0, reads.1, reads.2, reads_then pieces more stop reads.0 middle new reads.3 next)
 
@@ -36,7 +37,8 @@ module _ {S : Type 0} (may_give : S → ℕ → Answer → S → Type 0) (IsRoom
   gives_more bytes piece old middle new so_far some read = record {
     pieces = so_far.pieces ++ piece ∷ [];
     reads = reads_more so_far.pieces piece old middle new so_far.reads some read;
-    joined = concat-append so_far.pieces (piece ∷ []) ∙ (ap (λ l. concat so_far.pieces ++ l) (append-nil piece) ∙ ap (λ l. l ++ piece) so_far.joined);
+    joined = concat-append so_far.pieces (piece ∷ [])
+        ∙ (ap (λ l. concat so_far.pieces ++ l) (append-nil piece) ∙ ap (λ l. l ++ piece) so_far.joined);
   }
 
   -- bytes that went on, and then stopped so

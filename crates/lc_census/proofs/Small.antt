@@ -28,6 +28,7 @@ small_after s n x h few = record {
   few = few;
 }
 
+-- after so many bytes no count is over their number
 pub small_all : (s : Scan) (n : ℕ) (xs : List ℕ) → IsSmall s n → n + length xs ≤ 2 ^ 48 → IsSmall (after_all s xs) (n + length xs)
 small_all s n [] h few = let e : n ≡ n + 0 = omega arith in subst (IsSmall s) e h
 small_all s n (x ∷ xs) h few =

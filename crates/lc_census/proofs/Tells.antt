@@ -2,7 +2,8 @@
 pub mod Ends
 pub mod Blank
 pub mod Rest
-use Rattle.std.proofs.Common.{add_assoc, ◌≡◌, ℕ, suc, eqb, ◌+◌, ◌-◌, ◌⊎◌, inl, inr, Bool, true, false, not, ◌&&◌, ◌||◌, List, [], ◌∷◌, length, refl, sym, ap, ap₂, ◌∙◌, arith, zero-add, eqb-true}
+use Rattle.std.proofs.Common.{add_assoc, ◌≡◌, ℕ, suc, eqb, ◌+◌, ◌-◌, ◌⊎◌, inl, inr, Bool, true, false, not, ◌&&◌, ◌||◌, List, [], ◌∷◌}
+use Rattle.std.proofs.Common.{length, refl, sym, ap, ap₂, ◌∙◌, arith, zero-add, eqb-true}
 use Rattle.std.specs.List.{list_any}
 use Rattle.lc_census.specs.declared.scan.Scan.{Scan}
 use Rattle.lc_census.specs.Bytes.{is_lf, is_cr, is_end, is_space, is_nul, one_if}
@@ -55,7 +56,8 @@ each_end [] = refl
 each_end (l ∷ ls) = go l.end (each_end ls)
   where
     go : (e : End) → length ls ≡ ends_of lf ls + (ends_of cr_lf ls + ends_of cr ls)
-        → suc (length ls) ≡ (one_if (same_end lf e) + ends_of lf ls) + ((one_if (same_end cr_lf e) + ends_of cr_lf ls) + (one_if (same_end cr e) + ends_of cr ls))
+        → suc (length ls) ≡ (one_if (same_end lf e) + ends_of lf ls) + ((one_if (same_end cr_lf e) + ends_of cr_lf ls) + (one_if
+        (same_end cr e) + ends_of cr ls))
     go lf here = omega arith
     go cr_lf here = omega arith
     go cr here = omega arith
@@ -104,10 +106,12 @@ module _ (xs : List ℕ) where
   lines_are = omega (arith, lf_is, cr_is, crlf_is, each_end (cut xs).lines)
 
   lfs_are : some ((after_all start xs).lf - (after_all start xs).crlf) ≡ has_end lf (cut xs).lines
-  lfs_are = let e : (after_all start xs).lf - (after_all start xs).crlf ≡ ends_of lf (cut xs).lines = omega (arith, lf_is, crlf_is) in ap some e ∙ any_is (λ l. same_end lf l.end) (cut xs).lines
+  lfs_are = let e : (after_all start xs).lf - (after_all start xs).crlf ≡ ends_of lf (cut xs).lines = omega (arith, lf_is, crlf_is) in
+      ap some e ∙ any_is (λ l. same_end lf l.end) (cut xs).lines
 
   crs_are : some ((after_all start xs).cr - (after_all start xs).crlf) ≡ has_end cr (cut xs).lines
-  crs_are = let e : (after_all start xs).cr - (after_all start xs).crlf ≡ ends_of cr (cut xs).lines = omega (arith, cr_is, crlf_is) in ap some e ∙ any_is (λ l. same_end cr l.end) (cut xs).lines
+  crs_are = let e : (after_all start xs).cr - (after_all start xs).crlf ≡ ends_of cr (cut xs).lines = omega (arith, cr_is, crlf_is) in
+      ap some e ∙ any_is (λ l. same_end cr l.end) (cut xs).lines
 
   crlfs_are : some (after_all start xs).crlf ≡ has_end cr_lf (cut xs).lines
   crlfs_are = ap some crlf_is ∙ any_is (λ l. same_end cr_lf l.end) (cut xs).lines

@@ -1,5 +1,6 @@
 -- One block by its words is the scan of its bytes.
-use Rattle.std.proofs.Common.{◌≡◌, ℕ, ◌+◌, ◌/◌, ◌^◌, ◌<◌, Bool, true, false, not, ◌&&◌, ◌||◌, ◌==◌, List, length, get_or, refl, sym, ap, ap₂, ◌∙◌, arith}
+use Rattle.std.proofs.Common.{◌≡◌, ℕ, ◌+◌, ◌/◌, ◌^◌, ◌<◌, Bool, true, false, not, ◌&&◌, ◌||◌, ◌==◌, List, length, get_or, refl, sym, ap}
+use Rattle.std.proofs.Common.{ap₂, ◌∙◌, arith}
 use Rattle.std.specs.Int.RustNames.{count_ones}
 use lib.Bits.{bit_and, bit_or, bit_xor, and_le_l, or_lt}
 use Rattle.lc_census.specs.declared.scan.Scan.{Scan}
@@ -7,7 +8,8 @@ use Rattle.lc_census.specs.Lanes.{xor, cr_before, blank_before, count_first, Bit
 use Rattle.lc_census.specs.Bytes.{is_lf, is_cr, is_space, is_nul}
 use Rattle.lc_census.specs.Scan.{after_all}
 use Rattle.lc_census.proofs.Bits.Test.{test-and, test-or, test-xor, top_bit}
-use Rattle.lc_census.proofs.Counts.{ones_bits, crlf_at, blank_at, lf_all, cr_all, nul_all, crlf_all, blank_all, after_cr_all, is_blank_all, state_same}
+use Rattle.lc_census.proofs.Counts.{ones_bits, crlf_at, blank_at, lf_all, cr_all, nul_all, crlf_all, blank_all, after_cr_all}
+use Rattle.lc_census.proofs.Counts.{is_blank_all, state_same}
 
 lone : (l c : Bool) → xor l (l && c) ≡ (l && not c)
 lone true true = refl
@@ -37,7 +39,8 @@ module _ (s : Scan) (v : List ℕ) (long : length v ≡ 64) (lf cr space nul bef
   hblanks i h =
       test-and blank single i
       ∙ ap₂ (λ a b. a && b) (hblank i h)
-      (test-or cr _ i ∙ ap₂ (λ a b. a || b) (hcr i h) (test-xor lf crlf i ∙ ap₂ xor (hlf i h) (hcrlf i h) ∙ lone (is_lf (get_or v i 0)) (cr_before s.after_cr v i)))
+      (test-or cr _ i ∙ ap₂ (λ a b. a || b) (hcr i h)
+      (test-xor lf crlf i ∙ ap₂ xor (hlf i h) (hcrlf i h) ∙ lone (is_lf (get_or v i 0)) (cr_before s.after_cr v i)))
 
   crlf_lt : crlf < 2 ^ 64
   crlf_lt = omega (arith, lf_lt, and_le_l lf before)
@@ -63,6 +66,7 @@ module _ (s : Scan) (v : List ℕ) (long : length v ≡ 64) (lf cr space nul bef
       (test-and blank space 63 ∙ ap₂ (λ a b. a && b) (hblank 63 (omega arith)) (hspace 63 (omega arith)))
       ∙ ap (blank_before s.is_blank v) (sym long)
 
+  -- a state with the fields that the words of the block give is the state after its bytes
   pub block_is : (r : Scan) → r.lf ≡ s.lf + count_ones lf → r.cr ≡ s.cr + count_ones cr → r.crlf ≡ s.crlf + count_ones crlf
       → r.blank ≡ s.blank + count_ones blanks → r.nul ≡ s.nul + count_ones nul
       → r.after_cr ≡ (cr / 2 ^ 63 == 1) → r.is_blank ≡ (last / 2 ^ 63 == 1) → r ≡ after_all s v

@@ -9,17 +9,23 @@ use Rattle.lc_glob.specs.declared.segment.Segment.TheVariants.{Plain, DoubleStar
 use Rattle.lc_glob.specs.declared.segment.Tokens.{Tokens}
 use Rattle.lc_glob.specs.Costs.{tokens_with_ends, bytes_with_ends, full_cost}
 
-pub bytes_with_ends-end : (above : List (List ℕ)) (name : List ℕ) → bytes_with_ends (above ++ name ∷ []) ≡ bytes_with_ends above + (length name + 1)
+-- one name more adds its bytes and its end
+pub bytes_with_ends-end : (above : List (List ℕ)) (name : List ℕ)
+    → bytes_with_ends (above ++ name ∷ []) ≡ bytes_with_ends above + (length name + 1)
 bytes_with_ends-end [] name = omega arith
 bytes_with_ends-end (n ∷ above) name = omega (arith, bytes_with_ends-end above name)
 
-pub tokens_with_ends-end : (front : List SegmentModel) (us : List TokenModel) → tokens_with_ends (front ++ plain us ∷ []) ≡ tokens_with_ends front + (length us + 1)
+-- one plain segment more adds its tokens and its end
+pub tokens_with_ends-end : (front : List SegmentModel) (us : List TokenModel)
+    → tokens_with_ends (front ++ plain us ∷ []) ≡ tokens_with_ends front + (length us + 1)
 tokens_with_ends-end [] us = omega arith
 tokens_with_ends-end (double_star ∷ front) us = tokens_with_ends-end front us
 tokens_with_ends-end (plain vs ∷ front) us = omega (arith, tokens_with_ends-end front us)
 
 -- the last segment at the path's last, and what is before them
-pub end_cost : (s r : List SegmentModel) (path above : List (List ℕ)) (us : List TokenModel) (name : List ℕ) (t t' : ℕ) → s ≡ r ++ plain us ∷ [] → path ≡ above ++ name ∷ [] → t' ≤ t + (length us + 1) * (length name + 1) → t' + full_cost r above ≤ t + full_cost s path
+pub end_cost : (s r : List SegmentModel) (path above : List (List ℕ)) (us : List TokenModel) (name : List ℕ) (t t' : ℕ)
+    → s ≡ r ++ plain us ∷ [] → path ≡ above ++ name ∷ [] → t' ≤ t + (length us + 1) * (length name + 1)
+    → t' + full_cost r above ≤ t + full_cost s path
 end_cost s r path above us name t t' e q paid =
     let w : tokens_with_ends s ≡ tokens_with_ends r + (length us + 1) = ap tokens_with_ends e ∙ tokens_with_ends-end r us in
     let z : bytes_with_ends path ≡ bytes_with_ends above + (length name + 1) = ap bytes_with_ends q ∙ bytes_with_ends-end above name in
@@ -29,11 +35,13 @@ end_cost s r path above us name t t' e q paid =
     product u n a r w z t t' e f h = rw (e, f) (omega arith)
 
 -- the same where nothing is before the segment
-pub last_cost : (path above : List (List ℕ)) (us : List TokenModel) (name : List ℕ) (t t' : ℕ) → path ≡ above ++ name ∷ [] → t' ≤ t + (length us + 1) * (length name + 1) → t' ≤ t + full_cost (plain us ∷ []) path
+pub last_cost : (path above : List (List ℕ)) (us : List TokenModel) (name : List ℕ) (t t' : ℕ) → path ≡ above ++ name ∷ []
+    → t' ≤ t + (length us + 1) * (length name + 1) → t' ≤ t + full_cost (plain us ∷ []) path
 last_cost path above us name t t' q paid = omega (arith, end_cost (plain us ∷ []) [] path above us name t t' refl q paid)
 
 -- without the last of the path's segments
-pub above_cost : (s : List SegmentModel) (path above : List (List ℕ)) (name : List ℕ) (t t' : ℕ) → path ≡ above ++ name ∷ [] → t' ≤ t + full_cost s above → t' ≤ t + full_cost s path
+pub above_cost : (s : List SegmentModel) (path above : List (List ℕ)) (name : List ℕ) (t t' : ℕ) → path ≡ above ++ name ∷ []
+    → t' ≤ t + full_cost s above → t' ≤ t + full_cost s path
 above_cost s path above name t t' q paid =
     let z : bytes_with_ends path ≡ bytes_with_ends above + (length name + 1) = ap bytes_with_ends q ∙ bytes_with_ends-end above name in
     product (tokens_with_ends s) (bytes_with_ends above) (length name) (bytes_with_ends path) t t' z paid
@@ -41,17 +49,26 @@ above_cost s path above name t t' q paid =
     product : (w a n z t t' : ℕ) → z ≡ a + (n + 1) → t' ≤ t + w * a → t' ≤ t + w * z
     product w a n z t t' f h = rw f (omega arith)
 
-pub end_segment : (all rest : List Segment) (s : Segment) (tokens : Tokens) → all ≡ rest ++ s ∷ [] → s ≡ Plain tokens → map segment_model all ≡ map segment_model rest ++ plain (tokens_model tokens) ∷ []
+-- the models of segments that end with a plain one
+pub end_segment : (all rest : List Segment) (s : Segment) (tokens : Tokens) → all ≡ rest ++ s ∷ [] → s ≡ Plain tokens
+    → map segment_model all ≡ map segment_model rest ++ plain (tokens_model tokens) ∷ []
 end_segment all rest s tokens e is =
-    ap (map segment_model) e ∙ map-append segment_model rest (s ∷ []) ∙ ap (λ (t : Segment). map segment_model rest ++ segment_model t ∷ []) is
+    ap (map segment_model) e ∙ map-append segment_model rest (s ∷ [])
+    ∙ ap (λ (t : Segment). map segment_model rest ++ segment_model t ∷ []) is
 
-pub end_double : (all rest : List Segment) (s : Segment) → all ≡ rest ++ s ∷ [] → s ≡ DoubleStar → map segment_model all ≡ map segment_model rest ++ double_star ∷ []
-end_double all rest s e is = ap (map segment_model) e ∙ map-append segment_model rest (s ∷ []) ∙ ap (λ (t : Segment). map segment_model rest ++ segment_model t ∷ []) is
+-- the models of segments that end with a double star
+pub end_double : (all rest : List Segment) (s : Segment) → all ≡ rest ++ s ∷ [] → s ≡ DoubleStar
+    → map segment_model all ≡ map segment_model rest ++ double_star ∷ []
+end_double all rest s e is = ap (map segment_model) e ∙ map-append segment_model rest (s ∷ [])
+    ∙ ap (λ (t : Segment). map segment_model rest ++ segment_model t ∷ []) is
 
 -- the last segment at the path's last, and then what is before it at the segments above
-pub spell_cost : (s r : List SegmentModel) (path above : List (List ℕ)) (us : List TokenModel) (name : List ℕ) (t m t' : ℕ) → s ≡ r ++ plain us ∷ [] → path ≡ above ++ name ∷ [] → m ≤ t + (length us + 1) * (length name + 1) → t' ≤ m + full_cost r above → t' ≤ t + full_cost s path
+pub spell_cost : (s r : List SegmentModel) (path above : List (List ℕ)) (us : List TokenModel) (name : List ℕ) (t m t' : ℕ)
+    → s ≡ r ++ plain us ∷ [] → path ≡ above ++ name ∷ [] → m ≤ t + (length us + 1) * (length name + 1) → t' ≤ m + full_cost r above
+    → t' ≤ t + full_cost s path
 spell_cost s r path above us name t m t' e q paid more = omega (arith, end_cost s r path above us name t m e q paid)
 
+-- no segments have no models
 pub no_segment : (all : List Segment) → length all ≡ 0 → map segment_model all ≡ []
 no_segment [] e = refl
 no_segment (s ∷ all) e = absurd (omega arith)

@@ -1,5 +1,6 @@
 -- How tokens fit a segment of a path, from its front and from its end.
-use Rattle.std.proofs.Common.{take, ◌-◌, map, length, nat_eq, bytes_eq, eq-eqb, ◌∙◌, ◌≡◌, ◌↔◌, ◌⊎◌, IsTrue, IsFalse, ℕ, true, false, List, [], ◌∷◌, ◌++◌, inl, inr, refl, sym, subst, ap}
+use Rattle.std.proofs.Common.{take, ◌-◌, map, length, nat_eq, bytes_eq, eq-eqb, ◌∙◌, ◌≡◌, ◌↔◌, ◌⊎◌, IsTrue, IsFalse, ℕ, true, false}
+use Rattle.std.proofs.Common.{List, [], ◌∷◌, ◌++◌, inl, inr, refl, sym, subst, ap}
 use Rattle.std.specs.List.{ends_with}
 use Rattle.std.proofs.lemmas.Bool.{false≢true, eqb-true}
 use Rattle.std.proofs.lemmas.Bool.Decides.{Decides-eqb}
@@ -8,27 +9,36 @@ use Rattle.lc_glob.specs.Tokens.{TokenModel, literal, any_byte, star, class, tak
 use Rattle.lc_glob.specs.Fits.{Fits}
 use Rattle.lc_glob.proofs.After.{after_none, after_more, after_cut, after_empty, after_end}
 
+-- a token that is no star fits no empty name
 pub fits_one_empty : (u : TokenModel) (us : List TokenModel) → is_star u ≡ false → Fits (u ∷ us) [] → ⊥
 fits_one_empty star us e h = cc
 fits_one_empty (literal c) us e h = h
 fits_one_empty any_byte us e h = h
 fits_one_empty (class n rs) us e h = h
 
-pub fits_star : (u : TokenModel) (us : List TokenModel) (x : ℕ) (xs : List ℕ) → is_star u ≡ true → Fits (u ∷ us) (x ∷ xs) ↔ (Fits us (x ∷ xs) ⊎ Fits (u ∷ us) xs)
-fits_star star us x xs e = (after_cut (Fits us) x xs, λ w. elim w [ inl f ↦ after_none (Fits us) (x ∷ xs) f | inr f ↦ after_more (Fits us) x xs f ])
+-- a star takes no byte, or one and stays
+pub fits_star : (u : TokenModel) (us : List TokenModel) (x : ℕ) (xs : List ℕ) → is_star u ≡ true
+    → Fits (u ∷ us) (x ∷ xs) ↔ (Fits us (x ∷ xs) ⊎ Fits (u ∷ us) xs)
+fits_star star us x xs e =
+    (after_cut (Fits us) x xs, λ w. elim w [ inl f ↦ after_none (Fits us) (x ∷ xs) f | inr f ↦ after_more (Fits us) x xs f ])
 fits_star (literal c) us x xs e = cc
 fits_star any_byte us x xs e = cc
 fits_star (class n rs) us x xs e = cc
 
-pub fits_one : (u : TokenModel) (us : List TokenModel) (x : ℕ) (xs : List ℕ) → is_star u ≡ false → Fits (u ∷ us) (x ∷ xs) ↔ (IsTrue (takes u x) × Fits us xs)
+-- another token takes one byte, and the rest fits the rest
+pub fits_one : (u : TokenModel) (us : List TokenModel) (x : ℕ) (xs : List ℕ) → is_star u ≡ false
+    → Fits (u ∷ us) (x ∷ xs) ↔ (IsTrue (takes u x) × Fits us xs)
 fits_one star us x xs e = cc
 fits_one (literal c) us x xs e = (λ h. h, λ h. h)
 fits_one any_byte us x xs e = (λ h. h, λ h. h)
 fits_one (class n rs) us x xs e = (λ h. h, λ h. h)
 
-pub when_one : (tokens us : List TokenModel) (u : TokenModel) (name : List ℕ) (x : ℕ) (xs : List ℕ) → tokens ≡ u ∷ us → name ≡ x ∷ xs → is_star u ≡ false → Fits tokens name ↔ (IsTrue (takes u x) × Fits us xs)
+-- the same of a list and a name whose first are known
+pub when_one : (tokens us : List TokenModel) (u : TokenModel) (name : List ℕ) (x : ℕ) (xs : List ℕ) → tokens ≡ u ∷ us → name ≡ x ∷ xs
+    → is_star u ≡ false → Fits tokens name ↔ (IsTrue (takes u x) × Fits us xs)
 when_one tokens us u name x xs e n s =
-    subst (λ (l : List ℕ). Fits tokens l ↔ (IsTrue (takes u x) × Fits us xs)) (sym n) (subst (λ (l : List TokenModel). Fits l (x ∷ xs) ↔ (IsTrue (takes u x) × Fits us xs)) (sym e) (fits_one u us x xs s))
+    subst (λ (l : List ℕ). Fits tokens l ↔ (IsTrue (takes u x) × Fits us xs)) (sym n)
+    (subst (λ (l : List TokenModel). Fits l (x ∷ xs) ↔ (IsTrue (takes u x) × Fits us xs)) (sym e) (fits_one u us x xs s))
 
 -- a last token that is no star needs a byte
 no_end : (us : List TokenModel) (u : TokenModel) → is_star u ≡ false → Fits (us ++ u ∷ []) [] → ⊥
@@ -49,12 +59,14 @@ last_or : (xs : List ℕ) → (xs ≡ []) ⊎ ((front : List ℕ) × (x : ℕ) �
 last_or [] = inl refl
 last_or (y ∷ ys) = inr (put_front y ys (last_or ys))
   where
-    put_front : (y : ℕ) (ys : List ℕ) → (ys ≡ []) ⊎ ((front : List ℕ) × (x : ℕ) × (ys ≡ front ++ x ∷ [])) → (front : List ℕ) × (x : ℕ) × (y ∷ ys ≡ front ++ x ∷ [])
+    put_front : (y : ℕ) (ys : List ℕ) → (ys ≡ []) ⊎ ((front : List ℕ) × (x : ℕ) × (ys ≡ front ++ x ∷ []))
+        → (front : List ℕ) × (x : ℕ) × (y ∷ ys ≡ front ++ x ∷ [])
     put_front y ys (inl none) = ([], y, ap (λ (l : List ℕ). y ∷ l) none)
     put_front y ys (inr h) = (y ∷ h.0, h.1, ap (λ (l : List ℕ). y ∷ l) h.2)
 
 -- and it stands for the last of them
-pub fits_end : (us : List TokenModel) (u : TokenModel) (xs : List ℕ) (x : ℕ) → is_star u ≡ false → Fits (us ++ u ∷ []) (xs ++ x ∷ []) ↔ (Fits us xs × IsTrue (takes u x))
+pub fits_end : (us : List TokenModel) (u : TokenModel) (xs : List ℕ) (x : ℕ) → is_star u ≡ false
+    → Fits (us ++ u ∷ []) (xs ++ x ∷ []) ↔ (Fits us xs × IsTrue (takes u x))
 fits_end [] u [] x s = let one = fits_one u [] x [] s in (λ f. (tt, (one.0 f).0), λ h. one.1 (h.1, tt))
 fits_end [] u (y ∷ xs) x s = let one = fits_one u [] y (xs ++ x ∷ []) s in (λ f. absurd (beyond xs x (one.0 f).1), λ h. absurd h.0)
 fits_end (star ∷ us) u xs x s =
@@ -70,13 +82,15 @@ fits_end (class n rs ∷ us) u [] x s = (λ f. absurd (no_end us u s f.1), λ h.
 fits_end (class n rs ∷ us) u (y ∷ xs) x s = more_end (IsTrue (takes (class n rs) y)) _ _ _ (fits_end us u xs x s)
 
 -- the same of lists that are equal to such ones
-pub when_end : (tokens us : List TokenModel) (u : TokenModel) (segment xs : List ℕ) (x : ℕ) → tokens ≡ us ++ u ∷ [] → segment ≡ xs ++ x ∷ [] → is_star u ≡ false → Fits tokens segment ↔ (Fits us xs × IsTrue (takes u x))
+pub when_end : (tokens us : List TokenModel) (u : TokenModel) (segment xs : List ℕ) (x : ℕ) → tokens ≡ us ++ u ∷ []
+    → segment ≡ xs ++ x ∷ [] → is_star u ≡ false → Fits tokens segment ↔ (Fits us xs × IsTrue (takes u x))
 when_end tokens us u segment xs x e n s =
     subst (λ (l : List ℕ). Fits tokens l ↔ (Fits us xs × IsTrue (takes u x))) (sym n)
     (subst (λ (l : List TokenModel). Fits l (xs ++ x ∷ []) ↔ (Fits us xs × IsTrue (takes u x))) (sym e) (fits_end us u xs x s))
 
 -- where the last token does not stand for the last byte, whatever that is
-pub end_stuck : (tokens us : List TokenModel) (u : TokenModel) (segment : List ℕ) → tokens ≡ us ++ u ∷ [] → is_star u ≡ false → ((x : ℕ) (rest : List ℕ) → segment ≡ rest ++ x ∷ [] → IsFalse (takes u x)) → Fits tokens segment → ⊥
+pub end_stuck : (tokens us : List TokenModel) (u : TokenModel) (segment : List ℕ) → tokens ≡ us ++ u ∷ [] → is_star u ≡ false
+    → ((x : ℕ) (rest : List ℕ) → segment ≡ rest ++ x ∷ [] → IsFalse (takes u x)) → Fits tokens segment → ⊥
 end_stuck tokens us u segment e s never f = at_last (last_or segment) f
   where
     at_last : (segment ≡ []) ⊎ ((xs : List ℕ) × (x : ℕ) × (segment ≡ xs ++ x ∷ [])) → Fits tokens segment → ⊥
@@ -84,7 +98,8 @@ end_stuck tokens us u segment e s never f = at_last (last_or segment) f
     at_last (inr h) f = false≢true (sym (never h.1 h.0 h.2) ∙ ((when_end tokens us u segment h.0 h.1 e h.2 s).0 f).1)
 
 -- the same at the front
-pub front_stuck : (tokens us : List TokenModel) (u : TokenModel) (segment : List ℕ) → tokens ≡ u ∷ us → is_star u ≡ false → ((x : ℕ) (rest : List ℕ) → segment ≡ x ∷ rest → IsFalse (takes u x)) → Fits tokens segment → ⊥
+pub front_stuck : (tokens us : List TokenModel) (u : TokenModel) (segment : List ℕ) → tokens ≡ u ∷ us → is_star u ≡ false
+    → ((x : ℕ) (rest : List ℕ) → segment ≡ x ∷ rest → IsFalse (takes u x)) → Fits tokens segment → ⊥
 front_stuck tokens us u [] e s never f = fits_one_empty u us s (subst (λ (l : List TokenModel). Fits l []) e f)
 front_stuck tokens us u (x ∷ xs) e s never f = false≢true (sym (never x xs refl) ∙ ((when_one tokens us u (x ∷ xs) x xs e refl s).0 f).0)
 
@@ -99,6 +114,7 @@ fits_literals (l ∷ ls) (b ∷ bs) =
       λ e. let is : l ≡ b = cc in let more : bs ≡ ls = cc in (eq-eqb l b is, rest.1 more),
     )
 
+-- literals fit their own bytes and no others
 pub literals_decide : (ls bytes : List ℕ) → IsTrue (bytes_eq bytes ls) ↔ Fits (map literal ls) bytes
 literals_decide ls bytes =
     let same = bytes_eq-Decides bytes ls in let fits = fits_literals ls bytes in

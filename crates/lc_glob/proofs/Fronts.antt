@@ -8,21 +8,26 @@ use Rattle.lc_glob.specs.Tokens.{TokenModel}
 use Rattle.lc_glob.specs.Lists.{is_empty}
 use Rattle.lc_glob.specs.Reading.{ends_empty, without_last}
 
+-- a pattern ends with an empty part where the last part is empty and not the only one
 pub ends_last : (ps : List (List TokenModel)) (q : List TokenModel) → ends_empty (ps ++ q ∷ []) ≡ (not (is_empty ps) && is_empty q)
 ends_last [] q = refl
 ends_last (p ∷ []) q = refl
 ends_last (p ∷ r ∷ []) q = refl
 ends_last (p ∷ r ∷ s ∷ ps) q = ends_last (r ∷ s ∷ ps) q
 
+-- what stands before the last part
 pub last_off : (ps : List (List TokenModel)) (q : List TokenModel) → without_last (ps ++ q ∷ []) ≡ ps
 last_off [] q = refl
 last_off (p ∷ []) q = refl
 last_off (p ∷ r ∷ ps) q = ap (λ (l : List (List TokenModel)). p ∷ l) (last_off (r ∷ ps) q)
 
-pub ends_of : (all rest : List (Vec Token Global)) (last : Vec Token Global) (r : Bool) → all ≡ rest ++ last ∷ [] → (length rest ≡ 0 → ⊥) → r ≡ is_empty (part_model last) → r ≡ ends_empty (map part_model all)
+-- the test of the last part, asked of the parts as they were read, is that of the definition
+pub ends_of : (all rest : List (Vec Token Global)) (last : Vec Token Global) (r : Bool) → all ≡ rest ++ last ∷ []
+    → (length rest ≡ 0 → ⊥) → r ≡ is_empty (part_model last) → r ≡ ends_empty (map part_model all)
 ends_of all [] last r e some is = absurd (some refl)
 ends_of all (p ∷ ps) last r e some is =
-    is ∙ sym (ap (λ (l : List (Vec Token Global)). ends_empty (map part_model l)) e ∙ ap ends_empty (map-append part_model (p ∷ ps) (last ∷ [])) ∙ ends_last (map part_model (p ∷ ps)) (part_model last))
+    is ∙ sym (ap (λ (l : List (Vec Token Global)). ends_empty (map part_model l)) e
+    ∙ ap ends_empty (map-append part_model (p ∷ ps) (last ∷ [])) ∙ ends_last (map part_model (p ∷ ps)) (part_model last))
 
 kept_off : (all : List (Vec Token Global)) → map part_model (take (length all - 1) all) ≡ without_last (map part_model all)
 kept_off [] = refl
@@ -31,5 +36,7 @@ kept_off (p ∷ q ∷ ps) =
     let e : length (p ∷ q ∷ ps) - 1 ≡ suc (length (q ∷ ps) - 1) = omega arith in
     ap (λ (n : ℕ). map part_model (take n (p ∷ q ∷ ps))) e ∙ ap (λ (l : List (List TokenModel)). part_model p ∷ l) (kept_off (q ∷ ps))
 
-pub kept_part : (all new : List (Vec Token Global)) (n : ℕ) → new ≡ take n all → n ≡ length all - 1 → map part_model new ≡ without_last (map part_model all)
+-- the parts without the last, as they were read, are those of the definition
+pub kept_part : (all new : List (Vec Token Global)) (n : ℕ) → new ≡ take n all → n ≡ length all - 1
+    → map part_model new ≡ without_last (map part_model all)
 kept_part all new n e k = ap (map part_model) e ∙ ap (λ (m : ℕ). map part_model (take m all)) k ∙ kept_off all

@@ -54,7 +54,8 @@ double_one [] n = tt
 double_one (x ∷ path) n = tt
 
 -- they give the last name to that double star
-double_end : (s : List SegmentModel) (above : List (List ℕ)) (n : List ℕ) → ends_double s ≡ true → Spells s (above ++ n ∷ []) ↔ Leads s above
+double_end : (s : List SegmentModel) (above : List (List ℕ)) (n : List ℕ) → ends_double s ≡ true
+    → Spells s (above ++ n ∷ []) ↔ Leads s above
 double_end [] above n e = cc
 double_end (plain us ∷ []) above n e = cc
 double_end (double_star ∷ []) above n e = (λ h. (above, [], sym (append-nil above), tt), λ h. double_one above n)
@@ -74,7 +75,8 @@ beyond [] n h = h
 beyond (x ∷ path) n h = h
 
 -- and it fits the last of them
-pub plain_end : (r : List SegmentModel) (us : List TokenModel) (above : List (List ℕ)) (n : List ℕ) → Leads (r ++ plain us ∷ []) (above ++ n ∷ []) ↔ (Leads r above × Fits us n)
+pub plain_end : (r : List SegmentModel) (us : List TokenModel) (above : List (List ℕ)) (n : List ℕ)
+    → Leads (r ++ plain us ∷ []) (above ++ n ∷ []) ↔ (Leads r above × Fits us n)
 plain_end [] us [] n = (λ h. (tt, h.0), λ h. (h.1, tt))
 plain_end [] us (x ∷ above) n = (λ h. absurd (beyond above n h.1), λ h. absurd h.0)
 plain_end (plain vs ∷ r) us [] n = (λ h. absurd (plain_none r us h.1), λ h. absurd h.0)
@@ -90,12 +92,15 @@ plain_end (double_star ∷ r) us above n =
     )
 
 -- the same of lists that are equal to such ones
-pub when_end : (s r : List SegmentModel) (us : List TokenModel) (path above : List (List ℕ)) (n : List ℕ) → s ≡ r ++ plain us ∷ [] → path ≡ above ++ n ∷ [] → Leads s path ↔ (Leads r above × Fits us n)
+pub when_end : (s r : List SegmentModel) (us : List TokenModel) (path above : List (List ℕ)) (n : List ℕ) → s ≡ r ++ plain us ∷ []
+    → path ≡ above ++ n ∷ [] → Leads s path ↔ (Leads r above × Fits us n)
 when_end s r us path above n e q =
     subst (λ (l : List (List ℕ)). Leads s l ↔ (Leads r above × Fits us n)) (sym q)
     (subst (λ (l : List SegmentModel). Leads l (above ++ n ∷ []) ↔ (Leads r above × Fits us n)) (sym e) (plain_end r us above n))
 
-pub when_none : (s r : List SegmentModel) (us : List TokenModel) (path : List (List ℕ)) → s ≡ r ++ plain us ∷ [] → path ≡ [] → Leads s path → ⊥
+-- segments with a plain one at their end lead to no empty path
+pub when_none : (s r : List SegmentModel) (us : List TokenModel) (path : List (List ℕ)) → s ≡ r ++ plain us ∷ [] → path ≡ []
+    → Leads s path → ⊥
 when_none s r us path e q h = plain_none r us (subst (Leads (r ++ plain us ∷ [])) q (subst (λ (l : List SegmentModel). Leads l path) e h))
 
 -- what tells whether the segments spell the names, by the last of both
@@ -103,17 +108,26 @@ not_spelled : (above : List (List ℕ)) (n : List ℕ) → Spells [] (above ++ n
 not_spelled [] n h = h
 not_spelled (x ∷ above) n h = h
 
-pub none_spelled : (s : List SegmentModel) (path above : List (List ℕ)) (n : List ℕ) → s ≡ [] → path ≡ above ++ n ∷ [] → IsTrue false ↔ Spells s path
-none_spelled s path above n e q =
-    (λ h. absurd (false≢true h), λ h. absurd (not_spelled above n (subst (λ (l : List SegmentModel). Spells l (above ++ n ∷ [])) e (subst (Spells s) q h))))
+-- no segments spell no path that has a name
+pub none_spelled : (s : List SegmentModel) (path above : List (List ℕ)) (n : List ℕ) → s ≡ [] → path ≡ above ++ n ∷ []
+    → IsTrue false ↔ Spells s path
+none_spelled s path above n e q = (
+  λ h. absurd (false≢true h),
+  λ h. absurd (not_spelled above n
+      (subst (λ (l : List SegmentModel). Spells l (above ++ n ∷ [])) e (subst (Spells s) q h))),
+)
 
-pub double_spelled : (T : Type 0) (s r : List SegmentModel) (path above : List (List ℕ)) (n : List ℕ) → s ≡ r ++ double_star ∷ [] → path ≡ above ++ n ∷ [] → T ↔ Leads s above → T ↔ Spells s path
+-- a double star at the end spells a path where the segments lead to what stands above its last name
+pub double_spelled : (T : Type 0) (s r : List SegmentModel) (path above : List (List ℕ)) (n : List ℕ) → s ≡ r ++ double_star ∷ []
+    → path ≡ above ++ n ∷ [] → T ↔ Leads s above → T ↔ Spells s path
 double_spelled T s r path above n e q t =
     let last : ends_double s ≡ true = ap ends_double e ∙ ends_at r double_star in
     let same = double_end s above n last in
     (λ h. subst (Spells s) (sym q) (same.1 (t.0 h)), λ h. t.1 (same.0 (subst (Spells s) q h)))
 
-pub plain_spelled : (s r : List SegmentModel) (us : List TokenModel) (path above : List (List ℕ)) (n : List ℕ) → s ≡ r ++ plain us ∷ [] → path ≡ above ++ n ∷ [] → Spells s path ↔ (Leads r above × Fits us n)
+-- a plain segment at the end spells a path where the others lead to what stands above, and it fits the last name
+pub plain_spelled : (s r : List SegmentModel) (us : List TokenModel) (path above : List (List ℕ)) (n : List ℕ) → s ≡ r ++ plain us ∷ []
+    → path ≡ above ++ n ∷ [] → Spells s path ↔ (Leads r above × Fits us n)
 plain_spelled s r us path above n e q =
     let first = spells_leads s path (ap ends_double e ∙ ends_at r (plain us)) in
     let then = when_end s r us path above n e q in

@@ -1,5 +1,6 @@
 -- A set of bytes as the bits of words.
-use Rattle.std.proofs.Common.{◌≡◌, ◌<◌, ◌≤◌, ◌+◌, ◌*◌, ◌-◌, ◌/◌, ◌%◌, ◌^◌, ℕ, zero, suc, Bool, true, false, not, ◌&&◌, nat_eq, bit_and, get_or, List, [], ◌∷◌, replicate, refl, sym, ◌∙◌, ap, subst, arith}
+use Rattle.std.proofs.Common.{◌≡◌, ◌<◌, ◌≤◌, ◌+◌, ◌*◌, ◌-◌, ◌/◌, ◌%◌, ◌^◌, ℕ, zero, suc, Bool, true, false, not, ◌&&◌, nat_eq, bit_and}
+use Rattle.std.proofs.Common.{get_or, List, [], ◌∷◌, replicate, refl, sym, ◌∙◌, ap, subst, arith}
 use Rattle.std.specs.Int.{bit_at}
 use Rattle.std.proofs.lemmas.Nat.Bits.{bit_at_lowest, bit_at-suc, shr_and_one}
 use Rattle.std.proofs.Math.Nat.{div-add-mod, mod-lt}
@@ -10,6 +11,7 @@ use Rattle.lc_glob.specs.Tokens.{in_ranges, in_set}
 use Rattle.std.specs.Int.{from_bool}
 use Rattle.lc_glob.specs.Words.{word_of, words_of, AreMembers}
 
+-- a word of no bits is 0
 pub word_none : (test : ℕ → Bool) (low : ℕ) → word_of test low 0 ≡ 0
 unfolding word_of
 word_none test low = refl
@@ -30,7 +32,8 @@ word_fits test low (suc n) =
     rw (word_more test low n, double) (omega (arith, rest, bit_below (test low)))
 
 -- one bit more
-pub word_step : (test : ℕ → Bool) (low left m word : ℕ) → left ≡ m + 1 → left ≤ 64 → word ≡ word_of test (low + left) (64 - left) → 2 * word + from_bool (test (low + m)) ≡ word_of test (low + m) (64 - m)
+pub word_step : (test : ℕ → Bool) (low left m word : ℕ) → left ≡ m + 1 → left ≤ 64 → word ≡ word_of test (low + left) (64 - left)
+    → 2 * word + from_bool (test (low + m)) ≡ word_of test (low + m) (64 - m)
 word_step test low left m word e within is =
     let next : low + left ≡ suc (low + m) = omega arith in
     let more : 64 - m ≡ suc (64 - left) = omega arith in
@@ -38,7 +41,8 @@ word_step test low left m word e within is =
     ∙ sym (word_more test (low + m) (64 - left)) ∙ ap (word_of test (low + m)) (sym more)
 
 -- which fits a word
-pub word_room : (test : ℕ → Bool) (low left m word : ℕ) → left ≡ m + 1 → left ≤ 64 → word ≡ word_of test (low + left) (64 - left) → 2 * word + from_bool (test (low + m)) < 2 ^ 64
+pub word_room : (test : ℕ → Bool) (low left m word : ℕ) → left ≡ m + 1 → left ≤ 64 → word ≡ word_of test (low + left) (64 - left)
+    → 2 * word + from_bool (test (low + m)) < 2 ^ 64
 word_room test low left m word e within is =
     let fits = word_fits test (low + m) (64 - m) in
     let most : 2 ^ (64 - m) ≤ 2 ^ 64 = pow_mono {i = 64 - m} {j = 64} (omega arith) in
@@ -56,11 +60,14 @@ lowest w false = omega arith
 word_bit : (test : ℕ → Bool) (k low n : ℕ) → k < n → bit_at (word_of test low n) k ≡ from_bool (test (low + k))
 word_bit test k low zero l = absurd (omega arith)
 word_bit test zero low (suc n) l =
-    rw (word_more test low n) (bit_at_lowest (2 * word_of test (suc low) n + from_bool (test low)) ∙ lowest (word_of test (suc low) n) (test low) ∙ ap (λ (m : ℕ). from_bool (test m)) (omega arith))
+    rw (word_more test low n) (bit_at_lowest (2 * word_of test (suc low) n + from_bool (test low)) ∙ lowest (word_of test (suc low) n)
+    (test low) ∙ ap (λ (m : ℕ). from_bool (test m)) (omega arith))
 word_bit test (suc k) low (suc n) l =
     let next : suc low + k ≡ low + suc k = omega arith in
     rw (word_more test low n)
-    (bit_at-suc (2 * word_of test (suc low) n + from_bool (test low)) k ∙ ap (λ (m : ℕ). bit_at m k) (at_bit (word_of test (suc low) n) (test low)) ∙ word_bit test k (suc low) n (omega arith) ∙ ap (λ (m : ℕ). from_bool (test m)) next)
+    (bit_at-suc (2 * word_of test (suc low) n + from_bool (test low)) k ∙ ap (λ (m : ℕ). bit_at m k)
+    (at_bit (word_of test (suc low) n) (test low)) ∙ word_bit test k (suc low) n (omega arith)
+    ∙ ap (λ (m : ℕ). from_bool (test m)) next)
 
 word_there : (ranges : List (ℕ × ℕ)) (q : ℕ) → q < 4 → get_or (words_of ranges) q 0 ≡ word_of (in_ranges ranges) (64 * q) 64
 word_there ranges zero l = refl
@@ -74,16 +81,20 @@ bit_true true = refl
 bit_true false = refl
 
 -- the bit of a byte tells whether the ranges have it
-pub has_bit : (ranges : List (ℕ × ℕ)) (words : List ℕ) (b : ℕ) → words ≡ words_of ranges → b < 256 → nat_eq (bit_and (get_or words (b / 64) 0 / 2 ^ (b % 64)) 1) 1 ≡ in_ranges ranges b
+pub has_bit : (ranges : List (ℕ × ℕ)) (words : List ℕ) (b : ℕ) → words ≡ words_of ranges → b < 256
+    → nat_eq (bit_and (get_or words (b / 64) 0 / 2 ^ (b % 64)) 1) 1 ≡ in_ranges ranges b
 has_bit ranges words b is fits =
-    let there : get_or words (b / 64) 0 ≡ word_of (in_ranges ranges) (64 * (b / 64)) 64 = ap (λ (l : List ℕ). get_or l (b / 64) 0) is ∙ word_there ranges (b / 64) (omega arith) in
+    let there : get_or words (b / 64) 0 ≡ word_of (in_ranges ranges) (64 * (b / 64)) 64 = ap (λ (l : List ℕ). get_or l (b / 64) 0) is
+    ∙ word_there ranges (b / 64) (omega arith) in
     let at : bit_and (get_or words (b / 64) 0 / 2 ^ (b % 64)) 1 ≡ from_bool (in_ranges ranges b) =
-    shr_and_one (get_or words (b / 64) 0) (b % 64) ∙ ap (λ (n : ℕ). bit_at n (b % 64)) there ∙ word_bit (in_ranges ranges) (b % 64) (64 * (b / 64)) 64 (mod-lt b (omega arith))
+    shr_and_one (get_or words (b / 64) 0) (b % 64) ∙ ap (λ (n : ℕ). bit_at n (b % 64)) there ∙ word_bit (in_ranges ranges) (b % 64)
+    (64 * (b / 64)) 64 (mod-lt b (omega arith))
     ∙ ap (λ (n : ℕ). from_bool (in_ranges ranges n)) (div-add-mod b 64) in
     ap (λ (n : ℕ). nat_eq n 1) at ∙ bit_true (in_ranges ranges b)
 
 -- a set's answer, for a byte that is no slash
-pub set_takes : (b : ℕ) (negated has member : Bool) → (b ≡ 47 → ⊥) → has ≡ member → not (beq negated has) ≡ (not (nat_eq b 47) && in_set negated member)
+pub set_takes : (b : ℕ) (negated has member : Bool) → (b ≡ 47 → ⊥) → has ≡ member
+    → not (beq negated has) ≡ (not (nat_eq b 47) && in_set negated member)
 set_takes b negated has member none e =
     let s : nat_eq b 47 ≡ false = false_from_ne_true _ (λ t. none (eqb-true b 47 t)) in
     subst (λ (t : Bool). not (beq negated has) ≡ (not t && in_set negated member)) (sym s) (at negated has member e)
@@ -103,13 +114,21 @@ word_same t u low (suc n) same =
     ∙ ap (λ (b : Bool). 2 * word_of u (suc low) n + from_bool b) (same low (omega arith) (omega arith))
     ∙ sym (word_more u low n)
 
-pub member_words : (ranges : List (ℕ × ℕ)) (members : List Bool) → AreMembers (in_ranges ranges) members → word_of (λ b. get_or members b false) 0 64 ∷ word_of (λ b. get_or members b false) 64 64 ∷ word_of (λ b. get_or members b false) 128 64 ∷ word_of (λ b. get_or members b false) 192 64 ∷ [] ≡ words_of ranges
+-- the four words of the members are those of the ranges
+pub member_words : (ranges : List (ℕ × ℕ)) (members : List Bool) → AreMembers (in_ranges ranges) members
+    → word_of (λ b. get_or members b false) 0 64 ∷ word_of (λ b. get_or members b false) 64 64 ∷ word_of
+    (λ b. get_or members b false) 128 64 ∷ word_of (λ b. get_or members b false) 192 64 ∷ [] ≡ words_of ranges
 member_words ranges members told =
-    let same = λ (low : ℕ) (fits : low ≤ 192). word_same (λ b. get_or members b false) (in_ranges ranges) low 64 (λ k l h. told k (omega arith)) in
-    ap (λ (w : ℕ). w ∷ word_of (λ b. get_or members b false) 64 64 ∷ word_of (λ b. get_or members b false) 128 64 ∷ word_of (λ b. get_or members b false) 192 64 ∷ []) (same 0 (omega arith))
-    ∙ ap (λ (w : ℕ). word_of (in_ranges ranges) 0 64 ∷ w ∷ word_of (λ b. get_or members b false) 128 64 ∷ word_of (λ b. get_or members b false) 192 64 ∷ []) (same 64 (omega arith))
-    ∙ ap (λ (w : ℕ). word_of (in_ranges ranges) 0 64 ∷ word_of (in_ranges ranges) 64 64 ∷ w ∷ word_of (λ b. get_or members b false) 192 64 ∷ []) (same 128 (omega arith))
-    ∙ ap (λ (w : ℕ). word_of (in_ranges ranges) 0 64 ∷ word_of (in_ranges ranges) 64 64 ∷ word_of (in_ranges ranges) 128 64 ∷ w ∷ []) (same 192 (omega arith))
+    let same = λ (low : ℕ) (fits : low ≤ 192). word_same (λ b. get_or members b false) (in_ranges ranges) low 64
+    (λ k l h. told k (omega arith)) in
+    ap (λ (w : ℕ). w ∷ word_of (λ b. get_or members b false) 64 64 ∷ word_of (λ b. get_or members b false) 128 64 ∷ word_of
+    (λ b. get_or members b false) 192 64 ∷ []) (same 0 (omega arith))
+    ∙ ap (λ (w : ℕ). word_of (in_ranges ranges) 0 64 ∷ w ∷ word_of (λ b. get_or members b false) 128 64 ∷ word_of
+    (λ b. get_or members b false) 192 64 ∷ []) (same 64 (omega arith))
+    ∙ ap (λ (w : ℕ). word_of (in_ranges ranges) 0 64 ∷ word_of (in_ranges ranges) 64 64 ∷ w ∷ word_of
+    (λ b. get_or members b false) 192 64 ∷ []) (same 128 (omega arith))
+    ∙ ap (λ (w : ℕ). word_of (in_ranges ranges) 0 64 ∷ word_of (in_ranges ranges) 64 64 ∷ word_of (in_ranges ranges) 128 64 ∷ w ∷ [])
+    (same 192 (omega arith))
 
 -- a table of no byte
 pub no_member : (n b : ℕ) → get_or (replicate n false) b false ≡ false

@@ -27,7 +27,8 @@ always = (λ h. tt, λ h. refl)
 never : Decides false ⊥
 never = (λ h. absurd (cc), λ h. absurd h)
 
-rest_decides : {A : Type 0} (test : List A → Bool) (P : List A → Type 0) → ((l : List A) → Decides (test l) (P l)) → (xs : List A) → Decides (some_rest test xs) (After P xs)
+rest_decides : {A : Type 0} (test : List A → Bool) (P : List A → Type 0) → ((l : List A) → Decides (test l) (P l)) → (xs : List A)
+    → Decides (some_rest test xs) (After P xs)
 rest_decides test P d [] = like_decides (test []) (after_none P []) (after_empty P) (d [])
 rest_decides test P d (x ∷ xs) =
     like_decides (test (x ∷ xs) || some_rest test xs)
@@ -43,11 +44,13 @@ fits_decides [] [] = always
 fits_decides [] (b ∷ bs) = never
 fits_decides (star ∷ us) name = rest_decides (fits us) (Fits us) (fits_decides us) name
 fits_decides (literal c ∷ us) [] = never
-fits_decides (literal c ∷ us) (b ∷ bs) = and_decides (takes (literal c) b) (fits us bs) (true_decides (takes (literal c) b)) (fits_decides us bs)
+fits_decides (literal c ∷ us) (b ∷ bs) =
+    and_decides (takes (literal c) b) (fits us bs) (true_decides (takes (literal c) b)) (fits_decides us bs)
 fits_decides (any_byte ∷ us) [] = never
 fits_decides (any_byte ∷ us) (b ∷ bs) = and_decides (takes any_byte b) (fits us bs) (true_decides (takes any_byte b)) (fits_decides us bs)
 fits_decides (class n rs ∷ us) [] = never
-fits_decides (class n rs ∷ us) (b ∷ bs) = and_decides (takes (class n rs) b) (fits us bs) (true_decides (takes (class n rs) b)) (fits_decides us bs)
+fits_decides (class n rs ∷ us) (b ∷ bs) =
+    and_decides (takes (class n rs) b) (fits us bs) (true_decides (takes (class n rs) b)) (fits_decides us bs)
 
 spells_decides : (segments : List SegmentModel) (path : List (List ℕ)) → Decides (spells segments path) (Spells segments path)
 spells_decides [] [] = always
@@ -66,12 +69,14 @@ no_end : (us : List TokenModel) (above : List (List ℕ)) (name : List ℕ) → 
 no_end us [] name e = cc
 no_end us (a ∷ above) name e = cc
 
-one_end : (us : List TokenModel) (n : List ℕ) (above : List (List ℕ)) (name : List ℕ) → n ∷ [] ≡ above ++ name ∷ [] → Fits us name → Fits us n
+one_end : (us : List TokenModel) (n : List ℕ) (above : List (List ℕ)) (name : List ℕ) → n ∷ [] ≡ above ++ name ∷ [] → Fits us name
+    → Fits us n
 one_end us n [] name e f = subst (Fits us) (cc) f
 one_end us n (a ∷ []) name e f = cc
 one_end us n (a ∷ b ∷ above) name e f = cc
 
-end_below : (us : List TokenModel) (n m : List ℕ) (ns above : List (List ℕ)) (name : List ℕ) → n ∷ m ∷ ns ≡ above ++ name ∷ [] → Fits us name → EndFits us (m ∷ ns)
+end_below : (us : List TokenModel) (n m : List ℕ) (ns above : List (List ℕ)) (name : List ℕ) → n ∷ m ∷ ns ≡ above ++ name ∷ []
+    → Fits us name → EndFits us (m ∷ ns)
 end_below us n m ns [] name e f = cc
 end_below us n m ns (a ∷ above) name e f = (above, name, (cc), f)
 
@@ -79,7 +84,8 @@ name_decides : (us : List TokenModel) (path : List (List ℕ)) → Decides (fits
 name_decides us [] = (λ h. absurd (cc), λ h. absurd (no_end us h.0 h.1 h.2))
 name_decides us (n ∷ []) = like_decides (fits us n) (λ f. ([], n, refl, f)) (λ h. one_end us n h.0 h.1 h.2 h.3) (fits_decides us n)
 name_decides us (n ∷ m ∷ ns) =
-    like_decides (fits_last_name us (m ∷ ns)) (λ h. (n ∷ h.0, h.1, ap (λ (l : List (List ℕ)). n ∷ l) h.2, h.3)) (λ h. end_below us n m ns h.0 h.1 h.2 h.3) (name_decides us (m ∷ ns))
+    like_decides (fits_last_name us (m ∷ ns)) (λ h. (n ∷ h.0, h.1, ap (λ (l : List (List ℕ)). n ∷ l) h.2, h.3))
+    (λ h. end_below us n m ns h.0 h.1 h.2 h.3) (name_decides us (m ∷ ns))
 
 last_decides : (segments : List SegmentModel) (path : List (List ℕ)) → Decides (fits_last segments path) (FitsLast segments path)
 last_decides [] path = never
@@ -87,7 +93,8 @@ last_decides (plain us ∷ []) path = name_decides us path
 last_decides (plain us ∷ s ∷ r) path = never
 last_decides (double_star ∷ r) path = never
 
-segments_decide : (anchored : Bool) (segments : List SegmentModel) (path : List (List ℕ)) → Decides (segments_match anchored segments path) (SegmentsMatch anchored segments path)
+segments_decide : (anchored : Bool) (segments : List SegmentModel) (path : List (List ℕ))
+    → Decides (segments_match anchored segments path) (SegmentsMatch anchored segments path)
 segments_decide false segments path = last_decides segments path
 segments_decide true segments path = spells_decides segments path
 
@@ -100,6 +107,7 @@ allows true true = (λ h. λ t. refl, λ h. refl)
 allows true false = (λ h. absurd (cc), λ h. h refl)
 allows false d = (λ h. λ t. absurd (cc), λ h. refl)
 
+-- the test decides the relation
 pub match_decides : (p : PatternModel) (path : List ℕ) (is_dir : Bool) → Decides (is_match p path is_dir) (Matches p path is_dir)
 unfolding is_match
 match_decides p path is_dir =
@@ -109,5 +117,6 @@ match_decides p path is_dir =
     (segments_decide p.is_anchored p.segments (segments_of path)))
 
 -- what tells whether a pattern matches is the test
-pub decided : (p : PatternModel) (path : List ℕ) (is_dir answer : Bool) → Decides answer (Matches p path is_dir) → answer ≡ is_match p path is_dir
+pub decided : (p : PatternModel) (path : List ℕ) (is_dir answer : Bool) → Decides answer (Matches p path is_dir)
+    → answer ≡ is_match p path is_dir
 decided p path is_dir answer d = one_answer answer (is_match p path is_dir) d (match_decides p path is_dir)

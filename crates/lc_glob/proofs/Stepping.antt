@@ -1,5 +1,6 @@
 -- Trying a star's cuts from the shortest on, with one place to go back to.
-use Rattle.std.proofs.Common.{◌≤◌, ◌+◌, ◌*◌, arith, length, Some, None, Option, ◌≡◌, ◌↔◌, ◌⊎◌, IsTrue, map, ℕ, true, false, List, [], ◌∷◌, inl, inr, refl, sym, ◌∙◌, subst, ap}
+use Rattle.std.proofs.Common.{◌≤◌, ◌+◌, ◌*◌, arith, length, Some, None, Option, ◌≡◌, ◌↔◌, ◌⊎◌, IsTrue, map, ℕ, true, false, List, []}
+use Rattle.std.proofs.Common.{◌∷◌, inl, inr, refl, sym, ◌∙◌, subst, ap}
 use Rattle.lc_glob.specs.Tokens.{TokenModel, literal, any_byte, star, class, takes, is_star}
 use Rattle.lc_glob.specs.Fits.{Fits}
 use Rattle.std.proofs.lemmas.List.{length-map}
@@ -12,9 +13,11 @@ use Rattle.lc_glob.specs.Views.{token_model}
 use Rattle.lc_glob.specs.declared.match_segment.Place.{Place}
 
 -- what comes after a byte that is taken
-star_drop : (us : List TokenModel) (u : TokenModel) (x : ℕ) (xs : List ℕ) → is_star u ≡ false → Fits (star ∷ u ∷ us) (x ∷ xs) → Fits (star ∷ us) xs
+star_drop : (us : List TokenModel) (u : TokenModel) (x : ℕ) (xs : List ℕ) → is_star u ≡ false → Fits (star ∷ u ∷ us) (x ∷ xs)
+    → Fits (star ∷ us) xs
 star_drop us u x xs s h = after_drop (Fits (u ∷ us)) (Fits us) (fits_one_empty u us s) (λ y ys f. ((fits_one u us y ys s).0 f).1) x xs h
 
+-- the only token that is a star is the star
 pub star_is : (u : TokenModel) → is_star u ≡ true → u ≡ star
 star_is star e = refl
 star_is (literal c) e = cc
@@ -40,12 +43,14 @@ abbrev pub IsWithin : Option Place → ℕ → Type 0
 IsWithin None n = Unit {0}
 IsWithin (Some b) n = length b.tokens.now ≤ n
 
-later_fits : (back : Option Place) (us : List TokenModel) (name : List ℕ) → Covers back (star ∷ us) name → LaterOf back → Fits (star ∷ us) name
+later_fits : (back : Option Place) (us : List TokenModel) (name : List ℕ) → Covers back (star ∷ us) name → LaterOf back
+    → Fits (star ∷ us) name
 later_fits None us name c l = absurd l
 later_fits (Some b) us name c l = after_after (Fits us) name (c (later_after (Fits (map token_model b.tokens.now)) b.segment.bytes.now l))
 
 -- at a star: it becomes the place to go back to
-pub at_star : (T : Type 0) (back : Option Place) (tokens us : List TokenModel) (u : TokenModel) (name : List ℕ) → tokens ≡ u ∷ us → is_star u ≡ true → Covers back tokens name → T ↔ (Fits tokens name ⊎ LaterOf back) → T ↔ (Fits us name ⊎ Later (Fits us) name)
+pub at_star : (T : Type 0) (back : Option Place) (tokens us : List TokenModel) (u : TokenModel) (name : List ℕ) → tokens ≡ u ∷ us
+    → is_star u ≡ true → Covers back tokens name → T ↔ (Fits tokens name ⊎ LaterOf back) → T ↔ (Fits us name ⊎ Later (Fits us) name)
 at_star T back tokens us u name e s c t =
     let is : tokens ≡ star ∷ us = e ∙ ap (λ (v : TokenModel). v ∷ us) (star_is u s) in
     let t' : T ↔ (Fits (star ∷ us) name ⊎ LaterOf back) = subst (λ (l : List TokenModel). T ↔ (Fits l name ⊎ LaterOf back)) is t in
@@ -55,20 +60,26 @@ at_star T back tokens us u name e s c t =
     )
 
 -- at a byte that is taken
-pub at_byte : (T : Type 0) (back : Option Place) (tokens us : List TokenModel) (u : TokenModel) (name : List ℕ) (x : ℕ) (xs : List ℕ) → tokens ≡ u ∷ us → name ≡ x ∷ xs → is_star u ≡ false → IsTrue (takes u x) → T ↔ (Fits tokens name ⊎ LaterOf back) → T ↔ (Fits us xs ⊎ LaterOf back)
+pub at_byte : (T : Type 0) (back : Option Place) (tokens us : List TokenModel) (u : TokenModel) (name : List ℕ) (x : ℕ) (xs : List ℕ)
+    → tokens ≡ u ∷ us → name ≡ x ∷ xs → is_star u ≡ false → IsTrue (takes u x) → T ↔ (Fits tokens name ⊎ LaterOf back)
+    → T ↔ (Fits us xs ⊎ LaterOf back)
 at_byte T back tokens us u name x xs e n s k t =
     let one = when_one tokens us u name x xs e n s in (
       λ h. elim (t.0 h) [ inl f ↦ inl (one.0 f).1 | inr l ↦ inr l ],
       λ w. t.1 (elim w [ inl f ↦ inl (one.1 (k, f)) | inr l ↦ inr l ]),
     )
 
-pub covers_byte : (back : Option Place) (tokens us : List TokenModel) (u : TokenModel) (name : List ℕ) (x : ℕ) (xs : List ℕ) → tokens ≡ u ∷ us → name ≡ x ∷ xs → is_star u ≡ false → Covers back tokens name → Covers back us xs
+-- a byte that its token takes leaves tokens and name that fit where they did
+pub covers_byte : (back : Option Place) (tokens us : List TokenModel) (u : TokenModel) (name : List ℕ) (x : ℕ) (xs : List ℕ)
+    → tokens ≡ u ∷ us → name ≡ x ∷ xs → is_star u ≡ false → Covers back tokens name → Covers back us xs
 covers_byte None tokens us u name x xs e n s c = tt
 covers_byte (Some b) tokens us u name x xs e n s c =
-    λ f. star_drop us u x xs s (subst (λ (l : List ℕ). Fits (star ∷ u ∷ us) l) n (subst (λ (l : List TokenModel). Fits (star ∷ l) name) e (c f)))
+    λ f. star_drop us u x xs s (subst (λ (l : List ℕ). Fits (star ∷ u ∷ us) l) n
+    (subst (λ (l : List TokenModel). Fits (star ∷ l) name) e (c f)))
 
 -- where the tokens here don't fit
-pub at_back : (T : Type 0) (us ts : List TokenModel) (b : List ℕ) (name : List ℕ) (x : ℕ) (H : Type 0) → name ≡ x ∷ b → ts ≡ us → (H → ⊥) → T ↔ (H ⊎ Later (Fits us) name) → T ↔ (Fits ts b ⊎ Later (Fits ts) b)
+pub at_back : (T : Type 0) (us ts : List TokenModel) (b : List ℕ) (name : List ℕ) (x : ℕ) (H : Type 0) → name ≡ x ∷ b → ts ≡ us
+    → (H → ⊥) → T ↔ (H ⊎ Later (Fits us) name) → T ↔ (Fits ts b ⊎ Later (Fits ts) b)
 at_back T us ts b name x H n e never t =
     let t' : T ↔ (H ⊎ Fits (star ∷ us) b) = subst (λ (l : List ℕ). T ↔ (H ⊎ Later (Fits us) l)) n t in
     subst (λ (l : List TokenModel). T ↔ (Fits l b ⊎ Later (Fits l) b)) (sym e) (
@@ -76,6 +87,7 @@ at_back T us ts b name x H n e never t =
       λ w. t'.1 (inr (after_join (Fits us) b w)),
     )
 
+-- what is left is shorter by the token
 pub shorter : (here rest : List Token) (u : TokenModel) → map token_model here ≡ u ∷ map token_model rest → length here ≡ length rest + 1
 shorter here rest u e =
     let l : length (map token_model here) ≡ length (u ∷ map token_model rest) = ap length e in
@@ -85,19 +97,24 @@ shorter here rest u e =
 pub paid_forward : (a b p h g t s all : ℕ) → a ≤ b → h + 1 ≤ g → s ≤ t + 1 → t + (b * (p + 1) + g) ≤ all → s + (a * (p + 1) + h) ≤ all
 paid_forward a b p h g t s all ab hg st paid = omega (arith, mul-le-mul_right (p + 1) ab)
 
+-- going back costs no more than what is left for the place
 pub paid_back : (a b p h g t s all : ℕ) → a + 1 ≡ b → h ≤ p → s ≤ t + 1 → t + (b * (p + 1) + g) ≤ all → s + (a * (p + 1) + h) ≤ all
 paid_back a b p h g t s all ab hp st paid =
     let e : b * (p + 1) ≡ (a + 1) * (p + 1) = ap (λ (n : ℕ). n * (p + 1)) (sym ab) in
     omega (arith, e)
 
 -- from the end
-pub shorter_end : (here before : List Token) (u : TokenModel) → map token_model here ≡ map token_model before ++ u ∷ [] → length here ≡ length before + 1
+pub shorter_end : (here before : List Token) (u : TokenModel) → map token_model here ≡ map token_model before ++ u ∷ []
+    → length here ≡ length before + 1
 shorter_end here before u e =
     let l : length (map token_model here) ≡ length (map token_model before ++ u ∷ []) = ap length e in
-    let h = length-map here token_model in let b = length-map before token_model in let a = length-append (map token_model before) (u ∷ []) in omega (arith, l, h, b, a)
+    let h = length-map here token_model in let b = length-map before token_model in let a = length-append (map token_model before)
+    (u ∷ []) in omega (arith, l, h, b, a)
 
+-- a byte more makes the name longer by one
 pub length_end : (bytes before : List ℕ) (x : ℕ) → bytes ≡ before ++ x ∷ [] → length bytes ≡ length before + 1
 length_end bytes before x e = ap length e ∙ length-append before (x ∷ [])
 
+-- a step from the end costs no more than what is left
 pub paid_end : (h b n m t s all : ℕ) → h ≡ b + 1 → n ≡ m + 1 → s ≤ t + 1 → t + (h + 1) * (n + 1) ≤ all → s + (b + 1) * (m + 1) ≤ all
 paid_end h b n m t s all hb nm st paid = omega (arith, rw (hb, nm) at paid)

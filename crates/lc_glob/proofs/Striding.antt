@@ -1,5 +1,6 @@
 -- Trying a double star's runs from the shortest on, with one place to go back to.
-use Rattle.std.proofs.Common.{◌≡◌, ◌↔◌, ◌⊎◌, ◌≤◌, ◌+◌, IsTrue, map, ℕ, true, List, [], ◌∷◌, inl, inr, refl, sym, subst, ap, length, Option, Some, None, arith}
+use Rattle.std.proofs.Common.{◌≡◌, ◌↔◌, ◌⊎◌, ◌≤◌, ◌+◌, IsTrue, map, ℕ, true, List, [], ◌∷◌, inl, inr, refl, sym, subst, ap, length}
+use Rattle.std.proofs.Common.{Option, Some, None, arith}
 use Rattle.std.proofs.lemmas.List.{length-map, append-nil}
 use Rattle.lc_glob.specs.Tokens.{TokenModel}
 use Rattle.lc_glob.specs.Fits.{Fits}
@@ -35,12 +36,15 @@ abbrev pub reserve : Option PathPlace → ℕ → ℕ
 reserve None n = n
 reserve (Some b) n = again (map segment_model b.segments.now) (segments_left b.left.rest)
 
-later_comes : (back : Option PathPlace) (s : List SegmentModel) (path : List (List ℕ)) → Covers back s path → LaterOf back → After (Leads s) path
+later_comes : (back : Option PathPlace) (s : List SegmentModel) (path : List (List ℕ)) → Covers back s path → LaterOf back
+    → After (Leads s) path
 later_comes None s path c l = absurd l
 later_comes (Some b) s path c l = c (later_after (Leads (map segment_model b.segments.now)) (segments_left b.left.rest) l)
 
 -- at a double star: it becomes the place to go back to
-pub at_double : (T : Type 0) (back : Option PathPlace) (segments rest : List SegmentModel) (path : List (List ℕ)) → segments ≡ double_star ∷ rest → Covers back segments path → T ↔ (Leads segments path ⊎ LaterOf back) → T ↔ (Leads rest path ⊎ Later (Leads rest) path)
+pub at_double : (T : Type 0) (back : Option PathPlace) (segments rest : List SegmentModel) (path : List (List ℕ))
+    → segments ≡ double_star ∷ rest → Covers back segments path → T ↔ (Leads segments path ⊎ LaterOf back)
+    → T ↔ (Leads rest path ⊎ Later (Leads rest) path)
 at_double T back segments rest path e c t =
     let P = Leads rest in
     let t' : T ↔ (After P path ⊎ LaterOf back) = subst (λ (l : List SegmentModel). T ↔ (Leads l path ⊎ LaterOf back)) e t in
@@ -50,21 +54,27 @@ at_double T back segments rest path e c t =
     )
 
 -- at a name that is taken
-pub at_name : (T L : Type 0) (segments rest : List SegmentModel) (us : List TokenModel) (path : List (List ℕ)) (n : List ℕ) (ns : List (List ℕ)) → segments ≡ plain us ∷ rest → path ≡ n ∷ ns → Fits us n → T ↔ (Leads segments path ⊎ L) → T ↔ (Leads rest ns ⊎ L)
+pub at_name : (T L : Type 0) (segments rest : List SegmentModel) (us : List TokenModel) (path : List (List ℕ)) (n : List ℕ)
+    (ns : List (List ℕ)) → segments ≡ plain us ∷ rest → path ≡ n ∷ ns → Fits us n → T ↔ (Leads segments path ⊎ L)
+    → T ↔ (Leads rest ns ⊎ L)
 at_name T L segments rest us path n ns e p f t =
-    let t' : T ↔ (Leads (plain us ∷ rest) (n ∷ ns) ⊎ L) = subst (λ (l : List (List ℕ)). T ↔ (Leads (plain us ∷ rest) l ⊎ L)) p (subst (λ (l : List SegmentModel). T ↔ (Leads l path ⊎ L)) e t) in (
+    let t' : T ↔ (Leads (plain us ∷ rest) (n ∷ ns) ⊎ L) = subst (λ (l : List (List ℕ)). T ↔ (Leads (plain us ∷ rest) l ⊎ L)) p
+    (subst (λ (l : List SegmentModel). T ↔ (Leads l path ⊎ L)) e t) in (
       λ h. elim (t'.0 h) [ inl g ↦ inl g.1 | inr l ↦ inr l ],
       λ w. t'.1 (elim w [ inl g ↦ inl (f, g) | inr l ↦ inr l ]),
     )
 
-pub covers_name : (back : Option PathPlace) (segments rest : List SegmentModel) (us : List TokenModel) (path : List (List ℕ)) (n : List ℕ) (ns : List (List ℕ)) → segments ≡ plain us ∷ rest → path ≡ n ∷ ns → Covers back segments path → Covers back rest ns
+-- a name that its segment fits leaves segments and path that match where they did
+pub covers_name : (back : Option PathPlace) (segments rest : List SegmentModel) (us : List TokenModel) (path : List (List ℕ))
+    (n : List ℕ) (ns : List (List ℕ)) → segments ≡ plain us ∷ rest → path ≡ n ∷ ns → Covers back segments path → Covers back rest ns
 covers_name None segments rest us path n ns e p c = tt
 covers_name (Some b) segments rest us path n ns e p c =
     λ f. after_drop (Leads (plain us ∷ rest)) (Leads rest) (λ h. h) (λ x xs h. h.1) n ns
     (subst (λ (l : List (List ℕ)). After (Leads (plain us ∷ rest)) l) p (subst (λ (l : List SegmentModel). After (Leads l) path) e (c f)))
 
 -- where the segments here don't spell the segments left
-pub at_block : (T H : Type 0) (s r : List SegmentModel) (path : List (List ℕ)) (n : List ℕ) (ns : List (List ℕ)) → path ≡ n ∷ ns → r ≡ s → (H → ⊥) → T ↔ (H ⊎ Later (Leads s) path) → T ↔ (Leads r ns ⊎ Later (Leads r) ns)
+pub at_block : (T H : Type 0) (s r : List SegmentModel) (path : List (List ℕ)) (n : List ℕ) (ns : List (List ℕ)) → path ≡ n ∷ ns
+    → r ≡ s → (H → ⊥) → T ↔ (H ⊎ Later (Leads s) path) → T ↔ (Leads r ns ⊎ Later (Leads r) ns)
 at_block T H s r path n ns e q never t =
     let t' : T ↔ (H ⊎ After (Leads s) ns) = subst (λ (l : List (List ℕ)). T ↔ (H ⊎ Later (Leads s) l)) e t in
     subst (λ (l : List SegmentModel). T ↔ (Leads l ns ⊎ Later (Leads l) ns)) (sym q) (
@@ -72,13 +82,16 @@ at_block T H s r path n ns e q never t =
       λ w. t'.1 (inr (after_join (Leads s) ns w)),
     )
 
-pub shorter : (here rest : List Segment) (s : SegmentModel) → map segment_model here ≡ s ∷ map segment_model rest → length here ≡ length rest + 1
+-- what is left is shorter by the segment
+pub shorter : (here rest : List Segment) (s : SegmentModel) → map segment_model here ≡ s ∷ map segment_model rest
+    → length here ≡ length rest + 1
 shorter here rest s e =
     let l : length (map segment_model here) ≡ length (s ∷ map segment_model rest) = ap length e in
     let h = length-map here segment_model in let r = length-map rest segment_model in omega (arith, l, h, r)
 
 -- at a double star that is last: it takes what is left
-pub at_last : (T L : Type 0) (s : List SegmentModel) (path : List (List ℕ)) → s ≡ double_star ∷ [] → T ↔ (Leads s path ⊎ L) → IsTrue true ↔ T
+pub at_last : (T L : Type 0) (s : List SegmentModel) (path : List (List ℕ)) → s ≡ double_star ∷ [] → T ↔ (Leads s path ⊎ L)
+    → IsTrue true ↔ T
 at_last T L s path e t =
     let h : Leads s path = subst (λ (l : List SegmentModel). Leads l path) (sym e) (path, [], sym (append-nil path), tt) in
     (λ _. t.1 (inl h), λ _. refl)

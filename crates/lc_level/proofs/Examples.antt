@@ -1,15 +1,18 @@
 -- The tree of a small node of memory.
-use Rattle.std.proofs.Common.{◌≡◌, ℕ, false, List, [], ◌∷◌, map, refl, sym, ◌∙◌, ap, Some, None, Vec, Ok, Err, codes}
+use Rattle.std.proofs.Common.{◌≡◌, ℕ, Bool, true, false, List, [], ◌∷◌, ◌++◌, map, refl, sym, ◌∙◌, ap, Some, None, Vec, Ok, Err, codes}
 use Rattle.std.specs.Prelude.{option_and_then}
 use Rattle.std.specs.declared.alloc.Global.{Global}
-use Rattle.lc_level.specs.Answers.{Item, file_item, directory_item, entry_of}
-use Rattle.lc_level.specs.Examples.{bad_name, entries, small_node, whole_file, small_items, names_in, vec}
+use Rattle.lc_level.specs.Answers.{Item, file_item, directory_item, other_item, Items, entry_of}
+use Rattle.lc_level.specs.Examples.{bad_name, entries, small_node, whole_file, small_items, vec}
+use Rattle.lc_level.specs.Examples.{Names, names_in, small_names, small_outside, small_as_it_is}
 use Rattle.lc_census.specs.Census.{count_of}
 use Rattle.lc_census.proofs.OneCutting.{cut, cut_is}
 use Rattle.lc_census.specs.Cutting.{lf, Cutting, IsCutting, HasOneCutting}
 use Rattle.lc_census.specs.declared.totals.Eol.TheVariants.{Lf}
 use Rattle.lc_glob.specs.IsMatch as IsMatch
-use Rattle.lc_level.specs.Level.{level, level_of}
+use Rattle.lc_rules.specs.Decision as Decision
+use Rattle.lc_level.specs.Level.{by_attribute, level_of}
+use Rattle.lc_level.specs.Selection.{selection_of_archive}
 use Rattle.lc_level.specs.TopJob.{top_job}
 use Rattle.lc_tree.specs.FileAnswers.{census}
 use Rattle.lc_level.specs.NodeTrees.{item_by, item_of, items_within, items_at, tree_of_node}
@@ -27,7 +30,8 @@ item_is name n = ap (λ m. item_by name.items (content_within m) (kind_within m)
 items_are : (n : Node-F Node) → items_at (Some (roll-Node n)) ≡ items_within n
 items_are n = ap items_within (out-roll-Node n)
 
-below_is : (name : List ℕ) (n : Node-F Node) → items_at (node_below (name ∷ []) (roll-Node n)) ≡ items_at (option_and_then (λ (child : Node). Some child) (child_within name n))
+below_is : (name : List ℕ) (n : Node-F Node)
+    → items_at (node_below (name ∷ []) (roll-Node n)) ≡ items_at (option_and_then (λ (child : Node). Some child) (child_within name n))
 below_is name n = ap (λ m. items_at (option_and_then (λ (child : Node). Some child) (child_within name m))) (out-roll-Node n)
 
 same_first : {X : Type 0} {x y : X} {xs ys : List X} → x ≡ y → xs ≡ ys → x ∷ xs ≡ y ∷ ys
@@ -37,8 +41,11 @@ module _ (alloc : Global) where
   -- the items of the directory, in no order
   abbrev items : List Item
   items =
-      whole_file (codes "c") (codes "one\n") ∷ directory_item (codes "d") ∷ directory_item (codes "b") ∷ whole_file (codes ".gitignore") (codes "*.o\n")
-      ∷ file_item (codes "e") (Err Read) (Err Read) ∷ whole_file (codes "a.o") (codes "x") ∷ []
+      whole_file (codes "c") (codes "one\n") ∷ directory_item (codes "d") ∷ directory_item (codes "b") ∷ whole_file
+      (codes ".gitignore") (codes "*.o\n")
+      ∷ file_item (codes "e") (Err Read) (Err Read) ∷ whole_file (codes "a.o") (codes "x") ∷ other_item (codes "l")
+      ∷ whole_file (codes ".gitattributes") (codes "s export-ignore\n") ∷ whole_file (codes "s") (codes "x") ∷ whole_file
+      (codes ".git") (codes "x") ∷ []
 
   each_is : map item_of (entries alloc) ≡ items
   each_is =
@@ -47,23 +54,42 @@ module _ (alloc : Global) where
       (same_first (item_is (vec alloc (codes "b") refl) Node-F.Closed)
       (same_first (item_is (vec alloc (codes ".gitignore") refl) (Node-F.File (vec alloc (codes "*.o\n") refl)))
       (same_first (item_is (vec alloc (codes "e") refl) (Node-F.Failing (vec alloc (codes "x") refl)))
-      (same_first (item_is (vec alloc (codes "a.o") refl) (Node-F.File (vec alloc (codes "x") refl))) refl)))))
+      (same_first (item_is (vec alloc (codes "a.o") refl) (Node-F.File (vec alloc (codes "x") refl)))
+      (same_first (item_is (vec alloc (codes "l") refl) Node-F.Other)
+      (same_first (item_is (vec alloc (codes ".gitattributes") refl) (Node-F.File (vec alloc (codes "s export-ignore\n") refl)))
+      (same_first (item_is (vec alloc (codes "s") refl) (Node-F.File (vec alloc (codes "x") refl)))
+      (same_first (item_is (vec alloc (codes ".git") refl) (Node-F.File (vec alloc (codes "x") refl))) refl)))))))))
 
+  -- the items of the top
   pub top_is : (tree_of_node (small_node alloc) []).here ≡ Ok small_items
   top_is = items_are (Node-F.Dir (vec alloc (entries alloc) refl)) ∙ ap (listed entry_of) each_is
 
-  pub names_are : names_in (level false (top_job None) (tree_of_node (small_node alloc) [])) ≡ (codes ".gitignore" ∷ codes "c" ∷ [], codes "e" ∷ [], codes "b" ∷ codes "d" ∷ [])
-  unfolding IsMatch.is_match
-  names_are = ap (λ here. names_in (level_of false (top_job None) (tree_of_node (small_node alloc) []) here)) top_is
+  -- what the directory's entries become, by its listing
+  abbrev names_of_listing : Bool → Items → Names
+  names_of_listing archive here =
+      names_in (level_of (selection_of_archive archive) (top_job None) (tree_of_node (small_node alloc) []) here)
 
+  -- what its level counts, fails at, walks and leaves out
+  pub names_are : small_names alloc false ≡ small_as_it_is
+  unfolding IsMatch.is_match
+  names_are = ap (names_of_listing false) top_is
+
+  -- what is left out of it as an archive
+  pub archived_are : (small_names alloc true).outside ≡ small_outside ++ (codes "s", by_attribute (codes "export-ignore")) ∷ []
+  unfolding IsMatch.is_match Decision.decide
+  archived_are = ap (λ here. (names_of_listing true here).outside) top_is
+
+  -- a closed directory can't be listed
   pub closed_is : (tree_of_node (small_node alloc) (codes "b" ∷ [])).here ≡ Err Read
   closed_is = below_is (codes "b") (Node-F.Dir (vec alloc (entries alloc) refl)) ∙ items_are Node-F.Closed
 
+  -- one with a bad name in it can't either
   pub bad_name_is : (tree_of_node (small_node alloc) (codes "d" ∷ [])).here ≡ Err Name
   bad_name_is =
       below_is (codes "d") (Node-F.Dir (vec alloc (entries alloc) refl)) ∙ items_are (Node-F.Dir (vec alloc (bad_name alloc ∷ []) refl))
       ∙ ap (λ item. listed entry_of (item ∷ [])) (item_is (vec alloc (codes "x/y") refl) Node-F.Other)
 
+  -- and what is not there
   pub none_is : (tree_of_node (small_node alloc) (codes "f" ∷ [])).here ≡ Err Read
   none_is = below_is (codes "f") (Node-F.Dir (vec alloc (entries alloc) refl))
 
@@ -74,6 +100,7 @@ one_line = record { lines = record { text = codes "one"; end = lf } ∷ []; rest
 is_one_line : IsCutting (codes "one\n") one_line
 is_one_line = record { lines = (refl, refl, tt); rest = refl; whole = refl }
 
+-- the census of its file
 pub census_is : ((bytes : List ℕ) → HasOneCutting bytes) → census (codes "one\n") ≡ record { lines = 1; blank = 0; bytes = 4; eol = Lf }
 census_is one =
     let cutting = one (codes "one\n") in

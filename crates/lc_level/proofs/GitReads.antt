@@ -25,8 +25,10 @@ use Rattle.lc_level.proofs.Tidy.{clash}
 abbrev asked : Items → Items → Answers
 asked git info = record { here = Ok []; git = git; info = info }
 
-no_files : (files : RulePair) → files ≡ record { rules = None; attributes = None } → AreFilesOf true files (record { rules = None; attributes = None })
-no_files files e = subst (λ (f : RulePair). AreFilesOf true f (record { rules = None; attributes = None })) (sym e) (record { rules = refl; attributes = refl })
+no_files : (files : RulePair) → files ≡ record { rules = None; attributes = None }
+    → AreFilesOf true files (record { rules = None; attributes = None })
+no_files files e = subst (λ (f : RulePair). AreFilesOf true f (record { rules = None; attributes = None })) (sym e)
+    (record { rules = refl; attributes = refl })
 
 -- what each file of the tree may give
 module _ (lists : List ℕ → Listings) (gives : List ℕ → Contents)
@@ -39,7 +41,8 @@ module _ (lists : List ℕ → Listings) (gives : List ℕ → Contents)
   any_rules path n = (some_rules (path_in path n)).0
 
   -- a listing with some items
-  pub listed : (path : List ℕ) (es : List EntryModel) (given : AsRules) → ((n : List ℕ) → MayReadRules (gives (path_in path n)) (given n)) → lists path (Ok es) →
+  pub listed : (path : List ℕ) (es : List EntryModel) (given : AsRules)
+      → ((n : List ℕ) → MayReadRules (gives (path_in path n)) (given n)) → lists path (Ok es) →
       MayList lists gives path (Ok (items_at (any_count path) given es))
   listed path es given may l = (
     subst (λ (ds : List EntryModel). lists path (Ok ds)) (sym (entries_items (any_count path) given es)) l,
@@ -63,7 +66,9 @@ module _ (lists : List ℕ → Listings) (gives : List ℕ → Contents)
   at_true : (there : Bool) (r : Result RulePair Unlisted) → there ≡ true → ReadsGit lists gives true r → ReadsGit lists gives there r
   at_true there r e k = subst (λ b. ReadsGit lists gives b r) (sym e) k
 
-  pub no_git : (there : Bool) (files : RulePair) → there ≡ false → files ≡ record { rules = None; attributes = None } → ReadsGit lists gives there (Ok files)
+  -- where there is no `.git` nothing is read
+  pub no_git : (there : Bool) (files : RulePair) → there ≡ false → files ≡ record { rules = None; attributes = None }
+      → ReadsGit lists gives there (Ok files)
   no_git there files e none =
       subst (λ b. ReadsGit lists gives b (Ok files)) (sym e) (
         asked (Ok []) (Ok []),
@@ -71,7 +76,9 @@ module _ (lists : List ℕ → Listings) (gives : List ℕ → Contents)
         (record { rules = None; attributes = None }, no_files files none, refl),
       )
 
-  pub git_fault : (there : Bool) (place : Place) (word : FaultWord) → there ≡ true → place ≡ Git → lists (codes ".git") (Err word) → ReadsGit lists gives there (Err (Faulted place word))
+  -- a fault of `.git`
+  pub git_fault : (there : Bool) (place : Place) (word : FaultWord) → there ≡ true → place ≡ Git → lists (codes ".git") (Err word)
+      → ReadsGit lists gives there (Err (Faulted place word))
   git_fault there place word e is l =
       at_true there (Err (Faulted place word)) e (
         asked (Err word) (Ok []),
@@ -80,13 +87,16 @@ module _ (lists : List ℕ → Listings) (gives : List ℕ → Contents)
       )
 
   -- the same, by how the listing was refused
-  pub git_refused : (there : Bool) (u : Unlisted) → there ≡ true → ListsFor (lists (codes ".git")) Git (Err u) → ReadsGit lists gives there (Err u)
+  pub git_refused : (there : Bool) (u : Unlisted) → there ≡ true → ListsFor (lists (codes ".git")) Git (Err u)
+      → ReadsGit lists gives there (Err u)
   git_refused there (Faulted place word) e (is, l) = git_fault there place word e is l
   git_refused there (Broken Memory) e l = tt
   git_refused there (Broken TooManyDirs) e l = absurd l
   git_refused there (Broken TooDeep) e l = absurd l
 
-  pub no_info : (there : Bool) (es : List EntryModel) (files : RulePair) → there ≡ true → lists (codes ".git") (Ok es) → has_dir (codes "info") es ≡ false →
+  -- where `.git` has no `info` nothing is read
+  pub no_info : (there : Bool) (es : List EntryModel) (files : RulePair) → there ≡ true → lists (codes ".git") (Ok es)
+      → has_dir (codes "info") es ≡ false →
       files ≡ record { rules = None; attributes = None } → ReadsGit lists gives there (Ok files)
   no_info there es files e l absent none =
       at_true there (Ok files) e (
@@ -95,16 +105,21 @@ module _ (lists : List ℕ → Listings) (gives : List ℕ → Contents)
         (record { rules = None; attributes = None }, no_files files none, by_info es (Ok []) false absent),
       )
 
-  pub info_fault : (there : Bool) (es : List EntryModel) (place : Place) (word : FaultWord) → there ≡ true → lists (codes ".git") (Ok es) → has_dir (codes "info") es ≡ true →
+  -- a fault of `.git/info`
+  pub info_fault : (there : Bool) (es : List EntryModel) (place : Place) (word : FaultWord) → there ≡ true
+      → lists (codes ".git") (Ok es) → has_dir (codes "info") es ≡ true →
       place ≡ GitInfo → lists (codes ".git/info") (Err word) → ReadsGit lists gives there (Err (Faulted place word))
   info_fault there es place word e l present is m =
       at_true there (Err (Faulted place word)) e (
         asked (Ok (git_items es)) (Err word),
         record { git = λ t. may_git es l; info = λ t h. m },
-        λ directory. by_info es (Err word) true present ∙ ap (λ (p : Place). Err (record { path = place_path directory p; word = word })) (sym is),
+        λ directory. by_info es (Err word) true present
+            ∙ ap (λ (p : Place). Err (record { path = place_path directory p; word = word })) (sym is),
       )
 
-  pub info_refused : (there : Bool) (es : List EntryModel) (u : Unlisted) → there ≡ true → lists (codes ".git") (Ok es) → has_dir (codes "info") es ≡ true →
+  -- the same, or want of memory
+  pub info_refused : (there : Bool) (es : List EntryModel) (u : Unlisted) → there ≡ true → lists (codes ".git") (Ok es)
+      → has_dir (codes "info") es ≡ true →
       ListsFor (lists (codes ".git/info")) GitInfo (Err u) → ReadsGit lists gives there (Err u)
   info_refused there es (Faulted place word) e l present (is, m) = info_fault there es place word e l present is m
   info_refused there es (Broken Memory) e l present m = tt
@@ -118,23 +133,41 @@ module _ (lists : List ℕ → Listings) (gives : List ℕ → Contents)
   info_of fs given = Ok (items_at (any_count (codes ".git/info")) given fs)
 
   abbrev InfoGiven : List EntryModel → Result RulePair Unlisted → Type 0
-  InfoGiven fs r = PairGiven in_info (codes "exclude") (codes "attributes") refl fs (any_rules (codes ".git/info")) (λ n. (some_rules (path_in (codes ".git/info") n)).1) true ExcludeFile InfoAttributes r
+  InfoGiven fs r = PairGiven in_info (codes "exclude") (codes "attributes") refl fs (any_rules (codes ".git/info"))
+      (λ n. (some_rules (path_in (codes ".git/info") n)).1) true ExcludeFile InfoAttributes r
 
-  pub both_files : (there : Bool) (es fs : List EntryModel) (r : Result RulePair Unlisted) → there ≡ true → lists (codes ".git") (Ok es) → has_dir (codes "info") es ≡ true →
+  -- what its two files answered
+  pub both_files : (there : Bool) (es fs : List EntryModel) (r : Result RulePair Unlisted) → there ≡ true
+      → lists (codes ".git") (Ok es) → has_dir (codes "info") es ≡ true →
       lists (codes ".git/info") (Ok fs) →
-      ReadsBoth (gives (codes ".git/info/exclude")) (gives (codes ".git/info/attributes")) (has_file (codes "exclude") fs) (has_file (codes "attributes") fs) true ExcludeFile InfoAttributes r →
+      ReadsBoth (gives (codes ".git/info/exclude")) (gives (codes ".git/info/attributes")) (has_file (codes "exclude") fs)
+      (has_file (codes "attributes") fs) true ExcludeFile InfoAttributes r →
       ReadsGit lists gives there r
   both_files there es fs r e l present m reads =
-      at_true there r e (at r (pair_given in_info (codes "exclude") (codes "attributes") refl fs (any_rules (codes ".git/info")) (λ n. (some_rules (path_in (codes ".git/info") n)).1) true ExcludeFile InfoAttributes r reads))
+      at_true there r e (at r (pair_given in_info (codes "exclude") (codes "attributes") refl fs (any_rules (codes ".git/info"))
+      (λ n. (some_rules (path_in (codes ".git/info") n)).1) true ExcludeFile InfoAttributes r reads))
     where
-      may : (given : AsRules) → ((n : List ℕ) → MayReadRules (in_info n) (given n)) → MayAnswerGit lists gives true (asked (Ok (git_items es)) (info_of fs given))
+      may : (given : AsRules) → ((n : List ℕ) → MayReadRules (in_info n) (given n))
+          → MayAnswerGit lists gives true (asked (Ok (git_items es)) (info_of fs given))
       may given k = record { git = λ t. may_git es l; info = λ t h. listed (codes ".git/info") fs given k m }
 
       at : (o : Result RulePair Unlisted) → InfoGiven fs o → ReadsGit lists gives true o
-      at (Ok files) (given, k, (bytes, are, is)) =
-          (asked (Ok (git_items es)) (info_of fs given), may given k, (bytes, are, by_info es (info_of fs given) true present ∙ is (codes ".git/info/exclude") (codes ".git/info/attributes") (any_count (codes ".git/info"))))
-      at (Err (Faulted place word)) (given, k, is) =
-          (asked (Ok (git_items es)) (info_of fs given), may given k, λ directory. by_info es (info_of fs given) true present ∙ is (place_path directory) (any_count (codes ".git/info")))
+      at (Ok files) (given, k, (bytes, are, is)) = (
+        asked (Ok (git_items es)) (info_of fs given),
+        may given k,
+        (
+          bytes,
+          are,
+          by_info es (info_of fs given) true present ∙ is (codes ".git/info/exclude") (codes ".git/info/attributes")
+              (any_count (codes ".git/info")),
+        ),
+      )
+      at (Err (Faulted place word)) (given, k, is) = (
+        asked (Ok (git_items es)) (info_of fs given),
+        may given k,
+        λ directory. by_info es (info_of fs given) true present
+            ∙ is (place_path directory) (any_count (codes ".git/info")),
+      )
       at (Err (Broken Memory)) k = tt
       at (Err (Broken TooManyDirs)) k = absurd k
       at (Err (Broken TooDeep)) k = absurd k

@@ -1,5 +1,6 @@
 -- The items of a directory, by what reading its two rule files answered.
-use Rattle.std.proofs.Common.{◌≡◌, ℕ, Bool, false, inl, inr, List, refl, sym, ◌∙◌, ap, Option, Some, None, Result, Ok, Err, bytes_eq, option_map}
+use Rattle.std.proofs.Common.{◌≡◌, ℕ, Bool, false, inl, inr, List, refl, sym, ◌∙◌, ap, Option, Some, None, Result, Ok, Err, bytes_eq}
+use Rattle.std.proofs.Common.{option_map}
 use Rattle.lc_level.specs.EntryLooks.{has_file}
 use Rattle.lc_tree.specs.Listing.{EntryModel}
 use Rattle.lc_level.specs.FaultLines.{FaultLineModel}
@@ -15,22 +16,26 @@ use Rattle.lc_level.specs.declared.cause.Cause.TheVariants.{Memory, TooManyDirs,
 use Rattle.lc_level.specs.declared.place.Place.{Place}
 use Rattle.lc_level.proofs.GivenItems.{Counted, AsRules, items_at, but, at_name, at_other, may_but, given_items}
 
-both_ok : (p q : List ℕ) (x y : Option (List ℕ)) → both_read p (option_map Ok x) q (option_map Ok y) ≡ Ok (record { rules = x; attributes = y })
+both_ok : (p q : List ℕ) (x y : Option (List ℕ))
+    → both_read p (option_map Ok x) q (option_map Ok y) ≡ Ok (record { rules = x; attributes = y })
 both_ok p q None None = refl
 both_ok p q None (Some y) = refl
 both_ok p q (Some x) None = refl
 both_ok p q (Some x) (Some y) = refl
 
-second_fault : (p q : List ℕ) (x : Option (List ℕ)) (word : FaultWord) → both_read p (option_map Ok x) q (Some (Err word)) ≡ Err (record { path = q; word = word })
+second_fault : (p q : List ℕ) (x : Option (List ℕ)) (word : FaultWord)
+    → both_read p (option_map Ok x) q (Some (Err word)) ≡ Err (record { path = q; word = word })
 second_fault p q None word = refl
 second_fault p q (Some x) word = refl
 
 -- the answers of the tree below the directory, by name; the two names; the entries; what other files give as rules
-module _ (gives : List ℕ → Contents) (first_name second_name : List ℕ) (apart : bytes_eq first_name second_name ≡ false) (es : List EntryModel)
+module _ (gives : List ℕ → Contents) (first_name second_name : List ℕ) (apart : bytes_eq first_name second_name ≡ false)
+    (es : List EntryModel)
     (rules : AsRules) (may_read : (n : List ℕ) → MayReadRules (gives n) (rules n)) where
   -- what reading the two gives of these items
   abbrev read_of : List ℕ → List ℕ → AsRules → Counted → Result Pair FaultLineModel
-  read_of p q given counted = both_read p (file_named first_name (items_at counted given es)) q (file_named second_name (items_at counted given es))
+  read_of p q given counted =
+      both_read p (file_named first_name (items_at counted given es)) q (file_named second_name (items_at counted given es))
 
   -- what all files give as rules, so that reading the two gives what was answered
   abbrev pub PairGiven : Bool → Place → Place → Result RulePair Unlisted → Type 0
@@ -39,7 +44,8 @@ module _ (gives : List ℕ → Contents) (first_name second_name : List ℕ) (ap
       × ((bytes : Pair) × AreFilesOf top files bytes × ((p q : List ℕ) (counted : Counted) → read_of p q given counted ≡ Ok bytes))
   PairGiven top first second (Err (Faulted place word)) =
       (given : AsRules) × ((n : List ℕ) → MayReadRules (gives n) (given n))
-      × ((path_at : Place → List ℕ) (counted : Counted) → read_of (path_at first) (path_at second) given counted ≡ Err (record { path = path_at place; word = word }))
+      × ((path_at : Place → List ℕ) (counted : Counted)
+      → read_of (path_at first) (path_at second) given counted ≡ Err (record { path = path_at place; word = word }))
   PairGiven top first second (Err (Broken Memory)) = Unit {0}
   PairGiven top first second (Err (Broken TooManyDirs)) = ⊥
   PairGiven top first second (Err (Broken TooDeep)) = ⊥
@@ -47,16 +53,20 @@ module _ (gives : List ℕ → Contents) (first_name second_name : List ℕ) (ap
   abbrev with_both : Option (Result (List ℕ) FaultWord) → Option (Result (List ℕ) FaultWord) → AsRules
   with_both x y = but second_name y (but first_name x rules)
 
-  may_both : (x y : Option (Result (List ℕ) FaultWord)) → MayGive (gives first_name) (has_file first_name es) x → MayGive (gives second_name) (has_file second_name es) y → (n : List ℕ) → MayReadRules (gives n) (with_both x y n)
-  may_both x y a b = may_but gives second_name (has_file second_name es) y (but first_name x rules) b (may_but gives first_name (has_file first_name es) x rules a may_read)
+  may_both : (x y : Option (Result (List ℕ) FaultWord)) → MayGive (gives first_name) (has_file first_name es) x
+      → MayGive (gives second_name) (has_file second_name es) y → (n : List ℕ) → MayReadRules (gives n) (with_both x y n)
+  may_both x y a b = may_but gives second_name (has_file second_name es) y (but first_name x rules) b
+      (may_but gives first_name (has_file first_name es) x rules a may_read)
 
   first_is : (x y : Option (Result (List ℕ) FaultWord)) (v : Result (List ℕ) FaultWord) → x ≡ Some v → with_both x y first_name ≡ v
-  first_is x y v e = at_other second_name first_name y (but first_name x rules) apart ∙ ap (λ o. but first_name o rules first_name) e ∙ at_name first_name v rules
+  first_is x y v e = at_other second_name first_name y (but first_name x rules) apart ∙ ap (λ o. but first_name o rules first_name) e
+      ∙ at_name first_name v rules
 
   second_is : (x y : Option (Result (List ℕ) FaultWord)) (v : Result (List ℕ) FaultWord) → y ≡ Some v → with_both x y second_name ≡ v
   second_is x y v e = ap (λ o. but second_name o (but first_name x rules) second_name) e ∙ at_name second_name v (but first_name x rules)
 
-  both_are : (x y : Option (Result (List ℕ) FaultWord)) → MayGive (gives first_name) (has_file first_name es) x → MayGive (gives second_name) (has_file second_name es) y →
+  both_are : (x y : Option (Result (List ℕ) FaultWord)) → MayGive (gives first_name) (has_file first_name es) x
+      → MayGive (gives second_name) (has_file second_name es) y →
       (p q : List ℕ) (counted : Counted) → read_of p q (with_both x y) counted ≡ both_read p x q y
   both_are x y a b p q counted =
       ap (λ o. both_read p o q (file_named second_name (items_at counted (with_both x y) es)))
@@ -66,12 +76,22 @@ module _ (gives : List ℕ → Contents) (first_name second_name : List ℕ) (ap
   first_at : (x : Option (Result (List ℕ) FaultWord)) (v : Result (List ℕ) FaultWord) → x ≡ Some v → but first_name x rules first_name ≡ v
   first_at x v e = ap (λ o. but first_name o rules first_name) e ∙ at_name first_name v rules
 
+  -- the answer for two files is one for the items
   pub pair_given : (top : Bool) (first second : Place) (r : Result RulePair Unlisted) →
-      ReadsBoth (gives first_name) (gives second_name) (has_file first_name es) (has_file second_name es) top first second r → PairGiven top first second r
+      ReadsBoth (gives first_name) (gives second_name) (has_file first_name es) (has_file second_name es) top first second r
+      → PairGiven top first second r
   pair_given top first second (Ok files) (bytes, are, may) =
       let x : Option (Result (List ℕ) FaultWord) = option_map Ok bytes.rules in
-      let y : Option (Result (List ℕ) FaultWord) = option_map Ok bytes.attributes in
-      (with_both x y, may_both x y may.rules_given may.attributes_given, (bytes, are, λ p q counted. both_are x y may.rules_given may.attributes_given p q counted ∙ both_ok p q bytes.rules bytes.attributes))
+      let y : Option (Result (List ℕ) FaultWord) = option_map Ok bytes.attributes in (
+        with_both x y,
+        may_both x y may.rules_given may.attributes_given,
+        (
+          bytes,
+          are,
+          λ p q counted. both_are x y may.rules_given may.attributes_given p q counted
+              ∙ both_ok p q bytes.rules bytes.attributes,
+        ),
+      )
   pair_given top first second (Err (Faulted place word)) (inl (is, may)) =
       let x : Option (Result (List ℕ) FaultWord) = Some (Err word) in (
         but first_name x rules,

@@ -2,12 +2,14 @@ pub mod CountedLevels
 pub mod CountedMore
 pub mod Depths
 pub mod Examples
+pub mod Fates
 pub mod GitReads
 pub mod GivenItems
 pub mod GivenPairs
 pub mod NodeTrees
 pub mod OneLevel
 pub mod OpenLevels
+pub mod PassedOn
 pub mod Rooms
 pub mod RuleParsing
 pub mod Tidy

@@ -1,5 +1,6 @@
 -- The answers of the tree that a node stands for are some that a tree of memory may give.
-use Rattle.std.proofs.Common.{◌≡◌, ℕ, Bool, true, false, ◌&&◌, List, [], ◌∷◌, map, refl, sym, ◌∙◌, ap, subst, arith, Option, Some, None, Result, Ok, Err, codes}
+use Rattle.std.proofs.Common.{◌≡◌, ℕ, Bool, true, false, ◌&&◌, List, [], ◌∷◌, map, refl, sym, ◌∙◌, ap, subst, arith, Option, Some, None}
+use Rattle.std.proofs.Common.{Result, Ok, Err, codes}
 use Rattle.std.specs.Prelude.{IfOk, Vec, option_and_then}
 use Rattle.std.specs.declared.alloc.Global.{Global}
 use Rattle.std.proofs.lemmas.Cmp.{nat_list_cmp_total}
@@ -50,13 +51,15 @@ abbrev answer_of : Items → Result (List EntryModel) FaultWord
 answer_of (Ok items) = Ok (entries_of items)
 answer_of (Err word) = Err word
 
-answer_for : (children : List Child) (items : Items) → ItemsFor entry_of (map item_of children) items → IsAnswerFor (map nodes.entry_of children) (answer_of items)
+answer_for : (children : List Child) (items : Items) → ItemsFor entry_of (map item_of children) items
+    → IsAnswerFor (map nodes.entry_of children) (answer_of items)
 answer_for children (Ok items) is = subst (λ (l : List EntryModel). IsAnswerFor l (Ok (entries_of items))) (entries_are children) is
 answer_for children (Err word) is = subst (λ (l : List EntryModel). IsAnswerFor l (Err word)) (entries_are children) is
 
 -- a node's listing is that of its items
 lists_within : (node : Node-F Node) → ListsWithin node (answer_of (items_within node))
-lists_within (Node-F.Dir entries) = answer_for entries.items (listed entry_of (map item_of entries.items)) (listed_is entry_of (map item_of entries.items))
+lists_within (Node-F.Dir entries) =
+    answer_for entries.items (listed entry_of (map item_of entries.items)) (listed_is entry_of (map item_of entries.items))
 lists_within Node-F.Closed = refl
 lists_within (Node-F.File bytes) = refl
 lists_within (Node-F.Failing bytes) = refl
@@ -70,10 +73,13 @@ module _ (top : Node) (path : List ℕ) where
   -- ---- what a tree of memory may answer there
 
   -- of one entry, by the node at its path
-  may_have : (name : List ℕ) (node : Node) (kind : Kind) → node_at top (path_in path name) ≡ Some node → MayHave (mem_lists top) (mem_gives top) path (item_by name (content_of (Some node)) kind)
+  may_have : (name : List ℕ) (node : Node) (kind : Kind) → node_at top (path_in path name) ≡ Some node
+      → MayHave (mem_lists top) (mem_gives top) path (item_by name (content_of (Some node)) kind)
   may_have name node File e = (
-    subst (λ (o : Option Node). MayCount (GivesContent (content_of o)) (counted (content_of (Some node)))) (sym e) (may_count (content_of (Some node))),
-    subst (λ (o : Option Node). MayReadRules (GivesContent (content_of o)) (read_as_rules (content_of (Some node)))) (sym e) (may_read_rules (content_of (Some node))),
+    subst (λ (o : Option Node). MayCount (GivesContent (content_of o)) (counted (content_of (Some node)))) (sym e)
+        (may_count (content_of (Some node))),
+    subst (λ (o : Option Node). MayReadRules (GivesContent (content_of o)) (read_as_rules (content_of (Some node)))) (sym e)
+        (may_read_rules (content_of (Some node))),
   )
   may_have name node Dir e = tt
   may_have name node Other e = tt
@@ -88,13 +94,16 @@ module _ (top : Node) (path : List ℕ) where
       (may_have c.0.items c.1 (kind_of c.1) (node_in top path c.0.items t.0 ∙ found.0), all_have cs t.1 found.1)
 
   -- each entry of a directory there is found by its name
-  found_there : (node : Node) (children : Vec Child Global) → node_at top path ≡ Some node → out-Node node ≡ Node-F.Dir children → HaveDistinctNames (map nodes.entry_of children.items)
+  found_there : (node : Node) (children : Vec Child Global) → node_at top path ≡ Some node → out-Node node ≡ Node-F.Dir children
+      → HaveDistinctNames (map nodes.entry_of children.items)
       → AllByRecursion (λ (c : Child). option_and_then (child_of c.0.items) (node_at top path) ≡ Some c.1) children.items
   found_there node children e is distinct =
       subst (λ (o : Option Node). AllByRecursion (λ (c : Child). option_and_then (child_of c.0.items) o ≡ Some c.1) children.items) (sym e)
-      (subst (λ (n : Node-F Node). AllByRecursion (λ (c : Child). child_within c.0.items n ≡ Some c.1) children.items) (sym is) (each_found children.items distinct))
+      (subst (λ (n : Node-F Node). AllByRecursion (λ (c : Child). child_within c.0.items n ≡ Some c.1) children.items) (sym is)
+      (each_found children.items distinct))
 
-  have_within : (node : Node) (n : Node-F Node) → node_at top path ≡ Some node → out-Node node ≡ n → IfOk (items_within n) (AllByRecursion (MayHave (mem_lists top) (mem_gives top) path))
+  have_within : (node : Node) (n : Node-F Node) → node_at top path ≡ Some node → out-Node node ≡ n
+      → IfOk (items_within n) (AllByRecursion (MayHave (mem_lists top) (mem_gives top) path))
   have_within node (Node-F.Dir children) e is =
       all_listed entry_of (MayHave (mem_lists top) (mem_gives top) path) (map item_of children.items)
       (λ good distinct. all_have children.items (subst (λ l. have_good_names l ≡ true) (entries_are children.items) good)
@@ -109,7 +118,8 @@ module _ (top : Node) (path : List ℕ) where
   have_at (Some node) e = have_within node (out-Node node) e refl
 
   -- of the directory itself
-  with_items : (items : Items) → mem_lists top path (answer_of items) → IfOk items (AllByRecursion (MayHave (mem_lists top) (mem_gives top) path)) → MayList (mem_lists top) (mem_gives top) path items
+  with_items : (items : Items) → mem_lists top path (answer_of items)
+      → IfOk items (AllByRecursion (MayHave (mem_lists top) (mem_gives top) path)) → MayList (mem_lists top) (mem_gives top) path items
   with_items (Ok items) lists all = (lists, all)
   with_items (Err word) lists all = lists
 
@@ -117,14 +127,17 @@ module _ (top : Node) (path : List ℕ) where
   may_list = with_items (items_at (node_at top path)) (lists_node (node_at top path)) (have_at (node_at top path) refl)
 
 -- `.git` and `.git/info` are read in the top alone
-git_there : (top : Node) (path : List ℕ) (items : List Item) → has_git path items ≡ true → MayList (mem_lists top) (mem_gives top) (codes ".git") (tree_of_node top (names_of_path path)).git
+git_there : (top : Node) (path : List ℕ) (items : List Item) → has_git path items ≡ true
+    → MayList (mem_lists top) (mem_gives top) (codes ".git") (tree_of_node top (names_of_path path)).git
 git_there top [] items t = may_list top (codes ".git")
 git_there top (b ∷ bs) items t = cc
 
-info_there : (top : Node) (path : List ℕ) (items : List Item) → has_git path items ≡ true → MayList (mem_lists top) (mem_gives top) (codes ".git/info") (tree_of_node top (names_of_path path)).info
+info_there : (top : Node) (path : List ℕ) (items : List Item) → has_git path items ≡ true
+    → MayList (mem_lists top) (mem_gives top) (codes ".git/info") (tree_of_node top (names_of_path path)).info
 info_there top [] items t = may_list top (codes ".git/info")
 info_there top (b ∷ bs) items t = cc
 
+-- the answers of the node's tree may be given
 pub node_answers : (top : Node) (path : List ℕ) → MayAnswer (mem_lists top) (mem_gives top) path (tree_of_node top (names_of_path path))
 node_answers top path = record {
   here = may_list top path;
@@ -135,19 +148,25 @@ node_answers top path = record {
 -- ---- its listings are listings
 
 no_entries : IsListing []
-no_entries = record { good = refl; order = sorted_from_all_adjacent nat_list_cmp_total [] [] (λ k lt. absurd (omega arith)); few = omega arith }
+no_entries = record {
+  good = refl;
+  order = sorted_from_all_adjacent nat_list_cmp_total [] [] (λ k lt. absurd (omega arith));
+  few = omega arith;
+}
 
 tidy_by : (es : List EntryModel) (items : Items) → IsAnswerFor es (answer_of items) → IsListing (listed_in items)
 tidy_by es (Ok items) is = is.listing
 tidy_by es (Err word) is = no_entries
 
 tidy_within : (node : Node-F Node) → IsListing (listed_in (items_within node))
-tidy_within (Node-F.Dir entries) = tidy_by (map nodes.entry_of entries.items) (items_within (Node-F.Dir entries)) (lists_within (Node-F.Dir entries))
+tidy_within (Node-F.Dir entries) =
+    tidy_by (map nodes.entry_of entries.items) (items_within (Node-F.Dir entries)) (lists_within (Node-F.Dir entries))
 tidy_within Node-F.Closed = no_entries
 tidy_within (Node-F.File bytes) = no_entries
 tidy_within (Node-F.Failing bytes) = no_entries
 tidy_within Node-F.Other = no_entries
 
+-- and its listings are listings
 pub tidy_at : (o : Option Node) → IsListing (listed_in (items_at o))
 tidy_at None = no_entries
 tidy_at (Some node) = tidy_within (out-Node node)

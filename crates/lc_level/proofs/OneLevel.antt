@@ -11,6 +11,7 @@ use Rattle.lc_level.specs.Answers.{Item, file_item, directory_item, other_item, 
 use Rattle.lc_level.specs.Job.{JobModel}
 use Rattle.lc_level.specs.Level.{level, level_of, level_after}
 use Rattle.lc_level.specs.OneAnswer.{GivesOne}
+use Rattle.lc_level.specs.Selection.{SelectionModel}
 use Rattle.lc_level.specs.RuleFiles.{has_directory, has_git, and_then, listing, info_items, info_bytes, own_bytes, rule_bytes}
 use Rattle.lc_level.specs.TreeAnswers.{MayHave, MayList, MayAnswer, items_of}
 
@@ -58,13 +59,16 @@ module _ (lists : List ℕ → Listings) (gives : List ℕ → Contents) (one : 
   same_item path (other_item n) (file_item m d s) a b e = let h : 2 ≡ 0 = ap (λ (x : EntryModel). kind_code x.kind) e in absurd (cc h)
   same_item path (other_item n) (directory_item m) a b e = let h : 2 ≡ 1 = ap (λ (x : EntryModel). kind_code x.kind) e in absurd (cc h)
 
-  same_items : (path : List ℕ) (xs ys : List Item) → AllByRecursion (MayHave lists gives path) xs → AllByRecursion (MayHave lists gives path) ys → entries_of xs ≡ entries_of ys → xs ≡ ys
+  same_items : (path : List ℕ) (xs ys : List Item) → AllByRecursion (MayHave lists gives path) xs
+      → AllByRecursion (MayHave lists gives path) ys → entries_of xs ≡ entries_of ys → xs ≡ ys
   same_items path [] [] a b e = refl
   same_items path [] (y ∷ ys) a b e = absurd (cc e)
   same_items path (x ∷ xs) [] a b e = absurd (cc e)
   same_items path (x ∷ xs) (y ∷ ys) a b e =
-      ap (λ z. z ∷ xs) (same_item path x y a.0 b.0 (ap (first_or (entry_of x)) e)) ∙ ap (λ l. y ∷ l) (same_items path xs ys a.1 b.1 (ap rest_of e))
+      ap (λ z. z ∷ xs) (same_item path x y a.0 b.0 (ap (first_or (entry_of x)) e))
+      ∙ ap (λ l. y ∷ l) (same_items path xs ys a.1 b.1 (ap rest_of e))
 
+  -- a directory has one list of items
   pub same_list : (path : List ℕ) (x y : Items) → MayList lists gives path x → MayList lists gives path y → x ≡ y
   same_list path (Ok xs) (Ok ys) a b =
       ap Ok (same_items path xs ys a.1 b.1 (ap (entries_or []) (one.listing path (Ok (entries_of xs)) (Ok (entries_of ys)) a.0 b.0)))
@@ -72,12 +76,14 @@ module _ (lists : List ℕ → Listings) (gives : List ℕ → Contents) (one : 
   same_list path (Err w) (Ok ys) a b = absurd (differ (sym (ap is_listed (one.listing path (Err w) (Ok (entries_of ys)) a b.0))))
   same_list path (Err w) (Err v) a b = ap Err (ap (word_or w) (one.listing path (Err w) (Err v) a b))
 
-  module _ (archive : Bool) (j : JobModel) (a b : Answers) (may : MayAnswer lists gives j.path a) (also : MayAnswer lists gives j.path b) where
+  module _ (s : SelectionModel) (j : JobModel) (a b : Answers) (may : MayAnswer lists gives j.path a)
+      (also : MayAnswer lists gives j.path b) where
     here : a.here ≡ b.here
     here = same_list j.path a.here b.here may.here also.here
 
     -- what stands in `.git/info`, where `.git` has it
-    same_listed : (there : Bool) → (there ≡ true → a.info ≡ b.info) → listing there (codes ".git/info") a.info ≡ listing there (codes ".git/info") b.info
+    same_listed : (there : Bool) → (there ≡ true → a.info ≡ b.info)
+        → listing there (codes ".git/info") a.info ≡ listing there (codes ".git/info") b.info
     same_listed false e = refl
     same_listed true e = ap (listing true (codes ".git/info")) (e refl)
 
@@ -90,19 +96,22 @@ module _ (lists : List ℕ → Listings) (gives : List ℕ → Contents) (one : 
     same_info : (there : Bool) → (there ≡ true → has_git j.path (items_of a.here) ≡ true) → info_items there a ≡ info_items there b
     same_info false e = refl
     same_info true e =
-        let git : a.git ≡ b.git = same_list (codes ".git") a.git b.git (may.git (e refl)) (also.git (ap (λ (l : Items). has_git j.path (items_of l)) (sym here) ∙ e refl)) in
+        let git : a.git ≡ b.git = same_list (codes ".git") a.git b.git (may.git (e refl))
+        (also.git (ap (λ (l : Items). has_git j.path (items_of l)) (sym here) ∙ e refl)) in
         same_after a.git (λ inside. same_list (codes ".git/info") a.info b.info (may.info (e refl) inside)
-        (also.info (ap (λ (l : Items). has_git j.path (items_of l)) (sym here) ∙ e refl) (ap (λ (l : Items). has_directory (codes "info") (items_of l)) (sym git) ∙ inside)))
-        ∙ ap (λ (g : Items). and_then (listing true (codes ".git") g) (λ in_git. listing (has_directory (codes "info") in_git) (codes ".git/info") b.info)) git
+        (also.info (ap (λ (l : Items). has_git j.path (items_of l)) (sym here) ∙ e refl)
+        (ap (λ (l : Items). has_directory (codes "info") (items_of l)) (sym git) ∙ inside)))
+        ∙ ap (λ (g : Items). and_then (listing true (codes ".git") g)
+        (λ in_git. listing (has_directory (codes "info") in_git) (codes ".git/info") b.info)) git
 
     same_rules : (items : List Item) → a.here ≡ Ok items → rule_bytes j.path items a ≡ rule_bytes j.path items b
     same_rules items e =
         ap (λ r. and_then (and_then r info_bytes) (λ i. and_then (own_bytes j.path items) (λ o. Ok (record { info = i; own = o }))))
         (same_info (has_git j.path items) (λ t. ap (λ (l : Items). has_git j.path (items_of l)) e ∙ t))
 
-    same_level_of : (o : Items) → a.here ≡ o → level_of archive j a o ≡ level_of archive j b o
-    same_level_of (Ok items) e = ap (level_after archive j items) (same_rules items e)
+    same_level_of : (o : Items) → a.here ≡ o → level_of s j a o ≡ level_of s j b o
+    same_level_of (Ok items) e = ap (level_after s j items) (same_rules items e)
     same_level_of (Err word) e = refl
 
-    pub one_level : level archive j a ≡ level archive j b
-    one_level = same_level_of a.here refl ∙ ap (level_of archive j b) here
+    pub one_level : level s j a ≡ level s j b
+    one_level = same_level_of a.here refl ∙ ap (level_of s j b) here

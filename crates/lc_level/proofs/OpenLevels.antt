@@ -1,5 +1,6 @@
 -- The answers of a tree for a directory, by what opening it answered.
-use Rattle.std.proofs.Common.{◌≡◌, ℕ, Bool, true, false, ◌&&◌, ◌||◌, List, [], ◌∷◌, refl, sym, ◌∙◌, ap, subst, Result, Ok, Err, codes, arith}
+use Rattle.std.proofs.Common.{◌≡◌, ℕ, Bool, true, false, ◌&&◌, ◌||◌, List, [], ◌∷◌, refl, sym, ◌∙◌, ap, subst, Result, Ok, Err, codes}
+use Rattle.std.proofs.Common.{arith}
 use Rattle.std.specs.List.{list_any, flat_map}
 use Rattle.std.specs.List.Sorted.{IsStrictlySortedBy}
 use Rattle.lc_census.specs.declared.totals.Count.{Count}
@@ -15,6 +16,7 @@ use Rattle.lc_tree.specs.Listing.{EntryModel, IsListing}
 use Rattle.lc_level.specs.LeftIn.{kept_file, kept_directory, bytes_of, LeavesIn}
 use Rattle.lc_level.specs.Opens.{IsOpened, OpensLevel}
 use Rattle.lc_level.specs.FaultLines.{FaultLineModel}
+use Rattle.lc_level.specs.Selection.{SelectionModel}
 use Rattle.lc_level.specs.RuleFiles.{Pair, RuleBytes, has_git, is_top, and_then, info_items, info_bytes, own_bytes, rule_bytes, extended}
 use Rattle.lc_level.specs.RulePairs.{AreFilesOf, ReadsBoth}
 use Rattle.lc_level.specs.PlacePaths.{place_path}
@@ -34,10 +36,12 @@ use Rattle.lc_level.proofs.GivenItems.{AsRules, items_at, entries_items, directo
 use Rattle.lc_level.proofs.GivenPairs.{PairGiven, pair_given}
 
 -- what follows a reading, by what it gave
-and_then_ok : {A B : Type 0} (r : Result A FaultLineModel) (x : A) (next : A → Result B FaultLineModel) → r ≡ Ok x → and_then r next ≡ next x
+and_then_ok : {A B : Type 0} (r : Result A FaultLineModel) (x : A) (next : A → Result B FaultLineModel) → r ≡ Ok x
+    → and_then r next ≡ next x
 and_then_ok r x next e = ap (λ s. and_then s next) e
 
-and_then_err : {A B : Type 0} (r : Result A FaultLineModel) (f : FaultLineModel) (next : A → Result B FaultLineModel) → r ≡ Err f → and_then r next ≡ Err f
+and_then_err : {A B : Type 0} (r : Result A FaultLineModel) (f : FaultLineModel) (next : A → Result B FaultLineModel) → r ≡ Err f
+    → and_then r next ≡ Err f
 and_then_err r f next e = ap (λ s. and_then s next) e
 
 any_of_map : (p : EntryModel → Bool) (items : List Item) → list_any (λ i. p (entry_of i)) items ≡ list_any p (entries_of items)
@@ -53,22 +57,23 @@ no_top true e = cc
 no_top false e = cc
 
 -- the directory was not listed
-pub list_refused : (lists : List ℕ → Listings) (gives : List ℕ → Contents) (archive : Bool) (j : JobModel) (u : Unlisted) → ListsFor (lists j.path) Directory (Err u) → OpensLevel lists gives archive j (Err u)
-list_refused lists gives archive j (Faulted place word) (is, l) =
+pub list_refused : (lists : List ℕ → Listings) (gives : List ℕ → Contents) (s : SelectionModel) (j : JobModel) (u : Unlisted)
+    → ListsFor (lists j.path) Directory (Err u) → OpensLevel lists gives s j (Err u)
+list_refused lists gives s j (Faulted place word) (is, l) =
     let a : Answers = record { here = Err word; git = Ok []; info = Ok [] } in (
       a,
       record { here = l; git = λ t. absurd (no_top (is_top j.path) t); info = λ t h. absurd (no_top (is_top j.path) t) },
       no_entries,
       ap (λ (p : Place). faulted_level (place_path j.path p) word) (sym is),
     )
-list_refused lists gives archive j (Broken Memory) l = tt
-list_refused lists gives archive j (Broken TooManyDirs) l = absurd l
-list_refused lists gives archive j (Broken TooDeep) l = absurd l
+list_refused lists gives s j (Broken Memory) l = tt
+list_refused lists gives s j (Broken TooManyDirs) l = absurd l
+list_refused lists gives s j (Broken TooDeep) l = absurd l
 
 module _ (lists : List ℕ → Listings) (gives : List ℕ → Contents)
     (some_count : (path : List ℕ) → (r : Result Count FaultWord) × MayCount (gives path) r)
     (some_rules : (path : List ℕ) → (r : Result (List ℕ) FaultWord) × MayReadRules (gives path) r)
-    (archive : Bool) (j : JobModel) (es : List EntryModel) (may_list : lists j.path (Ok es)) (is_listing : IsListing es) where
+    (s : SelectionModel) (j : JobModel) (es : List EntryModel) (may_list : lists j.path (Ok es)) (is_listing : IsListing es) where
   abbrev own_items : AsRules → List Item
   own_items given = items_at (any_count lists gives some_count some_rules j.path) given es
 
@@ -83,9 +88,12 @@ module _ (lists : List ℕ → Listings) (gives : List ℕ → Contents)
   answers given a = record { here = Ok (own_items given); git = a.git; info = a.info }
 
   git_there : (given : AsRules) → has_git j.path (own_items given) ≡ there
-  git_there given = ap (λ b. is_top j.path && b) (directory_items (any_count lists gives some_count some_rules j.path) given (codes ".git") es)
+  git_there given =
+      ap (λ b. is_top j.path && b) (directory_items (any_count lists gives some_count some_rules j.path) given (codes ".git") es)
 
-  pub may_answer : (given : AsRules) → ((n : List ℕ) → MayReadRules (gives (path_in j.path n)) (given n)) → (a : Answers) → MayAnswerGit lists gives there a →
+  -- the answers that were put together may be given
+  pub may_answer : (given : AsRules) → ((n : List ℕ) → MayReadRules (gives (path_in j.path n)) (given n)) → (a : Answers)
+      → MayAnswerGit lists gives there a →
       MayAnswer lists gives j.path (answers given a)
   may_answer given may a git = record {
     here = listed lists gives some_count some_rules j.path es given may may_list;
@@ -93,27 +101,33 @@ module _ (lists : List ℕ → Listings) (gives : List ℕ → Contents)
     info = λ t h. git.info (sym (git_there given) ∙ t) h;
   }
 
+  -- and are tidy
   pub is_tidy : (given : AsRules) (a : Answers) → IsTidy (answers given a)
   is_tidy given a = subst IsListing (sym (entries_items (any_count lists gives some_count some_rules j.path) given es)) is_listing
 
   -- what reading the rule files gives, by the two parts of it
   bytes_by : (given : AsRules) (a : Answers) (r : Result Pair FaultLineModel) → and_then (info_items there a) info_bytes ≡ r →
-      rule_bytes j.path (own_items given) (answers given a) ≡ and_then r (λ i. and_then (own_bytes j.path (own_items given)) (λ o. Ok (record { info = i; own = o })))
+      rule_bytes j.path (own_items given) (answers given a)
+      ≡ and_then r (λ i. and_then (own_bytes j.path (own_items given)) (λ o. Ok (record { info = i; own = o })))
   bytes_by given a r e =
-      ap (λ b. and_then (and_then (info_items b a) info_bytes) (λ i. and_then (own_bytes j.path (own_items given)) (λ o. Ok (record { info = i; own = o })))) (git_there given)
+      ap (λ b. and_then (and_then (info_items b a) info_bytes)
+      (λ i. and_then (own_bytes j.path (own_items given)) (λ o. Ok (record { info = i; own = o })))) (git_there given)
       ∙ ap (λ s. and_then s (λ i. and_then (own_bytes j.path (own_items given)) (λ o. Ok (record { info = i; own = o })))) e
 
   -- a fault of `.git`, or of the directory's own files, is the level
   fault_level : (given : AsRules) (a : Answers) (path : List ℕ) (word : FaultWord) →
-      rule_bytes j.path (own_items given) (answers given a) ≡ Err (record { path = path; word = word }) → level archive j (answers given a) ≡ faulted_level path word
-  fault_level given a path word e = ap (level_after archive j (own_items given)) e
+      rule_bytes j.path (own_items given) (answers given a) ≡ Err (record { path = path; word = word })
+      → level s j (answers given a) ≡ faulted_level path word
+  fault_level given a path word e = ap (level_after s j (own_items given)) e
 
-  pub info_opens : (u : Unlisted) → ReadsGit lists gives there (Err u) → OpensLevel lists gives archive j (Err u)
+  -- a refusal of `.git/info` is one of the directory
+  pub info_opens : (u : Unlisted) → ReadsGit lists gives there (Err u) → OpensLevel lists gives s j (Err u)
   info_opens (Faulted place word) (a, git, is) = (
     answers own_rules a,
     may_answer own_rules (λ n. (some_rules (path_in j.path n)).1) a git,
     is_tidy own_rules a,
-    fault_level own_rules a (place_path j.path place) word (bytes_by own_rules a (Err (record { path = place_path j.path place; word = word })) (is j.path)),
+    fault_level own_rules a (place_path j.path place) word
+        (bytes_by own_rules a (Err (record { path = place_path j.path place; word = word })) (is j.path)),
   )
   info_opens (Broken Memory) r = tt
   info_opens (Broken TooManyDirs) r = absurd r
@@ -130,22 +144,27 @@ module _ (lists : List ℕ → Listings) (gives : List ℕ → Contents)
   in_directory n = gives (path_in j.path n)
 
   abbrev OwnGiven : Result RulePair Unlisted → Type 0
-  OwnGiven r = PairGiven in_directory (codes ".gitignore") (codes ".gitattributes") refl es own_rules (λ n. (some_rules (path_in j.path n)).1) (is_top j.path) IgnoreFile AttributeFile r
+  OwnGiven r = PairGiven in_directory (codes ".gitignore") (codes ".gitattributes") refl es own_rules
+      (λ n. (some_rules (path_in j.path n)).1) (is_top j.path) IgnoreFile AttributeFile r
 
   own_given : (r : Result RulePair Unlisted) → ReadsOwn r → OwnGiven r
-  own_given r reads = pair_given in_directory (codes ".gitignore") (codes ".gitattributes") refl es own_rules (λ n. (some_rules (path_in j.path n)).1) (is_top j.path) IgnoreFile AttributeFile r reads
+  own_given r reads = pair_given in_directory (codes ".gitignore") (codes ".gitattributes") refl es own_rules
+      (λ n. (some_rules (path_in j.path n)).1) (is_top j.path) IgnoreFile AttributeFile r reads
 
-  pub own_refused : (info : RulePair) → ReadsGit lists gives there (Ok info) → (u : Unlisted) → ReadsOwn (Err u) → OpensLevel lists gives archive j (Err u)
+  -- so is one of its own rule files
+  pub own_refused : (info : RulePair) → ReadsGit lists gives there (Ok info) → (u : Unlisted) → ReadsOwn (Err u)
+      → OpensLevel lists gives s j (Err u)
   own_refused info (a, git, (i, are, is)) u reads = at u (own_given (Err u) reads)
     where
-      at : (v : Unlisted) → OwnGiven (Err v) → OpensLevel lists gives archive j (Err v)
+      at : (v : Unlisted) → OwnGiven (Err v) → OpensLevel lists gives s j (Err v)
       at (Faulted place word) (given, may, e) = (
         answers given a,
         may_answer given may a git,
         is_tidy given a,
         fault_level given a (place_path j.path place) word
             (bytes_by given a (Ok i) is
-            ∙ and_then_err (own_bytes j.path (own_items given)) (record { path = place_path j.path place; word = word }) (λ o. Ok (record { info = i; own = o }))
+            ∙ and_then_err (own_bytes j.path (own_items given)) (record { path = place_path j.path place; word = word })
+            (λ o. Ok (record { info = i; own = o }))
             (e (place_path j.path) (any_count lists gives some_count some_rules j.path))),
       )
       at (Broken Memory) r = tt
@@ -164,6 +183,7 @@ module _ (lists : List ℕ → Listings) (gives : List ℕ → Contents)
     pub own_are : AreFilesOf (is_top j.path) own own_bytes
     pub read : rule_bytes j.path (own_items given) (answers given git_answers) ≡ Ok (record { info = info_bytes; own = own_bytes })
 
+  -- what was read, where neither was refused
   pub has_read : (info own : RulePair) → ReadsGit lists gives there (Ok info) → ReadsOwn (Ok own) → HasRead info own
   has_read info own (a, git, (i, are, is)) reads =
       let g = own_given (Ok own) reads in
@@ -178,31 +198,34 @@ module _ (lists : List ℕ → Listings) (gives : List ℕ → Contents)
         own_are = g.2.1;
         read = bytes_by g.0 a (Ok i) is
             ∙ and_then_ok (own_bytes j.path (own_items g.0)) g.2.0 (λ o. Ok (record { info = i; own = o }))
-            (g.2.2 (path_in j.path (codes ".gitignore")) (path_in j.path (codes ".gitattributes")) (any_count lists gives some_count some_rules j.path));
+            (g.2.2 (path_in j.path (codes ".gitignore")) (path_in j.path (codes ".gitattributes"))
+            (any_count lists gives some_count some_rules j.path));
       }
 
   -- one of the entries is too deep
-  pub deep_opens : (info own : RulePair) → HasRead info own → (k : JobModel) → ((i o : Pair) → AreFilesOf true info i → AreFilesOf (is_top j.path) own o → k ≡ extended j (record { info = i; own = o })) →
-      list_any (is_too_deep archive k) es ≡ true → OpensLevel lists gives archive j (Err (Broken TooDeep))
+  pub deep_opens : (info own : RulePair) → HasRead info own → (k : JobModel)
+      → ((i o : Pair) → AreFilesOf true info i → AreFilesOf (is_top j.path) own o → k ≡ extended j (record { info = i; own = o })) →
+      list_any (is_too_deep s k) es ≡ true → OpensLevel lists gives s j (Err (Broken TooDeep))
   deep_opens info own r k inside deep =
       let items = own_items r.given in
       let files : RuleBytes = record { info = r.info_bytes; own = r.own_bytes } in
-      let same : list_any (λ i. is_too_deep archive (extended j files) (entry_of i)) items ≡ list_any (is_too_deep archive (extended j files)) es =
-      any_of_map (is_too_deep archive (extended j files)) items
-      ∙ ap (λ (ds : List EntryModel). list_any (is_too_deep archive (extended j files)) ds) (entries_items (any_count lists gives some_count some_rules j.path) r.given es) in
-      let here : list_any (is_too_deep archive (extended j files)) es ≡ true =
-      subst (λ (l : JobModel). list_any (is_too_deep archive l) es ≡ true) (inside r.info_bytes r.own_bytes r.info_are r.own_are) deep in (
+      let same : list_any (λ i. is_too_deep s (extended j files) (entry_of i)) items ≡ list_any (is_too_deep s (extended j files)) es =
+      any_of_map (is_too_deep s (extended j files)) items
+      ∙ ap (λ (ds : List EntryModel). list_any (is_too_deep s (extended j files)) ds)
+      (entries_items (any_count lists gives some_count some_rules j.path) r.given es) in
+      let here : list_any (is_too_deep s (extended j files)) es ≡ true =
+      subst (λ (l : JobModel). list_any (is_too_deep s l) es ≡ true) (inside r.info_bytes r.own_bytes r.info_are r.own_are) deep in (
         answers r.given r.git_answers,
         may_answer r.given r.may r.git_answers r.git,
         is_tidy r.given r.git_answers,
-        ap (some_too_deep archive j items) r.read ∙ same ∙ here,
+        ap (some_too_deep s j items) r.read ∙ same ∙ here,
       )
 
   -- the entries that are left in
   pub opened : (info own : RulePair) → HasRead info own → (o : Opened) →
       ((x y : Pair) → AreFilesOf true info x → AreFilesOf (is_top j.path) own y → o.job ≡ extended j (record { info = x; own = y })) →
-      bytes_of o.files.items ≡ flat_map (kept_file archive o.job) es → o.children.items ≡ flat_map (kept_directory archive o.job) es →
-      IsOpened lists gives archive j o
+      bytes_of o.files.items ≡ flat_map (kept_file s o.job) es → o.children.items ≡ flat_map (kept_directory s o.job) es →
+      IsOpened lists gives s j o
   opened info own r o inside files children =
       let are : es ≡ entries_of (own_items r.given) = sym (entries_items (any_count lists gives some_count some_rules j.path) r.given es) in
       record {
@@ -214,13 +237,14 @@ module _ (lists : List ℕ → Listings) (gives : List ℕ → Contents)
         bytes = record { info = r.info_bytes; own = r.own_bytes };
         read = r.read;
         inside = inside r.info_bytes r.own_bytes r.info_are r.own_are;
-        files = subst (λ (ds : List EntryModel). bytes_of o.files.items ≡ flat_map (kept_file archive o.job) ds) are files;
-        children = subst (λ (ds : List EntryModel). o.children.items ≡ flat_map (kept_directory archive o.job) ds) are children;
+        files = subst (λ (ds : List EntryModel). bytes_of o.files.items ≡ flat_map (kept_file s o.job) ds) are files;
+        children = subst (λ (ds : List EntryModel). o.children.items ≡ flat_map (kept_directory s o.job) ds) are children;
       }
 
   -- the entries were not taken
-  pub left_refused : (info own : RulePair) → HasRead info own → (k : JobModel) → ((i o : Pair) → AreFilesOf true info i → AreFilesOf (is_top j.path) own o → k ≡ extended j (record { info = i; own = o })) →
-      (cause : Cause) → LeavesIn archive k es (Err cause) → OpensLevel lists gives archive j (Err (Broken cause))
+  pub left_refused : (info own : RulePair) → HasRead info own → (k : JobModel)
+      → ((i o : Pair) → AreFilesOf true info i → AreFilesOf (is_top j.path) own o → k ≡ extended j (record { info = i; own = o })) →
+      (cause : Cause) → LeavesIn s k es (Err cause) → OpensLevel lists gives s j (Err (Broken cause))
   left_refused info own r k inside Memory l = tt
   left_refused info own r k inside TooManyDirs l = absurd l
   left_refused info own r k inside TooDeep l = deep_opens info own r k inside l

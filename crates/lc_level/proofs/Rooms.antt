@@ -11,6 +11,8 @@ module _ {S : Type 0} (may_give : S → ℕ → Answer → S → Type 0) (room :
   stops old new at_failure s = (s.0, s.1, tt, s.3)
   stops old new at_neither s = s
 
-  pub any_room : (pieces : List (List ℕ)) (stop : Stop) (old new : S) → Reads may_give (RoomOf room) old pieces stop new → Reads may_give AnyRoom old pieces stop new
+  -- reads into buffers of one length are reads into some buffers
+  pub any_room : (pieces : List (List ℕ)) (stop : Stop) (old new : S) → Reads may_give (RoomOf room) old pieces stop new
+      → Reads may_give AnyRoom old pieces stop new
   any_room [] stop old new s = stops old new stop s
   any_room (piece ∷ pieces) stop old new r = (r.0, r.1, (r.2.0, r.2.1, tt, r.2.3), any_room pieces stop r.0 new r.3)

@@ -19,15 +19,19 @@ abbrev pub Spread : List Item → Type 0
 Spread [] = Unit {0}
 Spread (e ∷ es) = AllByRecursion (λ d. bytes_eq (name_of d) (name_of e) ≡ false) es × IsGoodName (name_of e) × Spread es
 
+-- true is not false
 pub clash : {b : Bool} → b ≡ true → b ≡ false → ⊥
 clash t f = let h : true ≡ false = sym t ∙ f in absurd (cc h)
 
+-- bytes that compare equal are equal
 pub same_bytes : (m n : List ℕ) → bytes_eq m n ≡ true → m ≡ n
 same_bytes m n e = (bytes_eq-Decides m n).0 e
 
+-- equal bytes compare equal
 pub bytes_same : (m n : List ℕ) → m ≡ n → bytes_eq m n ≡ true
 bytes_same m n e = (bytes_eq-Decides m n).1 e
 
+-- other bytes don't
 pub other_bytes : (m n : List ℕ) → m ≢ n → bytes_eq m n ≡ false
 other_bytes m n d = at (bytes_eq m n) refl
   where
@@ -35,6 +39,7 @@ other_bytes m n d = at (bytes_eq m n) refl
     at true e = absurd (d (same_bytes m n e))
     at false e = e
 
+-- bytes that don't compare equal are others
 pub bytes_other : (m n : List ℕ) → bytes_eq m n ≡ false → m ≢ n
 bytes_other m n e s = clash (bytes_same m n s) e
 
@@ -58,16 +63,21 @@ some_name : (n : List ℕ) → is_no_name n ≡ false → n ≢ []
 some_name [] e = cc
 some_name (b ∷ bs) e = λ d. cc
 
+-- a name that passes the test of names is good
 pub good_one : (n : List ℕ) → is_good_name n ≡ true → IsGoodName n
 good_one n e =
     let first = both (not (is_no_name n) && not (list_any (λ b. b == 47) n)) (not (list_any (λ b. b == 0) n)) e in
     let second = both (not (is_no_name n)) (not (list_any (λ b. b == 47) n)) first.0 in
     (some_name n (is_not (is_no_name n) second.0), no_slash n (is_not (list_any (λ b. b == 47) n) second.1))
 
-others : (e : Item) (es : List Item) → AllByRecursion (λ y. eq_by_cmp bytes_cmp (name_of e) y ≡ false) (names (entries_of es)) → AllByRecursion (λ d. bytes_eq (name_of d) (name_of e) ≡ false) es
+others : (e : Item) (es : List Item) → AllByRecursion (λ y. eq_by_cmp bytes_cmp (name_of e) y ≡ false) (names (entries_of es))
+    → AllByRecursion (λ d. bytes_eq (name_of d) (name_of e) ≡ false) es
 others e [] a = tt
-others e (d ∷ ds) a =
-    (other_bytes (name_of d) (name_of e) (λ s. bytes_other (name_of e) (name_of d) (sym (is_eq-slice_cmp (name_of e) (name_of d)) ∙ a.0) (sym s)), others e ds a.1)
+others e (d ∷ ds) a = (
+  other_bytes (name_of d) (name_of e) (λ s. bytes_other (name_of e) (name_of d)
+      (sym (is_eq-slice_cmp (name_of e) (name_of d)) ∙ a.0) (sym s)),
+  others e ds a.1,
+)
 
 spread_by : (es : List Item) → have_good_names (entries_of es) ≡ true → HaveDistinctNames (entries_of es) → Spread es
 unfolding IsDistinct
@@ -76,5 +86,6 @@ spread_by (e ∷ es) g d =
     let t = both (is_good_name (name_of e)) (have_good_names (entries_of es)) g in
     (others e es d.0, good_one (name_of e) t.0, spread_by es t.1 d.1)
 
+-- the items of a listing have good names, no two the same
 pub spread : (es : List Item) → IsListing (entries_of es) → Spread es
 spread es l = spread_by es l.good (IsDistinct-from_sorted bytes_cmp (names (entries_of es)) l.order)

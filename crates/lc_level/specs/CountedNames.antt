@@ -4,7 +4,7 @@ use Rattle.std.specs.declared.alloc.AllocError.{AllocError}
 use Rattle.lc_census.specs.declared.totals.Count.{Count}
 use Rattle.lc_glob.specs.Path.{path_in}
 use Rattle.lc_level.specs.Job.{JobModel}
-use Rattle.lc_level.specs.Level.{CountedModel, FileFaultModel, counted_by, fault_by}
+use Rattle.lc_level.specs.Level.{Fate, file_fate, counted_of, failed_of, counted_in, failed_in}
 use Rattle.lc_tree.specs.Trees.{Contents, MayCount}
 use Rattle.lc_level.specs.declared.counting.CountedFiles.{CountedFiles}
 use Rattle.lc_tree.specs.declared.fault_word.FaultWord.{FaultWord}
@@ -16,33 +16,29 @@ AreCounted gives j [] (r ∷ rs) = ⊥
 AreCounted gives j (n ∷ ns) [] = ⊥
 AreCounted gives j (n ∷ ns) (r ∷ rs) = MayCount (gives (path_in j.path n)) r × AreCounted gives j ns rs
 
--- the counted files, and the faults of the others
-abbrev pub files_counted : JobModel → List (List ℕ) → List (Result Count FaultWord) → List CountedModel
-files_counted j [] rs = []
-files_counted j (n ∷ ns) [] = []
-files_counted j (n ∷ ns) (r ∷ rs) = counted_by j n r ++ files_counted j ns rs
-
-abbrev pub faults_counted : List (List ℕ) → List (Result Count FaultWord) → List FileFaultModel
-faults_counted [] rs = []
-faults_counted (n ∷ ns) [] = []
-faults_counted (n ∷ ns) (r ∷ rs) = fault_by n r ++ faults_counted ns rs
+-- the fates of these files by these results
+abbrev pub file_fates : JobModel → List (List ℕ) → List (Result Count FaultWord) → List (List ℕ × Fate)
+file_fates j [] rs = []
+file_fates j (n ∷ ns) [] = []
+file_fates j (n ∷ ns) (r ∷ rs) = (n, file_fate j n r) ∷ file_fates j ns rs
 
 -- these are the files of these names
 pub record IsCounted (gives : List ℕ → Contents) (j : JobModel) (names : List (List ℕ)) (found : CountedFiles) : Type 0 where
   pub results : List (Result Count FaultWord)
   pub may : AreCounted gives j names results
-  pub files : found.files.items ≡ files_counted j names results
-  pub faults : found.faults.items ≡ faults_counted names results
+  pub files : found.files.items ≡ counted_in (file_fates j names results)
+  pub faults : found.faults.items ≡ failed_in (file_fates j names results)
 
 -- what adding what one file gave answers
 abbrev pub AddsResult : JobModel → List ℕ → Result Count FaultWord → CountedFiles → CountedFiles → Result (Unit {0}) AllocError → Type 0
-AddsResult j name r old new (Ok _) = (new.files.items ≡ old.files.items ++ counted_by j name r)
-    × (new.faults.items ≡ old.faults.items ++ fault_by name r)
+AddsResult j name r old new (Ok _) = (new.files.items ≡ old.files.items ++ counted_of (name, file_fate j name r))
+    × (new.faults.items ≡ old.faults.items ++ failed_of (name, file_fate j name r))
 AddsResult j name r old new (Err _) = Unit {0}
 
 -- what counting one file more answers
 abbrev pub AddsCounted : (List ℕ → Contents) → JobModel → List ℕ → CountedFiles → CountedFiles → Result (Unit {0}) AllocError → Type 0
 AddsCounted gives j name old new (Ok _) =
     (r : Result Count FaultWord) × MayCount (gives (path_in j.path name)) r
-    × (new.files.items ≡ old.files.items ++ counted_by j name r) × (new.faults.items ≡ old.faults.items ++ fault_by name r)
+    × (new.files.items ≡ old.files.items ++ counted_of (name, file_fate j name r))
+    × (new.faults.items ≡ old.faults.items ++ failed_of (name, file_fate j name r))
 AddsCounted gives j name old new (Err _) = Unit {0}

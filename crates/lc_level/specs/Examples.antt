@@ -1,13 +1,15 @@
 -- The tree of a node of memory, computed on a small node.
-use Rattle.std.specs.Prelude.{◌≡◌, ℕ, ◌^◌, nat_lt, true, false, List, [], ◌∷◌, length, map, Vec, Ok, Err, None, refl, codes}
+use Rattle.std.specs.Prelude.{◌≡◌, ℕ, ◌^◌, nat_lt, Bool, true, false, List, [], ◌∷◌, ◌++◌, length, map, Vec, Ok, Err, None, refl, codes}
 use Rattle.std.specs.declared.alloc.Global.{Global}
 use Rattle.std.proofs.Math.Nat.{le_refl}
 use Rattle.std.proofs.lemmas.Bool.{ltb-true}
 use denote.RawPtr.{null_ptr}
 use Rattle.lc_census.specs.declared.totals.Eol.TheVariants.{Lf}
-use Rattle.lc_level.specs.Answers.{Item, file_item, directory_item}
-use Rattle.lc_level.specs.Level.{Level, faulted_level, listed_level, level}
+use Rattle.lc_level.specs.Answers.{Item, file_item, directory_item, other_item}
+use Rattle.lc_level.specs.Level.{Reason, named_git, by_rule, by_attribute, other_kind, Level, faulted_level, listed_level, level}
+use Rattle.lc_level.specs.Level.{counted_in, failed_in, walked_in, left_in}
 use Rattle.lc_level.specs.NodeTrees.{tree_of_node}
+use Rattle.lc_level.specs.Selection.{selection_of_archive}
 use Rattle.lc_level.specs.TopJob.{top_job}
 use Rattle.lc_tree.specs.FileAnswers.{census}
 use Rattle.lc_tree.specs.Nodes.{Child}
@@ -31,11 +33,24 @@ module _ (alloc : Global) where
   abbrev pub rule_file : Child
   rule_file = (vec alloc (codes ".gitignore") refl, roll-Node (Node-F.File (vec alloc (codes "*.o\n") refl)))
 
+  abbrev pub attribute_file : Child
+  attribute_file = (vec alloc (codes ".gitattributes") refl, roll-Node (Node-F.File (vec alloc (codes "s export-ignore\n") refl)))
+
+  -- as it stands in a further working tree
+  abbrev pub git_file : Child
+  git_file = (vec alloc (codes ".git") refl, roll-Node (Node-F.File (vec alloc (codes "x") refl)))
+
   abbrev pub file : Child
   file = (vec alloc (codes "c") refl, roll-Node (Node-F.File (vec alloc (codes "one\n") refl)))
 
   abbrev pub ignored_file : Child
   ignored_file = (vec alloc (codes "a.o") refl, roll-Node (Node-F.File (vec alloc (codes "x") refl)))
+
+  abbrev pub unexported_file : Child
+  unexported_file = (vec alloc (codes "s") refl, roll-Node (Node-F.File (vec alloc (codes "x") refl)))
+
+  abbrev pub link : Child
+  link = (vec alloc (codes "l") refl, roll-Node Node-F.Other)
 
   abbrev pub failing_file : Child
   failing_file = (vec alloc (codes "e") refl, roll-Node (Node-F.Failing (vec alloc (codes "x") refl)))
@@ -51,7 +66,8 @@ module _ (alloc : Global) where
 
   -- all of them, in no order, in a directory
   abbrev pub entries : List Child
-  entries = file ∷ with_bad_name ∷ closed ∷ rule_file ∷ failing_file ∷ ignored_file ∷ []
+  entries =
+      file ∷ with_bad_name ∷ closed ∷ rule_file ∷ failing_file ∷ ignored_file ∷ link ∷ attribute_file ∷ unexported_file ∷ git_file ∷ []
 
   abbrev pub small_node : Node
   small_node = roll-Node (Node-F.Dir (vec alloc entries refl))
@@ -63,21 +79,50 @@ whole_file name bytes = file_item name (Ok (census bytes)) (Ok bytes)
 -- the items of that directory, in order of their names
 abbrev pub small_items : List Item
 small_items =
-    whole_file (codes ".gitignore") (codes "*.o\n") ∷ whole_file (codes "a.o") (codes "x") ∷ directory_item (codes "b")
-    ∷ whole_file (codes "c") (codes "one\n") ∷ directory_item (codes "d") ∷ file_item (codes "e") (Err Read) (Err Read) ∷ []
+    whole_file (codes ".git") (codes "x") ∷ whole_file (codes ".gitattributes") (codes "s export-ignore\n")
+    ∷ whole_file (codes ".gitignore") (codes "*.o\n") ∷ whole_file (codes "a.o") (codes "x") ∷ directory_item (codes "b")
+    ∷ whole_file (codes "c") (codes "one\n") ∷ directory_item (codes "d") ∷ file_item (codes "e") (Err Read) (Err Read)
+    ∷ other_item (codes "l") ∷ whole_file (codes "s") (codes "x") ∷ []
 
--- the names of the counted files of a level, of the others, and of its child directories
-abbrev pub names_in : Level → List (List ℕ) × List (List ℕ) × List (List ℕ)
-names_in (faulted_level path word) = ([], [], [])
-names_in (listed_level files faults children) = (map (λ f. f.name) files, map (λ f. f.name) faults, map (λ c. c.0) children)
+-- the names of a level's counted files, of the others, and of its child directories; and what is left out, and why
+pub record Names : Type 0 where
+  pub files : List (List ℕ)
+  pub faults : List (List ℕ)
+  pub children : List (List ℕ)
+  pub outside : List (List ℕ × Reason)
 
--- a directory's entries stand in order of their names; the ignored file is not counted, and the one that fails is a fault; what is
--- closed, or has a bad name in it, can't be listed
+abbrev pub names_in : Level → Names
+names_in (faulted_level path word) = record { files = []; faults = []; children = []; outside = [] }
+names_in (listed_level fates) = record {
+  files = map (λ f. f.name) (counted_in fates);
+  faults = map (λ f. f.name) (failed_in fates);
+  children = map (λ c. c.0) (walked_in fates);
+  outside = left_in fates;
+}
+
+-- of the small directory, as it is or as an archive
+abbrev pub small_names : Global → Bool → Names
+small_names alloc archive = names_in (level (selection_of_archive archive) (top_job None) (tree_of_node (small_node alloc) []))
+
+-- what is left out of it in any case
+abbrev pub small_outside : List (List ℕ × Reason)
+small_outside = (codes ".git", named_git) ∷ (codes "a.o", by_rule) ∷ (codes "l", other_kind) ∷ []
+
+abbrev pub small_as_it_is : Names
+small_as_it_is = record {
+  files = codes ".gitattributes" ∷ codes ".gitignore" ∷ codes "c" ∷ codes "s" ∷ [];
+  faults = codes "e" ∷ [];
+  children = codes "b" ∷ codes "d" ∷ [];
+  outside = small_outside;
+}
+
+-- a directory's entries stand in order of their names; the one that fails is a fault; `.git`, the ignored file and the link are left out,
+-- and of an archive what has the attribute `export-ignore`; what is closed, or has a bad name in it, can't be listed
 pub record ExamplesHold (alloc : Global) : Type 0 where
   pub top : (tree_of_node (small_node alloc) []).here ≡ Ok small_items
   pub count : census (codes "one\n") ≡ record { lines = 1; blank = 0; bytes = 4; eol = Lf }
-  pub names : names_in (level false (top_job None) (tree_of_node (small_node alloc) []))
-      ≡ (codes ".gitignore" ∷ codes "c" ∷ [], codes "e" ∷ [], codes "b" ∷ codes "d" ∷ [])
+  pub names : small_names alloc false ≡ small_as_it_is
+  pub archived : (small_names alloc true).outside ≡ small_outside ++ (codes "s", by_attribute (codes "export-ignore")) ∷ []
   pub closed_there : (tree_of_node (small_node alloc) (codes "b" ∷ [])).here ≡ Err Read
   pub bad_name_there : (tree_of_node (small_node alloc) (codes "d" ∷ [])).here ≡ Err Name
   pub none_there : (tree_of_node (small_node alloc) (codes "f" ∷ [])).here ≡ Err Read

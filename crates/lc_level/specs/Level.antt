@@ -1,5 +1,8 @@
--- One level of the walk: what one directory gives.
-use Rattle.std.specs.Prelude.{ℕ, Bool, true, false, not, ◌&&◌, cond, List, [], ◌∷◌, flat_map, Result, Ok, Err, bytes_eq, codes}
+-- One level of the walk: what becomes of each entry of one directory.
+use Rattle.std.specs.Prelude.{ℕ, ◌≡◌, Bool, true, false, cond, List, [], ◌∷◌, flat_map, map, bytes_eq, codes}
+use Rattle.std.specs.Prelude.{Option, Some, option_map, Result, Ok, Err}
+use Rattle.std.specs.List.{find}
+use Rattle.std.specs.Option.{is_none, option_map_or}
 use Rattle.lc_rules.specs.Attributes.{StateModel, set, unset, value, unspecified}
 use Rattle.lc_rules.specs.Verdicts.{joined, verdict_of}
 use Rattle.lc_rules.specs.declared.verdicts.Verdict.{Verdict}
@@ -9,10 +12,11 @@ use Rattle.lc_census.specs.declared.totals.Count.{Count}
 use Rattle.lc_tree.specs.declared.fault_word.FaultWord.{FaultWord}
 use Rattle.lc_glob.specs.Path.{path_in}
 use Rattle.lc_rules.specs.AttrStates.{state_of, as_text}
-use Rattle.lc_level.specs.Answers.{Item, file_item, directory_item, other_item, Items, Answers}
+use Rattle.lc_level.specs.Answers.{Item, file_item, directory_item, other_item, name_of, Items, Answers}
 use Rattle.lc_level.specs.Job.{JobModel}
 use Rattle.lc_level.specs.FaultLines.{FaultLineModel}
 use Rattle.lc_level.specs.RuleFiles.{RuleBytes, rule_bytes, extended}
+use Rattle.lc_level.specs.Selection.{SelectionModel}
 
 -- a counted file of a directory
 pub record CountedModel : Type 0 where
@@ -25,10 +29,25 @@ pub record FileFaultModel : Type 0 where
   pub name : List ℕ
   pub word : FaultWord
 
--- a directory gives a fault at some path and nothing else, or counted files, file faults, and its child directories with their jobs
+-- why an entry is left out, the first that holds: it is named `.git`; a rule ignores it; an attribute that leaves out is Set for it; it is
+-- neither a file nor a directory
+pub data Reason : Type 0 where
+  named_git : Reason
+  by_rule : Reason
+  by_attribute : (name : List ℕ) → Reason
+  other_kind : Reason
+
+-- what becomes of an entry: a file is counted, or has a fault; a directory is to be walked, by this job; or the entry is left out
+pub data Fate : Type 0 where
+  counted : CountedModel → Fate
+  failed : FaultWord → Fate
+  walked : JobModel → Fate
+  left : Reason → Fate
+
+-- a directory gives a fault at some path and nothing else, or its entries' names with their fates, in the order of its listing
 pub data Level : Type 0 where
   faulted_level : (path : List ℕ) → FaultWord → Level
-  listed_level : List CountedModel → List FileFaultModel → List (List ℕ × JobModel) → Level
+  listed_level : List (List ℕ × Fate) → Level
 
 abbrev pub is_ignored : Verdict → Bool
 is_ignored Ignored = true
@@ -41,15 +60,29 @@ is_set unset = false
 is_set (value v) = false
 is_set unspecified = false
 
--- the rules leave it in: it is not ignored, and in an archive its attribute `export-ignore` is not set
-abbrev pub is_kept : Bool → JobModel → List ℕ → Bool → Bool
-is_kept archive j path is_dir =
-    not (is_ignored (verdict_of (joined j.ignore) path is_dir))
-    && not (archive && is_set (state_of j.attributes path is_dir (codes "export-ignore")))
+-- ---- what leaves an entry out
 
--- the entry of this name is not `.git`, and the rules leave it in
-abbrev pub is_taken : Bool → JobModel → List ℕ → Bool → Bool
-is_taken archive j name is_dir = not (bytes_eq name (codes ".git")) && is_kept archive j (path_in j.path name) is_dir
+-- the first attribute of the selection that is Set at a path
+abbrev pub attribute_reason : SelectionModel → JobModel → List ℕ → Bool → Option Reason
+attribute_reason s j path is_dir = option_map by_attribute (find (λ name. is_set (state_of j.attributes path is_dir name)) s.without)
+
+-- by a path
+abbrev pub reason_at : SelectionModel → JobModel → List ℕ → Bool → Option Reason
+reason_at s j path is_dir =
+    cond (is_ignored (verdict_of (joined j.ignore) path is_dir)) (Some by_rule) (attribute_reason s j path is_dir)
+
+-- by a name in the directory
+abbrev pub reason_of : SelectionModel → JobModel → List ℕ → Bool → Option Reason
+reason_of s j name is_dir = cond (bytes_eq name (codes ".git")) (Some named_git) (reason_at s j (path_in j.path name) is_dir)
+
+-- nothing does
+abbrev pub is_kept : SelectionModel → JobModel → List ℕ → Bool → Bool
+is_kept s j path is_dir = is_none (reason_at s j path is_dir)
+
+abbrev pub is_taken : SelectionModel → JobModel → List ℕ → Bool → Bool
+is_taken s j name is_dir = is_none (reason_of s j name is_dir)
+
+-- ---- fates
 
 abbrev pub text_of : JobModel → List ℕ → TextState
 text_of j path = as_text (state_of j.attributes path false (codes "text"))
@@ -61,44 +94,73 @@ job_at j path = record { path = path; ignore = j.ignore; attributes = j.attribut
 abbrev pub child_job : JobModel → List ℕ → JobModel
 child_job j name = job_at j (path_in j.path name)
 
-abbrev pub counted_by : JobModel → List ℕ → Result Count FaultWord → List CountedModel
-counted_by j name (Ok count) = record { name = name; text = text_of j (path_in j.path name); count = count } ∷ []
-counted_by j name (Err word) = []
+-- of a file that is not left out, by what counting it gave
+abbrev pub file_fate : JobModel → List ℕ → Result Count FaultWord → Fate
+file_fate j name (Ok count) = counted (record { name = name; text = text_of j (path_in j.path name); count = count })
+file_fate j name (Err word) = failed word
 
-abbrev pub fault_by : List ℕ → Result Count FaultWord → List FileFaultModel
-fault_by name (Ok count) = []
-fault_by name (Err word) = record { name = name; word = word } ∷ []
+abbrev pub fate_of : SelectionModel → JobModel → Item → Fate
+fate_of s j (file_item name count rules) = option_map_or left (reason_of s j name false) (file_fate j name count)
+fate_of s j (directory_item name) = option_map_or left (reason_of s j name true) (walked (child_job j name))
+fate_of s j (other_item name) = option_map_or left (reason_of s j name false) (left other_kind)
 
-abbrev pub files_by : Bool → JobModel → Item → List CountedModel
-files_by archive j (file_item name counted rules) = cond (is_taken archive j name false) (counted_by j name counted) []
-files_by archive j (directory_item name) = []
-files_by archive j (other_item name) = []
+abbrev pub fates_of : SelectionModel → JobModel → List Item → List (List ℕ × Fate)
+fates_of s j items = map (λ item. (name_of item, fate_of s j item)) items
 
-abbrev pub faults_by : Bool → JobModel → Item → List FileFaultModel
-faults_by archive j (file_item name counted rules) = cond (is_taken archive j name false) (fault_by name counted) []
-faults_by archive j (directory_item name) = []
-faults_by archive j (other_item name) = []
+-- ---- what a list of fates holds
 
-abbrev pub children_by : Bool → JobModel → Item → List (List ℕ × JobModel)
-children_by archive j (file_item name counted rules) = []
-children_by archive j (directory_item name) = cond (is_taken archive j name true) ((name, child_job j name) ∷ []) []
-children_by archive j (other_item name) = []
+abbrev pub counted_of : List ℕ × Fate → List CountedModel
+counted_of (name, counted file) = file ∷ []
+counted_of (name, _) = []
 
-abbrev pub level_of_items : Bool → List Item → JobModel → Level
-level_of_items archive es j = listed_level (flat_map (files_by archive j) es) (flat_map (faults_by archive j) es)
-    (flat_map (children_by archive j) es)
+abbrev pub failed_of : List ℕ × Fate → List FileFaultModel
+failed_of (name, failed word) = record { name = name; word = word } ∷ []
+failed_of (name, _) = []
+
+abbrev pub walked_of : List ℕ × Fate → List (List ℕ × JobModel)
+walked_of (name, walked job) = (name, job) ∷ []
+walked_of (name, _) = []
+
+abbrev pub left_of : List ℕ × Fate → List (List ℕ × Reason)
+left_of (name, left reason) = (name, reason) ∷ []
+left_of (name, _) = []
+
+-- the counted files, the faults of files, the child directories with their jobs, the entries left out
+abbrev pub counted_in : List (List ℕ × Fate) → List CountedModel
+counted_in fates = flat_map counted_of fates
+
+abbrev pub failed_in : List (List ℕ × Fate) → List FileFaultModel
+failed_in fates = flat_map failed_of fates
+
+abbrev pub walked_in : List (List ℕ × Fate) → List (List ℕ × JobModel)
+walked_in fates = flat_map walked_of fates
+
+abbrev pub left_in : List (List ℕ × Fate) → List (List ℕ × Reason)
+left_in fates = flat_map left_of fates
+
+-- a level that was listed has these counted files, file faults and child directories
+pub record IsLevelOf (l : Level) (files : List CountedModel) (faults : List FileFaultModel) (children : List (List ℕ × JobModel))
+    : Type 0 where
+  pub fates : List (List ℕ × Fate)
+  pub listed : l ≡ listed_level fates
+  pub counts : counted_in fates ≡ files
+  pub fails : failed_in fates ≡ faults
+  pub walks : walked_in fates ≡ children
 
 -- ---- the whole
 
--- the level of these items, by what reading the rule files gave
-abbrev pub level_after : Bool → JobModel → List Item → Result RuleBytes FaultLineModel → Level
-level_after archive j items (Ok files) = level_of_items archive items (extended j files)
-level_after archive j items (Err fault) = faulted_level fault.path fault.word
+abbrev pub level_of_items : SelectionModel → List Item → JobModel → Level
+level_of_items s items j = listed_level (fates_of s j items)
 
-abbrev pub level_of : Bool → JobModel → Answers → Items → Level
-level_of archive j a (Ok items) = level_after archive j items (rule_bytes j.path items a)
-level_of archive j a (Err word) = faulted_level j.path word
+-- the level of these items, by what reading the rule files gave
+abbrev pub level_after : SelectionModel → JobModel → List Item → Result RuleBytes FaultLineModel → Level
+level_after s j items (Ok files) = level_of_items s items (extended j files)
+level_after s j items (Err fault) = faulted_level fault.path fault.word
+
+abbrev pub level_of : SelectionModel → JobModel → Answers → Items → Level
+level_of s j a (Ok items) = level_after s j items (rule_bytes j.path items a)
+level_of s j a (Err word) = faulted_level j.path word
 
 -- the level of a directory whose answers these are
-abbrev pub level : Bool → JobModel → Answers → Level
-level archive j a = level_of archive j a a.here
+abbrev pub level : SelectionModel → JobModel → Answers → Level
+level s j a = level_of s j a a.here

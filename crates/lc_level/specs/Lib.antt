@@ -18,6 +18,7 @@ pub mod PlacePaths
 pub mod RuleFiles
 pub mod RulePairs
 pub mod RuleReads
+pub mod Selection
 pub mod Tidy
 pub mod TopJob
 pub mod TreeAnswers

@@ -1,5 +1,5 @@
 -- Trees that answer each question in one way.
-use Rattle.std.specs.Prelude.{◌≡◌, ℕ, ◌<◌, ◌^◌, Bool, List, length, Result}
+use Rattle.std.specs.Prelude.{◌≡◌, ℕ, ◌<◌, ◌^◌, List, length, Result}
 use Rattle.lc_census.specs.declared.totals.Count.{Count}
 use Rattle.lc_tree.specs.Listing.{EntryModel}
 use Rattle.lc_tree.specs.MemTrees.{mem_lists, mem_gives}
@@ -12,6 +12,7 @@ use Rattle.lc_level.specs.Answers.{Answers}
 use Rattle.lc_level.specs.Job.{JobModel}
 use Rattle.lc_level.specs.Level.{level}
 use Rattle.lc_level.specs.NodeTrees.{tree_of_node}
+use Rattle.lc_level.specs.Selection.{SelectionModel}
 use Rattle.lc_level.specs.Tidy.{IsTidy}
 use Rattle.lc_level.specs.TreeAnswers.{MayAnswer}
 
@@ -25,8 +26,8 @@ module _ (lists : List ℕ → Listings) (gives : List ℕ → Contents) where
   -- then each directory has one level
   abbrev pub OneLevelLaw : Type 0
   OneLevelLaw =
-      GivesOne → (archive : Bool) (j : JobModel) (a b : Answers) → MayAnswer lists gives j.path a → MayAnswer lists gives j.path b
-      → level archive j a ≡ level archive j b
+      GivesOne → (s : SelectionModel) (j : JobModel) (a b : Answers) → MayAnswer lists gives j.path a → MayAnswer lists gives j.path b
+      → level s j a ≡ level s j b
 
 -- each file of a tree of memory has under 2^32 bytes
 abbrev pub IsModest : Node → Type 0
@@ -43,8 +44,8 @@ NodeAnswersLaw = (top : Node) (path : List ℕ) → MayAnswer (mem_lists top) (m
 -- no others give another level, where each file has under 2^32 bytes
 abbrev pub NodeLevelsLaw : Type 0
 NodeLevelsLaw =
-    (top : Node) → IsModest top → (archive : Bool) (j : JobModel) (a : Answers) → MayAnswer (mem_lists top) (mem_gives top) j.path a
-    → level archive j a ≡ level archive j (tree_of_node top (names_of_path j.path))
+    (top : Node) → IsModest top → (s : SelectionModel) (j : JobModel) (a : Answers) → MayAnswer (mem_lists top) (mem_gives top) j.path a
+    → level s j a ≡ level s j (tree_of_node top (names_of_path j.path))
 
 -- and its listings are listings
 abbrev pub NodeTidyLaw : Type 0

@@ -1,5 +1,5 @@
 -- What opening a directory answers: its listing, its rule files and its entries, before its files are counted.
-use Rattle.std.specs.Prelude.{◌≡◌, ℕ, Bool, true, List, Result, Ok, Err}
+use Rattle.std.specs.Prelude.{◌≡◌, ℕ, true, List, Result, Ok, Err}
 use Rattle.std.specs.List.{flat_map}
 use Rattle.lc_level.specs.Answers.{Item, Answers, entries_of}
 use Rattle.lc_level.specs.Deep.{has_too_deep}
@@ -9,6 +9,7 @@ use Rattle.lc_level.specs.LeftIn.{kept_file, kept_directory, bytes_of}
 use Rattle.lc_level.specs.Level.{faulted_level, level}
 use Rattle.lc_level.specs.PlacePaths.{place_path}
 use Rattle.lc_level.specs.RuleFiles.{RuleBytes, rule_bytes, extended}
+use Rattle.lc_level.specs.Selection.{SelectionModel}
 use Rattle.lc_level.specs.TreeAnswers.{MayAnswer}
 use Rattle.lc_tree.specs.Trees.{Listings, Contents}
 use Rattle.lc_level.specs.declared.opening.Opened.{Opened}
@@ -16,7 +17,7 @@ use Rattle.lc_level.specs.declared.unlisted.Unlisted.{Unlisted}
 use Rattle.lc_level.specs.declared.unlisted.Unlisted.TheVariants.{Faulted, Broken}
 use Rattle.lc_level.specs.declared.cause.Cause.TheVariants.{Memory, TooManyDirs, TooDeep}
 
-module _ (lists : List ℕ → Listings) (gives : List ℕ → Contents) (archive : Bool) (j : JobModel) where
+module _ (lists : List ℕ → Listings) (gives : List ℕ → Contents) (s : SelectionModel) (j : JobModel) where
   -- by answers that the tree may give: the directory with its rule files, and the names that these leave in
   pub record IsOpened (o : Opened) : Type 0 where
     pub answers : Answers
@@ -27,14 +28,14 @@ module _ (lists : List ℕ → Listings) (gives : List ℕ → Contents) (archiv
     pub bytes : RuleBytes
     pub read : rule_bytes j.path items answers ≡ Ok bytes
     pub inside : o.job ≡ extended j bytes
-    pub files : bytes_of o.files.items ≡ flat_map (kept_file archive o.job) (entries_of items)
-    pub children : o.children.items ≡ flat_map (kept_directory archive o.job) (entries_of items)
+    pub files : bytes_of o.files.items ≡ flat_map (kept_file s o.job) (entries_of items)
+    pub children : o.children.items ≡ flat_map (kept_directory s o.job) (entries_of items)
 
   -- a directory that is opened, at fault, too deep for a walk, or given up for want of memory
   abbrev pub OpensLevel : Result Opened Unlisted → Type 0
   OpensLevel (Ok o) = IsOpened o
   OpensLevel (Err (Faulted place word)) = (a : Answers) × MayAnswer lists gives j.path a × IsTidy a
-      × (level archive j a ≡ faulted_level (place_path j.path place) word)
+      × (level s j a ≡ faulted_level (place_path j.path place) word)
   OpensLevel (Err (Broken Memory)) = Unit {0}
   OpensLevel (Err (Broken TooManyDirs)) = ⊥
-  OpensLevel (Err (Broken TooDeep)) = (a : Answers) × MayAnswer lists gives j.path a × IsTidy a × (has_too_deep archive j a ≡ true)
+  OpensLevel (Err (Broken TooDeep)) = (a : Answers) × MayAnswer lists gives j.path a × IsTidy a × (has_too_deep s j a ≡ true)

@@ -1,5 +1,6 @@
 //! The buffers of a worker.
 ghost use Rattle.std.specs.Prelude.{◌≡◌, vec_len};
+ghost use Rattle.lc_census.specs.Limits.{buffer_len};
 
 use crate::path_buffer::PathBuffer;
 use lc_census::new_buffer;
@@ -14,7 +15,7 @@ pub struct Desk {
     pub(crate) rules: Vec<u8>,
     // Of an entry.
     pub(crate) path: PathBuffer,
-    ghost sized: { vec_len buffer ≡ 65536 },
+    ghost sized: { vec_len buffer ≡ buffer_len },
 }
 
 impl Desk {

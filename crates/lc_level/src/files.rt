@@ -1,5 +1,6 @@
 //! Opening one file, to count it or to read it as rules.
 ghost use Rattle.std.specs.Prelude.{◌≡◌, ◌<◌, ◌≤◌, ℕ, List, Ok, length};
+ghost use Rattle.lc_census.specs.Limits.{buffer_len};
 ghost use Rattle.lc_level.specs.FileReads.{IsAnswer};
 ghost use Rattle.lc_tree.specs.Trees.{MayCount, MayReadRules};
 
@@ -17,7 +18,7 @@ pub(crate) fn count_file<T: Tree>(
     buffer: &mut [u8],
 ) -> Result<Count, Unread>
     requires some { 0 < length buffer.old }
-    requires room { length buffer.old ≤ 65536 }
+    requires room { length buffer.old ≤ buffer_len }
     ensures { IsAnswer (MayCount (T.gives tree.entry.now path.now)) (λ count. count) result }
 {
     let mut file = match tree.open_file(alloc, path) {

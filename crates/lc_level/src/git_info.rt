@@ -5,7 +5,7 @@ ghost use Rattle.lc_level.specs.GitInfo.{ListsFor, ReadsGit};
 
 use crate::desk::Desk;
 use crate::entry_looks::has_dir;
-use crate::rule_pair::{RuleName, RulePair, read_pair};
+use crate::rule_pair::{PairNames, RuleName, RulePair, read_pair};
 use crate::unlisted::Unlisted;
 use crate::{Cause, Place};
 use lc_tree::{Entry, Listing, Tree};
@@ -42,27 +42,24 @@ pub(crate) fn read_git_info<T: Tree>(
     if !has_dir(entries, b".git") {
         return Ok(RulePair::none());
     }
-    let git = match list_for(alloc, tree, b".git", Place::Git) {
-        Ok(listing) => listing,
-        Err(unlisted) => return Err(unlisted),
-    };
+    let git = list_for(alloc, tree, b".git", Place::Git)?;
     if !has_dir(git.entries(), b"info") {
         return Ok(RulePair::none());
     }
-    let info = match list_for(alloc, tree, b".git/info", Place::GitInfo) {
-        Ok(listing) => listing,
-        Err(unlisted) => return Err(unlisted),
-    };
+    let info = list_for(alloc, tree, b".git/info", Place::GitInfo)?;
     let Ok(()) = desk.path.enter(b".git/info") else {
         return Err(Unlisted::Broken(Cause::Memory));
     };
-    let exclude = RuleName {
-        name: b"exclude",
-        place: Place::ExcludeFile,
+    let names = PairNames {
+        rules: RuleName {
+            name: b"exclude",
+            place: Place::ExcludeFile,
+        },
+        attributes: RuleName {
+            name: b"attributes",
+            place: Place::InfoAttributes,
+        },
+        top: true,
     };
-    let attributes = RuleName {
-        name: b"attributes",
-        place: Place::InfoAttributes,
-    };
-    read_pair(alloc, tree, info.entries(), exclude, attributes, true, desk)
+    read_pair(alloc, tree, info.entries(), names, desk)
 }

@@ -1,7 +1,7 @@
 //! A directory to be walked.
 ghost use Rattle.std.specs.Prelude.{◌≡◌, ◌≤◌, length, IfOk};
 ghost use Rattle.std.specs.Arc.{arc_value};
-ghost use Rattle.lc_glob.specs.Path.{depth_of};
+ghost use Rattle.lc_glob.specs.Path.{depth_of, max_path};
 ghost use Rattle.lc_level.specs.Level.{job_at};
 ghost use Rattle.lc_level.specs.RuleReads.{shared};
 ghost use Rattle.lc_level.specs.TopJob.{top_job};
@@ -14,6 +14,10 @@ use std::sync::Arc;
 
 /// A directory to be walked: its path, and both chains of its parent. The chains are shared by all that stand under the
 /// same rule files. A job is one word long, so that it moves at no cost.
+///
+/// ```
+/// let top = Job::top(alloc, None)?; // its path is empty, and its chains have no rule
+/// ```
 #[derive(Drop)]
 pub struct Job {
     parts: Box<Parts, Global>,
@@ -29,11 +33,12 @@ struct Parts {
 impl Model for Parts {
     ghost use Rattle.std.specs.Prelude.{◌≤◌, length};
     ghost use Rattle.std.specs.Arc.{arc_value};
+    ghost use Rattle.lc_glob.specs.Path.{max_path};
     ghost use Rattle.lc_level.specs.Job.{JobModel};
 
     ghost Value = { JobModel };
 
-    ghost invariant = { λ p. length p.path.items ≤ 4096 };
+    ghost invariant = { λ p. length p.path.items ≤ max_path };
 
     ghost view = { λ p. record { path = p.path.items; ignore = arc_value p.ignore; attributes = arc_value p.attributes } };
 }
@@ -65,7 +70,7 @@ impl Job {
         ignore: Arc<Chain, Global>,
         attributes: Arc<AttrChain, Global>,
     ) -> Result<Job, AllocError>
-        requires { length path.items ≤ 4096 }
+        requires { length path.items ≤ max_path }
         ensures { IfOk result (λ j. j ≡ record { path = path.items; ignore = arc_value ignore; attributes = arc_value attributes }) }
     {
         let parts = Parts {
@@ -115,7 +120,7 @@ impl Job {
 
     /// The job of a directory at this path, under the rule files of this one.
     pub(crate) fn at(&self, alloc: Global, path: &[u8]) -> Result<Job, AllocError>
-        requires { length path.now ≤ 4096 }
+        requires { length path.now ≤ max_path }
         ensures { IfOk result (λ j. j ≡ job_at self.now path.now) }
     {
         let path = path.to_vec(alloc)?;

@@ -1,14 +1,15 @@
-//! The entries of a directory that its rules leave in.
+//! The entries of a directory that its rules and the selection leave in.
 ghost use Rattle.std.specs.Prelude.{◌≡◌, ◌≤◌, length, IfOk, true, false, nat_lt};
-ghost use Rattle.lc_glob.specs.Path.{depth_of, max_depth};
+ghost use Rattle.lc_glob.specs.Path.{depth_of, max_depth, max_path};
 ghost use Rattle.lc_level.specs.LeftIn.{KeepsFile, KeepsDirectory, Keeps, LeavesIn};
 ghost use Rattle.lc_level.specs.Level.{is_kept, job_at};
 
 use crate::Cause;
 use crate::job::Job;
 use crate::path_buffer::PathBuffer;
+use crate::selection::Selection;
 use lc_glob::path::{is_too_deep, is_too_long};
-use lc_rules::{State, Verdict};
+use lc_rules::Verdict;
 use lc_tree::{Entry, Kind};
 use std::alloc::{AllocError, Global};
 use std::marker::Model;
@@ -38,47 +39,37 @@ impl Model for ChildDirectory {
     ghost view = { λ c. (c.name.items, c.job) };
 }
 
-/// Whether the rules leave in what stands at a path. Memory is taken for an attribute's macros alone.
+/// Whether the rules and the selection leave in what stands at a path.
 fn is_left_in(
     alloc: Global,
     job: &Job,
     path: &[u8],
     is_dir: bool,
-    archive: bool,
+    selection: &Selection,
 ) -> Result<bool, AllocError>
-    ensures { IfOk result (λ left. left ≡ is_kept archive job.now path.now is_dir) }
+    ensures { IfOk result (λ left. left ≡ is_kept selection.now job.now path.now is_dir) }
 {
     match job.ignore().verdict(path, is_dir) {
         Verdict::Ignored => return Ok(false),
         Verdict::Included => {}
         Verdict::NoRule => {}
     }
-    if !archive {
-        return Ok(true);
-    }
-    match job
-        .attributes()
-        .state(alloc, path, is_dir, b"export-ignore")?
-    {
-        State::Set => Ok(false),
-        State::Unset => Ok(true),
-        State::Value(_) => Ok(true),
-        State::Unspecified => Ok(true),
-    }
+    let is_out = selection.leaves_out(alloc, job, path, is_dir)?;
+    Ok(!is_out)
 }
 
 /// Takes a file.
 fn keep_file(
     alloc: Global,
     job: &Job,
-    archive: bool,
+    selection: &Selection,
     name: Vec<u8>,
     path: &[u8],
     left: &mut LeftIn,
 ) -> Result<(), Cause>
-    ensures { KeepsFile (is_kept archive job.now path.now false) name.items left.old left.new result }
+    ensures { KeepsFile (is_kept selection.now job.now path.now false) name.items left.old left.new result }
 {
-    match is_left_in(alloc, job, path, false, archive) {
+    match is_left_in(alloc, job, path, false, selection) {
         Ok(true) => {}
         Ok(false) => return Ok(()),
         Err(_) => return Err(Cause::Memory),
@@ -93,16 +84,16 @@ fn keep_file(
 fn keep_directory(
     alloc: Global,
     job: &Job,
-    archive: bool,
+    selection: &Selection,
     name: Vec<u8>,
     path: &[u8],
     left: &mut LeftIn,
 ) -> Result<(), Cause>
-    requires { length path.now ≤ 4096 }
-    ensures { KeepsDirectory (is_kept archive job.now path.now true) (nat_lt max_depth (depth_of path.now))
+    requires { length path.now ≤ max_path }
+    ensures { KeepsDirectory (is_kept selection.now job.now path.now true) (nat_lt max_depth (depth_of path.now))
         (name.items, job_at job.now path.now) left.old left.new result }
 {
-    match is_left_in(alloc, job, path, true, archive) {
+    match is_left_in(alloc, job, path, true, selection) {
         Ok(true) => {}
         Ok(false) => return Ok(()),
         Err(_) => return Err(Cause::Memory),
@@ -123,14 +114,14 @@ fn keep_directory(
 fn keep(
     alloc: Global,
     job: &Job,
-    archive: bool,
+    selection: &Selection,
     entry: Entry,
     path: &mut PathBuffer,
     left: &mut LeftIn,
 ) -> Result<(), Cause>
     requires { path.old.directory ≡ job.now.path }
     ensures same { path.new.directory ≡ path.old.directory }
-    ensures kept { Keeps archive job.now entry left.old left.new result }
+    ensures kept { Keeps selection.now job.now entry left.old left.new result }
 {
     if entry.name.as_slice() == b".git".as_slice() {
         return Ok(());
@@ -143,8 +134,8 @@ fn keep(
     }
     match entry.kind {
         Kind::Other => Ok(()),
-        Kind::File => keep_file(alloc, job, archive, entry.name, path.as_slice(), left),
-        Kind::Dir => keep_directory(alloc, job, archive, entry.name, path.as_slice(), left),
+        Kind::File => keep_file(alloc, job, selection, entry.name, path.as_slice(), left),
+        Kind::Dir => keep_directory(alloc, job, selection, entry.name, path.as_slice(), left),
     }
 }
 
@@ -152,23 +143,20 @@ fn keep(
 pub(crate) fn left_in(
     alloc: Global,
     job: &Job,
-    archive: bool,
+    selection: &Selection,
     entries: Vec<Entry>,
     path: &mut PathBuffer,
 ) -> Result<LeftIn, Cause>
     requires { path.old.directory ≡ job.now.path }
     ensures same { path.new.directory ≡ path.old.directory }
-    ensures left { LeavesIn archive job.now entries.items result }
+    ensures left { LeavesIn selection.now job.now entries.items result }
 {
     let mut left = LeftIn {
         files: Vec::new(alloc),
         children: Vec::new(alloc),
     };
     for entry in entries {
-        match keep(alloc, job, archive, entry, path, &mut left) {
-            Ok(()) => {}
-            Err(cause) => return Err(cause),
-        }
+        keep(alloc, job, selection, entry, path, &mut left)?;
     }
     Ok(left)
 }

@@ -4,6 +4,7 @@
 //! - `opening`: opening a directory, up to which of its entries its rules leave in
 //! - `git_info`, `rule_files`, `rule_pair`: its rule files, read whole; `chains`: both chains by them
 //! - `entry_looks`, `left_in`: what is looked for among its entries, and which of them stay
+//! - `selection`: what decides beside the rules
 //! - `counted`, `counting`: what became of its files, and counting them
 //! - `files`, `unread`: opening one file, to count it or to read it as rules, and why that was not possible
 //! - `paths`: the path of a name in a directory
@@ -29,6 +30,7 @@ mod paths;
 mod place;
 mod rule_files;
 mod rule_pair;
+mod selection;
 mod unlisted;
 mod unread;
 
@@ -45,4 +47,5 @@ pub use left_in::ChildDirectory;
 pub use opening::{Opened, open_level};
 pub use paths::path_in;
 pub use place::Place;
+pub use selection::Selection;
 pub use unlisted::Unlisted;

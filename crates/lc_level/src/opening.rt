@@ -13,7 +13,8 @@ use crate::desk::Desk;
 use crate::git_info::{list_for, read_git_info};
 use crate::job::Job;
 use crate::left_in::{ChildDirectory, left_in};
-use crate::rule_pair::{RuleName, RulePair, read_pair};
+use crate::rule_pair::{PairNames, RuleName, RulePair, read_pair};
+use crate::selection::Selection;
 use crate::unlisted::Unlisted;
 use crate::{Cause, Place};
 use lc_tree::{Entry, Tree};
@@ -65,16 +66,18 @@ fn read_own<T: Tree>(
     let Ok(()) = desk.path.enter(directory) else {
         return Err(Unlisted::Broken(Cause::Memory));
     };
-    let ignore = RuleName {
-        name: b".gitignore",
-        place: Place::IgnoreFile,
+    let names = PairNames {
+        rules: RuleName {
+            name: b".gitignore",
+            place: Place::IgnoreFile,
+        },
+        attributes: RuleName {
+            name: b".gitattributes",
+            place: Place::AttributeFile,
+        },
+        top: directory.is_empty(),
     };
-    let attributes = RuleName {
-        name: b".gitattributes",
-        place: Place::AttributeFile,
-    };
-    let top = directory.is_empty();
-    read_pair(alloc, tree, entries, ignore, attributes, top, desk)
+    read_pair(alloc, tree, entries, names, desk)
 }
 
 /// A directory with these rule files in both chains.
@@ -97,36 +100,34 @@ fn with_files(alloc: Global, job: &Job, info: RulePair, own: RulePair) -> Result
 
 /// Opens the directory of a job: what stops it is its first fault, or an entry that is too deep for a walk. The desk then
 /// stands in the directory.
+///
+/// ```
+/// let mut desk = Desk::new(alloc)?;
+/// let top = Job::top(alloc, None)?;
+/// let Opened { job, files, children } = open_level(alloc, &tree, &top, &Selection::of_archive(false), &mut desk)?;
+/// let counted = count_files(alloc, &tree, &job, files, &mut desk)?; // `children` has the directories to be walked
+/// ```
 pub fn open_level<T: Tree>(
     alloc: Global,
     tree: &T,
     job: &Job,
-    archive: bool,
+    selection: &Selection,
     desk: &mut Desk,
 ) -> Result<Opened, Unlisted>
     ensures at { IfOk result (λ o. desk.new.path.directory ≡ o.job.path) }
-    ensures opens { OpensLevel (T.lists tree.entry.now) (T.gives tree.entry.now) archive job.now result }
+    ensures opens { OpensLevel (T.lists tree.entry.now) (T.gives tree.entry.now) selection.now job.now result }
 {
     let path = job.path();
-    let listing = match list_for(alloc, tree, path, Place::Directory) {
-        Ok(listing) => listing,
-        Err(unlisted) => return Err(unlisted),
-    };
-    let info = match read_info(alloc, tree, path, listing.entries(), desk) {
-        Ok(files) => files,
-        Err(unlisted) => return Err(unlisted),
-    };
-    let own = match read_own(alloc, tree, path, listing.entries(), desk) {
-        Ok(files) => files,
-        Err(unlisted) => return Err(unlisted),
-    };
+    let listing = list_for(alloc, tree, path, Place::Directory)?;
+    let info = read_info(alloc, tree, path, listing.entries(), desk)?;
+    let own = read_own(alloc, tree, path, listing.entries(), desk)?;
     let Ok(inside) = with_files(alloc, job, info, own) else {
         return Err(Unlisted::Broken(Cause::Memory));
     };
     match left_in(
         alloc,
         &inside,
-        archive,
+        selection,
         listing.into_entries(),
         &mut desk.path,
     ) {

@@ -26,6 +26,7 @@ impl Model for PathBuffer {
 }
 
 impl PathBuffer {
+    /// That of the empty path.
     pub(crate) fn new(alloc: Global) -> PathBuffer {
         PathBuffer {
             bytes: Vec::new(alloc),

@@ -39,30 +39,43 @@ pub(crate) struct RuleName<'a> {
     pub(crate) place: Place,
 }
 
+/// Which two files of a directory are read, and whether it is one whose attributes may define macros.
+#[derive(Clone, Copy)]
+pub(crate) struct PairNames<'a> {
+    pub(crate) rules: RuleName<'a>,
+    pub(crate) attributes: RuleName<'a>,
+    pub(crate) top: bool,
+}
+
 /// Reads the two files of these names in the desk's directory, the rules first.
 pub(crate) fn read_pair<T: Tree>(
     alloc: Global,
     tree: &T,
     entries: &[Entry],
-    rules: RuleName,
-    attributes: RuleName,
-    top: bool,
+    names: PairNames,
     desk: &mut Desk,
 ) -> Result<RulePair, Unlisted>
     ensures same { desk.new.path.directory ≡ desk.old.path.directory }
     ensures read { ReadsBoth
-        (T.gives tree.entry.now (path_in desk.old.path.directory rules.entry.name.now))
-        (T.gives tree.entry.now (path_in desk.old.path.directory attributes.entry.name.now))
-        (has_file rules.entry.name.now entries.now) (has_file attributes.entry.name.now entries.now)
-        top rules.entry.place attributes.entry.place result }
+        (T.gives tree.entry.now (path_in desk.old.path.directory names.entry.rules.name.now))
+        (T.gives tree.entry.now (path_in desk.old.path.directory names.entry.attributes.name.now))
+        (has_file names.entry.rules.name.now entries.now) (has_file names.entry.attributes.name.now entries.now)
+        names.entry.top names.entry.rules.place names.entry.attributes.place result }
 {
-    let rules = match ignore_file(alloc, tree, entries, rules.name, desk) {
+    let rules = match ignore_file(alloc, tree, entries, names.rules.name, desk) {
         Ok(file) => file,
-        Err(unread) => return Err(unread.at(rules.place)),
+        Err(unread) => return Err(unread.at(names.rules.place)),
     };
-    let attributes = match attribute_file(alloc, tree, entries, attributes.name, top, desk) {
+    let attributes = match attribute_file(
+        alloc,
+        tree,
+        entries,
+        names.attributes.name,
+        names.top,
+        desk,
+    ) {
         Ok(file) => file,
-        Err(unread) => return Err(unread.at(attributes.place)),
+        Err(unread) => return Err(unread.at(names.attributes.place)),
     };
     Ok(RulePair { rules, attributes })
 }

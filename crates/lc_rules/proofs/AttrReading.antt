@@ -1,5 +1,6 @@
 -- How attribute lines are read, from the front.
-use Rattle.std.proofs.Common.{◌≡◌, ◌<◌, ◌+◌, ◌-◌, ℕ, zero, suc, false, cond, nat_eq, List, [], ◌∷◌, ◌++◌, length, take, drop, Option, Some, None, refl, sym, ◌∙◌, ap, arith, append_assoc, not, ◌&&◌, lt-ltb}
+use Rattle.std.proofs.Common.{◌≡◌, ◌<◌, ◌+◌, ◌-◌, ℕ, zero, suc, false, cond, nat_eq, List, [], ◌∷◌, ◌++◌, length, take, drop, Option}
+use Rattle.std.proofs.Common.{Some, None, refl, sym, ◌∙◌, ap, arith, append_assoc, not, ◌&&◌, lt-ltb}
 use Rattle.std.proofs.lemmas.Bool.Decides.{Decides-eqb}
 use Rattle.std.proofs.lemmas.Bool.{le-ltb}
 use Rattle.std.specs.List.{position_or_len, before_first, after_first, list_all}
@@ -17,20 +18,26 @@ abbrev pub onto_all : List AssignmentModel → Option (List AssignmentModel) →
 onto_all found None = None
 onto_all found (Some others) = Some (found ++ others)
 
+-- what all words give is what they give after no assignment
 pub onto_none : (o : Option (List AssignmentModel)) → o ≡ onto_all [] o
 onto_none None = refl
 onto_none (Some x) = refl
 
+-- at the end the assignments that were found are all
 pub onto_end : (found : List AssignmentModel) → onto_all found (Some []) ≡ Some found
 onto_end found = ap (λ l. Some l) (append-nil found)
 
-onto_more : (found : List AssignmentModel) (a : AssignmentModel) (o : Option (List AssignmentModel)) → onto_all found (both (Some a) o) ≡ onto_all (found ++ (a ∷ [])) o
+onto_more : (found : List AssignmentModel) (a : AssignmentModel) (o : Option (List AssignmentModel))
+    → onto_all found (both (Some a) o) ≡ onto_all (found ++ (a ∷ [])) o
 onto_more found a None = refl
 onto_more found a (Some x) = ap (λ l. Some l) (sym (append_assoc found (a ∷ []) x))
 
-pub onto_word : (found : List AssignmentModel) (w : List ℕ) (ws : List (List ℕ)) (a : AssignmentModel) → assign w ≡ Some a → onto_all found (assigns (w ∷ ws)) ≡ onto_all (found ++ (a ∷ [])) (assigns ws)
+-- a word that is an assignment is one more of those found
+pub onto_word : (found : List AssignmentModel) (w : List ℕ) (ws : List (List ℕ)) (a : AssignmentModel) → assign w ≡ Some a
+    → onto_all found (assigns (w ∷ ws)) ≡ onto_all (found ++ (a ∷ [])) (assigns ws)
 onto_word found w ws a e = ap (λ o. onto_all found (both o (assigns ws))) e ∙ onto_more found a (assigns ws)
 
+-- a word that is none spoils the line
 pub onto_bad : (found : List AssignmentModel) (w : List ℕ) (ws : List (List ℕ)) → assign w ≡ None → onto_all found (assigns (w ∷ ws)) ≡ None
 onto_bad found w ws e = ap (λ o. onto_all found (both o (assigns ws))) e
 
@@ -39,14 +46,17 @@ abbrev pub onto_text : List ℕ → Option (List ℕ × List ℕ) → Option (Li
 onto_text text None = None
 onto_text text (Some r) = Some (text ++ r.0, r.1)
 
+-- what a quoted pattern reads as is what it reads as after no text
 pub text_start : (o : Option (List ℕ × List ℕ)) → o ≡ onto_text [] o
 text_start None = refl
 text_start (Some r) = refl
 
+-- one byte more of the text
 pub text_byte : (text : List ℕ) (b : ℕ) (o : Option (List ℕ × List ℕ)) → onto_text text (put_byte b o) ≡ onto_text (text ++ (b ∷ [])) o
 text_byte text b None = refl
 text_byte text b (Some r) = ap (λ l. Some (l, r.1)) (sym (append_assoc text (b ∷ []) r.0))
 
+-- bytes that belong to an escape before are passed over
 pub unquoted_skip : (k : ℕ) (bytes : List ℕ) → unquoted k bytes ≡ unquoted 0 (drop k bytes)
 unquoted_skip zero bytes = refl
 unquoted_skip (suc k) [] = refl
@@ -55,14 +65,20 @@ unquoted_skip (suc k) (b ∷ bs) = unquoted_skip k bs
 ne_false : (a b : ℕ) → (a ≡ b → ⊥) → nat_eq a b ≡ false
 ne_false a b h = false_from_ne_true (nat_eq a b) (λ t. h ((Decides-eqb a b).0 t))
 
-pub text_plain : (text more left rest : List ℕ) (b : ℕ) → left ≡ b ∷ rest → (b ≡ 34 → ⊥) → (b ≡ 92 → ⊥) → more ≡ text ++ (b ∷ []) → onto_text text (unquoted 0 left) ≡ onto_text more (unquoted 0 rest)
+-- a byte that is neither a quote nor a backslash stands for itself
+pub text_plain : (text more left rest : List ℕ) (b : ℕ) → left ≡ b ∷ rest → (b ≡ 34 → ⊥) → (b ≡ 92 → ⊥) → more ≡ text ++ (b ∷ [])
+    → onto_text text (unquoted 0 left) ≡ onto_text more (unquoted 0 rest)
 text_plain text more left rest b e q s m =
     ap (λ l. onto_text text (unquoted 0 l)) e
-    ∙ ap (λ t. onto_text text (cond t (Some ([], rest)) (cond (nat_eq b 92) (put_escape (escape rest) (λ k. unquoted k rest)) (put_byte b (unquoted 0 rest))))) (ne_false b 34 q)
+    ∙ ap (λ t. onto_text text (cond t (Some ([], rest))
+    (cond (nat_eq b 92) (put_escape (escape rest) (λ k. unquoted k rest)) (put_byte b (unquoted 0 rest))))) (ne_false b 34 q)
     ∙ ap (λ t. onto_text text (cond t (put_escape (escape rest) (λ k. unquoted k rest)) (put_byte b (unquoted 0 rest)))) (ne_false b 92 s)
     ∙ text_byte text b (unquoted 0 rest) ∙ ap (λ t. onto_text t (unquoted 0 rest)) (sym m)
 
-pub text_escape : (text more left rest : List ℕ) (b byte taken : ℕ) → left ≡ b ∷ rest → b ≡ 92 → escape rest ≡ Some (byte, taken) → more ≡ text ++ (byte ∷ []) → onto_text text (unquoted 0 left) ≡ onto_text more (unquoted 0 (take (length rest - taken) (drop taken rest)))
+-- an escape stands for its byte
+pub text_escape : (text more left rest : List ℕ) (b byte taken : ℕ) → left ≡ b ∷ rest → b ≡ 92 → escape rest ≡ Some (byte, taken)
+    → more ≡ text ++ (byte ∷ []) → onto_text text (unquoted 0 left) ≡ onto_text more
+    (unquoted 0 (take (length rest - taken) (drop taken rest)))
 text_escape text more left rest b byte taken e s k m =
     ap (λ l. onto_text text (unquoted 0 l)) (e ∙ ap (λ c. c ∷ rest) s)
     ∙ ap (λ o. onto_text text (put_escape o (λ k. unquoted k rest))) k
@@ -70,18 +86,26 @@ text_escape text more left rest b byte taken e s k m =
     ∙ ap (λ t. onto_text t (unquoted 0 (drop taken rest))) (sym m)
     ∙ ap (λ l. onto_text more (unquoted 0 l)) (sym (take_rest rest taken))
 
+-- a word taken up to its length is the word
 pub whole_take : (w : List ℕ) → take (length w) w ≡ w
 whole_take [] = refl
 whole_take (x ∷ xs) = ap (λ l. x ∷ l) (whole_take xs)
 
+-- a word without an equals sign is an attribute that is Set
 pub plain_none : (w : List ℕ) → IsFirstByte (is_byte 61) w None → plain_assign w ≡ named w set
-plain_none w h = ap (λ t. cond t (named (before_first (at_byte 61) w) (value (after_first (at_byte 61) w))) (named w set)) (le-ltb (position_or_len (at_byte 61) w) (length w) (omega (arith, place_none 61 w h)))
+plain_none w h = ap (λ t. cond t (named (before_first (at_byte 61) w) (value (after_first (at_byte 61) w))) (named w set))
+    (le-ltb (position_or_len (at_byte 61) w) (length w) (omega (arith, place_none 61 w h)))
 
-pub plain_some : (w : List ℕ) (i : ℕ) → IsFirstByte (is_byte 61) w (Some i) → plain_assign w ≡ named (take i w) (value (take (length w - (i + 1)) (drop (i + 1) w)))
+-- one with an equals sign is an attribute with the value behind it
+pub plain_some : (w : List ℕ) (i : ℕ) → IsFirstByte (is_byte 61) w (Some i)
+    → plain_assign w ≡ named (take i w) (value (take (length w - (i + 1)) (drop (i + 1) w)))
 plain_some w i h =
     let below : i < length w = place_below 61 w i h in
-    ap (λ t. cond t (named (before_first (at_byte 61) w) (value (after_first (at_byte 61) w))) (named w set)) (lt-ltb (position_or_len (at_byte 61) w) (length w) (omega (arith, place_some 61 w i h)))
+    ap (λ t. cond t (named (before_first (at_byte 61) w) (value (after_first (at_byte 61) w))) (named w set))
+    (lt-ltb (position_or_len (at_byte 61) w) (length w) (omega (arith, place_some 61 w i h)))
     ∙ rw take_rest (ap (λ n. named (take n w) (value (drop (n + 1) w))) (place_some 61 w i h))
 
+-- a name that doesn't begin with a hyphen is one where each byte may stand in a name
 pub name_is : (name rest : List ℕ) (b : ℕ) → name ≡ b ∷ rest → (b ≡ 45 → ⊥) → is_name name ≡ list_all is_name_byte name
-name_is name rest b e h = ap is_name e ∙ ap (λ t. not t && list_all is_name_byte (b ∷ rest)) (ne_false b 45 h) ∙ ap (list_all is_name_byte) (sym e)
+name_is name rest b e h =
+    ap is_name e ∙ ap (λ t. not t && list_all is_name_byte (b ∷ rest)) (ne_false b 45 h) ∙ ap (list_all is_name_byte) (sym e)

@@ -1,5 +1,6 @@
 -- A line read from the left, without the spaces and the carriage return at its end.
-use Rattle.std.proofs.Common.{◌≡◌, ◌≤◌, ◌<◌, ◌+◌, ℕ, true, false, cond, nat_eq, List, [], ◌∷◌, ◌++◌, length, take, drop, get_or, refl, sym, ◌∙◌, ap, append_assoc, arith, add-one, drop-cons, length-drop}
+use Rattle.std.proofs.Common.{◌≡◌, ◌≤◌, ◌<◌, ◌+◌, ℕ, true, false, cond, nat_eq, List, [], ◌∷◌, ◌++◌, length, take, drop, get_or, refl}
+use Rattle.std.proofs.Common.{sym, ◌∙◌, ap, append_assoc, arith, add-one, drop-cons, length-drop}
 use Rattle.std.proofs.lemmas.Bool.Decides.{Decides-eqb}
 use Rattle.std.proofs.lemmas.Bool.{false_from_ne_true}
 use Rattle.std.proofs.lemmas.List.{append-nil}
@@ -11,10 +12,12 @@ abbrev pub after : List ℕ → List ℕ → List ℕ → List ℕ
 after kept read [] = kept
 after kept read (x ∷ xs) = read ++ (x ∷ xs)
 
+-- at first nothing is read of a line, and nothing kept
 pub after_start : (left : List ℕ) → left ≡ after [] [] left
 after_start [] = refl
 after_start (x ∷ xs) = refl
 
+-- at its end what is kept is the line without its spaces
 pub after_end : (kept read : List ℕ) → after kept read [] ≡ kept
 after_end kept read = refl
 
@@ -22,14 +25,17 @@ all_kept : (read left : List ℕ) → after read read left ≡ read ++ left
 all_kept read [] = sym (append-nil read)
 all_kept read (x ∷ xs) = refl
 
-after_two : (kept read : List ℕ) (b c : ℕ) (left : List ℕ) → after kept read (b ∷ c ∷ left) ≡ after (read ++ (b ∷ c ∷ [])) (read ++ (b ∷ c ∷ [])) left
+after_two : (kept read : List ℕ) (b c : ℕ) (left : List ℕ)
+    → after kept read (b ∷ c ∷ left) ≡ after (read ++ (b ∷ c ∷ [])) (read ++ (b ∷ c ∷ [])) left
 after_two kept read b c left = sym (all_kept (read ++ (b ∷ c ∷ [])) left ∙ append_assoc read (b ∷ c ∷ []) left)
 
-after_space : (kept read : List ℕ) (b : ℕ) (left : List ℕ) → nat_eq b 32 ≡ true → after kept read (byte_before b left) ≡ after kept (read ++ (b ∷ [])) left
+after_space : (kept read : List ℕ) (b : ℕ) (left : List ℕ) → nat_eq b 32 ≡ true
+    → after kept read (byte_before b left) ≡ after kept (read ++ (b ∷ [])) left
 after_space kept read b [] e = ap (λ t. after kept read (cond t [] (b ∷ []))) e
 after_space kept read b (x ∷ xs) e = sym (append_assoc read (b ∷ []) (x ∷ xs))
 
-after_other : (kept read : List ℕ) (b : ℕ) (left : List ℕ) → nat_eq b 32 ≡ false → after kept read (byte_before b left) ≡ after (read ++ (b ∷ [])) (read ++ (b ∷ [])) left
+after_other : (kept read : List ℕ) (b : ℕ) (left : List ℕ) → nat_eq b 32 ≡ false
+    → after kept read (byte_before b left) ≡ after (read ++ (b ∷ [])) (read ++ (b ∷ [])) left
 after_other kept read b [] e = ap (λ t. after kept read (cond t [] (b ∷ []))) e
 after_other kept read b (x ∷ xs) e = sym (append_assoc read (b ∷ []) (x ∷ xs))
 
@@ -53,7 +59,8 @@ drop_more s i h = rw add-one (drop-cons s i 0 h)
 take_two : (s : List ℕ) (i : ℕ) → i + 1 < length s → take (i + 2) s ≡ take i s ++ (get_or s i 0 ∷ get_or s (i + 1) 0 ∷ [])
 take_two s i h =
     let e : i + 2 ≡ i + 1 + 1 = omega arith in
-    ap (λ n. take n s) e ∙ take_more s (i + 1) h ∙ ap (λ l. l ++ (get_or s (i + 1) 0 ∷ [])) (take_more s i (omega arith)) ∙ append_assoc (take i s) (get_or s i 0 ∷ []) (get_or s (i + 1) 0 ∷ [])
+    ap (λ n. take n s) e ∙ take_more s (i + 1) h ∙ ap (λ l. l ++ (get_or s (i + 1) 0 ∷ [])) (take_more s i (omega arith))
+    ∙ append_assoc (take i s) (get_or s i 0 ∷ []) (get_or s (i + 1) 0 ∷ [])
 
 drop_two : (s : List ℕ) (i : ℕ) → i + 1 < length s → drop i s ≡ get_or s i 0 ∷ get_or s (i + 1) 0 ∷ drop (i + 2) s
 drop_two s i h =
@@ -63,7 +70,9 @@ drop_two s i h =
 abbrev pub Kept : List ℕ → ℕ → ℕ → Type 0
 Kept line kept read = without_spaces line ≡ after (take kept line) (take read line) (without_spaces (drop read line))
 
-pub kept_quoted : (line : List ℕ) (kept read : ℕ) → read + 1 < length line → nat_eq (get_or line read 0) 92 ≡ true → Kept line kept read → Kept line (read + 2) (read + 2)
+-- a backslash keeps itself and the byte after it
+pub kept_quoted : (line : List ℕ) (kept read : ℕ) → read + 1 < length line → nat_eq (get_or line read 0) 92 ≡ true
+    → Kept line kept read → Kept line (read + 2) (read + 2)
 kept_quoted line kept read h e k =
     k ∙ ap (λ l. after (take kept line) (take read line) (without_spaces l)) (drop_two line read h)
     ∙ ap (after (take kept line) (take read line)) (two_units (get_or line read 0) (get_or line (read + 1) 0) (drop (read + 2) line) e)
@@ -74,16 +83,21 @@ kept_quoted line kept read h e k =
 abbrev pub IsOne : List ℕ → ℕ → Type 0
 IsOne line read = without_spaces (drop read line) ≡ byte_before (get_or line read 0) (without_spaces (drop (read + 1) line))
 
+-- another byte is a unit by itself
 pub no_quote : (line : List ℕ) (read : ℕ) → read < length line → nat_eq (get_or line read 0) 92 ≡ false → IsOne line read
 no_quote line read h e = ap without_spaces (drop_more line read h) ∙ one_unit (get_or line read 0) (drop (read + 1) line) e
 
-pub kept_space : (line : List ℕ) (kept read : ℕ) → read < length line → IsOne line read → nat_eq (get_or line read 0) 32 ≡ true → Kept line kept read → Kept line kept (read + 1)
+-- a space is read, and kept only if something after it is
+pub kept_space : (line : List ℕ) (kept read : ℕ) → read < length line → IsOne line read → nat_eq (get_or line read 0) 32 ≡ true
+    → Kept line kept read → Kept line kept (read + 1)
 kept_space line kept read h o e k =
     k ∙ ap (after (take kept line) (take read line)) o
     ∙ after_space (take kept line) (take read line) (get_or line read 0) (without_spaces (drop (read + 1) line)) e
     ∙ ap (λ l. after (take kept line) l (without_spaces (drop (read + 1) line))) (sym (take_more line read h))
 
-pub kept_other : (line : List ℕ) (kept read : ℕ) → read < length line → IsOne line read → nat_eq (get_or line read 0) 32 ≡ false → Kept line kept read → Kept line (read + 1) (read + 1)
+-- another byte keeps all before it
+pub kept_other : (line : List ℕ) (kept read : ℕ) → read < length line → IsOne line read → nat_eq (get_or line read 0) 32 ≡ false
+    → Kept line kept read → Kept line (read + 1) (read + 1)
 kept_other line kept read h o e k =
     k ∙ ap (after (take kept line) (take read line)) o
     ∙ after_other (take kept line) (take read line) (get_or line read 0) (without_spaces (drop (read + 1) line)) e
@@ -95,16 +109,21 @@ return_last [] b = refl
 return_last (x ∷ []) b = elim (nat_eq b 13) as (λ t. x ∷ cond t [] (b ∷ []) ≡ cond t (x ∷ []) (x ∷ b ∷ [])) [ true ↦ refl | false ↦ refl ]
 return_last (x ∷ y ∷ ys) b =
     ap (λ l. x ∷ l) (return_last (y ∷ ys) b)
-    ∙ elim (nat_eq b 13) as (λ t. x ∷ cond t (y ∷ ys) (y ∷ ys ++ (b ∷ [])) ≡ cond t (x ∷ y ∷ ys) (x ∷ y ∷ ys ++ (b ∷ []))) [ true ↦ refl | false ↦ refl ]
+    ∙ elim (nat_eq b 13) as (λ t. x ∷ cond t (y ∷ ys) (y ∷ ys ++ (b ∷ [])) ≡ cond t (x ∷ y ∷ ys)
+    (x ∷ y ∷ ys ++ (b ∷ []))) [ true ↦ refl | false ↦ refl ]
 
+-- equal numbers compare equal
 pub eq_true : (a b : ℕ) → a ≡ b → nat_eq a b ≡ true
 eq_true a b e = (Decides-eqb a b).1 e
 
+-- others don't
 pub ne_false : (a b : ℕ) → (a ≡ b → ⊥) → nat_eq a b ≡ false
 ne_false a b h = false_from_ne_true (nat_eq a b) (λ t. h ((Decides-eqb a b).0 t))
 
 drop_end : (s : List ℕ) (i : ℕ) → length s ≤ i → length (drop i s) ≡ 0
 drop_end s i h = omega (arith, length-drop i s)
 
+-- a backslash at the end of a line is a unit by itself
 pub lone_quote : (line : List ℕ) (read : ℕ) → read < length line → length line ≤ read + 1 → IsOne line read
-lone_quote line read h e = ap without_spaces (drop_more line read h) ∙ last_unit (get_or line read 0) (drop (read + 1) line) (drop_end line (read + 1) e)
+lone_quote line read h e =
+    ap without_spaces (drop_more line read h) ∙ last_unit (get_or line read 0) (drop (read + 1) line) (drop_end line (read + 1) e)

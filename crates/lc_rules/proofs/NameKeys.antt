@@ -38,36 +38,53 @@ names_apart m n k h e =
     ∙ bytes_eq-sym m n false h
 
 -- what has one answer at a name, and the old one at all others
-by_name : {A : Type 0} (old new : List ℕ → A) (name : List ℕ) (v : A) → new name ≡ v → ((n : List ℕ) → bytes_eq name n ≡ false → new n ≡ old n) → (n : List ℕ) (b : Bool) → bytes_eq name n ≡ b → new n ≡ cond b v (old n)
+by_name : {A : Type 0} (old new : List ℕ → A) (name : List ℕ) (v : A) → new name ≡ v
+    → ((n : List ℕ) → bytes_eq name n ≡ false → new n ≡ old n) → (n : List ℕ) (b : Bool) → bytes_eq name n ≡ b
+    → new n ≡ cond b v (old n)
 by_name old new name v here others n true e = ap new (sym (same_bytes name n e)) ∙ here
 by_name old new name v here others n false e = others n e
 
 module _ {K : Type 0} (eq : K → K → Bool) (test : K → Bool) where
-  other_entries : {X : Type 0} (old new : List (K × X)) → KeepsOthers eq test old new → (other : K → Bool) → IsKeyTest eq other → AreApart test other → lookup other new ≡ lookup other old
+  other_entries : {X : Type 0} (old new : List (K × X)) → KeepsOthers eq test old new → (other : K → Bool) → IsKeyTest eq other
+      → AreApart test other → lookup other new ≡ lookup other old
   unfolding KeepsOthers
   other_entries old new h = h
 
-  other_keys : (old new : List K) → KeepsOtherKeys eq test old new → (other : K → Bool) → IsKeyTest eq other → AreApart test other → list_any other new ≡ list_any other old
+  other_keys : (old new : List K) → KeepsOtherKeys eq test old new → (other : K → Bool) → IsKeyTest eq other → AreApart test other
+      → list_any other new ≡ list_any other old
   unfolding KeepsOtherKeys
   other_keys old new h = h
 
-pub place_in-insert : (key : Vec ℕ Global) (v : ℕ) (old new : BTreeMap (Vec ℕ Global) ℕ) → tree.Updates (λ x y. slice_cmp nat_cmp x.items y.items) old new key (Some v) → (n : List ℕ) → place_in new n ≡ cond (bytes_eq key.items n) (Some v) (place_in old n)
+-- an inserted key has the new place, and each other its own
+pub place_in-insert : (key : Vec ℕ Global) (v : ℕ) (old new : BTreeMap (Vec ℕ Global) ℕ)
+    → tree.Updates (λ x y. slice_cmp nat_cmp x.items y.items) old new key (Some v) → (n : List ℕ)
+    → place_in new n ≡ cond (bytes_eq key.items n) (Some v) (place_in old n)
 place_in-insert key v old new h n =
     by_name (place_in old) (place_in new) key.items (Some v) h.1
-    (λ m e. other_entries _ _ _ _ h.3 _ (λ x y. (eq_by_cmp_equiv nat_list_cmp_total).congr m x.items y.items) (λ k. names_apart key.items m k.items e))
+    (λ m e. other_entries _ _ _ _ h.3 _ (λ x y. (eq_by_cmp_equiv nat_list_cmp_total).congr m x.items y.items)
+    (λ k. names_apart key.items m k.items e))
     n (bytes_eq key.items n) refl
 
-pub has_name-insert : (key : Vec ℕ Global) (old new : BTreeSet (Vec ℕ Global)) → bag.Updates (λ x y. slice_cmp nat_cmp x.items y.items) old new key true → (n : List ℕ) → has_name new n ≡ cond (bytes_eq key.items n) true (has_name old n)
+-- an inserted name is in the set, and each other is if it was
+pub has_name-insert : (key : Vec ℕ Global) (old new : BTreeSet (Vec ℕ Global))
+    → bag.Updates (λ x y. slice_cmp nat_cmp x.items y.items) old new key true → (n : List ℕ)
+    → has_name new n ≡ cond (bytes_eq key.items n) true (has_name old n)
 has_name-insert key old new h n =
     by_name (has_name old) (has_name new) key.items true h.1
-    (λ m e. other_keys _ _ _ _ h.3 _ (λ x y. (eq_by_cmp_equiv nat_list_cmp_total).congr m x.items y.items) (λ k. names_apart key.items m k.items e))
+    (λ m e. other_keys _ _ _ _ h.3 _ (λ x y. (eq_by_cmp_equiv nat_list_cmp_total).congr m x.items y.items)
+    (λ k. names_apart key.items m k.items e))
     n (bytes_eq key.items n) refl
 
 -- an inserted name is there, and the others stay
-pub inserted : (key : Vec ℕ Global) (name : List ℕ) (old new : BTreeSet (Vec ℕ Global)) → key.items ≡ name → bag.Updates (λ x y. slice_cmp nat_cmp x.items y.items) old new key true → (n : List ℕ) → bytes_eq name n ≡ true → has_name new n ≡ true
+pub inserted : (key : Vec ℕ Global) (name : List ℕ) (old new : BTreeSet (Vec ℕ Global)) → key.items ≡ name
+    → bag.Updates (λ x y. slice_cmp nat_cmp x.items y.items) old new key true → (n : List ℕ) → bytes_eq name n ≡ true
+    → has_name new n ≡ true
 inserted key name old new e h n q = has_name-insert key old new h n ∙ ap (λ b. cond b true (has_name old n)) (ap (λ m. bytes_eq m n) e ∙ q)
 
-pub kept : (key : Vec ℕ Global) (old new : BTreeSet (Vec ℕ Global)) → bag.Updates (λ x y. slice_cmp nat_cmp x.items y.items) old new key true → (n : List ℕ) → has_name old n ≡ true → has_name new n ≡ true
+-- what was in the set stays
+pub kept : (key : Vec ℕ Global) (old new : BTreeSet (Vec ℕ Global))
+    → bag.Updates (λ x y. slice_cmp nat_cmp x.items y.items) old new key true → (n : List ℕ) → has_name old n ≡ true
+    → has_name new n ≡ true
 kept key old new h n q = has_name-insert key old new h n ∙ ap (cond (bytes_eq key.items n) true) q ∙ same (bytes_eq key.items n)
   where
     same : (b : Bool) → cond b true true ≡ true
@@ -75,28 +92,35 @@ kept key old new h n q = has_name-insert key old new h n ∙ ap (cond (bytes_eq 
     same false = refl
 
 -- a name that is there is found by its bytes
-pub has_name-same : (names : BTreeSet (Vec ℕ Global)) (name n : List ℕ) → has_name names name ≡ true → bytes_eq name n ≡ true → has_name names n ≡ true
+pub has_name-same : (names : BTreeSet (Vec ℕ Global)) (name n : List ℕ) → has_name names name ≡ true → bytes_eq name n ≡ true
+    → has_name names n ≡ true
 has_name-same names name n h e = ap (has_name names) (sym (same_bytes name n e)) ∙ h
 
 is_marked-cons : (n : List ℕ) (ns : List (List ℕ)) (w : List ℕ) → is_marked (n ∷ ns) w ≡ (bytes_eq n w || is_marked ns w)
-is_marked-cons n ns w = elim (bytes_eq n w) as (λ b. is_some (cond b (Some set) (decided (marked ns) w)) ≡ (b || is_marked ns w)) [ true ↦ refl | false ↦ refl ]
+is_marked-cons n ns w = elim (bytes_eq n w) as
+    (λ b. is_some (cond b (Some set) (decided (marked ns) w)) ≡ (b || is_marked ns w)) [ true ↦ refl | false ↦ refl ]
 
-marked_keys : (keys : List (Bor (List ℕ))) (w : List ℕ) → is_marked (map (λ k. k.now) keys) w ≡ list_any (is_at (λ (k : Bor (List ℕ)). slice_cmp nat_cmp w k.now)) keys
+marked_keys : (keys : List (Bor (List ℕ))) (w : List ℕ)
+    → is_marked (map (λ k. k.now) keys) w ≡ list_any (is_at (λ (k : Bor (List ℕ)). slice_cmp nat_cmp w k.now)) keys
 marked_keys [] w = refl
 marked_keys (k ∷ ks) w =
     is_marked-cons k.now (map (λ (k : Bor (List ℕ)). k.now) ks) w
-    ∙ ap (λ b. b || is_marked (map (λ (k : Bor (List ℕ)). k.now) ks) w) (sym (is_eq-slice_cmp w k.now ∙ bytes_eq-sym k.now w (bytes_eq k.now w) refl))
+    ∙ ap (λ b. b || is_marked (map (λ (k : Bor (List ℕ)). k.now) ks) w)
+    (sym (is_eq-slice_cmp w k.now ∙ bytes_eq-sym k.now w (bytes_eq k.now w) refl))
     ∙ ap (λ b. is_eq (slice_cmp nat_cmp w k.now) || b) (marked_keys ks w)
 
 -- a name is marked where the set has it
-pub names_in-contains : (names : BTreeSet (Bor (List ℕ))) (w : List ℕ) → is_marked (names_in names) w ≡ bag.contains_by (λ k. slice_cmp nat_cmp w k.now) names
+pub names_in-contains : (names : BTreeSet (Bor (List ℕ))) (w : List ℕ)
+    → is_marked (names_in names) w ≡ bag.contains_by (λ k. slice_cmp nat_cmp w k.now) names
 names_in-contains names w = marked_keys names.keys w
 
 or_cond : (b c : Bool) → cond b true c ≡ (b || c)
 or_cond true c = refl
 or_cond false c = refl
 
-pub names_in-insert : (key : Bor (List ℕ)) (old new : BTreeSet (Bor (List ℕ))) → bag.Updates (λ x y. slice_cmp nat_cmp x.now y.now) old new key true → SameMarks (names_in new) (key.now ∷ names_in old)
+-- the names of a set with one more are marked as by a list with one more
+pub names_in-insert : (key : Bor (List ℕ)) (old new : BTreeSet (Bor (List ℕ)))
+    → bag.Updates (λ x y. slice_cmp nat_cmp x.now y.now) old new key true → SameMarks (names_in new) (key.now ∷ names_in old)
 names_in-insert key old new h w =
     names_in-contains new w ∙ h.0 (record key { now = w })
     ∙ ap (λ b. cond b true (bag.contains_by (λ (k : Bor (List ℕ)). slice_cmp nat_cmp w k.now) old)) (is_eq-slice_cmp key.now w)

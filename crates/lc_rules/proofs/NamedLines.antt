@@ -1,5 +1,6 @@
 -- Lines that name neither an attribute nor a macro can't decide it.
-use Rattle.std.proofs.Common.{◌≡◌, ◌<◌, ◌+◌, ◌⊎◌, ℕ, Bool, true, false, cond, ◌||◌, List, [], ◌∷◌, ◌++◌, length, map, take, get_or, Option, Some, None, is_some, Vec, inl, inr, refl, sym, ◌∙◌, ap, add-one}
+use Rattle.std.proofs.Common.{◌≡◌, ◌<◌, ◌+◌, ◌⊎◌, ℕ, Bool, true, false, cond, ◌||◌, List, [], ◌∷◌, ◌++◌, length, map, take, get_or}
+use Rattle.std.proofs.Common.{Option, Some, None, is_some, Vec, inl, inr, refl, sym, ◌∙◌, ap, add-one}
 use Rattle.std.specs.List.{list_any}
 use Rattle.std.specs.Str.{bytes_eq}
 use Rattle.std.specs.BTreeSet.{BTreeSet}
@@ -23,30 +24,41 @@ use Rattle.lc_rules.proofs.LastMacro.{macro_of-append, macro_of-both}
 abbrev pub NoneNamed : (List ℕ → Bool) → (List ℕ → Bool) → Type 0
 NoneNamed test among = (n : List ℕ) → test n ≡ true → among n ≡ false
 
-assign_step : (test : List ℕ → Bool) (a : AssignmentModel) (r : List AssignmentModel) (b : Bool) → test a.0 ≡ b → NoneNamed test (assigns_name (a ∷ r)) → list_any (λ a. test a.0) r ≡ false → (b || list_any (λ a. test a.0) r) ≡ false
-assign_step test a r true e h k = absurd (let same : bytes_eq a.0 a.0 ≡ true = bytes_self a.0 a.0 refl in let none : bytes_eq a.0 a.0 ≡ false = (or_parts (bytes_eq a.0 a.0) (assigns_name r a.0) (h a.0 e)).0 in let q : true ≡ false = sym same ∙ none in cc)
+assign_step : (test : List ℕ → Bool) (a : AssignmentModel) (r : List AssignmentModel) (b : Bool) → test a.0 ≡ b
+    → NoneNamed test (assigns_name (a ∷ r)) → list_any (λ a. test a.0) r ≡ false → (b || list_any (λ a. test a.0) r) ≡ false
+assign_step test a r true e h k = absurd (let same : bytes_eq a.0 a.0 ≡ true = bytes_self a.0 a.0 refl in let none : bytes_eq a.0 a.0
+    ≡ false = (or_parts (bytes_eq a.0 a.0) (assigns_name r a.0) (h a.0 e)).0 in let q : true ≡ false = sym same ∙ none in cc)
 assign_step test a r false e h k = k
 
-assigns_none : (test : List ℕ → Bool) (assigns : List AssignmentModel) → NoneNamed test (assigns_name assigns) → list_any (λ a. test a.0) assigns ≡ false
+assigns_none : (test : List ℕ → Bool) (assigns : List AssignmentModel) → NoneNamed test (assigns_name assigns)
+    → list_any (λ a. test a.0) assigns ≡ false
 assigns_none test [] h = refl
-assigns_none test (a ∷ r) h = assign_step test a r (test a.0) refl h (assigns_none test r (λ n e. (or_parts (bytes_eq a.0 n) (assigns_name r n) (h n e)).1))
+assigns_none test (a ∷ r) h =
+    assign_step test a r (test a.0) refl h (assigns_none test r (λ n e. (or_parts (bytes_eq a.0 n) (assigns_name r n) (h n e)).1))
 
-pub named_none : (test : List ℕ → Bool) (ls : List PatternLineModel) → NoneNamed test (lines_name ls) → list_any (λ l. list_any (λ a. test a.0) l.assigns) ls ≡ false
+-- lines that name nothing of a kind have no assignment of that kind
+pub named_none : (test : List ℕ → Bool) (ls : List PatternLineModel) → NoneNamed test (lines_name ls)
+    → list_any (λ l. list_any (λ a. test a.0) l.assigns) ls ≡ false
 named_none test [] h = refl
 named_none test (l ∷ ls) h =
-    ap (λ b. b || list_any (λ l. list_any (λ a. test a.0) l.assigns) ls) (assigns_none test l.assigns (λ n e. (or_parts (assigns_name l.assigns n) (lines_name ls n) (h n e)).0))
+    ap (λ b. b || list_any (λ l. list_any (λ a. test a.0) l.assigns) ls)
+    (assigns_none test l.assigns (λ n e. (or_parts (assigns_name l.assigns n) (lines_name ls n) (h n e)).0))
     ∙ named_none test ls (λ n e. (or_parts (assigns_name l.assigns n) (lines_name ls n) (h n e)).1)
 
 -- the names of assignments, one more at a time
-assigns_name-append : (before : List AssignmentModel) (a : AssignmentModel) (n : List ℕ) → assigns_name (before ++ (a ∷ [])) n ≡ true → (assigns_name before n ≡ true) ⊎ (bytes_eq a.0 n ≡ true)
-assigns_name-append before a n h = by_cases (assigns_name before n) (bytes_eq a.0 n) (sym (list_any-append (λ b. bytes_eq b.0 n) before (a ∷ [])) ∙ h)
+assigns_name-append : (before : List AssignmentModel) (a : AssignmentModel) (n : List ℕ) → assigns_name (before ++ (a ∷ [])) n ≡ true
+    → (assigns_name before n ≡ true) ⊎ (bytes_eq a.0 n ≡ true)
+assigns_name-append before a n h =
+    by_cases (assigns_name before n) (bytes_eq a.0 n) (sym (list_any-append (λ b. bytes_eq b.0 n) before (a ∷ [])) ∙ h)
   where
     by_cases : (b c : Bool) → (b || (c || false)) ≡ true → (b ≡ true) ⊎ (c ≡ true)
     by_cases true c e = inl refl
     by_cases false true e = inr refl
     by_cases false false e = absurd (let q : false ≡ true = e in cc)
 
-pub names_more : (assigns : List Assignment) (i : ℕ) (a : Assignment) (old new : BTreeSet (Vec ℕ Global)) → i < length assigns → a ≡ get_or assigns i a
+-- one assignment more, and its name, among those of the lines so far
+pub names_more : (assigns : List Assignment) (i : ℕ) (a : Assignment) (old new : BTreeSet (Vec ℕ Global)) → i < length assigns
+    → a ≡ get_or assigns i a
     → ((n : List ℕ) → assigns_name (map assignment_model (take i assigns)) n ≡ true → has_name old n ≡ true)
     → ((n : List ℕ) → has_name old n ≡ true → has_name new n ≡ true)
     → ((n : List ℕ) → bytes_eq a.name.items n ≡ true → has_name new n ≡ true)
@@ -54,15 +66,19 @@ pub names_more : (assigns : List Assignment) (i : ℕ) (a : Assignment) (old new
 names_more assigns i a old new l is had keeps adds n h =
     let more : map assignment_model (take (i + 1) assigns) ≡ map assignment_model (take i assigns) ++ (assignment_model a ∷ []) =
     ap (λ k. map assignment_model (take k assigns)) (add-one i) ∙ ap (map assignment_model) (take-suc assigns i a l)
-    ∙ map-append assignment_model (take i assigns) (get_or assigns i a ∷ []) ∙ ap (λ b. map assignment_model (take i assigns) ++ (assignment_model b ∷ [])) (sym is) in
+    ∙ map-append assignment_model (take i assigns) (get_or assigns i a ∷ [])
+    ∙ ap (λ b. map assignment_model (take i assigns) ++ (assignment_model b ∷ [])) (sym is) in
     elim (assigns_name-append (map assignment_model (take i assigns)) (assignment_model a) n (ap (λ x. assigns_name x n) (sym more) ∙ h)) [
       | inl e ↦ keeps n (had n e)
       | inr e ↦ adds n e
     ]
 
 -- the names of lines, one line more
-pub lines_name-append : (lines : List PatternLineModel) (l : PatternLineModel) (names : BTreeSet (Vec ℕ Global)) → ((n : List ℕ) → lines_name lines n ≡ true → has_name names n ≡ true) → ((n : List ℕ) → assigns_name l.assigns n ≡ true → has_name names n ≡ true) → HasNames (lines ++ (l ∷ [])) names
-lines_name-append lines l names h k n e = by_cases (lines_name lines n) (assigns_name l.assigns n) refl refl (sym (list_any-append (λ m. assigns_name m.assigns n) lines (l ∷ [])) ∙ e)
+pub lines_name-append : (lines : List PatternLineModel) (l : PatternLineModel) (names : BTreeSet (Vec ℕ Global))
+    → ((n : List ℕ) → lines_name lines n ≡ true → has_name names n ≡ true)
+    → ((n : List ℕ) → assigns_name l.assigns n ≡ true → has_name names n ≡ true) → HasNames (lines ++ (l ∷ [])) names
+lines_name-append lines l names h k n e = by_cases (lines_name lines n) (assigns_name l.assigns n) refl refl
+    (sym (list_any-append (λ m. assigns_name m.assigns n) lines (l ∷ [])) ∙ e)
   where
     by_cases : (b c : Bool) → lines_name lines n ≡ b → assigns_name l.assigns n ≡ c → (b || (c || false)) ≡ true → has_name names n ≡ true
     by_cases true c p q r = h n p
@@ -70,7 +86,9 @@ lines_name-append lines l names h k n e = by_cases (lines_name lines n) (assigns
     by_cases false false p q r = absurd (let s : false ≡ true = r in cc)
 
 -- no macro is named, one macro more
-pub no_macro_more : (lines : List PatternLineModel) (ms : List MacroModel) (m : MacroModel) (n : List ℕ) → ((o : List ℕ) → is_some (macro_of ms o) ≡ true → lines_name lines o ≡ false) → lines_name lines m.0 ≡ false → is_some (macro_of (ms ++ (m ∷ [])) n) ≡ true → lines_name lines n ≡ false
+pub no_macro_more : (lines : List PatternLineModel) (ms : List MacroModel) (m : MacroModel) (n : List ℕ)
+    → ((o : List ℕ) → is_some (macro_of ms o) ≡ true → lines_name lines o ≡ false) → lines_name lines m.0 ≡ false
+    → is_some (macro_of (ms ++ (m ∷ [])) n) ≡ true → lines_name lines n ≡ false
 no_macro_more lines ms m n h k e = by_cases (bytes_eq m.0 n) refl (ap is_some (sym (macro_of-append ms m n)) ∙ e)
   where
     by_cases : (b : Bool) → bytes_eq m.0 n ≡ b → is_some (cond b (Some m.1) (macro_of ms n)) ≡ true → lines_name lines n ≡ false
@@ -78,18 +96,24 @@ no_macro_more lines ms m n h k e = by_cases (bytes_eq m.0 n) refl (ap is_some (s
     by_cases false p q = h n q
 
 -- nothing that matters is named
-pub none_matters : (lines : List PatternLineModel) (ms : List MacroModel) (wanted : List ℕ) → lines_name lines wanted ≡ false → NameNone lines ms → list_any (λ l. list_any (λ a. matters ms wanted a.0) l.assigns) lines ≡ false
-none_matters lines ms wanted h k = named_none (matters ms wanted) lines (λ n e. by_cases n (bytes_eq n wanted) (is_some (macro_of ms n)) refl refl e)
+pub none_matters : (lines : List PatternLineModel) (ms : List MacroModel) (wanted : List ℕ) → lines_name lines wanted ≡ false
+    → NameNone lines ms → list_any (λ l. list_any (λ a. matters ms wanted a.0) l.assigns) lines ≡ false
+none_matters lines ms wanted h k =
+    named_none (matters ms wanted) lines (λ n e. by_cases n (bytes_eq n wanted) (is_some (macro_of ms n)) refl refl e)
   where
-    by_cases : (n : List ℕ) (b c : Bool) → bytes_eq n wanted ≡ b → is_some (macro_of ms n) ≡ c → (b || c) ≡ true → lines_name lines n ≡ false
+    by_cases : (n : List ℕ) (b c : Bool) → bytes_eq n wanted ≡ b → is_some (macro_of ms n) ≡ c → (b || c) ≡ true
+        → lines_name lines n ≡ false
     by_cases n true c p q r = ap (lines_name lines) (same_bytes n wanted p) ∙ h
     by_cases n false true p q r = k n q
     by_cases n false false p q r = absurd (let s : false ≡ true = r in cc)
 
-pub none_named-both : (lines : List PatternLineModel) (ms os : List MacroModel) → NameNone lines ms → NameNone lines os → NameNone lines (ms ++ os)
+-- what names nothing of two lists of macros names nothing of both together
+pub none_named-both : (lines : List PatternLineModel) (ms os : List MacroModel) → NameNone lines ms → NameNone lines os
+    → NameNone lines (ms ++ os)
 none_named-both lines ms os h k n e = by_cases (macro_of os n) refl (ap is_some (sym (macro_of-both ms os n)) ∙ e)
   where
-    by_cases : (o : Option (List AssignmentModel)) → macro_of os n ≡ o → is_some (later o (macro_of ms n)) ≡ true → lines_name lines n ≡ false
+    by_cases : (o : Option (List AssignmentModel)) → macro_of os n ≡ o → is_some (later o (macro_of ms n)) ≡ true
+        → lines_name lines n ≡ false
     by_cases (Some body) p q = k n (ap is_some p)
     by_cases None p q = h n q
 
@@ -101,5 +125,6 @@ none_named-binary lines h n e = by_cases (bytes_eq binary.0 n) refl e
     by_cases false p q = absurd (let s : false ≡ true = q in cc)
 
 -- nor does a line name `binary` or a macro of either list
-pub none_named : (lines : List PatternLineModel) (ms os : List MacroModel) → lines_name lines binary.0 ≡ false → NameNone lines ms → NameNone lines os → NameNone lines (binary ∷ ms ++ os)
+pub none_named : (lines : List PatternLineModel) (ms os : List MacroModel) → lines_name lines binary.0 ≡ false → NameNone lines ms
+    → NameNone lines os → NameNone lines (binary ∷ ms ++ os)
 none_named lines ms os h k m = none_named-both lines (binary ∷ []) (ms ++ os) (none_named-binary lines h) (none_named-both lines ms os k m)

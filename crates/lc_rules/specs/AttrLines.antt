@@ -1,5 +1,5 @@
 -- The lines of an attribute file: gitattributes(5), DESCRIPTION and DEFINING MACRO ATTRIBUTES.
-use Rattle.std.specs.Prelude.{ℕ, Bool, false, ◌==◌, ◌&&◌, if◌then◌else◌, List, [], ◌∷◌, Option, Some, None}
+use Rattle.std.specs.Prelude.{ℕ, Bool, false, ◌==◌, ◌&&◌, if◌then◌else◌, List, [], ◌∷◌, take, drop, Option, Some, None, bytes_eq, codes}
 use Rattle.std.specs.List.{filter_map}
 use Rattle.lc_glob.specs.Bytes.{exclamation_mark}
 use Rattle.lc_glob.specs.Patterns.{PatternModel}
@@ -39,11 +39,9 @@ is_negated (b ∷ bs) = b == exclamation_mark
 abbrev pub by_pattern : List ℕ → Option (List AssignmentModel) → Option AttrLineModel
 by_pattern bytes a = if is_negated bytes then None else as_pattern bytes a
 
--- what follows `[attr]`, the bytes 91 97 116 116 114 93, in a first word that is longer
+-- what follows `[attr]` in a first word that is longer
 abbrev pub macro_word : List ℕ → Option (List ℕ)
-macro_word (a ∷ b ∷ c ∷ d ∷ e ∷ f ∷ rest) =
-    if a == 91 && b == 97 && c == 116 && d == 116 && e == 114 && f == 93 && is_some_word rest then Some rest else None
-macro_word w = None
+macro_word w = if bytes_eq (take 6 w) (codes "[attr]") && is_some_word (drop 6 w) then Some (drop 6 w) else None
 
 -- a macro line gives something in a top-level file alone
 abbrev pub by_macro : Bool → Option (List ℕ) → List ℕ → Option (List AssignmentModel) → Option AttrLineModel

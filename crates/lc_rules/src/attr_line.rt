@@ -65,12 +65,10 @@ fn read_pattern_line(
 fn macro_word<'a>(word: &'a [u8]) -> Option<&'a [u8]>
     ensures { MatchOption result (macro_word word.now ≡ None) (λ n. macro_word word.now ≡ Some n.now) }
 {
-    match word {
-        [b'[', b'a', b't', b't', b'r', b']', rest @ ..] => {
-            if rest.is_empty() { None } else { Some(rest) }
-        }
-        _ => None,
-    }
+    let Some(name) = word.strip_prefix(b"[attr]") else {
+        return None;
+    };
+    if name.is_empty() { None } else { Some(name) }
 }
 
 fn read_words(alloc: Global, is_top: bool, line: &[u8]) -> Result<Option<AttrLine>, AllocError>

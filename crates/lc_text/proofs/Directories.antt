@@ -1,5 +1,6 @@
 -- The directories above a path.
-use Rattle.std.proofs.Common.{◌≡◌, ℕ, ◌<◌, ◌≤◌, ◌+◌, ◌-◌, zero-add, ◌∙◌, Bool, true, false, nat_eq, ◌&&◌, List, Some, None, length, take, drop, get_or, sym, ap, ap₂, subst, arith, ⊎_elim, take-take}
+use Rattle.std.proofs.Common.{◌≡◌, ℕ, ◌<◌, ◌≤◌, ◌+◌, ◌-◌, zero-add, ◌∙◌, Bool, true, false, nat_eq, ◌&&◌, List, Some, None, length}
+use Rattle.std.proofs.Common.{take, drop, get_or, sym, ap, ap₂, subst, arith, ⊎_elim, take-take}
 use Rattle.std.specs.List.{range_with_len}
 use Rattle.std.proofs.lemmas.Bool.{cases_lt, false_from_ne_true}
 use Rattle.std.proofs.lemmas.List.{get_or-take, get_or-drop, length-drop, length-take-le, take_rest}
@@ -19,7 +20,8 @@ module _ (verdict : List ℕ → Bool → Verdict) where
       ap₂ (λ b above. nat_eq b 47 && is_ignored (verdict above true)) (get_or-take n path k 0 low) (take-take k n path (omega arith))
 
   -- two paths with the same front
-  is_ignored_parent-shared : (one other : List ℕ) (n k : ℕ) → take n one ≡ take n other → k < n → is_ignored_parent verdict other k ≡ is_ignored_parent verdict one k
+  is_ignored_parent-shared : (one other : List ℕ) (n k : ℕ) → take n one ≡ take n other → k < n
+      → is_ignored_parent verdict other k ≡ is_ignored_parent verdict one k
   is_ignored_parent-shared one other n k same low =
       sym (is_ignored_parent-take other n k low) ∙ (ap (λ l. is_ignored_parent verdict l k) (sym same) ∙ is_ignored_parent-take one n k low)
 
@@ -28,7 +30,8 @@ module _ (verdict : List ℕ → Bool → Verdict) where
   is_ignored_parent-other path k other = ap (λ b. b && is_ignored (verdict (take k path) true)) other
 
   -- a slash
-  pub is_ignored_parent-slash : (path : List ℕ) (k : ℕ) (b : Bool) → nat_eq (get_or path k 0) 47 ≡ true → b ≡ is_ignored (verdict (take k path) true) → is_ignored_parent verdict path k ≡ b
+  pub is_ignored_parent-slash : (path : List ℕ) (k : ℕ) (b : Bool) → nat_eq (get_or path k 0) 47 ≡ true
+      → b ≡ is_ignored (verdict (take k path) true) → is_ignored_parent verdict path k ≡ b
   is_ignored_parent-slash path k b slash told = ap₂ (λ x y. x && y) slash (sym told)
 
   -- no place has an ignored directory before it
@@ -38,7 +41,8 @@ module _ (verdict : List ℕ → Bool → Verdict) where
       subst (λ (n : ℕ). is_ignored_parent verdict path n ≡ false) (sym (get_or-range (length path) k d within)) (all.clear k within))
 
   -- some place has one
-  pub has_ignored_parent-some : (path : List ℕ) (k : ℕ) → k < length path → is_ignored_parent verdict path k ≡ true → has_ignored_parent verdict path ≡ true
+  pub has_ignored_parent-some : (path : List ℕ) (k : ℕ) → k < length path → is_ignored_parent verdict path k ≡ true
+      → has_ignored_parent verdict path ≡ true
   has_ignored_parent-some path k low is = list_any-from_Any (is_ignored_parent verdict path) (range_with_len 0 (length path))
       (k, k, subst (λ (n : ℕ). k < n) (sym (length-range_with_len 0 (length path))) low, get_or-range (length path) k k low, is)
 
@@ -51,15 +55,18 @@ module _ (verdict : List ℕ → Bool → Verdict) where
   }
 
   -- one place more
-  pub clear-more : (path : List ℕ) (n : ℕ) → n < length path → IsClearTo verdict path n → is_ignored_parent verdict path n ≡ false → IsClearTo verdict path (n + 1)
+  pub clear-more : (path : List ℕ) (n : ℕ) → n < length path → IsClearTo verdict path n → is_ignored_parent verdict path n ≡ false
+      → IsClearTo verdict path (n + 1)
   clear-more path n low to here = record {
     within = omega arith;
     clear = λ k within. ⊎_elim (λ before. to.clear k before)
-        (λ after. let same : n ≡ k = omega (arith, within, after) in subst (λ (j : ℕ). is_ignored_parent verdict path j ≡ false) same here) (cases_lt k n);
+        (λ after. let same : n ≡ k = omega (arith, within, after) in
+        subst (λ (j : ℕ). is_ignored_parent verdict path j ≡ false) same here) (cases_lt k n);
   }
 
   -- a path's front is as clear
-  pub clear-take : (path : List ℕ) (n : ℕ) → IsClearTo verdict path n → (k : ℕ) → k < length (take n path) → is_ignored_parent verdict (take n path) k ≡ false
+  pub clear-take : (path : List ℕ) (n : ℕ) → IsClearTo verdict path n → (k : ℕ) → k < length (take n path)
+      → is_ignored_parent verdict (take n path) k ≡ false
   clear-take path n to k low = let before : k < n = omega (arith, length-take-le n path to.within, low) in
       is_ignored_parent-take path n k before ∙ to.clear k before
 
@@ -81,13 +88,15 @@ module _ (verdict : List ℕ → Bool → Verdict) where
       clear = λ k low. ⊎_elim (λ before. to.clear k before)
           (λ after. let there : at + (k - at) ≡ k = omega (arith, after) in
           is_ignored_parent-other path k
-          (ap (λ b. nat_eq b 47) (ap (λ i. get_or path i 0) (sym there) ∙ sym (get_or-left (k - at))) ∙ other (k - at) (omega (arith, low, after))))
+          (ap (λ b. nat_eq b 47) (ap (λ i. get_or path i 0) (sym there) ∙ sym (get_or-left (k - at)))
+          ∙ other (k - at) (omega (arith, low, after))))
           (cases_lt k at);
     }
 
     -- up to the next slash
     pub clear-slash : (len : ℕ) → IsFirstByte (is_byte 47) left (Some len) → IsClearTo verdict path (at + len)
-    clear-slash len first = clear-on len (omega (arith, left_length, first.0.high)) (λ j low. false_from_ne_true _ (first.0.before j (omega arith) low))
+    clear-slash len first =
+        clear-on len (omega (arith, left_length, first.0.high)) (λ j low. false_from_ne_true _ (first.0.before j (omega arith) low))
 
     -- to the end, where there is none
     pub clear-end : IsFirstByte (is_byte 47) left None → IsClearTo verdict path (length path)

@@ -9,7 +9,8 @@ some_piece bytes e =
     let some = length-slice_split (λ b. b == 10) bytes in
     let none : length (pieces_of 10 bytes) ≡ 0 = ap length e in omega (arith, some, none)
 
-without_empty_last-cons : (line : List ℕ) (pieces : List (List ℕ)) → (pieces ≡ [] → ⊥) → without_empty_last (line ∷ pieces) ≡ line ∷ without_empty_last pieces
+without_empty_last-cons : (line : List ℕ) (pieces : List (List ℕ)) → (pieces ≡ [] → ⊥)
+    → without_empty_last (line ∷ pieces) ≡ line ∷ without_empty_last pieces
 without_empty_last-cons line [] some = absurd (some refl)
 without_empty_last-cons line (p ∷ ps) some = refl
 

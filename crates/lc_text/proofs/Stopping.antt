@@ -27,14 +27,16 @@ module _ {I O : Type 0} (may_give : I → ℕ → Answer → I → Type 0) (may_
   input_stops whole.Memory input read out bytes stopped = refl
 
   -- the text was not written whole
-  pub output_stops : (fault : PrintFault) (input read : I) (out wrote : O) (bytes : List ℕ) → HasRead may_give may_take rules_in text_of input bytes read
+  pub output_stops : (fault : PrintFault) (input read : I) (out wrote : O) (bytes : List ℕ)
+      → HasRead may_give may_take rules_in text_of input bytes read
       → AnswersPrint may_take out (text_of bytes) (Err fault) wrote
       → AnswersCheck may_give may_take rules_in text_of input out (Err (print_fault fault)) read wrote
   output_stops print.Write input read out wrote bytes has_read stopped = (bytes, has_read, stopped)
   output_stops print.Memory input read out wrote bytes has_read stopped = stopped
 
 -- a table that was not written whole
-pub run_stops : {O : Type 0} (may_take : O → List ℕ → Result ℕ Failed → O → Type 0) (walks : Result Report WalkFault → Type 0) (r : Report) (fault : PrintFault)
+pub run_stops : {O : Type 0} (may_take : O → List ℕ → Result ℕ Failed → O → Type 0) (walks : Result Report WalkFault → Type 0)
+    (r : Report) (fault : PrintFault)
     (answer : Result Outcome RunFault) (out wrote : O) → walks (Ok r) → AnswersPrint may_take out (table_text_of r) (Err fault) wrote
     → IsErrAnd answer (λ e. e ≡ table_fault fault) → AnswersRun may_take walks out answer wrote
 run_stops may_take walks r fault (Ok outcome) out wrote walked stopped is = absurd is

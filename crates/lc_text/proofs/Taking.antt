@@ -7,7 +7,8 @@ use Rattle.lc_census.specs.declared.source.Failed.{Failed}
 use Rattle.lc_text.specs.Writes.{AppendsAll, TakesCounts}
 
 -- one more write at the end
-pub takes_more : {S : Type 0} (may_take : S → List ℕ → Result ℕ Failed → S → Type 0) (old : S) (text counts : List ℕ) (mid : S) (rest : List ℕ) (n : ℕ) (new : S)
+pub takes_more : {S : Type 0} (may_take : S → List ℕ → Result ℕ Failed → S → Type 0) (old : S) (text counts : List ℕ) (mid : S)
+    (rest : List ℕ) (n : ℕ) (new : S)
     → TakesCounts may_take old text counts mid rest → 0 < n → n ≤ length rest → may_take mid rest (Ok n) new
     → TakesCounts may_take old text (counts ++ n ∷ []) new (drop n rest)
 takes_more {S} may_take old text [] mid rest n new run some within took =
@@ -19,7 +20,8 @@ takes_more may_take old text (c ∷ cs) mid rest n new run some within took =
     (run.0, run.1, (run.2.0, run.2.1, takes_more may_take run.2.0 (drop c text) cs mid rest n new run.2.2 some within took))
 
 -- what a vector took stands at its end, before what is left
-pub appends_all : (old : Vec ℕ Global) (text counts : List ℕ) (new : Vec ℕ Global) (rest : List ℕ) → TakesCounts AppendsAll old text counts new rest
+pub appends_all : (old : Vec ℕ Global) (text counts : List ℕ) (new : Vec ℕ Global) (rest : List ℕ)
+    → TakesCounts AppendsAll old text counts new rest
     → new.items ++ rest ≡ old.items ++ text
 appends_all old text [] new rest run = ap (λ (v : Vec ℕ Global). v.items ++ rest) run.0 ∙ ap (λ l. old.items ++ l) run.1
 appends_all old text (n ∷ ns) new rest run =

@@ -19,13 +19,22 @@ after_piece bytes piece given room first next =
 -- a piece, and what is given of what is left
 with_piece : (old : Content) (piece : List ℕ) (room : ℕ) (pieces : List (List ℕ)) (stop : Stop) → piece ≢ [] → piece ≡ take room old.bytes
     → GivesContent (record { bytes = drop room old.bytes; fails = old.fails }) pieces stop → GivesContent old (piece ∷ pieces) stop
-with_piece old piece room pieces at_end some first gives = ((some, gives.0), after_piece old.bytes piece (concat pieces) room first gives.1, gives.2)
-with_piece old piece room pieces at_failure some first gives = ((some, gives.0), after_piece old.bytes piece (concat pieces) room first gives.1, gives.2)
-with_piece old piece room pieces at_neither some first gives =
-    ((some, gives.0), (gives.1.0, append_assoc piece (concat pieces) gives.1.0 ∙ after_piece old.bytes piece (concat pieces ++ gives.1.0) room first gives.1.1))
+with_piece old piece room pieces at_end some first gives =
+    ((some, gives.0), after_piece old.bytes piece (concat pieces) room first gives.1, gives.2)
+with_piece old piece room pieces at_failure some first gives =
+    ((some, gives.0), after_piece old.bytes piece (concat pieces) room first gives.1, gives.2)
+with_piece old piece room pieces at_neither some first gives = (
+  (some, gives.0),
+  (
+    gives.1.0,
+    append_assoc piece (concat pieces) gives.1.0 ∙ after_piece old.bytes piece
+        (concat pieces ++ gives.1.0) room first gives.1.1,
+  ),
+)
 
 -- what reads give is of the content
-pub reads_give : (old new : Content) (pieces : List (List ℕ)) (stop : Stop) → Reads ReadsContent AnyRoom old pieces stop new → GivesContent old pieces stop
+pub reads_give : (old new : Content) (pieces : List (List ℕ)) (stop : Stop) → Reads ReadsContent AnyRoom old pieces stop new
+    → GivesContent old pieces stop
 reads_give old new [] at_end reads =
     let empty = none_left reads.0 old.bytes reads.1 reads.3.0 in (tt, sym empty, reads.3.2 empty)
 reads_give old new [] at_failure reads = (tt, sym reads.3.0, reads.3.1)

@@ -10,15 +10,19 @@ use Rattle.lc_glob.specs.Path.{is_good_name}
 use Rattle.lc_tree.specs.Listing.{EntryModel, names, have_good_names, HaveDistinctNames}
 use Rattle.lc_tree.specs.ByteOrder.{bytes_cmp}
 
+-- good names stay good
 pub good_names_moved : (es fs : List EntryModel) → IsPermutation es fs → IsTrue (have_good_names es) → IsTrue (have_good_names fs)
 good_names_moved es fs moved good =
     let test = λ (e : EntryModel). is_good_name e.name in
     list_all-from_AllPass test fs (All-permutation (λ (e : EntryModel). test e ≡ true) es fs moved (AllPass-from_list_all test es good))
 
+-- distinct names stay distinct
 pub distinct_names_moved : (es fs : List EntryModel) → IsPermutation es fs → HaveDistinctNames es → HaveDistinctNames fs
 distinct_names_moved es fs moved =
-    IsDistinct-IsPermutation _ ((eq_by_cmp_equiv nat_list_cmp_total).symm) (names es) (names fs) (IsPermutation-map (λ (e : EntryModel). e.name) es fs moved)
+    IsDistinct-IsPermutation _ ((eq_by_cmp_equiv nat_list_cmp_total).symm) (names es) (names fs)
+    (IsPermutation-map (λ (e : EntryModel). e.name) es fs moved)
 
 -- entries whose names rise once they are sorted have distinct names
 pub distinct_from_sorted : (es fs : List EntryModel) → IsPermutation es fs → IsStrictlySortedBy bytes_cmp (names fs) → HaveDistinctNames es
-distinct_from_sorted es fs moved rising = distinct_names_moved fs es (IsPermutation-sym es fs moved) (IsDistinct-from_sorted bytes_cmp (names fs) rising)
+distinct_from_sorted es fs moved rising =
+    distinct_names_moved fs es (IsPermutation-sym es fs moved) (IsDistinct-from_sorted bytes_cmp (names fs) rising)

@@ -1,5 +1,6 @@
 -- What a file of memory gives is as its values say.
-use Rattle.std.proofs.Common.{◌≡◌, ℕ, ◌<◌, Bool, true, false, cond, nat_lt, List, [], ◌∷◌, length, map, Result, Ok, Err, refl, sym, ◌∙◌, ap, subst, arith, length-append}
+use Rattle.std.proofs.Common.{◌≡◌, ℕ, ◌<◌, Bool, true, false, cond, nat_lt, List, [], ◌∷◌, length, map, Result, Ok, Err, refl, sym, ◌∙◌}
+use Rattle.std.proofs.Common.{ap, subst, arith, length-append}
 use Rattle.std.specs.List.{concat}
 use Rattle.std.proofs.lemmas.Bool.{lt-ltb, le-ltb}
 use Rattle.lc_census.specs.Census.{IsCensus}
@@ -30,10 +31,15 @@ may_count c = at c.fails refl
     at : (fails : Bool) → c.fails ≡ fails → MayCount (GivesContent c) (cond fails (Err Read) (Ok (census c.bytes)))
     at true e = (one_by_one c.bytes, (are_some c.bytes, joined c.bytes, e))
     at false e =
-        let is : IsCensus c.bytes (census c.bytes) = (cut c.bytes, cut_is c.bytes, refl) in
-        (one_by_one c.bytes, (are_some c.bytes, joined c.bytes, e), subst (λ (l : List ℕ). IsCensus l (census c.bytes)) (sym (joined c.bytes)) is)
+        let is : IsCensus c.bytes (census c.bytes) = (cut c.bytes, cut_is c.bytes, refl) in (
+          one_by_one c.bytes,
+          (are_some c.bytes, joined c.bytes, e),
+          subst (λ (l : List ℕ). IsCensus l (census c.bytes))
+              (sym (joined c.bytes)) is,
+        )
 
-by_tests : (c : Content) (long fails : Bool) → nat_lt 1048576 (length c.bytes) ≡ long → c.fails ≡ fails → read_as_rules c ≡ cond long (Err Long) (cond fails (Err Read) (Ok c.bytes))
+by_tests : (c : Content) (long fails : Bool) → nat_lt 1048576 (length c.bytes) ≡ long → c.fails ≡ fails
+    → read_as_rules c ≡ cond long (Err Long) (cond fails (Err Read) (Ok c.bytes))
 by_tests c long fails e f =
     ap (λ b. cond b (Err Long) (cond c.fails (Err Read) (Ok c.bytes))) e ∙ ap (λ b. cond long (Err Long) (cond b (Err Read) (Ok c.bytes))) f
 

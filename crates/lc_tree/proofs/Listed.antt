@@ -1,5 +1,6 @@
 -- The listing of given entries, as a value, is their listing.
-use Rattle.std.proofs.Common.{◌≡◌, ℕ, Bool, true, false, not, ◌||◌, cond, nat_lt, ◌⊎◌, inl, inr, List, [], ◌∷◌, length, map, Result, Ok, Err, refl, sym, ◌∙◌, ap, subst, arith, bytes_eq}
+use Rattle.std.proofs.Common.{◌≡◌, ℕ, Bool, true, false, not, ◌||◌, cond, nat_lt, ◌⊎◌, inl, inr, List, [], ◌∷◌, length, map, Result, Ok}
+use Rattle.std.proofs.Common.{Err, refl, sym, ◌∙◌, ap, subst, arith, bytes_eq}
 use Rattle.std.specs.Prelude.{IfOk}
 use Rattle.std.specs.List.{AllByRecursion, IsDistinct, list_any}
 use Rattle.std.specs.List.Sorted.{IsPermutation, IsStrictlySortedBy}
@@ -9,7 +10,8 @@ use Rattle.std.specs.declared.cmp.Ordering.TheVariants.{Less, Equal, Greater}
 use Rattle.std.proofs.lemmas.Cmp.{nat_list_cmp_total}
 use Rattle.std.proofs.lemmas.Bool.{ltb-true, ltb-false}
 use Rattle.std.proofs.lemmas.List.{length-map}
-use Rattle.std.proofs.lemmas.List.Sorted.{IsPermutation-refl, IsPermutation-cons, IsPermutation-trans, IsPermutation-insert, IsPermutation-map, length_permutation}
+use Rattle.std.proofs.lemmas.List.Sorted.{IsPermutation-refl, IsPermutation-cons, IsPermutation-trans, IsPermutation-insert}
+use Rattle.std.proofs.lemmas.List.Sorted.{IsPermutation-map, length_permutation}
 use Rattle.std.proofs.lemmas.Map.Text.{is_eq-slice_cmp}
 use Rattle.lc_tree.specs.ByteOrder.{bytes_cmp, AreApart, AreInOrder}
 use Rattle.lc_tree.specs.Listed.{has_twice, insert, sorted, listed}
@@ -43,21 +45,25 @@ module _ {X : Type 0} (name : X → List ℕ) where
   on_names P (x ∷ xs) all = (all.0, on_names P xs all.1)
 
   -- what is above a name is above each name below it
-  above_more : (a b : List ℕ) (ys : List X) → bytes_cmp a b ≡ Less → AllByRecursion (λ k. bytes_cmp b k ≡ Less) (map name ys) → AllByRecursion (λ k. bytes_cmp a k ≡ Less) (map name ys)
+  above_more : (a b : List ℕ) (ys : List X) → bytes_cmp a b ≡ Less → AllByRecursion (λ k. bytes_cmp b k ≡ Less) (map name ys)
+      → AllByRecursion (λ k. bytes_cmp a k ≡ Less) (map name ys)
   above_more a b [] less all = tt
   above_more a b (y ∷ ys) less all = (nat_list_cmp_total.trans a b (name y) less all.0, above_more a b ys less all.1)
 
-  inserted_in_order : (x : X) (ys : List X) → AllByRecursion (λ k. eq_by_cmp bytes_cmp (name x) k ≡ false) (map name ys) → AreInOrder (map name ys) → AreInOrder (map name (insert name x ys))
+  inserted_in_order : (x : X) (ys : List X) → AllByRecursion (λ k. eq_by_cmp bytes_cmp (name x) k ≡ false) (map name ys)
+      → AreInOrder (map name ys) → AreInOrder (map name (insert name x ys))
   unfolding IsStrictlySortedBy
   inserted_in_order x [] other order = (tt, tt)
   inserted_in_order x (y ∷ ys) other order = at (bytes_cmp (name x) (name y)) refl (inserted_in_order x ys other.1 order.1)
     where
-      at : (o : Ordering) → bytes_cmp (name x) (name y) ≡ o → AreInOrder (map name (insert name x ys)) → AreInOrder (map name (cond (is_lt o) (x ∷ y ∷ ys) (y ∷ insert name x ys)))
+      at : (o : Ordering) → bytes_cmp (name x) (name y) ≡ o → AreInOrder (map name (insert name x ys))
+          → AreInOrder (map name (cond (is_lt o) (x ∷ y ∷ ys) (y ∷ insert name x ys)))
       at Less e rest = ((e, above_more (name x) (name y) ys e order.0), order)
       at Equal e rest = let same : true ≡ false = sym (ap is_eq e) ∙ other.0 in absurd (cc same)
       at Greater e rest = (
         on_names (λ k. bytes_cmp (name y) k ≡ Less) (insert name x ys)
-            (all_inserted (λ z. bytes_cmp (name y) (name z) ≡ Less) x ys (nat_list_cmp_total.antisymm (name y) (name x) ∙ ap ordering_reverse e)
+            (all_inserted (λ z. bytes_cmp (name y) (name z) ≡ Less) x ys
+            (nat_list_cmp_total.antisymm (name y) (name x) ∙ ap ordering_reverse e)
             (of_names (λ k. bytes_cmp (name y) k ≡ Less) ys order.0)),
         rest,
       )
@@ -67,7 +73,8 @@ module _ {X : Type 0} (name : X → List ℕ) where
   sorted_in_order [] apart = tt
   sorted_in_order (x ∷ xs) apart =
       let other = λ (k : List ℕ). eq_by_cmp bytes_cmp (name x) k ≡ false in
-      inserted_in_order x (sorted name xs) (on_names other (sorted name xs) (all_sorted (λ y. other (name y)) xs (of_names other xs apart.0))) (sorted_in_order xs apart.1)
+      inserted_in_order x (sorted name xs) (on_names other (sorted name xs)
+      (all_sorted (λ y. other (name y)) xs (of_names other xs apart.0))) (sorted_in_order xs apart.1)
 
   inserted_is : (x : X) (ys : List X) → IsPermutation (x ∷ ys) (insert name x ys)
   inserted_is x [] = IsPermutation-refl (x ∷ [])
@@ -75,12 +82,15 @@ module _ {X : Type 0} (name : X → List ℕ) where
     where
       at : (b : Bool) → IsPermutation (x ∷ ys) (insert name x ys) → IsPermutation (x ∷ y ∷ ys) (cond b (x ∷ y ∷ ys) (y ∷ insert name x ys))
       at true rest = IsPermutation-refl (x ∷ y ∷ ys)
-      at false rest = IsPermutation-trans (x ∷ y ∷ ys) (y ∷ x ∷ ys) (y ∷ insert name x ys) (IsPermutation-insert (y ∷ ys) 1 x) (IsPermutation-cons y (x ∷ ys) (insert name x ys) rest)
+      at false rest = IsPermutation-trans (x ∷ y ∷ ys) (y ∷ x ∷ ys) (y ∷ insert name x ys) (IsPermutation-insert (y ∷ ys) 1 x)
+          (IsPermutation-cons y (x ∷ ys) (insert name x ys) rest)
 
+  -- sorting moves elements and no more
   pub sorted_is : (xs : List X) → IsPermutation xs (sorted name xs)
   sorted_is [] = IsPermutation-refl []
   sorted_is (x ∷ xs) =
-      IsPermutation-trans (x ∷ xs) (x ∷ sorted name xs) (insert name x (sorted name xs)) (IsPermutation-cons x xs (sorted name xs) (sorted_is xs)) (inserted_is x (sorted name xs))
+      IsPermutation-trans (x ∷ xs) (x ∷ sorted name xs) (insert name x (sorted name xs))
+      (IsPermutation-cons x xs (sorted name xs) (sorted_is xs)) (inserted_is x (sorted name xs))
 
 -- ---- whether a name stands twice
 
@@ -96,7 +106,8 @@ none_same : (n : List ℕ) (ns : List (List ℕ)) → list_any (bytes_eq n) ns �
 none_same n [] e = tt
 none_same n (k ∷ ks) e = let t = neither (bytes_eq n k) (list_any (bytes_eq n) ks) e in (is_eq-slice_cmp n k ∙ t.0, none_same n ks t.1)
 
-one_same : (n : List ℕ) (ns : List (List ℕ)) → list_any (bytes_eq n) ns ≡ true → AllByRecursion (λ k. eq_by_cmp bytes_cmp n k ≡ false) ns → ⊥
+one_same : (n : List ℕ) (ns : List (List ℕ)) → list_any (bytes_eq n) ns ≡ true
+    → AllByRecursion (λ k. eq_by_cmp bytes_cmp n k ≡ false) ns → ⊥
 one_same n [] e all = cc
 one_same n (k ∷ ks) e all =
     elim (either (bytes_eq n k) (list_any (bytes_eq n) ks) e) [
@@ -158,17 +169,21 @@ listed_is {X} entry xs = at (have_good_names (map entry xs)) refl
     once false good e = few (nat_lt max_entries (length xs)) good (apart_if_once (names (map entry xs)) e) refl
 
     at : (b : Bool) → have_good_names (map entry xs) ≡ b →
-        ItemsFor entry xs (cond (not b) (Err Name) (cond (has_twice (names (map entry xs))) (Err Twice) (cond (nat_lt max_entries (length xs)) (Err Many) (Ok (sorted (λ x. (entry x).name) xs)))))
+        ItemsFor entry xs (cond (not b) (Err Name) (cond (has_twice (names (map entry xs))) (Err Twice)
+        (cond (nat_lt max_entries (length xs)) (Err Many) (Ok (sorted (λ x. (entry x).name) xs)))))
     at true e = once (has_twice (names (map entry xs))) e refl
     at false e = e
 
 -- what holds of entries with good and distinct names holds of those that are listed
 pub all_listed : {X : Type 0} (entry : X → EntryModel) (P : X → Type 0) (xs : List X) →
-    (have_good_names (map entry xs) ≡ true → HaveDistinctNames (map entry xs) → AllByRecursion P xs) → IfOk (listed entry xs) (AllByRecursion P)
-all_listed {X} entry P xs all = at (have_good_names (map entry xs)) refl (has_twice (names (map entry xs))) refl (nat_lt max_entries (length xs))
+    (have_good_names (map entry xs) ≡ true → HaveDistinctNames (map entry xs) → AllByRecursion P xs)
+    → IfOk (listed entry xs) (AllByRecursion P)
+all_listed {X} entry P xs all =
+    at (have_good_names (map entry xs)) refl (has_twice (names (map entry xs))) refl (nat_lt max_entries (length xs))
   where
     at : (good : Bool) → have_good_names (map entry xs) ≡ good → (twice : Bool) → has_twice (names (map entry xs)) ≡ twice → (many : Bool) →
-        IfOk (cond (not good) (Err Name) (cond twice (Err Twice) (cond many (Err Many) (Ok (sorted (λ x. (entry x).name) xs))))) (AllByRecursion P)
+        IfOk (cond (not good) (Err Name) (cond twice (Err Twice) (cond many (Err Many) (Ok (sorted (λ x. (entry x).name) xs)))))
+        (AllByRecursion P)
     at false g twice t many = tt
     at true g true t many = tt
     at true g false t true = tt

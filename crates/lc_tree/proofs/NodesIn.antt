@@ -1,5 +1,6 @@
 -- The node under a name of a directory.
-use Rattle.std.proofs.Common.{◌≡◌, ◌≢◌, ℕ, ◌==◌, Bool, true, false, not, ◌&&◌, ◌||◌, cond, List, [], ◌∷◌, ◌++◌, length, map, Option, Some, None, refl, sym, ◌∙◌, ap, arith, bytes_eq}
+use Rattle.std.proofs.Common.{◌≡◌, ◌≢◌, ℕ, ◌==◌, Bool, true, false, not, ◌&&◌, ◌||◌, cond, List, [], ◌∷◌, ◌++◌, length, map, Option}
+use Rattle.std.proofs.Common.{Some, None, refl, sym, ◌∙◌, ap, arith, bytes_eq}
 use Rattle.std.specs.Prelude.{find, option_map, option_and_then}
 use Rattle.std.specs.List.{AllByRecursion, IsDistinct, list_any, onto_first}
 use Rattle.std.specs.Ordering.{eq_by_cmp}
@@ -18,7 +19,8 @@ use Rattle.lc_tree.specs.declared.node.Node.{Node}
 some_segment : (bytes : List ℕ) → segments_of bytes ≡ [] → ⊥
 some_segment bytes e = omega (arith, length-slice_split (λ (b : ℕ). b == 47) bytes, ap length e)
 
-onto_end : (b : ℕ) (parts : List (List ℕ)) (name : List ℕ) → (parts ≡ [] → ⊥) → onto_first b (parts ++ name ∷ []) ≡ onto_first b parts ++ name ∷ []
+onto_end : (b : ℕ) (parts : List (List ℕ)) (name : List ℕ) → (parts ≡ [] → ⊥)
+    → onto_first b (parts ++ name ∷ []) ≡ onto_first b parts ++ name ∷ []
 onto_end b [] name some = absurd (some refl)
 onto_end b (part ∷ parts) name some = refl
 
@@ -42,7 +44,8 @@ last_segment (b ∷ bs) name e = at (b == 47) refl (last_segment bs name e)
         slice_split-cons_yes (λ c. c == 47) b (bs ++ 47 ∷ name) s ∙ ap (λ l. [] ∷ l) rest
         ∙ ap (λ l. l ++ name ∷ []) (sym (slice_split-cons_yes (λ c. c == 47) b bs s))
     at false s rest =
-        slice_split-cons_no (λ c. c == 47) b (bs ++ 47 ∷ name) s ∙ ap (onto_first b) rest ∙ onto_end b (segments_of bs) name (some_segment bs)
+        slice_split-cons_no (λ c. c == 47) b (bs ++ 47 ∷ name) s ∙ ap (onto_first b) rest ∙ onto_end b (segments_of bs) name
+        (some_segment bs)
         ∙ ap (λ l. l ++ name ∷ []) (sym (slice_split-cons_no (λ c. c == 47) b bs s))
 
 no_slash : (name some_nul : Bool) (any : Bool) → (not name && not any && not some_nul) ≡ true → any ≡ false
@@ -50,19 +53,24 @@ no_slash true nul any e = cc
 no_slash false nul true e = cc
 no_slash false nul false e = refl
 
-pub names_below : (path name : List ℕ) → name ≢ [] → list_any (λ b. b == 47) name ≡ false → names_of_path (path_in path name) ≡ names_of_path path ++ name ∷ []
+-- a name in a directory is one more of its path's names
+pub names_below : (path name : List ℕ) → name ≢ [] → list_any (λ b. b == 47) name ≡ false
+    → names_of_path (path_in path name) ≡ names_of_path path ++ name ∷ []
 names_below [] [] some none = absurd (some refl)
 names_below [] (b ∷ bs) some none = one_segment (b ∷ bs) none
 names_below (c ∷ cs) name some none = last_segment (c ∷ cs) name none
 
+-- a good name is
 pub names_in : (path name : List ℕ) → is_good_name name ≡ true → names_of_path (path_in path name) ≡ names_of_path path ++ name ∷ []
 names_in path [] good = cc
 names_in path (b ∷ bs) good =
-    names_below path (b ∷ bs) (λ e. cc) (no_slash (is_no_name (b ∷ bs)) (list_any (λ c. c == 0) (b ∷ bs)) (list_any (λ c. c == 47) (b ∷ bs)) good)
+    names_below path (b ∷ bs) (λ e. cc) (no_slash (is_no_name (b ∷ bs)) (list_any (λ c. c == 0) (b ∷ bs))
+    (list_any (λ c. c == 47) (b ∷ bs)) good)
 
 -- ---- the node there
 
-below_last : (ns : List (List ℕ)) (name : List ℕ) (top : Node) → node_below (ns ++ name ∷ []) top ≡ option_and_then (child_of name) (node_below ns top)
+below_last : (ns : List (List ℕ)) (name : List ℕ) (top : Node)
+    → node_below (ns ++ name ∷ []) top ≡ option_and_then (child_of name) (node_below ns top)
 below_last [] name top = same (child_of name top)
   where
     same : (o : Option Node) → option_and_then (λ (child : Node). Some child) o ≡ o
@@ -71,27 +79,36 @@ below_last [] name top = same (child_of name top)
 below_last (n ∷ ns) name top = at (child_of n top) (below_last ns name)
   where
     at : (o : Option Node) → ((node : Node) → node_below (ns ++ name ∷ []) node ≡ option_and_then (child_of name) (node_below ns node)) →
-        option_and_then (λ (child : Node). node_below (ns ++ name ∷ []) child) o ≡ option_and_then (child_of name) (option_and_then (λ (child : Node). node_below ns child) o)
+        option_and_then (λ (child : Node). node_below (ns ++ name ∷ []) child) o ≡ option_and_then (child_of name)
+        (option_and_then (λ (child : Node). node_below ns child) o)
     at None rest = refl
     at (Some node) rest = rest node
 
-pub node_in : (top : Node) (path name : List ℕ) → is_good_name name ≡ true → node_at top (path_in path name) ≡ option_and_then (child_of name) (node_at top path)
-node_in top path name good = ap (λ (l : List (List ℕ)). node_below l top) (names_in path name good) ∙ below_last (names_of_path path) name top
+-- what stands under a good name is the child of what stands at the directory
+pub node_in : (top : Node) (path name : List ℕ) → is_good_name name ≡ true
+    → node_at top (path_in path name) ≡ option_and_then (child_of name) (node_at top path)
+node_in top path name good =
+    ap (λ (l : List (List ℕ)). node_below l top) (names_in path name good) ∙ below_last (names_of_path path) name top
 
 -- ---- each entry of distinct names is found by its name
 
 first_found : (c : Child) (cs : List Child) → child_among c.0.items (c ∷ cs) ≡ Some c.1
-first_found c cs = ap (λ b. option_map (λ (d : Child). d.1) (cond b (Some c) (find (λ (d : Child). bytes_eq d.0.items c.0.items) cs))) ((bytes_eq-Decides c.0.items c.0.items).1 refl)
+first_found c cs = ap (λ b. option_map (λ (d : Child). d.1) (cond b (Some c) (find (λ (d : Child). bytes_eq d.0.items c.0.items) cs)))
+    ((bytes_eq-Decides c.0.items c.0.items).1 refl)
 
 later_found : (c : Child) (cs ds : List Child) → AllByRecursion (λ k. eq_by_cmp bytes_cmp c.0.items k ≡ false) (names (map entry_of ds)) →
-    AllByRecursion (λ (d : Child). child_among d.0.items cs ≡ Some d.1) ds → AllByRecursion (λ (d : Child). child_among d.0.items (c ∷ cs) ≡ Some d.1) ds
+    AllByRecursion (λ (d : Child). child_among d.0.items cs ≡ Some d.1) ds
+    → AllByRecursion (λ (d : Child). child_among d.0.items (c ∷ cs) ≡ Some d.1) ds
 later_found c cs [] other all = tt
 later_found c cs (d ∷ ds) other all = (
-  ap (λ b. option_map (λ (x : Child). x.1) (cond b (Some c) (find (λ (x : Child). bytes_eq x.0.items d.0.items) cs))) (sym (is_eq-slice_cmp c.0.items d.0.items) ∙ other.0) ∙ all.0,
+  ap (λ b. option_map (λ (x : Child). x.1) (cond b (Some c) (find (λ (x : Child). bytes_eq x.0.items d.0.items) cs)))
+      (sym (is_eq-slice_cmp c.0.items d.0.items) ∙ other.0) ∙ all.0,
   later_found c cs ds other.1 all.1,
 )
 
-pub each_found : (cs : List Child) → HaveDistinctNames (map entry_of cs) → AllByRecursion (λ (c : Child). child_among c.0.items cs ≡ Some c.1) cs
+-- each child of a directory is found by its name
+pub each_found : (cs : List Child) → HaveDistinctNames (map entry_of cs)
+    → AllByRecursion (λ (c : Child). child_among c.0.items cs ≡ Some c.1) cs
 unfolding IsDistinct
 each_found [] distinct = tt
 each_found (c ∷ cs) distinct = (first_found c cs, later_found c cs cs distinct.0 (each_found cs distinct.1))

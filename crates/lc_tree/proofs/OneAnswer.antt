@@ -1,5 +1,6 @@
 -- A tree of memory answers in one way.
-use Rattle.std.proofs.Common.{◌≡◌, ℕ, ◌<◌, ◌≤◌, ◌^◌, Bool, List, [], ◌∷◌, ◌++◌, length, Result, Ok, Err, Option, Some, None, IsTrue, IsFalse, refl, sym, ◌∙◌, ap, subst, arith, length-append}
+use Rattle.std.proofs.Common.{◌≡◌, ℕ, ◌<◌, ◌≤◌, ◌^◌, Bool, List, [], ◌∷◌, ◌++◌, length, Result, Ok, Err, Option, Some, None, IsTrue}
+use Rattle.std.proofs.Common.{IsFalse, refl, sym, ◌∙◌, ap, subst, arith, length-append}
 use Rattle.std.specs.List.{concat}
 use Rattle.std.proofs.lemmas.List.Sorted.{IsPermutation-sym, Contains-permutation, length_permutation}
 use Rattle.lc_census.specs.Census.{IsCensus, count_of}
@@ -61,6 +62,7 @@ once_within (Node-F.File bytes) a b p q = p ∙ sym q
 once_within (Node-F.Failing bytes) a b p q = p ∙ sym q
 once_within Node-F.Other a b p q = p ∙ sym q
 
+-- a node is listed in one way
 pub lists_once : (node : Option Node) (a b : Result (List EntryModel) FaultWord) → ListsNode node a → ListsNode node b → a ≡ b
 lists_once None a b p q = p ∙ sym q
 lists_once (Some node) a b p q = once_within (out-Node node) a b p q
@@ -80,9 +82,11 @@ not_endless c short m = omega (arith, few_pieces m.0 m.1.0, within m.0 m.1.1.0 c
 one_count : (bytes : List ℕ) (a b : Count) → HasOneCutting bytes → IsCensus bytes a → IsCensus bytes b → a ≡ b
 one_count bytes a b one p q = p.2 ∙ (ap (count_of bytes) (one.2 p.0 p.1 ∙ sym (one.2 q.0 q.1)) ∙ sym q.2)
 
-census_of : (c : Content) (pieces : List (List ℕ)) (count : Count) → concat pieces ≡ c.bytes → IsCensus (concat pieces) count → IsCensus c.bytes count
+census_of : (c : Content) (pieces : List (List ℕ)) (count : Count) → concat pieces ≡ c.bytes → IsCensus (concat pieces) count
+    → IsCensus c.bytes count
 census_of c pieces count is census = subst (λ (l : List ℕ). IsCensus l count) is census
 
+-- contents of under 4 GiB are counted in one way
 pub counts_once : (c : Content) (a b : Result Count FaultWord) → length c.bytes < 2 ^ 32 → ((bytes : List ℕ) → HasOneCutting bytes)
     → MayCount (GivesContent c) a → MayCount (GivesContent c) b → a ≡ b
 counts_once c (Err Name) b short one p q = absurd p
@@ -95,7 +99,8 @@ counts_once c a (Err Twice) short one p q = absurd q
 counts_once c a (Err Many) short one p q = absurd q
 counts_once c a (Err Long) short one p q = absurd q
 counts_once c a (Err Endless) short one p q = absurd (not_endless c short q)
-counts_once c (Ok a) (Ok b) short one p q = ap Ok (one_count c.bytes a b (one c.bytes) (census_of c p.0 a p.1.1 p.2) (census_of c q.0 b q.1.1 q.2))
+counts_once c (Ok a) (Ok b) short one p q =
+    ap Ok (one_count c.bytes a b (one c.bytes) (census_of c p.0 a p.1.1 p.2) (census_of c q.0 b q.1.1 q.2))
 counts_once c (Ok a) (Err Read) short one p q = absurd (both c.fails q.1.2 p.1.2)
 counts_once c (Err Read) (Ok b) short one p q = absurd (both c.fails p.1.2 q.1.2)
 counts_once c (Err Read) (Err Read) short one p q = refl
@@ -110,6 +115,7 @@ is_short c bytes m = omega (arith, ap length (sym m.1.1 ∙ m.2), m.3)
 short_failure : (c : Content) → MayReadRules (GivesContent c) (Err Read) → length c.bytes ≤ 1048576
 short_failure c m = omega (arith, ap length m.1.1, m.2)
 
+-- contents are read as rules in one way
 pub reads_rules_once : (c : Content) (a b : Result (List ℕ) FaultWord)
     → MayReadRules (GivesContent c) a → MayReadRules (GivesContent c) b → a ≡ b
 reads_rules_once c (Err Name) b p q = absurd p

@@ -6,9 +6,11 @@ use Rattle.lc_tree.specs.Trees.{Contents, GivesOnly}
 
 -- each read of the one, as f sees it, is a read of the other
 abbrev pub Follows : {S R : Type 0} → (S → R) → (S → ℕ → Answer → S → Type 0) → (R → ℕ → Answer → R → Type 0) → Type 0
-Follows {S} {R} f may_give may_give' = (old new : S) (answer : Answer) → MayRead may_give AnyRoom old answer new → MayRead may_give' AnyRoom (f old) answer (f new)
+Follows {S} {R} f may_give may_give' =
+    (old new : S) (answer : Answer) → MayRead may_give AnyRoom old answer new → MayRead may_give' AnyRoom (f old) answer (f new)
 
-module _ {S R : Type 0} (f : S → R) (may_give : S → ℕ → Answer → S → Type 0) (may_give' : R → ℕ → Answer → R → Type 0) (follows : Follows f may_give may_give') where
+module _ {S R : Type 0} (f : S → R) (may_give : S → ℕ → Answer → S → Type 0) (may_give' : R → ℕ → Answer → R → Type 0)
+    (follows : Follows f may_give may_give') where
   reads_follow : (old new : S) (pieces : List (List ℕ)) (stop : Stop) → Reads may_give AnyRoom old pieces stop new
       → Reads may_give' AnyRoom (f old) pieces stop (f new)
   reads_follow old new [] at_end reads = follows old new (gave []) reads
@@ -47,7 +49,8 @@ module _ {F : Type 0} (may_give : F → ℕ → Answer → F → Type 0) where
       before (inr failing) = inr (failing.0, (reads.0, reads.1, reads.2, failing.1))
 
   -- a file whose reads may fail gives what it gave, or fails
-  pub gives_or_fails : (gives : Contents) (file : F) → GivesOnly may_give gives file → GivesOnly (MayFail may_give) (GivesOrFails gives) file
+  pub gives_or_fails : (gives : Contents) (file : F) → GivesOnly may_give gives file
+      → GivesOnly (MayFail may_give) (GivesOrFails gives) file
   gives_or_fails gives file only pieces stop left reads = by_stop pieces stop (reads_or_fails file left pieces stop reads)
     where
       by_stop : (pieces : List (List ℕ)) (stop : Stop) → ReadsOrFails file pieces stop left → GivesOrFails gives pieces stop

@@ -1,5 +1,6 @@
 -- A file of memory may be counted, and read as rules, in some way: the proofs of two laws of a tree, which are read from here.
-use Rattle.std.proofs.Common.{◌≡◌, ℕ, ◌≤◌, ◌<◌, ◌⊎◌, inl, inr, Bool, true, false, List, [], ◌∷◌, ◌++◌, length, take, drop, Result, Ok, Err, refl, ◌∙◌, ap, subst, sym}
+use Rattle.std.proofs.Common.{◌≡◌, ℕ, ◌≤◌, ◌<◌, ◌⊎◌, inl, inr, Bool, true, false, List, [], ◌∷◌, ◌++◌, length, take, drop, Result, Ok}
+use Rattle.std.proofs.Common.{Err, refl, ◌∙◌, ap, subst, sym}
 use Rattle.std.specs.List.{concat}
 use Rattle.std.proofs.Math.Nat.{le-pred_of_lt}
 use Rattle.std.proofs.lemmas.Bool.{cases_lt}
@@ -41,8 +42,15 @@ some_count c = by_end c.bytes c.fails
     by_end bytes true = (Err Read, (one_piece bytes, (is_some bytes, joined bytes, refl)))
     by_end bytes false =
         let count = count_of bytes (cut bytes) in
-        let census : IsCensus bytes count = (cut bytes, cut_is bytes, refl) in
-        (Ok count, (one_piece bytes, (is_some bytes, joined bytes, refl), subst (λ (l : List ℕ). IsCensus l count) (sym (joined bytes)) census))
+        let census : IsCensus bytes count = (cut bytes, cut_is bytes, refl) in (
+          Ok count,
+          (
+            one_piece bytes,
+            (is_some bytes, joined bytes, refl),
+            subst (λ (l : List ℕ). IsCensus l count)
+                (sym (joined bytes)) census,
+          ),
+        )
 
 -- the first bytes of a longer file
 first_bytes : (bytes : List ℕ) (fails : Bool) (n : ℕ) → n ≤ length bytes
@@ -62,5 +70,6 @@ some_rules c = by_length c.bytes c.fails (cases_lt (length c.bytes) 1048577)
     by_length bytes true (inl short) =
         let within = subst (λ (l : List ℕ). length l ≤ 1048576) (sym (joined bytes)) (le-pred_of_lt short) in
         (Err Read, (one_piece bytes, (is_some bytes, joined bytes, refl), within))
-    by_length bytes false (inl short) = (Ok bytes, (one_piece bytes, (is_some bytes, joined bytes, refl), joined bytes, le-pred_of_lt short))
+    by_length bytes false (inl short) =
+        (Ok bytes, (one_piece bytes, (is_some bytes, joined bytes, refl), joined bytes, le-pred_of_lt short))
     by_length bytes fails (inr long) = (Err Long, first_bytes bytes fails 1048577 long)

@@ -1,11 +1,14 @@
 //! The entries of a directory of the system.
-ghost use Rattle.std.specs.Prelude.{◌≡◌, ◌↔◌, IsTrue, string_bytes};
+ghost use Rattle.std.specs.Prelude.{◌≡◌, ◌↔◌, IsTrue, Ok, Some, length, nat_lt, string_bytes};
 ghost use Rattle.std.specs.Fs.{file_type, IsFile, IsDir};
+ghost use Rattle.lc_glob.specs.Path.{path_in, max_path};
 ghost use Rattle.lc_tree.specs.Kinds.{is_file, is_dir};
+ghost use Rattle.lc_tree.specs.declared.entry.Kind.TheVariants.{Other};
 
 use crate::system_call::uninterrupted;
 use crate::{Entry, Kind, ReadFault};
 use lc_census::{Failed, Source, StdSource};
+use lc_glob::path::MAX_PATH;
 use std::alloc::Global;
 use std::fs::Metadata;
 use std::io::ErrorKind;
@@ -14,10 +17,11 @@ use std::rt::Files;
 /// The length of the buffer of one read of a directory, which has room for the names of a few hundred entries.
 const NAMES_LEN: usize = 8_192;
 
-/// All entries of the directory at a path, but for `.` and `..`.
+/// All entries of a directory at a path of the tree and at one of the system, but for `.` and `..`.
 pub(crate) fn entries_of<R: Files>(
     files: &R,
     alloc: Global,
+    directory: &[u8],
     path: String,
 ) -> Result<Vec<Entry>, ReadFault> {
     let Ok(dir) = uninterrupted(|| files.open_dir(path.as_str())) else {
@@ -28,24 +32,23 @@ pub(crate) fn entries_of<R: Files>(
     if !path.as_str().ends_with('/') {
         path.push('/')?;
     }
-    let mut entries = Vec::new(alloc);
-    read_names(files, alloc, &mut dir, &mut path, &mut entries)?;
-    Ok(entries)
+    read_names(files, alloc, directory, &mut dir, &mut path)
 }
 
-// Adds the entries of the names that are left to be read.
+// The entries of the names that are left to be read.
 fn read_names<R: Files>(
     files: &R,
     alloc: Global,
+    directory: &[u8],
     dir: &mut StdSource<R::Dir>,
     path: &mut String,
-    entries: &mut Vec<Entry>,
-) -> Result<(), ReadFault> {
+) -> Result<Vec<Entry>, ReadFault> {
+    let mut entries = Vec::new(alloc);
     let mut names = [0; NAMES_LEN];
     for _ in 0..u64::MAX {
         match dir.read(&mut names) {
-            Ok(0) => return Ok(()),
-            Ok(len) => add_entries(files, alloc, &names[..len], path, entries)?,
+            Ok(0) => return Ok(entries),
+            Ok(len) => add_entries(files, alloc, directory, &names[..len], path, &mut entries)?,
             Err(Failed) => return Err(ReadFault::Failed),
         }
     }
@@ -56,13 +59,14 @@ fn read_names<R: Files>(
 fn add_entries<R: Files>(
     files: &R,
     alloc: Global,
+    directory: &[u8],
     names: &[u8],
     path: &mut String,
     entries: &mut Vec<Entry>,
 ) -> Result<(), ReadFault> {
     for name in names.split(|b| *b == 0) {
         if !matches!(name, [] | [b'.'] | [b'.', b'.']) {
-            add_entry(files, alloc, name, path, entries)?;
+            add_entry(files, alloc, directory, name, path, entries)?;
         }
     }
     Ok(())
@@ -72,6 +76,7 @@ fn add_entries<R: Files>(
 fn add_entry<R: Files>(
     files: &R,
     alloc: Global,
+    directory: &[u8],
     name: &[u8],
     path: &mut String,
     entries: &mut Vec<Entry>,
@@ -79,15 +84,40 @@ fn add_entry<R: Files>(
     let Ok(text) = str::from_utf8(name) else {
         return Err(ReadFault::Unnamed);
     };
-    if let Some(kind) = kind_of(files, path, text)? {
+    if let Some(kind) = kind_of(files, directory, path, text)? {
         let name = name.to_vec(alloc)?;
         entries.push(Entry { name, kind })?;
     }
     Ok(())
 }
 
+// What stands under a name in a directory. An entry whose path in the tree is too long is not looked at: the system may refuse so
+// long a path, and the whole directory would be at fault, where a walk refuses the entry whatever it is.
+fn kind_of<R: Files>(
+    files: &R,
+    directory: &[u8],
+    path: &mut String,
+    name: &str,
+) -> Result<Option<Kind>, ReadFault>
+    ensures unseen { IsTrue (nat_lt max_path (length (path_in directory.now name.now))) → result ≡ Ok (Some Other) }
+{
+    if is_beyond(directory, name.as_bytes()) {
+        return Ok(Some(Kind::Other));
+    }
+    look(files, path, name)
+}
+
+// Whether the path of a name in a directory is too long for a walk.
+fn is_beyond(directory: &[u8], name: &[u8]) -> bool
+    ensures { result ≡ nat_lt max_path (length (path_in directory.now name.now)) }
+{
+    let slash = usize::from(!directory.is_empty());
+    let path = directory.len().saturating_add(slash);
+    path.saturating_add(name.len()) > MAX_PATH
+}
+
 // What stands under a name in the directory of this path, which ends with a slash and stays as it was.
-fn kind_of<R: Files>(files: &R, path: &mut String, name: &str) -> Result<Option<Kind>, ReadFault>
+fn look<R: Files>(files: &R, path: &mut String, name: &str) -> Result<Option<Kind>, ReadFault>
     ensures { string_bytes path.new ≡ string_bytes path.old }
 {
     let base = path.len();

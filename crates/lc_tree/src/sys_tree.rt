@@ -21,6 +21,10 @@ const NAME_ROOM: usize = 256;
 /// that is removed while its directory is listed is left out. A call that a signal interrupts is tried again, up to
 /// `MAX_TRIES` times in all.
 ///
+/// An entry whose path has over `MAX_PATH` bytes is `Kind::Other` without a look at it, which the system would refuse: a
+/// walk refuses it whatever it is. A path of fewer bytes that has over 4,095 with that of the top before it makes its directory
+/// `ReadFault::Failed`.
+///
 /// Between the look at an entry and its opening the file may be replaced: then what stands there is opened, also through
 /// a symbolic link, and a named pipe waits for its writer.
 #[derive(Drop)]
@@ -93,7 +97,7 @@ where
 
     fn list(&self, alloc: Global, path: &[u8]) -> Result<Listing, ReadFault> {
         let text = self.full_path(alloc, path)?;
-        let entries = entries_of(self.files, alloc, text)?;
+        let entries = entries_of(self.files, alloc, path, text)?;
         Ok(Listing::new(entries)?)
     }
 

@@ -31,9 +31,12 @@ whole_row (Broken r) a b c = at r.cause a b c
     at TooManyDirs a b c = b refl
     at TooDeep a b c = c refl
 
+-- rows of which none is Broken for a cause are whole
 pub whole_rows : (rows : List (Ended Row)) → NoneFor Memory rows → NoneFor TooManyDirs rows → NoneFor TooDeep rows → AreWhole rows
 whole_rows rows a b c i e is = whole_row (row_of e) (a i e is) (b i e is) (c i e is)
 
-pub refused_rows : (rows : List (Ended Row)) (f : TreeFault) → NoneFor Memory rows → NoneFor TooManyDirs rows → NoneFor TooDeep rows → RefusesTree rows f → RefusesRows rows (fault_of_tree f)
+-- a fault of the tree of such rows is one of the walk
+pub refused_rows : (rows : List (Ended Row)) (f : TreeFault) → NoneFor Memory rows → NoneFor TooManyDirs rows → NoneFor TooDeep rows
+    → RefusesTree rows f → RefusesRows rows (fault_of_tree f)
 refused_rows rows tree.Memory a b c t = tt
 refused_rows rows (tree.Torn n) a b c t = (whole_rows rows a b c, t)

@@ -11,7 +11,9 @@ use Rattle.lc_walk.proofs.Core.{same_head, same_tail}
 
 -- ---- the children that a row names, by their places
 
-pub child_posted : (cs : List (List ℕ × JobModel)) (ps : List (ℕ × JobModel)) (i : ℕ) (c : ChildModel) → slice_get (named cs ps) i ≡ Some c → IsIn c.number ps
+-- the number of a child was posted
+pub child_posted : (cs : List (List ℕ × JobModel)) (ps : List (ℕ × JobModel)) (i : ℕ) (c : ChildModel)
+    → slice_get (named cs ps) i ≡ Some c → IsIn c.number ps
 child_posted [] ps i c x = cc
 child_posted (d ∷ cs) [] i c x = cc
 child_posted (d ∷ cs) (p ∷ ps) zero c x = inl (ap (λ (k : ChildModel). k.number) (one (record { name = d.0; number = p.0 }) c x))
@@ -20,29 +22,41 @@ child_posted (d ∷ cs) (p ∷ ps) zero c x = inl (ap (λ (k : ChildModel). k.nu
     one a b e = cc
 child_posted (d ∷ cs) (p ∷ ps) (suc i) c x = inr (child_posted cs ps i c x)
 
-first_child : (d : List ℕ × JobModel) (p : ℕ × JobModel) (c : ChildModel) → Some (record { name = d.0; number = p.0 }) ≡ Some c → p.0 ≡ c.number
+first_child : (d : List ℕ × JobModel) (p : ℕ × JobModel) (c : ChildModel) → Some (record { name = d.0; number = p.0 }) ≡ Some c
+    → p.0 ≡ c.number
 first_child d p c x = ap (λ (k : ChildModel). k.number) (one (record { name = d.0; number = p.0 }) c x)
   where
     one : (a b : ChildModel) → Some a ≡ Some b → a ≡ b
     one a b e = cc
 
-pub one_place : (cs : List (List ℕ × JobModel)) (ps : List (ℕ × JobModel)) (i k : ℕ) (c d : ChildModel) → IsOnce ps → slice_get (named cs ps) i ≡ Some c → slice_get (named cs ps) k ≡ Some d → c.number ≡ d.number → i ≡ k
+-- and at one place alone
+pub one_place : (cs : List (List ℕ × JobModel)) (ps : List (ℕ × JobModel)) (i k : ℕ) (c d : ChildModel) → IsOnce ps
+    → slice_get (named cs ps) i ≡ Some c → slice_get (named cs ps) k ≡ Some d → c.number ≡ d.number → i ≡ k
 one_place [] ps i k c d o x y e = cc
 one_place (b ∷ cs) [] i k c d o x y e = cc
 one_place (b ∷ cs) (p ∷ ps) zero zero c d o x y e = refl
-one_place (b ∷ cs) (p ∷ ps) zero (suc k) c d o x y e = absurd (o.0 (subst (λ n. IsIn n ps) (sym (first_child b p c x ∙ e)) (child_posted cs ps k d y)))
-one_place (b ∷ cs) (p ∷ ps) (suc i) zero c d o x y e = absurd (o.0 (subst (λ n. IsIn n ps) (sym (first_child b p d y ∙ sym e)) (child_posted cs ps i c x)))
+one_place (b ∷ cs) (p ∷ ps) zero (suc k) c d o x y e =
+    absurd (o.0 (subst (λ n. IsIn n ps) (sym (first_child b p c x ∙ e)) (child_posted cs ps k d y)))
+one_place (b ∷ cs) (p ∷ ps) (suc i) zero c d o x y e =
+    absurd (o.0 (subst (λ n. IsIn n ps) (sym (first_child b p d y ∙ sym e)) (child_posted cs ps i c x)))
 one_place (b ∷ cs) (p ∷ ps) (suc i) (suc k) c d o x y e = ap suc (one_place cs ps i k c d o.1 x y e)
 
 -- a posted number has a place in the row, and its path is the directory's with the name there
 pub record PlaceOf (d : List ℕ) (job : ℕ → JobModel) (cs : List ChildModel) (k : ℕ) : Type 0 where
+  -- its place
   pub at : ℕ
+  -- the child there
   pub child : ChildModel
+  -- it stands there
   pub here : slice_get cs at ≡ Some child
+  -- with this number
   pub number : child.number ≡ k
+  -- and its directory's path with its name is the path of its job
   pub path : (job k).path ≡ path_in d child.name
 
-pub posted_child : (d : List ℕ) (job : ℕ → JobModel) (cs : List (List ℕ × JobModel)) (ps : List (ℕ × JobModel)) (k : ℕ) → jobs_of ps ≡ jobs_of cs → AllByRecursion (IsChild d) cs →
+-- each posted number is that of a child
+pub posted_child : (d : List ℕ) (job : ℕ → JobModel) (cs : List (List ℕ × JobModel)) (ps : List (ℕ × JobModel)) (k : ℕ)
+    → jobs_of ps ≡ jobs_of cs → AllByRecursion (IsChild d) cs →
     AllByRecursion (λ p. job p.0 ≡ p.1) ps → IsIn k ps → PlaceOf d job (named cs ps) k
 posted_child d job cs [] k e a b i = absurd i
 posted_child d job [] (p ∷ ps) k e a b i = absurd (none e)

@@ -1,8 +1,10 @@
 -- From a closed board, and from what its workers left, to a closed walk and its report.
-use Rattle.std.proofs.Common.{◌≡◌, ℕ, zero, suc, ◌<◌, ◌≤◌, ◌||◌, Bool, true, false, cond, List, [], ◌∷◌, ◌++◌, length, slice_get, map, refl, sym, ◌∙◌, ap, arith, subst, Option, Some, None, inl, inr, IsPermutation}
+use Rattle.std.proofs.Common.{◌≡◌, ℕ, zero, suc, ◌<◌, ◌≤◌, ◌||◌, Bool, true, false, cond, List, [], ◌∷◌, ◌++◌, length, slice_get, map}
+use Rattle.std.proofs.Common.{refl, sym, ◌∙◌, ap, arith, subst, Option, Some, None, inl, inr, IsPermutation}
 use Rattle.std.specs.List.{flat_map, list_any, range_with_len, enumerate_from}
 use Rattle.std.proofs.lemmas.List.Sorted.{IsPermutation-sym}
 use Rattle.lc_board.specs.Ends.{Saying, RowsHold, ender, ends}
+use Rattle.lc_board.specs.LegalHistory.{posts_under}
 use Rattle.lc_board.specs.Part.{part}
 use Rattle.lc_board.specs.RowsInPlace.{InPlace}
 use Rattle.lc_board.specs.Pass.{Pass}
@@ -19,14 +21,17 @@ use Rattle.lc_walk.proofs.Joining.{stands_permuted}
 use Rattle.lc_walk.specs.declared.report.Report.{Report}
 use Rattle.lc_level.specs.Answers.{Answers, no_answers}
 use Rattle.lc_level.specs.Job.{JobModel}
-use Rattle.lc_walk.specs.Found.{Found, found_of, found_at, children_at}
+use Rattle.lc_level.specs.Level.{counted_in}
+use Rattle.lc_walk.specs.Found.{Found, found_of, found_at}
 use Rattle.lc_walk.specs.Rows.{row_of, job_of, IsWhole}
-use Rattle.lc_walk.specs.Lawful.{Asked, IsLawful, Says, files_at}
+use Rattle.lc_walk.specs.Lawful.{Asked, IsLawful, Says, counted_files}
 use Rattle.lc_level.specs.Tidy.{IsTidy}
 use Rattle.lc_walk.specs.TreeOfRows.{numbers_below, child_number, tree_from, children_by_rows, tree_of_rows}
 use Rattle.lc_walk.specs.Walked.{Walked, AreWhole, row_found, rows_found}
-use Rattle.lc_walk.specs.WalkReport.{line_of, tallied_in, file_in, fault_in, directory_in, tallied_of, files_of, faults_of, directories_of, IsReportOf}
-use Rattle.lc_walk.specs.Assembled.{directories_by_row, files_by_row, faults_by_row, directories_in_rows, files_in_rows, faults_in_rows}
+use Rattle.lc_walk.specs.WalkReport.{tallied, line_of, tallied_in, file_in, fault_in, directory_in, tallied_of, files_of, faults_of}
+use Rattle.lc_walk.specs.WalkReport.{directories_of, IsReportOf}
+use Rattle.lc_walk.specs.Assembled.{fault_line, directories_by_row, files_by_row, faults_by_row}
+use Rattle.lc_walk.specs.Assembled.{directories_in_rows, files_in_rows, faults_in_rows}
 use Rattle.lc_walk.specs.Worked.{MayStand, IsLawfulEnd, AreLawful, returned_files, files_given, files_of_pass, files_of_passes}
 use Rattle.lc_walk.proofs.Broken.{NoneFor, unbroken}
 use Rattle.lc_walk.proofs.Fuller.{fuller_says}
@@ -46,7 +51,8 @@ use Rattle.lc_board.proofs.RowsOfWorkers.{rows_are_ends}
 use Rattle.lc_board.proofs.Weights.{each-map, flat_map-on}
 use Rattle.lc_walk.proofs.Moves.{lists_moved}
 use Rattle.lc_walk.proofs.Law.{core_law, one_answer_law}
-use Rattle.lc_walk.proofs.Listings.{flat_twice, tallied_went, files_went, faults_went, directories_went, got_here, by_number, by_place, below_all, numbers_from_0}
+use Rattle.lc_walk.proofs.Listings.{flat_twice, tallied_went, files_went, faults_went, directories_went, got_here, by_number, by_place}
+use Rattle.lc_walk.proofs.Listings.{below_all, numbers_from_0}
 
 or_left : (a b : Bool) → a ≡ true → (a || b) ≡ true
 or_left true b e = refl
@@ -71,7 +77,8 @@ abbrev files_by_end : Asked → Ended Row → Answers → List CountedFile
 files_by_end ask (ended.Returned r) a = returned_files ask r a
 files_by_end ask (ended.Faulted r) a = []
 
-files_by_ends : (ask : Asked) (by : ℕ → Answers) (m : List (Event JobModel Row)) → files_given ask m (map (λ x. by x.0) (ends m)) ≡ flat_map (λ x. files_by_end ask x.1 (by x.0)) (ends m)
+files_by_ends : (ask : Asked) (by : ℕ → Answers) (m : List (Event JobModel Row))
+    → files_given ask m (map (λ x. by x.0) (ends m)) ≡ flat_map (λ x. files_by_end ask x.1 (by x.0)) (ends m)
 files_by_ends ask by [] = refl
 files_by_ends ask by (Post w p i j ∷ m) = files_by_ends ask by m
 files_by_ends ask by (Claim w i j ∷ m) = files_by_ends ask by m
@@ -83,7 +90,8 @@ abbrev or_no_answers : Option (Ended Row) → Answers → Answers
 or_no_answers None a = no_answers
 or_no_answers (Some e) a = a
 
-module _ (ask : Asked) (MayAnswer : List ℕ → Answers → Type 0) (capacity workers : ℕ) (top : JobModel) (promises : Promises) (passes : List (Pass JobModel Row)) (rows : List (Ended Row))
+module _ (ask : Asked) (MayAnswer : List ℕ → Answers → Type 0) (capacity workers : ℕ) (top : JobModel) (promises : Promises)
+    (passes : List (Pass JobModel Row)) (rows : List (Ended Row))
     (room : 1 ≤ capacity) (keeps : promises.keeps ≡ true) (count : length passes ≡ workers)
     (settled : Settled capacity workers top promises passes rows) (given : ℕ → List Answers)
     (lawful : (w : ℕ) (p : Pass JobModel Row) → slice_get passes w ≡ Some p → AreLawful ask p.full MayAnswer p.mine (given w)) where
@@ -94,6 +102,7 @@ module _ (ask : Asked) (MayAnswer : List ℕ → Answers → Type 0) (capacity w
   abbrev pub Lawful : Saying JobModel Row Answers
   Lawful w got posts e a = IsLawfulEnd ask (is_full (slice_get passes w)) MayAnswer got posts e a
 
+  -- what each worker's list says of its ends is so of the rows
   pub held : RowsHold Lawful workers settled.history passes rows given
   held = rows_hold Lawful no_answers capacity workers top promises passes rows settled keeps count given
       (λ w p is. subst (λ full. AreLawful ask full MayAnswer p.mine (given w)) (sym (ap is_full is)) (lawful w p is))
@@ -110,14 +119,22 @@ module _ (ask : Asked) (MayAnswer : List ℕ → Answers → Type 0) (capacity w
   answers_are : (i : ℕ) (e : Ended Row) → slice_get rows i ≡ Some e → answers i ≡ held.by i
   answers_are i e is = ap (λ o. or_no_answers o (held.by i)) is
 
-  pub lawful_here : (i : ℕ) (e : Ended Row) → slice_get rows i ≡ Some e → IsLawful ask full history i e (answers i) × MayStand MayAnswer (row_of e) (answers i)
+  -- each row is lawful in the whole history, by answers that the tree may give
+  pub lawful_here : (i : ℕ) (e : Ended Row) → slice_get rows i ≡ Some e →
+      IsLawful ask full history i e (answers i) × MayStand MayAnswer (posts_under i history) (row_of e) (answers i)
   lawful_here i e is =
       let l = held.holds i e is in
-      subst (λ a. IsLawful ask full history i e a × MayStand MayAnswer (row_of e) a) (sym (answers_are i e is)) (
-        record { job_is = l.job_is; tidy = l.tidy; says = fuller_says ask (is_full (slice_get passes (ender history i))) full e (held.by i) _ (some_full passes (ender history i)) l.says },
+      subst (λ a. IsLawful ask full history i e a × MayStand MayAnswer (posts_under i history) (row_of e) a) (sym (answers_are i e is)) (
+        record {
+          job_is = l.job_is;
+          tidy = l.tidy;
+          says = fuller_says ask (is_full (slice_get passes (ender history i))) full e
+              (held.by i) _ (some_full passes (ender history i)) l.says;
+        },
         l.may,
       )
 
+  -- so it is a closed walk
   pub walked : Walked ask full capacity workers top history rows answers
   walked = record {
     room = room;
@@ -132,8 +149,8 @@ module _ (ask : Asked) (MayAnswer : List ℕ → Answers → Type 0) (capacity w
   pub may_here : NoneFor Memory rows → (i : ℕ) (e : Ended Row) → slice_get rows i ≡ Some e → MayAnswer (job_of (row_of e)).path (answers i)
   may_here fed i e is = at (lawful_here i e is).1
     where
-      at : MayStand MayAnswer (row_of e) (answers i) → MayAnswer (job_of (row_of e)).path (answers i)
-      at (inl broken) = absurd (fed i e is broken)
+      at : MayStand MayAnswer (posts_under i history) (row_of e) (answers i) → MayAnswer (job_of (row_of e)).path (answers i)
+      at (inl broken) = absurd (fed i e is broken.0)
       at (inr may) = may
 
   abbrev pub some_rows : NoneFor Memory rows → SomeRows MayAnswer ask capacity workers top
@@ -151,14 +168,16 @@ module _ (ask : Asked) (MayAnswer : List ℕ → Answers → Type 0) (capacity w
   abbrev by_end : ℕ × Ended Row → List CountedFile
   by_end x = files_by_end ask x.1 (held.by x.0)
 
-  one_pass : (w : ℕ) (p : Pass JobModel Row) → slice_get passes w ≡ Some p → files_of_pass ask (given w) (slice_get passes w) ≡ flat_map by_end (ends (part w history))
+  one_pass : (w : ℕ) (p : Pass JobModel Row) → slice_get passes w ≡ Some p
+      → files_of_pass ask (given w) (slice_get passes w) ≡ flat_map by_end (ends (part w history))
   one_pass w p is =
       ap (files_of_pass ask (given w)) is ∙ ap (files_given ask p.mine) (held.given_by w p is) ∙ files_by_ends ask held.by p.mine
       ∙ ap (λ m. flat_map by_end (ends m)) (sym (settled.parts w p is))
 
   all_passes : files_of_passes ask given passes ≡ flat_map by_end (flat_map (λ w. ends (part w history)) (range_with_len 0 workers))
   all_passes =
-      flat_map-on (λ w. files_of_pass ask (given w) (slice_get passes w)) (λ w. flat_map by_end (ends (part w history))) (numbers_below (length passes))
+      flat_map-on (λ w. files_of_pass ask (given w) (slice_get passes w)) (λ w. flat_map by_end (ends (part w history)))
+      (numbers_below (length passes))
       (each-map (λ w. w < length passes) (λ w. files_of_pass ask (given w) (slice_get passes w) ≡ flat_map by_end (ends (part w history)))
       (λ w b. let p = got_here passes w b in one_pass w p.0 p.1) (numbers_below (length passes)) (below_all (length passes)))
       ∙ sym (flat_twice by_end (λ w. ends (part w history)) (numbers_below (length passes)))
@@ -166,25 +185,27 @@ module _ (ask : Asked) (MayAnswer : List ℕ → Answers → Type 0) (capacity w
 
   by_rows : IsPermutation (files_of_passes ask given passes) (flat_map by_end (enumerate_from 0 rows))
   by_rows = subst (λ l. IsPermutation l (flat_map by_end (enumerate_from 0 rows))) (sym all_passes)
-      (lists_moved by_end _ (enumerate_from 0 rows) (rows_are_ends capacity workers top history rows settled.legal settled.over settled.numbers in_place))
+      (lists_moved by_end _ (enumerate_from 0 rows)
+      (rows_are_ends capacity workers top history rows settled.legal settled.over settled.numbers in_place))
 
   module _ (whole : AreWhole rows) where
     -- ---- what one row says is what it found
 
     record RowFinds (e : Ended Row) (a : Answers) : Type 0 where
-      pub tally : files_by_end ask e a ≡ tallied_of (found_at ask.archive (job_of (row_of e)) a)
-      pub files : ask.files ≡ true → files_of (found_at ask.archive (job_of (row_of e)) a) ≡ files_by_row (row_of e)
-      pub faults : faults_of (found_at ask.archive (job_of (row_of e)) a) ≡ faults_by_row (row_of e)
-      pub directories : directories_of (found_at ask.archive (job_of (row_of e)) a) ≡ directories_by_row (row_of e)
+      pub tally : files_by_end ask e a ≡ tallied_of (found_at ask.selection (job_of (row_of e)) a)
+      pub files : ask.files ≡ true → files_of (found_at ask.selection (job_of (row_of e)) a) ≡ files_by_row (row_of e)
+      pub faults : faults_of (found_at ask.selection (job_of (row_of e)) a) ≡ faults_by_row (row_of e)
+      pub directories : directories_of (found_at ask.selection (job_of (row_of e)) a) ≡ directories_by_row (row_of e)
 
     row_finds : (e : Ended Row) (a : Answers) (posts : List (ℕ × JobModel)) → Says ask full e a posts → IsWhole (row_of e) → RowFinds e a
     row_finds (ended.Returned (Listed r)) a posts s w =
         let l = s.level_is in
         let f = found_of r.job in record {
-          tally = sym (ap (λ x. tallied_of (f x)) l ∙ tallied_went r.job (files_at ask.archive r.job a) r.faults (children_at ask.archive r.job a));
-          files = λ t. ap (λ x. files_of (f x)) l ∙ files_went r.job (files_at ask.archive r.job a) r.faults (children_at ask.archive r.job a) ∙ ap (map (line_of r.job.path)) (sym (s.files_are ∙ ap (λ b. cond b (files_at ask.archive r.job a) []) t));
-          faults = ap (λ x. faults_of (f x)) l ∙ faults_went r.job (files_at ask.archive r.job a) r.faults (children_at ask.archive r.job a);
-          directories = ap (λ x. directories_of (f x)) l ∙ directories_went r.job (files_at ask.archive r.job a) r.faults (children_at ask.archive r.job a);
+          tally = ap (λ x. map tallied (counted_files x)) l ∙ sym (ap (λ x. tallied_of (f x)) l ∙ tallied_went r.job s.fates);
+          files = λ t. ap (λ x. files_of (f x)) l ∙ files_went r.job s.fates
+              ∙ ap (map (line_of r.job.path)) (sym (s.files_are ∙ ap (λ b. cond b (counted_in s.fates) []) t));
+          faults = ap (λ x. faults_of (f x)) l ∙ faults_went r.job s.fates ∙ ap (map (fault_line r.job.path)) (sym s.faults_are);
+          directories = ap (λ x. directories_of (f x)) l ∙ directories_went r.job s.fates;
         }
     row_finds (ended.Returned (Faulted r)) a posts s w = absurd s
     row_finds (ended.Returned (Broken r)) a posts s w = absurd w
@@ -207,11 +228,12 @@ module _ (ask : Asked) (MayAnswer : List ℕ → Answers → Type 0) (capacity w
     abbrev found : List Found
     found = rows_found ask rows answers
 
-    spread_out : {B : Type 0} (g : Found → List B) → flat_map g found ≡ flat_map (λ i. flat_map g (row_found ask (slice_get rows i) (answers i))) (numbers_below (length rows))
+    spread_out : {B : Type 0} (g : Found → List B)
+        → flat_map g found ≡ flat_map (λ i. flat_map g (row_found ask (slice_get rows i) (answers i))) (numbers_below (length rows))
     spread_out g = flat_twice g (λ i. row_found ask (slice_get rows i) (answers i)) (numbers_below (length rows))
 
     at_row : {B : Type 0} (g : Found → List B) (i : ℕ) (e : Ended Row) → slice_get rows i ≡ Some e →
-        flat_map g (row_found ask (slice_get rows i) (answers i)) ≡ flat_map g (found_at ask.archive (job_of (row_of e)) (answers i))
+        flat_map g (row_found ask (slice_get rows i) (answers i)) ≡ flat_map g (found_at ask.selection (job_of (row_of e)) (answers i))
     at_row g i e is = ap (λ o. flat_map g (row_found ask o (answers i))) is
 
     tally_rows : flat_map by_end (enumerate_from 0 rows) ≡ tallied_of found
@@ -224,11 +246,13 @@ module _ (ask : Asked) (MayAnswer : List ℕ → Answers → Type 0) (capacity w
     files_found = subst (IsPermutation (files_of_passes ask given passes)) tally_rows by_rows
 
     file_rows : ask.files ≡ true → files_of found ≡ files_in_rows rows
-    file_rows t = spread_out file_in ∙ by_number (λ i. flat_map file_in (row_found ask (slice_get rows i) (answers i))) (λ e. files_by_row (row_of e)) rows
+    file_rows t = spread_out file_in ∙ by_number (λ i. flat_map file_in (row_found ask (slice_get rows i) (answers i)))
+        (λ e. files_by_row (row_of e)) rows
         (λ i e is. at_row file_in i e is ∙ (finds_here i e is).files t)
 
     fault_rows : faults_of found ≡ faults_in_rows rows
-    fault_rows = spread_out fault_in ∙ by_number (λ i. flat_map fault_in (row_found ask (slice_get rows i) (answers i))) (λ e. faults_by_row (row_of e)) rows
+    fault_rows = spread_out fault_in ∙ by_number (λ i. flat_map fault_in (row_found ask (slice_get rows i) (answers i)))
+        (λ e. faults_by_row (row_of e)) rows
         (λ i e is. at_row fault_in i e is ∙ (finds_here i e is).faults)
 
     asked_files : (b : Bool) → ask.files ≡ b → cond ask.files (files_of found) [] ≡ cond ask.files (files_in_rows rows) []
@@ -236,12 +260,14 @@ module _ (ask : Asked) (MayAnswer : List ℕ → Answers → Type 0) (capacity w
     asked_files false t = ap (λ b. cond b (files_of found) []) t ∙ sym (ap (λ b. cond b (files_in_rows rows) []) t)
 
     directory_rows : directories_of found ≡ directories_in_rows rows
-    directory_rows = spread_out directory_in ∙ by_number (λ i. flat_map directory_in (row_found ask (slice_get rows i) (answers i))) (λ e. directories_by_row (row_of e)) rows
+    directory_rows = spread_out directory_in ∙ by_number (λ i. flat_map directory_in (row_found ask (slice_get rows i) (answers i)))
+        (λ e. directories_by_row (row_of e)) rows
         (λ i e is. at_row directory_in i e is ∙ (finds_here i e is).directories)
 
     -- the report of what the rows found
     pub report_of_rows : (t : TallyModel) → StandsFor t (files_of_passes ask given passes) → (r : Report) →
-        IsReport t (length (directories_in_rows rows)) (cond ask.files (files_in_rows rows) []) (faults_in_rows rows) r → IsReportOf ask.files found r
+        IsReport t (length (directories_in_rows rows)) (cond ask.files (files_in_rows rows) []) (faults_in_rows rows) r
+        → IsReportOf ask.files found r
     report_of_rows t stood r is =
         let stands = stands_permuted t (files_of_passes ask given passes) (tallied_of found) files_found stood in
         record {
@@ -271,15 +297,17 @@ module _ (ask : Asked) (MayAnswer : List ℕ → Answers → Type 0) (capacity w
     tidy_from children i [] = tidy_at i
     tidy_from children i (n ∷ place) = at (child_number n (children i)) (λ k. tidy_from children k place)
       where
-        at : (o : Option ℕ) → ((k : ℕ) → IsTidy (tree_from no_answers answers children k place)) → IsTidy (elim o [ None ↦ no_answers | Some k ↦ tree_from no_answers answers children k place ])
+        at : (o : Option ℕ) → ((k : ℕ) → IsTidy (tree_from no_answers answers children k place))
+            → IsTidy (elim o [ None ↦ no_answers | Some k ↦ tree_from no_answers answers children k place ])
         at None rec = no_entries
         at (Some k) rec = rec k
 
-    moved : IsPermutation (walk_of ask.archive capacity top (tree_of_rows rows answers)) found
+    moved : IsPermutation (walk_of ask.selection capacity top (tree_of_rows rows answers)) found
     moved = core_law ask full capacity workers top history rows answers walked whole capacity (omega arith)
 
-    once : AreApart (file_paths (files_of (walk_of ask.archive capacity top (tree_of_rows rows answers)))) × AreApart (fault_paths (faults_of (walk_of ask.archive capacity top (tree_of_rows rows answers))))
-    once = paths_once_law ask.archive capacity top (tree_of_rows rows answers) (tidy_from (children_by_rows rows) 0)
+    once : AreApart (file_paths (files_of (walk_of ask.selection capacity top (tree_of_rows rows answers))))
+        × AreApart (fault_paths (faults_of (walk_of ask.selection capacity top (tree_of_rows rows answers))))
+    once = paths_once_law ask.selection capacity top (tree_of_rows rows answers) (tidy_from (children_by_rows rows) 0)
 
     nothing_twice : AreApart []
     unfolding IsDistinct
@@ -287,7 +315,8 @@ module _ (ask : Asked) (MayAnswer : List ℕ → Answers → Type 0) (capacity w
 
     files_apart : (b : Bool) → ask.files ≡ b → AreApart (file_paths (cond ask.files (files_in_rows rows) []))
     files_apart true t =
-        subst (λ l. AreApart (file_paths l)) (file_rows t ∙ sym (ap (λ b. cond b (files_in_rows rows) []) t)) (file_lines_apart _ found moved once.0)
+        subst (λ l. AreApart (file_paths l)) (file_rows t ∙ sym (ap (λ b. cond b (files_in_rows rows) []) t))
+        (file_lines_apart _ found moved once.0)
     files_apart false t = subst (λ b. AreApart (file_paths (cond b (files_in_rows rows) []))) (sym t) nothing_twice
 
     faults_apart : AreApart (fault_paths (faults_in_rows rows))
@@ -296,18 +325,19 @@ module _ (ask : Asked) (MayAnswer : List ℕ → Answers → Type 0) (capacity w
     -- ---- the report of the walk
 
     pub report_of_walk : top.path ≡ [] → (t : TallyModel) → StandsFor t (files_of_passes ask given passes) → (r : Report) →
-        IsReport t (length (directories_in_rows rows)) (cond ask.files (files_in_rows rows) []) (faults_in_rows rows) r → IsWalkReport MayAnswer ask capacity workers top r
+        IsReport t (length (directories_in_rows rows)) (cond ask.files (files_in_rows rows) []) (faults_in_rows rows) r
+        → IsWalkReport MayAnswer ask capacity workers top r
     report_of_walk at_top t stood r is =
         let ours = report_of_rows t stood r is in
         let fed : NoneFor Memory rows = λ i e here. unbroken (row_of e) Memory (whole i e here) in
         record {
           found = some_rows fed;
           whole = whole;
-          report = λ depth deep. report_law ask.files found (walk_of ask.archive depth top (tree_of_rows rows answers)) r
+          report = λ depth deep. report_law ask.files found (walk_of ask.selection depth top (tree_of_rows rows answers)) r
               (IsPermutation-sym _ _ (core_law ask full capacity workers top history rows answers walked whole depth deep)) ours;
           files_once = is.files_strictly (files_apart ask.files refl);
           faults_once = is.faults_strictly faults_apart;
-          one_answer = λ tree one depth deep. report_law ask.files found (walk_of ask.archive depth top tree) r
+          one_answer = λ tree one depth deep. report_law ask.files found (walk_of ask.selection depth top tree) r
               (IsPermutation-sym _ _ (one_answer_law tree ask full capacity workers top history rows answers walked whole at_top
               (λ i e here. one (job_of (row_of e)) (answers i) (may_here fed i e here)) depth deep)) ours;
         }

@@ -1,5 +1,6 @@
 -- What a walk of a history's tree finds, by the numbers that it reaches.
-use Rattle.std.proofs.Common.{◌≡◌, ◌≢◌, ℕ, zero, suc, Bool, true, false, cond, List, [], ◌∷◌, ◌++◌, refl, sym, ◌∙◌, ap, Option, Some, None, append_assoc, bytes_eq}
+use Rattle.std.proofs.Common.{◌≡◌, ◌≢◌, ℕ, zero, suc, Bool, true, false, cond, List, [], ◌∷◌, ◌++◌, refl, sym, ◌∙◌, ap, Option, Some}
+use Rattle.std.proofs.Common.{None, append_assoc, bytes_eq}
 use Rattle.std.proofs.Math.Path.{fun_ext}
 use Rattle.std.specs.List.{flat_map, AllByRecursion}
 use Rattle.std.proofs.lemmas.Grind.{flat_map-append}
@@ -21,9 +22,11 @@ use Rattle.lc_walk.proofs.Levels.{IsApart}
 same_some : {A : Type 0} (x y : A) → Some x ≡ Some y → x ≡ y
 same_some x y e = cc
 
+-- equal lists begin with equal elements
 pub same_head : {A : Type 0} (x y : A) (xs ys : List A) → x ∷ xs ≡ y ∷ ys → x ≡ y
 same_head x y xs ys e = cc
 
+-- and go on equally
 pub same_tail : {A : Type 0} (x y : A) (xs ys : List A) → x ∷ xs ≡ y ∷ ys → xs ≡ ys
 same_tail x y xs ys e = cc
 
@@ -34,12 +37,17 @@ Under trees i (c ∷ cs) [] = Unit {0}
 Under {A} trees i (c ∷ cs) (p ∷ ps) = ((λ (q : List (List ℕ)). trees i (c.0 ∷ q)) ≡ trees p.0) × Under trees i cs ps
 
 -- a tree for each number: at i it answers as the number's answers do, and under a child's name it is the tree of that child
-pub record Grows {A X R : Type 0} (found : JobModel → A → List X) (children : JobModel → A → List (List ℕ × JobModel)) (h : List (Event JobModel R)) (job : ℕ → JobModel) (answers : ℕ → A) (trees : ℕ → List (List ℕ) → A) : Type 0 where
+pub record Grows {A X R : Type 0} (found : JobModel → A → List X) (children : JobModel → A → List (List ℕ × JobModel))
+    (h : List (Event JobModel R)) (job : ℕ → JobModel) (answers : ℕ → A) (trees : ℕ → List (List ℕ) → A) : Type 0 where
+  -- what a number's tree finds at its top is what its answers give
   pub same_found : (i : ℕ) → status h i ≢ Absent → found (job i) (trees i []) ≡ found (job i) (answers i)
+  -- and so are its children
   pub same_children : (i : ℕ) → status h i ≢ Absent → children (job i) (trees i []) ≡ children (job i) (answers i)
+  -- below it stand the trees of what was posted under it
   pub under : (i : ℕ) → status h i ≢ Absent → Under trees i (children (job i) (answers i)) (posts_under i h)
 
-module _ {A X R : Type 0} (found : JobModel → A → List X) (children : JobModel → A → List (List ℕ × JobModel)) (c n : ℕ) (top : JobModel) (h : List (Event JobModel R))
+module _ {A X R : Type 0} (found : JobModel → A → List X) (children : JobModel → A → List (List ℕ × JobModel)) (c n : ℕ)
+    (top : JobModel) (h : List (Event JobModel R))
     (job : ℕ → JobModel) (answers : ℕ → A) (trees : ℕ → List (List ℕ) → A) (legal : IsLegal c n h)
     (posted : (i : ℕ) → status h i ≢ Absent → job_posted top h i ≡ Some (job i))
     (jobs : (i : ℕ) → status h i ≢ Absent → jobs_of (posts_under i h) ≡ jobs_of (children (job i) (answers i)))
@@ -62,7 +70,8 @@ module _ {A X R : Type 0} (found : JobModel → A → List X) (children : JobMod
       ∙ ap (λ (j : JobModel). walk_by found children k j (trees p.0)) (sym this ∙ sym a.0.0)
       ∙ rec p.0 a.0.1 in
       ap (λ (xs : List X). xs ++ walks_below found children (walk_by found children k) (trees i) cs) one
-      ∙ ap (λ (xs : List X). flat_map gives (reach h k p.0) ++ xs) (below_is k i rec cs ps u.1 (same_tail p.1 c.1 (jobs_of ps) (jobs_of cs) e) a.1)
+      ∙ ap (λ (xs : List X). flat_map gives (reach h k p.0) ++ xs)
+      (below_is k i rec cs ps u.1 (same_tail p.1 c.1 (jobs_of ps) (jobs_of cs) e) a.1)
       ∙ sym (flat_map-append gives (reach h k p.0) (flat_map (λ p. reach h k p.0) ps))
 
   own : (i : ℕ) → AllByRecursion (λ p. (job p.0 ≡ p.1) × (status h p.0 ≢ Absent)) (posts_under i h)
@@ -74,9 +83,12 @@ module _ {A X R : Type 0} (found : JobModel → A → List X) (children : JobMod
   pub walk_is : (k i : ℕ) → status h i ≢ Absent → walk_by found children k (job i) (trees i) ≡ flat_map gives (reach h k i)
   walk_is zero i a = refl
   walk_is (suc k) i a =
-      ap (λ (xs : List X). xs ++ walks_below found children (walk_by found children k) (trees i) (children (job i) (trees i []))) (grows.same_found i a)
-      ∙ ap (λ (cs : List (List ℕ × JobModel)). gives i ++ walks_below found children (walk_by found children k) (trees i) cs) (grows.same_children i a)
-      ∙ ap (λ (xs : List X). gives i ++ xs) (below_is k i (walk_is k) (children (job i) (answers i)) (posts_under i h) (grows.under i a) (jobs i a) (own i))
+      ap (λ (xs : List X). xs ++ walks_below found children (walk_by found children k) (trees i) (children (job i) (trees i [])))
+      (grows.same_found i a)
+      ∙ ap (λ (cs : List (List ℕ × JobModel)). gives i ++ walks_below found children (walk_by found children k) (trees i) cs)
+      (grows.same_children i a)
+      ∙ ap (λ (xs : List X). gives i ++ xs) (below_is k i (walk_is k) (children (job i) (answers i)) (posts_under i h)
+      (grows.under i a) (jobs i a) (own i))
 
 -- ---- the tree of rows grows so
 
@@ -101,6 +113,7 @@ find_more k ks (c ∷ cs) [] a f = tt
 find_more k ks (c ∷ cs) (p ∷ ps) a f =
     (past (bytes_eq c.0 k.name) (Some k.number) (child_number c.0 ks) (Some p.0) a.0 f.0, find_more k ks cs ps a.1 f.1)
 
+-- names with no two the same are found at their own places
 pub finds : (cs : List (List ℕ × JobModel)) (ps : List (ℕ × JobModel)) → IsApart cs → Finds (λ m. child_number m (named cs ps)) cs ps
 finds [] ps a = tt
 finds (c ∷ cs) [] a = tt
@@ -112,9 +125,15 @@ finds (c ∷ cs) (p ∷ ps) a = (
 open_child : {A : Type 0} (blank : A) (answers : ℕ → A) (children : ℕ → List ChildModel) (o : Option ℕ) (k : ℕ) → o ≡ Some k →
     (λ (p : List (List ℕ)). elim o [ None ↦ blank | Some d ↦ tree_from blank answers children d p ]) ≡ tree_from blank answers children k
 open_child {A} blank answers children o k e =
-    ap {B = List (List ℕ) → A} (λ (x : Option ℕ) (p : List (List ℕ)). elim x [ None ↦ blank | Some d ↦ tree_from blank answers children d p ]) e
+    ap {B = List (List ℕ) → A} (λ (x : Option ℕ) (p : List (List ℕ)). elim x [
+      | None ↦ blank
+      | Some d ↦ tree_from blank answers children
+          d p
+    ]) e
 
-pub under_rows : {A : Type 0} (blank : A) (answers : ℕ → A) (children : ℕ → List ChildModel) (i : ℕ) (cs : List (List ℕ × JobModel)) (ps : List (ℕ × JobModel)) →
+-- the tree of rows has the trees of the children under each number
+pub under_rows : {A : Type 0} (blank : A) (answers : ℕ → A) (children : ℕ → List ChildModel) (i : ℕ) (cs : List (List ℕ × JobModel))
+    (ps : List (ℕ × JobModel)) →
     Finds (λ m. child_number m (children i)) cs ps → Under (tree_from blank answers children) i cs ps
 under_rows blank answers children i [] ps f = tt
 under_rows blank answers children i (c ∷ cs) [] f = tt
@@ -129,9 +148,13 @@ PlacedUnder place i [] ps = Unit {0}
 PlacedUnder place i (c ∷ cs) [] = Unit {0}
 PlacedUnder place i (c ∷ cs) (p ∷ ps) = (place p.0 ≡ place i ++ c.0 ∷ []) × PlacedUnder place i cs ps
 
-pub under_places : {A : Type 0} (t : List (List ℕ) → A) (place : ℕ → List (List ℕ)) (i : ℕ) (cs : List (List ℕ × JobModel)) (ps : List (ℕ × JobModel)) →
+-- and so has a tree whose places are those of the numbers
+pub under_places : {A : Type 0} (t : List (List ℕ) → A) (place : ℕ → List (List ℕ)) (i : ℕ) (cs : List (List ℕ × JobModel))
+    (ps : List (ℕ × JobModel)) →
     PlacedUnder place i cs ps → Under (λ k p. t (place k ++ p)) i cs ps
 under_places t place i [] ps f = tt
 under_places t place i (c ∷ cs) [] f = tt
-under_places t place i (c ∷ cs) (p ∷ ps) f =
-    (fun_ext (λ (q : List (List ℕ)). ap t (sym (append_assoc (place i) (c.0 ∷ []) q) ∙ ap (λ (x : List (List ℕ)). x ++ q) (sym f.0))), under_places t place i cs ps f.1)
+under_places t place i (c ∷ cs) (p ∷ ps) f = (
+  fun_ext (λ (q : List (List ℕ)). ap t (sym (append_assoc (place i) (c.0 ∷ []) q) ∙ ap (λ (x : List (List ℕ)). x ++ q) (sym f.0))),
+  under_places t place i cs ps f.1,
+)

@@ -1,5 +1,6 @@
 -- Sums over what passes a test, after an edit of the list.
-use Rattle.std.proofs.Common.{◌≡◌, ℕ, ◌+◌, ◌<◌, Bool, true, false, cond, List, [], ◌∷◌, ◌++◌, length, get_or, refl, sym, ◌∙◌, ap, arith, zero-add}
+use Rattle.std.proofs.Common.{◌≡◌, ℕ, ◌+◌, ◌<◌, Bool, true, false, cond, List, [], ◌∷◌, ◌++◌, length, get_or, refl, sym, ◌∙◌, ap, arith}
+use Rattle.std.proofs.Common.{zero-add}
 use Rattle.std.proofs.Math.ListN.{set}
 use Rattle.std.specs.List.{filter, sum_by, insert}
 use Rattle.std.proofs.lemmas.List.Sums.{sum_by-cons, sum_by-set, sum_by-insert, sum_by_push, length-filter}
@@ -8,6 +9,7 @@ use Rattle.std.proofs.lemmas.List.Sums.{sum_by-cons, sum_by-set, sum_by-insert, 
 abbrev pub part : {X : Type 0} → (X → Bool) → (X → ℕ) → X → ℕ
 part p v x = cond (p x) (v x) 0
 
+-- a sum over what passes a test is the sum of what each passing element gives
 pub sum_by-filter : {X : Type 0} (p : X → Bool) (v : X → ℕ) (xs : List X) → sum_by v (filter p xs) ≡ sum_by (part p v) xs
 sum_by-filter p v [] = refl
 sum_by-filter p v (x ∷ xs) =
@@ -20,16 +22,30 @@ gained : (b : Bool) (u w m s t : ℕ) → w ≡ u + m → s + cond b u 0 ≡ t +
 gained true u w m s t e f = omega arith
 gained false u w m s t e f = omega arith
 
-pub filter_set : {X : Type 0} (p : X → Bool) (v : X → ℕ) (m : ℕ) (xs : List X) (i : ℕ) (y d : X) → i < length xs → p y ≡ p (get_or xs i d) → v y ≡ v (get_or xs i d) + m → sum_by v (filter p (set xs i y)) ≡ sum_by v (filter p xs) + cond (p y) m 0
+-- after one element gives more
+pub filter_set : {X : Type 0} (p : X → Bool) (v : X → ℕ) (m : ℕ) (xs : List X) (i : ℕ) (y d : X) → i < length xs
+    → p y ≡ p (get_or xs i d) → v y ≡ v (get_or xs i d) + m → sum_by v (filter p (set xs i y)) ≡ sum_by v (filter p xs) + cond (p y) m 0
 filter_set p v m xs i y d within same more =
     let kept = sum_by-set (part p v) xs i y d within in
-    gained (p y) (v (get_or xs i d)) (v y) m _ _ more (ap (λ n. n + cond (p y) (v (get_or xs i d)) 0) (sum_by-filter p v (set xs i y)) ∙ ap (λ b. sum_by (part p v) (set xs i y) + cond b (v (get_or xs i d)) 0) same ∙ kept ∙ ap (λ n. n + cond (p y) (v y) 0) (sym (sum_by-filter p v xs)))
+    gained (p y) (v (get_or xs i d)) (v y) m _ _ more
+    (ap (λ n. n + cond (p y) (v (get_or xs i d)) 0) (sum_by-filter p v (set xs i y))
+    ∙ ap (λ b. sum_by (part p v) (set xs i y) + cond b (v (get_or xs i d)) 0) same ∙ kept ∙ ap (λ n. n + cond (p y) (v y) 0)
+    (sym (sum_by-filter p v xs)))
 
-pub filter_insert : {X : Type 0} (p : X → Bool) (v : X → ℕ) (xs : List X) (i : ℕ) (y : X) → sum_by v (filter p (insert xs i y)) ≡ sum_by v (filter p xs) + cond (p y) (v y) 0
-filter_insert p v xs i y = sum_by-filter p v (insert xs i y) ∙ sum_by-insert (part p v) xs i y ∙ ap (λ n. n + cond (p y) (v y) 0) (sym (sum_by-filter p v xs))
+-- after one is put between
+pub filter_insert : {X : Type 0} (p : X → Bool) (v : X → ℕ) (xs : List X) (i : ℕ) (y : X)
+    → sum_by v (filter p (insert xs i y)) ≡ sum_by v (filter p xs) + cond (p y) (v y) 0
+filter_insert p v xs i y =
+    sum_by-filter p v (insert xs i y) ∙ sum_by-insert (part p v) xs i y ∙ ap (λ n. n + cond (p y) (v y) 0) (sym (sum_by-filter p v xs))
 
-pub filter_push : {X : Type 0} (p : X → Bool) (v : X → ℕ) (xs : List X) (y : X) → sum_by v (filter p (xs ++ y ∷ [])) ≡ sum_by v (filter p xs) + cond (p y) (v y) 0
-filter_push p v xs y = sum_by-filter p v (xs ++ y ∷ []) ∙ sum_by_push (part p v) xs y ∙ ap (λ n. n + cond (p y) (v y) 0) (sym (sum_by-filter p v xs))
+-- after one is put at the end
+pub filter_push : {X : Type 0} (p : X → Bool) (v : X → ℕ) (xs : List X) (y : X)
+    → sum_by v (filter p (xs ++ y ∷ [])) ≡ sum_by v (filter p xs) + cond (p y) (v y) 0
+filter_push p v xs y =
+    sum_by-filter p v (xs ++ y ∷ []) ∙ sum_by_push (part p v) xs y ∙ ap (λ n. n + cond (p y) (v y) 0) (sym (sum_by-filter p v xs))
 
-pub length-filter_push : {X : Type 0} (p : X → Bool) (xs : List X) (y : X) → length (filter p (xs ++ y ∷ [])) ≡ length (filter p xs) + cond (p y) 1 0
-length-filter_push p xs y = length-filter p (xs ++ y ∷ []) ∙ sum_by_push (part p (λ _. 1)) xs y ∙ ap (λ n. n + cond (p y) 1 0) (sym (length-filter p xs))
+-- how many pass, after one is put at the end
+pub length-filter_push : {X : Type 0} (p : X → Bool) (xs : List X) (y : X)
+    → length (filter p (xs ++ y ∷ [])) ≡ length (filter p xs) + cond (p y) 1 0
+length-filter_push p xs y =
+    length-filter p (xs ++ y ∷ []) ∙ sum_by_push (part p (λ _. 1)) xs y ∙ ap (λ n. n + cond (p y) 1 0) (sym (length-filter p xs))

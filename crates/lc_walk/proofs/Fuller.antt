@@ -1,5 +1,5 @@
 -- What is lawful where posts may have been refused is so wherever they may have been.
-use Rattle.std.proofs.Common.{◌≡◌, ℕ, Bool, true, List, [], ◌∷◌, Option}
+use Rattle.std.proofs.Common.{◌≡◌, ℕ, Bool, true, List, [], ◌∷◌, ◌++◌, Option}
 use Rattle.lc_board.specs.Holding.{job_held, posts_held}
 use Rattle.lc_board.specs.declared.event.Event.{Event}
 use Rattle.lc_board.specs.declared.event.Event.TheVariants.{Post, Claim, Return, Fault, Over}
@@ -8,36 +8,45 @@ use Rattle.lc_board.specs.declared.answers.Ended.TheVariants as ended
 use Rattle.lc_level.specs.Answers.{Answers}
 use Rattle.lc_level.specs.Job.{JobModel}
 use Rattle.lc_walk.specs.Lawful.{Asked, Says, IsCause}
-use Rattle.lc_walk.specs.Worked.{IsLawfulEnd, AreLawful}
+use Rattle.lc_walk.specs.Worked.{IsLawfulEnd, AreLawfulSince}
 use Rattle.lc_level.specs.declared.cause.Cause.{Cause}
 use Rattle.lc_level.specs.declared.cause.Cause.TheVariants.{Memory, TooManyDirs, TooDeep}
 use Rattle.lc_walk.specs.declared.row.Row.{Row}
 use Rattle.lc_walk.specs.declared.row.Row.TheVariants.{Listed, Faulted, Broken}
 
-fuller_cause : (ask : Asked) (full fuller : Bool) (j : JobModel) (a : Answers) (c : Cause) → (full ≡ true → fuller ≡ true) → IsCause ask full j a c → IsCause ask fuller j a c
+fuller_cause : (ask : Asked) (full fuller : Bool) (j : JobModel) (a : Answers) (c : Cause) → (full ≡ true → fuller ≡ true)
+    → IsCause ask full j a c → IsCause ask fuller j a c
 fuller_cause ask full fuller j a Memory f c = tt
 fuller_cause ask full fuller j a TooManyDirs f c = f c
 fuller_cause ask full fuller j a TooDeep f c = c
 
-pub fuller_says : (ask : Asked) (full fuller : Bool) (e : Ended Row) (a : Answers) (posts : List (ℕ × JobModel)) → (full ≡ true → fuller ≡ true) → Says ask full e a posts → Says ask fuller e a posts
+-- of one row
+pub fuller_says : (ask : Asked) (full fuller : Bool) (e : Ended Row) (a : Answers) (posts : List (ℕ × JobModel))
+    → (full ≡ true → fuller ≡ true) → Says ask full e a posts → Says ask fuller e a posts
 fuller_says ask full fuller (ended.Returned (Listed r)) a posts f s = s
 fuller_says ask full fuller (ended.Returned (Faulted r)) a posts f s = s
-fuller_says ask full fuller (ended.Returned (Broken r)) a posts f s = record { posted = s.posted; posts_are = s.posts_are; cause_is = fuller_cause ask full fuller r.job a r.cause f s.cause_is }
+fuller_says ask full fuller (ended.Returned (Broken r)) a posts f
+    s = record { posted = s.posted; posts_are = s.posts_are; cause_is = fuller_cause ask full fuller r.job a r.cause f s.cause_is }
 fuller_says ask full fuller (ended.Faulted (Listed r)) a posts f s = s
 fuller_says ask full fuller (ended.Faulted (Faulted r)) a posts f s = s
 fuller_says ask full fuller (ended.Faulted (Broken r)) a posts f s = s
 
 module _ (ask : Asked) (full fuller : Bool) (MayAnswer : List ℕ → Answers → Type 0) (f : full ≡ true → fuller ≡ true) where
-  fuller_end : (got : Option JobModel) (posts : List (ℕ × JobModel)) (e : Ended Row) (a : Answers) → IsLawfulEnd ask full MayAnswer got posts e a → IsLawfulEnd ask fuller MayAnswer got posts e a
+  fuller_end : (got : Option JobModel) (posts : List (ℕ × JobModel)) (e : Ended Row) (a : Answers)
+      → IsLawfulEnd ask full MayAnswer got posts e a → IsLawfulEnd ask fuller MayAnswer got posts e a
   fuller_end got posts e a l = record { job_is = l.job_is; tidy = l.tidy; says = fuller_says ask full fuller e a _ f l.says; may = l.may }
 
-  pub fuller_all : (m : List (Event JobModel Row)) (given : List Answers) → AreLawful ask full MayAnswer m given → AreLawful ask fuller MayAnswer m given
-  fuller_all [] [] l = tt
-  fuller_all [] (a ∷ given) l = absurd l
-  fuller_all (Post w p i j ∷ m) given l = fuller_all m given l
-  fuller_all (Claim w i j ∷ m) given l = fuller_all m given l
-  fuller_all (Return w i r ∷ m) [] l = absurd l
-  fuller_all (Return w i r ∷ m) (a ∷ given) l = (fuller_end (job_held m) (posts_held m) (ended.Returned r) a l.0, fuller_all m given l.1)
-  fuller_all (Fault w i r ∷ m) [] l = absurd l
-  fuller_all (Fault w i r ∷ m) (a ∷ given) l = (fuller_end (job_held m) (posts_held m) (ended.Faulted r) a l.0, fuller_all m given l.1)
-  fuller_all (Over w ∷ m) given l = fuller_all m given l
+  -- of all that a pass has given since
+  pub fuller_since : (old m : List (Event JobModel Row)) (given : List Answers) → AreLawfulSince ask full MayAnswer old m given →
+      AreLawfulSince ask fuller MayAnswer old m given
+  fuller_since old [] [] l = tt
+  fuller_since old [] (a ∷ given) l = absurd l
+  fuller_since old (Post w p i j ∷ m) given l = fuller_since old m given l
+  fuller_since old (Claim w i j ∷ m) given l = fuller_since old m given l
+  fuller_since old (Return w i r ∷ m) [] l = absurd l
+  fuller_since old (Return w i r ∷ m) (a ∷ given) l =
+      (fuller_end (job_held (m ++ old)) (posts_held (m ++ old)) (ended.Returned r) a l.0, fuller_since old m given l.1)
+  fuller_since old (Fault w i r ∷ m) [] l = absurd l
+  fuller_since old (Fault w i r ∷ m) (a ∷ given) l =
+      (fuller_end (job_held (m ++ old)) (posts_held (m ++ old)) (ended.Faulted r) a l.0, fuller_since old m given l.1)
+  fuller_since old (Over w ∷ m) given l = fuller_since old m given l

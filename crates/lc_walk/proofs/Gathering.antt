@@ -1,5 +1,6 @@
 -- What the workers of a walk leave is gathered one after another.
-use Rattle.std.proofs.Common.{◌≡◌, ℕ, zero, suc, List, [], ◌∷◌, ◌++◌, length, slice_get, refl, sym, ◌∙◌, ap, subst, Some, None, ◌⊎◌, inl, inr, arith, length-append, append-nil}
+use Rattle.std.proofs.Common.{◌≡◌, ℕ, zero, suc, List, [], ◌∷◌, ◌++◌, length, slice_get, refl, sym, ◌∙◌, ap, subst, Some, None, ◌⊎◌}
+use Rattle.std.proofs.Common.{inl, inr, arith, length-append, append-nil}
 use Rattle.std.specs.List.{flat_map}
 use Rattle.std.proofs.lemmas.Grind.{flat_map-append}
 use Rattle.lc_walk.specs.Running.{AllOver, TalliesAll}
@@ -10,13 +11,15 @@ use Rattle.lc_walk.specs.declared.worker.End.TheVariants.{Over}
 use Rattle.lc_walk.specs.declared.worker.Worked.{Worked}
 
 -- what stands in a list with one more at its end
-in_longer : {A : Type 0} (xs : List A) (x : A) (i : ℕ) (y : A) → slice_get (xs ++ x ∷ []) i ≡ Some y → (slice_get xs i ≡ Some y) ⊎ ((i ≡ length xs) × (x ≡ y))
+in_longer : {A : Type 0} (xs : List A) (x : A) (i : ℕ) (y : A) → slice_get (xs ++ x ∷ []) i ≡ Some y
+    → (slice_get xs i ≡ Some y) ⊎ ((i ≡ length xs) × (x ≡ y))
 in_longer [] x zero y e = inr (refl, cc e)
 in_longer [] x (suc i) y e = let n : None ≡ Some y = e in absurd (cc n)
 in_longer (z ∷ xs) x zero y e = inl e
 in_longer (z ∷ xs) x (suc i) y e = at (in_longer xs x i y e)
   where
-    at : (slice_get xs i ≡ Some y) ⊎ ((i ≡ length xs) × (x ≡ y)) → (slice_get (z ∷ xs) (suc i) ≡ Some y) ⊎ ((suc i ≡ length (z ∷ xs)) × (x ≡ y))
+    at : (slice_get xs i ≡ Some y) ⊎ ((i ≡ length xs) × (x ≡ y))
+        → (slice_get (z ∷ xs) (suc i) ≡ Some y) ⊎ ((suc i ≡ length (z ∷ xs)) × (x ≡ y))
     at (inl f) = inl f
     at (inr f) = inr (ap suc f.0, f.1)
 
@@ -30,6 +33,7 @@ last_in [] x = refl
 last_in (z ∷ xs) x = last_in xs x
 
 module _ {P : Type 0} (done : List (Worked P)) (x : Worked P) where
+  -- all have found the board over, and one more
   pub over_more : AllOver done → x.end ≡ Over → AllOver (done ++ x ∷ [])
   over_more all e w y is = at (in_longer done x w y is)
     where
@@ -40,12 +44,17 @@ module _ {P : Type 0} (done : List (Worked P)) (x : Worked P) where
   one_longer : length (done ++ x ∷ []) ≡ suc (length done)
   one_longer = let l = length-append done (x ∷ []) in omega (arith, l)
 
-  pub tallies_more : (old new : TallyModel) → TalliesAll done old → ((fs gs : List CountedFile) → StandsFor old fs → TalliesFor x.tally gs → StandsFor new (fs ++ gs)) → TalliesAll (done ++ x ∷ []) new
+  -- the tally stands for the files of all, and of one more
+  pub tallies_more : (old new : TallyModel) → TalliesAll done old
+      → ((fs gs : List CountedFile) → StandsFor old fs → TalliesFor x.tally gs → StandsFor new (fs ++ gs))
+      → TalliesAll (done ++ x ∷ []) new
   tallies_more old new all more files each =
       subst (λ n. StandsFor new (flat_map files (numbers_below n))) (sym one_longer)
       (subst (StandsFor new)
-      (ap (λ l. flat_map files (numbers_below (length done)) ++ l) (sym (append-nil (files (length done)))) ∙ sym (flat_map-append files (numbers_below (length done)) (length done ∷ [])))
-      (more (flat_map files (numbers_below (length done))) (files (length done)) (all files (λ w y is. each w y (still_in done x w y is))) (each (length done) x (last_in done x))))
+      (ap (λ l. flat_map files (numbers_below (length done)) ++ l) (sym (append-nil (files (length done))))
+      ∙ sym (flat_map-append files (numbers_below (length done)) (length done ∷ [])))
+      (more (flat_map files (numbers_below (length done))) (files (length done))
+      (all files (λ w y is. each w y (still_in done x w y is))) (each (length done) x (last_in done x))))
 
 -- all were gathered
 pub all_done : {A : Type 0} (done rest all : List A) → done ++ rest ≡ all → rest ≡ [] → done ≡ all

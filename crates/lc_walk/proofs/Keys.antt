@@ -8,9 +8,11 @@ use Rattle.std.proofs.lemmas.Cmp.{nat_cmp_total, nat_list_cmp_total, on_total, t
 use Rattle.lc_walk.specs.Key.{Key, key_cmp, same_key}
 use Rattle.lc_walk.specs.Key.{text_place, eol_place}
 
+-- keys are in a total order
 pub key_cmp_total : IsTotalOrder key_cmp
 unfolding key_cmp
-key_cmp_total = then_total (on_total (λ (k : Key). k.extension) (options_total nat_list_cmp_total)) (then_total (on_total (λ (k : Key). text_place k.text) nat_cmp_total) (on_total (λ (k : Key). eol_place k.eol) nat_cmp_total))
+key_cmp_total = then_total (on_total (λ (k : Key). k.extension) (options_total nat_list_cmp_total))
+    (then_total (on_total (λ (k : Key). text_place k.text) nat_cmp_total) (on_total (λ (k : Key). eol_place k.eol) nat_cmp_total))
 
 -- two keys that tie are the same to every test
 pub same_to_all : (a b k : Key) → key_cmp a b ≡ Equal → same_key k a ≡ same_key k b

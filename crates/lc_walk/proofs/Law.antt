@@ -1,5 +1,6 @@
 -- The laws of the walk.
-use Rattle.std.proofs.Common.{◌≡◌, ◌≢◌, ℕ, zero, suc, ◌<◌, ◌≤◌, Bool, List, [], ◌∷◌, ◌++◌, length, slice_get, refl, sym, ◌∙◌, ap, arith, subst, Option, Some, None, ◌⊎◌, inl, inr, IsPermutation, append-nil}
+use Rattle.std.proofs.Common.{◌≡◌, ◌≢◌, ℕ, zero, suc, ◌<◌, ◌≤◌, Bool, List, [], ◌∷◌, ◌++◌, length, slice_get, refl, sym, ◌∙◌, ap, arith}
+use Rattle.std.proofs.Common.{subst, Option, Some, None, ◌⊎◌, inl, inr, IsPermutation, append-nil}
 use Rattle.std.specs.List.{flat_map, AllByRecursion}
 use Rattle.std.proofs.lemmas.Bool.{cases_lt}
 use Rattle.lc_board.specs.State.{Absent, status}
@@ -14,7 +15,7 @@ use Rattle.lc_board.proofs.PartsOfWhole.{part_says_whole}
 use Rattle.lc_tree.specs.Paths.{names_of_path}
 use Rattle.lc_level.specs.Answers.{Answers, no_answers, Tree}
 use Rattle.lc_level.specs.Job.{JobModel}
-use Rattle.lc_level.specs.Level.{level}
+use Rattle.lc_level.specs.Level.{level, walked_in}
 use Rattle.lc_walk.specs.Found.{Found, found_of, found_at, children_of, children_at}
 use Rattle.lc_walk.specs.Walk.{walk_of}
 use Rattle.lc_walk.specs.RowViews.{ChildModel}
@@ -39,23 +40,32 @@ same_some x y e = cc
 
 -- what a row that is not Broken says of its directory
 pub record Parts (ask : Asked) (e : Ended Row) (a : Answers) (posts : List (ℕ × JobModel)) : Type 0 where
-  pub jobs : jobs_of posts ≡ jobs_of (children_at ask.archive (job_of (row_of e)) a)
-  pub children : children_in (row_of e) ≡ named (children_at ask.archive (job_of (row_of e)) a) posts
+  -- what was posted is its child directories
+  pub jobs : jobs_of posts ≡ jobs_of (children_at ask.selection (job_of (row_of e)) a)
+  -- and its children have the posts' numbers
+  pub children : children_in (row_of e) ≡ named (children_at ask.selection (job_of (row_of e)) a) posts
 
-pub parts : (ask : Asked) (full : Bool) (e : Ended Row) (a : Answers) (posts : List (ℕ × JobModel)) → Says ask full e a posts → IsWhole (row_of e) → Parts ask e a posts
-parts ask full (ended.Returned (Listed r)) a posts s w = record { jobs = s.posts_are; children = s.children_are }
+-- a whole row that says the truth has these parts
+pub parts : (ask : Asked) (full : Bool) (e : Ended Row) (a : Answers) (posts : List (ℕ × JobModel)) → Says ask full e a posts
+    → IsWhole (row_of e) → Parts ask e a posts
+parts ask full (ended.Returned (Listed r)) a posts s w =
+    let walked : walked_in s.fates ≡ children_at ask.selection r.job a = sym (ap children_of s.level_is) in
+    record { jobs = s.posts_are ∙ ap jobs_of walked; children = s.children_are ∙ ap (λ cs. named cs posts) walked }
 parts ask full (ended.Returned (Faulted r)) a posts s w = absurd s
 parts ask full (ended.Returned (Broken r)) a posts s w = absurd w
 parts ask full (ended.Faulted (Listed r)) a posts s w = absurd s
 parts ask full (ended.Faulted (Faulted r)) a posts s w =
-    let none : children_at ask.archive r.job a ≡ [] = ap children_of s.level_is in
+    let none : children_at ask.selection r.job a ≡ [] = ap children_of s.level_is in
     record { jobs = ap jobs_of s.posts_are ∙ ap jobs_of (sym none); children = ap (λ cs. named cs posts) (sym none) }
 parts ask full (ended.Faulted (Broken r)) a posts s w = absurd w
 
 pub record Here (rows : List (Ended Row)) (i : ℕ) : Type 0 where
+  -- a row
   pub row : Ended Row
+  -- it stands there
   pub is : slice_get rows i ≡ Some row
 
+-- below their number there is a row
 pub row_here : (rows : List (Ended Row)) (i : ℕ) → i < length rows → Here rows i
 row_here [] i l = absurd (omega arith)
 row_here (e ∷ es) zero l = record { row = e; is = refl }
@@ -65,11 +75,13 @@ abbrev pub job_or : JobModel → Option (Ended Row) → JobModel
 job_or top None = top
 job_or top (Some e) = job_of (row_of e)
 
-module _ (ask : Asked) (full : Bool) (capacity workers : ℕ) (top : JobModel) (h : List (Event JobModel Row)) (rows : List (Ended Row)) (answers : ℕ → Answers)
+module _ (ask : Asked) (full : Bool) (capacity workers : ℕ) (top : JobModel) (h : List (Event JobModel Row)) (rows : List (Ended Row))
+    (answers : ℕ → Answers)
     (walked : Walked ask full capacity workers top h rows answers) where
   abbrev pub job_at : ℕ → JobModel
   job_at i = job_or top (slice_get rows i)
 
+  -- a number that is not absent has a row
   pub inside : (i : ℕ) → status h i ≢ Absent → i < length rows
   inside i a = at (cases_lt i (length rows))
     where
@@ -77,15 +89,19 @@ module _ (ask : Asked) (full : Bool) (capacity workers : ℕ) (top : JobModel) (
       at (inl b) = b
       at (inr b) = absurd (a ((walked.numbers i).1 b))
 
+  -- and a number with a row is not absent
   pub there : (i : ℕ) → i < length rows → status h i ≢ Absent
   there i b a = let past = (walked.numbers i).0 a in absurd (omega arith)
 
+  -- the job that was posted at a number is that of its row
   pub posted_here : (i : ℕ) (e : Ended Row) → slice_get rows i ≡ Some e → job_posted top h i ≡ Some (job_of (row_of e))
   posted_here i e is = sym (walked.in_place.handed i e is) ∙ (walked.lawful i e is).job_is
 
+  -- so it is the job at the number
   pub posted_at : (i : ℕ) → status h i ≢ Absent → job_posted top h i ≡ Some (job_at i)
   posted_at i a = let r = row_here rows i (inside i a) in posted_here i r.row r.is ∙ ap (λ o. Some (job_or top o)) (sym r.is)
 
+  -- that of number 0 is the top's
   pub top_job : job_at 0 ≡ top
   top_job = same_some (job_at 0) top (sym (posted_at 0 (start h)) ∙ top_posted capacity workers top h walked.legal)
 
@@ -97,7 +113,7 @@ module _ (ask : Asked) (full : Bool) (capacity workers : ℕ) (top : JobModel) (
 
   module _ (whole : AreWhole rows) where
     abbrev children_of_number : ℕ → List (List ℕ × JobModel)
-    children_of_number i = children_at ask.archive (job_at i) (answers i)
+    children_of_number i = children_at ask.selection (job_at i) (answers i)
 
     pub record Fits (i : ℕ) : Type 0 where
       pub jobs : jobs_of (posts_under i h) ≡ jobs_of (children_of_number i)
@@ -112,18 +128,19 @@ module _ (ask : Asked) (full : Bool) (capacity workers : ℕ) (top : JobModel) (
         let p = parts ask full r.row (answers i) (posts_under i h) lawful.says (whole i r.row r.is) in
         let job : job_of (row_of r.row) ≡ job_at i = ap (job_or top) (sym r.is) in
         let children : children_by_rows rows i ≡ named (children_of_number i) (posts_under i h) =
-        ap children_at_row r.is ∙ p.children ∙ ap (λ j. named (children_at ask.archive j (answers i)) (posts_under i h)) job in
+        ap children_at_row r.is ∙ p.children ∙ ap (λ j. named (children_at ask.selection j (answers i)) (posts_under i h)) job in
         record {
-          jobs = p.jobs ∙ ap (λ j. jobs_of (children_at ask.archive j (answers i))) job;
+          jobs = p.jobs ∙ ap (λ j. jobs_of (children_at ask.selection j (answers i))) job;
           children = children;
           looked = subst (λ (cs : List ChildModel). Finds (λ m. child_number m cs) (children_of_number i) (posts_under i h)) (sym children)
-              (finds (children_of_number i) (posts_under i h) (apart_level ask.archive (job_at i) (answers i) lawful.tidy));
-          named_so = good_level ask.archive (job_at i) (answers i) lawful.tidy;
+              (finds (children_of_number i) (posts_under i h) (apart_level ask.selection (job_at i) (answers i) lawful.tidy));
+          named_so = good_level ask.selection (job_at i) (answers i) lawful.tidy;
         }
 
     -- ---- the tree of rows
 
-    grows : Grows (found_at ask.archive) (children_at ask.archive) h job_at answers (tree_from no_answers answers (children_by_rows rows))
+    grows : Grows (found_at ask.selection) (children_at ask.selection) h job_at answers
+        (tree_from no_answers answers (children_by_rows rows))
     grows = record {
       same_found = λ i a. refl;
       same_children = λ i a. refl;
@@ -134,34 +151,39 @@ module _ (ask : Asked) (full : Bool) (capacity workers : ℕ) (top : JobModel) (
     times_same depth deep p = reach_times capacity workers top h walked.room walked.legal (length rows) walked.numbers depth deep p
 
     abbrev gives_number : ℕ → List Found
-    gives_number i = found_at ask.archive (job_at i) (answers i)
+    gives_number i = found_at ask.selection (job_at i) (answers i)
 
     all_below : (n : ℕ) → AllByRecursion (λ i. i < n) (numbers_below n)
     all_below zero = tt
-    all_below (suc n) = each-append (λ i. i < suc n) (numbers_below n) (n ∷ []) (each-map (λ i. i < n) (λ i. i < suc n) (λ i b. omega arith) (numbers_below n) (all_below n)) (omega arith, tt)
+    all_below (suc n) = each-append (λ i. i < suc n) (numbers_below n) (n ∷ [])
+        (each-map (λ i. i < n) (λ i. i < suc n) (λ i b. omega arith) (numbers_below n) (all_below n)) (omega arith, tt)
 
     one_found : (i : ℕ) → i < length rows → gives_number i ≡ row_found ask (slice_get rows i) (answers i)
     one_found i b =
         let r = row_here rows i b in
-        ap (λ o. found_at ask.archive (job_or top o) (answers i)) r.is ∙ sym (ap (λ o. row_found ask o (answers i)) r.is)
+        ap (λ o. found_at ask.selection (job_or top o) (answers i)) r.is ∙ sym (ap (λ o. row_found ask o (answers i)) r.is)
 
     found_by_number : flat_map gives_number (numbers_below (length rows)) ≡ rows_found ask rows answers
     found_by_number =
         flat_map-on gives_number (λ i. row_found ask (slice_get rows i) (answers i)) (numbers_below (length rows))
-        (each-map (λ i. i < length rows) (λ i. gives_number i ≡ row_found ask (slice_get rows i) (answers i)) one_found (numbers_below (length rows)) (all_below (length rows)))
+        (each-map (λ i. i < length rows) (λ i. gives_number i ≡ row_found ask (slice_get rows i) (answers i)) one_found
+        (numbers_below (length rows)) (all_below (length rows)))
 
     -- a walk that finds what the numbers give that are reached
-    by_reach : (depth : ℕ) → capacity ≤ depth → (xs : List Found) → xs ≡ flat_map gives_number (reach h depth 0) → IsPermutation xs (rows_found ask rows answers)
+    by_reach : (depth : ℕ) → capacity ≤ depth → (xs : List Found) → xs ≡ flat_map gives_number (reach h depth 0)
+        → IsPermutation xs (rows_found ask rows answers)
     by_reach depth deep xs e =
         subst (λ l. IsPermutation l (rows_found ask rows answers)) (sym e)
         (subst (IsPermutation (flat_map gives_number (reach h depth 0))) found_by_number
         (permuted_lists gives_number (reach h depth 0) (numbers_below (length rows)) (times_same depth deep)))
 
-    pub of_rows : (depth : ℕ) → capacity ≤ depth → IsPermutation (walk_of ask.archive depth top (tree_of_rows rows answers)) (rows_found ask rows answers)
+    pub of_rows : (depth : ℕ) → capacity ≤ depth
+        → IsPermutation (walk_of ask.selection depth top (tree_of_rows rows answers)) (rows_found ask rows answers)
     of_rows depth deep =
         by_reach depth deep _
-        (ap (λ j. walk_of ask.archive depth j (tree_of_rows rows answers)) (sym top_job)
-        ∙ walk_is (found_at ask.archive) (children_at ask.archive) capacity workers top h job_at answers (tree_from no_answers answers (children_by_rows rows)) walked.legal
+        (ap (λ j. walk_of ask.selection depth j (tree_of_rows rows answers)) (sym top_job)
+        ∙ walk_is (found_at ask.selection) (children_at ask.selection) capacity workers top h job_at answers
+        (tree_from no_answers answers (children_by_rows rows)) walked.legal
         posted_at (λ i a. (fits i a).jobs) grows depth 0 (start h))
 
     -- ---- each number once
@@ -170,13 +192,15 @@ module _ (ask : Asked) (full : Bool) (capacity workers : ℕ) (top : JobModel) (
     number_found j a = a.0 ∷ []
 
     abbrev number_children : JobModel → (ℕ × Answers) → List (List ℕ × JobModel)
-    number_children j a = children_at ask.archive j a.1
+    number_children j a = children_at ask.selection j a.1
 
-    numbers_grow : Grows number_found number_children h job_at (λ i. (i, answers i)) (tree_from (0, no_answers) (λ i. (i, answers i)) (children_by_rows rows))
+    numbers_grow : Grows number_found number_children h job_at (λ i. (i, answers i))
+        (tree_from (0, no_answers) (λ i. (i, answers i)) (children_by_rows rows))
     numbers_grow = record {
       same_found = λ i a. refl;
       same_children = λ i a. refl;
-      under = λ i a. under_rows (0, no_answers) (λ i. (i, answers i)) (children_by_rows rows) i (children_of_number i) (posts_under i h) (fits i a).looked;
+      under = λ i a. under_rows (0, no_answers) (λ i. (i, answers i)) (children_by_rows rows) i (children_of_number i)
+          (posts_under i h) (fits i a).looked;
     }
 
     singles : (xs : List ℕ) → flat_map (λ i. i ∷ []) xs ≡ xs
@@ -187,7 +211,8 @@ module _ (ask : Asked) (full : Bool) (capacity workers : ℕ) (top : JobModel) (
     of_numbers depth deep =
         let is : walk_numbers ask depth top rows answers ≡ reach h depth 0 =
         ap (λ j. walk_numbers ask depth j rows answers) (sym top_job)
-        ∙ walk_is number_found number_children capacity workers top h job_at (λ i. (i, answers i)) (tree_from (0, no_answers) (λ i. (i, answers i)) (children_by_rows rows)) walked.legal
+        ∙ walk_is number_found number_children capacity workers top h job_at (λ i. (i, answers i))
+        (tree_from (0, no_answers) (λ i. (i, answers i)) (children_by_rows rows)) walked.legal
         posted_at (λ i a. (fits i a).jobs) numbers_grow depth 0 (start h)
         ∙ singles (reach h depth 0) in
         subst (λ l. IsPermutation l (numbers_below (length rows))) (sym is)
@@ -198,14 +223,16 @@ module _ (ask : Asked) (full : Bool) (capacity workers : ℕ) (top : JobModel) (
     abbrev pub place_at : ℕ → List (List ℕ)
     place_at i = names_of_path (job_at i).path
 
-    place_under : (i : ℕ) (cs : List (List ℕ × JobModel)) (ps : List (ℕ × JobModel)) → AllByRecursion (IsChild (job_at i).path) cs → jobs_of ps ≡ jobs_of cs →
+    place_under : (i : ℕ) (cs : List (List ℕ × JobModel)) (ps : List (ℕ × JobModel)) → AllByRecursion (IsChild (job_at i).path) cs
+        → jobs_of ps ≡ jobs_of cs →
         AllByRecursion (λ p. job_at p.0 ≡ p.1) ps → PlacedUnder place_at i cs ps
     place_under i [] ps a e k = tt
     place_under i (c ∷ cs) [] a e k = tt
     place_under i (c ∷ cs) (p ∷ ps) a e k =
         let this : p.1 ≡ c.1 = same_head p.1 c.1 (jobs_of ps) (jobs_of cs) e in
         let rest : jobs_of ps ≡ jobs_of cs = same_tail p.1 c.1 (jobs_of ps) (jobs_of cs) e in (
-          ap (λ (j : JobModel). names_of_path j.path) (k.0 ∙ this) ∙ ap names_of_path a.0.1 ∙ names_of_path-path_in (job_at i).path c.0 a.0.0,
+          ap (λ (j : JobModel). names_of_path j.path) (k.0 ∙ this) ∙ ap names_of_path a.0.1 ∙ names_of_path-path_in (job_at i).path c.0
+              a.0.0,
           place_under i cs ps a.1 rest k.1,
         )
 
@@ -214,26 +241,30 @@ module _ (ask : Asked) (full : Bool) (capacity workers : ℕ) (top : JobModel) (
 
     pub of_one_tree : (t : Tree) → top.path ≡ [] →
         ((i : ℕ) (e : Ended Row) → slice_get rows i ≡ Some e →
-        level ask.archive (job_of (row_of e)) (answers i) ≡ level ask.archive (job_of (row_of e)) (t (names_of_path (job_of (row_of e)).path))) →
-        (depth : ℕ) → capacity ≤ depth → IsPermutation (walk_of ask.archive depth top t) (rows_found ask rows answers)
+        level ask.selection (job_of (row_of e)) (answers i) ≡ level ask.selection (job_of (row_of e))
+        (t (names_of_path (job_of (row_of e)).path))) →
+        (depth : ℕ) → capacity ≤ depth → IsPermutation (walk_of ask.selection depth top t) (rows_found ask rows answers)
     of_one_tree t at_top agree depth deep =
         by_reach depth deep _
-        (ap (λ j. walk_of ask.archive depth j t) (sym top_job)
-        ∙ ap (λ (u : List (List ℕ) → Answers). walk_of ask.archive depth (job_at 0) u) (sym whole_tree)
-        ∙ walk_is (found_at ask.archive) (children_at ask.archive) capacity workers top h job_at answers (λ i p. t (place_at i ++ p)) walked.legal
+        (ap (λ j. walk_of ask.selection depth j t) (sym top_job)
+        ∙ ap (λ (u : List (List ℕ) → Answers). walk_of ask.selection depth (job_at 0) u) (sym whole_tree)
+        ∙ walk_is (found_at ask.selection) (children_at ask.selection) capacity workers top h job_at answers
+        (λ i p. t (place_at i ++ p)) walked.legal
         posted_at (λ i a. (fits i a).jobs) tree_grows depth 0 (start h))
       where
         nil_end : {A : Type 0} (xs : List A) → xs ++ [] ≡ xs
         nil_end xs = append-nil xs
 
-        at_level : (i : ℕ) → status h i ≢ Absent → level ask.archive (job_at i) (t (place_at i ++ [])) ≡ level ask.archive (job_at i) (answers i)
+        at_level : (i : ℕ) → status h i ≢ Absent
+            → level ask.selection (job_at i) (t (place_at i ++ [])) ≡ level ask.selection (job_at i) (answers i)
         at_level i a =
             let r = row_here rows i (inside i a) in
             let job : job_of (row_of r.row) ≡ job_at i = ap (job_or top) (sym r.is) in
-            ap (λ p. level ask.archive (job_at i) (t p)) (nil_end (place_at i))
-            ∙ subst (λ j. level ask.archive j (t (names_of_path j.path)) ≡ level ask.archive j (answers i)) job (sym (agree i r.row r.is))
+            ap (λ p. level ask.selection (job_at i) (t p)) (nil_end (place_at i))
+            ∙ subst (λ j. level ask.selection j (t (names_of_path j.path)) ≡ level ask.selection j (answers i)) job
+            (sym (agree i r.row r.is))
 
-        tree_grows : Grows (found_at ask.archive) (children_at ask.archive) h job_at answers (λ i p. t (place_at i ++ p))
+        tree_grows : Grows (found_at ask.selection) (children_at ask.selection) h job_at answers (λ i p. t (place_at i ++ p))
         tree_grows = record {
           same_found = λ i a. ap (found_of (job_at i)) (at_level i a);
           same_children = λ i a. ap children_of (at_level i a);
@@ -241,17 +272,25 @@ module _ (ask : Asked) (full : Bool) (capacity workers : ℕ) (top : JobModel) (
         }
 
         whole_tree : (λ (p : List (List ℕ)). t (place_at 0 ++ p)) ≡ t
-        whole_tree = ap {B = List (List ℕ) → Answers} (λ (x : List (List ℕ)) (p : List (List ℕ)). t (x ++ p)) (ap (λ (j : JobModel). names_of_path j.path) top_job ∙ ap names_of_path at_top)
+        whole_tree = ap {B = List (List ℕ) → Answers} (λ (x : List (List ℕ)) (p : List (List ℕ)). t (x ++ p))
+            (ap (λ (j : JobModel). names_of_path j.path) top_job ∙ ap names_of_path at_top)
 
+-- the tree of rows has what the rows found
 pub core_law : CoreLaw
-core_law ask full capacity workers top h rows answers walked whole depth deep = of_rows ask full capacity workers top h rows answers walked whole depth deep
+core_law ask full capacity workers top h rows answers walked whole depth deep =
+    of_rows ask full capacity workers top h rows answers walked whole depth deep
 
+-- and each number once
 pub numbers_law : NumbersLaw
-numbers_law ask full capacity workers top h rows answers walked whole depth deep = of_numbers ask full capacity workers top h rows answers walked whole depth deep
+numbers_law ask full capacity workers top h rows answers walked whole depth deep =
+    of_numbers ask full capacity workers top h rows answers walked whole depth deep
 
+-- so has a tree whose levels are those of the rows
 pub one_answer_law : OneAnswerLaw
-one_answer_law t ask full capacity workers top h rows answers walked whole at_top agree depth deep = of_one_tree ask full capacity workers top h rows answers walked whole t at_top agree depth deep
+one_answer_law t ask full capacity workers top h rows answers walked whole at_top agree depth deep =
+    of_one_tree ask full capacity workers top h rows answers walked whole t at_top agree depth deep
 
+-- what is lawful in a part is lawful in the whole history
 pub part_law : PartLaw
 part_law ask full capacity workers w i h e a legal k =
     let same : SaysSame i h (part w h) = part_says_whole capacity workers h legal w i (job_of (row_of e)) k.job_is in

@@ -1,5 +1,6 @@
 -- What holds of every level.
-use Rattle.std.proofs.Common.{◌≡◌, ℕ, cond, ◌&&◌, Bool, true, false, List, [], ◌∷◌, ◌++◌, refl, subst, ◌⊎◌, inl, inr, Option, Some, None, Result, Ok, Err, codes, bytes_eq}
+use Rattle.std.proofs.Common.{◌≡◌, ℕ, cond, ◌&&◌, Bool, true, false, List, [], ◌∷◌, ◌++◌, refl, sym, subst, ◌⊎◌, inl, inr, Option, Some}
+use Rattle.std.proofs.Common.{None, Result, Ok, Err, codes, bytes_eq}
 use Rattle.std.specs.List.{flat_map, AllByRecursion}
 use Rattle.lc_tree.specs.Listing.{IsListing}
 use Rattle.lc_tree.specs.declared.fault_word.FaultWord.{FaultWord}
@@ -7,22 +8,28 @@ use Rattle.lc_glob.specs.Path.{path_in}
 use Rattle.lc_level.specs.Answers.{Item, file_item, directory_item, other_item, Items, Answers, name_of}
 use Rattle.lc_level.specs.Job.{JobModel}
 use Rattle.lc_level.specs.FaultLines.{FaultLineModel}
-use Rattle.lc_level.specs.RuleFiles.{Pair, RuleBytes, extended, file_named, has_directory, is_top, has_git, and_then, reading, both_read, info_items, info_bytes, own_bytes, rule_bytes}
-use Rattle.lc_level.specs.Level.{Level, faulted_level, level, level_of, level_after, level_of_items, is_taken, child_job, children_by}
+use Rattle.lc_level.specs.RuleFiles.{Pair, RuleBytes, extended, file_named, has_directory, is_top, has_git, and_then, reading}
+use Rattle.lc_level.specs.RuleFiles.{both_read, info_items, info_bytes, own_bytes, rule_bytes}
+use Rattle.lc_level.specs.Level.{Level, faulted_level, level, level_of, level_after, level_of_items, is_taken, child_job}
+use Rattle.lc_level.specs.Level.{walked_in, fates_of}
+use Rattle.lc_level.specs.Selection.{SelectionModel}
 use Rattle.lc_walk.specs.Found.{children_of, children_at}
 use Rattle.lc_level.specs.Tidy.{IsTidy, listed_in}
 use Rattle.lc_level.proofs.Tidy.{IsGoodName, good_one, Spread, spread}
+use Rattle.lc_level.proofs.Fates.{children_by, walked_items_are}
 
 -- what holds of each fault, and of the level of the items with any chains, holds of the level
-pub level_keeps : (P : Level → Type 0) (archive : Bool) (j : JobModel) (a : Answers) → ((p : List ℕ) (w : FaultWord) → P (faulted_level p w)) →
-    ((items : List Item) → a.here ≡ Ok items → (b : RuleBytes) → P (level_of_items archive items (extended j b))) → P (level archive j a)
-level_keeps P archive j a faults items_keep = at a.here refl
+pub level_keeps : (P : Level → Type 0) (selection : SelectionModel) (j : JobModel) (a : Answers)
+    → ((p : List ℕ) (w : FaultWord) → P (faulted_level p w)) →
+    ((items : List Item) → a.here ≡ Ok items → (b : RuleBytes) → P (level_of_items selection items (extended j b))) →
+    P (level selection j a)
+level_keeps P selection j a faults items_keep = at a.here refl
   where
-    after : (items : List Item) → a.here ≡ Ok items → (r : Result RuleBytes FaultLineModel) → P (level_after archive j items r)
+    after : (items : List Item) → a.here ≡ Ok items → (r : Result RuleBytes FaultLineModel) → P (level_after selection j items r)
     after items e (Ok b) = items_keep items e b
     after items e (Err f) = faults f.path f.word
 
-    at : (o : Items) → a.here ≡ o → P (level_of archive j a o)
+    at : (o : Items) → a.here ≡ o → P (level_of selection j a o)
     at (Ok items) e = after items e (rule_bytes j.path items a)
     at (Err word) e = faults j.path word
 
@@ -41,7 +48,8 @@ abbrev IfFault : {A : Type 0} → (List ℕ → Type 0) → Result A FaultLineMo
 IfFault P (Ok x) = Unit {0}
 IfFault P (Err f) = P f.path
 
-fault_of_and_then : {A B : Type 0} (P : List ℕ → Type 0) (r : Result A FaultLineModel) (next : A → Result B FaultLineModel) → IfFault P r → ((x : A) → IfFault P (next x)) → IfFault P (and_then r next)
+fault_of_and_then : {A B : Type 0} (P : List ℕ → Type 0) (r : Result A FaultLineModel) (next : A → Result B FaultLineModel)
+    → IfFault P r → ((x : A) → IfFault P (next x)) → IfFault P (and_then r next)
 fault_of_and_then P (Ok x) next first rest = rest x
 fault_of_and_then P (Err f) next first rest = first
 
@@ -50,13 +58,16 @@ fault_of_reading P p None k = tt
 fault_of_reading P p (Some (Ok bytes)) k = tt
 fault_of_reading P p (Some (Err word)) k = k
 
-fault_of_both : (P : List ℕ → Type 0) (p : List ℕ) (o : Option (Result (List ℕ) FaultWord)) (q : List ℕ) (u : Option (Result (List ℕ) FaultWord)) → P p → P q → IfFault P (both_read p o q u)
+fault_of_both : (P : List ℕ → Type 0) (p : List ℕ) (o : Option (Result (List ℕ) FaultWord)) (q : List ℕ)
+    (u : Option (Result (List ℕ) FaultWord)) → P p → P q → IfFault P (both_read p o q u)
 fault_of_both P p o q u k l =
-    fault_of_and_then P (reading p o) (λ x. and_then (reading q u) (λ y. Ok (record { rules = x; attributes = y }))) (fault_of_reading P p o k)
+    fault_of_and_then P (reading p o) (λ x. and_then (reading q u) (λ y. Ok (record { rules = x; attributes = y })))
+    (fault_of_reading P p o k)
     (λ x. fault_of_and_then P (reading q u) (λ y. Ok (record { rules = x; attributes = y })) (fault_of_reading P q u l) (λ y. tt))
 
 -- nothing of `.git` is read where it is not there
-no_git : (P : List ℕ → Type 0) (a : Answers) (there : Bool) → (there ≡ true → (p : List ℕ) → P p) → IfFault P (and_then (info_items there a) info_bytes)
+no_git : (P : List ℕ → Type 0) (a : Answers) (there : Bool) → (there ≡ true → (p : List ℕ) → P p)
+    → IfFault P (and_then (info_items there a) info_bytes)
 no_git P a false k = tt
 no_git P a true k = any (and_then (info_items true a) info_bytes)
   where
@@ -71,25 +82,32 @@ git_of_top p items e = top_is p (first (is_top p) (has_directory (codes ".git") 
     first true c e = refl
     first false c e = cc
 
+-- a fault of rule files has the path of one of them
 pub fault_place : (path : List ℕ) (items : List Item) (a : Answers) → IfFault (IsOwnPlace path) (rule_bytes path items a)
 fault_place path items a =
-    fault_of_and_then (IsOwnPlace path) (and_then (info_items (has_git path items) a) info_bytes) (λ i. and_then (own_bytes path items) (λ o. Ok (record { info = i; own = o })))
+    fault_of_and_then (IsOwnPlace path) (and_then (info_items (has_git path items) a) info_bytes)
+    (λ i. and_then (own_bytes path items) (λ o. Ok (record { info = i; own = o })))
     (no_git (IsOwnPlace path) a (has_git path items) (λ e p. inr (inr (git_of_top path items e))))
     (λ i. fault_of_and_then (IsOwnPlace path) (own_bytes path items) (λ o. Ok (record { info = i; own = o }))
-    (fault_of_both (IsOwnPlace path) (path_in path (codes ".gitignore")) (file_named (codes ".gitignore") items) (path_in path (codes ".gitattributes")) (file_named (codes ".gitattributes") items)
-    (inr (inl (codes ".gitignore", good_one (codes ".gitignore") refl, refl))) (inr (inl (codes ".gitattributes", good_one (codes ".gitattributes") refl, refl))))
+    (fault_of_both (IsOwnPlace path) (path_in path (codes ".gitignore")) (file_named (codes ".gitignore") items)
+    (path_in path (codes ".gitattributes")) (file_named (codes ".gitattributes") items)
+    (inr (inl (codes ".gitignore", good_one (codes ".gitignore") refl, refl)))
+    (inr (inl (codes ".gitattributes", good_one (codes ".gitattributes") refl, refl))))
     (λ o. tt))
 
 -- the same, where the fault may be known to lie in the directory
-pub own_level_keeps : (P : Level → Type 0) (archive : Bool) (j : JobModel) (a : Answers) → ((p : List ℕ) (w : FaultWord) → IsOwnPlace j.path p → P (faulted_level p w)) →
-    ((items : List Item) → a.here ≡ Ok items → (b : RuleBytes) → P (level_of_items archive items (extended j b))) → P (level archive j a)
-own_level_keeps P archive j a faults items_keep = at a.here refl
+pub own_level_keeps : (P : Level → Type 0) (selection : SelectionModel) (j : JobModel) (a : Answers)
+    → ((p : List ℕ) (w : FaultWord) → IsOwnPlace j.path p → P (faulted_level p w)) →
+    ((items : List Item) → a.here ≡ Ok items → (b : RuleBytes) → P (level_of_items selection items (extended j b))) →
+    P (level selection j a)
+own_level_keeps P selection j a faults items_keep = at a.here refl
   where
-    after : (items : List Item) → a.here ≡ Ok items → (r : Result RuleBytes FaultLineModel) → IfFault (IsOwnPlace j.path) r → P (level_after archive j items r)
+    after : (items : List Item) → a.here ≡ Ok items → (r : Result RuleBytes FaultLineModel) → IfFault (IsOwnPlace j.path) r
+        → P (level_after selection j items r)
     after items e (Ok b) o = items_keep items e b
     after items e (Err f) o = faults f.path f.word o
 
-    at : (o : Items) → a.here ≡ o → P (level_of archive j a o)
+    at : (o : Items) → a.here ≡ o → P (level_of selection j a o)
     at (Ok items) e = after items e (rule_bytes j.path items a) (fault_place j.path items a)
     at (Err word) e = faults j.path word (inl refl)
 
@@ -104,44 +122,59 @@ IsApart (c ∷ cs) = AllByRecursion (λ d. bytes_eq d.0 c.0 ≡ false) cs × IsA
 abbrev pub IsChild : List ℕ → (List ℕ × JobModel) → Type 0
 IsChild p c = IsGoodName c.0 × (c.1.path ≡ path_in p c.0)
 
-each_cond : (P : List ℕ × JobModel → Type 0) (b : Bool) (c : List ℕ × JobModel) (cs : List (List ℕ × JobModel)) → P c → AllByRecursion P cs → AllByRecursion P (cond b (c ∷ []) [] ++ cs)
+each_cond : (P : List ℕ × JobModel → Type 0) (b : Bool) (c : List ℕ × JobModel) (cs : List (List ℕ × JobModel)) → P c
+    → AllByRecursion P cs → AllByRecursion P (cond b (c ∷ []) [] ++ cs)
 each_cond P true c cs a e = (a, e)
 each_cond P false c cs a e = e
 
--- what holds of the names of all directories among some items holds of their children
-pub each_child : (archive : Bool) (j : JobModel) (P : List ℕ × JobModel → Type 0) (Q : List ℕ → Type 0) → ((n : List ℕ) → Q n → P (n, child_job j n)) →
-    (es : List Item) → AllByRecursion (λ e. Q (name_of e)) es → AllByRecursion P (flat_map (children_by archive j) es)
-each_child archive j P Q f [] a = tt
-each_child archive j P Q f (file_item n c r ∷ es) a = each_child archive j P Q f es a.1
-each_child archive j P Q f (other_item n ∷ es) a = each_child archive j P Q f es a.1
-each_child archive j P Q f (directory_item n ∷ es) a =
-    each_cond P (is_taken archive j n true) (n, child_job j n) (flat_map (children_by archive j) es) (f n a.0) (each_child archive j P Q f es a.1)
+each_by_item : (selection : SelectionModel) (j : JobModel) (P : List ℕ × JobModel → Type 0) (Q : List ℕ → Type 0) →
+    ((n : List ℕ) → Q n → P (n, child_job j n)) →
+    (es : List Item) → AllByRecursion (λ e. Q (name_of e)) es → AllByRecursion P (flat_map (children_by selection j) es)
+each_by_item selection j P Q f [] a = tt
+each_by_item selection j P Q f (file_item n c r ∷ es) a = each_by_item selection j P Q f es a.1
+each_by_item selection j P Q f (other_item n ∷ es) a = each_by_item selection j P Q f es a.1
+each_by_item selection j P Q f (directory_item n ∷ es) a =
+    each_cond P (is_taken selection j n true) (n, child_job j n) (flat_map (children_by selection j) es) (f n a.0)
+    (each_by_item selection j P Q f es a.1)
 
-apart_cond : (b : Bool) (c : List ℕ × JobModel) (cs : List (List ℕ × JobModel)) → AllByRecursion (λ d. bytes_eq d.0 c.0 ≡ false) cs → IsApart cs → IsApart (cond b (c ∷ []) [] ++ cs)
+-- what holds of the names of all directories among some items holds of their children
+pub each_child : (selection : SelectionModel) (j : JobModel) (P : List ℕ × JobModel → Type 0) (Q : List ℕ → Type 0) →
+    ((n : List ℕ) → Q n → P (n, child_job j n)) →
+    (es : List Item) → AllByRecursion (λ e. Q (name_of e)) es → AllByRecursion P (walked_in (fates_of selection j es))
+each_child selection j P Q f es a = subst (AllByRecursion P) (sym (walked_items_are selection j es)) (each_by_item selection j P Q f es a)
+
+apart_cond : (b : Bool) (c : List ℕ × JobModel) (cs : List (List ℕ × JobModel)) → AllByRecursion (λ d. bytes_eq d.0 c.0 ≡ false) cs
+    → IsApart cs → IsApart (cond b (c ∷ []) [] ++ cs)
 apart_cond true c cs a b = (a, b)
 apart_cond false c cs a b = b
 
-apart_children : (archive : Bool) (j : JobModel) (es : List Item) → Spread es → IsApart (flat_map (children_by archive j) es)
-apart_children archive j [] t = tt
-apart_children archive j (file_item n c r ∷ es) t = apart_children archive j es t.2
-apart_children archive j (other_item n ∷ es) t = apart_children archive j es t.2
-apart_children archive j (directory_item n ∷ es) t =
-    apart_cond (is_taken archive j n true) (n, child_job j n) (flat_map (children_by archive j) es)
-    (each_child archive j (λ d. bytes_eq d.0 n ≡ false) (λ m. bytes_eq m n ≡ false) (λ m e. e) es t.0) (apart_children archive j es t.2)
+apart_children : (selection : SelectionModel) (j : JobModel) (es : List Item) → Spread es → IsApart (flat_map (children_by selection j) es)
+apart_children selection j [] t = tt
+apart_children selection j (file_item n c r ∷ es) t = apart_children selection j es t.2
+apart_children selection j (other_item n ∷ es) t = apart_children selection j es t.2
+apart_children selection j (directory_item n ∷ es) t =
+    apart_cond (is_taken selection j n true) (n, child_job j n) (flat_map (children_by selection j) es)
+    (each_by_item selection j (λ d. bytes_eq d.0 n ≡ false) (λ m. bytes_eq m n ≡ false) (λ m e. e) es t.0)
+    (apart_children selection j es t.2)
 
 good_names : (es : List Item) → Spread es → AllByRecursion (λ e. IsGoodName (name_of e)) es
 good_names [] t = tt
 good_names (e ∷ es) t = (t.1, good_names es t.2)
 
+-- the items of tidy answers have good names, no two the same
 pub tidy_items : (a : Answers) → IsTidy a → (es : List Item) → a.here ≡ Ok es → Spread es
 tidy_items a t es e = spread es (subst (λ (o : Items). IsListing (listed_in o)) e t)
 
-pub apart_level : (archive : Bool) (j : JobModel) (a : Answers) → IsTidy a → IsApart (children_at archive j a)
-apart_level archive j a t =
-    level_keeps (λ l. IsApart (children_of l)) archive j a (λ p w. tt)
-    (λ es e b. apart_children archive (extended j b) es (tidy_items a t es e))
+-- so have the child directories of a level
+pub apart_level : (selection : SelectionModel) (j : JobModel) (a : Answers) → IsTidy a → IsApart (children_at selection j a)
+apart_level selection j a t =
+    level_keeps (λ l. IsApart (children_of l)) selection j a (λ p w. tt)
+    (λ es e b. subst IsApart (sym (walked_items_are selection (extended j b) es))
+    (apart_children selection (extended j b) es (tidy_items a t es e)))
 
-pub good_level : (archive : Bool) (j : JobModel) (a : Answers) → IsTidy a → AllByRecursion (IsChild j.path) (children_at archive j a)
-good_level archive j a t =
-    level_keeps (λ l. AllByRecursion (IsChild j.path) (children_of l)) archive j a (λ p w. tt)
-    (λ es e b. each_child archive (extended j b) (IsChild j.path) IsGoodName (λ n g. (g, refl)) es (good_names es (tidy_items a t es e)))
+-- and each is a child of the directory, by its name
+pub good_level : (selection : SelectionModel) (j : JobModel) (a : Answers) → IsTidy a →
+    AllByRecursion (IsChild j.path) (children_at selection j a)
+good_level selection j a t =
+    level_keeps (λ l. AllByRecursion (IsChild j.path) (children_of l)) selection j a (λ p w. tt)
+    (λ es e b. each_child selection (extended j b) (IsChild j.path) IsGoodName (λ n g. (g, refl)) es (good_names es (tidy_items a t es e)))

@@ -1,5 +1,6 @@
 -- The steps of going through the rows' children.
-use Rattle.std.proofs.Common.{◌≡◌, ◌≢◌, ℕ, zero, suc, ◌+◌, ◌<◌, ◌≤◌, ◌==◌, Bool, true, false, List, [], ◌∷◌, length, slice_get, slice_set, replicate, refl, sym, ◌∙◌, ap, arith, subst, Some, ◌⊎◌, inl, inr, eq-eqb}
+use Rattle.std.proofs.Common.{◌≡◌, ◌≢◌, ℕ, zero, suc, ◌+◌, ◌<◌, ◌≤◌, ◌==◌, Bool, true, false, List, [], ◌∷◌, length, slice_get}
+use Rattle.std.proofs.Common.{slice_set, replicate, refl, sym, ◌∙◌, ap, arith, subst, Some, ◌⊎◌, inl, inr, eq-eqb}
 use Rattle.std.proofs.lemmas.Option.{slice_get_within}
 use Rattle.std.proofs.lemmas.Bool.{eqb-true, cases_lt}
 use Rattle.lc_board.proofs.Places.{get_set_same, get_set_other}
@@ -34,6 +35,7 @@ length_set [] i v = refl
 length_set (x ∷ xs) zero v = refl
 length_set (x ∷ xs) (suc i) v = ap suc (length_set xs i v)
 
+-- a list without length is empty
 pub no_length : {A : Type 0} (xs : List A) → length xs ≡ 0 → xs ≡ []
 no_length [] e = refl
 no_length (x ∷ xs) e = absurd (omega arith)
@@ -56,7 +58,8 @@ module _ (rows : List (Ended Row)) where
       some_child x y e = cc
 
   -- one child more, of another number
-  other_hangs : (at j k : ℕ) (child : ChildModel) → IsNext rows at j child → child.number ≢ k → HangsSeen rows at j k → HangsSeen rows at (j + 1) k
+  other_hangs : (at j k : ℕ) (child : ChildModel) → IsNext rows at j child → child.number ≢ k → HangsSeen rows at j k
+      → HangsSeen rows at (j + 1) k
   other_hangs at j k child n o h = record {
     row = h.row;
     its = h.its;
@@ -71,7 +74,8 @@ module _ (rows : List (Ended Row)) where
     where
       only : (p i : ℕ) → IsEdge rows p i k → Seen at j p i ⊎ ((p ≡ at) × (i ≡ j)) → (p ≡ h.parent) × (i ≡ h.place)
       only p i e (inl s) = h.only p i s e
-      only p i e (inr x) = absurd (o (one_number at j k child n (subst (λ y. IsEdge rows at y k) x.1 (subst (λ y. IsEdge rows y i k) x.0 e))))
+      only p i e (inr x) =
+          absurd (o (one_number at j k child n (subst (λ y. IsEdge rows at y k) x.1 (subst (λ y. IsEdge rows y i k) x.0 e))))
 
   other_unnamed : (at j k : ℕ) (child : ChildModel) → IsNext rows at j child → child.number ≢ k →
       ((p i : ℕ) → Seen at j p i → IsEdge rows p i k → ⊥) → (p i : ℕ) → Seen at (j + 1) p i → IsEdge rows p i k → ⊥
@@ -81,7 +85,9 @@ module _ (rows : List (Ended Row)) where
       at_place (inl t) = u p i t e
       at_place (inr x) = o (one_number at j k child n (subst (λ y. IsEdge rows at y k) x.1 (subst (λ y. IsEdge rows y i k) x.0 e)))
 
-  pub marks_skip : (at j : ℕ) (child : ChildModel) (hung : List Bool) → IsNext rows at j child → (child.number ≡ 0) ⊎ (length rows ≤ child.number) → Marks rows at j hung → Marks rows at (j + 1) hung
+  -- a child whose number is no row's marks nothing
+  pub marks_skip : (at j : ℕ) (child : ChildModel) (hung : List Bool) → IsNext rows at j child
+      → (child.number ≡ 0) ⊎ (length rows ≤ child.number) → Marks rows at j hung → Marks rows at (j + 1) hung
   marks_skip at j child hung n out m = record {
     long = m.long;
     unnamed = λ k some is. other_unnamed at j k child n (apart k some (slice_get_within hung k false is) out) (m.unnamed k some is);
@@ -97,6 +103,7 @@ module _ (rows : List (Ended Row)) where
   placed_at zero e some is p = absurd (omega arith)
   placed_at (suc k) e some is p = p e is
 
+  -- a number that is named twice doesn't hang once
   pub torn_twice : (at j : ℕ) (child : ChildModel) (hung : List Bool) → IsNext rows at j child → 1 ≤ child.number →
       slice_get hung child.number ≡ Some true → Marks rows at j hung → IsPlaced rows child.number → ⊥
   torn_twice at j child hung n some is m p =
@@ -106,7 +113,9 @@ module _ (rows : List (Ended Row)) where
       let theirs = h.only s.parent s.place s.edge in
       not_seen at j s.parent s.place s.seen (theirs.0 ∙ sym mine.0) (theirs.1 ∙ sym mine.1)
 
-  pub torn_low : (at j : ℕ) (child : ChildModel) → IsNext rows at j child → 1 ≤ child.number → child.number < length rows → child.number ≤ at → IsPlaced rows child.number → ⊥
+  -- nor does one that a later number names
+  pub torn_low : (at j : ℕ) (child : ChildModel) → IsNext rows at j child → 1 ≤ child.number → child.number < length rows
+      → child.number ≤ at → IsPlaced rows child.number → ⊥
   torn_low at j child n some low high p =
       let r = got_here rows child.number low in
       let h = placed_at child.number r.0 some r.1 p in
@@ -114,15 +123,21 @@ module _ (rows : List (Ended Row)) where
       let up = h.lower in
       omega arith
 
-  pub torn_path : (at j : ℕ) (child : ChildModel) (d x : List ℕ) → IsNext rows at j child → IsPathAt rows at d → IsPathAt rows child.number x → 1 ≤ child.number →
+  -- nor one whose path is another
+  pub torn_path : (at j : ℕ) (child : ChildModel) (d x : List ℕ) → IsNext rows at j child → IsPathAt rows at d
+      → IsPathAt rows child.number x → 1 ≤ child.number →
       (x ≡ path_in d child.name → ⊥) → IsPlaced rows child.number → ⊥
   torn_path at j child d x n up its some other p =
       let h = placed_at child.number its.row some its.is p in
       let mine = h.only at j (next_edge at j child n) in
-      let dir : (job_of (row_of n.above)).path ≡ d = ap (λ r. (job_of (row_of r)).path) (one_row n.above up.row (sym n.is ∙ up.is)) ∙ up.path_is in
+      let dir : (job_of (row_of n.above)).path ≡ d = ap (λ r. (job_of (row_of r)).path) (one_row n.above up.row (sym n.is ∙ up.is))
+      ∙ up.path_is in
       let above : n.above ≡ h.edge.above = one_row n.above h.edge.above (sym n.is ∙ ap (slice_get rows) mine.0 ∙ h.edge.is) in
-      let child_is : child ≡ h.edge.child = one_child child h.edge.child (sym n.here ∙ ap (λ r. slice_get (children_in (row_of r)) j) above ∙ ap (slice_get (children_in (row_of h.edge.above))) mine.1 ∙ h.edge.here) in
-      other (sym its.path_is ∙ h.path ∙ ap (λ r. path_in (job_of (row_of r)).path h.edge.child.name) (sym above) ∙ ap (λ (c : ChildModel). path_in (job_of (row_of n.above)).path c.name) (sym child_is) ∙ ap (λ x. path_in x child.name) dir)
+      let child_is : child ≡ h.edge.child = one_child child h.edge.child
+      (sym n.here ∙ ap (λ r. slice_get (children_in (row_of r)) j) above ∙ ap (slice_get (children_in (row_of h.edge.above)))
+      mine.1 ∙ h.edge.here) in
+      other (sym its.path_is ∙ h.path ∙ ap (λ r. path_in (job_of (row_of r)).path h.edge.child.name) (sym above)
+      ∙ ap (λ (c : ChildModel). path_in (job_of (row_of n.above)).path c.name) (sym child_is) ∙ ap (λ x. path_in x child.name) dir)
     where
       one_row : (x y : Ended Row) → Some x ≡ Some y → x ≡ y
       one_row x y e = cc
@@ -131,7 +146,8 @@ module _ (rows : List (Ended Row)) where
       one_child x y e = cc
 
   -- the child's number gets its mark
-  pub marks_set : (at j : ℕ) (child : ChildModel) (d x : List ℕ) (hung : List Bool) → IsNext rows at j child → IsPathAt rows at d → IsPathAt rows child.number x → 1 ≤ child.number → child.number < length rows → at < child.number →
+  pub marks_set : (at j : ℕ) (child : ChildModel) (d x : List ℕ) (hung : List Bool) → IsNext rows at j child → IsPathAt rows at d
+      → IsPathAt rows child.number x → 1 ≤ child.number → child.number < length rows → at < child.number →
       slice_get hung child.number ≡ Some false → x ≡ path_in d child.name →
       Marks rows at j hung → Marks rows at (j + 1) (slice_set hung child.number true)
   marks_set at j child d x hung n dir its some low up unmarked path m = record {
@@ -165,11 +181,14 @@ module _ (rows : List (Ended Row)) where
       old : (k : ℕ) → child.number ≢ k → slice_get (slice_set hung child.number true) k ≡ slice_get hung k
       old k o = get_set_other hung child.number k true (λ e. o (sym e))
 
-      unnamed : (k : ℕ) → 1 ≤ k → slice_get (slice_set hung child.number true) k ≡ Some false → (child.number ≡ k) ⊎ (child.number ≢ k) → (p i : ℕ) → Seen at (j + 1) p i → IsEdge rows p i k → ⊥
-      unnamed k s f (inl e) p i z x = let t : Some true ≡ Some false = sym marked ∙ ap (slice_get (slice_set hung child.number true)) e ∙ f in cc
+      unnamed : (k : ℕ) → 1 ≤ k → slice_get (slice_set hung child.number true) k ≡ Some false → (child.number ≡ k) ⊎ (child.number ≢ k)
+          → (p i : ℕ) → Seen at (j + 1) p i → IsEdge rows p i k → ⊥
+      unnamed k s f (inl e) p i z x = let t : Some true ≡ Some false = sym marked ∙ ap (slice_get (slice_set hung child.number true)) e
+          ∙ f in cc
       unnamed k s f (inr o) p i z x = other_unnamed at j k child n o (m.unnamed k s (sym (old k o) ∙ f)) p i z x
 
-      hangs : (k : ℕ) → 1 ≤ k → slice_get (slice_set hung child.number true) k ≡ Some true → (child.number ≡ k) ⊎ (child.number ≢ k) → HangsSeen rows at (j + 1) k
+      hangs : (k : ℕ) → 1 ≤ k → slice_get (slice_set hung child.number true) k ≡ Some true → (child.number ≡ k) ⊎ (child.number ≢ k)
+          → HangsSeen rows at (j + 1) k
       hangs k s t (inr o) = other_hangs at j k child n o (m.hangs k s (sym (old k o) ∙ t))
       hangs k s t (inl e) = subst (HangsSeen rows at (j + 1)) e (record {
         row = its.row;
@@ -188,7 +207,8 @@ module _ (rows : List (Ended Row)) where
           only p i edge (inr x) = x
 
   -- all children of a row were seen
-  pub marks_row : (at : ℕ) (e : Ended Row) (hung : List Bool) → slice_get rows at ≡ Some e → Marks rows at (length (children_in (row_of e))) hung → Marks rows (at + 1) 0 hung
+  pub marks_row : (at : ℕ) (e : Ended Row) (hung : List Bool) → slice_get rows at ≡ Some e
+      → Marks rows at (length (children_in (row_of e))) hung → Marks rows (at + 1) 0 hung
   marks_row at e hung is m = record {
     long = m.long;
     unnamed = λ k s f p i z edge. m.unnamed k s f p i (back p i k edge z) edge;
@@ -230,6 +250,7 @@ module _ (rows : List (Ended Row)) where
   no_marks (suc n) zero e = cc
   no_marks (suc n) (suc k) e = no_marks n k e
 
+  -- at first nothing is marked
   pub marks_start : (hung : List Bool) → hung ≡ replicate (length rows) false → length hung ≡ length rows → Marks rows 0 0 hung
   marks_start hung is long = record {
     long = long;
@@ -245,13 +266,17 @@ module _ (rows : List (Ended Row)) where
   all_seen : (p i k : ℕ) → IsEdge rows p i k → Seen (length rows) 0 p i
   all_seen p i k edge = inl (slice_get_within rows p edge.above edge.is)
 
-  pub torn_unnamed : (k : ℕ) (hung : List Bool) → 1 ≤ k → k < length rows → slice_get hung k ≡ Some false → Marks rows (length rows) 0 hung → IsPlaced rows k → ⊥
+  -- a number that is not named hangs nowhere
+  pub torn_unnamed : (k : ℕ) (hung : List Bool) → 1 ≤ k → k < length rows → slice_get hung k ≡ Some false
+      → Marks rows (length rows) 0 hung → IsPlaced rows k → ⊥
   torn_unnamed k hung some low is m p =
       let r = got_here rows k low in
       let h = placed_at k r.0 some r.1 p in
       m.unnamed k some is h.parent h.at (all_seen h.parent h.at k h.edge) h.edge
 
-  pub hangs_now : (k : ℕ) (hung : List Bool) (e : Ended Row) → 1 ≤ k → slice_get rows k ≡ Some e → slice_get hung k ≡ Some true → Marks rows (length rows) 0 hung → HangsOnce rows k (row_of e)
+  -- a marked number hangs once
+  pub hangs_now : (k : ℕ) (hung : List Bool) (e : Ended Row) → 1 ≤ k → slice_get rows k ≡ Some e → slice_get hung k ≡ Some true
+      → Marks rows (length rows) 0 hung → HangsOnce rows k (row_of e)
   hangs_now k hung e some is t m =
       let h = m.hangs k some t in
       let row : h.row ≡ e = one_row h.row e (sym h.its ∙ is) in
@@ -267,16 +292,21 @@ module _ (rows : List (Ended Row)) where
       one_row : (x y : Ended Row) → Some x ≡ Some y → x ≡ y
       one_row x y e = cc
 
+  -- without a row there is no top
   pub torn_empty : length rows ≡ 0 → IsPlaced rows 0 → ⊥
   torn_empty z p = let low = slice_get_within rows 0 p.0 p.1 in omega arith
 
+  -- a top with another path than the empty one is none
   pub torn_top : (e : Ended Row) → slice_get rows 0 ≡ Some e → ((job_of (row_of e)).path ≡ [] → ⊥) → IsPlaced rows 0 → ⊥
   torn_top e is other p = other (ap (λ r. (job_of (row_of r)).path) (one_row e p.0 (sym is ∙ p.1)) ∙ p.2)
     where
       one_row : (x y : Ended Row) → Some x ≡ Some y → x ≡ y
       one_row x y e = cc
 
-  pub all_placed : (hung : List Bool) (e : Ended Row) → slice_get rows 0 ≡ Some e → (job_of (row_of e)).path ≡ [] → Marks rows (length rows) 0 hung →
+  -- where all are marked the rows make a tree
+  pub all_placed : (hung : List Bool) (e : Ended Row) → slice_get rows 0 ≡ Some e → (job_of (row_of e)).path ≡ []
+      → Marks rows (length rows) 0 hung →
       ((k : ℕ) → 1 ≤ k → k < length rows → slice_get hung k ≡ Some true) → (k : ℕ) → IsPlaced rows k
   all_placed hung e is top m all zero = (e, is, top)
-  all_placed hung e is top m all (suc k) = λ d here. hangs_now (suc k) hung d (omega arith) here (all (suc k) (omega arith) (slice_get_within rows (suc k) d here)) m
+  all_placed hung e is top m all (suc k) = λ d here. hangs_now (suc k) hung d (omega arith) here
+      (all (suc k) (omega arith) (slice_get_within rows (suc k) d here)) m

@@ -1,9 +1,11 @@
 -- Lists that the elements of a list give, after these change places.
-use Rattle.std.proofs.Common.{◌≡◌, ℕ, zero, suc, ◌+◌, ◌<◌, List, [], ◌∷◌, length, get_or, map, refl, sym, ◌∙◌, ap, subst, arith, IsPermutation, slice_set, slice_index_or, swap, sum_by}
+use Rattle.std.proofs.Common.{◌≡◌, ℕ, zero, suc, ◌+◌, ◌<◌, List, [], ◌∷◌, length, get_or, map, refl, sym, ◌∙◌, ap, subst, arith}
+use Rattle.std.proofs.Common.{IsPermutation, slice_set, slice_index_or, swap, sum_by}
 use Rattle.std.specs.List.{flat_map}
 use Rattle.std.proofs.lemmas.List.Sums.{sum_by-cons}
 use Rattle.std.proofs.lemmas.List.Folds.{flat_map-map}
-use Rattle.std.proofs.lemmas.List.Sorted.{IsPermutation-refl, IsPermutation-swap, IsPermutation-keeps, sum_by-IsPermutation, length_permutation}
+use Rattle.std.proofs.lemmas.List.Sorted.{IsPermutation-refl, IsPermutation-swap, IsPermutation-keeps, sum_by-IsPermutation}
+use Rattle.std.proofs.lemmas.List.Sorted.{length_permutation}
 use Rattle.lc_board.proofs.Weights.{weigh, times, only, permuted_lists}
 
 module _ {A B : Type 0} (f : A → B) where
@@ -21,7 +23,8 @@ module _ {A B : Type 0} (f : A → B) where
   map_swap [] i j = refl
   map_swap (d ∷ ys) i j =
       map_set (slice_set (d ∷ ys) i (slice_index_or (d ∷ ys) j d)) j (slice_index_or (d ∷ ys) i d)
-      ∙ ap (λ l. slice_set l j (f (slice_index_or (d ∷ ys) i d))) (map_set (d ∷ ys) i (slice_index_or (d ∷ ys) j d) ∙ ap (λ v. slice_set (map f (d ∷ ys)) i v) (map_index (d ∷ ys) j d))
+      ∙ ap (λ l. slice_set l j (f (slice_index_or (d ∷ ys) i d)))
+      (map_set (d ∷ ys) i (slice_index_or (d ∷ ys) j d) ∙ ap (λ v. slice_set (map f (d ∷ ys)) i v) (map_index (d ∷ ys) j d))
       ∙ ap (λ v. slice_set (slice_set (map f (d ∷ ys)) i (slice_index_or (map f (d ∷ ys)) j (f d))) j v) (map_index (d ∷ ys) i d)
 
   same_length : (xs : List A) → length (map f xs) ≡ length xs
@@ -32,6 +35,7 @@ sums : {A : Type 0} (f : A → ℕ) (xs : List A) → weigh f xs ≡ sum_by f xs
 sums f [] = refl
 sums f (x ∷ xs) = ap (λ n. f x + n) (sums f xs) ∙ sym (sum_by-cons f x xs)
 
+-- each number stands in both as often
 pub times_moved : (xs ys : List ℕ) → IsPermutation xs ys → (p : ℕ) → times p ys ≡ times p xs
 times_moved xs ys moved p = sums (only p 1) ys ∙ sum_by-IsPermutation (only p 1) xs ys moved ∙ sym (sums (only p 1) xs)
 
@@ -61,22 +65,27 @@ module _ {A B : Type 0} (f : A → List B) where
       record {
         at = swap p.at i j;
         is = ap (λ m. swap m i j) p.is ∙ sym (map_swap (λ k. get_or xs k d) p.at i j);
-        same = λ q. times_moved p.at (swap p.at i j) (IsPermutation-swap p.at (swap p.at i j) i j (omega arith) (omega arith) refl) q ∙ p.same q;
+        same = λ q. times_moved p.at (swap p.at i j) (IsPermutation-swap p.at (swap p.at i j) i j (omega arith) (omega arith) refl) q
+            ∙ p.same q;
       }
 
   picks : (d : A) (xs ys : List A) → IsPermutation xs ys → Picks d xs ys
-  picks d xs ys moved = IsPermutation-keeps xs (Picks d xs) (record { at = places xs; is = sym (at_places d xs); same = λ p. refl }) (step d xs) ys moved
+  picks d xs ys moved = IsPermutation-keeps xs (Picks d xs) (record { at = places xs; is = sym (at_places d xs); same = λ p. refl })
+      (step d xs) ys moved
 
   none_left : (ys : List A) → length ys ≡ 0 → ys ≡ []
   none_left [] e = refl
   none_left (y ∷ ys) e = absurd (omega arith)
 
+  -- what they give is the same, up to the order
   pub lists_moved : (xs ys : List A) → IsPermutation xs ys → IsPermutation (flat_map f xs) (flat_map f ys)
-  lists_moved [] ys moved = subst (λ l. IsPermutation [] (flat_map f l)) (sym (none_left ys (length_permutation [] ys moved))) (IsPermutation-refl [])
+  lists_moved [] ys moved =
+      subst (λ l. IsPermutation [] (flat_map f l)) (sym (none_left ys (length_permutation [] ys moved))) (IsPermutation-refl [])
   lists_moved (d ∷ xs) ys moved =
       let p = picks d (d ∷ xs) ys moved in
       let get : ℕ → A = λ k. get_or (d ∷ xs) k d in
-      let first : flat_map (λ k. f (get k)) (places (d ∷ xs)) ≡ flat_map f (d ∷ xs) = sym (flat_map-map f get (places (d ∷ xs))) ∙ ap (flat_map f) (at_places d (d ∷ xs)) in
+      let first : flat_map (λ k. f (get k)) (places (d ∷ xs)) ≡ flat_map f (d ∷ xs) = sym (flat_map-map f get (places (d ∷ xs)))
+      ∙ ap (flat_map f) (at_places d (d ∷ xs)) in
       let last : flat_map (λ k. f (get k)) p.at ≡ flat_map f ys = sym (flat_map-map f get p.at) ∙ ap (flat_map f) (sym p.is) in
       subst (λ l. IsPermutation l (flat_map f ys)) first
       (subst (IsPermutation (flat_map (λ k. f (get k)) (places (d ∷ xs)))) last

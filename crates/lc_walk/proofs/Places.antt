@@ -10,5 +10,6 @@ no_slash : (n : List ℕ) → AllByRecursion (λ b. (b == 47) ≡ false) n → l
 no_slash [] a = refl
 no_slash (b ∷ bs) a = ap (λ t. t || list_any (λ c. c == 47) bs) a.0 ∙ no_slash bs a.1
 
+-- a good name is one more
 pub names_of_path-path_in : (p n : List ℕ) → IsGoodName n → names_of_path (path_in p n) ≡ names_of_path p ++ n ∷ []
 names_of_path-path_in p n g = names_below p n g.0 (no_slash n g.1)

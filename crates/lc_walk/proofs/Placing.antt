@@ -21,13 +21,14 @@ use Rattle.lc_walk.proofs.Law.{row_here, job_or, job_at, inside, there, top_job,
 use Rattle.lc_board.proofs.Parents.{IsIn, parent, one_parent, posts_once, posted_above}
 use Rattle.lc_walk.proofs.ChildPlaces.{child_posted, one_place, posted_child}
 
-module _ (ask : Asked) (full : Bool) (capacity workers : ℕ) (top : JobModel) (h : List (Event JobModel Row)) (rows : List (Ended Row)) (answers : ℕ → Answers)
+module _ (ask : Asked) (full : Bool) (capacity workers : ℕ) (top : JobModel) (h : List (Event JobModel Row)) (rows : List (Ended Row))
+    (answers : ℕ → Answers)
     (walked : Walked ask full capacity workers top h rows answers) (whole : AreWhole rows) (at_top : top.path ≡ []) where
   abbrev job : ℕ → JobModel
   job i = job_at ask full capacity workers top h rows answers walked i
 
   abbrev children_of_number : ℕ → List (List ℕ × JobModel)
-  children_of_number i = children_at ask.archive (job i) (answers i)
+  children_of_number i = children_at ask.selection (job i) (answers i)
 
   job_here : (i : ℕ) (e : Ended Row) → slice_get rows i ≡ Some e → job_of (row_of e) ≡ job i
   job_here i e is = ap (job_or top) (sym is)
@@ -35,44 +36,67 @@ module _ (ask : Asked) (full : Bool) (capacity workers : ℕ) (top : JobModel) (
   -- a child that a row names was posted under its number
   named_here : (p : ℕ) (e : Ended Row) → slice_get rows p ≡ Some e → children_in (row_of e) ≡ named (children_of_number p) (posts_under p h)
   named_here p e is =
-      ap children_at_row (sym is) ∙ (fits ask full capacity workers top h rows answers walked whole p (there ask full capacity workers top h rows answers walked p (slice_get_within rows p e is))).children
+      ap children_at_row (sym is) ∙ (fits ask full capacity workers top h rows answers walked whole p
+      (there ask full capacity workers top h rows answers walked p (slice_get_within rows p e is))).children
 
-  in_posts : (p k : ℕ) (e : Ended Row) (i : ℕ) (c : ChildModel) → slice_get rows p ≡ Some e → slice_get (children_in (row_of e)) i ≡ Some c → c.number ≡ k → IsIn k (posts_under p h)
+  in_posts : (p k : ℕ) (e : Ended Row) (i : ℕ) (c : ChildModel) → slice_get rows p ≡ Some e
+      → slice_get (children_in (row_of e)) i ≡ Some c → c.number ≡ k → IsIn k (posts_under p h)
   in_posts p k e i c is here n =
-      subst (λ m. IsIn m (posts_under p h)) n (child_posted (children_of_number p) (posts_under p h) i c (ap (λ cs. slice_get cs i) (sym (named_here p e is)) ∙ here))
+      subst (λ m. IsIn m (posts_under p h)) n (child_posted (children_of_number p) (posts_under p h) i c
+      (ap (λ cs. slice_get cs i) (sym (named_here p e is)) ∙ here))
 
-  hangs : (k : ℕ) (e : Ended Row) → slice_get rows k ≡ Some e → (p : ℕ) → status h p ≢ Absent → IsIn k (posts_under p h) → HangsOnce rows k (row_of e)
+  hangs : (k : ℕ) (e : Ended Row) → slice_get rows k ≡ Some e → (p : ℕ) → status h p ≢ Absent → IsIn k (posts_under p h)
+      → HangsOnce rows k (row_of e)
   hangs k e is p a i =
       let r = row_here rows p (inside ask full capacity workers top h rows answers walked p a) in
       let f = fits ask full capacity workers top h rows answers walked whole p a in
-      let c = posted_child (job p).path job (children_of_number p) (posts_under p h) k f.jobs f.named_so (own_jobs ask full capacity workers top h rows answers walked p) i in
+      let c = posted_child (job p).path job (children_of_number p) (posts_under p h) k f.jobs f.named_so
+      (own_jobs ask full capacity workers top h rows answers walked p) i in
       record {
         parent = p;
         at = c.at;
         lower = posted_above capacity workers top h walked.legal p k i;
-        edge = record { above = r.row; is = r.is; child = c.child; here = ap (λ cs. slice_get cs c.at) (named_here p r.row r.is) ∙ c.here; number = c.number };
-        path = ap (λ (j : JobModel). j.path) (job_here k e is) ∙ c.path ∙ ap (λ (j : JobModel). path_in j.path c.child.name) (sym (job_here p r.row r.is));
+        edge = record {
+          above = r.row;
+          is = r.is;
+          child = c.child;
+          here = ap (λ cs. slice_get cs c.at) (named_here p r.row r.is)
+              ∙ c.here;
+          number = c.number;
+        };
+        path = ap (λ (j : JobModel). j.path) (job_here k e is) ∙ c.path ∙ ap (λ (j : JobModel). path_in j.path c.child.name)
+            (sym (job_here p r.row r.is));
         only = λ q n edge.
-            let same : q ≡ p = one_parent capacity workers top h walked.legal q p k (in_posts q k edge.above n edge.child edge.is edge.here edge.number) i in
-            let theirs : slice_get (named (children_of_number q) (posts_under q h)) n ≡ Some edge.child = ap (λ cs. slice_get cs n) (sym (named_here q edge.above edge.is)) ∙ edge.here in (
+            let same : q ≡ p = one_parent capacity workers top h walked.legal q p k
+            (in_posts q k edge.above n edge.child edge.is edge.here edge.number) i in
+            let theirs : slice_get (named (children_of_number q) (posts_under q h)) n ≡ Some edge.child = ap (λ cs. slice_get cs n)
+            (sym (named_here q edge.above edge.is)) ∙ edge.here in (
               same,
-              one_place (children_of_number p) (posts_under p h) n c.at edge.child c.child (posts_once capacity workers top h walked.legal p)
-                  (subst (λ x. slice_get (named (children_of_number x) (posts_under x h)) n ≡ Some edge.child) same theirs) c.here (edge.number ∙ sym c.number),
+              one_place (children_of_number p) (posts_under p h) n c.at edge.child c.child
+                  (posts_once capacity workers top h walked.legal p)
+                  (subst (λ x. slice_get (named (children_of_number x) (posts_under x h)) n ≡ Some edge.child) same theirs) c.here
+                  (edge.number ∙ sym c.number),
             );
       }
 
   top_placed : IsPlaced rows 0
   top_placed =
-      let r = row_here rows 0 (inside ask full capacity workers top h rows answers walked 0 (start h)) in
-      (r.row, r.is, ap (λ (j : JobModel). j.path) (job_here 0 r.row r.is ∙ top_job ask full capacity workers top h rows answers walked) ∙ at_top)
+      let r = row_here rows 0 (inside ask full capacity workers top h rows answers walked 0 (start h)) in (
+        r.row,
+        r.is,
+        ap (λ (j : JobModel). j.path) (job_here 0 r.row r.is ∙ top_job ask full capacity workers top h rows answers walked)
+            ∙ at_top,
+      )
 
   below_placed : (k : ℕ) (e : Ended Row) → slice_get rows (suc k) ≡ Some e → HangsOnce rows (suc k) (row_of e)
-  below_placed k e is = at (parent capacity workers h walked.legal (suc k) (there ask full capacity workers top h rows answers walked (suc k) (slice_get_within rows (suc k) e is)))
+  below_placed k e is = at (parent capacity workers h walked.legal (suc k)
+      (there ask full capacity workers top h rows answers walked (suc k) (slice_get_within rows (suc k) e is)))
     where
       at : (suc k ≡ 0) ⊎ ((p : ℕ) × (status h p ≢ Absent) × IsIn (suc k) (posts_under p h)) → HangsOnce rows (suc k) (row_of e)
       at (inl z) = absurd (omega arith)
       at (inr p) = hangs (suc k) e is p.0 p.1 p.2
 
+  -- each number hangs where the row above says
   pub placed : (k : ℕ) → IsPlaced rows k
   placed zero = top_placed
   placed (suc k) = below_placed k

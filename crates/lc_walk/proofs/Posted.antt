@@ -1,5 +1,6 @@
 -- What posts leave of a pass.
-use Rattle.std.proofs.Common.{◌≡◌, ◌≢◌, ℕ, zero, suc, List, [], ◌∷◌, ◌++◌, length, take, refl, sym, ◌∙◌, ap, subst, None, Ok, Err, append_assoc, append-nil}
+use Rattle.std.proofs.Common.{◌≡◌, ◌≢◌, ℕ, zero, suc, List, [], ◌∷◌, ◌++◌, length, take, refl, sym, ◌∙◌, ap, subst, None, Ok, Err}
+use Rattle.std.proofs.Common.{append_assoc, append-nil}
 use Rattle.std.specs.List.{AllByRecursion}
 use Rattle.std.proofs.lemmas.List.{map-append}
 use Rattle.std.proofs.Math.Seq.{take-append_seam}
@@ -20,14 +21,17 @@ Events = List (Event JobModel Row)
 
 -- ---- what posts leave as it was
 
+-- what was posted before, and what was posted since
 pub posts_come : (s m : Events) → AllByRecursion IsPost s → events.posts_held (s ++ m) ≡ events.posts_held m ++ events.posts_held s
 posts_come [] m a = sym (append-nil (events.posts_held m))
-posts_come (Post w p i j ∷ s) m a = ap (λ x. x ++ (i, j) ∷ []) (posts_come s m a.1) ∙ append_assoc (events.posts_held m) (events.posts_held s) ((i, j) ∷ [])
+posts_come (Post w p i j ∷ s) m a =
+    ap (λ x. x ++ (i, j) ∷ []) (posts_come s m a.1) ∙ append_assoc (events.posts_held m) (events.posts_held s) ((i, j) ∷ [])
 posts_come (Claim w i j ∷ s) m a = absurd a.0
 posts_come (Return w i r ∷ s) m a = absurd a.0
 posts_come (Fault w i r ∷ s) m a = absurd a.0
 posts_come (Over w ∷ s) m a = absurd a.0
 
+-- a post leaves the claim as it was
 pub job_stays : (s m : Events) → AllByRecursion IsPost s → events.job_held (s ++ m) ≡ events.job_held m
 job_stays [] m a = refl
 job_stays (Post w p i j ∷ s) m a = job_stays s m a.1
@@ -50,24 +54,39 @@ both_only (e ∷ s) m a b = (a.0, both_only s m a.1 b)
 
 -- ---- posts of a pass
 
+-- nothing was posted
 pub posted_none : (p : Pass JobModel Row) → HasPosted p p []
 posted_none p = record { worker = refl; fuller = λ f. f; since = []; mine = refl; only = tt; jobs_are = refl }
 
-abbrev posted_child : (p : Pass JobModel Row) (i : ℕ) (j : JobModel) (child : List ℕ × JobModel) → j ≡ child.1 → HasPosted p (adding p (Post p.worker (held_number p) i j)) (child.1 ∷ [])
-posted_child p i j child e = record { worker = refl; fuller = λ f. f; since = Post p.worker (held_number p) i j ∷ []; mine = refl; only = (tt, tt); jobs_are = ap (λ k. k ∷ []) e }
+abbrev posted_child : (p : Pass JobModel Row) (i : ℕ) (j : JobModel) (child : List ℕ × JobModel) → j ≡ child.1
+    → HasPosted p (adding p (Post p.worker (held_number p) i j)) (child.1 ∷ [])
+posted_child p i j child e = record {
+  worker = refl;
+  fuller = λ f. f;
+  since = Post p.worker (held_number p) i j ∷ [];
+  mine = refl;
+  only = (tt, tt);
+  jobs_are = ap (λ k. k ∷ []) e;
+}
 
 -- a child directory was posted, and noted or not
-pub posted_noted : (p : Pass JobModel Row) (i : ℕ) (j : JobModel) (child : List ℕ × JobModel) (before after : List ChildModel) → j ≡ child.1 →
-    after ≡ before ++ record { name = child.0; number = i } ∷ [] → PostsMore (child ∷ []) p (adding p (Post p.worker (held_number p) i j)) before after (Ok tt)
+pub posted_noted : (p : Pass JobModel Row) (i : ℕ) (j : JobModel) (child : List ℕ × JobModel) (before after : List ChildModel)
+    → j ≡ child.1 →
+    after ≡ before ++ record { name = child.0; number = i } ∷ []
+    → PostsMore (child ∷ []) p (adding p (Post p.worker (held_number p) i j)) before after (Ok tt)
 posted_noted p i j child before after e is = (posted_child p i j child e, is)
 
-pub posted_unnoted : (p : Pass JobModel Row) (i : ℕ) (j : JobModel) (child : List ℕ × JobModel) (before after : List ChildModel) → j ≡ child.1 →
+-- a post whose number could not be noted
+pub posted_unnoted : (p : Pass JobModel Row) (i : ℕ) (j : JobModel) (child : List ℕ × JobModel) (before after : List ChildModel)
+    → j ≡ child.1 →
     PostsMore (child ∷ []) p (adding p (Post p.worker (held_number p) i j)) before after (Err Memory)
 posted_unnoted p i j child before after e = (1, posted_child p i j child e)
 
+-- a post that was answered Full posts nothing
 pub posted_full : (p : Pass JobModel Row) → HasPosted p (filled p) []
 posted_full p = record { worker = refl; fuller = λ f. refl; since = []; mine = refl; only = tt; jobs_are = refl }
 
+-- posts, and more posts
 pub posted_then : (p q r : Pass JobModel Row) (js ks : List JobModel) → HasPosted p q js → HasPosted q r ks → HasPosted p r (js ++ ks)
 posted_then p q r js ks a b = record {
   worker = b.worker ∙ a.worker;
@@ -82,20 +101,26 @@ posted_then p q r js ks a b = record {
       ∙ ap (λ x. js ++ x) b.jobs_are;
 }
 
+-- a post leaves the claim held
 pub still_holds : (p q : Pass JobModel Row) (js : List JobModel) → HasPosted p q js → holding p ≢ None → holding q ≢ None
 still_holds p q js a n e = n (sym (ap events.holding a.mine ∙ claim_stays a.since p.mine a.only) ∙ e)
 
 -- ---- the children's names with the numbers of their posts
 
-pub named_both : (cs ds : List (List ℕ × JobModel)) (ps qs : List (ℕ × JobModel)) → jobs_of ps ≡ jobs_of cs → named (cs ++ ds) (ps ++ qs) ≡ named cs ps ++ named ds qs
+-- the children of both with the numbers of both
+pub named_both : (cs ds : List (List ℕ × JobModel)) (ps qs : List (ℕ × JobModel)) → jobs_of ps ≡ jobs_of cs
+    → named (cs ++ ds) (ps ++ qs) ≡ named cs ps ++ named ds qs
 named_both [] ds [] qs e = refl
 named_both [] ds (p ∷ ps) qs e = cc
 named_both (c ∷ cs) ds [] qs e = cc
-named_both (c ∷ cs) ds (p ∷ ps) qs e = let rest : jobs_of ps ≡ jobs_of cs = cc in ap (λ x. record { name = c.0; number = p.0 } ∷ x) (named_both cs ds ps qs rest)
+named_both (c ∷ cs) ds (p ∷ ps) qs e = let rest : jobs_of ps ≡ jobs_of cs = cc in ap (λ x. record { name = c.0; number = p.0 } ∷ x)
+    (named_both cs ds ps qs rest)
 
 -- after some child directories one more
-pub posted_more : (p q r : Pass JobModel Row) (done : List (List ℕ × JobModel)) (c : List ℕ × JobModel) (before after : List ChildModel) (a : HasPosted p q (jobs_of done)) →
-    before ≡ named done (events.posts_held a.since) → PostsMore (c ∷ []) q r before after (Ok tt) → (x : HasPosted p r (jobs_of (done ++ c ∷ []))) × (after ≡ named (done ++ c ∷ []) (events.posts_held x.since))
+pub posted_more : (p q r : Pass JobModel Row) (done : List (List ℕ × JobModel)) (c : List ℕ × JobModel)
+    (before after : List ChildModel) (a : HasPosted p q (jobs_of done)) →
+    before ≡ named done (events.posts_held a.since) → PostsMore (c ∷ []) q r before after (Ok tt)
+    → (x : HasPosted p r (jobs_of (done ++ c ∷ []))) × (after ≡ named (done ++ c ∷ []) (events.posts_held x.since))
 unfolding posted_then
 posted_more p q r done c before after a names more =
     let e = map-append (λ (x : List ℕ × JobModel). x.1) done (c ∷ []) in
@@ -115,35 +140,50 @@ posted_more p q r done c before after a names more =
     )
 
 -- all were posted
-pub posted_all : (p q : Pass JobModel Row) (done rest all : List (List ℕ × JobModel)) (children : List ChildModel) → done ++ rest ≡ all → rest ≡ [] →
-    (x : HasPosted p q (jobs_of done)) × (children ≡ named done (events.posts_held x.since)) → (x : HasPosted p q (jobs_of all)) × (children ≡ named all (events.posts_held x.since))
+pub posted_all : (p q : Pass JobModel Row) (done rest all : List (List ℕ × JobModel)) (children : List ChildModel) → done ++ rest ≡ all
+    → rest ≡ [] →
+    (x : HasPosted p q (jobs_of done)) × (children ≡ named done (events.posts_held x.since))
+    → (x : HasPosted p q (jobs_of all)) × (children ≡ named all (events.posts_held x.since))
 posted_all p q done rest all children e none x =
     subst (λ (cs : List (List ℕ × JobModel)). (x : HasPosted p q (jobs_of cs)) × (children ≡ named cs (events.posts_held x.since)))
     (sym (append-nil done) ∙ ap (λ r. done ++ r) (sym none) ∙ e) x
 
 -- the first jobs of all
 firsts : (done rest all : List (List ℕ × JobModel)) → done ++ rest ≡ all → jobs_of done ≡ take (length (jobs_of done)) (jobs_of all)
-firsts done rest all e = sym (take-append_seam (jobs_of done) (jobs_of rest)) ∙ ap (take (length (jobs_of done))) (sym (map-append (λ (x : List ℕ × JobModel). x.1) done rest) ∙ ap jobs_of e)
+firsts done rest all e = sym (take-append_seam (jobs_of done) (jobs_of rest)) ∙ ap (take (length (jobs_of done)))
+    (sym (map-append (λ (x : List ℕ × JobModel). x.1) done rest) ∙ ap jobs_of e)
 
 -- of all child directories these were posted, and of the next some
-pub posted_first : (p q r : Pass JobModel Row) (done rest all : List (List ℕ × JobModel)) (c : List ℕ × JobModel) (n : ℕ) → done ++ c ∷ rest ≡ all →
+pub posted_first : (p q r : Pass JobModel Row) (done rest all : List (List ℕ × JobModel)) (c : List ℕ × JobModel) (n : ℕ)
+    → done ++ c ∷ rest ≡ all →
     HasPosted p q (jobs_of done) → HasPosted q r (take n (c.1 ∷ [])) → (k : ℕ) × HasPosted p r (take k (jobs_of all))
-posted_first p q r done rest all c zero e a b = (length (jobs_of done), subst (HasPosted p r) (append-nil (jobs_of done) ∙ firsts done (c ∷ rest) all e) (posted_then p q r (jobs_of done) [] a b))
-posted_first p q r done rest all c (suc n) e a b =
-    (length (jobs_of (done ++ c ∷ [])), subst (HasPosted p r) (sym (map-append (λ (x : List ℕ × JobModel). x.1) done (c ∷ [])) ∙ firsts (done ++ c ∷ []) rest all (append_assoc done (c ∷ []) rest ∙ e)) (posted_then p q r (jobs_of done) (c.1 ∷ []) a (one n b)))
+posted_first p q r done rest all c zero e a b = (
+  length (jobs_of done),
+  subst (HasPosted p r)
+      (append-nil (jobs_of done) ∙ firsts done (c ∷ rest) all e) (posted_then p q r (jobs_of done) [] a b),
+)
+posted_first p q r done rest all c (suc n) e a b = (
+  length (jobs_of (done ++ c ∷ [])),
+  subst (HasPosted p r)
+      (sym (map-append (λ (x : List ℕ × JobModel). x.1) done (c ∷ [])) ∙ firsts (done ++ c ∷ []) rest all
+      (append_assoc done (c ∷ []) rest ∙ e)) (posted_then p q r (jobs_of done) (c.1 ∷ []) a (one n b)),
+)
   where
     one : (n : ℕ) → HasPosted q r (take (suc n) (c.1 ∷ [])) → HasPosted q r (c.1 ∷ [])
     one zero h = h
     one (suc n) h = h
 
 -- why the posting of all was refused, where that of the next was
-pub refused_first : (p q r : Pass JobModel Row) (done rest all : List (List ℕ × JobModel)) (c : List ℕ × JobModel) (cause : Cause) → done ++ c ∷ rest ≡ all →
+pub refused_first : (p q r : Pass JobModel Row) (done rest all : List (List ℕ × JobModel)) (c : List ℕ × JobModel) (cause : Cause)
+    → done ++ c ∷ rest ≡ all →
     HasPosted p q (jobs_of done) → RefusesPost (c.1 ∷ []) q r cause → RefusesPost (jobs_of all) p r cause
 refused_first p q r done rest all c Memory e a b = posted_first p q r done rest all c b.0 e a b.1
 refused_first p q r done rest all c TooManyDirs e a b = let h = posted_first p q r done rest all c b.0 e a b.1 in (h.0, h.1, b.2)
 refused_first p q r done rest all c TooDeep e a b = b
 
-pub refused_holds : (p q : Pass JobModel Row) (jobs : List JobModel) (cause : Cause) → RefusesPost jobs p q cause → holding p ≢ None → holding q ≢ None
+-- so does a post that was refused
+pub refused_holds : (p q : Pass JobModel Row) (jobs : List JobModel) (cause : Cause) → RefusesPost jobs p q cause → holding p ≢ None
+    → holding q ≢ None
 refused_holds p q jobs Memory x n = still_holds p q _ x.1 n
 refused_holds p q jobs TooManyDirs x n = still_holds p q _ x.1 n
 refused_holds p q jobs TooDeep x n = absurd x

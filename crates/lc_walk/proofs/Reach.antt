@@ -1,5 +1,6 @@
 -- The numbers that a walk of a history's tree reaches: each once.
-use Rattle.std.proofs.Common.{◌≡◌, ◌≢◌, ℕ, zero, suc, ◌+◌, ◌<◌, ◌≤◌, ◌==◌, Bool, true, false, cond, List, [], ◌∷◌, ◌++◌, refl, sym, ◌∙◌, ap, arith, IsPermutation, ◌⊎◌, inl, inr}
+use Rattle.std.proofs.Common.{◌≡◌, ◌≢◌, ℕ, zero, suc, ◌+◌, ◌<◌, ◌≤◌, ◌==◌, Bool, true, false, cond, List, [], ◌∷◌, ◌++◌, refl, sym, ◌∙◌}
+use Rattle.std.proofs.Common.{ap, arith, IsPermutation, ◌⊎◌, inl, inr}
 use Rattle.std.proofs.lemmas.Bool.{eqb-true, cases_lt}
 use Rattle.std.specs.List.{flat_map}
 use Rattle.lc_board.specs.State.{Absent, status}
@@ -30,9 +31,11 @@ module _ {J R : Type 0} (c n : ℕ) (top : J) (h : List (Event J R)) (room : 1 �
       let same : below (weight k) h i ≡ below (weight m) h i =
       weigh-on (λ post. weight k post.0) (λ post. weight m post.0) (posts_under i h)
       (each-map (Known c top h i) (λ post. weight k post.0 ≡ weight m post.0)
-      (λ post d. let up : i < post.0 = d.above in enough k m post.0 d.there (omega arith) (omega arith)) (posts_under i h) (known c n top h legal i)) in
+      (λ post d. let up : i < post.0 = d.above in enough k m post.0 d.there (omega arith) (omega arith)) (posts_under i h)
+      (known c n top h legal i)) in
       weight_is k i ∙ ap (λ x. g i + x) same ∙ sym (weight_is m i)
 
+  -- what is summed over the numbers that are reached is what is summed over all
   pub reach_weight : (k : ℕ) → c ≤ k → weight k 0 ≡ weigh g (numbers h)
   reach_weight k deep =
       let twice = counted_twice c n h legal (weight c) in
@@ -51,6 +54,7 @@ last_is : (b : Bool) (m : ℕ) → b ≡ false → m + (cond b 1 0 + 0) ≡ m
 last_is true m e = cc
 last_is false m e = omega arith
 
+-- a number from the bound on is not below it
 pub times_past : (p n : ℕ) → n ≤ p → times p (numbers_below n) ≡ 0
 times_past p zero l = refl
 times_past p (suc n) l =
@@ -67,7 +71,8 @@ not_last : (p n : ℕ) → p < n → (b : Bool) → (p == n) ≡ b → only p 1 
 not_last p n l true e = let same = eqb-true p n e in absurd (omega arith)
 not_last p n l false e = ap (λ b. cond b 1 0) e
 
-below_or_last : (p n : ℕ) → p < suc n → (p < n → times p (numbers_below n) ≡ 1) → (p < n) ⊎ (n ≤ p) → times p (numbers_below n ++ n ∷ []) ≡ 1
+below_or_last : (p n : ℕ) → p < suc n → (p < n → times p (numbers_below n) ≡ 1) → (p < n) ⊎ (n ≤ p)
+    → times p (numbers_below n ++ n ∷ []) ≡ 1
 below_or_last p n l rec (inl b) =
     let joined = weigh-append (only p 1) (numbers_below n) (n ∷ []) in
     let first = rec b in
@@ -79,11 +84,13 @@ below_or_last p n l rec (inr b) =
     let here : only p 1 n ≡ 1 = only_same p 1 n (omega arith) in
     omega arith
 
+-- a number below the bound is so once
 pub times_below : (p n : ℕ) → p < n → times p (numbers_below n) ≡ 1
 times_below p zero l = absurd (omega arith)
 times_below p (suc n) l = below_or_last p n l (times_below p n) (cases_lt p n)
 
 module _ {J R : Type 0} (c n : ℕ) (h : List (Event J R)) (legal : IsLegal c n h) (m : ℕ) (has : HasNumbers m h) where
+  -- the numbers of the history are those below the count
   pub all_numbers : (p : ℕ) → times p (numbers h) ≡ times p (numbers_below m)
   all_numbers p = at (cases_lt p m)
     where
@@ -94,8 +101,10 @@ module _ {J R : Type 0} (c n : ℕ) (h : List (Event J R)) (legal : IsLegal c n 
 -- each number below m is reached once, and no other
 pub reach_times : {J R : Type 0} (c n : ℕ) (top : J) (h : List (Event J R)) → 1 ≤ c → IsLegal c n h → (m : ℕ) → HasNumbers m h →
     (depth : ℕ) → c ≤ depth → (p : ℕ) → times p (reach h depth 0) ≡ times p (numbers_below m)
-reach_times c n top h room legal m has depth deep p = reach_weight c n top h room legal (only p 1) depth deep ∙ all_numbers c n h legal m has p
+reach_times c n top h room legal m has depth deep p =
+    reach_weight c n top h room legal (only p 1) depth deep ∙ all_numbers c n h legal m has p
 
+-- so all are reached, each once
 pub reached : {J R : Type 0} (c n : ℕ) (top : J) (h : List (Event J R)) → 1 ≤ c → IsLegal c n h → (m : ℕ) → HasNumbers m h →
     (depth : ℕ) → c ≤ depth → IsPermutation (reach h depth 0) (numbers_below m)
 reached c n top h room legal m has depth deep =

@@ -10,6 +10,7 @@ cond_moved : {A : Type 0} (b : Bool) (xs ys : List A) → IsPermutation xs ys �
 cond_moved true xs ys m = m
 cond_moved false xs ys m = IsPermutation-refl []
 
+-- reports of what was found in any order are the same
 pub report_law : ReportLaw
 report_law files xs ys r moved is =
     let held : TallyModel = record { rows = r.rows.items; totals = r.totals } in
@@ -18,8 +19,10 @@ report_law files xs ys r moved is =
     record {
       tally = stands.tally;
       totals = stands.totals;
-      directories = is.directories ∙ sym (length_permutation (directories_of xs) (directories_of ys) (lists_moved directory_in xs ys moved));
-      files_are = IsPermutation-trans _ _ _ (IsPermutation-sym _ _ (cond_moved files (files_of xs) (files_of ys) (lists_moved file_in xs ys moved))) is.files_are;
+      directories =
+          is.directories ∙ sym (length_permutation (directories_of xs) (directories_of ys) (lists_moved directory_in xs ys moved));
+      files_are = IsPermutation-trans _ _ _ (IsPermutation-sym _ _
+          (cond_moved files (files_of xs) (files_of ys) (lists_moved file_in xs ys moved))) is.files_are;
       file_order = is.file_order;
       faults_are = IsPermutation-trans _ _ _ (IsPermutation-sym _ _ (lists_moved fault_in xs ys moved)) is.faults_are;
       fault_order = is.fault_order;

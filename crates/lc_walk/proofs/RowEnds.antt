@@ -1,5 +1,6 @@
 -- The rows by which a worker ends its claims are lawful.
-use Rattle.std.proofs.Common.{◌≡◌, ◌≢◌, ℕ, List, [], ◌++◌, map, take, cond, refl, sym, ◌∙◌, ap, subst, Option, Some, None, Result, Ok, Err, inl, inr, arith}
+use Rattle.std.proofs.Common.{◌≡◌, ◌≢◌, ℕ, List, [], ◌++◌, map, take, cond, refl, sym, ◌∙◌, ap, subst, Option, Some, None, Result, Ok}
+use Rattle.std.proofs.Common.{Err, inl, inr, arith}
 use Rattle.std.proofs.Math.Seq.{take-length}
 use Rattle.std.proofs.lemmas.List.Sorted.{IsPermutation-append_comm}
 use Rattle.std.specs.List.Sorted.{IsStrictlySortedBy}
@@ -15,13 +16,13 @@ use Rattle.lc_level.specs.Answers.{Answers, no_answers}
 use Rattle.lc_level.specs.CountedNames.{IsCounted}
 use Rattle.lc_level.specs.Job.{JobModel}
 use Rattle.lc_level.specs.LeftIn.{bytes_of}
-use Rattle.lc_level.specs.Level.{listed_level, level}
+use Rattle.lc_level.specs.Level.{IsLevelOf, level, walked_in}
 use Rattle.lc_level.specs.Opens.{IsOpened, OpensLevel}
 use Rattle.lc_level.specs.Tidy.{IsTidy}
 use Rattle.lc_level.specs.TreeAnswers.{MayAnswer}
 use Rattle.lc_level.proofs.CountedLevels.{opened_level, counted_level}
 use Rattle.lc_walk.specs.Found.{children_of, children_at}
-use Rattle.lc_walk.specs.Lawful.{Asked, IsCause, jobs_of, named, files_of, files_at}
+use Rattle.lc_walk.specs.Lawful.{Asked, IsCause, jobs_of, named, counted_files, files_at}
 use Rattle.lc_walk.specs.Posting.{HasPosted, RefusesPost}
 use Rattle.lc_walk.specs.RowViews.{ListedRowModel}
 use Rattle.lc_walk.specs.Serving.{HoldsJob, GivesUp, AddsFiles, GoesOn, Serves}
@@ -46,7 +47,8 @@ no_entries = record { good = refl; order = tt; few = omega arith }
 
 module _ (ask : Asked) (lists : List ℕ → Listings) (gives : List ℕ → Contents) where
   abbrev Lawful : Pass JobModel Row → JobModel → Cause → Answers → Type 0
-  Lawful p j c a = IsLawfulEnd ask p.full (MayAnswer lists gives) (job_held p.mine) (posts_held p.mine) (ended.Returned (Broken (record { job = j; cause = c }))) a
+  Lawful p j c a = IsLawfulEnd ask p.full (MayAnswer lists gives) (job_held p.mine) (posts_held p.mine)
+      (ended.Returned (Broken (record { job = j; cause = c }))) a
 
   -- a directory was given up before anything was posted
   pub memory_end : (p : Pass JobModel Row) (j : JobModel) → HoldsJob j p → Lawful p j Memory no_answers
@@ -54,10 +56,11 @@ module _ (ask : Asked) (lists : List ℕ → Listings) (gives : List ℕ → Con
     job_is = h.job_is;
     tidy = no_entries;
     says = record { posted = 0; posts_are = ap jobs_of h.none; cause_is = tt };
-    may = inl refl;
+    may = inl (refl, h.none);
   }
 
-  unopened_end : (p : Pass JobModel Row) (j : JobModel) (c : Cause) → HoldsJob j p → OpensLevel lists gives ask.archive j (Err (unlisted.Broken c)) → (a : Answers) × Lawful p j c a
+  unopened_end : (p : Pass JobModel Row) (j : JobModel) (c : Cause) → HoldsJob j p
+      → OpensLevel lists gives ask.selection j (Err (unlisted.Broken c)) → (a : Answers) × Lawful p j c a
   unopened_end p j Memory h o = (no_answers, memory_end p j h)
   unopened_end p j TooManyDirs h o = absurd o
   unopened_end p j TooDeep h o = (
@@ -70,13 +73,17 @@ module _ (ask : Asked) (lists : List ℕ → Listings) (gives : List ℕ → Con
     },
   )
 
-  pub serves_unopened : (p : Pass JobModel Row) (j : JobModel) (c : Cause) (t : TallyModel) (result : Result (Unit {0}) AllocError) → HoldsJob j p →
-      OpensLevel lists gives ask.archive j (Err (unlisted.Broken c)) → GivesUp c result →
+  -- a directory that was given up before it was opened
+  pub serves_unopened : (p : Pass JobModel Row) (j : JobModel) (c : Cause) (t : TallyModel) (result : Result (Unit {0}) AllocError)
+      → HoldsJob j p →
+      OpensLevel lists gives ask.selection j (Err (unlisted.Broken c)) → GivesUp c result →
       Serves ask (MayAnswer lists gives) p (after_give p (Broken (record { job = j; cause = c }))) t t result
-  serves_unopened p j c t result h o g = let e = unopened_end p j c h o in serves_broken ask (MayAnswer lists gives) p j c e.0 t t result e.1 g (λ n. refl)
+  serves_unopened p j c t result h o g = let e = unopened_end p j c h o in serves_broken ask (MayAnswer lists gives) p j c e.0 t t
+      result e.1 g (λ n. refl)
 
+  -- a directory at fault
   pub serves_faulted : (p : Pass JobModel Row) (j : JobModel) (place : Place) (word : FaultWord) (t : TallyModel) → HoldsJob j p →
-      OpensLevel lists gives ask.archive j (Err (unlisted.Faulted place word)) →
+      OpensLevel lists gives ask.selection j (Err (unlisted.Faulted place word)) →
       GoesOn ask (MayAnswer lists gives) p (after_fault p (Faulted (record { job = j; place = place; word = word }))) (Some t) (Some t)
   serves_faulted p j place word t h o = works_fault ask (MayAnswer lists gives) p _ o.0 (Some t) (record {
     job_is = h.job_is;
@@ -86,9 +93,9 @@ module _ (ask : Asked) (lists : List ℕ → Listings) (gives : List ℕ → Con
   })
 
   -- a directory was opened, and child directories were posted
-  module _ (p q : Pass JobModel Row) (j : JobModel) (o : Opened) (h : HoldsJob j p) (c : IsOpened lists gives ask.archive j o) where
-    same_children : children_at ask.archive j c.answers ≡ o.children.items
-    same_children = ap children_of (opened_level lists gives ask.archive j o c)
+  module _ (p q : Pass JobModel Row) (j : JobModel) (o : Opened) (h : HoldsJob j p) (c : IsOpened lists gives ask.selection j o) where
+    same_children : children_at ask.selection j c.answers ≡ o.children.items
+    same_children = let l = opened_level lists gives ask.selection j o c in ap children_of l.listed ∙ l.walks
 
     job_now : (jobs : List JobModel) → HasPosted p q jobs → job_held q.mine ≡ Some j
     job_now jobs x = ap job_held x.mine ∙ job_stays x.since p.mine x.only ∙ h.job_is
@@ -96,25 +103,35 @@ module _ (ask : Asked) (lists : List ℕ → Listings) (gives : List ℕ → Con
     posts_now : (jobs : List JobModel) (x : HasPosted p q jobs) → posts_held q.mine ≡ posts_held x.since
     posts_now jobs x = ap posts_held x.mine ∙ posts_come x.since p.mine x.only ∙ ap (λ ps. ps ++ posts_held x.since) h.none
 
-    broken_end : (cause : Cause) (n : ℕ) → HasPosted p q (take n (jobs_of o.children.items)) → IsCause ask q.full j c.answers cause → Lawful q j cause c.answers
+    broken_end : (cause : Cause) (n : ℕ) → HasPosted p q (take n (jobs_of o.children.items)) → IsCause ask q.full j c.answers cause
+        → Lawful q j cause c.answers
     broken_end cause n x is = record {
       job_is = job_now _ x;
       tidy = c.tidy;
-      says = record { posted = n; posts_are = ap jobs_of (posts_now _ x) ∙ x.jobs_are ∙ ap (λ cs. take n (jobs_of cs)) (sym same_children); cause_is = is };
+      says = record {
+        posted = n;
+        posts_are = ap jobs_of (posts_now _ x) ∙ x.jobs_are ∙ ap (λ cs. take n (jobs_of cs))
+            (sym same_children);
+        cause_is = is;
+      };
       may = inr c.may;
     }
 
     -- not all were posted
-    pub serves_refused : (cause : Cause) (t : TallyModel) (result : Result (Unit {0}) AllocError) → RefusesPost (jobs_of o.children.items) p q cause → GivesUp cause result →
+    pub serves_refused : (cause : Cause) (t : TallyModel) (result : Result (Unit {0}) AllocError)
+        → RefusesPost (jobs_of o.children.items) p q cause → GivesUp cause result →
         Serves ask (MayAnswer lists gives) p (after_give q (Broken (record { job = j; cause = cause }))) t t result
-    serves_refused Memory t result x g = then_serves ask (MayAnswer lists gives) p q _ t t result (works_posts ask (MayAnswer lists gives) p q _ (Some t) x.1)
+    serves_refused Memory t result x g =
+        then_serves ask (MayAnswer lists gives) p q _ t t result (works_posts ask (MayAnswer lists gives) p q _ (Some t) x.1)
         (serves_broken ask (MayAnswer lists gives) q j Memory c.answers t t result (broken_end Memory x.0 x.1 tt) g (λ n. refl))
-    serves_refused TooManyDirs t result x g = then_serves ask (MayAnswer lists gives) p q _ t t result (works_posts ask (MayAnswer lists gives) p q _ (Some t) x.1)
+    serves_refused TooManyDirs t result x g =
+        then_serves ask (MayAnswer lists gives) p q _ t t result (works_posts ask (MayAnswer lists gives) p q _ (Some t) x.1)
         (serves_broken ask (MayAnswer lists gives) q j TooManyDirs c.answers t t result (broken_end TooManyDirs x.0 x.1 x.2) g (λ n. refl))
     serves_refused TooDeep t result x g = absurd x
 
     -- all were posted, and then memory was refused
-    pub serves_uncounted : (t u : TallyModel) (result : Result (Unit {0}) AllocError) → HasPosted p q (jobs_of o.children.items) → GivesUp Memory result →
+    pub serves_uncounted : (t u : TallyModel) (result : Result (Unit {0}) AllocError) → HasPosted p q (jobs_of o.children.items)
+        → GivesUp Memory result →
         Serves ask (MayAnswer lists gives) p (after_give q (Broken (record { job = j; cause = Memory }))) t u result
     serves_uncounted t u result x g =
         let all = subst (HasPosted p q) (sym (take-length (jobs_of o.children.items))) x in
@@ -122,48 +139,51 @@ module _ (ask : Asked) (lists : List ℕ → Listings) (gives : List ℕ → Con
         (serves_broken ask (MayAnswer lists gives) q j Memory c.answers t u result (broken_end Memory _ all tt) g (λ n. absurd (n refl)))
 
     -- and its files were counted
-    pub serves_listed : (found : CountedFiles) (t u : TallyModel) (row : ListedRowModel) (x : HasPosted p q (jobs_of o.children.items)) → IsCounted gives o.job (bytes_of o.files.items) found →
+    pub serves_listed : (found : CountedFiles) (t u : TallyModel) (row : ListedRowModel) (x : HasPosted p q (jobs_of o.children.items))
+        → IsCounted gives o.job (bytes_of o.files.items) found →
         AddsFiles (map tallied found.files.items) t u (Ok tt) →
-        row.job ≡ j → row.files ≡ cond ask.files found.files.items [] → row.faults ≡ found.faults.items → row.children ≡ named o.children.items (posts_held x.since) →
+        row.job ≡ j → row.files ≡ cond ask.files found.files.items [] → row.faults ≡ found.faults.items
+        → row.children ≡ named o.children.items (posts_held x.since) →
         GoesOn ask (MayAnswer lists gives) p (after_give q (Listed row)) (Some t) (Some u)
     serves_listed found t u row x f adds job files faults children first w =
         works_give ask (MayAnswer lists gives) q (Listed row) counted.0 (Some t) (Some u) lawful gains (λ e. absurd (cc e)) first
         (works_posts ask (MayAnswer lists gives) p q _ (Some t) x first w)
       where
-        counted : (a : Answers) × MayAnswer lists gives j.path a × IsTidy a × (level ask.archive j a ≡ listed_level found.files.items found.faults.items o.children.items)
-        counted = counted_level lists gives ask.archive j o c found f
+        counted : (a : Answers) × MayAnswer lists gives j.path a × IsTidy a
+            × IsLevelOf (level ask.selection j a) found.files.items found.faults.items o.children.items
+        counted = counted_level lists gives ask.selection j o c found f
 
-        at_row : level ask.archive row.job counted.0 ≡ listed_level found.files.items found.faults.items o.children.items
-        at_row = ap (λ k. level ask.archive k counted.0) job ∙ counted.3
+        here : IsLevelOf (level ask.selection row.job counted.0) found.files.items found.faults.items o.children.items
+        here = subst (λ k. IsLevelOf (level ask.selection k counted.0) found.files.items found.faults.items o.children.items)
+            (sym job) counted.3
 
-        own_files : files_at ask.archive row.job counted.0 ≡ found.files.items
-        own_files = ap files_of at_row
+        own_files : files_at ask.selection row.job counted.0 ≡ found.files.items
+        own_files = ap counted_files here.listed ∙ here.counts
 
-        own_children : children_at ask.archive row.job counted.0 ≡ o.children.items
-        own_children = ap children_of at_row
-
-        lawful : IsLawfulEnd ask q.full (MayAnswer lists gives) (job_held q.mine) (posts_held q.mine) (ended.Returned (Listed row)) counted.0
+        lawful : IsLawfulEnd ask q.full (MayAnswer lists gives) (job_held q.mine) (posts_held q.mine) (ended.Returned (Listed row))
+            counted.0
         lawful = record {
           job_is = job_now _ x ∙ ap Some (sym job);
           tidy = counted.2;
           says = record {
-            level_is =
-                at_row
-                ∙ ap (λ fs. listed_level fs found.faults.items o.children.items) (sym own_files)
-                ∙ ap (λ xs. listed_level (files_at ask.archive row.job counted.0) xs o.children.items) (sym faults)
-                ∙ ap (λ cs. listed_level (files_at ask.archive row.job counted.0) row.faults cs) (sym own_children);
-            files_are = files ∙ ap (λ fs. cond ask.files fs []) (sym own_files);
-            posts_are = ap jobs_of (posts_now _ x) ∙ x.jobs_are ∙ ap jobs_of (sym own_children);
-            children_are = children ∙ ap (λ cs. named cs (posts_held x.since)) (sym own_children) ∙ ap (named (children_at ask.archive row.job counted.0)) (sym (posts_now _ x));
+            fates = here.fates;
+            level_is = here.listed;
+            files_are = files ∙ ap (λ fs. cond ask.files fs []) (sym here.counts);
+            faults_are = faults ∙ sym here.fails;
+            posts_are = ap jobs_of (posts_now _ x) ∙ x.jobs_are ∙ ap jobs_of (sym here.walks);
+            children_are = children ∙ ap (λ cs. named cs (posts_held x.since)) (sym here.walks)
+                ∙ ap (named (walked_in here.fates)) (sym (posts_now _ x));
           };
           may = inr (subst (λ (k : JobModel). MayAnswer lists gives k.path counted.0) (sym job) counted.1);
         }
 
-        gains : (fs : List CountedFile) → StandsFor t fs → StandsFor u (map tallied (files_at ask.archive row.job counted.0) ++ fs)
+        gains : (fs : List CountedFile) → StandsFor t fs → StandsFor u (map tallied (files_at ask.selection row.job counted.0) ++ fs)
         gains fs s =
             subst (λ xs. StandsFor u (map tallied xs ++ fs)) (sym own_files)
-            (stands_permuted u (fs ++ map tallied found.files.items) (map tallied found.files.items ++ fs) (IsPermutation-append_comm fs (map tallied found.files.items)) (adds fs s))
+            (stands_permuted u (fs ++ map tallied found.files.items) (map tallied found.files.items ++ fs)
+            (IsPermutation-append_comm fs (map tallied found.files.items)) (adds fs s))
 
+-- a pass with a job holds a claim
 pub job_holds : (p : Pass JobModel Row) (j : JobModel) → HoldsJob j p → holding p ≢ None
 job_holds p j h e = let n : Some h.number ≡ None = sym h.holds ∙ e in absurd (cc n)
 
@@ -172,7 +192,8 @@ pub got_job : (p : Pass JobModel Row) (i : ℕ) (j : JobModel) → HoldsJob j (a
 got_job p i j = record { number = i; holds = refl; job_is = refl; none = refl; nothing = refl }
 
 -- what was got is given up
-pub works_given_up : (ask : Asked) (lists : List ℕ → Listings) (gives : List ℕ → Contents) (p : Pass JobModel Row) (i : ℕ) (j : JobModel) (t : Option TallyModel) →
+pub works_given_up : (ask : Asked) (lists : List ℕ → Listings) (gives : List ℕ → Contents) (p : Pass JobModel Row) (i : ℕ)
+    (j : JobModel) (t : Option TallyModel) →
     GoesOn ask (MayAnswer lists gives) p (after_give (after_claim p (Got i j)) (Broken (record { job = j; cause = Memory }))) t t
 works_given_up ask lists gives p i j t first w =
     works_give ask (MayAnswer lists gives) (after_claim p (Got i j)) (Broken (record { job = j; cause = Memory })) no_answers t t

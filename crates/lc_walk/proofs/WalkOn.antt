@@ -1,5 +1,6 @@
 -- From what the board's close, the workers and `assemble` ensure to what a walk answers.
-use Rattle.std.proofs.Common.{◌≡◌, ◌≢◌, ℕ, suc, ◌≤◌, ◌||◌, Bool, true, false, List, [], ◌∷◌, length, slice_get, refl, sym, ◌∙◌, ap, arith, subst, Some, Result, Ok, Err, map, ◌⊎◌, inl, inr, ◌<◌}
+use Rattle.std.proofs.Common.{◌≡◌, ◌≢◌, ℕ, suc, ◌≤◌, ◌||◌, Bool, true, false, List, [], ◌∷◌, length, slice_get, refl, sym, ◌∙◌, ap}
+use Rattle.std.proofs.Common.{arith, subst, Some, Result, Ok, Err, map, ◌⊎◌, inl, inr, ◌<◌}
 use Rattle.std.specs.List.{list_any}
 use Rattle.lc_board.specs.State.{Status, Absent, Open, Claimed, Returned, Faulted, status}
 use Rattle.lc_board.specs.Part.{part}
@@ -35,7 +36,8 @@ use Rattle.lc_walk.proofs.Placing.{placed}
 use Rattle.lc_walk.proofs.Listings.{got_here}
 
 -- what a Broken row says of its cause
-cause_said : (ask : Asked) (f : Bool) (c : Cause) (e : Ended Row) (a : Answers) (posts : List (ℕ × JobModel)) → Says ask f e a posts → IsBrokenBy c (row_of e) → IsCause ask f (job_of (row_of e)) a c
+cause_said : (ask : Asked) (f : Bool) (c : Cause) (e : Ended Row) (a : Answers) (posts : List (ℕ × JobModel)) → Says ask f e a posts
+    → IsBrokenBy c (row_of e) → IsCause ask f (job_of (row_of e)) a c
 cause_said ask f c (ended.Returned (Listed r)) a posts s b = absurd b
 cause_said ask f c (ended.Returned (Faulted r)) a posts s b = absurd b
 cause_said ask f c (ended.Returned (Broken r)) a posts s b = subst (IsCause ask f r.job a) b s.cause_is
@@ -54,34 +56,49 @@ full_pass : (passes : List (Pass JobModel Row)) → list_any (λ (p : Pass JobMo
 full_pass [] e = cc
 full_pass (p ∷ ps) e = at p.full refl e (full_pass ps)
   where
-    at : (b : Bool) → p.full ≡ b → (b || list_any (λ (q : Pass JobModel Row). q.full) ps) ≡ true → (list_any (λ (q : Pass JobModel Row). q.full) ps ≡ true → SomeFull ps) → SomeFull (p ∷ ps)
+    at : (b : Bool) → p.full ≡ b → (b || list_any (λ (q : Pass JobModel Row). q.full) ps) ≡ true
+        → (list_any (λ (q : Pass JobModel Row). q.full) ps ≡ true → SomeFull ps) → SomeFull (p ∷ ps)
     at true f e rec = record { worker = 0; pass = p; is = refl; was = f }
     at false f e rec = let r = rec e in record { worker = suc r.worker; pass = r.pass; is = r.is; was = r.was }
 
-module _ (ask : Asked) (MayAnswer : List ℕ → Answers → Type 0) (capacity workers : ℕ) (top : JobModel) (promises : Promises) (passes : List (Pass JobModel Row))
+module _ (ask : Asked) (MayAnswer : List ℕ → Answers → Type 0) (capacity workers : ℕ) (top : JobModel) (promises : Promises)
+    (passes : List (Pass JobModel Row))
     (room : 1 ≤ capacity) (count : length passes ≡ workers) (at_top : top.path ≡ []) where
   -- the board was closed
-  module _ (given : ℕ → List Answers) (lawful : (w : ℕ) (p : Pass JobModel Row) → slice_get passes w ≡ Some p → AreLawful ask p.full MayAnswer p.mine (given w))
+  module _ (given : ℕ → List Answers) (lawful : (w : ℕ) (p : Pass JobModel Row) → slice_get passes w ≡ Some p
+      → AreLawful ask p.full MayAnswer p.mine (given w))
       (rows : List (Ended Row)) (settled : Settled capacity workers top promises passes rows) where
     abbrev rows_so : promises.keeps ≡ true → ¬ SomeBroken Memory rows → SomeRows MayAnswer ask capacity workers top
-    rows_so keeps fed = some_rows ask MayAnswer capacity workers top promises passes rows room keeps count settled given lawful (λ i e is b. fed (i, (e, is, b)))
+    rows_so keeps fed = some_rows ask MayAnswer capacity workers top promises passes rows room keeps count settled given lawful
+        (λ i e is b. fed (i, (e, is, b)))
 
     cause_here : (keeps : promises.keeps ≡ true) (c : Cause) (i : ℕ) (e : Ended Row) → slice_get rows i ≡ Some e → IsBrokenBy c (row_of e) →
-        IsCause ask (list_any (λ (p : Pass JobModel Row). p.full) passes) (job_of (row_of e)) (answers ask MayAnswer capacity workers top promises passes rows room keeps count settled given lawful i) c
+        IsCause ask (list_any (λ (p : Pass JobModel Row). p.full) passes) (job_of (row_of e))
+        (answers ask MayAnswer capacity workers top promises passes rows room keeps count settled given lawful i) c
     cause_here keeps c i e is b =
-        cause_said ask _ c e _ _ (lawful_here ask MayAnswer capacity workers top promises passes rows room keeps count settled given lawful i e is).0.says b
+        cause_said ask _ c e _ _ (lawful_here ask MayAnswer capacity workers top promises passes rows room keeps count settled given
+        lawful i e is).0.says b
 
-    pub assembled_walk : (t : TallyModel) → StandsFor t (files_of_passes ask given passes) → (result : Result Report WalkFault) → Assembles ask.files t rows result →
+    pub assembled_walk : (t : TallyModel) → StandsFor t (files_of_passes ask given passes) → (result : Result Report WalkFault)
+        → Assembles ask.files t rows result →
         WalkAnswers MayAnswer ask capacity workers top promises result
     assembled_walk t stood (Ok r) a = λ keeps.
-        report_of_walk ask MayAnswer capacity workers top promises passes rows room keeps count settled given lawful a.whole at_top t stood r a.report
+        report_of_walk ask MayAnswer capacity workers top promises passes rows room keeps count settled given lawful a.whole at_top t
+        stood r a.report
     assembled_walk t stood (Err fault.Memory) a = tt
     assembled_walk t stood (Err fault.TooManyDirs) a = λ keeps fills.
         let is_full = cause_here keeps TooManyDirs a.0.0 a.0.1.0 a.0.1.1 a.0.1.2 in
         let f = full_pass passes is_full in
         record { found = rows_so keeps a.1; filled = settled.all_used fills f.worker f.pass f.is f.was }
     assembled_walk t stood (Err fault.TooDeep) a = λ keeps.
-        record { found = rows_so keeps a.1; number = a.0.0; row = a.0.1.0; is = a.0.1.1; deep = cause_here keeps TooDeep a.0.0 a.0.1.0 a.0.1.1 a.0.1.2 }
+        record {
+          found = rows_so keeps a.1;
+          number = a.0.0;
+          row = a.0.1.0;
+          is = a.0.1.1;
+          deep = cause_here keeps TooDeep a.0.0 a.0.1.0
+              a.0.1.1 a.0.1.2;
+        }
     assembled_walk t stood (Err (fault.Torn n)) a = λ keeps compares.
         a.1 (placed ask (list_any (λ (p : Pass JobModel Row). p.full) passes) capacity workers top settled.history rows
         (answers ask MayAnswer capacity workers top promises passes rows room keeps count settled given lawful)
@@ -96,8 +113,10 @@ module _ (ask : Asked) (MayAnswer : List ℕ → Answers → Type 0) (capacity w
   unended Returned u n m = u
   unended Faulted u n m = u
 
+  -- what a refused close answers
   pub refused_walk : 1 ≤ workers → ((w : ℕ) (p : Pass JobModel Row) → slice_get passes w ≡ Some p → (p.worker ≡ w) × HasEnded p) →
-      (f : CloseFault) → RefusesClose capacity workers promises passes f → WalkAnswers MayAnswer ask capacity workers top promises (Err (fault_of_close f))
+      (f : CloseFault) → RefusesClose capacity workers promises passes f
+      → WalkAnswers MayAnswer ask capacity workers top promises (Err (fault_of_close f))
   refused_walk some ended_so (close.Unfinished n) u = λ keeps compares.
       let p = got_here passes 0 (omega arith) in
       let e = ended_so 0 p.0 p.1 in
@@ -108,13 +127,16 @@ module _ (ask : Asked) (MayAnswer : List ℕ → Answers → Type 0) (capacity w
   refused_walk some ended_so close.Memory u = tt
 
 -- there are no more rows than numbers
-pub few_rows : (capacity workers : ℕ) (top : JobModel) (promises : Promises) (passes : List (Pass JobModel Row)) (rows : List (Ended Row)) → 1 ≤ capacity → Settled capacity workers top promises passes rows → length rows ≤ capacity
+pub few_rows : (capacity workers : ℕ) (top : JobModel) (promises : Promises) (passes : List (Pass JobModel Row))
+    (rows : List (Ended Row)) → 1 ≤ capacity → Settled capacity workers top promises passes rows → length rows ≤ capacity
 few_rows capacity workers top promises passes rows room settled = at (cases_lt capacity (length rows))
   where
     at : (capacity < length rows) ⊎ (length rows ≤ capacity) → length rows ≤ capacity
-    at (inl l) = let low = within capacity workers settled.history settled.legal room capacity (λ a. let past = (settled.numbers capacity).0 a in absurd (omega arith)) in absurd (omega arith)
+    at (inl l) = let low = within capacity workers settled.history settled.legal room capacity
+        (λ a. let past = (settled.numbers capacity).0 a in absurd (omega arith)) in absurd (omega arith)
     at (inr b) = b
 
+-- a mapped list is as long
 pub mapped : {A B : Type 0} (f : A → B) (xs : List A) → length (map f xs) ≡ length xs
 mapped f [] = refl
 mapped f (x ∷ xs) = ap suc (mapped f xs)

@@ -1,5 +1,6 @@
 -- What a worker has done goes on with each call.
-use Rattle.std.proofs.Common.{◌≡◌, ◌≢◌, ◌⊎◌, inl, inr, ℕ, Bool, List, [], ◌∷◌, ◌++◌, refl, sym, ◌∙◌, ap, subst, Option, Some, None, Result, Ok, Err, append_assoc}
+use Rattle.std.proofs.Common.{◌≡◌, ◌≢◌, ◌⊎◌, inl, inr, ℕ, Bool, List, [], ◌∷◌, ◌++◌, refl, sym, ◌∙◌, ap, subst, Option, Some, None}
+use Rattle.std.proofs.Common.{Result, Ok, Err, append_assoc}
 use Rattle.std.specs.List.{AllByRecursion}
 use Rattle.std.specs.declared.alloc.AllocError.{AllocError}
 use Rattle.lc_board.specs.Holding.{job_held, posts_held}
@@ -15,9 +16,9 @@ use Rattle.lc_walk.specs.Lawful.{Asked}
 use Rattle.lc_walk.specs.Posting.{IsPost, HasPosted}
 use Rattle.lc_walk.specs.Serving.{GivesUp, GoesOn, Serves}
 use Rattle.lc_walk.specs.Tally.{TallyModel, CountedFile, StandsFor}
-use Rattle.lc_walk.specs.Worked.{IsLawfulEnd, AreLawful, HasWorked, TalliesFor, GaveUp, files_given, returned_files}
+use Rattle.lc_walk.specs.Worked.{IsLawfulEnd, AreLawful, AreLawfulSince, HasWorked, TalliesFor, GaveUp, files_given, returned_files}
 use Rattle.lc_walk.specs.Assembled.{IsBrokenBy}
-use Rattle.lc_walk.proofs.Fuller.{fuller_all}
+use Rattle.lc_walk.proofs.Fuller.{fuller_since}
 use Rattle.lc_level.specs.declared.cause.Cause.{Cause}
 use Rattle.lc_level.specs.declared.cause.Cause.TheVariants.{Memory, TooManyDirs, TooDeep}
 use Rattle.lc_walk.specs.declared.row.Row.{Row}
@@ -27,15 +28,33 @@ abbrev Events : Type 0
 Events = List (Event JobModel Row)
 
 -- posts give no row
-posts_lawful : (ask : Asked) (full : Bool) (MayAnswer : List ℕ → Answers → Type 0) (s m : Events) (given : List Answers) → AllByRecursion IsPost s → AreLawful ask full MayAnswer m given → AreLawful ask full MayAnswer (s ++ m) given
-posts_lawful ask full MayAnswer [] m given a l = l
-posts_lawful ask full MayAnswer (Post w p i j ∷ s) m given a l = posts_lawful ask full MayAnswer s m given a.1 l
-posts_lawful ask full MayAnswer (Claim w i j ∷ s) m given a l = absurd a.0
-posts_lawful ask full MayAnswer (Return w i r ∷ s) m given a l = absurd a.0
-posts_lawful ask full MayAnswer (Fault w i r ∷ s) m given a l = absurd a.0
-posts_lawful ask full MayAnswer (Over w ∷ s) m given a l = absurd a.0
+posts_lawful : (ask : Asked) (full : Bool) (MayAnswer : List ℕ → Answers → Type 0) (old s m : Events) (given : List Answers) →
+    AllByRecursion IsPost s → AreLawfulSince ask full MayAnswer old m given → AreLawfulSince ask full MayAnswer old (s ++ m) given
+posts_lawful ask full MayAnswer old [] m given a l = l
+posts_lawful ask full MayAnswer old (Post w p i j ∷ s) m given a l = posts_lawful ask full MayAnswer old s m given a.1 l
+posts_lawful ask full MayAnswer old (Claim w i j ∷ s) m given a l = absurd a.0
+posts_lawful ask full MayAnswer old (Return w i r ∷ s) m given a l = absurd a.0
+posts_lawful ask full MayAnswer old (Fault w i r ∷ s) m given a l = absurd a.0
+posts_lawful ask full MayAnswer old (Over w ∷ s) m given a l = absurd a.0
 
-posts_files : (ask : Asked) (s m : Events) (given : List Answers) → AllByRecursion IsPost s → files_given ask (s ++ m) given ≡ files_given ask m given
+-- the rows given before and since are all rows that were given
+pub lawful_since : (ask : Asked) (full : Bool) (MayAnswer : List ℕ → Answers → Type 0) (old since : Events) (before given : List Answers) →
+    AreLawful ask full MayAnswer old before → AreLawfulSince ask full MayAnswer old since given →
+    AreLawful ask full MayAnswer (since ++ old) (given ++ before)
+lawful_since ask full MayAnswer old [] before [] b l = b
+lawful_since ask full MayAnswer old [] before (a ∷ given) b l = absurd l
+lawful_since ask full MayAnswer old (Post w p i j ∷ m) before given b l = lawful_since ask full MayAnswer old m before given b l
+lawful_since ask full MayAnswer old (Claim w i j ∷ m) before given b l = lawful_since ask full MayAnswer old m before given b l
+lawful_since ask full MayAnswer old (Return w i r ∷ m) before [] b l = absurd l
+lawful_since ask full MayAnswer old (Return w i r ∷ m) before (a ∷ given) b l =
+    (l.0, lawful_since ask full MayAnswer old m before given b l.1)
+lawful_since ask full MayAnswer old (Fault w i r ∷ m) before [] b l = absurd l
+lawful_since ask full MayAnswer old (Fault w i r ∷ m) before (a ∷ given) b l =
+    (l.0, lawful_since ask full MayAnswer old m before given b l.1)
+lawful_since ask full MayAnswer old (Over w ∷ m) before given b l = lawful_since ask full MayAnswer old m before given b l
+
+posts_files : (ask : Asked) (s m : Events) (given : List Answers) → AllByRecursion IsPost s
+    → files_given ask (s ++ m) given ≡ files_given ask m given
 posts_files ask [] m given a = refl
 posts_files ask (Post w p i j ∷ s) m given a = posts_files ask s m given a.1
 posts_files ask (Claim w i j ∷ s) m given a = absurd a.0
@@ -54,9 +73,20 @@ posts_gave_up (Over w ∷ s) m a u = absurd a.0
 module _ (ask : Asked) (MayAnswer : List ℕ → Answers → Type 0) where
   -- a worker that has done nothing has no files
   pub works_first : (p : Pass JobModel Row) (t : TallyModel) → StandsFor t [] → HasWorked ask MayAnswer p p (Some t)
-  works_first p t s = record { worker = refl; since = []; mine = refl; answers = []; lawful = λ given l. l; tallied = s; untallied = λ e. absurd (cc e) }
+  works_first p t s = record {
+    worker = refl;
+    since = [];
+    mine = refl;
+    answers = [];
+    lawful = tt;
+    tallied = s;
+    untallied = λ e. absurd
+        (cc e);
+  }
 
-  pub works_claim : (p : Pass JobModel Row) (a : ClaimAnswer JobModel) (t : Option TallyModel) → GoesOn ask MayAnswer p (after_claim p a) t t
+  -- a claim
+  pub works_claim : (p : Pass JobModel Row) (a : ClaimAnswer JobModel) (t : Option TallyModel)
+      → GoesOn ask MayAnswer p (after_claim p a) t t
   works_claim p (answer.Got i j) t first w = record {
     worker = w.worker;
     since = Claim p.worker i j ∷ w.since;
@@ -86,27 +116,31 @@ module _ (ask : Asked) (MayAnswer : List ℕ → Answers → Type 0) where
     untallied = w.untallied;
   }
 
-  pub works_posts : (p q : Pass JobModel Row) (jobs : List JobModel) (t : Option TallyModel) → HasPosted p q jobs → GoesOn ask MayAnswer p q t t
+  -- posts
+  pub works_posts : (p q : Pass JobModel Row) (jobs : List JobModel) (t : Option TallyModel) → HasPosted p q jobs
+      → GoesOn ask MayAnswer p q t t
   works_posts p q jobs t h first w = record {
     worker = h.worker ∙ w.worker;
     since = h.since ++ w.since;
     mine = h.mine ∙ ap (λ m. h.since ++ m) w.mine ∙ sym (append_assoc h.since w.since first.mine);
     answers = w.answers;
-    lawful = λ given l. subst (λ m. AreLawful ask q.full MayAnswer m (w.answers ++ given)) (sym h.mine)
-        (posts_lawful ask q.full MayAnswer h.since p.mine (w.answers ++ given) h.only (fuller_all ask p.full q.full MayAnswer h.fuller p.mine (w.answers ++ given) (w.lawful given l)));
+    lawful = posts_lawful ask q.full MayAnswer first.mine h.since w.since w.answers h.only
+        (fuller_since ask p.full q.full MayAnswer h.fuller first.mine w.since w.answers w.lawful);
     tallied = subst (TalliesFor t) (sym (posts_files ask h.since w.since w.answers h.only)) w.tallied;
     untallied = λ e. posts_gave_up h.since w.since h.only (w.untallied e);
   }
 
   -- a claim is ended by a lawful row, of which the tally gets the files
-  pub works_give : (p : Pass JobModel Row) (r : Row) (a : Answers) (t u : Option TallyModel) → IsLawfulEnd ask p.full MayAnswer (job_held p.mine) (posts_held p.mine) (ended.Returned r) a →
-      ((fs : List CountedFile) → TalliesFor t fs → TalliesFor u (returned_files ask r a ++ fs)) → (u ≡ None → IsBrokenBy Memory r ⊎ (t ≡ None)) → GoesOn ask MayAnswer p (after_give p r) t u
+  pub works_give : (p : Pass JobModel Row) (r : Row) (a : Answers) (t u : Option TallyModel)
+      → IsLawfulEnd ask p.full MayAnswer (job_held p.mine) (posts_held p.mine) (ended.Returned r) a →
+      ((fs : List CountedFile) → TalliesFor t fs → TalliesFor u (returned_files ask r a ++ fs))
+      → (u ≡ None → IsBrokenBy Memory r ⊎ (t ≡ None)) → GoesOn ask MayAnswer p (after_give p r) t u
   works_give p r a t u l more none first w = record {
     worker = w.worker;
     since = Return p.worker (held_number p) r ∷ w.since;
     mine = ap (λ m. Return p.worker (held_number p) r ∷ m) w.mine;
     answers = a ∷ w.answers;
-    lawful = λ given g. (l, w.lawful given g);
+    lawful = (subst (λ m. IsLawfulEnd ask p.full MayAnswer (job_held m) (posts_held m) (ended.Returned r) a) w.mine l, w.lawful);
     tallied = more _ w.tallied;
     untallied = λ e. at (none e);
   }
@@ -115,28 +149,37 @@ module _ (ask : Asked) (MayAnswer : List ℕ → Answers → Type 0) where
       at (inl b) = inl b
       at (inr e) = inr (w.untallied e)
 
-  pub works_fault : (p : Pass JobModel Row) (r : Row) (a : Answers) (t : Option TallyModel) → IsLawfulEnd ask p.full MayAnswer (job_held p.mine) (posts_held p.mine) (ended.Faulted r) a → GoesOn ask MayAnswer p (after_fault p r) t t
+  -- a fault
+  pub works_fault : (p : Pass JobModel Row) (r : Row) (a : Answers) (t : Option TallyModel)
+      → IsLawfulEnd ask p.full MayAnswer (job_held p.mine) (posts_held p.mine) (ended.Faulted r) a
+      → GoesOn ask MayAnswer p (after_fault p r) t t
   works_fault p r a t l first w = record {
     worker = w.worker;
     since = Fault p.worker (held_number p) r ∷ w.since;
     mine = ap (λ m. Fault p.worker (held_number p) r ∷ m) w.mine;
     answers = a ∷ w.answers;
-    lawful = λ given g. (l, w.lawful given g);
+    lawful = (subst (λ m. IsLawfulEnd ask p.full MayAnswer (job_held m) (posts_held m) (ended.Faulted r) a) w.mine l, w.lawful);
     tallied = w.tallied;
     untallied = w.untallied;
   }
 
   -- a directory was given up
-  pub serves_broken : (p : Pass JobModel Row) (j : JobModel) (c : Cause) (a : Answers) (t u : TallyModel) (result : Result (Unit {0}) AllocError) →
-      IsLawfulEnd ask p.full MayAnswer (job_held p.mine) (posts_held p.mine) (ended.Returned (Broken (record { job = j; cause = c }))) a → GivesUp c result → (c ≢ Memory → t ≡ u) →
+  pub serves_broken : (p : Pass JobModel Row) (j : JobModel) (c : Cause) (a : Answers) (t u : TallyModel)
+      (result : Result (Unit {0}) AllocError) →
+      IsLawfulEnd ask p.full MayAnswer (job_held p.mine) (posts_held p.mine) (ended.Returned (Broken (record { job = j; cause = c })))
+      a → GivesUp c result → (c ≢ Memory → t ≡ u) →
       Serves ask MayAnswer p (after_give p (Broken (record { job = j; cause = c }))) t u result
   serves_broken p j Memory a t u (Ok _) l g same = absurd g
   serves_broken p j Memory a t u (Err _) l g same = works_give p _ a (Some t) None l (λ fs s. tt) (λ e. inl refl)
-  serves_broken p j TooManyDirs a t u (Ok _) l g same = works_give p _ a (Some t) (Some u) l (λ fs s. subst (λ x. StandsFor x fs) (same (λ e. absurd (cc e))) s) (λ e. absurd (cc e))
+  serves_broken p j TooManyDirs a t u (Ok _) l g same =
+      works_give p _ a (Some t) (Some u) l (λ fs s. subst (λ x. StandsFor x fs) (same (λ e. absurd (cc e))) s) (λ e. absurd (cc e))
   serves_broken p j TooManyDirs a t u (Err _) l g same = absurd g
-  serves_broken p j TooDeep a t u (Ok _) l g same = works_give p _ a (Some t) (Some u) l (λ fs s. subst (λ x. StandsFor x fs) (same (λ e. absurd (cc e))) s) (λ e. absurd (cc e))
+  serves_broken p j TooDeep a t u (Ok _) l g same =
+      works_give p _ a (Some t) (Some u) l (λ fs s. subst (λ x. StandsFor x fs) (same (λ e. absurd (cc e))) s) (λ e. absurd (cc e))
   serves_broken p j TooDeep a t u (Err _) l g same = absurd g
 
-  pub then_serves : (p q r : Pass JobModel Row) (t u : TallyModel) (result : Result (Unit {0}) AllocError) → GoesOn ask MayAnswer p q (Some t) (Some t) → Serves ask MayAnswer q r t u result → Serves ask MayAnswer p r t u result
+  -- a claim, and what is done under it
+  pub then_serves : (p q r : Pass JobModel Row) (t u : TallyModel) (result : Result (Unit {0}) AllocError)
+      → GoesOn ask MayAnswer p q (Some t) (Some t) → Serves ask MayAnswer q r t u result → Serves ask MayAnswer p r t u result
   then_serves p q r t u (Ok _) a b = λ first w. b first (a first w)
   then_serves p q r t u (Err _) a b = λ first w. b first (a first w)

@@ -5,11 +5,16 @@ use Rattle.lc_census.specs.declared.totals.Eol.TheVariants.{Lf}
 use Rattle.lc_level.specs.Answers.{file_item, directory_item, other_item, Answers}
 use Rattle.lc_walk.specs.Found.{children_at}
 use Rattle.lc_level.specs.Job.{JobModel}
+use Rattle.lc_level.specs.Selection.{SelectionModel, selection_of_archive}
 use Rattle.lc_walk.specs.Lawful.{files_at}
 
 -- the census of an empty file with one line
 abbrev pub one_line : Count
 one_line = record { lines = 1; blank = 1; bytes = 1; eol = Lf }
+
+-- the selection of a tree that is no archive
+abbrev pub as_it_is : SelectionModel
+as_it_is = selection_of_archive false
 
 abbrev pub top_job : JobModel
 top_job = record { path = []; ignore = []; attributes = record { tree = []; info = None } }
@@ -29,5 +34,5 @@ small_directory = record {
 
 -- the rules of the directory's own file go before those of `.git/info`, and nothing of `.git` is counted
 pub record ExamplesHold : Type 0 where
-  pub counted : map (λ f. f.name) (files_at false top_job small_directory) ≡ codes ".gitignore" ∷ codes "c" ∷ []
-  pub below : map (λ c. c.0) (children_at false top_job small_directory) ≡ codes "d" ∷ []
+  pub counted : map (λ f. f.name) (files_at as_it_is top_job small_directory) ≡ codes ".gitignore" ∷ codes "c" ∷ []
+  pub below : map (λ c. c.0) (children_at as_it_is top_job small_directory) ≡ codes "d" ∷ []

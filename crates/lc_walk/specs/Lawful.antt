@@ -8,7 +8,8 @@ use Rattle.lc_board.specs.declared.answers.Ended.TheVariants as ended
 use Rattle.lc_level.specs.Answers.{Answers}
 use Rattle.lc_level.specs.Tidy.{IsTidy}
 use Rattle.lc_level.specs.Job.{JobModel}
-use Rattle.lc_level.specs.Level.{CountedModel, Level, faulted_level, listed_level, level}
+use Rattle.lc_level.specs.Level.{CountedModel, Fate, Level, faulted_level, listed_level, level, counted_in, failed_in, walked_in}
+use Rattle.lc_level.specs.Selection.{SelectionModel}
 use Rattle.lc_walk.specs.Found.{children_at}
 use Rattle.lc_level.specs.Deep.{has_too_deep}
 use Rattle.lc_walk.specs.RowViews.{ChildModel, ListedRowModel}
@@ -21,18 +22,18 @@ use Rattle.lc_walk.specs.declared.row.BrokenRow.{BrokenRow}
 use Rattle.lc_walk.specs.declared.row.Row.{Row}
 use Rattle.lc_walk.specs.declared.row.Row.TheVariants.{Listed, Faulted, Broken}
 
--- what was asked of a walk: the files in its report, the view of an archive
+-- what was asked of a walk: the files in its report, and what decides beside the rules which entries are left out
 pub record Asked : Type 0 where
   pub files : Bool
-  pub archive : Bool
+  pub selection : SelectionModel
 
-abbrev pub files_of : Level → List CountedModel
-files_of (faulted_level path word) = []
-files_of (listed_level files faults children) = files
+abbrev pub counted_files : Level → List CountedModel
+counted_files (faulted_level path word) = []
+counted_files (listed_level fates) = counted_in fates
 
 -- the counted files of a directory of these answers
-abbrev pub files_at : Bool → JobModel → Answers → List CountedModel
-files_at archive j a = files_of (level archive j a)
+abbrev pub files_at : SelectionModel → JobModel → Answers → List CountedModel
+files_at selection j a = counted_files (level selection j a)
 
 -- the jobs, of children or of posts
 abbrev pub jobs_of : {A : Type 0} → List (A × JobModel) → List JobModel
@@ -44,28 +45,30 @@ named [] posts = []
 named (c ∷ cs) [] = []
 named (c ∷ cs) (p ∷ ps) = record { name = c.0; number = p.0 } ∷ named cs ps
 
--- a directory that was listed: its files, faults and children are those of one level
+-- a directory that was listed: its files, faults and children are by the fates of its entries
 pub record SaysListed (ask : Asked) (r : ListedRowModel) (a : Answers) (posts : List (ℕ × JobModel)) : Type 0 where
-  pub level_is : level ask.archive r.job a ≡ listed_level (files_at ask.archive r.job a) r.faults (children_at ask.archive r.job a)
-  pub files_are : r.files ≡ cond ask.files (files_at ask.archive r.job a) []
-  pub posts_are : jobs_of posts ≡ jobs_of (children_at ask.archive r.job a)
-  pub children_are : r.children ≡ named (children_at ask.archive r.job a) posts
+  pub fates : List (List ℕ × Fate)
+  pub level_is : level ask.selection r.job a ≡ listed_level fates
+  pub files_are : r.files ≡ cond ask.files (counted_in fates) []
+  pub faults_are : r.faults ≡ failed_in fates
+  pub posts_are : jobs_of posts ≡ jobs_of (walked_in fates)
+  pub children_are : r.children ≡ named (walked_in fates) posts
 
 -- a directory at fault: nothing was posted
 pub record SaysFaulted (ask : Asked) (r : FaultedRow) (a : Answers) (posts : List (ℕ × JobModel)) : Type 0 where
-  pub level_is : level ask.archive r.job a ≡ faulted_level (place_path r.job.path r.place) r.word
+  pub level_is : level ask.selection r.job a ≡ faulted_level (place_path r.job.path r.place) r.word
   pub posts_are : posts ≡ []
 
 -- why a directory was given up; `full` says whether a post of the row's pass was answered Full
 abbrev pub IsCause : Asked → Bool → JobModel → Answers → Cause → Type 0
 IsCause ask full j a Memory = Unit {0}
 IsCause ask full j a TooManyDirs = full ≡ true
-IsCause ask full j a TooDeep = has_too_deep ask.archive j a ≡ true
+IsCause ask full j a TooDeep = has_too_deep ask.selection j a ≡ true
 
 -- a directory that was given up: the first of its children were posted
 pub record SaysBroken (ask : Asked) (full : Bool) (r : BrokenRow) (a : Answers) (posts : List (ℕ × JobModel)) : Type 0 where
   pub posted : ℕ
-  pub posts_are : jobs_of posts ≡ take posted (jobs_of (children_at ask.archive r.job a))
+  pub posts_are : jobs_of posts ≡ take posted (jobs_of (children_at ask.selection r.job a))
   pub cause_is : IsCause ask full r.job a r.cause
 
 -- a Faulted row is given by Fault, the others by Return

@@ -4,6 +4,7 @@ use Rattle.lc_board.specs.Pass.{Pass}
 use Rattle.lc_walk.specs.Tally.{TallyModel, StandsFor}
 use Rattle.lc_level.specs.Answers.{Answers}
 use Rattle.lc_level.specs.Job.{JobModel}
+use Rattle.lc_level.specs.Selection.{SelectionModel}
 use Rattle.lc_walk.specs.Lawful.{Asked}
 use Rattle.lc_walk.specs.Worked.{AreLawful, HasEnded, files_of_passes}
 use Rattle.lc_walk.specs.declared.row.Row.{Row}
@@ -16,5 +17,5 @@ pub record HaveWorked (ask : Asked) (MayAnswer : List ℕ → Answers → Type 0
   pub ended : (w : ℕ) (p : Pass JobModel Row) → slice_get passes w ≡ Some p → (p.worker ≡ w) × HasEnded p
   pub tallied : StandsFor tally (files_of_passes ask given passes)
 
-abbrev pub asked : Bool → Bool → Asked
-asked files archive = record { files = files; archive = archive }
+abbrev pub asked : Bool → SelectionModel → Asked
+asked files selection = record { files = files; selection = selection }

@@ -1,7 +1,8 @@
 -- The recursive walk over a tree.
-use Rattle.std.specs.Prelude.{ℕ, zero, suc, Bool, List, [], ◌∷◌, ◌++◌}
+use Rattle.std.specs.Prelude.{ℕ, zero, suc, List, [], ◌∷◌, ◌++◌}
 use Rattle.lc_level.specs.Answers.{Tree}
 use Rattle.lc_level.specs.Job.{JobModel}
+use Rattle.lc_level.specs.Selection.{SelectionModel}
 use Rattle.lc_walk.specs.Found.{Found, found_at, children_at}
 
 -- for any kind of answers: what the directory gives, then the walks of its child directories, one after another
@@ -17,5 +18,5 @@ module _ {J N A X : Type 0} (found : J → A → List X) (children : J → A →
   walk_by (suc depth) j tree = found j (tree []) ++ walks_below (walk_by depth) tree (children j (tree []))
 
 -- what the recursive walk of a tree finds
-abbrev pub walk_of : Bool → ℕ → JobModel → Tree → List Found
-walk_of archive depth top tree = walk_by (found_at archive) (children_at archive) depth top tree
+abbrev pub walk_of : SelectionModel → ℕ → JobModel → Tree → List Found
+walk_of selection depth top tree = walk_by (found_at selection) (children_at selection) depth top tree

@@ -10,6 +10,7 @@ use Rattle.lc_tree.specs.Paths.{names_of_path}
 use Rattle.lc_level.specs.Answers.{Answers, Tree}
 use Rattle.lc_level.specs.Job.{JobModel}
 use Rattle.lc_level.specs.Level.{level}
+use Rattle.lc_level.specs.Selection.{SelectionModel}
 use Rattle.lc_walk.specs.Walk.{walk_of}
 use Rattle.lc_level.specs.Deep.{has_too_deep}
 use Rattle.lc_walk.specs.Rows.{row_of, job_of}
@@ -22,9 +23,9 @@ use Rattle.lc_walk.specs.declared.walk_fault.WalkFault.{WalkFault}
 use Rattle.lc_walk.specs.declared.walk_fault.WalkFault.TheVariants.{Memory, TooManyDirs, TooDeep, Torn, Mismatch}
 
 -- a tree that for each path answers as one tree does, as far as a level tells
-abbrev pub IsOneAnswer : Bool → (List ℕ → Answers → Type 0) → Tree → Type 0
-IsOneAnswer archive MayAnswer t =
-    (j : JobModel) (a : Answers) → MayAnswer j.path a → level archive j a ≡ level archive j (t (names_of_path j.path))
+abbrev pub IsOneAnswer : SelectionModel → (List ℕ → Answers → Type 0) → Tree → Type 0
+IsOneAnswer selection MayAnswer t =
+    (j : JobModel) (a : Answers) → MayAnswer j.path a → level selection j a ≡ level selection j (t (names_of_path j.path))
 
 module _ (MayAnswer : List ℕ → Answers → Type 0) (ask : Asked) (capacity workers : ℕ) (top : JobModel) where
   -- lawful rows in place for a legal history that is over, with the top job at 0, whose answers the tree may give
@@ -42,11 +43,11 @@ module _ (MayAnswer : List ℕ → Answers → Type 0) (ask : Asked) (capacity w
     pub found : SomeRows
     pub whole : AreWhole found.rows
     pub report : (depth : ℕ) → capacity ≤ depth →
-        IsReportOf ask.files (walk_of ask.archive depth top (tree_of_rows found.rows found.answers)) r
+        IsReportOf ask.files (walk_of ask.selection depth top (tree_of_rows found.rows found.answers)) r
     pub files_once : AreInOrder (file_paths r.files.items)
     pub faults_once : AreInOrder (fault_paths r.faults.items)
-    pub one_answer : (t : Tree) → IsOneAnswer ask.archive MayAnswer t →
-        (depth : ℕ) → capacity ≤ depth → IsReportOf ask.files (walk_of ask.archive depth top t) r
+    pub one_answer : (t : Tree) → IsOneAnswer ask.selection MayAnswer t →
+        (depth : ℕ) → capacity ≤ depth → IsReportOf ask.files (walk_of ask.selection depth top t) r
 
   -- such rows, Broken ones allowed, of which one's listing has an entry that is too deep
   pub record IsTooDeepSomewhere : Type 0 where
@@ -54,7 +55,7 @@ module _ (MayAnswer : List ℕ → Answers → Type 0) (ask : Asked) (capacity w
     pub number : ℕ
     pub row : Ended Row
     pub is : slice_get found.rows number ≡ Some row
-    pub deep : has_too_deep ask.archive (job_of (row_of row)) (found.answers number) ≡ true
+    pub deep : has_too_deep ask.selection (job_of (row_of row)) (found.answers number) ≡ true
 
   -- such rows, Broken ones allowed, that fill all numbers
   pub record FillsAll : Type 0 where

@@ -3,6 +3,7 @@ use Rattle.std.specs.Prelude.{◌≤◌}
 use Rattle.lc_board.specs.Limits.{capacity_limit, workers_limit}
 use Rattle.lc_level.specs.Job.{JobModel}
 use Rattle.lc_level.specs.RuleReads.{shared}
+use Rattle.lc_level.specs.Selection.{selection_of_archive}
 use Rattle.lc_level.specs.TopJob.{top_job}
 use Rattle.lc_walk.specs.Lawful.{Asked}
 use Rattle.lc_walk.specs.declared.options.Options.{Options}
@@ -14,9 +15,9 @@ pub record AreWithinLimits (o : Options) : Type 0 where
   pub some_room : 1 ≤ o.max_dirs
   pub few_dirs : o.max_dirs ≤ capacity_limit
 
--- whether the report is to have the files, and whether the view is that of an archive
+-- whether the report is to have the files, and what is left out beside what the rules ignore
 abbrev pub asked_by : Options → Asked
-asked_by o = record { files = o.files; archive = o.archive }
+asked_by o = record { files = o.files; selection = selection_of_archive o.archive }
 
 -- where it begins
 abbrev pub top_of : Options → JobModel

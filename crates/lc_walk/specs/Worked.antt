@@ -1,9 +1,11 @@
 -- What a worker leaves.
 use Rattle.std.specs.Prelude.{◌⊎◌, ◌≡◌, ℕ, Bool, List, [], ◌∷◌, ◌++◌, Option, Some, None, map, flat_map, length, slice_get}
+use Rattle.lc_board.specs.Holding.{job_held, posts_held}
 use Rattle.lc_board.specs.Pass.{Pass}
 use Rattle.lc_board.specs.declared.event.Event.{Event}
 use Rattle.lc_board.specs.declared.event.Event.TheVariants.{Post, Claim, Return, Fault, Over}
 use Rattle.lc_board.specs.declared.answers.Ended.{Ended}
+use Rattle.lc_board.specs.declared.answers.Ended.TheVariants as ended
 use Rattle.lc_walk.specs.Tally.{TallyModel, CountedFile, StandsFor}
 use Rattle.lc_board.specs.Ends.{EachEnd}
 use Rattle.lc_level.specs.Answers.{Answers}
@@ -20,13 +22,13 @@ use Rattle.lc_walk.specs.declared.row.Row.TheVariants.{Listed, Faulted, Broken}
 
 -- the counted files of a returned row, by its answers
 abbrev pub returned_files : Asked → Row → Answers → List CountedFile
-returned_files ask (Listed r) a = map tallied (files_at ask.archive r.job a)
+returned_files ask (Listed r) a = map tallied (files_at ask.selection r.job a)
 returned_files ask (Faulted r) a = []
 returned_files ask (Broken r) a = []
 
 -- a tree may give these answers for the directory of a row; of one that was given up for want of memory it may have been asked nothing
-abbrev pub MayStand : (List ℕ → Answers → Type 0) → Row → Answers → Type 0
-MayStand MayAnswer r a = IsBrokenBy Memory r ⊎ MayAnswer (job_of r).path a
+abbrev pub MayStand : (List ℕ → Answers → Type 0) → List (ℕ × JobModel) → Row → Answers → Type 0
+MayStand MayAnswer posts r a = (IsBrokenBy Memory r × (posts ≡ [])) ⊎ MayAnswer (job_of r).path a
 
 -- a row is lawful with these answers for the claim that it ends, by the job and the posts of that claim, and the tree may give them
 pub record IsLawfulEnd (ask : Asked) (full : Bool) (MayAnswer : List ℕ → Answers → Type 0)
@@ -34,12 +36,27 @@ pub record IsLawfulEnd (ask : Asked) (full : Bool) (MayAnswer : List ℕ → Ans
   pub job_is : got ≡ Some (job_of (row_of e))
   pub tidy : IsTidy a
   pub says : Says ask full e a posts
-  pub may : MayStand MayAnswer (row_of e) a
+  pub may : MayStand MayAnswer posts (row_of e) a
 
 -- each row that some events gave is lawful with its answers: one for each row, the newest first. It speaks of each claim alone: until
 -- the board is closed nothing says that no number is got twice
 abbrev pub AreLawful : Asked → Bool → (List ℕ → Answers → Type 0) → List (Event JobModel Row) → List Answers → Type 0
 AreLawful ask full MayAnswer m given = EachEnd (λ got posts e a. IsLawfulEnd ask full MayAnswer got posts e a) m given
+
+-- the same of the rows that some events gave after others, which may have begun their claims
+module _ (ask : Asked) (full : Bool) (MayAnswer : List ℕ → Answers → Type 0) (old : List (Event JobModel Row)) where
+  abbrev pub AreLawfulSince : List (Event JobModel Row) → List Answers → Type 0
+  AreLawfulSince [] [] = Unit {0}
+  AreLawfulSince [] (a ∷ given) = ⊥
+  AreLawfulSince (Post w p i j ∷ m) given = AreLawfulSince m given
+  AreLawfulSince (Claim w i j ∷ m) given = AreLawfulSince m given
+  AreLawfulSince (Return w i r ∷ m) [] = ⊥
+  AreLawfulSince (Return w i r ∷ m) (a ∷ given) =
+      IsLawfulEnd ask full MayAnswer (job_held (m ++ old)) (posts_held (m ++ old)) (ended.Returned r) a × AreLawfulSince m given
+  AreLawfulSince (Fault w i r ∷ m) [] = ⊥
+  AreLawfulSince (Fault w i r ∷ m) (a ∷ given) =
+      IsLawfulEnd ask full MayAnswer (job_held (m ++ old)) (posts_held (m ++ old)) (ended.Faulted r) a × AreLawfulSince m given
+  AreLawfulSince (Over w ∷ m) given = AreLawfulSince m given
 
 -- the counted files of the rows that were returned as Listed, by these answers
 abbrev pub files_given : Asked → List (Event JobModel Row) → List Answers → List CountedFile
@@ -74,8 +91,7 @@ pub record HasWorked (ask : Asked) (MayAnswer : List ℕ → Answers → Type 0)
   pub since : List (Event JobModel Row)
   pub mine : new.mine ≡ since ++ old.mine
   pub answers : List Answers
-  pub lawful : (given : List Answers) → AreLawful ask old.full MayAnswer old.mine given
-      → AreLawful ask new.full MayAnswer new.mine (answers ++ given)
+  pub lawful : AreLawfulSince ask new.full MayAnswer old.mine since answers
   pub tallied : TalliesFor tally (files_given ask since answers)
   pub untallied : tally ≡ None → GaveUp since
 

@@ -1,6 +1,7 @@
 //! The end of a walk over any shared board: the board is closed, and its rows are assembled.
-ghost use Rattle.std.specs.Prelude.{◌≡◌, ℕ, ◌≤◌, Bool, [], Some, slice_get, vec_len, map};
+ghost use Rattle.std.specs.Prelude.{◌≡◌, ℕ, ◌≤◌, [], Some, slice_get, vec_len, map};
 ghost use Rattle.lc_walk.specs.Passes.{HaveWorked, asked};
+ghost use Rattle.lc_level.specs.Selection.{SelectionModel};
 ghost use Rattle.lc_level.specs.TreeAnswers.{MayAnswer};
 ghost use Rattle.lc_walk.specs.WalkAnswers.{WalkAnswers};
 ghost use Rattle.lc_walk.specs.WalkOn.{fault_of_close};
@@ -43,10 +44,10 @@ pub fn finish<B: Shared<Job, Row>, T: Tree>(
     requires top { (root : JobModel) × B.is_root board root × (root.path ≡ []) }
     requires all { vec_len passes ≡ B.workers_of board }
     requires each { (w : ℕ) (p : B.Pass) → slice_get passes.items w ≡ Some p → B.owns board p × ((B.Pass.view p).worker ≡ w) }
-    ensures { (tree : T) (archive : Bool) →
-        HaveWorked (asked files archive) (MayAnswer (T.lists tree) (T.gives tree)) (map (λ p. B.Pass.view p) passes.items) tally →
+    ensures { (tree : T) (selection : SelectionModel) →
+        HaveWorked (asked files selection) (MayAnswer (T.lists tree) (T.gives tree)) (map (λ p. B.Pass.view p) passes.items) tally →
         (root : JobModel) → B.is_root board root → root.path ≡ [] →
-        WalkAnswers (MayAnswer (T.lists tree) (T.gives tree)) (asked files archive)
+        WalkAnswers (MayAnswer (T.lists tree) (T.gives tree)) (asked files selection)
         (B.capacity_of board) (B.workers_of board) root B.promises result }
 {
     match board.close(passes) {

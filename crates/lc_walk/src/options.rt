@@ -1,5 +1,8 @@
 //! What is asked of a walk.
+ghost use Rattle.std.specs.Prelude.{◌≡◌};
+ghost use Rattle.lc_walk.specs.WalkOptions.{asked_by};
 
+use lc_level::Selection;
 use lc_rules::IgnoreFile;
 use std::alloc::Global;
 use std::sync::Arc;
@@ -17,4 +20,13 @@ pub struct Options {
     pub exclude: Option<Arc<IgnoreFile, Global>>,
     /// What has the attribute `export-ignore` is left out, as `git archive` does (gitattributes(5)).
     pub archive: bool,
+}
+
+impl Options {
+    /// What decides, beside the rules of the tree, which entries are left out.
+    pub fn selection(&self) -> Selection
+        ensures { result ≡ (asked_by self.now).selection }
+    {
+        Selection::of_archive(self.archive)
+    }
 }

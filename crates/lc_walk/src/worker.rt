@@ -2,6 +2,7 @@
 //!
 //! - `serving`: what it does with a directory that it has claimed
 //! - `posting`: how it posts the child directories; `adding`: how it adds the counted files to its tally
+//! - `idle`: how it waits where there is nothing to claim
 ghost use Rattle.std.specs.Prelude.{◌≡◌, None, Option};
 ghost use Rattle.lc_board.specs.Pass.{Pass, holding};
 ghost use Rattle.lc_level.specs.Answers.{Answers};
@@ -11,19 +12,20 @@ ghost use Rattle.lc_walk.specs.WalkOptions.{asked_by};
 ghost use Rattle.lc_walk.specs.Worked.{HasWorked};
 
 mod adding;
+mod idle;
 mod posting;
 mod serving;
 
 use crate::options::Options;
 use crate::row::{BrokenRow, Row};
 use crate::tally::Tally;
+use crate::worker::idle::Idle;
 use lc_board::{Claim, Shared};
 use lc_level::{Cause, Desk, Job};
 use lc_tree::Tree;
 use serving::serve;
 use std::alloc::Global;
 use std::sync::{Wait, WaitMethods};
-use std::thread;
 
 /// How a worker has come to its end.
 #[derive(Clone, Copy, Debug, Drop, PartialEq, Eq)]
@@ -63,13 +65,15 @@ fn give_up_rest<B: Shared<Job, Row>, T: Tree, W: Wait>(
     let _tree = tree;
     let _options = options;
     let mut pass = pass;
+    let mut idle = Idle::new();
     for _ in rt.forever() {
         match board.claim(rt, &mut pass) {
             Claim::Got(_, job) => {
+                idle.end();
                 let cause = Cause::Memory;
                 board.give(rt, &mut pass, Row::Broken(BrokenRow { job, cause }));
             }
-            Claim::Later => thread::yield_now(),
+            Claim::Later => idle.wait(rt),
             Claim::Over => {
                 return Worked {
                     pass,
@@ -111,9 +115,11 @@ pub fn work<B: Shared<Job, Row>, T: Tree, W: Wait>(
     let Ok(mut desk) = Desk::new(alloc) else {
         return give_up_rest(rt, board, pass, tree, options, Some(tally));
     };
+    let mut idle = Idle::new();
     for _ in rt.forever() {
         match board.claim(rt, &mut pass) {
             Claim::Got(_, job) => {
+                idle.end();
                 match serve(
                     rt, alloc, board, &mut pass, tree, options, job, &mut desk, &mut tally,
                 ) {
@@ -121,7 +127,7 @@ pub fn work<B: Shared<Job, Row>, T: Tree, W: Wait>(
                     Err(_) => return give_up_rest(rt, board, pass, tree, options, None),
                 }
             }
-            Claim::Later => thread::yield_now(),
+            Claim::Later => idle.wait(rt),
             Claim::Over => {
                 return Worked {
                     pass,

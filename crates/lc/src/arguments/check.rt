@@ -26,6 +26,7 @@ fn bare<'a>(alloc: Global) -> Result<Command<'a>, AllocError>
         Command::new(alloc, "check")
             .about(help::ABOUT_CHECK)
             .after_help(help::AFTER_CHECK)
+            .after_long_help(help::AFTER_CHECK_LONG)
             .no_binary_name(true)
             .bin_name("lc check")?,
     )
@@ -48,6 +49,6 @@ pub(super) fn read<'w, W: AsStr>(alloc: Global, words: &'w [W]) -> Result<&'w st
     };
     match command.try_get_matches_from(words) {
         Ok(matches) => Ok(matches.get_str("FILE").unwrap_or("")),
-        Err(error) => Err(explained(alloc, &error, help::EXAMPLE_CHECK)),
+        Err(error) => Err(explained(alloc, &error, help::CHECK, ".gitignore")),
     }
 }

@@ -81,6 +81,7 @@ fn bare<'a>(alloc: Global) -> Result<Command<'a>, AllocError>
         Command::new(alloc, "count")
             .about(help::ABOUT_COUNT)
             .after_help(help::AFTER_COUNT)
+            .after_long_help(help::AFTER_COUNT_LONG)
             .no_binary_name(true)
             .bin_name("lc count")?,
     )
@@ -117,7 +118,7 @@ impl<'w> CountRequest<'w> {
         };
         let matches = match command.try_get_matches_from(words) {
             Ok(matches) => matches,
-            Err(error) => return Err(explained(alloc, &error, help::EXAMPLE)),
+            Err(error) => return Err(explained(alloc, &error, help::COUNT, ".")),
         };
         // Each has a default, so both are there.
         let threads = matches.get_one::<u32>("threads").unwrap_or(4);

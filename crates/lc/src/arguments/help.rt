@@ -1,12 +1,32 @@
-//! The texts of help.
+//! The texts of help and of the version.
 
-/// How a directory is counted.
-pub(super) const EXAMPLE: &str = "lc count .";
+// The version, with more after it.
+macro_rules! version {
+    ($more:literal) => {
+        concat!("0.1.0", $more)
+    };
+}
+
+pub(super) const VERSION: &str = version!("");
+
+/// With the kit and its logic, as `rt version` says.
+pub(super) const LONG_VERSION: &str = version!(
+    "\nproved by rattle-kit-13b in its logic dac8208d650f15bf"
+);
+
+/// What stands before the directory in an example.
+pub(super) const COUNT: &str = "lc count";
+
+/// What stands before the ignore file in an example.
+pub(super) const CHECK: &str = "git ls-files | lc check";
 
 pub(super) const ABOUT: &str =
-    "Counts files and lines of a directory, without what Git would ignore";
+    "lc count DIR   counts files and lines of a directory, without what Git would ignore
+lc check FILE  says of paths on standard input what the rules of FILE say";
 
-pub(super) const AFTER: &str =
+pub(super) const AFTER: &str = "Example: lc count .";
+
+pub(super) const AFTER_LONG: &str =
     "With no command, standard input has the lines of an ignore file, a line --, and
 paths, which are answered as check answers them.
 
@@ -24,6 +44,11 @@ pub(super) const ABOUT_COUNT: &str =
     "Counts files and lines of a directory, without what Git would ignore";
 
 pub(super) const AFTER_COUNT: &str =
+    "What is left out, what the table has, limits and statuses: lc count --help
+
+Example: lc count --files --threads 8 .";
+
+pub(super) const AFTER_COUNT_LONG: &str =
     "Each file below DIR is counted once, unless an ignore file leaves it out: a
 .gitignore of DIR or of a directory below it, .git/info/exclude of DIR, or the
 file of --exclude-from. Entries named .git and all that is neither a file nor a
@@ -68,17 +93,24 @@ Examples:
 pub(super) const ABOUT_CHECK: &str =
     "Says of paths on standard input, one a line, what the rules of FILE say";
 
-pub(super) const EXAMPLE_CHECK: &str = "printf '%s\\n' main.c main.o build/ | lc check .gitignore";
+pub(super) const AFTER_CHECK: &str = "The words of the answer, limits and statuses: lc check --help
 
-pub(super) const AFTER_CHECK: &str =
-    "A slash at the end of a path means a directory. Each line of output is a word,
-a tab and the path:
+Example: git ls-files | lc check .gitignore";
+
+pub(super) const AFTER_CHECK_LONG: &str =
+    "Paths are relative to the directory of FILE, and need not exist. A slash at the
+end of a path means a directory. Each line of output is a word, a tab and the path:
 
   ignored   the last rule that matches ignores it
   included  the last rule that matches begins with !
   none      no rule matches
   below     a directory above it is ignored
   bad       no entry of a tree can have this path
+
+These print paths as they are wanted; those of plain find begin with ./ and are bad:
+
+  git ls-files | lc check .gitignore
+  find . -type f -printf '%P\\n' | lc check .gitignore
 
 Limits: 1,048,576 bytes of rules, 16,777,216 bytes of input, 4,096 bytes a path.
 

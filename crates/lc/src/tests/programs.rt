@@ -132,10 +132,12 @@ fn an_output_that_stops(rt: HostRuntime) -> Result<(), Fail> {
 /// Words that want a text on standard output, or are refused with one on standard error, and a part of that text.
 const TEXTS: &[(&[&str], u8, &str)] = &[
     (&["--help"], 0, "Usage: lc [COMMAND]"),
+    (&["-h"], 0, "Example: lc count ."),
     (&["check", "--help"], 0, "Usage: lc check <FILE>"),
     (&["count", "--help"], 0, "Usage: lc count [OPTIONS] <DIR>"),
     (&["help", "count"], 0, "Usage: lc count [OPTIONS] <DIR>"),
-    (&["--version"], 0, "lc 0.1.0"),
+    (&["-V"], 0, "lc 0.1.0"),
+    (&["--version"], 0, "lc 0.1.0\nproved by "),
     (&["check"], 2, "<FILE>"),
     (&["check", "/dev/null", "b"], 2, "unexpected argument 'b'"),
     (&["count"], 2, "<DIR>"),
@@ -149,6 +151,17 @@ const TEXTS: &[(&[&str], u8, &str)] = &[
     (&["count", "--no-such-option", "."], 2, "--no-such-option"),
     (&["--no-such-option"], 2, "--no-such-option"),
     (&["no-such-command"], 2, "no-such-command"),
+    (&["."], 2, "Example: lc count .\n"),
+    (
+        &["src/a_b-1.d", "--files"],
+        2,
+        "Example: lc count src/a_b-1.d\n",
+    ),
+    (&[""], 2, "Example: lc count .\n"),
+    (&["a b"], 2, "Example: lc count .\n"),
+    (&["a;b"], 2, "Example: lc count .\n"),
+    (&["help", "src"], 2, "Example: lc count .\n"),
+    (&["-"], 2, "Example: lc count .\n"),
 ];
 
 /// The text stands on its stream, the other one is silent, and the input is left alone.

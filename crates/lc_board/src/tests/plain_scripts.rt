@@ -6,8 +6,8 @@ ghost use Rattle.lc_board.specs.Limits.{capacity_limit, workers_limit};
 use crate::answers::{CloseFault, Closed};
 use crate::plain::Plain;
 use crate::tests::script::{
-    Call, FAULT, FAULTED, FULL, OWN_POST, RETURNED, ROOT, TWO_ROWS, TWO_WORKERS, Told, answers,
-    has_rows,
+    Call, FAULT, FAULTED, FULL, MANY, OWN_POST, RETURNED, ROOT, TWO_ROWS, TWO_WORKERS, Told,
+    answers, filling, has_rows,
 };
 use std::alloc::{AllocError, Global};
 use std::process::Abort;
@@ -66,5 +66,7 @@ fn scripts_on_plain(rt: HostRuntime) -> Result<(), Fail> {
     has_rows(&rt, run(&rt, alloc, 1, 1, &FAULT)?, &FAULTED)?;
     let unfinished = run(&rt, alloc, 2, 1, &OWN_POST)?;
     assert!(rt; unfinished == Err(CloseFault::Unfinished(1)));
+    let filled = run(&rt, alloc, MANY, 1, &filling(alloc, MANY)?)?;
+    assert!(rt; filled == Err(CloseFault::Unfinished(1)));
     Ok(())
 }

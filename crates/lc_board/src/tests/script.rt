@@ -1,6 +1,6 @@
 //! Scripts: who calls what on a board, and what each call is to answer.
 use crate::answers::{Claim, CloseFault, Closed, Ended, PostFault};
-use std::alloc::AllocError;
+use std::alloc::{AllocError, Global};
 use std::process::Abort;
 
 /// The job of the root.
@@ -137,3 +137,18 @@ pub const FAULT: [(Call, Told); 3] = [
     (Call::Fault(0, 10), Told::Done),
     (Call::Claim(0), Told::Over),
 ];
+
+/// More numbers than 16 bits have.
+pub const MANY: u32 = 65_537;
+
+/// One worker posts once more than there are numbers, and ends the first alone.
+pub fn filling(alloc: Global, capacity: u32) -> Result<Vec<(Call, Told)>, AllocError> {
+    let mut script = Vec::new(alloc);
+    script.push((Call::Claim(0), Told::Got(0, ROOT)))?;
+    for number in 1..capacity {
+        script.push((Call::Post(0, number), Told::Posted(number)))?;
+    }
+    script.push((Call::Post(0, 0), Told::Full(0)))?;
+    script.push((Call::Give(0, 10), Told::Done))?;
+    Ok(script)
+}

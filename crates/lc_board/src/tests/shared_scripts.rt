@@ -6,8 +6,8 @@ use crate::answers::{CloseFault, Closed};
 use crate::locked::Locked;
 use crate::shared::{Shared, Token};
 use crate::tests::script::{
-    Call, FAULT, FAULTED, FULL, OWN_POST, RETURNED, ROOT, TWO_ROWS, TWO_WORKERS, Told, answers,
-    has_rows,
+    Call, FAULT, FAULTED, FULL, MANY, OWN_POST, RETURNED, ROOT, TWO_ROWS, TWO_WORKERS, Told,
+    answers, filling, has_rows,
 };
 use crate::words::Words;
 use std::alloc::{AllocError, Global};
@@ -82,6 +82,8 @@ fn scripts_on<B: Shared<u32, u32>, R: Wait + Abort>(
     has_rows(rt, run::<B, R>(rt, alloc, 1, 1, &FAULT)?, &FAULTED)?;
     let unfinished = run::<B, R>(rt, alloc, 2, 1, &OWN_POST)?;
     assert!(rt; unfinished == Err(CloseFault::Unfinished(1)));
+    let filled = run::<B, R>(rt, alloc, MANY, 1, &filling(alloc, MANY)?)?;
+    assert!(rt; filled == Err(CloseFault::Unfinished(1)));
     Ok(())
 }
 

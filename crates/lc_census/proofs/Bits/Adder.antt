@@ -1,5 +1,6 @@
 -- Addition, one bit at a time.
-use Rattle.std.proofs.Common.{◌≡◌, ℕ, zero, suc, ◌+◌, ◌/◌, ◌%◌, ◌^◌, Bool, true, false, ◌&&◌, ◌||◌, ◌==◌, refl, sym, ap, ◌∙◌, arith, add-one}
+use Rattle.std.proofs.Common.{◌≡◌, ℕ, zero, suc, ◌+◌, ◌/◌, ◌%◌, ◌^◌, Bool, true, false, ◌&&◌, ◌||◌, ◌==◌, refl, sym, ap, ◌∙◌, arith}
+use Rattle.std.proofs.Common.{add-one}
 use lib.Pow.{shr-shr}
 use mir.Val.{bool_byte}
 use Rattle.lc_census.specs.Lanes.{test, xor}
@@ -32,6 +33,7 @@ unfolding test
 sum_bit true = two_bits (λ x y. ((x + y + 1) % 2 == 1) ≡ xor (xor (x == 1) (y == 1)) true) refl refl refl refl
 sum_bit false = two_bits (λ x y. ((x + y + 0) % 2 == 1) ≡ xor (xor (x == 1) (y == 1)) false) refl refl refl refl
 
+-- a shifted sum is the sum of the shifted words, and the carry into that bit
 pub add-shr : (a b i : ℕ) → (a + b) / 2 ^ i ≡ a / 2 ^ i + b / 2 ^ i + bool_byte (carry a b i)
 unfolding carry
 add-shr a b zero = omega arith
@@ -39,6 +41,7 @@ add-shr a b (suc i) =
     shr-suc (a + b) i ∙ ap (λ n. n / 2) (add-shr a b i) ∙ halves (a / 2 ^ i) (b / 2 ^ i) (bool_byte (carry a b i))
     ∙ (λ t. sym (shr-suc a i) t + sym (shr-suc b i) t + carry_out (carry a b i) a b i t)
 
+-- a bit of a sum is the exclusive or of both bits and the carry into it
 pub test-add : (a b i : ℕ) → test (a + b) i ≡ xor (xor (test a i) (test b i)) (carry a b i)
 unfolding test
 test-add a b i = ap (λ n. n == 1) (ap (λ n. n % 2) (add-shr a b i) ∙ lows (a / 2 ^ i) (b / 2 ^ i) (bool_byte (carry a b i)))

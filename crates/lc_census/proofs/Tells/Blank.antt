@@ -13,8 +13,10 @@ use Rattle.lc_census.proofs.Tells.Ends.{passing}
 -- blank lines, where a says that a CR stood before the first, and b that the line so far is blank
 abbrev pub blank_ends : Bool → Bool → List Line → ℕ
 blank_ends a b [] = 0
-blank_ends a b (l ∷ ls) = one_if ((b && is_blank_text l.text) && not (a && starts_with_lf (l ∷ ls))) + passing (λ m. is_blank_text m.text) ls
+blank_ends a b (l ∷ ls) =
+    one_if ((b && is_blank_text l.text) && not (a && starts_with_lf (l ∷ ls))) + passing (λ m. is_blank_text m.text) ls
 
+-- the blank lines of whole bytes are the lines whose text is blank
 pub blank_whole : (ls : List Line) → blank_ends false true ls ≡ passing (λ m. is_blank_text m.text) ls
 blank_whole [] = refl
 blank_whole (l ∷ ls) = ap (λ b. one_if b + passing (λ m. is_blank_text m.text) ls) (and-true (is_blank_text l.text))
@@ -58,7 +60,8 @@ blank_lf a b ls = head a b ∙ ap (λ n. one_if (b && not a) + n) (sym (blank_wh
     rest = passing (λ m. is_blank_text m.text) ls
 
     head : (a b : Bool)
-        → one_if ((b && true) && not (a && true)) + passing (λ m. is_blank_text m.text) ls ≡ one_if (b && not a) + passing (λ m. is_blank_text m.text) ls
+        → one_if ((b && true) && not (a && true)) + passing (λ m. is_blank_text m.text) ls ≡ one_if (b && not a) + passing
+        (λ m. is_blank_text m.text) ls
     head true true = refl
     head true false = refl
     head false true = refl
@@ -84,7 +87,8 @@ ended_blank a b x = one_if (b && (is_cr x || (is_lf x && not a)))
 
 blank_step : (d : Cutting) (a b : Bool) (x : ℕ)
     → blank_ends a b (before x d).lines ≡ ended_blank a b x + blank_ends (is_cr x) (is_end x || (b && is_space x)) d.lines
-blank_step d a b = by_kind (λ x. blank_ends a b (before x d).lines ≡ ended_blank a b x + blank_ends (is_cr x) (is_end x || (b && is_space x)) d.lines)
+blank_step d a b =
+    by_kind (λ x. blank_ends a b (before x d).lines ≡ ended_blank a b x + blank_ends (is_cr x) (is_end x || (b && is_space x)) d.lines)
     (blank_lf a b d.lines)
     (blank_cr a b d.lines ∙ ap (λ v. one_if v + blank_ends true true d.lines) (sym (and-true b)))
     (λ x e f. ap (λ c. blank_ends a b c.lines) (before-text x d e f) ∙ blank_text a b x d.lines d.rest ∙ plain x (is_lf x) (is_cr x) e f)
@@ -94,11 +98,13 @@ blank_step d a b = by_kind (λ x. blank_ends a b (before x d).lines ≡ ended_bl
     none false = refl
 
     plain : (x : ℕ) (l c : Bool) → l ≡ false → c ≡ false
-        → blank_ends false (b && is_space x) d.lines ≡ one_if (b && (c || (l && not a))) + blank_ends c ((l || c) || (b && is_space x)) d.lines
+        → blank_ends false (b && is_space x) d.lines ≡ one_if (b && (c || (l && not a))) + blank_ends c
+        ((l || c) || (b && is_space x)) d.lines
     plain x true c e f = absurd (cc)
     plain x false true e f = absurd (cc)
     plain x false false e f = omega (arith, none b)
 
+-- a scan counts the blank lines of the cutting
 pub blank_run : (s : Scan) (xs : List ℕ) → (after_all s xs).blank ≡ s.blank + blank_ends s.after_cr s.is_blank (cut xs).lines
 blank_run s [] = omega arith
 blank_run s (x ∷ xs) =

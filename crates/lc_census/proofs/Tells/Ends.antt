@@ -60,7 +60,8 @@ cr_crlf_ends [] = refl
 cr_crlf_ends (l ∷ ls) = go l.text l.end
   where
     go : (t : List ℕ) (e : End)
-        → ends_of cr_lf (with_cr (starts_with_lf (line t e ∷ ls)) (line t e ∷ ls)) ≡ ends_of cr_lf (line t e ∷ ls) + one_if (starts_with_lf (line t e ∷ ls))
+        → ends_of cr_lf (with_cr (starts_with_lf (line t e ∷ ls)) (line t e ∷ ls)) ≡ ends_of cr_lf (line t e ∷ ls) + one_if
+        (starts_with_lf (line t e ∷ ls))
     go [] lf = omega arith
     go [] cr_lf = omega arith
     go [] cr = omega arith
@@ -71,8 +72,10 @@ lf_step : (d : Cutting) (x : ℕ) → lf_ends (before x d).lines ≡ one_if (is_
 lf_step d = by_kind (λ x. lf_ends (before x d).lines ≡ one_if (is_lf x) + lf_ends d.lines)
     (omega arith)
     (cr_lf_ends d.lines ∙ omega arith)
-    (λ x e f. ap (λ c. lf_ends c.lines) (before-text x d e f) ∙ ap₂ (λ a b. a + b) (text_ends lf x d.lines d.rest) (text_ends cr_lf x d.lines d.rest) ∙ sym (zero-add _) ∙ ap (λ b. one_if b + lf_ends d.lines) (sym e))
+    (λ x e f. ap (λ c. lf_ends c.lines) (before-text x d e f) ∙ ap₂ (λ a b. a + b) (text_ends lf x d.lines d.rest)
+    (text_ends cr_lf x d.lines d.rest) ∙ sym (zero-add _) ∙ ap (λ b. one_if b + lf_ends d.lines) (sym e))
 
+-- a scan counts the lines that end with a line feed
 pub lf_run : (s : Scan) (xs : List ℕ) → (after_all s xs).lf ≡ s.lf + lf_ends (cut xs).lines
 lf_run s [] = omega arith
 lf_run s (x ∷ xs) = lf_run (after s x) xs ∙ add_assoc s.lf (one_if (is_lf x)) (lf_ends (cut xs).lines)
@@ -83,8 +86,10 @@ cr_step : (d : Cutting) (x : ℕ) → cr_ends (before x d).lines ≡ one_if (is_
 cr_step d = by_kind (λ x. cr_ends (before x d).lines ≡ one_if (is_cr x) + cr_ends d.lines)
     (omega arith)
     (cr_cr_ends d.lines)
-    (λ x e f. ap (λ c. cr_ends c.lines) (before-text x d e f) ∙ ap₂ (λ a b. a + b) (text_ends cr x d.lines d.rest) (text_ends cr_lf x d.lines d.rest) ∙ sym (zero-add _) ∙ ap (λ b. one_if b + cr_ends d.lines) (sym f))
+    (λ x e f. ap (λ c. cr_ends c.lines) (before-text x d e f) ∙ ap₂ (λ a b. a + b) (text_ends cr x d.lines d.rest)
+    (text_ends cr_lf x d.lines d.rest) ∙ sym (zero-add _) ∙ ap (λ b. one_if b + cr_ends d.lines) (sym f))
 
+-- a scan counts those that end with a carriage return alone or before a line feed
 pub cr_run : (s : Scan) (xs : List ℕ) → (after_all s xs).cr ≡ s.cr + cr_ends (cut xs).lines
 cr_run s [] = omega arith
 cr_run s (x ∷ xs) = cr_run (after s x) xs ∙ add_assoc s.cr (one_if (is_cr x)) (cr_ends (cut xs).lines)
@@ -116,9 +121,11 @@ crlf_step d a = by_kind (λ x. crlf_ends a (before x d).lines ≡ one_if (is_lf 
     (omega (arith, ap one_if (and-true a)))
     (omega (arith, cr_crlf_ends d.lines, and_false a (starts_with_lf (with_cr (starts_with_lf d.lines) d.lines)) (cr_starts d.lines)))
     (λ x e f. ap (λ c. crlf_ends a c.lines) (before-text x d e f)
-    ∙ ap₂ (λ p q. p + q) (text_ends cr_lf x d.lines d.rest) (and_false a (starts_with_lf (with_text x d.lines d.rest).lines) (text_starts x d.lines d.rest))
+    ∙ ap₂ (λ p q. p + q) (text_ends cr_lf x d.lines d.rest)
+    (and_false a (starts_with_lf (with_text x d.lines d.rest).lines) (text_starts x d.lines d.rest))
     ∙ sym (zero-add _) ∙ ap₂ (λ p q. one_if (p && a) + crlf_ends q d.lines) (sym e) (sym f))
 
+-- a scan counts those that end with both
 pub crlf_run : (s : Scan) (xs : List ℕ) → (after_all s xs).crlf ≡ s.crlf + crlf_ends s.after_cr (cut xs).lines
 crlf_run s [] = omega (arith, and_false s.after_cr false refl)
 crlf_run s (x ∷ xs) =

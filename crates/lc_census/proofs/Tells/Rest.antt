@@ -41,8 +41,10 @@ goes_step : (d : Cutting) (b : Bool) (x : ℕ)
 goes_step d b = by_kind (λ x. rest_goes_on b (before x d).lines (before x d).rest ≡ rest_goes_on (not (is_end x)) d.lines d.rest)
     (goes_after_end b d.lines d.lines (line [] lf) d.rest)
     (goes_cr b d.lines d.rest)
-    (λ x e f. ap (λ c. rest_goes_on b c.lines c.rest) (before-text x d e f) ∙ goes_text b x d.lines d.rest ∙ ap₂ (λ p q. rest_goes_on (not (p || q)) d.lines d.rest) (sym e) (sym f))
+    (λ x e f. ap (λ c. rest_goes_on b c.lines c.rest) (before-text x d e f) ∙ goes_text b x d.lines d.rest
+    ∙ ap₂ (λ p q. rest_goes_on (not (p || q)) d.lines d.rest) (sym e) (sym f))
 
+-- whether the cutting has a rest is told by the mark
 pub goes_run : (b : Bool) (xs : List ℕ) → rest_after b xs ≡ rest_goes_on b (cut xs).lines (cut xs).rest
 goes_run true [] = refl
 goes_run false [] = refl
@@ -74,8 +76,10 @@ rest_step : (d : Cutting) (b : Bool) (x : ℕ)
 rest_step d b = by_kind (λ x. rest_blank b (before x d).lines (before x d).rest ≡ rest_blank (is_end x || (b && is_space x)) d.lines d.rest)
     (blank_after_end b d.lines d.lines (line [] lf) d.rest)
     (rest_cr b d.lines d.rest)
-    (λ x e f. ap (λ c. rest_blank b c.lines c.rest) (before-text x d e f) ∙ rest_text b x d.lines d.rest ∙ ap₂ (λ p q. rest_blank ((p || q) || (b && is_space x)) d.lines d.rest) (sym e) (sym f))
+    (λ x e f. ap (λ c. rest_blank b c.lines c.rest) (before-text x d e f) ∙ rest_text b x d.lines d.rest
+    ∙ ap₂ (λ p q. rest_blank ((p || q) || (b && is_space x)) d.lines d.rest) (sym e) (sym f))
 
+-- whether that rest is blank is told by the scan
 pub rest_run : (s : Scan) (xs : List ℕ) → (after_all s xs).is_blank ≡ rest_blank s.is_blank (cut xs).lines (cut xs).rest
 rest_run s [] = sym (and-true s.is_blank)
 rest_run s (x ∷ xs) = rest_run (after s x) xs ∙ sym (rest_step (cut xs) s.is_blank x)

@@ -1,7 +1,7 @@
 //! What is too long or too deep for a walk.
 
 use crate::level::work::{Asked, Level, check, open, top};
-use lc_level::{Cause, Desk, Job, Unlisted};
+use lc_level::{Cause, Desk, Job, Selection, Unlisted};
 use lc_tree::{MemTree, Node, Sketch};
 use std::alloc::{AllocError, Global};
 use std::test::Fail;
@@ -55,9 +55,10 @@ fn nested(alloc: Global, depth: u32) -> Result<Node, AllocError> {
 /// Goes down to the directory from which no other is reached, and says how deep it is and how it ended.
 fn descend(alloc: Global, tree: &MemTree) -> Result<(u32, Option<Unlisted>), AllocError> {
     let mut desk = Desk::new(alloc)?;
+    let selection = Selection::of_archive(false);
     let mut job = Job::top(alloc, None)?;
     for depth in 0..300 {
-        match open(alloc, tree, &job, false, &mut desk)? {
+        match open(alloc, tree, &job, &selection, &mut desk)? {
             Err(unlisted) => return Ok((depth, Some(unlisted))),
             Ok(opened) => {
                 let mut children = opened.children;

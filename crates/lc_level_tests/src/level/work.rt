@@ -1,6 +1,8 @@
 //! One directory's work on a sketch, and what is wanted of it.
 
-use lc_level::{Cause, CountedFiles, Desk, Job, Opened, Unlisted, count_files, open_level};
+use lc_level::{
+    Cause, CountedFiles, Desk, Job, Opened, Selection, Unlisted, count_files, open_level,
+};
 use lc_rules::{IgnoreFile, RuleFault, TextState};
 use lc_tree::{FaultWord, MemTree, Sketch};
 use std::alloc::{AllocError, Global};
@@ -54,10 +56,10 @@ pub(crate) fn open(
     alloc: Global,
     tree: &MemTree,
     job: &Job,
-    archive: bool,
+    selection: &Selection,
     desk: &mut Desk,
 ) -> Result<Result<Opened, Unlisted>, AllocError> {
-    match open_level(alloc, tree, job, archive, desk) {
+    match open_level(alloc, tree, job, selection, desk) {
         Err(Unlisted::Broken(Cause::Memory)) => Err(AllocError),
         answer => Ok(answer),
     }
@@ -71,10 +73,11 @@ fn job_of(
     desk: &mut Desk,
 ) -> Result<Option<Job>, AllocError> {
     let top = Job::top(alloc, exclude_file(alloc, asked.exclude)?)?;
+    let selection = Selection::of_archive(asked.archive);
     let Some(below) = asked.below else {
         return Ok(Some(top));
     };
-    let Ok(opened) = open(alloc, tree, &top, asked.archive, desk)? else {
+    let Ok(opened) = open(alloc, tree, &top, &selection, desk)? else {
         return Ok(None);
     };
     for child in opened.children {
@@ -97,10 +100,10 @@ fn work(
     alloc: Global,
     tree: &MemTree,
     job: &Job,
-    archive: bool,
+    selection: &Selection,
     desk: &mut Desk,
 ) -> Result<Result<Found, Unlisted>, AllocError> {
-    let opened = match open_level(alloc, tree, job, archive, desk) {
+    let opened = match open_level(alloc, tree, job, selection, desk) {
         Ok(opened) => opened,
         Err(Unlisted::Broken(Cause::Memory)) => return Err(AllocError),
         Err(unlisted) => return Ok(Err(unlisted)),
@@ -167,7 +170,8 @@ pub(crate) fn check(
         assert!(rt; false, "{case}: no such directory");
         return Ok(());
     };
-    let found = work(alloc, &tree, &job, asked.archive, &mut desk)?;
+    let selection = Selection::of_archive(asked.archive);
+    let found = work(alloc, &tree, &job, &selection, &mut desk)?;
     assert!(rt; is_wanted(&found, &wanted), "{case}");
     Ok(())
 }

@@ -86,6 +86,7 @@ static TRAILING_SPACES_QUOTED: [Case; 10] = [
 #[test]
 fn trailing_spaces_quoted(rt: HostRuntime) -> Result<(), Fail> {
     check(&rt, rt.alloc(), &TRAILING_SPACES_QUOTED)?;
+    check_len(&rt, rt.alloc(), b"a\\ \na\\\\ \n   \nfoo \r\n", 3)?;
     Ok(())
 }
 

@@ -1,12 +1,16 @@
 //! Runs as the tests ask for them, and their tables.
 
-ghost use Rattle.std.specs.Prelude.{◌≤◌};
+ghost use Rattle.std.specs.Prelude.{◌≤◌, IfOk};
+ghost use Rattle.lc_walk.specs.WalkOptions.{AreWithinLimits};
 
+use lc_board::{Locked, Shared, Words};
+use lc_level::Job;
 use lc_rules::IgnoreFile;
-use lc_text::{Outcome, RunFault, Sink, run};
+use lc_text::trials::Narrow;
+use lc_text::{Outcome, RunFault, Sink, run, table};
 use lc_tree::trials::BytewiseTree;
 use lc_tree::{MemTree, Sketch, Tree};
-use lc_walk::{Options, WalkFault};
+use lc_walk::{Options, Row, WalkFault, walk_on};
 use std::alloc::{AllocError, Global};
 use std::process::Abort;
 use std::sync::{Arc, Wait};
@@ -58,8 +62,44 @@ fn excluding(alloc: Global, rules: &[u8]) -> Result<Option<Arc<IgnoreFile, Globa
     }
 }
 
-/// The answer of a run over a tree, but for want of memory.
-pub(super) fn answer_of<R: Threads + Wait + Sync + AllocGlobal, T: Tree, O: Sink>(
+fn options_of(
+    alloc: Global,
+    asked: &Asked<'_>,
+    threads: u32,
+    max_dirs: u32,
+) -> Result<Options, AllocError>
+    requires threads { (1 ≤ threads) × (threads ≤ 16) }
+    requires directories { (1 ≤ max_dirs) × (max_dirs ≤ 1048576) }
+    ensures { IfOk result AreWithinLimits }
+{
+    Ok(Options {
+        threads,
+        max_dirs,
+        files: asked.files,
+        exclude: excluding(alloc, asked.exclude)?,
+        archive: asked.archive,
+    })
+}
+
+/// A writer that shows what it took.
+pub(super) trait Taken {
+    fn taken(&self) -> &[u8];
+}
+
+impl Taken for Vec<u8> {
+    fn taken(&self) -> &[u8] {
+        self
+    }
+}
+
+impl Taken for Narrow {
+    fn taken(&self) -> &[u8] {
+        &self.taken
+    }
+}
+
+/// The answer of a run over a tree, but for want of memory, where nothing is written.
+pub(super) fn answer_of<R: Threads + Wait + Sync + AllocGlobal + Abort, T: Tree, O: Sink + Taken>(
     rt: &R,
     tree: &T,
     asked: &Asked<'_>,
@@ -70,17 +110,45 @@ pub(super) fn answer_of<R: Threads + Wait + Sync + AllocGlobal, T: Tree, O: Sink
     requires threads { (1 ≤ threads) × (threads ≤ 16) }
     requires directories { (1 ≤ max_dirs) × (max_dirs ≤ 1048576) }
 {
-    let options = Options {
-        threads,
-        max_dirs,
-        files: asked.files,
-        exclude: excluding(rt.alloc(), asked.exclude)?,
-        archive: asked.archive,
-    };
+    let options = options_of(rt.alloc(), asked, threads, max_dirs)?;
     match run(rt, rt.alloc(), tree, &options, out) {
-        Err(RunFault::Memory | RunFault::Walk(WalkFault::Memory)) => Err(AllocError),
+        Err(RunFault::Memory | RunFault::Walk(WalkFault::Memory)) => {
+            assert!(rt; out.taken().is_empty());
+            Err(AllocError)
+        }
         answer => Ok(answer),
     }
+}
+
+/// The outcome of a walk over boards of this type, whose table is then written, but for want of memory, where nothing is written.
+fn outcome_over<B: Shared<Job, Row>, R: Threads + Wait + Sync + AllocGlobal + Abort, T: Tree>(
+    rt: &R,
+    tree: &T,
+    asked: &Asked<'_>,
+    threads: u32,
+    out: &mut Vec<u8>,
+) -> Result<Option<Outcome>, AllocError>
+    requires { (1 ≤ threads) × (threads ≤ 16) }
+{
+    let options = options_of(rt.alloc(), asked, threads, 16)?;
+    let report = match walk_on::<B, T, R>(rt, rt.alloc(), tree, &options) {
+        Ok(report) => report,
+        Err(WalkFault::Memory) => return Err(AllocError),
+        Err(_) => return Ok(None),
+    };
+    match table(rt.alloc(), &report, out) {
+        Ok(()) if report.faults.is_empty() => Ok(Some(Outcome::Clean)),
+        Ok(()) => Ok(Some(Outcome::SomeFaults)),
+        Err(_) => {
+            assert!(rt; out.is_empty());
+            Err(AllocError)
+        }
+    }
+}
+
+/// A text has the header and these lines.
+fn is_table(text: &[u8], lines: &[u8]) -> bool {
+    text.strip_prefix(HEADER) == Some(lines)
 }
 
 /// A run by so many workers over a tree ends as the case says.
@@ -94,26 +162,59 @@ pub(super) fn compare<R: Threads + Wait + Sync + AllocGlobal + Abort, T: Tree>(
 {
     let mut out = Vec::with_capacity(rt.alloc(), 1_024)?;
     let answer = answer_of(rt, tree, &case.asked, threads, 16, &mut out)?;
-    let lines = out.as_slice().strip_prefix(HEADER);
     assert!(rt;
-        answer == Ok(case.outcome) && lines == Some(case.lines),
+        answer == Ok(case.outcome) && is_table(&out, case.lines),
         "{} by {threads}: {answer:?}",
         case.name
     );
     Ok(())
 }
 
-/// So do runs over the case's own tree, by any number of workers and however its files are read.
+/// So does a walk over boards of this type, whose table is then written.
+fn compare_over<B: Shared<Job, Row>, R: Threads + Wait + Sync + AllocGlobal + Abort, T: Tree>(
+    rt: &R,
+    tree: &T,
+    case: &Case<'_>,
+    threads: u32,
+) -> Result<(), Fail>
+    requires { (1 ≤ threads) × (threads ≤ 16) }
+{
+    let mut out = Vec::with_capacity(rt.alloc(), 1_024)?;
+    let outcome = outcome_over::<B, R, T>(rt, tree, &case.asked, threads, &mut out)?;
+    assert!(rt;
+        outcome == Some(case.outcome) && is_table(&out, case.lines),
+        "{} by {threads}: {outcome:?}",
+        case.name
+    );
+    Ok(())
+}
+
+/// So do a run over the case's own tree, and walks of it over both boards, by each of these numbers of workers.
+pub(super) fn compare_by<R: Threads + Wait + Sync + AllocGlobal + Abort>(
+    rt: &R,
+    case: &Case<'_>,
+    crews: &[u32],
+) -> Result<(), Fail> {
+    let node = case.top.node(rt.alloc())?;
+    let tree = MemTree::new(&node);
+    for threads in crews {
+        let threads = *threads;
+        assert!(rt; 1 <= threads && threads <= 16);
+        compare(rt, &tree, case, threads)?;
+        compare_over::<Words<Job, Row>, R, MemTree>(rt, &tree, case, threads)?;
+        compare_over::<Locked<Job, Row>, R, MemTree>(rt, &tree, case, threads)?;
+    }
+    Ok(())
+}
+
+/// So do they by any number of workers, and so does a run however its files are read.
 fn compare_by_all<R: Threads + Wait + Sync + AllocGlobal + Abort>(
     rt: &R,
     case: &Case<'_>,
 ) -> Result<(), Fail> {
+    compare_by(rt, case, &[1, 2, 16])?;
     let node = case.top.node(rt.alloc())?;
-    let tree = MemTree::new(&node);
-    compare(rt, &tree, case, 1)?;
-    compare(rt, &tree, case, 2)?;
-    compare(rt, &tree, case, 16)?;
-    compare(rt, &BytewiseTree(tree), case, 2)
+    compare(rt, &BytewiseTree(MemTree::new(&node)), case, 2)
 }
 
 pub(super) fn compare_all<R: Threads + Wait + Sync + AllocGlobal + Abort>(

@@ -92,7 +92,7 @@ fn lines_told(table: &[u8]) -> Option<Told> {
 const CALLS: u64 = 21;
 
 /// The outcome of a run of which this call fails, what its table tells, and how many calls it made.
-fn answer_at<R: Threads + Wait + Sync + AllocGlobal>(
+fn answer_at<R: Threads + Wait + Sync + AllocGlobal + Abort>(
     rt: &R,
     tree: &MemTree<'_>,
     place: u64,

@@ -1,6 +1,8 @@
 //! Runs over trees of memory: their tables, by any number of workers, and where they stop.
 
-use crate::text::asking::{Asked, Case, HEADER, PLAIN, WITH_FILES, answer_of, compare_all};
+use crate::text::asking::{
+    Asked, Case, HEADER, PLAIN, WITH_FILES, answer_of, compare_all, compare_by,
+};
 use crate::text::streams::{WRITERS, compare_taken};
 use lc_text::trials::{Narrow, WhenFull};
 use lc_text::{Outcome, RunFault};
@@ -60,20 +62,37 @@ const ARCHIVE: Sketch<'static> = Sketch::Dir(&[
     (b"s", Sketch::Dir(&[(b"docs", Sketch::File(b"f\n"))])),
 ]);
 
+const TEXT_STATES: Case<'static> = Case {
+    name: "text_states_with_files",
+    top: Sketch::Dir(&[
+        (b".gitattributes", Sketch::File(b"*.c text\n*.b binary\n")),
+        (b"x.c", Sketch::File(b"a\nb\n")),
+        (b"y.b", Sketch::File(b"\0\n")),
+        (b"z.c", Sketch::File(b"a\r\n\r\n")),
+    ]),
+    asked: WITH_FILES,
+    outcome: Outcome::Clean,
+    lines: b"-\t-\tlf\t1\t2\t0\t20\n.b\tunset\tnul\t1\t1\t0\t2\n.c\tset\tlf\t1\t2\t0\t4\n.c\tset\tcrlf\t1\t2\t1\t5\ntotal\t*\t*\t4\t7\t1\t31\ndirectories\t1\nfile\t-\tlf\t2\t0\t20\t.gitattributes\nfile\tset\tlf\t2\t0\t4\tx.c\nfile\tunset\tnul\t1\t0\t2\ty.b\nfile\tset\tcrlf\t2\t1\t5\tz.c\n",
+};
+
+const EXCLUDING: Case<'static> = Case {
+    name: "excluding_rules",
+    top: Sketch::Dir(&[
+        (b".gitignore", Sketch::File(b"!x.c\n")),
+        (b"x.c", Sketch::File(b"1\n")),
+        (b"y.c", Sketch::File(b"1\n")),
+    ]),
+    asked: Asked {
+        exclude: b"*.c\n",
+        ..PLAIN
+    },
+    outcome: Outcome::Clean,
+    lines: b"-\t-\tlf\t1\t1\t0\t5\n.c\t-\tlf\t1\t1\t0\t2\ntotal\t*\t*\t2\t2\t0\t7\ndirectories\t1\n",
+};
+
 const CASES: &[Case<'static>] = &[
     FIRST_CASE,
-    Case {
-        name: "text_states_with_files",
-        top: Sketch::Dir(&[
-            (b".gitattributes", Sketch::File(b"*.c text\n*.b binary\n")),
-            (b"x.c", Sketch::File(b"a\nb\n")),
-            (b"y.b", Sketch::File(b"\0\n")),
-            (b"z.c", Sketch::File(b"a\r\n\r\n")),
-        ]),
-        asked: WITH_FILES,
-        outcome: Outcome::Clean,
-        lines: b"-\t-\tlf\t1\t2\t0\t20\n.b\tunset\tnul\t1\t1\t0\t2\n.c\tset\tlf\t1\t2\t0\t4\n.c\tset\tcrlf\t1\t2\t1\t5\ntotal\t*\t*\t4\t7\t1\t31\ndirectories\t1\nfile\t-\tlf\t2\t0\t20\t.gitattributes\nfile\tset\tlf\t2\t0\t4\tx.c\nfile\tunset\tnul\t1\t0\t2\ty.b\nfile\tset\tcrlf\t2\t1\t5\tz.c\n",
-    },
+    TEXT_STATES,
     Case {
         name: "a_top_that_is_not_listed",
         top: Sketch::Closed,
@@ -98,20 +117,7 @@ const CASES: &[Case<'static>] = &[
         outcome: Outcome::SomeFaults,
         lines: b".c\t-\tlf\t1\t1\t0\t2\ntotal\t*\t*\t1\t1\t0\t2\ndirectories\t1\nfault\tread\tb.c\nfault\tread\td/.gitignore\n",
     },
-    Case {
-        name: "excluding_rules",
-        top: Sketch::Dir(&[
-            (b".gitignore", Sketch::File(b"!x.c\n")),
-            (b"x.c", Sketch::File(b"1\n")),
-            (b"y.c", Sketch::File(b"1\n")),
-        ]),
-        asked: Asked {
-            exclude: b"*.c\n",
-            ..PLAIN
-        },
-        outcome: Outcome::Clean,
-        lines: b"-\t-\tlf\t1\t1\t0\t5\n.c\t-\tlf\t1\t1\t0\t2\ntotal\t*\t*\t2\t2\t0\t7\ndirectories\t1\n",
-    },
+    EXCLUDING,
     Case {
         name: "the_view_of_an_archive",
         top: ARCHIVE,
@@ -134,6 +140,24 @@ const CASES: &[Case<'static>] = &[
 #[test]
 fn tables_of_trees(rt: HostRuntime) -> Result<(), Fail> {
     compare_all(&rt, CASES)
+}
+
+/// So few workers that most allocations are refused in turn, where that is tried.
+const FEW: &[u32] = &[1, 2];
+
+#[test]
+fn a_tree_by_few_workers(rt: HostRuntime) -> Result<(), Fail> {
+    compare_by(&rt, &FIRST_CASE, FEW)
+}
+
+#[test]
+fn text_states_by_few_workers(rt: HostRuntime) -> Result<(), Fail> {
+    compare_by(&rt, &TEXT_STATES, FEW)
+}
+
+#[test]
+fn excluding_rules_by_few_workers(rt: HostRuntime) -> Result<(), Fail> {
+    compare_by(&rt, &EXCLUDING, FEW)
 }
 
 /// The first tree's table to a writer that stops at each place.

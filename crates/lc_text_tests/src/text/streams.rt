@@ -54,8 +54,9 @@ fn rules_of(alloc: Global) -> Result<IgnoreFile, AllocError> {
     }
 }
 
-/// A check of paths, or a joined one, but for want of memory.
+/// A check of paths, or a joined one, but for want of memory, where nothing is written.
 fn checked<S: Source>(
+    rt: &impl Abort,
     alloc: Global,
     is_joined: bool,
     input: &mut S,
@@ -68,7 +69,10 @@ fn checked<S: Source>(
         check(alloc, &rules, input, out)
     };
     match answer {
-        Err(CheckFault::Memory) => Err(AllocError),
+        Err(CheckFault::Memory) => {
+            assert!(rt; out.taken.is_empty());
+            Err(AllocError)
+        }
         answer => Ok(answer),
     }
 }
@@ -81,7 +85,7 @@ fn compare_writes<R: AllocGlobal + Abort>(
 ) -> Result<(), Fail> {
     for room in 0..=TEXT.len() {
         let mut out = Narrow::new(rt.alloc(), writer.0, room, writer.1)?;
-        let answer = checked(rt.alloc(), is_joined, &mut Bytewise(bytes), &mut out)?;
+        let answer = checked(rt, rt.alloc(), is_joined, &mut Bytewise(bytes), &mut out)?;
         let is_stopped = answer == Err(CheckFault::Write);
         compare_taken(rt, &out, room, TEXT, answer == Ok(()), is_stopped)?;
     }
@@ -105,7 +109,7 @@ fn compare_failed<R: AllocGlobal + Abort, S: Source>(
     given: usize,
 ) -> Result<(), Fail> {
     let mut out = Narrow::new(rt.alloc(), 64, 64, WhenFull::Fails)?;
-    let answer = checked(rt.alloc(), is_joined, input, &mut out)?;
+    let answer = checked(rt, rt.alloc(), is_joined, input, &mut out)?;
     assert!(rt;
         answer == Err(CheckFault::Read) && out.taken.is_empty(),
         "at {given}"
@@ -137,7 +141,7 @@ fn an_input_without_end_is_too_long(rt: HostRuntime) -> Result<(), Fail> {
     for is_joined in [false, true] {
         let mut input = Counted::new(Endless);
         let mut out = Narrow::new(rt.alloc(), 64, 64, WhenFull::Fails)?;
-        let answer = checked(rt.alloc(), is_joined, &mut input, &mut out)?;
+        let answer = checked(&rt, rt.alloc(), is_joined, &mut input, &mut out)?;
         // 256 buffers of 65,536 bytes, and the first byte past the limit.
         assert!(rt;
             answer == Err(CheckFault::InputTooLong) && input.reads == 257 && out.taken.is_empty(),
@@ -164,7 +168,7 @@ fn joined_rules_at_their_limit(rt: HostRuntime) -> Result<(), Fail> {
     ] {
         let joined = one_long_rule(rt.alloc(), letters)?;
         let mut out = Narrow::new(rt.alloc(), 64, 64, WhenFull::Fails)?;
-        let answer = checked(rt.alloc(), true, &mut joined.as_slice(), &mut out)?;
+        let answer = checked(&rt, rt.alloc(), true, &mut joined.as_slice(), &mut out)?;
         assert!(rt;
             answer == wanted && out.taken.is_empty() != answer.is_ok(),
             "at {letters}"

@@ -92,7 +92,7 @@ fn compare<R: Abort + AllocGlobal>(rt: &R, cases: &[Case]) -> Result<(), Fail> {
         let mut input: &[u8] = joined;
         let mut out = Vec::with_capacity(rt.alloc(), text.len())?;
         let answer = check_joined(rt.alloc(), &mut input, &mut out);
-        if answer == Err(CheckFault::Memory) {
+        if answer == Err(CheckFault::Memory) && out.is_empty() {
             return Err(AllocError.into());
         }
         assert!(rt; answer == Ok(()), "{name}");

@@ -68,7 +68,7 @@ fn serve_opened<B: Shared<Job, Row>, T: Tree, W: Wait>(
 ) -> Result<(), AllocError>
     requires pass { B.owns board.now pass.old }
     requires held { HoldsJob job (B.Pass.view pass.old) }
-    requires opened { IsOpened (T.lists tree.now) (T.gives tree.now) options.now.archive job opened }
+    requires opened { IsOpened (T.lists tree.now) (T.gives tree.now) (asked_by options.now).selection job opened }
     requires desk { desk.old.path.directory ≡ opened.job.path }
     ensures pass { B.owns board.now pass.new }
     ensures free { holding (B.Pass.view pass.new) ≡ None }
@@ -120,7 +120,7 @@ pub(crate) fn serve<B: Shared<Job, Row>, T: Tree, W: Wait>(
     ensures serves { Serves (asked_by options.now) (MayAnswer (T.lists tree.now) (T.gives tree.now))
         (B.Pass.view pass.old) (B.Pass.view pass.new) tally.old tally.new result }
 {
-    match open_level(alloc, tree, &job, options.archive, desk) {
+    match open_level(alloc, tree, &job, &options.selection(), desk) {
         Ok(opened) => serve_opened(
             rt, alloc, board, pass, tree, options, job, opened, desk, tally,
         ),

@@ -5,6 +5,7 @@ ghost use Rattle.lc_board.specs.Limits.{workers_limit};
 
 use crate::walk::same::is_same_file;
 use crate::walk::walked::{report_of, walk_options};
+use crate::walk::walks::WITH_INFO;
 use lc_board::{Locked, Shared, Words};
 use lc_level::Job;
 use lc_tree::trials::{FailingCall, FailingTree};
@@ -175,20 +176,34 @@ macro_rules! ignoring {
 
 const IGNORING: Sketch = ignoring!(File, File, File, File, File);
 
-/// What one worker asks of it, in its order: the place of the call that lists a directory or opens a file, and what is found where
-/// that call fails.
-const ASKED: &[(u64, Finding)] = &[
-    (0, ([0, 0, 0, 0], 0, Some(b""))),
-    (1, ([0, 0, 0, 0], 0, Some(b".gitignore"))),
-    (4, ([2, 2, 0, 10], 3, Some(b".gitignore"))),
-    (7, ([2, 4, 0, 32], 3, Some(b"keep.log"))),
-    (10, ([2, 4, 0, 26], 1, Some(b"src"))),
-    (11, ([2, 4, 0, 26], 2, Some(b"src/build"))),
-    (12, ([2, 4, 0, 26], 3, Some(b"src/build/y.c"))),
+/// What one worker asks of a tree, in its order: the place of its first call and of the one after its last, and what is found where
+/// one of them fails. A listing is one call; a file is opened, read, and read to its end. The last line is of no call.
+type Asked<'a> = &'a [(u64, u64, Finding<'a>)];
+
+const OF_IGNORING: Asked = &[
+    (0, 1, ([0, 0, 0, 0], 0, Some(b""))),
+    (1, 4, ([0, 0, 0, 0], 0, Some(b".gitignore"))),
+    (4, 7, ([2, 2, 0, 10], 3, Some(b".gitignore"))),
+    (7, 10, ([2, 4, 0, 32], 3, Some(b"keep.log"))),
+    (10, 11, ([2, 4, 0, 26], 1, Some(b"src"))),
+    (11, 12, ([2, 4, 0, 26], 2, Some(b"src/build"))),
+    (12, 15, ([2, 4, 0, 26], 3, Some(b"src/build/y.c"))),
+    (15, 16, WHOLE),
 ];
 
-/// Each of four files is opened and read twice, and three directories are listed.
-const CALLS: u64 = 15;
+const OF_INFO: Asked = &[
+    (0, 1, ([0, 0, 0, 0], 0, Some(b""))),
+    (1, 2, ([0, 0, 0, 0], 0, Some(b".git"))),
+    (2, 3, ([0, 0, 0, 0], 0, Some(b".git/info"))),
+    (3, 6, ([0, 0, 0, 0], 0, Some(b".git/info/exclude"))),
+    (6, 9, ([0, 0, 0, 0], 0, Some(b".git/info/attributes"))),
+    (9, 12, ([0, 0, 0, 0], 0, Some(b".gitignore"))),
+    (12, 15, ([0, 0, 0, 0], 0, Some(b".gitattributes"))),
+    (15, 18, ([2, 2, 0, 6], 1, Some(b".gitattributes"))),
+    (18, 21, ([2, 2, 0, 12], 1, Some(b".gitignore"))),
+    (21, 24, ([2, 2, 0, 14], 1, Some(b"m.c"))),
+    (24, 25, ([3, 3, 0, 16], 1, None)),
+];
 
 const WHOLE: Finding = ([3, 5, 0, 34], 3, None);
 
@@ -218,7 +233,7 @@ fn has_fault(report: &Report, path: Option<&[u8]>) -> bool {
     }
 }
 
-/// The walk by one worker, of which the call at this place fails, finds this. It answers how many calls were begun.
+/// The walk by one worker, of which the call at this place fails, finds this. It answers how many calls it began.
 fn check_walk<B: Shared<Job, Row>, R: Threads + Wait + Sync + Abort>(
     rt: &R,
     alloc: Global,
@@ -242,17 +257,32 @@ fn check_walk<B: Shared<Job, Row>, R: Threads + Wait + Sync + Abort>(
     Ok(call.begun())
 }
 
-/// The call of each line of the table fails, and there is no other call.
+/// Each of these calls fails; the walk that none fails begins as many.
+fn check_step<B: Shared<Job, Row>, R: Threads + Wait + Sync + Abort>(
+    rt: &R,
+    alloc: Global,
+    top: &Node,
+    step: (u64, u64, Finding),
+) -> Result<(), AllocError> {
+    let (from, to, wanted) = step;
+    for place in from..to {
+        let begun = check_walk::<B, R>(rt, alloc, top, place, wanted)?;
+        assert!(rt; wanted.2.is_some() || begun == place, "{begun}");
+    }
+    Ok(())
+}
+
+/// The calls of each line of the table fail, and there is no other call.
 fn check_asked<B: Shared<Job, Row>, R: Threads + Wait + Sync + Abort>(
     rt: &R,
     alloc: Global,
+    tree: Sketch,
+    asked: Asked,
 ) -> Result<(), AllocError> {
-    let top = IGNORING.node(alloc)?;
-    for (place, wanted) in ASKED {
-        check_walk::<B, R>(rt, alloc, &top, *place, *wanted)?;
+    let top = tree.node(alloc)?;
+    for step in asked {
+        check_step::<B, R>(rt, alloc, &top, *step)?;
     }
-    let begun = check_walk::<B, R>(rt, alloc, &top, CALLS, WHOLE)?;
-    assert!(rt; begun == CALLS);
     Ok(())
 }
 
@@ -276,7 +306,8 @@ fn check_failures<B: Shared<Job, Row>, R: Threads + Wait + Sync + Abort>(
     let tree = MemTree::new(&node);
     check_calls::<B, R>(rt, alloc, &tree, 1)?;
     check_calls::<B, R>(rt, alloc, &tree, 4)?;
-    check_asked::<B, R>(rt, alloc)?;
+    check_asked::<B, R>(rt, alloc, IGNORING, OF_IGNORING)?;
+    check_asked::<B, R>(rt, alloc, WITH_INFO, OF_INFO)?;
     check_unread::<B, R>(rt, alloc)
 }
 

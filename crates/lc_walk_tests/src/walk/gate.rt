@@ -1,10 +1,11 @@
 //! Several workers list directories at the same time.
-ghost use Rattle.std.specs.Prelude.{◌≤◌};
-ghost use Rattle.lc_board.specs.Limits.{workers_limit};
 
-use crate::walk::walked::{has_faults, report_of};
+use crate::walk::walked::{Found, NONE, has_found, report_of, walk_options};
+use lc_board::{Locked, Shared, Words};
+use lc_census::Eol;
+use lc_level::Job;
 use lc_tree::{FaultWord, Listing, MemFile, MemTree, ReadFault, Sketch, Tree};
-use lc_walk::{Options, Report, WalkFault, walk};
+use lc_walk::{Row, walk_on};
 use std::alloc::{AllocError, Global};
 use std::process::Abort;
 use std::sync::Wait;
@@ -86,85 +87,76 @@ const SIXTEEN: Sketch = Sketch::Dir(&[
     (b"p", ONE),
 ]);
 
-fn walk_gate<R: Threads + Wait + Sync>(
+/// A tree, how many directories it has below the top, how many workers walk it, and what they find.
+type Case<'a> = (Sketch<'a>, usize, u32, Found<'a>);
+
+/// The walk of a tree behind its gate, over a board of this type.
+fn check_gate<B: Shared<Job, Row>, R: Threads + Wait + Sync + Abort>(
     rt: &R,
     alloc: Global,
-    sketch: Sketch,
-    directories: usize,
-    threads: u32,
-) -> Result<Report, WalkFault>
-    requires { (1 ≤ threads) × (threads ≤ workers_limit) }
-{
-    let Ok(node) = sketch.node(alloc) else {
-        return Err(WalkFault::Memory);
-    };
+    case: Case,
+) -> Result<(), AllocError> {
+    let (sketch, directories, threads, wanted) = case;
+    assert!(rt; 1 <= threads && threads <= 16);
+    let node = sketch.node(alloc)?;
     let gate = Gate {
         tree: MemTree::new(&node),
         begun: AtomicUsize::new(0),
         directories,
     };
-    let options = Options {
-        threads,
-        max_dirs: 100,
-        files: false,
-        exclude: None,
-        archive: false,
-    };
-    walk(rt, alloc, &gate, &options)
-}
-
-/// The walk, once more where there is a fault: a worker whose thread could not be started runs after another.
-fn walk_gate_together<R: Threads + Wait + Sync>(
-    rt: &R,
-    alloc: Global,
-    sketch: Sketch,
-    directories: usize,
-    threads: u32,
-) -> Result<Report, WalkFault>
-    requires { (1 ≤ threads) × (threads ≤ workers_limit) }
-{
-    let report = walk_gate(rt, alloc, sketch, directories, threads)?;
-    if report.faults.is_empty() {
-        return Ok(report);
+    let options = walk_options(threads, 100);
+    let report = report_of(rt, walk_on::<B, Gate, R>(rt, alloc, &gate, &options))?;
+    // A worker whose thread could not be started, for want of memory, runs after another, which finds the gate shut.
+    if wanted.faults.is_empty() && !report.faults.is_empty() {
+        return Err(AllocError);
     }
-    walk_gate(rt, alloc, sketch, directories, threads)
+    assert!(rt; has_found(&report, wanted), "{threads}: {report:?}");
+    Ok(())
 }
 
-/// Trees of so many directories below the top, each with a file.
-const CASES: &[(Sketch, u32)] = &[(TWO, 2), (SIXTEEN, 16)];
+const OF_TWO: Found = Found {
+    rows: &[(None, NONE, Eol::Lf, [2, 2, 0, 4])],
+    directories: 3,
+    faults: &[],
+};
 
-/// As many workers as there are directories list them at the same time.
-fn check_together<R: Threads + Wait + Sync + Abort>(
+const OF_SIXTEEN: Found = Found {
+    rows: &[(None, NONE, Eol::Lf, [16, 16, 0, 32])],
+    directories: 17,
+    faults: &[],
+};
+
+const OF_ONE: Found = Found {
+    rows: &[(None, NONE, Eol::Lf, [1, 1, 0, 2])],
+    directories: 2,
+    faults: &[(b"a", FaultWord::Read)],
+};
+
+/// As many workers as there are directories list them at the same time; one alone finds the gate of the first shut.
+const CASES: &[Case] = &[
+    (TWO, 2, 2, OF_TWO),
+    (SIXTEEN, 16, 16, OF_SIXTEEN),
+    (TWO, 2, 1, OF_ONE),
+];
+
+fn check_gates<B: Shared<Job, Row>, R: Threads + Wait + Sync + Abort>(
     rt: &R,
     alloc: Global,
 ) -> Result<(), AllocError> {
-    for (sketch, many) in CASES {
-        let many = *many;
-        assert!(rt; 1 <= many && many <= 16);
-        let answer = walk_gate_together(rt, alloc, *sketch, many as usize, many);
-        let report = report_of(rt, answer)?;
-        assert!(rt;
-            report.faults.is_empty()
-                && report.totals.files == u64::from(many)
-                && report.directories == u64::from(many) + 1,
-            "{many}: {report:?}"
-        );
+    for case in CASES {
+        check_gate::<B, R>(rt, alloc, *case)?;
     }
     Ok(())
 }
 
 #[test]
-fn workers_list_at_the_same_time(rt: HostRuntime) -> Result<(), Fail> {
-    check_together(&rt, rt.alloc())?;
+fn workers_over_words_list_at_the_same_time(rt: HostRuntime) -> Result<(), Fail> {
+    check_gates::<Words<Job, Row>, HostRuntime>(&rt, rt.alloc())?;
     Ok(())
 }
 
 #[test]
-fn one_worker_lists_one_after_another(rt: HostRuntime) -> Result<(), Fail> {
-    let report = report_of(&rt, walk_gate(&rt, rt.alloc(), TWO, 2, 1))?;
-    assert!(rt;
-        has_faults(&report.faults, &[(b"a", FaultWord::Read)]) && report.totals.files == 1,
-        "{report:?}"
-    );
+fn workers_over_locked_list_at_the_same_time(rt: HostRuntime) -> Result<(), Fail> {
+    check_gates::<Locked<Job, Row>, HostRuntime>(&rt, rt.alloc())?;
     Ok(())
 }

@@ -72,7 +72,7 @@ fn few_directories(rt: HostRuntime) -> Result<(), Fail> {
     Ok(())
 }
 
-/// The walk of a tree over each board finds this, by four workers.
+/// The walk of a tree over each board finds this, by any number of workers.
 fn check_node<R: Threads + Wait + Sync + Abort>(
     rt: &R,
     alloc: Global,
@@ -81,9 +81,12 @@ fn check_node<R: Threads + Wait + Sync + Abort>(
     wanted: Wanted,
 ) -> Result<(), AllocError> {
     let tree = MemTree::new(top);
-    let options = walk_options(4, MOST);
-    check_on::<Words<Job, Row>, MemTree, R>(rt, alloc, &tree, &options, name, wanted)?;
-    check_on::<Locked<Job, Row>, MemTree, R>(rt, alloc, &tree, &options, name, wanted)
+    for threads in [1, 2, 16] {
+        let options = walk_options(threads, MOST);
+        check_on::<Words<Job, Row>, MemTree, R>(rt, alloc, &tree, &options, name, wanted)?;
+        check_on::<Locked<Job, Row>, MemTree, R>(rt, alloc, &tree, &options, name, wanted)?;
+    }
+    Ok(())
 }
 
 /// As many directories as `lc count` takes where it is asked for no other number.

@@ -4,9 +4,9 @@ ghost use Rattle.lc_board.specs.Pass.{holding, new_pass};
 
 use crate::walk::walked::walk_options;
 use lc_board::{Claim, CloseFault, Closed, Ended, Locked, Shared, Words};
-use lc_level::{Cause, Desk, Job, Place, open_level};
+use lc_level::{Cause, Desk, Job, Place, Selection, open_level};
 use lc_tree::{FaultWord, MemTree, Sketch, Tree};
-use lc_walk::{BrokenRow, End, Row, WalkFault, Worked, assemble, work};
+use lc_walk::{BrokenRow, End, Row, Tally, WalkFault, Worked, assemble, work};
 use std::alloc::{AllocError, Global};
 use std::process::Abort;
 use std::sync::Wait;
@@ -143,7 +143,8 @@ const ONE_IN_THE_OTHER: Sketch = Sketch::Dir(&[(b"d", Sketch::Dir(&[(b"e", Sketc
 /// The last child directory of a job's.
 fn last_child<T: Tree>(alloc: Global, tree: &T, job: &Job) -> Result<Job, AllocError> {
     let mut desk = Desk::new(alloc)?;
-    let Ok(mut opened) = open_level(alloc, tree, job, false, &mut desk) else {
+    let selection = Selection::of_archive(false);
+    let Ok(mut opened) = open_level(alloc, tree, job, &selection, &mut desk) else {
         return Err(AllocError);
     };
     match opened.children.pop() {
@@ -210,5 +211,67 @@ fn check_broken_top<B: Shared<Job, Row>, R: Wait + Abort>(
 fn a_row_that_was_refused_memory_after_a_post(rt: HostRuntime) -> Result<(), Fail> {
     check_broken_top::<Words<Job, Row>, HostRuntime>(&rt, rt.alloc())?;
     check_broken_top::<Locked<Job, Row>, HostRuntime>(&rt, rt.alloc())?;
+    Ok(())
+}
+
+const TWO_BELOW: Sketch = Sketch::Dir(&[
+    (b"a", LINE),
+    (b"d", Sketch::Dir(&[(b"b", LINE)])),
+    (b"e", Sketch::Dir(&[(b"c", LINE)])),
+]);
+
+/// Its rows where there is memory.
+const OF_TWO_BELOW: [Said; 3] = [Said::Listed(1, 2), Said::Listed(1, 0), Said::Listed(1, 0)];
+
+/// The rows of one worker say this up to the first that was refused memory, and all after it were given up for that. It answers
+/// whether one was.
+fn some_refused(rt: &impl Abort, rows: &[Ended<Row>], wanted: &[Said]) -> bool {
+    let given_up = Said::Broken(Cause::Memory);
+    let mut refused = false;
+    for (row, wanted) in rows.iter().zip(wanted) {
+        let said = Said::by(row);
+        refused = refused || said == given_up;
+        let wanted = if refused { given_up } else { *wanted };
+        assert!(rt; said == wanted, "{said:?}");
+    }
+    refused
+}
+
+/// Wherever memory is refused to a worker, each number that it posted has ended, so that the board closes; then there is no report.
+fn check_refused<B: Shared<Job, Row>, R: Wait + Abort>(
+    rt: &R,
+    alloc: Global,
+) -> Result<(), AllocError> {
+    let node = TWO_BELOW.node(alloc)?;
+    let (board, pass) = start_one::<B>(alloc)?;
+    let tree = MemTree::new(&node);
+    let mut options = walk_options(1, 4);
+    options.files = true;
+    let Worked { pass, end, tally } = work(rt, alloc, &board, pass, &tree, &options);
+    if end == End::Memory {
+        return Err(AllocError);
+    }
+    let closed = close_one(rt, alloc, board, pass)?;
+    let refused = some_refused(rt, &closed.rows, &OF_TWO_BELOW);
+    let many = closed.rows.len();
+    assert!(rt; many == 3 || refused && many < 3, "{many}");
+    let tally = match tally {
+        Some(tally) => tally,
+        None => Tally::new(alloc),
+    };
+    match assemble(alloc, closed, true, tally) {
+        Ok(report) => assert!(rt; !refused && report.totals.files == 3, "{report:?}"),
+        Err(fault) => {
+            assert!(rt; fault == WalkFault::Memory);
+            return Err(AllocError);
+        }
+    }
+    Ok(())
+}
+
+#[test]
+fn a_worker_that_may_be_refused_memory(rt: HostRuntime) -> Result<(), Fail> {
+    check_refused::<Words<Job, Row>, HostRuntime>(&rt, rt.alloc())?;
+    check_refused::<Locked<Job, Row>, HostRuntime>(&rt, rt.alloc())?;
     Ok(())
 }

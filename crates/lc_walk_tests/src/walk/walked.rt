@@ -104,7 +104,7 @@ pub(super) fn has_faults(faults: &[FaultLine], wanted: &[(&[u8], FaultWord)]) ->
     faults.len() == wanted.len()
 }
 
-fn has_found(report: &Report, wanted: Found) -> bool {
+pub(super) fn has_found(report: &Report, wanted: Found) -> bool {
     report.directories == wanted.directories
         && has_rows(&report.rows, wanted.rows)
         && has_faults(&report.faults, wanted.faults)

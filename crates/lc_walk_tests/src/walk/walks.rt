@@ -283,7 +283,8 @@ const INFO: Sketch = Sketch::Dir(&[
     (b"attributes", Sketch::File(b"[attr]src text\n*.c src\n")),
 ]);
 
-const WITH_INFO: Sketch = Sketch::Dir(&[
+/// A tree with all the rule files that a top may have.
+pub(super) const WITH_INFO: Sketch = Sketch::Dir(&[
     (b".git", Sketch::Dir(&[(b"info", INFO)])),
     (b".gitignore", Sketch::File(b"k.c\n")),
     (b".gitattributes", Sketch::File(b"*.c -text\n")),
@@ -292,11 +293,32 @@ const WITH_INFO: Sketch = Sketch::Dir(&[
     (b"m.c", LINE),
 ]);
 
-const WITH_LINK: Sketch = Sketch::Dir(&[
-    (b".git", Sketch::File(b"gitdir: x\n")),
-    (b".gitignore", Sketch::File(b"link/\n")),
-    (b"link", Sketch::Other),
-]);
+/// A tree with this as its `.git`, and a link of whose name only a directory is ignored.
+macro_rules! with_link {
+    ($git:expr) => {
+        Asked {
+            tree: Sketch::Dir(&[
+                (b".git", $git),
+                (b".gitignore", Sketch::File(b"link/\n")),
+                (b"link", Sketch::Other),
+            ]),
+            ..ASKED
+        }
+    };
+}
+
+const OF_INFO: Found = Found {
+    rows: &[
+        (None, NONE, Eol::Lf, [2, 2, 0, 14]),
+        (Some(b"c"), TextState::Set, Eol::Lf, [1, 1, 0, 2]),
+    ],
+    ..FOUND
+};
+
+const BESIDE_LINK: Found = Found {
+    rows: &[(None, NONE, Eol::Lf, [1, 1, 0, 6])],
+    ..FOUND
+};
 
 const WITH_GIT: &[Case] = &[
     (
@@ -305,25 +327,28 @@ const WITH_GIT: &[Case] = &[
             tree: WITH_INFO,
             ..ASKED
         },
-        Ok(Found {
-            rows: &[
-                (None, NONE, Eol::Lf, [2, 2, 0, 14]),
-                (Some(b"c"), TextState::Set, Eol::Lf, [1, 1, 0, 2]),
-            ],
-            ..FOUND
-        }),
+        Ok(OF_INFO),
     ),
     (
-        "a file and a link",
+        "its rule files over an exclude file",
         Asked {
-            tree: WITH_LINK,
+            tree: WITH_INFO,
+            exclude: Some(b"!a.o"),
             ..ASKED
         },
-        Ok(Found {
-            rows: &[(None, NONE, Eol::Lf, [1, 1, 0, 6])],
-            ..FOUND
-        }),
+        Ok(OF_INFO),
     ),
+    (
+        "a directory",
+        with_link!(Sketch::Dir(&[(b"f", LINE)])),
+        Ok(BESIDE_LINK),
+    ),
+    (
+        "a file",
+        with_link!(Sketch::File(b"gitdir: x\n")),
+        Ok(BESIDE_LINK),
+    ),
+    ("a link", with_link!(Sketch::Other), Ok(BESIDE_LINK)),
 ];
 
 #[test]

@@ -9,7 +9,8 @@ blank_befores-blank-requires-clause-ends c i h =
 
 pub returns : goal.returns
 returns c =
-    block_is c.args.scan.now c.args.v c.requires.long c.args.lf c.args.cr c.args.space c.args.nul c.cr_befores.result c.blank_befores-blank.result
+    block_is c.args.scan.now c.args.v c.requires.long c.args.lf c.args.cr c.args.space c.args.nul c.cr_befores.result
+    c.blank_befores-blank.result
     (search rules) (search rules) (search rules) (search rules) (search rules)
     c.requires.lf c.requires.cr c.requires.space c.requires.nul c.cr_befores.ensures c.blank_befores-blank.ensures
     _ (search rules) (search rules) (search rules) (search rules) (search rules) refl refl

@@ -27,8 +27,10 @@ slice_is_exact = record {
 }
 
 pub returns-clause-whole : goal.returns-clause-whole
-returns-clause-whole c old new bytes run = sym (bytes_given slice_gives (λ s. s.now) (λ s. false) slice_is_exact AnyRoom old new bytes at_end run).0
+returns-clause-whole c old new bytes run =
+    sym (bytes_given slice_gives (λ s. s.now) (λ s. false) slice_is_exact AnyRoom old new bytes at_end run).0
 
 pub returns-clause-no_failure : goal.returns-clause-no_failure
 returns-clause-no_failure c old new bytes run =
-    let fails : false ≡ true = (bytes_given slice_gives (λ s. s.now) (λ s. false) slice_is_exact AnyRoom old new bytes at_failure run).1 in cc
+    let fails : false ≡ true = (bytes_given slice_gives (λ s. s.now)
+    (λ s. false) slice_is_exact AnyRoom old new bytes at_failure run).1 in cc

@@ -6,5 +6,8 @@ pub returns-in_ok-extend_from_slice-in-Class-clause-is :
     goal.returns-in_ok-extend_from_slice-in-Class-clause-is
 returns-in_ok-extend_from_slice-in-Class-clause-is c =
     let is = c.in-Class.ensures in
-    let below : c.first_close-close.result < length c.args.after_colon.now = omega (arith, c.first_close-close.ensures.within) in
-    (c.in-Class.class.now, pair_taken _ _ _ _ (colon_class _ _ _ _ _ c.first_close-close.ensures.is below is.0 is.1) is.2, c.in_ok-extend_from_slice-in-Class.ensures.items)
+    let below : c.first_close-close.result < length c.args.after_colon.now = omega (arith, c.first_close-close.ensures.within) in (
+      c.in-Class.class.now,
+      pair_taken _ _ _ _ (colon_class _ _ _ _ _ c.first_close-close.ensures.is below is.0 is.1) is.2,
+      c.in_ok-extend_from_slice-in-Class.ensures.items,
+    )

@@ -8,6 +8,7 @@ items-preserved c =
     let is = rw c.in-Some-2.is at c.in_ok-taken.ensures.is in
     let fits = rw c.in-Some-2.is at c.in_ok-taken.ensures.within in
     record {
-      same = items_step _ _ _ _ _ _ _ _ _ _ inv.same c.in-Some.ensures.cases.0 inv.within (sym c.closes.ensures ∙ c.if-closes.false) is.1 fits is.2;
+      same = items_step _ _ _ _ _ _ _ _ _ _ inv.same c.in-Some.ensures.cases.0 inv.within
+          (sym c.closes.ensures ∙ c.if-closes.false) is.1 fits is.2;
       within = simp (length-take, length-drop) (omega (arith, c.in-Some.ensures.cases.1));
     }

@@ -12,27 +12,33 @@ returns-in_default-clause-spells c =
 
 pub returns-in_default-last-clause-spells : goal.returns-in_default-last-clause-spells
 returns-in_default-last-clause-spells c =
-    double_spelled _ _ _ _ _ _ (end_double _ _ _ c.in-Some.ensures.cases.0 c.in_default-last.is) (ap segments_of (sym c.path.view_is) ∙ c.path.invariant) c.leads_from_front.ensures.leads
+    double_spelled _ _ _ _ _ _ (end_double _ _ _ c.in-Some.ensures.cases.0 c.in_default-last.is)
+    (ap segments_of (sym c.path.view_is) ∙ c.path.invariant) c.leads_from_front.ensures.leads
 
 pub returns-in_default-last-clause-cost : goal.returns-in_default-last-clause-cost
 returns-in_default-last-clause-cost c =
-    above_cost (map segment_model c.args.segments.now) _ _ _ _ _ (ap segments_of (sym c.path.view_is) ∙ c.path.invariant) c.leads_from_front.ensures.cost
+    above_cost (map segment_model c.args.segments.now) _ _ _ _ _
+    (ap segments_of (sym c.path.view_is) ∙ c.path.invariant) c.leads_from_front.ensures.cost
 
 pub returns-then-fits-clause-spells : goal.returns-then-fits-clause-spells
 returns-then-fits-clause-spells c =
-    let same = plain_spelled _ _ _ _ _ _ (end_segment _ _ _ _ c.in-Some.ensures.cases.0 c.in-Plain.is) (ap segments_of (sym c.path.view_is) ∙ c.path.invariant) in
+    let same = plain_spelled _ _ _ _ _ _ (end_segment _ _ _ _ c.in-Some.ensures.cases.0 c.in-Plain.is)
+    (ap segments_of (sym c.path.view_is) ∙ c.path.invariant) in
     (λ h. same.1 (c.leads_from_end.ensures.leads.0 h, c.if-fits.ensures.fits.0 refl), λ h. c.leads_from_end.ensures.leads.1 (same.0 h).0)
 
 pub returns-then-fits-clause-cost : goal.returns-then-fits-clause-cost
 returns-then-fits-clause-cost c =
-    spell_cost _ _ _ _ _ _ _ _ _ (end_segment _ _ _ _ c.in-Some.ensures.cases.0 c.in-Plain.is) (ap segments_of (sym c.path.view_is) ∙ c.path.invariant) c.fits.ensures.cost c.leads_from_end.ensures.cost
+    spell_cost _ _ _ _ _ _ _ _ _ (end_segment _ _ _ _ c.in-Some.ensures.cases.0 c.in-Plain.is)
+    (ap segments_of (sym c.path.view_is) ∙ c.path.invariant) c.fits.ensures.cost c.leads_from_end.ensures.cost
 
 pub returns-else-fits-clause-spells : goal.returns-else-fits-clause-spells
 returns-else-fits-clause-spells c =
-    let same = plain_spelled _ _ _ _ _ _ (end_segment _ _ _ _ c.in-Some.ensures.cases.0 c.in-Plain.is) (ap segments_of (sym c.path.view_is) ∙ c.path.invariant) in
+    let same = plain_spelled _ _ _ _ _ _ (end_segment _ _ _ _ c.in-Some.ensures.cases.0 c.in-Plain.is)
+    (ap segments_of (sym c.path.view_is) ∙ c.path.invariant) in
     (λ h. absurd (false≢true (sym c.if-fits.false ∙ h)), λ h. absurd (false≢true (c.if-fits.ensures.fits.1 (same.0 h).1)))
 
 pub returns-else-fits-clause-cost : goal.returns-else-fits-clause-cost
 returns-else-fits-clause-cost c =
-    let all = end_cost _ _ _ _ _ _ _ _ (end_segment _ _ _ _ c.in-Some.ensures.cases.0 c.in-Plain.is) (ap segments_of (sym c.path.view_is) ∙ c.path.invariant) c.fits.ensures.cost in
+    let all = end_cost _ _ _ _ _ _ _ _ (end_segment _ _ _ _ c.in-Some.ensures.cases.0 c.in-Plain.is)
+    (ap segments_of (sym c.path.view_is) ∙ c.path.invariant) c.fits.ensures.cost in
     omega (arith, all)

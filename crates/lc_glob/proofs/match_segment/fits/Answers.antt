@@ -2,7 +2,9 @@ use Rattle.lc_glob.proofs.Fitting.{literals_decide, suffix_decides}
 use Rattle.lc_glob.proofs.match_segment.fits.Goals as goal
 
 pub returns-in-Literal-clause-fits : goal.returns-in-Literal-clause-fits
-returns-in-Literal-clause-fits c = rw (c.in-Literal.is, c.is.ensures.same, c.deref.ensures) (literals_decide c.in-Literal.literals.items c.args.segment.bytes.now)
+returns-in-Literal-clause-fits c =
+    rw (c.in-Literal.is, c.is.ensures.same, c.deref.ensures) (literals_decide c.in-Literal.literals.items c.args.segment.bytes.now)
 
 pub returns-in-Suffix-clause-fits : goal.returns-in-Suffix-clause-fits
-returns-in-Suffix-clause-fits c = rw (c.in-Suffix.is, c.ends_with.ensures.ends, c.deref-in-Suffix.ensures) (suffix_decides c.in-Suffix.literals.items c.args.segment.bytes.now)
+returns-in-Suffix-clause-fits c = rw (c.in-Suffix.is, c.ends_with.ensures.ends, c.deref-in-Suffix.ensures)
+    (suffix_decides c.in-Suffix.literals.items c.args.segment.bytes.now)

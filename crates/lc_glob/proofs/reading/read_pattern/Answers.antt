@@ -5,4 +5,5 @@ use Rattle.lc_glob.proofs.reading.read_pattern.Goals as goal
 
 pub returns-then-are_literals : goal.returns-then-are_literals
 returns-then-are_literals c =
-    rw c.in_ok-literals.ensures.ok (ordinary_pattern c.args.bytes.now (λ e. false≢true (c.if-not-is_empty.ensures ∙ eq-eqb _ _ e)) (sym c.are_literals.ensures ∙ c.if-are_literals.true))
+    rw c.in_ok-literals.ensures.ok (ordinary_pattern c.args.bytes.now (λ e. false≢true (c.if-not-is_empty.ensures ∙ eq-eqb _ _ e))
+    (sym c.are_literals.ensures ∙ c.if-are_literals.true))

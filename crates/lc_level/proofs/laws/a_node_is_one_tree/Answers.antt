@@ -11,8 +11,9 @@ returns-clause-answers c = λ top path. node_answers top path
 
 pub returns-clause-levels : goal.returns-clause-levels
 returns-clause-levels c =
-    λ top modest archive j a may.
-    one_level (mem_lists top) (mem_gives top) (c.trees_of_memory_give_one.ensures top modest) archive j a (tree_of_node top (names_of_path j.path)) may (node_answers top j.path)
+    λ top modest s j a may.
+    one_level (mem_lists top) (mem_gives top) (c.trees_of_memory_give_one.ensures top modest) s j a
+    (tree_of_node top (names_of_path j.path)) may (node_answers top j.path)
 
 pub returns-clause-tidy : goal.returns-clause-tidy
 returns-clause-tidy c = λ top place. tidy_at (node_below place top)

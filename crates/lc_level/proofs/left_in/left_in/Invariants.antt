@@ -8,5 +8,5 @@ invariant-loop-entry l =
     (goal.iterator-loop-entry).can_next l.entry-iterator
     × (goal.iterator-loop-entry).is_finite l.entry-iterator
     × (l.path.directory ≡ l.job.path)
-    × (bytes_of l.left.files.items ≡ flat_map (kept_file l.archive l.job) l.yielded)
-    × (l.left.children.items ≡ flat_map (kept_directory l.archive l.job) l.yielded)
+    × (bytes_of l.left.files.items ≡ flat_map (kept_file l.selection l.job) l.yielded)
+    × (l.left.children.items ≡ flat_map (kept_directory l.selection l.job) l.yielded)

@@ -9,6 +9,8 @@ pub returns-then-not-is_empty : goal.returns-then-not-is_empty
 returns-then-not-is_empty g c =
     let law = g.met.T.Tree g.world.𝓛 g.world.𝓜 g.world.𝓡 ((λ s x. x), (λ x. x), (λ x. x), λ x. x) in
     let there = is_top c.args.directory.now && has_dir (codes ".git") c.args.entries.now in
-    let absent : there ≡ false = below_top c.args.directory.now (has_dir (codes ".git") c.args.entries.now) (sym c.is_empty.ensures ∙ c.if-not-is_empty.true) in
-    no_git (g.T.Tree.lists c.args.tree.now) (g.T.Tree.gives c.args.tree.now) (law.some_count c.args.tree.now) (law.some_rules c.args.tree.now)
+    let absent : there ≡ false = below_top c.args.directory.now (has_dir (codes ".git") c.args.entries.now)
+    (sym c.is_empty.ensures ∙ c.if-not-is_empty.true) in
+    no_git (g.T.Tree.lists c.args.tree.now) (g.T.Tree.gives c.args.tree.now) (law.some_count c.args.tree.now)
+    (law.some_rules c.args.tree.now)
     there c.none.result absent c.none.ensures

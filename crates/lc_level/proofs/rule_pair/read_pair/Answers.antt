@@ -13,7 +13,8 @@ returns-clause-read g c =
       record {
         rules_given = first.2;
         attributes_given =
-            subst (λ (d : List ℕ). MayGive (g.T.Tree.gives c.args.tree.now (path_in d c.args.attributes.name.now)) (has_file c.args.attributes.name.now c.args.entries.now) (option_map Ok second.0))
+            subst (λ (d : List ℕ). MayGive (g.T.Tree.gives c.args.tree.now (path_in d c.args.names.attributes.name.now))
+            (has_file c.args.names.attributes.name.now c.args.entries.now) (option_map Ok second.0))
             c.in-Ok.ensures.same second.2;
       },
     )

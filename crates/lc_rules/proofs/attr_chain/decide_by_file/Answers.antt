@@ -13,6 +13,8 @@ pub returns-then-not-can_decide-clause-moves : goal.returns-then-not-can_decide-
 returns-then-not-can_decide-clause-moves c =
     let ms = macros_for c.args.query in
     let wanted = c.args.query.name.now in
-    moves_past ms wanted (by_lines c.args.file.now.lines c.args.path.now c.args.is_dir) (names_in c.args.resolver.now.decided) c.requires.open
+    moves_past ms wanted (by_lines c.args.file.now.lines c.args.path.now c.args.is_dir)
+    (names_in c.args.resolver.now.decided) c.requires.open
     (lines_none (λ a. matters ms wanted a.0) c.args.file.now.lines c.args.path.now c.args.is_dir
-    (ap (list_any (λ (l : PatternLineModel). list_any (λ (a : AssignmentModel). matters ms wanted a.0) l.assigns)) (sym c.lines-lines.ensures) ∙ c.if-not-can_decide.ensures refl))
+    (ap (list_any (λ (l : PatternLineModel). list_any (λ (a : AssignmentModel). matters ms wanted a.0) l.assigns))
+    (sym c.lines-lines.ensures) ∙ c.if-not-can_decide.ensures refl))

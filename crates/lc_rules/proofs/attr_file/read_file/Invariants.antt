@@ -6,8 +6,10 @@ use Rattle.lc_rules.proofs.attr_file.read_file.Given as goal
 
 abbrev pub invariant-lines : goal.invariant-lines
 invariant-lines l = record {
-  macros : filter_map macro_in (attribute_lines_of l.top l.bytes) ≡ l.macros ++ filter_map macro_in (given_lines l.top (lines_left l.left.rest));
-  lines : filter_map line_in (attribute_lines_of l.top l.bytes) ≡ l.lines ++ filter_map line_in (given_lines l.top (lines_left l.left.rest));
+  macros : filter_map macro_in (attribute_lines_of l.top l.bytes) ≡ l.macros ++ filter_map macro_in
+      (given_lines l.top (lines_left l.left.rest));
+  lines : filter_map line_in (attribute_lines_of l.top l.bytes) ≡ l.lines ++ filter_map line_in
+      (given_lines l.top (lines_left l.left.rest));
 }
 
 abbrev pub decreases-lines : goal.decreases-lines

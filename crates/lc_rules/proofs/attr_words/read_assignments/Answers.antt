@@ -13,5 +13,8 @@ words-preserved c =
     let rest = words c.in-Some.rest.now in
     c.words.invariant
     ∙ ap (λ l. onto_all found (assigns l)) c.in-Some.ensures.cases
-    ∙ onto_word found c.in-Some.word.now rest (assignment_model c.in-Some-2.assignment) (sym c.in_ok-assignment.ensures ∙ ap seen_assign c.in-Some-2.is)
-    ∙ ap (λ (l : List AssignmentModel). onto_all l (assigns rest)) (sym (ap (λ (l : List Assignment). map assignment_model l) c.in_ok-push.ensures.items ∙ map-append assignment_model c.words.found.items (c.in-Some-2.assignment ∷ [])))
+    ∙ onto_word found c.in-Some.word.now rest (assignment_model c.in-Some-2.assignment)
+    (sym c.in_ok-assignment.ensures ∙ ap seen_assign c.in-Some-2.is)
+    ∙ ap (λ (l : List AssignmentModel). onto_all l (assigns rest))
+    (sym (ap (λ (l : List Assignment). map assignment_model l) c.in_ok-push.ensures.items
+    ∙ map-append assignment_model c.words.found.items (c.in-Some-2.assignment ∷ [])))

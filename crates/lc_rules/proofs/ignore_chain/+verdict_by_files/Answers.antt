@@ -15,12 +15,14 @@ returns-in-NoRule t c =
     ∙ ap (λ d. verdict_of (at_depth 0 rules) (below d c.at-inner.result.path.now) is_dir) c.at-inner.ensures.depth
     ∙ ap (λ p. verdict_of (at_depth 0 rules) (below depth p) is_dir) c.at-inner.ensures.path
     ∙ file_below depth rules path is_dir
-    ∙ sym (nearer_decides c.args.files c.in-Some.nearer (depth, rules) path is_dir NoRule c.in-Some.ensures (c.in-NoRule.ensures ∙ ap (λ p. verdict_of (joined c.in-Some.nearer) p is_dir) c.at-inner.ensures.path))
+    ∙ sym (nearer_decides c.args.files c.in-Some.nearer (depth, rules) path is_dir NoRule c.in-Some.ensures
+    (c.in-NoRule.ensures ∙ ap (λ p. verdict_of (joined c.in-Some.nearer) p is_dir) c.at-inner.ensures.path))
 
 pub returns-in_default-verdict_by_files : goal.returns-in_default-verdict_by_files
 returns-in_default-verdict_by_files t c =
     let v = c.verdict_by_files.result in
     let path = c.args.path.path.now in
     let is_dir = c.args.is_dir in
-    sym (nearer_decides c.args.files c.in-Some.nearer (c.in-Some.depth, c.in-Some.file.now) path is_dir v c.in-Some.ensures (c.verdict_by_files.ensures ∙ ap (λ p. verdict_of (joined c.in-Some.nearer) p is_dir) c.at-inner.ensures.path)
+    sym (nearer_decides c.args.files c.in-Some.nearer (c.in-Some.depth, c.in-Some.file.now) path is_dir v c.in-Some.ensures
+    (c.verdict_by_files.ensures ∙ ap (λ p. verdict_of (joined c.in-Some.nearer) p is_dir) c.at-inner.ensures.path)
     ∙ decided_stays v _ c.in_default-verdict_by_files.not-NoRule)

@@ -10,13 +10,15 @@ pub returns-then-eq-clause-moves : goal.returns-then-eq-clause-moves
 returns-then-eq-clause-moves c =
     let names = names_in c.args.resolver.now.decided in
     let todo = stacked c.args.resolver.now.pending.items in
-    moves_found (macros_for c.args.query) c.args.query.name.now (assignment_ref_model c.args.word) todo names todo names c.requires (sym c.eq.ensures ∙ c.if-eq.true)
+    moves_found (macros_for c.args.query) c.args.query.name.now (assignment_ref_model c.args.word) todo names todo names c.requires
+    (sym c.eq.ensures ∙ c.if-eq.true)
 
 pub returns-in_default-clause-moves : goal.returns-in_default-clause-moves
 returns-in_default-clause-moves c =
     let names = names_in c.args.resolver.now.decided in
     let todo = stacked c.args.resolver.now.pending.items in
-    moves_plain (macros_for c.args.query) c.args.query.name.now (assignment_ref_model c.args.word) todo names c.requires (sym c.eq.ensures ∙ c.if-eq.false) c.in_default.ensures
+    moves_plain (macros_for c.args.query) c.args.query.name.now (assignment_ref_model c.args.word) todo names c.requires
+    (sym c.eq.ensures ∙ c.if-eq.false) c.in_default.ensures
 
 pub returns-then-contains-clause-moves : goal.returns-then-contains-clause-moves
 returns-then-contains-clause-moves c =
@@ -29,15 +31,19 @@ pub returns-clause-moves : goal.returns-clause-moves
 returns-clause-moves c =
     let names = names_in c.args.resolver.now.decided in
     let todo = stacked c.args.resolver.now.pending.items in
-    moves_macro (macros_for c.args.query) c.args.query.name.now c.args.word.name.now (state_model c.args.word.state) todo (stacked c.expand.new.pending.items) names (names_in c.insert.new.self) (macro_body_model c.in-Some.body)
+    moves_macro (macros_for c.args.query) c.args.query.name.now c.args.word.name.now (state_model c.args.word.state) todo
+    (stacked c.expand.new.pending.items) names (names_in c.insert.new.self) (macro_body_model c.in-Some.body)
     c.requires (sym c.eq.ensures ∙ c.if-eq.false)
     (names_in-contains c.args.resolver.now.decided c.args.word.name.now ∙ sym c.contains.ensures ∙ c.if-contains.false)
-    c.in-Some.ensures c.in_ok-expand.ensures (names_in-insert c.args.word.name c.args.resolver.now.decided c.insert.new.self c.in_ok-insert.ensures.updates)
+    c.in-Some.ensures c.in_ok-expand.ensures
+    (names_in-insert c.args.word.name c.args.resolver.now.decided c.insert.new.self c.in_ok-insert.ensures.updates)
 
 pub returns-clause-smaller : goal.returns-clause-smaller
 returns-clause-smaller c =
     let names = names_in c.args.resolver.now.decided in
     let todo = stacked c.args.resolver.now.pending.items in
-    macro_to_read (macros_for c.args.query) c.args.word.name.now (state_model c.args.word.state) todo (stacked c.expand.new.pending.items) names (names_in c.insert.new.self) (macro_body_model c.in-Some.body)
+    macro_to_read (macros_for c.args.query) c.args.word.name.now (state_model c.args.word.state) todo
+    (stacked c.expand.new.pending.items) names (names_in c.insert.new.self) (macro_body_model c.in-Some.body)
     (names_in-contains c.args.resolver.now.decided c.args.word.name.now ∙ sym c.contains.ensures ∙ c.if-contains.false)
-    c.in-Some.ensures c.in_ok-expand.ensures (names_in-insert c.args.word.name c.args.resolver.now.decided c.insert.new.self c.in_ok-insert.ensures.updates)
+    c.in-Some.ensures c.in_ok-expand.ensures
+    (names_in-insert c.args.word.name c.args.resolver.now.decided c.insert.new.self c.in_ok-insert.ensures.updates)

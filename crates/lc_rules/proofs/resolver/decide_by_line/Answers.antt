@@ -13,7 +13,9 @@ pub returns-then-not-matters_in-clause-moves : goal.returns-then-not-matters_in-
 returns-then-not-matters_in-clause-moves c =
     let ms = macros_for c.args.query in
     let wanted = c.args.query.name.now in
-    moves_past ms wanted (by_line (pattern_line_model c.args.line.now) c.args.path.now c.args.is_dir) (names_in c.args.resolver.now.decided) c.requires.open
+    moves_past ms wanted (by_line (pattern_line_model c.args.line.now) c.args.path.now c.args.is_dir)
+    (names_in c.args.resolver.now.decided) c.requires.open
     (line_none (λ a. matters ms wanted a.0) (pattern_line_model c.args.line.now) c.args.path.now c.args.is_dir
     (list_any-map (λ a. matters ms wanted a.0) assignment_model c.args.line.now.assignments.items
-    ∙ ap (list_any (λ (a : Assignment). matters ms wanted (assignment_model a).0)) (sym c.as_slice-assignments.ensures.value) ∙ sym c.matters_in.ensures ∙ c.if-not-matters_in.true))
+    ∙ ap (list_any (λ (a : Assignment). matters ms wanted (assignment_model a).0)) (sym c.as_slice-assignments.ensures.value)
+    ∙ sym c.matters_in.ensures ∙ c.if-not-matters_in.true))

@@ -18,7 +18,8 @@ returns-in-Some-2-clause-moves c =
     let end = names_in c.decide_by_line.new.resolver.decided in
     moves_part ms c.args.query.name.now _ part rest _ _ middle end (Some (state_model c.in-Some-2.state)) c.lines.invariant.moves
     (lines_last _ _ _ _ _ c.in-Some.ensures.cases.0)
-    (as_found ms c.args.query.name.now part middle end [] _ (Some (state_model c.in-Some-2.state)) (ap seen_state c.in-Some-2.is) c.in_ok-state.ensures.moves)
+    (as_found ms c.args.query.name.now part middle end [] _ (Some (state_model c.in-Some-2.state))
+    (ap seen_state c.in-Some-2.is) c.in_ok-state.ensures.moves)
 
 pub lines-preserved : goal.lines-preserved
 lines-preserved c =
@@ -31,5 +32,6 @@ lines-preserved c =
       moves = moves_part ms c.args.query.name.now _ part rest _ _ middle end None c.lines.invariant.moves
           (lines_last _ _ _ _ _ c.in-Some.ensures.cases.0)
           (as_found ms c.args.query.name.now part middle end [] _ None (ap seen_state c.in_default-2.is) c.in_ok-state.ensures.moves);
-      empty = subst (λ (o : Option State). IfNone o (c.decide_by_line.new.resolver.pending.items ≡ [])) c.in_default-2.is c.in_ok-state.ensures.empty;
+      empty = subst (λ (o : Option State). IfNone o
+          (c.decide_by_line.new.resolver.pending.items ≡ [])) c.in_default-2.is c.in_ok-state.ensures.empty;
     }

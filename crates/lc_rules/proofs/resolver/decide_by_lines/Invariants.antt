@@ -7,7 +7,9 @@ use Rattle.lc_rules.proofs.resolver.decide_by_lines.Given as goal
 
 abbrev pub invariant-lines : goal.invariant-lines
 invariant-lines l = record {
-  moves : Moves (macros_for l.query) l.query.name.now (by_lines (map pattern_line_model l.lines) l.path l.is_dir) (names_in l.initial.resolver.decided) None (by_lines (map pattern_line_model l.left) l.path l.is_dir) (names_in l.resolver.decided);
+  moves : Moves (macros_for l.query) l.query.name.now (by_lines (map pattern_line_model l.lines) l.path l.is_dir)
+      (names_in l.initial.resolver.decided) None (by_lines (map pattern_line_model l.left) l.path l.is_dir)
+      (names_in l.resolver.decided);
   empty : l.resolver.pending.items ≡ [];
 }
 

@@ -6,7 +6,8 @@ use Rattle.lc_rules.proofs.resolver.decide_by_words.Given as goal
 
 abbrev pub invariant-words : goal.invariant-words
 invariant-words l = record {
-  moves : Moves (macros_for l.query) l.query.name.now (reverse (map assignment_model l.assignments)) (names_in l.initial.resolver.decided) None (reverse (map assignment_model l.left)) (names_in l.resolver.decided);
+  moves : Moves (macros_for l.query) l.query.name.now (reverse (map assignment_model l.assignments))
+      (names_in l.initial.resolver.decided) None (reverse (map assignment_model l.left)) (names_in l.resolver.decided);
   empty : l.resolver.pending.items ≡ [];
 }
 

@@ -20,7 +20,8 @@ is_fault (Ok _) fault is = absurd is
 is_fault (Err e) fault is = ap Err is
 
 -- rules that were read are not too long
-not_long : {T : Type 0} (rules : T) (n : ℕ) → (max_rule_bytes < n → ◌≡◌ {A = Result T RuleFault} (Ok rules) (Err TooLong)) → n ≤ max_rule_bytes
+not_long : {T : Type 0} (rules : T) (n : ℕ) → (max_rule_bytes < n → ◌≡◌ {A = Result T RuleFault} (Ok rules) (Err TooLong))
+    → n ≤ max_rule_bytes
 not_long rules n long = ⊎_elim (λ over. let e = long over in absurd (cc)) (λ fits. fits) (cases_lt max_rule_bytes n)
 
 pub returns-in_err-print : goal.returns-in_err-print
@@ -28,11 +29,17 @@ returns-in_err-print g c =
     let bytes = c.read_whole.new.bytes.items in
     let rules_are = c.split_joined.ensures.rules ∙ ap rules_part c.deref.ensures.value in
     let paths_are = c.split_joined.ensures.paths ∙ ap paths_part c.deref.ensures.value in
-    let text = c.deref-2.ensures.value ∙ (c.in_ok-text.ensures ∙ ap₂ text_by (c.in_ok-rules.ensures.ok ∙ ap rules_of rules_are) paths_are) in
-    let within = subst (λ (l : List ℕ). length l ≤ max_rule_bytes) rules_are (not_long c.in_ok-rules.rules (length c.split_joined.result.0.now) c.in_ok-rules.ensures.too_long.1) in
-    let answers = subst (λ (t : List ℕ). AnswersPrint g.O.Sink.may_take c.args.out.now t (Err c.in_err-print.field-0.0) c.print.new.out) text c.in_err-print.ensures.answers in
-    let stops = output_stops g.S.Source.may_give g.O.Sink.may_take rules_part joined_text c.in_err-print.field-0.0 c.args.input.now c.read_whole.new.reader c.args.out.now c.print.new.out bytes (c.in_ok-read_whole.ensures, within) answers in
-    subst (λ (r : Result (Unit {0}) CheckFault). AnswersCheck g.S.Source.may_give g.O.Sink.may_take rules_part joined_text c.args.input.now c.args.out.now r c.read_whole.new.reader c.print.new.out)
+    let text = c.deref-2.ensures.value ∙ (c.in_ok-text.ensures
+    ∙ ap₂ text_by (c.in_ok-rules.ensures.ok ∙ ap rules_of rules_are) paths_are) in
+    let within = subst (λ (l : List ℕ). length l ≤ max_rule_bytes) rules_are
+    (not_long c.in_ok-rules.rules (length c.split_joined.result.0.now) c.in_ok-rules.ensures.too_long.1) in
+    let answers = subst (λ (t : List ℕ). AnswersPrint g.O.Sink.may_take c.args.out.now t
+    (Err c.in_err-print.field-0.0) c.print.new.out) text c.in_err-print.ensures.answers in
+    let stops = output_stops g.S.Source.may_give g.O.Sink.may_take rules_part joined_text c.in_err-print.field-0.0 c.args.input.now
+    c.read_whole.new.reader c.args.out.now c.print.new.out bytes (c.in_ok-read_whole.ensures, within) answers in
+    subst (λ (r : Result
+    (Unit {0}) CheckFault). AnswersCheck g.S.Source.may_give g.O.Sink.may_take rules_part joined_text c.args.input.now c.args.out.now r
+    c.read_whole.new.reader c.print.new.out)
     (sym (is_fault c.from_residual-in_err-print.result (print_fault c.in_err-print.field-0.0) c.from_residual-in_err-print.ensures.1)) stops
 
 pub returns : goal.returns
@@ -40,6 +47,11 @@ returns g c =
     let bytes = c.read_whole.new.bytes.items in
     let rules_are = c.split_joined.ensures.rules ∙ ap rules_part c.deref.ensures.value in
     let paths_are = c.split_joined.ensures.paths ∙ ap paths_part c.deref.ensures.value in
-    let text = c.deref-2.ensures.value ∙ (c.in_ok-text.ensures ∙ ap₂ text_by (c.in_ok-rules.ensures.ok ∙ ap rules_of rules_are) paths_are) in
-    let within = subst (λ (l : List ℕ). length l ≤ max_rule_bytes) rules_are (not_long c.in_ok-rules.rules (length c.split_joined.result.0.now) c.in_ok-rules.ensures.too_long.1) in
-    (bytes, (c.in_ok-read_whole.ensures, within), subst (λ (t : List ℕ). Writes g.O.Sink.may_take c.args.out.now t c.print.new.out) text c.in_ok-print.ensures.answers)
+    let text = c.deref-2.ensures.value ∙ (c.in_ok-text.ensures
+    ∙ ap₂ text_by (c.in_ok-rules.ensures.ok ∙ ap rules_of rules_are) paths_are) in
+    let within = subst (λ (l : List ℕ). length l ≤ max_rule_bytes) rules_are
+    (not_long c.in_ok-rules.rules (length c.split_joined.result.0.now) c.in_ok-rules.ensures.too_long.1) in (
+      bytes,
+      (c.in_ok-read_whole.ensures, within),
+      subst (λ (t : List ℕ). Writes g.O.Sink.may_take c.args.out.now t c.print.new.out) text c.in_ok-print.ensures.answers,
+    )

@@ -11,5 +11,6 @@ loop-rest-preserved g c =
     let took = c.in_ok-count.ensures in (
       c.loop-rest.invariant.0 ++ count ∷ [],
       rw (take_rest rest count)
-          (takes_more g.O.Sink.may_take c.args.out.now c.args.text.now c.loop-rest.invariant.0 c.loop-rest.out rest count c.write.new.self c.loop-rest.invariant.1 some took.within took.taken),
+          (takes_more g.O.Sink.may_take c.args.out.now c.args.text.now c.loop-rest.invariant.0 c.loop-rest.out rest count
+          c.write.new.self c.loop-rest.invariant.1 some took.within took.taken),
     )

@@ -7,4 +7,5 @@ use Rattle.lc_tree.proofs.listing.sort_by_name.Goals as goal
 
 pub returns-clause-order : goal.returns-clause-order
 returns-clause-order c =
-    c.sort_unstable_by.ensures.sorted (λ (x : EntryModel) (y : EntryModel). is_lt (by_name x y)) (paths_rank (λ (e : EntryModel). e.name)) (always_returns_same _ _ _ (λ a r q k. search rules))
+    c.sort_unstable_by.ensures.sorted (λ (x : EntryModel) (y : EntryModel). is_lt (by_name x y))
+    (paths_rank (λ (e : EntryModel). e.name)) (always_returns_same _ _ _ (λ a r q k. search rules))

@@ -11,15 +11,21 @@ assemble-requires g c =
     omega (arith, few, c.requires.room.1)
 
 pub returns-in-Ok : goal.returns-in-Ok
-returns-in-Ok g c tree archive worked root is at_top =
-    assembled_walk (asked c.args.files archive) (MayAnswer (g.T.Tree.lists tree) (g.T.Tree.gives tree)) (g.B.Shared.capacity_of c.args.board) (g.B.Shared.workers_of c.args.board) root g.B.Shared.promises
-    (map (λ p. g.B.Pass.Token.view p) c.args.passes.items) c.requires.room.0 (mapped (λ p. g.B.Pass.Token.view p) c.args.passes.items ∙ sym c.args.passes.ok.0 ∙ c.requires.all) at_top
-    worked.given worked.lawful c.in-Ok.closed.rows.items (c.in-Ok.ensures.settled root is) c.args.tally worked.tallied c.assemble.result c.assemble.ensures
+returns-in-Ok g c tree selection worked root is at_top =
+    assembled_walk (asked c.args.files selection) (MayAnswer (g.T.Tree.lists tree) (g.T.Tree.gives tree))
+    (g.B.Shared.capacity_of c.args.board) (g.B.Shared.workers_of c.args.board) root g.B.Shared.promises
+    (map (λ p. g.B.Pass.Token.view p) c.args.passes.items) c.requires.room.0
+    (mapped (λ p. g.B.Pass.Token.view p) c.args.passes.items ∙ sym c.args.passes.ok.0 ∙ c.requires.all) at_top
+    worked.given worked.lawful c.in-Ok.closed.rows.items (c.in-Ok.ensures.settled root is) c.args.tally worked.tallied
+    c.assemble.result c.assemble.ensures
 
 pub returns-in-Err : goal.returns-in-Err
-returns-in-Err g c tree archive worked root is at_top =
-    subst (λ f. WalkAnswers (MayAnswer (g.T.Tree.lists tree) (g.T.Tree.gives tree)) (asked c.args.files archive) (g.B.Shared.capacity_of c.args.board) (g.B.Shared.workers_of c.args.board) root g.B.Shared.promises (Err f))
+returns-in-Err g c tree selection worked root is at_top =
+    subst (λ f. WalkAnswers (MayAnswer (g.T.Tree.lists tree) (g.T.Tree.gives tree)) (asked c.args.files selection)
+    (g.B.Shared.capacity_of c.args.board) (g.B.Shared.workers_of c.args.board) root g.B.Shared.promises (Err f))
     (sym c.from.ensures)
-    (refused_walk (asked c.args.files archive) (MayAnswer (g.T.Tree.lists tree) (g.T.Tree.gives tree)) (g.B.Shared.capacity_of c.args.board) (g.B.Shared.workers_of c.args.board) root g.B.Shared.promises
-    (map (λ p. g.B.Pass.Token.view p) c.args.passes.items) c.requires.room.0 (mapped (λ p. g.B.Pass.Token.view p) c.args.passes.items ∙ sym c.args.passes.ok.0 ∙ c.requires.all) at_top
+    (refused_walk (asked c.args.files selection) (MayAnswer (g.T.Tree.lists tree) (g.T.Tree.gives tree))
+    (g.B.Shared.capacity_of c.args.board) (g.B.Shared.workers_of c.args.board) root g.B.Shared.promises
+    (map (λ p. g.B.Pass.Token.view p) c.args.passes.items) c.requires.room.0
+    (mapped (λ p. g.B.Pass.Token.view p) c.args.passes.items ∙ sym c.args.passes.ok.0 ∙ c.requires.all) at_top
     c.requires.crew worked.ended c.in-Err.fault c.in-Err.ensures.fault)

@@ -8,8 +8,10 @@ use Rattle.lc_walk.proofs.report.sort_faults.Goals as goal
 
 pub returns-clause-order : goal.returns-clause-order
 returns-clause-order c =
-    c.sort_unstable_by.ensures.sorted (λ (x : FaultLineModel) (y : FaultLineModel). is_lt (bytes_cmp x.path y.path)) (paths_rank (λ (f : FaultLineModel). f.path)) (always_returns_same _ _ _ (λ a r q k. search rules))
+    c.sort_unstable_by.ensures.sorted (λ (x : FaultLineModel) (y : FaultLineModel). is_lt (bytes_cmp x.path y.path))
+    (paths_rank (λ (f : FaultLineModel). f.path)) (always_returns_same _ _ _ (λ a r q k. search rules))
 
 pub returns-clause-strict : goal.returns-clause-strict
 returns-clause-strict c =
-    sorted_paths (λ (f : FaultLineModel). f.path) c.args.faults.now.items c.sort_unstable_by.new.self.items c.sort_unstable_by.ensures.permutation (returns-clause-order c)
+    sorted_paths (λ (f : FaultLineModel). f.path) c.args.faults.now.items c.sort_unstable_by.new.self.items
+    c.sort_unstable_by.ensures.permutation (returns-clause-order c)

@@ -21,8 +21,10 @@ finish-requires-clause-each g c κs within =
     let view = g.B.Pass.Token.view in
     let owns = g.B.Shared.owns c.in-Ok-start.board in
     λ w p at. taken_in_order view owns (λ x. x.pass) c.in-Ok-run_all.workers.items
-    (still_in_order view owns (λ x. x.pass) c.in-Ok-start.passes.items c.in-Ok-run_all.workers.items (same_count g c) c.in-Ok-start.ensures.passes
-    (λ i q x low. let r = c.in-Ok-run_all.ensures.each i q x (subst (λ n. i < n) (sym c.in-Ok-start.passes.ok.0) low) in (r.0, r.1.worked.worker)))
+    (still_in_order view owns (λ x. x.pass) c.in-Ok-start.passes.items c.in-Ok-run_all.workers.items (same_count g c)
+    c.in-Ok-start.ensures.passes
+    (λ i q x low. let r = c.in-Ok-run_all.ensures.each i q x (subst (λ n. i < n) (sym c.in-Ok-start.passes.ok.0) low) in
+    (r.0, r.1.worked.worker)))
     w p (ap (λ ps. slice_get ps w) (sym c.in-Some.ensures.passes) ∙ at)
 
 pub returns : goal.returns
@@ -31,9 +33,10 @@ returns g c =
     let ask = asked_by c.args.options.now in
     let may = MayAnswer (g.T.Tree.lists c.args.tree.now) (g.T.Tree.gives c.args.tree.now) in
     let same = sym c.in-Ok-run_all.workers.ok.0 ∙ c.in-Ok-run_all.ensures.all ∙ c.in-Ok-start.passes.ok.0 in
-    let told = c.finish.ensures c.args.tree.now c.args.options.now.archive
+    let told = c.finish.ensures c.args.tree.now (asked_by c.args.options.now).selection
     (subst (λ ps. HaveWorked ask may (map view ps) c.in-Some.gathered.tally) (sym c.in-Some.ensures.passes)
-    (have_worked view ask may c.in-Ok-start.passes.items c.in-Ok-run_all.workers.items same (λ w p is. (c.in-Ok-start.ensures.passes w p is).1)
+    (have_worked view ask may c.in-Ok-start.passes.items c.in-Ok-run_all.workers.items same
+    (λ w p is. (c.in-Ok-start.ensures.passes w p is).1)
     (λ i q x low. (c.in-Ok-run_all.ensures.each i q x (subst (λ n. i < n) (sym c.in-Ok-start.passes.ok.0) low)).1)
     c.in-Some.ensures.over c.in-Some.gathered.tally c.in-Some.ensures.tally)) in
     search (rules, told)

@@ -12,7 +12,8 @@ loop-preserved-in-Got g c = (
   c.give.ensures.pass,
   rw c.give.ensures.mine refl,
   λ first w. rw (c.give.ensures.mine, c.claim.ensures.mine, c.in-Got.is)
-      (works_given_up (asked_by c.args.options.now) (g.T.Tree.lists c.args.tree.now) (g.T.Tree.gives c.args.tree.now) (g.B.Pass.Token.view c.loop.pass) _ _ c.args.tally first
+      (works_given_up (asked_by c.args.options.now) (g.T.Tree.lists c.args.tree.now) (g.T.Tree.gives c.args.tree.now)
+      (g.B.Pass.Token.view c.loop.pass) _ _ c.args.tally first
       (c.loop.invariant.4 first w)),
 )
 
@@ -21,5 +22,7 @@ returns-in-Over-clause-end g c = ((g.B.Pass.Token.view c.loop.pass).mine, rw (c.
 
 pub returns-in-Over-clause-worked : goal.returns-in-Over-clause-worked
 returns-in-Over-clause-worked g c = λ first w.
-    rw c.claim.ensures.mine (works_claim (asked_by c.args.options.now) (MayAnswer (g.T.Tree.lists c.args.tree.now) (g.T.Tree.gives c.args.tree.now)) (g.B.Pass.Token.view c.loop.pass) _ c.args.tally first
+    rw c.claim.ensures.mine (works_claim (asked_by c.args.options.now)
+    (MayAnswer (g.T.Tree.lists c.args.tree.now) (g.T.Tree.gives c.args.tree.now)) (g.B.Pass.Token.view c.loop.pass) _ c.args.tally
+    first
     (c.loop.invariant.4 first w))

@@ -11,4 +11,5 @@ invariant-loop g l =
     × (goal.iterator-loop g).is_finite l.iterator'
     × g.B.Shared.owns l.board l.pass
     × (holding (g.B.Pass.Token.view l.pass) ≡ None)
-    × GoesOn (asked_by l.options) (MayAnswer (g.T.Tree.lists l.tree) (g.T.Tree.gives l.tree)) (g.B.Pass.Token.view l.fn.pass) (g.B.Pass.Token.view l.pass) l.tally l.tally
+    × GoesOn (asked_by l.options) (MayAnswer (g.T.Tree.lists l.tree) (g.T.Tree.gives l.tree)) (g.B.Pass.Token.view l.fn.pass)
+    (g.B.Pass.Token.view l.pass) l.tally l.tally

@@ -17,14 +17,18 @@ loop-preserved-in-Ok-serve g c = (
   c.serve.ensures.pass,
   c.serve.ensures.free,
   c.in-Ok-serve.ensures.serves _
-      (rw c.claim.ensures.mine (works_claim (asked_by c.args.options.now) (MayAnswer (g.T.Tree.lists c.args.tree.now) (g.T.Tree.gives c.args.tree.now)) (g.B.Pass.Token.view c.loop.pass) _ (Some c.loop.tally) _
+      (rw c.claim.ensures.mine (works_claim (asked_by c.args.options.now)
+      (MayAnswer (g.T.Tree.lists c.args.tree.now) (g.T.Tree.gives c.args.tree.now)) (g.B.Pass.Token.view c.loop.pass) _
+      (Some c.loop.tally) _
       c.loop.invariant.4)),
 )
 
 pub returns-in-Err-clause-worked : goal.returns-in-Err-clause-worked
 returns-in-Err-clause-worked g c =
     c.give_up_rest-in-Err.ensures.worked _ (c.in-Err.ensures.serves _
-    (rw c.claim.ensures.mine (works_claim (asked_by c.args.options.now) (MayAnswer (g.T.Tree.lists c.args.tree.now) (g.T.Tree.gives c.args.tree.now)) (g.B.Pass.Token.view c.loop.pass) _ (Some c.loop.tally) _
+    (rw c.claim.ensures.mine (works_claim (asked_by c.args.options.now)
+    (MayAnswer (g.T.Tree.lists c.args.tree.now) (g.T.Tree.gives c.args.tree.now)) (g.B.Pass.Token.view c.loop.pass) _
+    (Some c.loop.tally) _
     c.loop.invariant.4)))
 
 pub returns-in-Over-clause-end : goal.returns-in-Over-clause-end
@@ -32,5 +36,7 @@ returns-in-Over-clause-end g c = ((g.B.Pass.Token.view c.loop.pass).mine, rw (c.
 
 pub returns-in-Over-clause-worked : goal.returns-in-Over-clause-worked
 returns-in-Over-clause-worked g c =
-    rw c.claim.ensures.mine (works_claim (asked_by c.args.options.now) (MayAnswer (g.T.Tree.lists c.args.tree.now) (g.T.Tree.gives c.args.tree.now)) (g.B.Pass.Token.view c.loop.pass) _ (Some c.loop.tally) _
+    rw c.claim.ensures.mine (works_claim (asked_by c.args.options.now)
+    (MayAnswer (g.T.Tree.lists c.args.tree.now) (g.T.Tree.gives c.args.tree.now)) (g.B.Pass.Token.view c.loop.pass) _
+    (Some c.loop.tally) _
     c.loop.invariant.4)

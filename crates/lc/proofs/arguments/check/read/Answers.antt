@@ -13,10 +13,12 @@ returns-in-Ok-try_get_matches_from g c =
     let is = c.in-Ok.ensures.0 in
     let parse = c.in-Ok-try_get_matches_from.ensures in (
       fails_as command check_app words (Ok m) is check_is_free parse.kinds,
-      text_or (matches_of check_app words) (found_of m) (codes "FILE") c.get_str.result _ c.unwrap_or.result (matches_as command check_app words m is check_is_simple parse.matches)
+      text_or (matches_of check_app words) (found_of m) (codes "FILE") c.get_str.result _ c.unwrap_or.result
+          (matches_as command check_app words m is check_is_simple parse.matches)
           c.get_str.ensures refl c.unwrap_or.ensures,
     )
 
 pub returns-in-Err : goal.returns-in-Err
 returns-in-Err g c =
-    no_request_of c.in-Ok.command check_app (map g.W.AsStr.text c.args.words.now) c.in-Err.error c.explained.result c.in-Ok.ensures.0 check_is_free c.in-Err.ensures.kinds c.explained.ensures
+    no_request_of c.in-Ok.command check_app (map g.W.AsStr.text c.args.words.now) c.in-Err.error c.explained.result c.in-Ok.ensures.0
+    check_is_free c.in-Err.ensures.kinds c.explained.ensures

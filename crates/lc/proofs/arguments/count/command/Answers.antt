@@ -16,7 +16,8 @@ all_six a b c d e f fa fb fc fd fe ff =
     (All-cons FitsChain e (f ∷ []) fe (All-cons FitsChain f [] ff (All-nil FitsChain))))))
 
 -- the rules of the six
-six_rules : (a b c d e f : Arg) → rule_of a ≡ number_rule (codes "threads") 16 (codes "4") → rule_of b ≡ number_rule (codes "max-dirs") 1048576 (codes "65536")
+six_rules : (a b c d e f : Arg) → rule_of a ≡ number_rule (codes "threads") 16 (codes "4")
+    → rule_of b ≡ number_rule (codes "max-dirs") 1048576 (codes "65536")
     → rule_of c ≡ flag_rule (codes "files") → rule_of d ≡ flag_rule (codes "archive") → rule_of e ≡ text_rule (codes "exclude-from")
     → rule_of f ≡ word_rule (codes "DIR")
     → map rule_of (a ∷ b ∷ c ∷ d ∷ e ∷ f ∷ []) ≡ count_rules
@@ -44,15 +45,26 @@ returns c =
         (
           c.in_ok-arg-3.field-0,
           c.in_ok-arg-3.ensures,
-          (c.in_ok-arg-4.field-0, c.in_ok-arg-4.ensures, (c.in_ok-arg-5.field-0, c.in_ok-arg-5.ensures, (c.in_ok-command.command, c.in_ok-command.ensures, refl))),
+          (
+            c.in_ok-arg-4.field-0,
+            c.in_ok-arg-4.ensures,
+            (c.in_ok-arg-5.field-0, c.in_ok-arg-5.ensures, (c.in_ok-command.command, c.in_ok-command.ensures, refl)),
+          ),
         ),
       ),
     ) in
-    let fits = all_six threads dirs files archive exclude dir c.threads.ensures.1 c.max_dirs.ensures.1 c.flag.ensures.1 c.flag-2.ensures.1 c.exclude_from.ensures.1 c.directory.ensures.1 in
-    let are = six_rules threads dirs files archive exclude dir c.threads.ensures.0 c.max_dirs.ensures.0 c.flag.ensures.0 c.flag-2.ensures.0 c.exclude_from.ensures.0 c.directory.ensures.0 in
+    let fits = all_six threads dirs files archive exclude dir c.threads.ensures.1 c.max_dirs.ensures.1 c.flag.ensures.1
+    c.flag-2.ensures.1 c.exclude_from.ensures.1 c.directory.ensures.1 in
+    let are = six_rules threads dirs files archive exclude dir c.threads.ensures.0 c.max_dirs.ensures.0 c.flag.ensures.0
+    c.flag-2.ensures.0 c.exclude_from.ensures.0 c.directory.ensures.0 in
     let apart : are_apart (ids_of six) ≡ true = ap are_apart (ids_by_rules six ∙ ap (map (λ (r : Rule). r.id)) are) in
     let within = reads_within (codes "count") c.in_ok-bare.field-0 c.in_ok-command.command six c.in_ok-bare.ensures added fits apart in
-    let turned = rules_in_turn c.in_ok-bare.field-0 c.in_ok-command.command six added fits (bare_app (codes "count")) c.in_ok-bare.ensures.0.0 in (
+    let turned = rules_in_turn c.in_ok-bare.field-0 c.in_ok-command.command six added fits (bare_app (codes "count"))
+    c.in_ok-bare.ensures.0.0 in (
       (turned.0 ∙ ap (with_rules (bare_app (codes "count"))) are, turned.1 c.in_ok-bare.ensures.0.1),
-      (within 0 dir (omega arith) (codes "threads") 16 (codes "4") c.threads.ensures, within 1 dir (omega arith) (codes "max-dirs") 1048576 (codes "65536") c.max_dirs.ensures),
+      (
+        within 0 dir (omega arith) (codes "threads") 16 (codes "4") c.threads.ensures,
+        within 1 dir (omega arith) (codes "max-dirs")
+            1048576 (codes "65536") c.max_dirs.ensures,
+      ),
     )

@@ -13,7 +13,8 @@ loop-worker-preserved g c =
           (λ k p at. each_push (λ k o. (p : _) → o ≡ Some p → told p ≡ new_pass k) c.loop-worker.passes.items c.new.result
           (λ p here.
           let is : c.new.result ≡ p = cc here in
-          subst (λ q. told q ≡ new_pass (length c.loop-worker.passes.items)) is (c.new.ensures ∙ ap new_pass (sym count))) (λ k _. inv.1 k) k p at),
+          subst (λ q. told q ≡ new_pass (length c.loop-worker.passes.items)) is (c.new.ensures ∙ ap new_pass (sym count)))
+          (λ k _. inv.1 k) k p at),
     )
 
 pub returns-clause-passes : goal.returns-clause-passes

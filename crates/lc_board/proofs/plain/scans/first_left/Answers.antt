@@ -10,7 +10,8 @@ loop-at-preserved g c =
     below_more (λ k. ¬ IsLeft (slice_get c.args.cells.now k)) c.loop-at.at c.loop-at.invariant (rw here c.if-is_left.ensures)
 
 pub returns-then-is_left-clause-some : goal.returns-then-is_left-clause-some
-returns-then-is_left-clause-some g c = let here = slice_get_read _ _ _ _ refl c.loop-at-test.true c.index-cells-at.is in (rw here c.if-is_left.ensures, c.loop-at.invariant)
+returns-then-is_left-clause-some g c = let here = slice_get_read _ _ _ _ refl c.loop-at-test.true c.index-cells-at.is in
+    (rw here c.if-is_left.ensures, c.loop-at.invariant)
 
 pub returns-clause-none : goal.returns-clause-none
 returns-clause-none g c k left = c.loop-at.invariant k (omega (arith, left_inside c.args.cells.now k left, c.loop-at-test.false)) left

@@ -14,5 +14,6 @@ pub close-requires-clause-each : goal.close-requires-clause-each
 close-requires-clause-each g c =
     let len : length c.in_ok-passes.passes.items ≡ length c.in_ok-board.passes.items =
     sym c.in_ok-passes.passes.ok.0 ∙ (c.in_ok-passes.ensures.len ∙ c.in_ok-board.passes.ok.0) in
-    still_in_order g.B.Pass.Token.view (g.B.Shared.owns c.in_ok-board.board) (λ p. p) c.in_ok-board.passes.items c.in_ok-passes.passes.items len c.in_ok-board.ensures.passes
+    still_in_order g.B.Pass.Token.view (g.B.Shared.owns c.in_ok-board.board)
+    (λ p. p) c.in_ok-board.passes.items c.in_ok-passes.passes.items len c.in_ok-board.ensures.passes
     (λ w p q low. c.in_ok-passes.ensures.each w p q (rw c.in_ok-board.passes.ok.0 low))

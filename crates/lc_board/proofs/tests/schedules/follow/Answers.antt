@@ -16,5 +16,7 @@ loop-turn-preserved g c =
     let low : c.worker_at-worker.result < length c.loop-turn.passes.items = omega (arith, c.loop-turn.passes.ok.0) in
     let here = slice_get_read _ _ _ _ refl low c.index_mut.ensures.value in (
       c.loop-turn.invariant.0,
-      used_in_order g.B.Pass.Token.view (g.B.Shared.owns c.in_ok-board.board) c.loop-turn.passes.items _ _ c.step.new.pass here c.loop-turn.invariant.1 c.step.ensures.pass c.step.ensures.worker,
+      used_in_order g.B.Pass.Token.view
+          (g.B.Shared.owns c.in_ok-board.board) c.loop-turn.passes.items _ _ c.step.new.pass here c.loop-turn.invariant.1
+          c.step.ensures.pass c.step.ensures.worker,
     )

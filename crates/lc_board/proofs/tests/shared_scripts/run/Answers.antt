@@ -16,5 +16,7 @@ loop-call-preserved g c =
     let low : c.worker-worker.result < length c.loop-call.passes.items = omega (arith, c.loop-call.passes.ok.0) in
     let here = slice_get_read _ _ _ _ refl low c.index_mut.ensures.value in (
       c.loop-call.invariant.0,
-      used_in_order g.B.Pass.Token.view (g.B.Shared.owns c.in_ok-board.board) c.loop-call.passes.items _ _ c.expect.new.pass here c.loop-call.invariant.1 c.expect.ensures.pass c.expect.ensures.worker,
+      used_in_order g.B.Pass.Token.view
+          (g.B.Shared.owns c.in_ok-board.board) c.loop-call.passes.items _ _ c.expect.new.pass here c.loop-call.invariant.1
+          c.expect.ensures.pass c.expect.ensures.worker,
     )

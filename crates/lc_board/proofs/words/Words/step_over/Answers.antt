@@ -9,23 +9,30 @@ use Rattle.lc_board.proofs.WordMarks.{marked_looked}
 use Rattle.lc_board.proofs.words.Words.step_over.Goals as goal
 
 pub load-requires : goal.load-requires
-load-requires g c = let p = c.args.pass.now in let t = p.ties in let sq = c.args.self.now.square in let near = c.requires.near in let h = holds_some p.holding c.requires.holds in (
-  c.requires.board,
-  omega arith,
-  steps_over _ _ _ _ _ _ h.0 t.live (omega arith) t.idle t.fronted (t.holds ∙ h.1),
-)
+load-requires g c = let p = c.args.pass.now in let t = p.ties in let sq = c.args.self.now.square in let near = c.requires.near in
+    let h = holds_some p.holding c.requires.holds in (
+      c.requires.board,
+      omega arith,
+      steps_over _ _ _ _ _ _ h.0 t.live (omega arith) t.idle t.fronted (t.holds ∙ h.1),
+    )
 
 pub invariant_of-pass : goal.invariant_of-pass
 invariant_of-pass g c = let p = c.args.pass.now in let same = ap (λ z. z.slots) c.load.ensures.0 in record {
-  ties = subst (λ k. IsTied k p.worker p.holding p.posted p.front p.low c.load.new.seat.me) (sym same) (tied_seen _ c.load.result _ _ (step c.args.self.now.table.shared.table_id.slots p.front 0 0 none) _ _ _ p.seat.me c.load.new.seat.me (ap is_absent (sym c.of-found.ensures) ∙ (sym c.if-is_absent.ensures)) c.load.ensures.2 p.ties);
+  ties = subst (λ k. IsTied k p.worker p.holding p.posted p.front p.low c.load.new.seat.me) (sym same)
+      (tied_seen _ c.load.result _ _
+      (step c.args.self.now.table.shared.table_id.slots p.front 0 0 none) _ _ _ p.seat.me c.load.new.seat.me
+      (ap is_absent (sym c.of-found.ensures) ∙ (sym c.if-is_absent.ensures)) c.load.ensures.2 p.ties);
   marked = marked_looked _ _ p.seat.me.0 c.load.new.seat.me.0 c.load.ensures.2.5 p.marked;
   all_used = λ full. p.all_used full ∙ sym same;
 }
 
 pub invariant_of-pass-2 : goal.invariant_of-pass-2
-invariant_of-pass-2 g c = let p = c.args.pass.now in let same = ap (λ z. z.slots) c.load.ensures.0 in let sq = c.args.self.now.square in let near = c.requires.near in let own = ap (λ z. z.slots) c.requires.board in record {
-  ties = subst (λ k. IsTied k p.worker p.holding p.posted (p.front + 1) p.low c.load.new.seat.me) (sym same)
-      (tied_stepped _ _ c.load.result _ _ (step c.args.self.now.table.shared.table_id.slots p.front 0 0 none) _ _ p.seat.me c.load.new.seat.me refl (omega arith) (ap is_absent (sym c.of-found.ensures) ∙ (sym c.if-is_absent.ensures)) c.load.ensures.2 p.ties);
-  marked = marked_looked _ _ p.seat.me.0 c.load.new.seat.me.0 c.load.ensures.2.5 p.marked;
-  all_used = λ full. let x = p.all_used full in absurd (omega arith);
-}
+invariant_of-pass-2 g c = let p = c.args.pass.now in let same = ap (λ z. z.slots) c.load.ensures.0 in
+    let sq = c.args.self.now.square in let near = c.requires.near in let own = ap (λ z. z.slots) c.requires.board in record {
+      ties = subst (λ k. IsTied k p.worker p.holding p.posted (p.front + 1) p.low c.load.new.seat.me) (sym same)
+          (tied_stepped _ _ c.load.result _ _
+          (step c.args.self.now.table.shared.table_id.slots p.front 0 0 none) _ _ p.seat.me c.load.new.seat.me refl (omega arith)
+          (ap is_absent (sym c.of-found.ensures) ∙ (sym c.if-is_absent.ensures)) c.load.ensures.2 p.ties);
+      marked = marked_looked _ _ p.seat.me.0 c.load.new.seat.me.0 c.load.ensures.2.5 p.marked;
+      all_used = λ full. let x = p.all_used full in absurd (omega arith);
+    }

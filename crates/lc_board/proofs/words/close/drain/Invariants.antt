@@ -4,7 +4,8 @@ use Rattle.std.specs.Mem.Slots.Ownership.{Filled}
 use Rattle.lc_board.proofs.words.close.drain.Given as goal
 
 abbrev pub invariant-loop-at : goal.invariant-loop-at
-invariant-loop-at g l = Filled (slots_filled l.closed.slots) l.at (slots_len l.closed.slots) × ((k : ℕ) → k < l.at → get_or (slots_filled l.closed.slots) k false ≡ false)
+invariant-loop-at g l = Filled (slots_filled l.closed.slots) l.at (slots_len l.closed.slots)
+    × ((k : ℕ) → k < l.at → get_or (slots_filled l.closed.slots) k false ≡ false)
 
 abbrev pub decreases-loop-at : goal.decreases-loop-at
 decreases-loop-at g l = slots_len l.closed.slots - l.at

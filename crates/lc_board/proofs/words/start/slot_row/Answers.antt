@@ -7,7 +7,8 @@ pub loop-init : goal.loop-init
 loop-init g c = rw (c.in_ok-push.ensures.items, c.in_ok-row.ensures.items) refl
 
 pub loop-preserved : goal.loop-preserved
-loop-preserved g c = rw (c.in_ok-push-2.ensures.items, c.loop.invariant) (ap (λ xs. Job c.args.root ∷ xs) (replicate-append-replicate c.loop.counter 1 Empty))
+loop-preserved g c = rw (c.in_ok-push-2.ensures.items, c.loop.invariant)
+    (ap (λ xs. Job c.args.root ∷ xs) (replicate-append-replicate c.loop.counter 1 Empty))
 
 pub returns : goal.returns
 returns g c =

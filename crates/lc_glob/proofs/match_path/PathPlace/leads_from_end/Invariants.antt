@@ -7,8 +7,10 @@ use Rattle.lc_glob.proofs.match_path.PathPlace.leads_from_end.Given as goal
 
 abbrev pub invariant-ends : goal.invariant-ends
 invariant-ends l = record {
-  same : Leads (map segment_model l.self.segments.now) (segments_left l.self.left.rest) ↔ Leads (map segment_model l.here.segments.now) (segments_left l.here.left.rest);
-  cost : l.tests.made + full_cost (map segment_model l.here.segments.now) (segments_left l.here.left.rest) ≤ l.initial.tests.made + full_cost (map segment_model l.self.segments.now) (segments_left l.self.left.rest);
+  same : Leads (map segment_model l.self.segments.now) (segments_left l.self.left.rest) ↔ Leads (map segment_model l.here.segments.now)
+      (segments_left l.here.left.rest);
+  cost : l.tests.made + full_cost (map segment_model l.here.segments.now) (segments_left l.here.left.rest)
+      ≤ l.initial.tests.made + full_cost (map segment_model l.self.segments.now) (segments_left l.self.left.rest);
 }
 
 abbrev pub decreases-ends : goal.decreases-ends

@@ -71,13 +71,17 @@ pub returns-in-LastDoubleStar-clause-leads : goal.returns-in-LastDoubleStar-clau
 returns-in-LastDoubleStar-clause-leads c = at_last _ _ _ _ c.in-LastDoubleStar.ensures.is c.steps.invariant.same
 
 pub returns-in-LastDoubleStar-clause-cost : goal.returns-in-LastDoubleStar-clause-cost
-returns-in-LastDoubleStar-clause-cost c = end_cost _ (map segment_model c.args.self.segments.now) _ (segments_left c.args.self.left.rest) _ _ _ _ c.in-LastDoubleStar.ensures.cost c.steps.invariant.cost
+returns-in-LastDoubleStar-clause-cost c = end_cost _ (map segment_model c.args.self.segments.now) _
+    (segments_left c.args.self.left.rest) _ _ _ _ c.in-LastDoubleStar.ensures.cost c.steps.invariant.cost
 
 pub returns-in-Arrived-clause-cost : goal.returns-in-Arrived-clause-cost
-returns-in-Arrived-clause-cost c = end_cost _ (map segment_model c.args.self.segments.now) _ (segments_left c.args.self.left.rest) _ _ _ _ c.in-Arrived.ensures.cost c.steps.invariant.cost
+returns-in-Arrived-clause-cost c = end_cost _ (map segment_model c.args.self.segments.now) _
+    (segments_left c.args.self.left.rest) _ _ _ _ c.in-Arrived.ensures.cost c.steps.invariant.cost
 
 pub returns-in_default-clause-cost : goal.returns-in_default-clause-cost
-returns-in_default-clause-cost c = end_cost _ (map segment_model c.args.self.segments.now) _ (segments_left c.args.self.left.rest) _ _ _ _ c.in-Stuck.ensures.cost c.steps.invariant.cost
+returns-in_default-clause-cost c = end_cost _ (map segment_model c.args.self.segments.now) _
+    (segments_left c.args.self.left.rest) _ _ _ _ c.in-Stuck.ensures.cost c.steps.invariant.cost
 
 pub returns-in_default-retry-clause-cost : goal.returns-in_default-retry-clause-cost
-returns-in_default-retry-clause-cost c = end_cost _ (map segment_model c.args.self.segments.now) _ (segments_left c.args.self.left.rest) _ _ _ _ c.in-Stuck.ensures.cost c.steps.invariant.cost
+returns-in_default-retry-clause-cost c = end_cost _ (map segment_model c.args.self.segments.now) _
+    (segments_left c.args.self.left.rest) _ _ _ _ c.in-Stuck.ensures.cost c.steps.invariant.cost

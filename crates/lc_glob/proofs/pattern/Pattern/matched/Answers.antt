@@ -5,4 +5,5 @@ use Rattle.lc_glob.proofs.pattern.Pattern.matched.Goals as goal
 
 pub returns-in-LastSegment-clause-cost : goal.returns-in-LastSegment-clause-cost
 returns-in-LastSegment-clause-cost c =
-    rw (sym c.self.view_is, c.in-LastSegment.is) (last_cost _ _ _ _ _ _ (ap segments_of (sym c.path.view_is) ∙ c.path.invariant) c.fits.ensures.cost)
+    rw (sym c.self.view_is, c.in-LastSegment.is) (last_cost _ _ _ _ _ _
+    (ap segments_of (sym c.path.view_is) ∙ c.path.invariant) c.fits.ensures.cost)

@@ -6,14 +6,18 @@ use Rattle.lc_rules.proofs.LastMacro.{macro_later, macro_earlier}
 use Rattle.lc_rules.proofs.known_macros.KnownMacros.find.Goals as goal
 
 pub returns-in-Some : goal.returns-in-Some
-returns-in-Some c = macro_later (binary ∷ []) (defined_in c.args.self.top) (defined_in c.args.self.info) c.args.name.now (map assignment_model c.in-Some.assignments.now) c.in-Some.ensures
+returns-in-Some c = macro_later (binary ∷ []) (defined_in c.args.self.top) (defined_in c.args.self.info) c.args.name.now
+    (map assignment_model c.in-Some.assignments.now) c.in-Some.ensures
 
 pub returns-in-Some-find_in : goal.returns-in-Some-find_in
 returns-in-Some-find_in c =
-    macro_earlier (binary ∷ []) (defined_in c.args.self.top) (defined_in c.args.self.info) c.args.name.now (Some (map assignment_model c.in-Some-find_in.assignments.now)) c.in_default.ensures c.in-Some-find_in.ensures
+    macro_earlier (binary ∷ []) (defined_in c.args.self.top) (defined_in c.args.self.info) c.args.name.now
+    (Some (map assignment_model c.in-Some-find_in.assignments.now)) c.in_default.ensures c.in-Some-find_in.ensures
 
 pub returns-then-eq : goal.returns-then-eq
-returns-then-eq c = macro_earlier (binary ∷ []) (defined_in c.args.self.top) (defined_in c.args.self.info) c.args.name.now None c.in_default.ensures c.in_default-find_in.ensures ∙ search rules
+returns-then-eq c = macro_earlier (binary ∷ []) (defined_in c.args.self.top)
+    (defined_in c.args.self.info) c.args.name.now None c.in_default.ensures c.in_default-find_in.ensures ∙ search rules
 
 pub returns : goal.returns
-returns c = macro_earlier (binary ∷ []) (defined_in c.args.self.top) (defined_in c.args.self.info) c.args.name.now None c.in_default.ensures c.in_default-find_in.ensures ∙ search rules
+returns c = macro_earlier (binary ∷ []) (defined_in c.args.self.top)
+    (defined_in c.args.self.info) c.args.name.now None c.in_default.ensures c.in_default-find_in.ensures ∙ search rules

@@ -7,5 +7,6 @@ pub invariant_of-result-2 : goal.invariant_of-result-2
 invariant_of-result-2 c =
     let further = c.args.depth - c.args.self.depth in
     record {
-      cut = c.below-2.ensures ∙ ap (below further) c.args.self.cut ∙ below_from c.args.self.depth further c.args.depth c.args.self.path.now (omega (arith, c.if-depth-self.false));
+      cut = c.below-2.ensures ∙ ap (below further) c.args.self.cut
+          ∙ below_from c.args.self.depth further c.args.depth c.args.self.path.now (omega (arith, c.if-depth-self.false));
     }

@@ -6,4 +6,5 @@ use Rattle.lc_text.proofs.checking.lines.split_line.Goals as goal
 pub returns-in-Some-clause-lines : goal.returns-in-Some-clause-lines
 returns-in-Some-clause-lines c =
     let line = c.cut_at_first.result.0.now in
-    lines_of-first c.args.bytes.now line c.in-Some.rest.now (c.cut_at_first.ensures.pieces ∙ ap (λ others. line ∷ pieces_left 10 others) c.in-Some.is)
+    lines_of-first c.args.bytes.now line c.in-Some.rest.now
+    (c.cut_at_first.ensures.pieces ∙ ap (λ others. line ∷ pieces_left 10 others) c.in-Some.is)

@@ -9,7 +9,8 @@ use Rattle.lc_tree.proofs.listing.Listing.new.Goals as goal
 
 pub returns-then-not-are_distinct : goal.returns-then-not-are_distinct
 returns-then-not-are_distinct c =
-    let some_twice : HaveDistinctNames c.sort_by_name.new.entries.items → ⊥ = subst (λ (l : List EntryModel). HaveDistinctNames l → ⊥) c.deref-2.ensures.value c.if-not-are_distinct.ensures in (
+    let some_twice : HaveDistinctNames c.sort_by_name.new.entries.items
+    → ⊥ = subst (λ (l : List EntryModel). HaveDistinctNames l → ⊥) c.deref-2.ensures.value c.if-not-are_distinct.ensures in (
       subst (λ (l : List EntryModel). IsTrue (have_good_names l)) c.deref.ensures.value (sym c.if-not-all_good.ensures),
       λ apart. some_twice (distinct_names_moved c.args.entries.items c.sort_by_name.new.entries.items c.sort_by_name.ensures.same apart),
     )
@@ -17,7 +18,8 @@ returns-then-not-are_distinct c =
 pub returns-then-len-gt-MAX_ENTRIES : goal.returns-then-len-gt-MAX_ENTRIES
 returns-then-len-gt-MAX_ENTRIES c =
     let moved = c.sort_by_name.ensures.same in
-    let rising : IsStrictlySortedBy bytes_cmp (names c.sort_by_name.new.entries.items) = subst (λ (l : List EntryModel). IsStrictlySortedBy bytes_cmp (names l)) c.deref-2.ensures.value c.if-not-are_distinct.ensures in (
+    let rising : IsStrictlySortedBy bytes_cmp (names c.sort_by_name.new.entries.items) = subst
+    (λ (l : List EntryModel). IsStrictlySortedBy bytes_cmp (names l)) c.deref-2.ensures.value c.if-not-are_distinct.ensures in (
       subst (λ (l : List EntryModel). IsTrue (have_good_names l)) c.deref.ensures.value (sym c.if-not-all_good.ensures),
       distinct_from_sorted c.args.entries.items c.sort_by_name.new.entries.items moved rising,
       omega (arith, length_permutation c.args.entries.items c.sort_by_name.new.entries.items moved),
@@ -25,7 +27,8 @@ returns-then-len-gt-MAX_ENTRIES c =
 
 pub invariant_of-result : goal.invariant_of-result
 invariant_of-result c = record {
-  good = good_names_moved c.args.entries.items c.sort_by_name.new.entries.items c.sort_by_name.ensures.same (subst (λ (l : List EntryModel). IsTrue (have_good_names l)) c.deref.ensures.value (sym c.if-not-all_good.ensures));
+  good = good_names_moved c.args.entries.items c.sort_by_name.new.entries.items c.sort_by_name.ensures.same
+      (subst (λ (l : List EntryModel). IsTrue (have_good_names l)) c.deref.ensures.value (sym c.if-not-all_good.ensures));
   order = subst (λ (l : List EntryModel). IsStrictlySortedBy bytes_cmp (names l)) c.deref-2.ensures.value c.if-not-are_distinct.ensures;
   few = omega arith;
 }

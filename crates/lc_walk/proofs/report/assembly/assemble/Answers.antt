@@ -7,4 +7,6 @@ pub returns-in-Err : goal.returns-in-Err
 returns-in-Err c =
     subst (λ l. RefusesRows l c.fault_of_tree.result) c.as_slice-rows.ensures.value
     (subst (RefusesRows c.as_slice-rows.result.now) (sym c.fault_of_tree.ensures)
-    (refused_rows c.as_slice-rows.result.now c.in-Err.fault (c.some_broken.ensures.none c.if-some_broken.false) (c.some_broken-2.ensures.none c.if-some_broken-2.false) (c.some_broken-3.ensures.none c.if-some_broken-3.false) c.in-Err.ensures.torn))
+    (refused_rows c.as_slice-rows.result.now c.in-Err.fault (c.some_broken.ensures.none c.if-some_broken.false)
+    (c.some_broken-2.ensures.none c.if-some_broken-2.false) (c.some_broken-3.ensures.none c.if-some_broken-3.false)
+    c.in-Err.ensures.torn))

@@ -4,8 +4,10 @@ use Rattle.lc_walk.proofs.report.tree_check.check_tree.Goals as goal
 
 pub returns-then-not-is_marked-clause-torn : goal.returns-then-not-is_marked-clause-torn
 returns-then-not-is_marked-clause-torn c =
-    torn_unnamed c.args.rows.now c.loop-number.number c.in_ok-hung.hung.items (omega (arith, c.loop-number.auto.number)) (omega (arith, c.loop-number-test.true))
-    (ap (λ l. slice_get l c.loop-number.number) (sym c.deref.ensures.value) ∙ c.is_marked.ensures ∙ ap Some c.if-not-is_marked.true) c.in_ok-hung.ensures.marks
+    torn_unnamed c.args.rows.now c.loop-number.number c.in_ok-hung.hung.items (omega (arith, c.loop-number.auto.number))
+    (omega (arith, c.loop-number-test.true))
+    (ap (λ l. slice_get l c.loop-number.number) (sym c.deref.ensures.value) ∙ c.is_marked.ensures ∙ ap Some c.if-not-is_marked.true)
+    c.in_ok-hung.ensures.marks
 
 pub returns-clause-placed : goal.returns-clause-placed
 returns-clause-placed c =

@@ -19,26 +19,32 @@ returns-then-is_marked-clause-torn c = λ p.
     let same = c.number_of-number.ensures.same in
     torn_twice c.args.rows.now c.args.at c.args.place c.args.child.now c.args.hung.now c.requires.next
     (omega (arith, c.if-number-eq0.false, same))
-    (ap (slice_get c.args.hung.now) (sym same) ∙ c.is_marked.ensures ∙ ap Some c.if-is_marked.true) c.requires.marks (subst (IsPlaced c.args.rows.now) same p)
+    (ap (slice_get c.args.hung.now) (sym same) ∙ c.is_marked.ensures ∙ ap Some c.if-is_marked.true) c.requires.marks
+    (subst (IsPlaced c.args.rows.now) same p)
 
 pub returns-then-at-number-clause-torn : goal.returns-then-at-number-clause-torn
 returns-then-at-number-clause-torn c = λ p.
     let same = c.number_of-number.ensures.same in
     torn_low c.args.rows.now c.args.at c.args.place c.args.child.now c.requires.next
-    (omega (arith, c.if-number-eq0.false, same)) (omega (arith, c.if-number-rows.false, same)) (omega (arith, c.if-at-number.true, same)) (subst (IsPlaced c.args.rows.now) same p)
+    (omega (arith, c.if-number-eq0.false, same)) (omega (arith, c.if-number-rows.false, same))
+    (omega (arith, c.if-at-number.true, same)) (subst (IsPlaced c.args.rows.now) same p)
 
 pub returns-then-not-is_child_path-clause-torn : goal.returns-then-not-is_child_path-clause-torn
 returns-then-not-is_child_path-clause-torn c = λ p.
     let same = c.number_of-number.ensures.same in
-    torn_path c.args.rows.now c.args.at c.args.place c.args.child.now c.path_at.result.now c.path_at-path.result.now c.requires.next c.path_at.ensures
+    torn_path c.args.rows.now c.args.at c.args.place c.args.child.now c.path_at.result.now c.path_at-path.result.now c.requires.next
+    c.path_at.ensures
     (subst (λ k. IsPathAt c.args.rows.now k c.path_at-path.result.now) same c.path_at-path.ensures)
-    (omega (arith, c.if-number-eq0.false, same)) (c.is_child_path.ensures.other c.if-not-is_child_path.true) (subst (IsPlaced c.args.rows.now) same p)
+    (omega (arith, c.if-number-eq0.false, same)) (c.is_child_path.ensures.other c.if-not-is_child_path.true)
+    (subst (IsPlaced c.args.rows.now) same p)
 
 pub returns-clause-marks : goal.returns-clause-marks
 returns-clause-marks c =
     let same = c.number_of-number.ensures.same in
     subst (Marks c.args.rows.now c.args.at (c.args.place + 1)) (sym (c.mark.ensures ∙ ap (λ k. slice_set c.args.hung.now k true) same))
-    (marks_set c.args.rows.now c.args.at c.args.place c.args.child.now c.path_at.result.now c.path_at-path.result.now c.args.hung.now c.requires.next c.path_at.ensures
+    (marks_set c.args.rows.now c.args.at c.args.place c.args.child.now c.path_at.result.now c.path_at-path.result.now c.args.hung.now
+    c.requires.next c.path_at.ensures
     (subst (λ k. IsPathAt c.args.rows.now k c.path_at-path.result.now) same c.path_at-path.ensures)
     (omega (arith, c.if-number-eq0.false, same)) (omega (arith, c.if-number-rows.false, same)) (omega (arith, c.if-at-number.false, same))
-    (ap (slice_get c.args.hung.now) (sym same) ∙ c.is_marked.ensures ∙ ap Some c.if-is_marked.false) (c.is_child_path.ensures.is c.if-not-is_child_path.false) c.requires.marks)
+    (ap (slice_get c.args.hung.now) (sym same) ∙ c.is_marked.ensures ∙ ap Some c.if-is_marked.false)
+    (c.is_child_path.ensures.is c.if-not-is_child_path.false) c.requires.marks)

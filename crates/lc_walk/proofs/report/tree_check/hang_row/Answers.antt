@@ -7,9 +7,11 @@ use Rattle.lc_walk.proofs.report.tree_check.hang_row.Goals as goal
 
 pub returns-clause-marks : goal.returns-clause-marks
 returns-clause-marks c =
-    let own : c.children_of-children.result.now ≡ children_in (row_of c.index-rows-at.result) = c.children_of-children.ensures ∙ ap children_in c.row_of.ensures in
+    let own : c.children_of-children.result.now ≡ children_in (row_of c.index-rows-at.result) = c.children_of-children.ensures
+    ∙ ap children_in c.row_of.ensures in
     let long = ap length own in
-    let here : c.loop-place.place ≡ length (children_in (row_of c.index-rows-at.result)) = omega (arith, c.loop-place-test.false, c.loop-place.auto.place-end, long) in
+    let here : c.loop-place.place ≡ length (children_in (row_of c.index-rows-at.result)) = omega
+    (arith, c.loop-place-test.false, c.loop-place.auto.place-end, long) in
     marks_row c.args.rows.now c.args.at c.index-rows-at.result c.loop-place.hung
     (slice_get_read c.args.rows.now (length c.args.rows.now) c.args.at c.index-rows-at.result refl c.requires.at c.index-rows-at.is)
     (subst (λ n. Marks c.args.rows.now c.args.at n c.loop-place.hung) here c.loop-place.invariant)

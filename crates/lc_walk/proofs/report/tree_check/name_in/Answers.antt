@@ -13,4 +13,5 @@ returns-in_default c =
 pub returns : goal.returns
 returns c =
     name_below c.args.directory.now c.args.path.now c.strip_prefix.result c.in-Some.below (search rules) c.in-Some.is
-    (strip_prefix_is Decides-eqb _ _ _ c.strip_prefix.ensures.cases) c.strip_prefix-2.result (strip_prefix_is Decides-eqb _ (slash ∷ []) _ c.strip_prefix-2.ensures.cases)
+    (strip_prefix_is Decides-eqb _ _ _ c.strip_prefix.ensures.cases) c.strip_prefix-2.result
+    (strip_prefix_is Decides-eqb _ (slash ∷ []) _ c.strip_prefix-2.ensures.cases)

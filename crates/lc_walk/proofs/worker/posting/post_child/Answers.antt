@@ -19,7 +19,9 @@ returns-clause-posts g c =
       | in-Ok-push w ↦
           rw (w.result-is, c.post.ensures.mine, c.in-Ok.is, c.in-Ok.number-is) (
           posted_noted _ c.in-Ok.number c.child.inside.job c.args.child _ _ job
-          (w.in-Ok-push.ensures.items ∙ ap (λ (n : List ℕ). c.args.children.now.items ++ (let m : ChildModel = record { name = n; number = c.in-Ok.number } in m) ∷ []) name)
+          (w.in-Ok-push.ensures.items ∙ ap (λ (n : List ℕ). c.args.children.now.items
+          ++ (let m : ChildModel = record { name = n; number = c.in-Ok.number } in m) ∷ []) name)
           )
-      | in-Err w ↦ rw (w.result-is, c.post.ensures.mine, c.in-Ok.is, c.in-Ok.number-is) (posted_unnoted _ c.in-Ok.number c.child.inside.job c.args.child [] [] job)
+      | in-Err w ↦ rw (w.result-is, c.post.ensures.mine, c.in-Ok.is, c.in-Ok.number-is)
+          (posted_unnoted _ c.in-Ok.number c.child.inside.job c.args.child [] [] job)
     ]

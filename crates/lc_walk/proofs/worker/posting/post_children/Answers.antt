@@ -10,7 +10,8 @@ loop-child-preserved g c =
       tt,
       c.post_child.ensures.pass,
       still_holds _ _ _ c.in-Ok-post_child.ensures.posts.0 holds,
-      append_assoc c.loop-child.yielded (c.in-Some.child ∷ []) c.next.new.self.rest.items ∙ ap (λ x. c.loop-child.yielded ++ x) (sym c.in-Some.ensures.steps.0) ∙ all,
+      append_assoc c.loop-child.yielded (c.in-Some.child ∷ []) c.next.new.self.rest.items ∙ ap (λ x. c.loop-child.yielded ++ x)
+          (sym c.in-Some.ensures.steps.0) ∙ all,
       posted_more _ _ _ c.loop-child.yielded c.in-Some.child _ _ posted names c.in-Ok-post_child.ensures.posts,
     )
 

@@ -12,4 +12,5 @@ invariant-loop-child g l =
     × g.B.Shared.owns l.board l.pass
     × (holding (g.B.Pass.Token.view l.pass) ≢ None)
     × (l.yielded ++ l.child-iterator.rest.items ≡ l.fn.directories.items)
-    × ((p : HasPosted (g.B.Pass.Token.view l.fn.pass) (g.B.Pass.Token.view l.pass) (jobs_of l.yielded)) × (l.children.items ≡ named l.yielded (posts_held p.since)))
+    × ((p : HasPosted (g.B.Pass.Token.view l.fn.pass) (g.B.Pass.Token.view l.pass) (jobs_of l.yielded))
+    × (l.children.items ≡ named l.yielded (posts_held p.since)))

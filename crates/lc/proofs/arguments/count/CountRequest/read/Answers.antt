@@ -9,7 +9,8 @@ use Rattle.lc.proofs.arguments.count.CountRequest.read.Goals as goal
 
 pub returns-in-Err : goal.returns-in-Err
 returns-in-Err g c =
-    no_request_of c.in-Ok.command count_app (map g.W.AsStr.text c.args.words.now) c.in-Err.error c.explained.result c.in-Ok.ensures.0.0 count_is_free c.in-Err.ensures.kinds c.explained.ensures
+    no_request_of c.in-Ok.command count_app (map g.W.AsStr.text c.args.words.now) c.in-Err.error c.explained.result c.in-Ok.ensures.0.0
+    count_is_free c.in-Err.ensures.kinds c.explained.ensures
 
 pub returns : goal.returns
 returns g c =
@@ -21,11 +22,14 @@ returns g c =
     let parse = c.in-Ok-try_get_matches_from.ensures in
     let rows = matches_of count_app words in
     let are = matches_as command count_app words m is count_is_simple parse.matches in
-    let threads = number_read _ (λ bs r. ParsesUnsigned 32 10 bs r × ExplainsUnsignedError 10 bs r × HasUnsignedDigitsIfOk bs r) 1 16 4 (codes "4")
+    let threads = number_read _ (λ bs r. ParsesUnsigned 32 10 bs r × ExplainsUnsignedError 10 bs r × HasUnsignedDigitsIfOk bs r) 1 16 4
+    (codes "4")
     (one_text (found_of m) (codes "threads")) c.get_one.result c.unwrap_or-threads.result c.get_one.ensures.none c.get_one.ensures.value
     (λ u x h. h.0) (omega arith) (reads.0 m parse.parsed) (omega arith) (omega arith) refl c.unwrap_or-threads.ensures in
-    let max_dirs = number_read _ (λ bs r. ParsesUnsigned 32 10 bs r × ExplainsUnsignedError 10 bs r × HasUnsignedDigitsIfOk bs r) 1 1048576 65536 (codes "65536")
-    (one_text (found_of m) (codes "max-dirs")) c.get_one-2.result c.unwrap_or-max_dirs.result c.get_one-2.ensures.none c.get_one-2.ensures.value
+    let max_dirs = number_read _ (λ bs r. ParsesUnsigned 32 10 bs r × ExplainsUnsignedError 10 bs r × HasUnsignedDigitsIfOk bs r) 1
+    1048576 65536 (codes "65536")
+    (one_text (found_of m) (codes "max-dirs")) c.get_one-2.result c.unwrap_or-max_dirs.result c.get_one-2.ensures.none
+    c.get_one-2.ensures.value
     (λ u x h. h.0) (omega arith) (reads.1 m parse.parsed) (omega arith) (omega arith) refl c.unwrap_or-max_dirs.ensures in (
       fails_as command count_app words (Ok m) is count_is_free parse.kinds,
       record {
@@ -35,6 +39,7 @@ returns g c =
         files = flag_of rows (found_of m) (codes "files") c.get_flag.result are c.get_flag.ensures.value c.get_flag.ensures.other;
         archive = flag_of rows (found_of m) (codes "archive") c.get_flag-2.result are c.get_flag-2.ensures.value c.get_flag-2.ensures.other;
         exclude = text_of rows (found_of m) (codes "exclude-from") c.get_str.result are c.get_str.ensures;
-        directory = text_or rows (found_of m) (codes "DIR") c.get_str-2.result _ c.unwrap_or.result are c.get_str-2.ensures refl c.unwrap_or.ensures;
+        directory = text_or rows (found_of m) (codes "DIR") c.get_str-2.result _ c.unwrap_or.result are c.get_str-2.ensures refl
+            c.unwrap_or.ensures;
       },
     )

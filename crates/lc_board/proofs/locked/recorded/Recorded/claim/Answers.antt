@@ -9,7 +9,9 @@ invariant_of-self-in-Got g c =
     let room : vec_len c.reserve.new.self + (c.workers-workers.result + 1) ≤ vec_capacity c.reserve.new.self = search rules in
     let most = held_count-most c.claim-answer.new.self.held in
     record {
-      recorded = rw (c.push_reserved.ensures.items, c.reserve.ensures.items) (records _ _ (Claim c.args.worker c.in-Got.number c.in-Got.field-1) c.self.inside.history.items c.self.invariant.recorded told.1);
+      recorded = rw (c.push_reserved.ensures.items, c.reserve.ensures.items)
+          (records _ _
+          (Claim c.args.worker c.in-Got.number c.in-Got.field-1) c.self.inside.history.items c.self.invariant.recorded told.1);
       ends_fit = omega (arith, most, told.1.workers, c.self.invariant.few);
       few = omega (arith, told.1.workers, c.self.invariant.few);
     }
@@ -20,7 +22,8 @@ invariant_of-self-in-Over g c =
     let room : vec_len c.reserve.new.self + (c.workers-workers.result + 1) ≤ vec_capacity c.reserve.new.self = search rules in
     let most = held_count-most c.claim-answer.new.self.held in
     record {
-      recorded = rw (c.push_reserved-in-Over.ensures.items, c.reserve.ensures.items) (records _ _ (Over c.args.worker) c.self.inside.history.items c.self.invariant.recorded told.2);
+      recorded = rw (c.push_reserved-in-Over.ensures.items, c.reserve.ensures.items)
+          (records _ _ (Over c.args.worker) c.self.inside.history.items c.self.invariant.recorded told.2);
       ends_fit = omega (arith, most, told.2.workers, c.self.invariant.few);
       few = omega (arith, told.2.workers, c.self.invariant.few);
     }

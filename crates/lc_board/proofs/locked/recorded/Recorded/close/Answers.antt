@@ -33,7 +33,16 @@ returns-in-Some-clause-refused g c = rw (← c.self.view_is) c.in-Some.ensures.s
 pub returns-in-Some-first_mismatch-clause-refused : goal.returns-in-Some-first_mismatch-clause-refused
 returns-in-Some-first_mismatch-clause-refused g c =
     let found = rw c.as_slice.ensures.value at c.in-Some-first_mismatch.ensures.some in
-    rw (← c.self.view_is) (c.in_default.ensures.none, tells_other (λ p. record { worker = p.worker; mine = mine_of p.notes.items; full = p.full; refused = p.refused }) c.args.passes.now (newest_first c.self.inside.history.items) c.in-Some-first_mismatch.worker found.0 found.1 found.2)
+    rw (← c.self.view_is) (
+      c.in_default.ensures.none,
+      tells_other (λ p. record {
+        worker = p.worker;
+        mine = mine_of p.notes.items;
+        full = p.full;
+        refused = p.refused;
+      }) c.args.passes.now
+          (newest_first c.self.inside.history.items) c.in-Some-first_mismatch.worker found.0 found.1 found.2,
+    )
 
 pub returns-clause-refused : goal.returns-clause-refused
 returns-clause-refused g c =

@@ -12,7 +12,9 @@ invariant_of-self-in-Ok g c =
     let room : vec_len c.reserve.new.self + (c.workers-workers.result + 1) ≤ vec_capacity c.reserve.new.self = search rules in
     let most = held_count-most c.post.new.self.held in
     record {
-      recorded = rw (c.push_reserved.ensures.items, c.reserve.ensures.items) (records _ _ (Post c.args.worker c.args.parent c.in-Ok.number c.args.job) c.self.inside.history.items c.self.invariant.recorded adds);
+      recorded = rw (c.push_reserved.ensures.items, c.reserve.ensures.items)
+          (records _ _
+          (Post c.args.worker c.args.parent c.in-Ok.number c.args.job) c.self.inside.history.items c.self.invariant.recorded adds);
       ends_fit = omega (arith, most, adds.workers, c.self.invariant.few);
       few = omega (arith, adds.workers, c.self.invariant.few);
     }

@@ -11,7 +11,13 @@ invariant_of-result g c =
     let count : held_count c.in_ok-plain.plain.held ≡ 0 = ap (λ b. held_count b.held) is ∙ held_count-nobody c.args.workers in
     let seats : length c.in_ok-plain.plain.held ≡ c.args.workers = ap (λ b. length b.held) is ∙ simp length-replicate in
     record {
-      recorded = rw c.new.ensures.items (record { root = c.args.root; events = []; after = c.in_ok-plain.ensures.1; stored_is = refl; numbers = has_numbers c.args.root [] _ c.in_ok-plain.ensures.1 });
+      recorded = rw c.new.ensures.items (record {
+        root = c.args.root;
+        events = [];
+        after = c.in_ok-plain.ensures.1;
+        stored_is = refl;
+        numbers = has_numbers c.args.root [] _ c.in_ok-plain.ensures.1;
+      });
       ends_fit = omega (arith, count);
       few = omega (arith, seats, c.requires.workers.1);
     }

@@ -25,8 +25,10 @@ loop-worker-preserved g c =
     let others = c.another-pass.ensures.other in
     let same = c.another-pass.ensures.same in
     let items = c.in_ok-push-2.ensures.items in
-    let more = one_more c.in_ok-board.board c.loop-worker.passes.items c.loop-worker.worker c.args.workers c.index_mut.result.now c.another-pass.new.pass c.another-pass.result at
-    (sym c.loop-worker.passes.ok.0 ∙ inv.0) (omega (arith, low, c.loop-worker.passes.ok.0, inv.0)) same.0 same.2 others.0 others.1 others.3 others.4 inv.1 (inv.2 _ at) in (
+    let more = one_more c.in_ok-board.board c.loop-worker.passes.items c.loop-worker.worker c.args.workers c.index_mut.result.now
+    c.another-pass.new.pass c.another-pass.result at
+    (sym c.loop-worker.passes.ok.0 ∙ inv.0) (omega
+    (arith, low, c.loop-worker.passes.ok.0, inv.0)) same.0 same.2 others.0 others.1 others.3 others.4 inv.1 (inv.2 _ at) in (
       c.in_ok-push-2.ensures.len ∙ ap (λ k. k + 1) inv.0,
       λ w p e. more.0 w p (ap (λ z. slice_get z w) (sym items) ∙ e),
       λ p e. more.1 p (ap (λ z. slice_get z 0) (sym items) ∙ e),

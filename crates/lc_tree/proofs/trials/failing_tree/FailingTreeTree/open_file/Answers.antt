@@ -9,4 +9,5 @@ returns-in-Ok g c =
     let gives = g.T.Tree.gives c.args.self.now.tree.now c.args.path.now in
     gives_follow (λ file. file.file) (λ old room answer new. MayFail may_give old.file room answer new.file) (MayFail may_give)
     (λ old new answer read. read)
-    (GivesOrFails gives) (record { file = c.in-Ok.file; call = c.args.self.now.call }) (gives_or_fails may_give gives c.in-Ok.file c.in-Ok.ensures)
+    (GivesOrFails gives) (record { file = c.in-Ok.file; call = c.args.self.now.call })
+    (gives_or_fails may_give gives c.in-Ok.file c.in-Ok.ensures)

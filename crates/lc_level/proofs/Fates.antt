@@ -1,0 +1,84 @@
+-- What the fates of a directory's items hold, item by item.
+use Rattle.std.proofs.Common.{◌≡◌, ℕ, true, false, cond, List, [], ◌∷◌, ◌++◌, refl, ◌∙◌, ap, Option, Some, None, Result, Ok, Err}
+use Rattle.std.specs.List.{flat_map}
+use Rattle.std.specs.Option.{is_none, option_map_or}
+use Rattle.lc_census.specs.declared.totals.Count.{Count}
+use Rattle.lc_level.specs.Answers.{Item, file_item, directory_item, other_item, name_of}
+use Rattle.lc_level.specs.Job.{JobModel}
+use Rattle.lc_level.specs.Level.{CountedModel, FileFaultModel, Reason, other_kind, Fate, walked, left, reason_of, is_taken, child_job}
+use Rattle.lc_level.specs.Level.{file_fate, fate_of, fates_of, counted_of, failed_of, walked_of, counted_in, failed_in, walked_in}
+use Rattle.lc_level.specs.Selection.{SelectionModel}
+use Rattle.lc_tree.specs.declared.fault_word.FaultWord.{FaultWord}
+
+-- what a file that is not left out gives
+abbrev pub counted_by : JobModel → List ℕ → Result Count FaultWord → List CountedModel
+counted_by j name count = counted_of (name, file_fate j name count)
+
+abbrev pub fault_by : JobModel → List ℕ → Result Count FaultWord → List FileFaultModel
+fault_by j name count = failed_of (name, file_fate j name count)
+
+-- what an item gives
+abbrev pub files_by : SelectionModel → JobModel → Item → List CountedModel
+files_by s j (file_item name count rules) = cond (is_taken s j name false) (counted_by j name count) []
+files_by s j (directory_item name) = []
+files_by s j (other_item name) = []
+
+abbrev pub faults_by : SelectionModel → JobModel → Item → List FileFaultModel
+faults_by s j (file_item name count rules) = cond (is_taken s j name false) (fault_by j name count) []
+faults_by s j (directory_item name) = []
+faults_by s j (other_item name) = []
+
+abbrev pub children_by : SelectionModel → JobModel → Item → List (List ℕ × JobModel)
+children_by s j (file_item name count rules) = []
+children_by s j (directory_item name) = cond (is_taken s j name true) ((name, child_job j name) ∷ []) []
+children_by s j (other_item name) = []
+
+-- what a kept entry gives, and nothing where it is left out
+none_or : {A : Type 0} (f : List ℕ × Fate → List A) (name : List ℕ) (fate : Fate) → ((reason : Reason) → f (name, left reason) ≡ [])
+    → (o : Option Reason) → f (name, option_map_or left o fate) ≡ cond (is_none o) (f (name, fate)) []
+none_or f name fate none None = refl
+none_or f name fate none (Some reason) = none reason
+
+-- the same of what gives nothing in either case
+nothing : {A : Type 0} (f : List ℕ × Fate → List A) (name : List ℕ) (fate : Fate) → ((reason : Reason) → f (name, left reason) ≡ [])
+    → f (name, fate) ≡ [] → (o : Option Reason) → f (name, option_map_or left o fate) ≡ []
+nothing f name fate none is None = is
+nothing f name fate none is (Some reason) = none reason
+
+module _ (s : SelectionModel) (j : JobModel) where
+  counted_one : (item : Item) → counted_of (name_of item, fate_of s j item) ≡ files_by s j item
+  counted_one (file_item n r rules) = none_or counted_of n (file_fate j n r) (λ reason. refl) (reason_of s j n false)
+  counted_one (directory_item n) = nothing counted_of n (walked (child_job j n)) (λ reason. refl) refl (reason_of s j n true)
+  counted_one (other_item n) = nothing counted_of n (left other_kind) (λ reason. refl) refl (reason_of s j n false)
+
+  failed_one : (item : Item) → failed_of (name_of item, fate_of s j item) ≡ faults_by s j item
+  failed_one (file_item n r rules) = none_or failed_of n (file_fate j n r) (λ reason. refl) (reason_of s j n false)
+  failed_one (directory_item n) = nothing failed_of n (walked (child_job j n)) (λ reason. refl) refl (reason_of s j n true)
+  failed_one (other_item n) = nothing failed_of n (left other_kind) (λ reason. refl) refl (reason_of s j n false)
+
+  -- counting a file makes it no directory
+  no_child : (n : List ℕ) (r : Result Count FaultWord) → walked_of (n, file_fate j n r) ≡ []
+  no_child n (Ok count) = refl
+  no_child n (Err word) = refl
+
+  walked_one : (item : Item) → walked_of (name_of item, fate_of s j item) ≡ children_by s j item
+  walked_one (file_item n r rules) = nothing walked_of n (file_fate j n r) (λ reason. refl) (no_child n r) (reason_of s j n false)
+  walked_one (directory_item n) = none_or walked_of n (walked (child_job j n)) (λ reason. refl) (reason_of s j n true)
+  walked_one (other_item n) = nothing walked_of n (left other_kind) (λ reason. refl) refl (reason_of s j n false)
+
+  by_items : {A : Type 0} (f : List ℕ × Fate → List A) (g : Item → List A) → ((item : Item) → f (name_of item, fate_of s j item) ≡ g item)
+      → (items : List Item) → flat_map f (fates_of s j items) ≡ flat_map g items
+  by_items f g one [] = refl
+  by_items f g one (e ∷ es) = ap (λ l. l ++ flat_map f (fates_of s j es)) (one e) ∙ ap (λ l. g e ++ l) (by_items f g one es)
+
+  -- the counted files of the fates are those of the items
+  pub counted_items_are : (items : List Item) → counted_in (fates_of s j items) ≡ flat_map (files_by s j) items
+  counted_items_are items = by_items counted_of (files_by s j) counted_one items
+
+  -- and so are the faults of files
+  pub failed_items_are : (items : List Item) → failed_in (fates_of s j items) ≡ flat_map (faults_by s j) items
+  failed_items_are items = by_items failed_of (faults_by s j) failed_one items
+
+  -- and the child directories
+  pub walked_items_are : (items : List Item) → walked_in (fates_of s j items) ≡ flat_map (children_by s j) items
+  walked_items_are items = by_items walked_of (children_by s j) walked_one items
