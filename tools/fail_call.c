@@ -18,9 +18,9 @@
 #include <sys/types.h>
 #include <unistd.h>
 
-enum { OPEN, OPENAT, GETDENTS, STATX, READ, WRITE, CLOSE, PTHREAD_CREATE, ALLOCATION, FUNCTIONS };
-static const char *names[FUNCTIONS] = {"open",  "openat", "getdents64",     "statx",     "read",
-                                       "write", "close",  "pthread_create", "allocation"};
+enum { OPEN, OPENAT, GETDENTS, STATX, READ, WRITE, CLOSE, ISATTY, PTHREAD_CREATE, ALLOCATION, FUNCTIONS };
+static const char *names[FUNCTIONS] = {"open",  "openat", "getdents64", "statx",          "read",
+                                       "write", "close",  "isatty",     "pthread_create", "allocation"};
 
 struct record {
   atomic_long counts[FUNCTIONS];
@@ -34,6 +34,7 @@ static ssize_t (*real_getdents64)(int, void *, size_t);
 static int (*real_statx)(int, const char *, int, unsigned, struct statx *);
 static ssize_t (*real_read)(int, void *, size_t);
 static ssize_t (*real_write)(int, const void *, size_t);
+static int (*real_isatty)(int);
 static int (*real_pthread_create)(pthread_t *, const pthread_attr_t *, void *(*)(void *), void *);
 static void *(*real_malloc)(size_t);
 static void *(*real_realloc)(void *, size_t);
@@ -67,6 +68,7 @@ __attribute__((constructor)) static void begin(void) {
   real_statx = dlsym(RTLD_NEXT, "statx");
   real_read = dlsym(RTLD_NEXT, "read");
   real_write = dlsym(RTLD_NEXT, "write");
+  real_isatty = dlsym(RTLD_NEXT, "isatty");
   real_pthread_create = dlsym(RTLD_NEXT, "pthread_create");
   real_malloc = dlsym(RTLD_NEXT, "malloc");
   real_realloc = dlsym(RTLD_NEXT, "realloc");
@@ -158,6 +160,10 @@ ssize_t read(int file, void *buffer, size_t size) {
 
 ssize_t write(int file, const void *buffer, size_t size) {
   return fails(WRITE) ? -1 : real_write(file, buffer, is_short && size > 1 ? 1 : size);
+}
+
+int isatty(int file) {
+  return fails(ISATTY) ? 0 : real_isatty(file);
 }
 
 int pthread_create(pthread_t *thread, const pthread_attr_t *attributes, void *(*run)(void *), void *argument) {
