@@ -12,4 +12,5 @@ pub mod OpenLevels
 pub mod PassedOn
 pub mod Rooms
 pub mod RuleParsing
+pub mod Selecting
 pub mod Tidy

@@ -5,6 +5,10 @@ use Rattle.std.specs.Prelude.{ℕ, Bool, cond, List, [], ◌∷◌, codes}
 pub record SelectionModel : Type 0 where
   pub without : List (List ℕ)
 
--- that of an archive, or of a tree as it is: gitattributes(5), Creating an archive
+-- that of these attributes, and of an archive first what git leaves out of one: gitattributes(5), Creating an archive
+abbrev pub selection_of : Bool → List (List ℕ) → SelectionModel
+selection_of archive without = record { without = cond archive (codes "export-ignore" ∷ without) without }
+
+-- that of an archive, or of a tree as it is
 abbrev pub selection_of_archive : Bool → SelectionModel
-selection_of_archive archive = record { without = cond archive (codes "export-ignore" ∷ []) [] }
+selection_of_archive archive = selection_of archive []

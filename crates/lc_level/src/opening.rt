@@ -104,7 +104,7 @@ fn with_files(alloc: Global, job: &Job, info: RulePair, own: RulePair) -> Result
 /// ```
 /// let mut desk = Desk::new(alloc)?;
 /// let top = Job::top(alloc, None)?;
-/// let Opened { job, files, children } = open_level(alloc, &tree, &top, &Selection::of_archive(false), &mut desk)?;
+/// let Opened { job, files, children } = open_level(alloc, &tree, &top, &Selection::new(false, &[]), &mut desk)?;
 /// let counted = count_files(alloc, &tree, &job, files, &mut desk)?; // `children` has the directories to be walked
 /// ```
 pub fn open_level<T: Tree>(

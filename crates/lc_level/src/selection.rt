@@ -1,7 +1,8 @@
 //! What decides, beside the rules of a tree, which of its entries are left out.
-ghost use Rattle.std.specs.Prelude.{◌≡◌, IfOk, is_some};
-ghost use Rattle.lc_level.specs.Level.{attribute_reason};
-ghost use Rattle.lc_level.specs.Selection.{selection_of_archive};
+ghost use Rattle.std.specs.Prelude.{◌≡◌, IfOk, is_some, map};
+ghost use Rattle.lc_level.specs.Level.{attribute_reason, is_set};
+ghost use Rattle.lc_level.specs.Selection.{selection_of};
+ghost use Rattle.lc_rules.specs.AttrStates.{state_of};
 
 use crate::job::Job;
 use lc_rules::State;
@@ -11,31 +12,52 @@ use std::marker::Model;
 /// What decides, beside the rules of a tree, which of its entries are left out.
 ///
 /// ```
-/// let as_it_is = Selection::of_archive(false);
-/// let exported = Selection::of_archive(true); // leaves out what `docs/ export-ignore` of a `.gitattributes` names
+/// let as_it_is = Selection::new(false, &[]);
+/// let exported = Selection::new(true, &[]); // leaves out what `docs/ export-ignore` of a `.gitattributes` names
+/// let own_work = Selection::new(false, &["linguist-vendored"]); // leaves out what `lib/ linguist-vendored` names
 /// ```
 #[derive(Drop)]
-pub struct Selection {
+pub struct Selection<'o> {
     archive: bool,
+    without: &'o [&'o str],
 }
 
-impl Model for Selection {
-    ghost use Rattle.lc_level.specs.Selection.{SelectionModel, selection_of_archive};
+impl<'o> Model for Selection<'o> {
+    ghost use Rattle.std.specs.Prelude.{map};
+    ghost use Rattle.lc_level.specs.Selection.{SelectionModel, selection_of};
 
     ghost Value = { SelectionModel };
 
-    ghost view = { λ s. selection_of_archive s.archive };
+    ghost view = { λ s. selection_of s.archive (map (λ name. name.now) s.without.now) };
 }
 
-impl Selection {
-    /// That of an archive, without what has the attribute `export-ignore`; or that of a tree as it is.
-    pub fn of_archive(archive: bool) -> Selection
-        ensures { result ≡ selection_of_archive archive }
+/// Whether an attribute is Set at a path. Memory is taken for the attribute's macros alone.
+fn is_set(
+    alloc: Global,
+    job: &Job,
+    path: &[u8],
+    is_dir: bool,
+    attribute: &[u8],
+) -> Result<bool, AllocError>
+    ensures { IfOk result (λ set. set ≡ is_set (state_of job.now.attributes path.now is_dir attribute.now)) }
+{
+    match job.attributes().state(alloc, path, is_dir, attribute)? {
+        State::Set => Ok(true),
+        State::Unset => Ok(false),
+        State::Value(_) => Ok(false),
+        State::Unspecified => Ok(false),
+    }
+}
+
+impl<'o> Selection<'o> {
+    /// That of these attributes, and of an archive also `export-ignore`, as `git archive` reads it.
+    pub fn new(archive: bool, without: &'o [&'o str]) -> Selection<'o>
+        ensures { result ≡ selection_of archive (map (λ name. name.now) without.entry.now) }
     {
-        Selection { archive }
+        Selection { archive, without }
     }
 
-    /// Whether an attribute leaves out what stands at a path. Memory is taken for the attribute's macros alone.
+    /// Whether an attribute leaves out what stands at a path. Memory is taken for the attributes' macros alone.
     pub(crate) fn leaves_out(
         &self,
         alloc: Global,
@@ -45,17 +67,14 @@ impl Selection {
     ) -> Result<bool, AllocError>
         ensures { IfOk result (λ out. out ≡ is_some (attribute_reason self.now job.now path.now is_dir)) }
     {
-        if !self.archive {
-            return Ok(false);
+        if self.archive && is_set(alloc, job, path, is_dir, b"export-ignore")? {
+            return Ok(true);
         }
-        match job
-            .attributes()
-            .state(alloc, path, is_dir, b"export-ignore")?
-        {
-            State::Set => Ok(true),
-            State::Unset => Ok(false),
-            State::Value(_) => Ok(false),
-            State::Unspecified => Ok(false),
+        for attribute in self.without {
+            if is_set(alloc, job, path, is_dir, attribute.as_bytes())? {
+                return Ok(true);
+            }
         }
+        Ok(false)
     }
 }

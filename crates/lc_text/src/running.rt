@@ -78,7 +78,7 @@ pub fn run<T: Tree, R: Threads + Wait + Sync, O: Sink>(
     rt: &R,
     alloc: Global,
     tree: &T,
-    options: &Options,
+    options: &Options<'_>,
     out: &mut O,
 ) -> Result<Outcome, RunFault>
     requires limits { AreWithinLimits options.now }

@@ -1,9 +1,9 @@
 -- What the options of a walk ask.
-use Rattle.std.specs.Prelude.{◌≤◌}
+use Rattle.std.specs.Prelude.{◌≤◌, map}
 use Rattle.lc_board.specs.Limits.{capacity_limit, workers_limit}
 use Rattle.lc_level.specs.Job.{JobModel}
 use Rattle.lc_level.specs.RuleReads.{shared}
-use Rattle.lc_level.specs.Selection.{selection_of_archive}
+use Rattle.lc_level.specs.Selection.{selection_of}
 use Rattle.lc_level.specs.TopJob.{top_job}
 use Rattle.lc_walk.specs.Lawful.{Asked}
 use Rattle.lc_walk.specs.declared.options.Options.{Options}
@@ -17,7 +17,7 @@ pub record AreWithinLimits (o : Options) : Type 0 where
 
 -- whether the report is to have the files, and what is left out beside what the rules ignore
 abbrev pub asked_by : Options → Asked
-asked_by o = record { files = o.files; selection = selection_of_archive o.archive }
+asked_by o = record { files = o.files; selection = selection_of o.archive (map (λ name. name.now) o.without.now) }
 
 -- where it begins
 abbrev pub top_of : Options → JobModel

@@ -34,7 +34,7 @@ pub(crate) fn run_all<B: Shared<Job, Row>, T: Tree, R: Threads + Wait + Sync>(
     board: &B,
     tree: &T,
     passes: Vec<B::Pass>,
-    options: &Options,
+    options: &Options<'_>,
 ) -> Result<Vec<Worked<B::Pass>>, AllocError>
     requires each { (i : ℕ) (p : _) → i < vec_len passes → p ≡ slice_index_or passes.items i p →
         B.owns board.now p × (holding (B.Pass.view p) ≡ None) }

@@ -9,7 +9,7 @@ use std::sync::Arc;
 
 /// What is asked of a walk.
 #[derive(Drop)]
-pub struct Options {
+pub struct Options<'o> {
     /// How many workers walk at the same time: 1 to 16.
     pub threads: u32,
     /// The most directories that are walked, the top included: 1 to 1,048,576.
@@ -20,13 +20,15 @@ pub struct Options {
     pub exclude: Option<Arc<IgnoreFile, Global>>,
     /// What has the attribute `export-ignore` is left out, as `git archive` does (gitattributes(5)).
     pub archive: bool,
+    /// What has one of these attributes Set is left out, files and directories, as `linguist-vendored` (gitattributes(5)).
+    pub without: &'o [&'o str],
 }
 
-impl Options {
+impl<'o> Options<'o> {
     /// What decides, beside the rules of the tree, which entries are left out.
-    pub fn selection(&self) -> Selection
+    pub fn selection(&self) -> Selection<'o>
         ensures { result ≡ (asked_by self.now).selection }
     {
-        Selection::of_archive(self.archive)
+        Selection::new(self.archive, self.without)
     }
 }

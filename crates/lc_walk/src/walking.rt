@@ -19,7 +19,7 @@ use std::sync::{Arc, Wait};
 use std::thread::Threads;
 
 /// The job of the top.
-fn top_of(alloc: Global, options: &Options) -> Result<Job, AllocError>
+fn top_of(alloc: Global, options: &Options<'_>) -> Result<Job, AllocError>
     ensures { IfOk result (λ job. job ≡ top_of options.now) }
 {
     match &options.exclude {
@@ -33,7 +33,7 @@ pub fn walk_on<B: Shared<Job, Row>, T: Tree, R: Threads + Wait + Sync>(
     rt: &R,
     alloc: Global,
     tree: &T,
-    options: &Options,
+    options: &Options<'_>,
 ) -> Result<Report, WalkFault>
     requires limits { AreWithinLimits options.now }
     ensures { WalkAnswers (MayAnswer (T.lists tree.now) (T.gives tree.now)) (asked_by options.now)
@@ -65,7 +65,7 @@ pub fn walk<T: Tree, R: Threads + Wait + Sync>(
     rt: &R,
     alloc: Global,
     tree: &T,
-    options: &Options,
+    options: &Options<'_>,
 ) -> Result<Report, WalkFault>
     requires limits { AreWithinLimits options.now }
     ensures { WalkAnswers (MayAnswer (T.lists tree.now) (T.gives tree.now)) (asked_by options.now)

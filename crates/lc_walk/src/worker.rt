@@ -51,7 +51,7 @@ fn give_up_rest<B: Shared<Job, Row>, T: Tree, W: Wait>(
     board: &B,
     pass: B::Pass,
     tree: &T,
-    options: &Options,
+    options: &Options<'_>,
     tally: Option<Tally>,
 ) -> Worked<B::Pass>
     requires pass { B.owns board.now pass }
@@ -100,7 +100,7 @@ pub fn work<B: Shared<Job, Row>, T: Tree, W: Wait>(
     board: &B,
     pass: B::Pass,
     tree: &T,
-    options: &Options,
+    options: &Options<'_>,
 ) -> Worked<B::Pass>
     requires pass { B.owns board.now pass }
     requires free { holding (B.Pass.view pass) ≡ None }

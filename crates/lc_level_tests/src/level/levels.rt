@@ -340,3 +340,18 @@ fn view_of_an_archive(rt: HostRuntime) -> Result<(), Fail> {
     check(&rt, rt.alloc(), "as it is", top(EXPORTED), Ok(ALL))?;
     Ok(())
 }
+
+#[test]
+fn view_without_attributes(rt: HostRuntime) -> Result<(), Fail> {
+    let asked = Asked {
+        without: &["text", "export-ignore"],
+        ..top(EXPORTED)
+    };
+    check(&rt, rt.alloc(), "without a second one", asked, Ok(IN_ARCHIVE))?;
+    let asked = Asked {
+        without: &["text"],
+        ..top(EXPORTED)
+    };
+    check(&rt, rt.alloc(), "without another", asked, Ok(ALL))?;
+    Ok(())
+}

@@ -18,6 +18,7 @@ pub(crate) struct Asked<'a> {
     /// The rules of an exclude file.
     pub(crate) exclude: Option<&'a [u8]>,
     pub(crate) archive: bool,
+    pub(crate) without: &'a [&'a str],
 }
 
 /// The names of the counted files with their text states, those of the others with their faults, and the child directories.
@@ -28,13 +29,14 @@ pub(crate) struct Level<'a> {
     pub(crate) children: &'a [&'a [u8]],
 }
 
-/// The top itself, without an exclude file, and not as an archive.
+/// The top itself, without an exclude file, and as it is.
 pub(crate) fn top(tree: Sketch) -> Asked {
     Asked {
         tree,
         below: None,
         exclude: None,
         archive: false,
+        without: &[],
     }
 }
 
@@ -73,7 +75,7 @@ fn job_of(
     desk: &mut Desk,
 ) -> Result<Option<Job>, AllocError> {
     let top = Job::top(alloc, exclude_file(alloc, asked.exclude)?)?;
-    let selection = Selection::of_archive(asked.archive);
+    let selection = Selection::new(asked.archive, asked.without);
     let Some(below) = asked.below else {
         return Ok(Some(top));
     };
@@ -170,7 +172,7 @@ pub(crate) fn check(
         assert!(rt; false, "{case}: no such directory");
         return Ok(());
     };
-    let selection = Selection::of_archive(asked.archive);
+    let selection = Selection::new(asked.archive, asked.without);
     let found = work(alloc, &tree, &job, &selection, &mut desk)?;
     assert!(rt; is_wanted(&found, &wanted), "{case}");
     Ok(())

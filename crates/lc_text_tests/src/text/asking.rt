@@ -67,7 +67,7 @@ fn options_of(
     asked: &Asked<'_>,
     threads: u32,
     max_dirs: u32,
-) -> Result<Options, AllocError>
+) -> Result<Options<'static>, AllocError>
     requires threads { (1 ≤ threads) × (threads ≤ 16) }
     requires directories { (1 ≤ max_dirs) × (max_dirs ≤ 1048576) }
     ensures { IfOk result AreWithinLimits }
@@ -78,6 +78,7 @@ fn options_of(
         files: asked.files,
         exclude: excluding(alloc, asked.exclude)?,
         archive: asked.archive,
+        without: &[],
     })
 }
 

@@ -43,7 +43,7 @@ pub(crate) fn give_up<B: Shared<Job, Row>, W: Wait>(
 }
 
 /// The counted files of a directory, where the report is to have them.
-fn if_asked(alloc: Global, options: &Options, files: Vec<Counted>) -> Vec<Counted>
+fn if_asked(alloc: Global, options: &Options<'_>, files: Vec<Counted>) -> Vec<Counted>
     ensures { result.items ≡ cond options.now.files files.items [] }
 {
     if options.files {
@@ -60,7 +60,7 @@ fn serve_opened<B: Shared<Job, Row>, T: Tree, W: Wait>(
     board: &B,
     pass: &mut B::Pass,
     tree: &T,
-    options: &Options,
+    options: &Options<'_>,
     job: Job,
     opened: Opened,
     desk: &mut Desk,
@@ -108,7 +108,7 @@ pub(crate) fn serve<B: Shared<Job, Row>, T: Tree, W: Wait>(
     board: &B,
     pass: &mut B::Pass,
     tree: &T,
-    options: &Options,
+    options: &Options<'_>,
     job: Job,
     desk: &mut Desk,
     tally: &mut Tally,

@@ -143,7 +143,7 @@ const ONE_IN_THE_OTHER: Sketch = Sketch::Dir(&[(b"d", Sketch::Dir(&[(b"e", Sketc
 /// The last child directory of a job's.
 fn last_child<T: Tree>(alloc: Global, tree: &T, job: &Job) -> Result<Job, AllocError> {
     let mut desk = Desk::new(alloc)?;
-    let selection = Selection::of_archive(false);
+    let selection = Selection::new(false, &[]);
     let Ok(mut opened) = open_level(alloc, tree, job, &selection, &mut desk) else {
         return Err(AllocError);
     };

@@ -22,6 +22,7 @@ pub(super) struct Asked<'a> {
     pub(super) tree: Sketch<'a>,
     pub(super) exclude: Option<&'a [u8]>,
     pub(super) archive: bool,
+    pub(super) without: &'a [&'a str],
     pub(super) max_dirs: u32,
 }
 
@@ -30,6 +31,7 @@ pub(super) const ASKED: Asked = Asked {
     tree: Sketch::Dir(&[]),
     exclude: None,
     archive: false,
+    without: &[],
     max_dirs: 100,
 };
 
@@ -57,7 +59,7 @@ pub(super) type Wanted<'a> = Result<Found<'a>, WalkFault>;
 pub(super) type Case<'a> = (&'a str, Asked<'a>, Wanted<'a>);
 
 /// A walk of the whole tree by so many workers.
-pub(super) fn walk_options(threads: u32, max_dirs: u32) -> Options
+pub(super) fn walk_options(threads: u32, max_dirs: u32) -> Options<'static>
     requires threads { (1 ≤ threads) × (threads ≤ workers_limit) }
     requires room { (1 ≤ max_dirs) × (max_dirs ≤ capacity_limit) }
     ensures limits { AreWithinLimits result }
@@ -68,6 +70,7 @@ pub(super) fn walk_options(threads: u32, max_dirs: u32) -> Options
         files: false,
         exclude: None,
         archive: false,
+        without: &[],
     }
 }
 
@@ -129,7 +132,7 @@ pub(super) fn check_on<B: Shared<Job, Row>, T: Tree, R: Threads + Wait + Sync + 
     rt: &R,
     alloc: Global,
     tree: &T,
-    options: &Options,
+    options: &Options<'_>,
     name: &str,
     wanted: Wanted,
 ) -> Result<(), AllocError>
@@ -177,6 +180,7 @@ fn check_case<R: Threads + Wait + Sync + Abort>(
             files: false,
             exclude: exclude_file(alloc, asked.exclude)?,
             archive: asked.archive,
+            without: asked.without,
         };
         check_on::<Words<Job, Row>, MemTree, R>(rt, alloc, &tree, &options, name, wanted)?;
         check_on::<Locked<Job, Row>, MemTree, R>(rt, alloc, &tree, &options, name, wanted)?;

@@ -278,6 +278,79 @@ fn an_archive_leaves_out_what_is_not_exported(rt: HostRuntime) -> Result<(), Fai
     Ok(())
 }
 
+/// Attributes of files and directories: Set, Unset, a value, and Set by a macro.
+const MARKED: Sketch = Sketch::Dir(&[
+    (
+        b".gitattributes",
+        Sketch::File(b"[attr]made generated\nlib/ vendored\n*.y made\nx.y -generated\n*.v vendored=1\n"),
+    ),
+    (b"a.y", LINE),
+    (b"b.v", LINE),
+    (b"lib", Sketch::Dir(&[(b"m", LINE)])),
+    (b"src", Sketch::Dir(&[(b"lib", LINE), (b"n.y", LINE)])),
+    (b"x.y", LINE),
+]);
+
+const WITHOUT_ATTRIBUTES: &[Case] = &[
+    (
+        "without what is vendored",
+        Asked {
+            tree: MARKED,
+            without: &["vendored"],
+            ..ASKED
+        },
+        Ok(Found {
+            rows: &[
+                (None, NONE, Eol::Lf, [2, 6, 0, 76]),
+                (Some(b"v"), NONE, Eol::Lf, [1, 1, 0, 2]),
+                (Some(b"y"), NONE, Eol::Lf, [3, 3, 0, 6]),
+            ],
+            directories: 2,
+            faults: &[],
+        }),
+    ),
+    (
+        "without what is vendored or generated",
+        Asked {
+            tree: MARKED,
+            without: &["vendored", "generated"],
+            ..ASKED
+        },
+        Ok(Found {
+            rows: &[
+                (None, NONE, Eol::Lf, [2, 6, 0, 76]),
+                (Some(b"v"), NONE, Eol::Lf, [1, 1, 0, 2]),
+                (Some(b"y"), NONE, Eol::Lf, [1, 1, 0, 2]),
+            ],
+            directories: 2,
+            faults: &[],
+        }),
+    ),
+    (
+        "export-ignore as any other attribute",
+        Asked {
+            tree: EXPORTED,
+            without: &["export-ignore"],
+            ..ASKED
+        },
+        Ok(Found {
+            rows: &[
+                (None, NONE, Eol::Lf, [2, 5, 0, 83]),
+                (Some(b"tmp"), NONE, Eol::Lf, [1, 1, 0, 2]),
+                (Some(b"y"), NONE, Eol::Lf, [1, 1, 0, 2]),
+            ],
+            directories: 2,
+            faults: &[],
+        }),
+    ),
+];
+
+#[test]
+fn attributes_leave_out_what_they_are_set_for(rt: HostRuntime) -> Result<(), Fail> {
+    check(&rt, rt.alloc(), WITHOUT_ATTRIBUTES)?;
+    Ok(())
+}
+
 const INFO: Sketch = Sketch::Dir(&[
     (b"exclude", Sketch::File(b"*.o\n!k.c\n")),
     (b"attributes", Sketch::File(b"[attr]src text\n*.c src\n")),
@@ -380,6 +453,7 @@ fn check_files<R: Threads + Wait + Sync + Abort>(
         files: true,
         exclude: None,
         archive: false,
+        without: &[],
     };
     let report = report_of(rt, walk(rt, alloc, &MemTree::new(&node), &options))?;
     assert!(rt; has_files(&report, wanted), "{report:?}");
