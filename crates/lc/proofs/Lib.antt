@@ -1,4 +1,1 @@
 pub mod Loading
-pub mod ReadValues
-pub mod CountRanges
-pub mod WordFaults

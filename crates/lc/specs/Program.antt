@@ -4,9 +4,9 @@ use Rattle.lc_census.specs.declared.source.Failed.{Failed}
 use Rattle.lc_census.specs.Reads.{Answer}
 use Rattle.lc.specs.Causes.{HasNumber, cause_line}
 use Rattle.lc.specs.Requests.{Loaded, Reply, AnswersRequest}
-use Rattle.lc.specs.Words.{Asks, MayRefuse, MayShow, faults_in}
+use Rattle.lc_arguments.specs.Words.{Asks, MayRefuse, MayShow, faults_in}
 use Rattle.lc_text.specs.Writes.{Writes, StopsWriting}
-use Rattle.lc.specs.declared.arguments.Request.{Request}
+use Rattle.lc_arguments.specs.declared.request.Request.{Request}
 use Rattle.lc.specs.declared.cause.Cause.{Cause}
 use Rattle.lc.specs.declared.cause.Cause.TheVariants.{Memory, Unwritten}
 use Rattle.lc.specs.declared.program.Ending.{Ending}

@@ -14,9 +14,9 @@ use Rattle.lc_text.specs.CheckText.{text_by}
 use Rattle.lc_text.specs.Joined.{rules_part, joined_text}
 use Rattle.lc_text.specs.RuleReads.{ReadsRules}
 use Rattle.lc_text.specs.Runs.{Walks, AnswersRun}
-use Rattle.lc.specs.declared.arguments.Request.{Request}
-use Rattle.lc.specs.declared.arguments.Request.TheVariants.{CheckJoined, Check, Count}
-use Rattle.lc.specs.declared.arguments.count.CountRequest.{CountRequest}
+use Rattle.lc_arguments.specs.declared.request.Request.{Request}
+use Rattle.lc_arguments.specs.declared.request.Request.TheVariants.{CheckJoined, Check, Count}
+use Rattle.lc_arguments.specs.declared.count.CountRequest.{CountRequest}
 use Rattle.lc.specs.declared.cause.Cause.{Cause}
 use Rattle.lc.specs.declared.cause.Cause.TheVariants.{Memory}
 use Rattle.lc_text.specs.declared.checking.CheckFault.{CheckFault}

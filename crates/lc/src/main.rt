@@ -2,7 +2,6 @@
 //! rules of an ignore file leave out.
 #![tactic(auto)]
 
-mod arguments;
 mod cause;
 mod program;
 mod rules_file;

@@ -1,15 +1,15 @@
 //! The program but for its streams.
 
 ghost use Rattle.std.specs.Prelude.{◌≡◌, map};
-ghost use Rattle.lc.specs.Words.{IsWithinLimits, IsCountWithinLimits};
+ghost use Rattle.lc_arguments.specs.Words.{IsWithinLimits, IsCountWithinLimits};
 ghost use Rattle.lc.specs.Program.{Tells, TellsCause, Introduces, EndsShown, Ends, status_of};
 ghost use Rattle.lc.specs.Requests.{LoadsRules, AnswersExcluded, AnswersFile, AnswersJoined, AnswersCount, AnswersRequest};
 ghost use Rattle.lc.specs.declared.program.Ending.{Ending};
 ghost use Rattle.lc.specs.declared.program.Ending.TheVariants as ending;
 
-use crate::arguments::{CountRequest, NoRequest, Request};
 use crate::cause::Cause;
 use crate::rules_file::rules_of_file;
+use lc_arguments::{CountRequest, NoRequest, Request};
 use lc_census::{Source, StdSource};
 use lc_rules::IgnoreFile;
 use lc_text::{Outcome, Sink, check, check_joined, print, run};

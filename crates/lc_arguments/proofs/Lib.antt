@@ -1,0 +1,3 @@
+mod CountRanges
+mod ReadValues
+mod WordFaults

@@ -1,0 +1,120 @@
+-- Words that fail, and what is said of them.
+use Rattle.std.proofs.Common.{◌≡◌, ◌∙◌, ℕ, Bool, true, false, List, [], refl, ap, sym, subst, inl, inr, Result, Err, Option, Some, None}
+use Rattle.std.proofs.Common.{codes}
+use Rattle.std.specs.Borrow.{Bor}
+use Rattle.std.specs.Prelude.{option_map, unwrap_or}
+use Rattle.std.specs.Str.Parse.{digits_value, without_leading_plus}
+use Rattle.clap.specs.Faults.{fault_of, is_simple_and_free}
+use Rattle.clap.specs.Kinds.{FailsBy, HasKind, Kinds}
+use Rattle.clap.specs.Simple.{App, HasMatchesOf, app_of, is_simple, matches_of}
+use Rattle.clap.specs.Matches.{found_of, first_value, one_text}
+use Rattle.clap.specs.Values.{kind_of}
+use Rattle.clap.specs.Walk.{Row, Text, first_of, one_of, rows_of}
+use Rattle.clap.proofs.WalkLemmas.{first_value-rows, one_text-rows}
+use Rattle.clap.specs.declared.builder.command.Command.{Command}
+use Rattle.clap.specs.declared.error.Error.{Error}
+use Rattle.clap.specs.declared.error.kind.ErrorKind.TheVariants as kind
+use Rattle.clap.specs.declared.parser.matches.ArgMatches.{ArgMatches}
+use Rattle.clap.specs.declared.parser.matches.Found.{Found}
+use Rattle.clap.proofs.OnLiterals.{clap_on_literals}
+use Rattle.lc_arguments.specs.CommandLine.{count_app, check_app, lc_app}
+use Rattle.lc_arguments.specs.Explained.{Explains}
+use Rattle.lc_arguments.specs.Words.{IsFlag, IsNumber, IsText, IsNoRequestBy}
+use Rattle.lc_arguments.specs.declared.request.NoRequest.{NoRequest}
+use Rattle.lc_arguments.specs.declared.request.NoRequest.TheVariants.{Shown, Refused, Memory}
+
+-- the command count is of the simple kind, of which clap says all
+pub count_is_simple : is_simple count_app ≡ true
+unfolding clap_on_literals
+count_is_simple = refl
+
+-- and asks for nothing that clap leaves open
+pub count_is_free : is_simple_and_free count_app ≡ true
+unfolding clap_on_literals
+count_is_free = refl
+
+-- so is check
+pub check_is_simple : is_simple check_app ≡ true
+unfolding clap_on_literals
+check_is_simple = refl
+
+-- and it asks for nothing more
+pub check_is_free : is_simple_and_free check_app ≡ true
+unfolding clap_on_literals
+check_is_free = refl
+
+-- nor does lc
+pub lc_is_free : is_simple_and_free lc_app ≡ true
+unfolding clap_on_literals
+lc_is_free = refl
+
+-- memory is no text that was asked for
+memory_is_no_text : (e : Error) → kind_of e ≡ kind.OutOfMemory → IsText (kind_of e) → ⊥
+memory_is_no_text e is text = elim text [
+  | inl help ↦ let bad : kind.OutOfMemory ≡ kind.DisplayHelp = sym is ∙ help in cc
+  | inr version ↦ let bad : kind.OutOfMemory ≡ kind.DisplayVersion = sym is ∙ version in cc
+]
+
+-- what an error of these kinds becomes
+pub no_request_by : (kinds : Kinds) (e : Error) (why : NoRequest) → HasKind kinds e → Explains e why → IsNoRequestBy kinds why
+no_request_by kinds e (Shown text) has is = elim has [
+  | inl memory ↦ absurd (memory_is_no_text e memory is)
+  | inr among ↦ (kind_of e, among, is)
+]
+no_request_by kinds e (Refused text) has is = elim has [
+  | inl memory ↦ absurd (is.0 memory)
+  | inr among ↦ (kind_of e, among, is.1)
+]
+no_request_by kinds e Memory has is = tt
+
+-- a command that clap sees as this one fails as this one
+pub fails_as : {T : Type 0} (c : Command) (a : App) (words : List Text) (answer : Result T Error) → app_of c ≡ a
+    → is_simple_and_free a ≡ true
+    → (is_simple_and_free (app_of c) ≡ true → FailsBy (fault_of (app_of c) words) answer) → FailsBy (fault_of a words) answer
+fails_as c a words answer is free kinds =
+    subst (λ (b : App). FailsBy (fault_of b words) answer) is (kinds (ap is_simple_and_free is ∙ free))
+
+-- and has its matches
+pub matches_as : (c : Command) (a : App) (words : List Text) (m : ArgMatches) → app_of c ≡ a → is_simple a ≡ true
+    → HasMatchesOf (app_of c) words m → rows_of (found_of m) ≡ matches_of a words
+matches_as c a words m is simple has =
+    (subst (λ (b : App). HasMatchesOf b words m) is has simple).0
+
+-- what an error of such a command becomes
+pub no_request_of : (c : Command) (a : App) (words : List Text) (e : Error) (why : NoRequest) → app_of c ≡ a → is_simple_and_free a ≡ true
+    → (is_simple_and_free (app_of c) ≡ true → FailsBy {T = ArgMatches} (fault_of (app_of c) words) (Err e)) → Explains e why
+    → IsNoRequestBy (fault_of a words) why
+no_request_of c a words e why is free kinds explains =
+    no_request_by (fault_of a words) e why (fails_as {T = ArgMatches} c a words (Err e) is free kinds) explains
+
+-- a text that was read, or nothing
+pub text_or : (rows : List Row) (f : Found) (id : Text) (o : Option (Bor Text)) (other result : Bor Text) → rows_of f ≡ rows
+    → option_map (λ s. s.now) o ≡ first_value f id → other.now ≡ [] → result ≡ unwrap_or o other
+    → result.now ≡ unwrap_or (first_of id rows) []
+text_or rows f id o other result are read empty is =
+    go o is (read ∙ (first_value-rows f id ∙ ap (first_of id) are))
+  where
+    go : (o' : Option (Bor Text)) → result ≡ unwrap_or o' other → option_map (λ s. s.now) o' ≡ first_of id rows
+        → result.now ≡ unwrap_or (first_of id rows) []
+    go None e g = ap (λ (b : Bor Text). b.now) e ∙ (empty ∙ ap (λ (v : Option Text). unwrap_or v []) g)
+    go (Some t) e g = ap (λ (b : Bor Text). b.now) e ∙ ap (λ (v : Option Text). unwrap_or v []) g
+
+-- a text that was read is the first of its argument
+pub text_of : (rows : List Row) (f : Found) (id : Text) (o : Option (Bor Text)) → rows_of f ≡ rows
+    → option_map (λ s. s.now) o ≡ first_value f id
+    → option_map (λ s. s.now) o ≡ first_of id rows
+text_of rows f id o are read = read ∙ (first_value-rows f id ∙ ap (first_of id) are)
+
+-- a flag that was read is that of the words
+pub flag_of : (rows : List Row) (f : Found) (id : Text) (b : Bool) → rows_of f ≡ rows
+    → (one_text f id ≡ Some (codes "true") → b ≡ true) → (one_text f id ≡ Some (codes "false") → b ≡ false) → IsFlag id rows b
+flag_of rows f id b are set unset =
+    let same : one_text f id ≡ one_of id rows = one_text-rows f id ∙ ap (one_of id) are in
+    (λ yes. set (same ∙ yes), λ not_set. unset (same ∙ not_set))
+
+-- a number that was read is that of the words, or the default
+pub number_of : (rows : List Row) (f : Found) (id default : Text) (n : ℕ) → rows_of f ≡ rows
+    → n ≡ digits_value 10 (without_leading_plus (unwrap_or (one_text f id) default)) → IsNumber id default rows n
+number_of rows f id default n are is =
+    let same : one_text f id ≡ one_of id rows = one_text-rows f id ∙ ap (one_of id) are in
+    is ∙ ap (λ (o : Option Text). digits_value 10 (without_leading_plus (unwrap_or o default))) same

@@ -1,0 +1,24 @@
+use Rattle.std.proofs.Common.{map, codes, refl, Ok}
+use Rattle.clap.specs.Matches.{found_of}
+use Rattle.clap.specs.Simple.{matches_of}
+use Rattle.lc_arguments.specs.CommandLine.{check_app}
+use Rattle.lc_arguments.proofs.WordFaults.{check_is_free, check_is_simple, fails_as, matches_as, no_request_of, text_or}
+use Rattle.lc_arguments.proofs.check.read.Goals as goal
+
+pub returns-in-Ok-try_get_matches_from : goal.returns-in-Ok-try_get_matches_from
+returns-in-Ok-try_get_matches_from g c =
+    let words = map g.W.AsStr.text c.args.words.now in
+    let m = c.in-Ok-try_get_matches_from.matches in
+    let command = c.in-Ok.command in
+    let is = c.in-Ok.ensures.0 in
+    let parse = c.in-Ok-try_get_matches_from.ensures in (
+      fails_as command check_app words (Ok m) is check_is_free parse.kinds,
+      text_or (matches_of check_app words) (found_of m) (codes "FILE") c.get_str.result _ c.unwrap_or.result
+          (matches_as command check_app words m is check_is_simple parse.matches)
+          c.get_str.ensures refl c.unwrap_or.ensures,
+    )
+
+pub returns-in-Err : goal.returns-in-Err
+returns-in-Err g c =
+    no_request_of c.in-Ok.command check_app (map g.W.AsStr.text c.args.words.now) c.in-Err.error c.explained.result c.in-Ok.ensures.0
+    check_is_free c.in-Err.ensures.kinds c.explained.ensures

@@ -1,0 +1,31 @@
+-- Arguments of a command, as they are made.
+use Rattle.std.specs.Prelude.{◌≡◌, ℕ, Bool, false, not, ◌||◌, List, [], codes}
+use Rattle.std.specs.Str.{bytes_eq}
+use Rattle.clap.specs.Built.{FitsChain}
+use Rattle.clap.specs.Facts.{args_of, groups_of}
+use Rattle.clap.specs.Simple.{App, app_of}
+use Rattle.clap.specs.Walk.{Rule, rule_of}
+use Rattle.clap.specs.declared.builder.arg.Arg.{Arg}
+use Rattle.clap.specs.declared.builder.command.Command.{Command}
+use Rattle.clap.specs.declared.builder.command.Command.TheViews.{out-Command}
+use Rattle.lc_arguments.specs.CommandLine.{bare_app, count_app}
+use Rattle.lc_arguments.specs.Words.{ReadsCountWithinLimits}
+
+-- a name that is not empty, nor that of an argument which each command has
+abbrev pub is_own_name : List ℕ → Bool
+is_own_name id = not (bytes_eq id [] || bytes_eq id (codes "help") || bytes_eq id (codes "version"))
+
+-- an argument that clap sees so, and that may stand beside any other
+abbrev pub IsArgOf : Rule → Arg → Type 0
+IsArgOf rule a = (rule_of a ≡ rule) × FitsChain a
+
+-- a command that clap sees so, and none of whose arguments its subcommands take
+abbrev pub IsCommandOf : App → Command → Type 0
+IsCommandOf app c = (app_of c ≡ app) × ((out-Command c).has_globals ≡ false)
+
+-- a command that has no argument yet
+abbrev pub IsBare : List ℕ → Command → Type 0
+IsBare name c = IsCommandOf (bare_app name) c × (args_of c ≡ []) × (groups_of c ≡ [])
+
+abbrev pub IsCountCommand : Command → Type 0
+IsCountCommand c = IsCommandOf count_app c × ReadsCountWithinLimits c

@@ -1,0 +1,38 @@
+-- What an error of clap becomes.
+use Rattle.std.specs.Prelude.{◌≡◌, ◌≢◌, ℕ, List, [], Result, Ok, Err, unwrap_or, codes}
+use Rattle.clap.specs.Faults.{fault_of}
+use Rattle.clap.specs.Simple.{matches_of}
+use Rattle.clap.specs.Values.{kind_of}
+use Rattle.clap.specs.Walk.{first_of}
+use Rattle.clap.specs.declared.error.Error.{Error}
+use Rattle.clap.specs.declared.error.kind.ErrorKind.TheVariants.{OutOfMemory}
+use Rattle.std.specs.Borrow.{Bor}
+use Rattle.lc_arguments.specs.CommandLine.{count_app, check_app, lc_app}
+use Rattle.lc_arguments.specs.Words.{IsText, IsNoRequestBy, IsCountOf}
+use Rattle.lc_arguments.specs.declared.request.NoRequest.{NoRequest}
+use Rattle.lc_arguments.specs.declared.request.NoRequest.TheVariants.{Shown, Refused, Memory}
+use Rattle.lc_arguments.specs.declared.request.Request.{Request}
+use Rattle.lc_arguments.specs.declared.request.Request.TheVariants.{CheckJoined}
+use Rattle.lc_arguments.specs.declared.count.CountRequest.{CountRequest}
+
+-- a text that was asked for is shown; any other is why words are refused
+abbrev pub Explains : Error → NoRequest → Type 0
+Explains e (Shown _) = IsText (kind_of e)
+Explains e (Refused _) = (kind_of e ≢ OutOfMemory) × (IsText (kind_of e) → ⊥)
+Explains e Memory = Unit {0}
+
+-- the words after `count`
+abbrev pub AnswersCountWords : List (List ℕ) → Result CountRequest NoRequest → Type 0
+AnswersCountWords words (Ok c) = (fault_of count_app words ≡ []) × IsCountOf (matches_of count_app words) c
+AnswersCountWords words (Err why) = IsNoRequestBy (fault_of count_app words) why
+
+-- the words after `check`
+abbrev pub AnswersCheckWords : List (List ℕ) → Result (Bor (List ℕ)) NoRequest → Type 0
+AnswersCheckWords words (Ok file) =
+    (fault_of check_app words ≡ []) × (file.now ≡ unwrap_or (first_of (codes "FILE") (matches_of check_app words)) [])
+AnswersCheckWords words (Err why) = IsNoRequestBy (fault_of check_app words) why
+
+-- words that name no command
+abbrev pub AnswersOthers : List (List ℕ) → Result Request NoRequest → Type 0
+AnswersOthers words (Ok request) = (fault_of lc_app words ≡ []) × (request ≡ CheckJoined)
+AnswersOthers words (Err why) = IsNoRequestBy (fault_of lc_app words) why

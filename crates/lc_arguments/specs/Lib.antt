@@ -1,0 +1,4 @@
+pub mod CommandLine
+pub mod CountArgs
+pub mod Explained
+pub mod Words

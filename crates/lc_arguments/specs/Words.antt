@@ -1,0 +1,99 @@
+-- What the words of a command line ask for.
+use Rattle.std.specs.Prelude.{◌≡◌, ◌≢◌, ◌⊎◌, ◌≤◌, ℕ, Bool, true, false, cond, List, [], ◌∷◌, pos, Some, Result, Ok, Err, unwrap_or}
+use Rattle.std.specs.Prelude.{option_map, codes}
+use Rattle.std.specs.Str.{bytes_eq}
+use Rattle.std.specs.Str.Parse.{digits_value, without_leading_plus}
+use Rattle.clap.specs.Built.{IsParsedFrom}
+use Rattle.clap.specs.Faults.{fault_of}
+use Rattle.clap.specs.Kinds.{IsAmong, Kinds}
+use Rattle.clap.specs.Lexer.{without_minus}
+use Rattle.clap.specs.Matches.{found_of}
+use Rattle.clap.specs.Matches as matches
+use Rattle.clap.specs.Simple.{matches_of}
+use Rattle.clap.specs.Values.{IsSignedIn}
+use Rattle.clap.specs.Walk.{Row, first_of, one_of}
+use Rattle.clap.specs.declared.builder.command.Command.{Command}
+use Rattle.clap.specs.declared.error.kind.ErrorKind.{ErrorKind}
+use Rattle.clap.specs.declared.error.kind.ErrorKind.TheVariants.{DisplayHelp, DisplayVersion}
+use Rattle.clap.specs.declared.parser.matches.ArgMatches.{ArgMatches}
+use Rattle.lc_arguments.specs.CommandLine.{count_app, check_app, lc_app}
+use Rattle.lc_arguments.specs.declared.request.NoRequest.{NoRequest}
+use Rattle.lc_arguments.specs.declared.request.NoRequest.TheVariants.{Shown, Refused, Memory}
+use Rattle.lc_arguments.specs.declared.request.Request.{Request}
+use Rattle.lc_arguments.specs.declared.request.Request.TheVariants.{CheckJoined, Check, Count}
+use Rattle.lc_arguments.specs.declared.count.CountRequest.{CountRequest}
+
+-- what a parse by this command reads of this argument is a number from the one to the other
+abbrev pub ReadsWithin : Command → List ℕ → ℕ → ℕ → Type 0
+ReadsWithin command id low high =
+    (m : ArgMatches) → IsParsedFrom command m → (text : List ℕ) → matches.one_text (found_of m) id ≡ Some text
+    → (digits : List ℕ) × (text ≡ without_minus digits) × IsSignedIn (pos low) (pos high) digits
+
+-- what a parse by the command of a count reads of its numbers: 1 to 16 workers, 1 to 1,048,576 directories
+abbrev pub ReadsCountWithinLimits : Command → Type 0
+ReadsCountWithinLimits command = ReadsWithin command (codes "threads") 1 16 × ReadsWithin command (codes "max-dirs") 1 1048576
+
+-- a count by 1 to 16 workers, of 1 to 1,048,576 directories
+abbrev pub IsCountWithinLimits : CountRequest → Type 0
+IsCountWithinLimits c = (1 ≤ c.threads) × (c.threads ≤ 16) × (1 ≤ c.max_dirs) × (c.max_dirs ≤ 1048576)
+
+abbrev pub IsWithinLimits : Request → Type 0
+IsWithinLimits CheckJoined = Unit {0}
+IsWithinLimits (Check _) = Unit {0}
+IsWithinLimits (Count c) = IsCountWithinLimits c
+
+-- a flag, as it was read
+abbrev pub IsFlag : List ℕ → List Row → Bool → Type 0
+IsFlag id rows set =
+    (one_of id rows ≡ Some (codes "true") → set ≡ true) × (one_of id rows ≡ Some (codes "false") → set ≡ false)
+
+-- the number that was read in digits, or that of the default where nothing was read
+abbrev pub IsNumber : List ℕ → List ℕ → List Row → ℕ → Type 0
+IsNumber id default rows n = n ≡ digits_value 10 (without_leading_plus (unwrap_or (one_of id rows) default))
+
+-- the count that was asked for, by what was read of each argument
+pub record IsCountOf (rows : List Row) (c : CountRequest) : Type 0 where
+  pub within : IsCountWithinLimits c
+  pub threads : IsNumber (codes "threads") (codes "4") rows c.threads
+  pub max_dirs : IsNumber (codes "max-dirs") (codes "65536") rows c.max_dirs
+  pub files : IsFlag (codes "files") rows c.files
+  pub archive : IsFlag (codes "archive") rows c.archive
+  pub exclude : option_map (λ s. s.now) c.exclude_from ≡ first_of (codes "exclude-from") rows
+  pub directory : c.directory.now ≡ unwrap_or (first_of (codes "DIR") rows) []
+
+-- kinds of errors of which one is a text that was asked for, or one is not
+abbrev pub IsText : ErrorKind → Type 0
+IsText k = (k ≡ DisplayHelp) ⊎ (k ≡ DisplayVersion)
+
+abbrev pub MayShow : Kinds → Type 0
+MayShow kinds = (k : ErrorKind) × IsAmong k kinds × IsText k
+
+abbrev pub MayRefuse : Kinds → Type 0
+MayRefuse kinds = (k : ErrorKind) × IsAmong k kinds × (IsText k → ⊥)
+
+-- why there is no request, where words may fail in these ways; there may be no memory for any words
+abbrev pub IsNoRequestBy : Kinds → NoRequest → Type 0
+IsNoRequestBy kinds (Shown _) = MayShow kinds
+IsNoRequestBy kinds (Refused _) = MayRefuse kinds
+IsNoRequestBy kinds Memory = Unit {0}
+
+-- the ways in which words fail; a command reads those after its name
+abbrev pub faults_in : List (List ℕ) → Kinds
+faults_in [] = []
+faults_in (word ∷ words) =
+    cond (bytes_eq word (codes "count")) (fault_of count_app words)
+    (cond (bytes_eq word (codes "check")) (fault_of check_app words)
+    (fault_of lc_app (word ∷ words)))
+
+-- what words ask for that fail in no way
+abbrev pub Asks : List (List ℕ) → Request → Type 0
+Asks words CheckJoined = (more : List (List ℕ)) → (words ≢ codes "count" ∷ more) × (words ≢ codes "check" ∷ more)
+Asks words (Check file) =
+    (more : List (List ℕ)) × (words ≡ codes "check" ∷ more)
+    × (file.now ≡ unwrap_or (first_of (codes "FILE") (matches_of check_app more)) [])
+Asks words (Count c) = (more : List (List ℕ)) × (words ≡ codes "count" ∷ more) × IsCountOf (matches_of count_app more) c
+
+-- the request of words
+abbrev pub AnswersWords : List (List ℕ) → Result Request NoRequest → Type 0
+AnswersWords words (Ok request) = (faults_in words ≡ []) × Asks words request
+AnswersWords words (Err why) = IsNoRequestBy (faults_in words) why

@@ -1,0 +1,142 @@
+//! The words of `lc count`.
+
+ghost use Rattle.std.specs.Prelude.{◌≡◌, true, codes, map, IfOk};
+ghost use Rattle.lc_arguments.specs.CommandLine.{number_rule, flag_rule, text_rule, word_rule};
+ghost use Rattle.lc_arguments.specs.CountArgs.{is_own_name, IsArgOf, IsBare, IsCountCommand};
+ghost use Rattle.lc_arguments.specs.Explained.{AnswersCountWords};
+
+use crate::help;
+use crate::request::{NoRequest, explained};
+use clap::{Arg, ArgAction, Command, value_parser};
+use std::alloc::{AllocError, Global};
+use std::convert::AsStr;
+
+/// What `lc count` is asked for, as by `lc count --threads 8 --exclude-from rules src`.
+#[derive(Drop)]
+pub struct CountRequest<'w> {
+    /// How many workers count at the same time: 1 to 16, and 4 where no word says it.
+    pub threads: u32,
+    /// The most directories, the counted one included: 1 to 1,048,576, and 65,536 where no word says it.
+    pub max_dirs: u32,
+    /// The table also has a line for each file.
+    pub files: bool,
+    /// What has the attribute `export-ignore` is left out.
+    pub archive: bool,
+    /// An ignore file for the whole tree, as its path was given: one that is not absolute begins where the program runs.
+    pub exclude_from: Option<&'w str>,
+    /// The directory, as its path was given: `.` is the one that the program runs in.
+    pub directory: &'w str,
+}
+
+fn threads<'a>(alloc: Global) -> Arg<'a>
+    ensures { IsArgOf (number_rule (codes "threads") 16 (codes "4")) result }
+{
+    Arg::new(alloc, "threads")
+        .long("threads")
+        .value_name("N")
+        .action(ArgAction::Set)
+        .value_parser(value_parser!(u32).range(1..17))
+        .default_value("4")
+        .help("Workers that count at the same time, 1 to 16")
+}
+
+fn max_dirs<'a>(alloc: Global) -> Arg<'a>
+    ensures { IsArgOf (number_rule (codes "max-dirs") 1048576 (codes "65536")) result }
+{
+    Arg::new(alloc, "max-dirs")
+        .long("max-dirs")
+        .value_name("N")
+        .action(ArgAction::Set)
+        .value_parser(value_parser!(u32).range(1..1_048_577))
+        .default_value("65536")
+        .help("The most directories, DIR included, 1 to 1048576")
+}
+
+fn flag<'a>(alloc: Global, name: &'a str, text: &'a str) -> Arg<'a>
+    requires own { is_own_name name.now ≡ true }
+    ensures { IsArgOf (flag_rule name.entry.now) result }
+{
+    Arg::new(alloc, name)
+        .long(name)
+        .action(ArgAction::SetTrue)
+        .help(text)
+}
+
+fn exclude_from<'a>(alloc: Global) -> Arg<'a>
+    ensures { IsArgOf (text_rule (codes "exclude-from")) result }
+{
+    Arg::new(alloc, "exclude-from")
+        .long("exclude-from")
+        .value_name("FILE")
+        .action(ArgAction::Set)
+        .help("An ignore file for all of DIR, which each .gitignore overrides")
+}
+
+fn directory<'a>(alloc: Global) -> Arg<'a>
+    ensures { IsArgOf (word_rule (codes "DIR")) result }
+{
+    Arg::new(alloc, "DIR")
+        .required(true)
+        .action(ArgAction::Set)
+        .help("The directory to count")
+}
+
+fn bare<'a>(alloc: Global) -> Result<Command<'a>, AllocError>
+    ensures { IfOk result (IsBare (codes "count")) }
+{
+    Ok(
+        Command::new(alloc, "count")
+            .about(help::ABOUT_COUNT)
+            .after_help(help::AFTER_COUNT)
+            .after_long_help(help::AFTER_COUNT_LONG)
+            .no_binary_name(true)
+            .bin_name("lc count")?,
+    )
+}
+
+/// The command, without its name among the words.
+pub(crate) fn command<'a>(alloc: Global) -> Result<Command<'a>, AllocError>
+    ensures { IfOk result IsCountCommand }
+{
+    let command = bare(alloc)?
+        .arg(threads(alloc))?
+        .arg(max_dirs(alloc))?
+        .arg(flag(alloc, "files", "Also a line for each file"))?
+        .arg(flag(
+            alloc,
+            "archive",
+            "Leaves out what has the attribute export-ignore, as git archive does",
+        ))?
+        .arg(exclude_from(alloc))?
+        .arg(directory(alloc))?;
+    Ok(command)
+}
+
+impl<'w> CountRequest<'w> {
+    /// What the words after `count` ask for.
+    pub(crate) fn read<W: AsStr>(
+        alloc: Global,
+        words: &'w [W],
+    ) -> Result<CountRequest<'w>, NoRequest>
+        ensures { AnswersCountWords (map W.text words.entry.now) result }
+    {
+        let Ok(command) = command(alloc) else {
+            return Err(NoRequest::Memory);
+        };
+        let matches = match command.try_get_matches_from(words) {
+            Ok(matches) => matches,
+            Err(error) => return Err(explained(alloc, &error, help::COUNT, ".")),
+        };
+        // Each has a default, so both are there.
+        let threads = matches.get_one::<u32>("threads").unwrap_or(4);
+        let max_dirs = matches.get_one::<u32>("max-dirs").unwrap_or(65_536);
+        Ok(CountRequest {
+            threads,
+            max_dirs,
+            files: matches.get_flag("files"),
+            archive: matches.get_flag("archive"),
+            exclude_from: matches.get_str("exclude-from"),
+            directory: matches.get_str("DIR").unwrap_or(""),
+        })
+    }
+}

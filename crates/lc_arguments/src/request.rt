@@ -1,0 +1,145 @@
+//! What the words after the program's name ask for.
+
+ghost use Rattle.std.specs.Prelude.{◌≡◌, IfOk, map};
+ghost use Rattle.lc_arguments.specs.CommandLine.{bare_lc_app, counting_app, lc_app};
+ghost use Rattle.lc_arguments.specs.CountArgs.{IsCommandOf};
+ghost use Rattle.lc_arguments.specs.Explained.{Explains, AnswersOthers};
+ghost use Rattle.lc_arguments.specs.Words.{AnswersWords};
+
+use crate::count::CountRequest;
+use crate::{check, count, help};
+use clap::error::ErrorKind;
+use clap::{Command, Error};
+use std::alloc::{AllocError, Global};
+use std::convert::AsStr;
+
+/// What the program is asked for.
+#[derive(Drop)]
+pub enum Request<'w> {
+    /// Rules and paths come joined on standard input, as for no words at all.
+    CheckJoined,
+    /// The rules of a file, and paths on standard input, as for `check .gitignore`.
+    Check { file: &'w str },
+    /// The table of a directory, as for `count --files src`.
+    Count(CountRequest<'w>),
+}
+
+/// Why the words ask for nothing.
+#[derive(Drop)]
+pub enum NoRequest {
+    /// They want help or the version, which is this text, as for `--help`. It belongs on standard output.
+    Shown(String),
+    /// They are refused, and this text says why, as for `count --threads 17 .`. It belongs on standard error.
+    Refused(String),
+    /// There is no memory to read them.
+    Memory,
+}
+
+fn bare<'a>(alloc: Global) -> Result<Command<'a>, AllocError>
+    ensures { IfOk result (IsCommandOf bare_lc_app) }
+{
+    Ok(
+        Command::new(alloc, "lc")
+            .about(help::ABOUT)
+            .after_help(help::AFTER)
+            .after_long_help(help::AFTER_LONG)
+            .version(help::VERSION)
+            .long_version(help::LONG_VERSION)
+            .no_binary_name(true)
+            .bin_name("lc")?,
+    )
+}
+
+fn with_count<'a>(alloc: Global) -> Result<Command<'a>, AllocError>
+    ensures { IfOk result (IsCommandOf counting_app) }
+{
+    let count = count::command(alloc)?;
+    let command = bare(alloc)?.subcommand(count)?;
+    Ok(command)
+}
+
+/// The command line without the program's name, for what belongs to no command: help, the version, refusals.
+fn command<'a>(alloc: Global) -> Result<Command<'a>, AllocError>
+    ensures { IfOk result (IsCommandOf lc_app) }
+{
+    let check = check::command(alloc)?;
+    let command = with_count(alloc)?.subcommand(check)?;
+    Ok(command)
+}
+
+/// What an error of `clap` says, with an example of the command with its operand where an argument is missing or a word is
+/// no command.
+pub(crate) fn explained(alloc: Global, error: &Error, command: &str, operand: &str) -> NoRequest
+    ensures { Explains error.now result }
+{
+    let text = match error.kind() {
+        ErrorKind::OutOfMemory => return NoRequest::Memory,
+        ErrorKind::MissingRequiredArgument | ErrorKind::InvalidSubcommand => {
+            format!(in alloc; "{error}\nExample: {command} {operand}\n")
+        }
+        _ => format!(in alloc; "{error}"),
+    };
+    let Ok(text) = text else {
+        return NoRequest::Memory;
+    };
+    if error.use_stderr() {
+        NoRequest::Refused(text)
+    } else {
+        NoRequest::Shown(text)
+    }
+}
+
+/// The directory that a first word may have meant which is no command: itself, where a shell takes it as it stands.
+fn meant_directory(word: &str) -> &str {
+    let is_plain = |byte: u8| byte.is_ascii_alphanumeric()
+        || matches!(byte, b'.' | b'_' | b'-' | b'/');
+    if word.is_empty() || word.starts_with('-') || word == "help" || !word.bytes().all(is_plain) {
+        return ".";
+    }
+    word
+}
+
+/// What words ask for that name no command.
+fn read_others<'w, W: AsStr>(alloc: Global, words: &'w [W]) -> Result<Request<'w>, NoRequest>
+    ensures { AnswersOthers (map W.text words.entry.now) result }
+{
+    let Ok(command) = command(alloc) else {
+        return Err(NoRequest::Memory);
+    };
+    match command.try_get_matches_from(words) {
+        // As `--` alone.
+        Ok(_) => Ok(Request::CheckJoined),
+        Err(error) => {
+            let directory = words
+                .first()
+                .map_or(".", |word| meant_directory(word.as_str()));
+            Err(explained(alloc, &error, help::COUNT, directory))
+        }
+    }
+}
+
+impl<'w> Request<'w> {
+    /// What the words after the program's name ask for: of `count`, `.` the table of this directory.
+    ///
+    /// A command reads the words after its name by itself, so that what it reads of them is known to lie in its ranges.
+    pub fn read<W: AsStr>(alloc: Global, words: &'w [W]) -> Result<Request<'w>, NoRequest>
+        ensures { AnswersWords (map W.text words.entry.now) result }
+    {
+        let Some((first, rest)) = words.split_first() else {
+            return Ok(Request::CheckJoined);
+        };
+        if first.as_str() == "count" {
+            return match CountRequest::read(alloc, rest) {
+                Ok(asked) => Ok(Request::Count(asked)),
+                Err(no) => Err(no),
+            };
+        }
+        if first.as_str() == "check" {
+            return match check::read(alloc, rest) {
+                Ok(file) => Ok(Request::Check { file }),
+                Err(no) => Err(no),
+            };
+        }
+        read_others(alloc, words)
+    }
+}
