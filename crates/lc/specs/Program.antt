@@ -4,7 +4,7 @@ use Rattle.lc_census.specs.declared.source.Failed.{Failed}
 use Rattle.lc_census.specs.Reads.{Answer}
 use Rattle.lc.specs.Causes.{HasNumber, cause_line}
 use Rattle.lc.specs.Requests.{Loaded, Reply, AnswersRequest}
-use Rattle.lc_arguments.specs.Words.{Asks, MayRefuse, MayShow, faults_in}
+use Rattle.lc_arguments.specs.Words.{AreRefused, Asks, MayShow, faults_in}
 use Rattle.lc_text.specs.Writes.{Writes, StopsWriting}
 use Rattle.lc_arguments.specs.declared.request.Request.{Request}
 use Rattle.lc.specs.declared.cause.Cause.{Cause}
@@ -68,7 +68,7 @@ module _ {I O E : Type 0} (may_give : I → ℕ → Answer → I → Type 0) (lo
   Ends words input out err SomeFaults read wrote told = Replies words input out (Ok outcome.SomeFaults) read wrote × (told ≡ err)
   -- the words fail, nothing was read or written, and why was told
   Ends words input out err Misused read wrote told =
-      MayRefuse (faults_in words) × (read ≡ input) × (wrote ≡ out) × ((why : List ℕ) × Tells may_tell err why told)
+      AreRefused words × (read ≡ input) × (wrote ≡ out) × ((why : List ℕ) × Tells may_tell err why told)
   -- a request was given up for this cause, or a text was not shown, or there was no memory to read the words
   Ends words input out err (GaveUp cause) read wrote told =
       (Replies words input out (Err cause) read wrote × TellsCause may_tell err cause told)

@@ -72,6 +72,7 @@ pub record IsAskedBy (loads : Loaded) (c : CountRequest) (o : Options) : Type 0 
   pub max_dirs : o.max_dirs ≡ c.max_dirs
   pub files : o.files ≡ c.files
   pub archive : o.archive ≡ c.archive
+  pub without : o.without.now ≡ c.without.items
   pub exclude : Excludes loads c.exclude_from (shared o.exclude)
 
 -- a run over a tree of the system by what the words ask, or there were no rules or no memory and nothing was written

@@ -154,6 +154,7 @@ where
         files: asked.files,
         exclude,
         archive: asked.archive,
+        without: asked.without.as_slice(),
     };
     let outcome = run(rt, rt.alloc(), &tree, &options, out)?;
     Ok(outcome)

@@ -1,3 +1,4 @@
+mod AttributeNames
 mod CountRanges
 mod ReadValues
 mod WordFaults

@@ -2,15 +2,15 @@
 use Rattle.std.proofs.Common.{◌≡◌, ◌∙◌, ℕ, Bool, true, false, List, [], refl, ap, sym, subst, inl, inr, Result, Err, Option, Some, None}
 use Rattle.std.proofs.Common.{codes}
 use Rattle.std.specs.Borrow.{Bor}
-use Rattle.std.specs.Prelude.{option_map, unwrap_or}
+use Rattle.std.specs.Prelude.{map, option_map, unwrap_or}
 use Rattle.std.specs.Str.Parse.{digits_value, without_leading_plus}
 use Rattle.clap.specs.Faults.{fault_of, is_simple_and_free}
 use Rattle.clap.specs.Kinds.{FailsBy, HasKind, Kinds}
 use Rattle.clap.specs.Simple.{App, HasMatchesOf, app_of, is_simple, matches_of}
-use Rattle.clap.specs.Matches.{found_of, first_value, one_text}
+use Rattle.clap.specs.Matches.{found_of, first_value, matched_of, one_text, raw_values}
 use Rattle.clap.specs.Values.{kind_of}
-use Rattle.clap.specs.Walk.{Row, Text, first_of, one_of, rows_of}
-use Rattle.clap.proofs.WalkLemmas.{first_value-rows, one_text-rows}
+use Rattle.clap.specs.Walk.{Row, Text, all_of, first_of, one_of, rows_of}
+use Rattle.clap.proofs.WalkLemmas.{first_value-rows, one_text-rows, raw_values-rows}
 use Rattle.clap.specs.declared.builder.command.Command.{Command}
 use Rattle.clap.specs.declared.error.Error.{Error}
 use Rattle.clap.specs.declared.error.kind.ErrorKind.TheVariants as kind
@@ -18,8 +18,8 @@ use Rattle.clap.specs.declared.parser.matches.ArgMatches.{ArgMatches}
 use Rattle.clap.specs.declared.parser.matches.Found.{Found}
 use Rattle.clap.proofs.OnLiterals.{clap_on_literals}
 use Rattle.lc_arguments.specs.CommandLine.{count_app, check_app, lc_app}
-use Rattle.lc_arguments.specs.Explained.{Explains}
-use Rattle.lc_arguments.specs.Words.{IsFlag, IsNumber, IsText, IsNoRequestBy}
+use Rattle.lc_arguments.specs.Explained.{AnswersCountWords, Explains}
+use Rattle.lc_arguments.specs.Words.{IsFlag, IsNumber, IsText, IsNoRequestBy, texts_read}
 use Rattle.lc_arguments.specs.declared.request.NoRequest.{NoRequest}
 use Rattle.lc_arguments.specs.declared.request.NoRequest.TheVariants.{Shown, Refused, Memory}
 
@@ -118,3 +118,23 @@ pub number_of : (rows : List Row) (f : Found) (id default : Text) (n : ℕ) → 
 number_of rows f id default n are is =
     let same : one_text f id ≡ one_of id rows = one_text-rows f id ∙ ap (one_of id) are in
     is ∙ ap (λ (o : Option Text). digits_value 10 (without_leading_plus (unwrap_or o default))) same
+
+-- words that fail as those of a count
+pub no_count_by : (words : List Text) (why : NoRequest) → IsNoRequestBy (fault_of count_app words) why
+    → AnswersCountWords words (Err why)
+no_count_by words (Shown text) by = by
+no_count_by words (Refused text) by = inl by
+no_count_by words Memory by = tt
+
+-- texts that were read are those of the words, or none
+pub texts_of : (rows : List Row) (f : Found) (id : Text) (o : Option (Bor (List (Bor Text)))) (none result : Bor (List (Bor Text)))
+    → rows_of f ≡ rows → option_map (λ s. map (λ v. v.now) s.now) o ≡ option_map raw_values (matched_of f id) → none.now ≡ []
+    → result ≡ unwrap_or o none → map (λ v. v.now) result.now ≡ texts_read id rows
+texts_of rows f id o none result are read empty is =
+    go o is (read ∙ (raw_values-rows f id ∙ ap (all_of id) are))
+  where
+    go : (o' : Option (Bor (List (Bor Text)))) → result ≡ unwrap_or o' none
+        → option_map (λ s. map (λ v. v.now) s.now) o' ≡ all_of id rows → map (λ v. v.now) result.now ≡ texts_read id rows
+    go None e g = ap (λ (b : Bor (List (Bor Text))). map (λ v. v.now) b.now) e
+        ∙ (ap (map (λ v. v.now)) empty ∙ ap (λ (t : Option (List Text)). unwrap_or t []) g)
+    go (Some t) e g = ap (λ (b : Bor (List (Bor Text))). map (λ v. v.now) b.now) e ∙ ap (λ (t : Option (List Text)). unwrap_or t []) g

@@ -2,7 +2,7 @@
 use Rattle.std.specs.Prelude.{ℕ, true, List, [], ◌∷◌, pos, Some, codes}
 use Rattle.clap.specs.Simple.{App, Shape, new_app, new_rule, on_top, with_rule, with_subcommand}
 use Rattle.clap.specs.Walk.{Rule}
-use Rattle.clap.specs.declared.builder.action.ArgAction.TheVariants.{Set, SetTrue}
+use Rattle.clap.specs.declared.builder.action.ArgAction.TheVariants.{Append, Set, SetTrue}
 use Rattle.clap.specs.declared.builder.value_parser.ValueParser.TheVariants.{Signed}
 
 -- an option with a number from 1 on
@@ -22,6 +22,10 @@ flag_rule name = record (new_rule name) { long = Some name; action = Some SetTru
 abbrev pub text_rule : List ℕ → Rule
 text_rule name = record (new_rule name) { long = Some name; value_names = 1; action = Some Set }
 
+-- an option with a text, which may stand several times
+abbrev pub texts_rule : List ℕ → Rule
+texts_rule name = record (new_rule name) { long = Some name; value_names = 1; action = Some Append }
+
 -- a word that is wanted
 abbrev pub word_rule : List ℕ → Rule
 word_rule name = record (new_rule name) { required = true; action = Some Set }
@@ -33,7 +37,8 @@ bare_app name = on_top (λ (s : Shape). record s { no_binary_name = true }) (new
 abbrev pub count_rules : List Rule
 count_rules =
     number_rule (codes "threads") 16 (codes "4") ∷ number_rule (codes "max-dirs") 1048576 (codes "65536")
-    ∷ flag_rule (codes "files") ∷ flag_rule (codes "archive") ∷ text_rule (codes "exclude-from") ∷ word_rule (codes "DIR") ∷ []
+    ∷ flag_rule (codes "files") ∷ flag_rule (codes "archive") ∷ texts_rule (codes "without") ∷ text_rule (codes "exclude-from")
+    ∷ word_rule (codes "DIR") ∷ []
 
 -- each in turn
 abbrev pub with_rules : App → List Rule → App

@@ -1,5 +1,7 @@
 -- What an error of clap becomes.
-use Rattle.std.specs.Prelude.{◌≡◌, ◌≢◌, ℕ, List, [], Result, Ok, Err, unwrap_or, codes}
+use Rattle.std.specs.Prelude.{◌≡◌, ◌≢◌, ◌⊎◌, ℕ, true, false, List, [], map, Result, Ok, Err, unwrap_or, codes}
+use Rattle.std.specs.Global.{Vec}
+use Rattle.std.specs.List.{list_all}
 use Rattle.clap.specs.Faults.{fault_of}
 use Rattle.clap.specs.Simple.{matches_of}
 use Rattle.clap.specs.Values.{kind_of}
@@ -7,8 +9,9 @@ use Rattle.clap.specs.Walk.{first_of}
 use Rattle.clap.specs.declared.error.Error.{Error}
 use Rattle.clap.specs.declared.error.kind.ErrorKind.TheVariants.{OutOfMemory}
 use Rattle.std.specs.Borrow.{Bor}
+use Rattle.lc_rules.specs.AttrWords.{is_name}
 use Rattle.lc_arguments.specs.CommandLine.{count_app, check_app, lc_app}
-use Rattle.lc_arguments.specs.Words.{IsText, IsNoRequestBy, IsCountOf}
+use Rattle.lc_arguments.specs.Words.{IsText, IsNoRequestBy, IsCountOf, MayRefuse, MayShow, MisnameAttributes}
 use Rattle.lc_arguments.specs.declared.request.NoRequest.{NoRequest}
 use Rattle.lc_arguments.specs.declared.request.NoRequest.TheVariants.{Shown, Refused, Memory}
 use Rattle.lc_arguments.specs.declared.request.Request.{Request}
@@ -21,10 +24,25 @@ Explains e (Shown _) = IsText (kind_of e)
 Explains e (Refused _) = (kind_of e ≢ OutOfMemory) × (IsText (kind_of e) → ⊥)
 Explains e Memory = Unit {0}
 
+-- words are refused, or there was no memory to say why
+abbrev pub IsRefusal : NoRequest → Type 0
+IsRefusal (Shown _) = ⊥
+IsRefusal (Refused _) = Unit {0}
+IsRefusal Memory = Unit {0}
+
 -- the words after `count`
 abbrev pub AnswersCountWords : List (List ℕ) → Result CountRequest NoRequest → Type 0
 AnswersCountWords words (Ok c) = (fault_of count_app words ≡ []) × IsCountOf (matches_of count_app words) c
-AnswersCountWords words (Err why) = IsNoRequestBy (fault_of count_app words) why
+AnswersCountWords words (Err (Shown _)) = MayShow (fault_of count_app words)
+AnswersCountWords words (Err (Refused _)) = MayRefuse (fault_of count_app words) ⊎ MisnameAttributes words
+AnswersCountWords words (Err Memory) = Unit {0}
+
+-- the attributes that are named, in their order
+abbrev pub AnswersNames : List (List ℕ) → Result (Vec (Bor (List ℕ))) NoRequest → Type 0
+AnswersNames names (Ok attributes) = (map (λ name. name.now) attributes.items ≡ names) × (list_all is_name names ≡ true)
+AnswersNames names (Err (Shown _)) = ⊥
+AnswersNames names (Err (Refused _)) = list_all is_name names ≡ false
+AnswersNames names (Err Memory) = Unit {0}
 
 -- the words after `check`
 abbrev pub AnswersCheckWords : List (List ℕ) → Result (Bor (List ℕ)) NoRequest → Type 0

@@ -1,6 +1,7 @@
 -- What the words of a command line ask for.
 use Rattle.std.specs.Prelude.{◌≡◌, ◌≢◌, ◌⊎◌, ◌≤◌, ℕ, Bool, true, false, cond, List, [], ◌∷◌, pos, Some, Result, Ok, Err, unwrap_or}
-use Rattle.std.specs.Prelude.{option_map, codes}
+use Rattle.std.specs.Prelude.{option_map, map, codes}
+use Rattle.std.specs.List.{list_all}
 use Rattle.std.specs.Str.{bytes_eq}
 use Rattle.std.specs.Str.Parse.{digits_value, without_leading_plus}
 use Rattle.clap.specs.Built.{IsParsedFrom}
@@ -11,11 +12,12 @@ use Rattle.clap.specs.Matches.{found_of}
 use Rattle.clap.specs.Matches as matches
 use Rattle.clap.specs.Simple.{matches_of}
 use Rattle.clap.specs.Values.{IsSignedIn}
-use Rattle.clap.specs.Walk.{Row, first_of, one_of}
+use Rattle.clap.specs.Walk.{Row, all_of, first_of, one_of}
 use Rattle.clap.specs.declared.builder.command.Command.{Command}
 use Rattle.clap.specs.declared.error.kind.ErrorKind.{ErrorKind}
 use Rattle.clap.specs.declared.error.kind.ErrorKind.TheVariants.{DisplayHelp, DisplayVersion}
 use Rattle.clap.specs.declared.parser.matches.ArgMatches.{ArgMatches}
+use Rattle.lc_rules.specs.AttrWords.{is_name}
 use Rattle.lc_arguments.specs.CommandLine.{count_app, check_app, lc_app}
 use Rattle.lc_arguments.specs.declared.request.NoRequest.{NoRequest}
 use Rattle.lc_arguments.specs.declared.request.NoRequest.TheVariants.{Shown, Refused, Memory}
@@ -51,6 +53,10 @@ IsFlag id rows set =
 abbrev pub IsNumber : List ℕ → List ℕ → List Row → ℕ → Type 0
 IsNumber id default rows n = n ≡ digits_value 10 (without_leading_plus (unwrap_or (one_of id rows) default))
 
+-- all texts that were read of an argument, in their order
+abbrev pub texts_read : List ℕ → List Row → List (List ℕ)
+texts_read id rows = unwrap_or (all_of id rows) []
+
 -- the count that was asked for, by what was read of each argument
 pub record IsCountOf (rows : List Row) (c : CountRequest) : Type 0 where
   pub within : IsCountWithinLimits c
@@ -58,6 +64,8 @@ pub record IsCountOf (rows : List Row) (c : CountRequest) : Type 0 where
   pub max_dirs : IsNumber (codes "max-dirs") (codes "65536") rows c.max_dirs
   pub files : IsFlag (codes "files") rows c.files
   pub archive : IsFlag (codes "archive") rows c.archive
+  pub without : map (λ name. name.now) c.without.items ≡ texts_read (codes "without") rows
+  pub named : list_all is_name (texts_read (codes "without") rows) ≡ true
   pub exclude : option_map (λ s. s.now) c.exclude_from ≡ first_of (codes "exclude-from") rows
   pub directory : c.directory.now ≡ unwrap_or (first_of (codes "DIR") rows) []
 
@@ -93,7 +101,23 @@ Asks words (Check file) =
     × (file.now ≡ unwrap_or (first_of (codes "FILE") (matches_of check_app more)) [])
 Asks words (Count c) = (more : List (List ℕ)) × (words ≡ codes "count" ∷ more) × IsCountOf (matches_of count_app more) c
 
+-- the words after `count` fail in no way, but name what is no attribute's name: gitattributes(5), DESCRIPTION
+abbrev pub MisnameAttributes : List (List ℕ) → Type 0
+MisnameAttributes words =
+    (fault_of count_app words ≡ []) × (list_all is_name (texts_read (codes "without") (matches_of count_app words)) ≡ false)
+
+-- words are refused
+abbrev pub AreRefused : List (List ℕ) → Type 0
+AreRefused words =
+    MayRefuse (faults_in words) ⊎ ((more : List (List ℕ)) × (words ≡ codes "count" ∷ more) × MisnameAttributes more)
+
+-- why words ask for nothing; there may be no memory for any words
+abbrev pub AskNothing : List (List ℕ) → NoRequest → Type 0
+AskNothing words (Shown _) = MayShow (faults_in words)
+AskNothing words (Refused _) = AreRefused words
+AskNothing words Memory = Unit {0}
+
 -- the request of words
 abbrev pub AnswersWords : List (List ℕ) → Result Request NoRequest → Type 0
 AnswersWords words (Ok request) = (faults_in words ≡ []) × Asks words request
-AnswersWords words (Err why) = IsNoRequestBy (faults_in words) why
+AnswersWords words (Err why) = AskNothing words why

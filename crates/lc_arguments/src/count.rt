@@ -1,13 +1,14 @@
 //! The words of `lc count`.
 
 ghost use Rattle.std.specs.Prelude.{◌≡◌, true, codes, map, IfOk};
-ghost use Rattle.lc_arguments.specs.CommandLine.{number_rule, flag_rule, text_rule, word_rule};
+ghost use Rattle.lc_arguments.specs.CommandLine.{number_rule, flag_rule, text_rule, texts_rule, word_rule};
 ghost use Rattle.lc_arguments.specs.CountArgs.{is_own_name, IsArgOf, IsBare, IsCountCommand};
-ghost use Rattle.lc_arguments.specs.Explained.{AnswersCountWords};
+ghost use Rattle.lc_arguments.specs.Explained.{AnswersCountWords, AnswersNames, IsRefusal};
 
 use crate::help;
 use crate::request::{NoRequest, explained};
 use clap::{Arg, ArgAction, Command, value_parser};
+use lc_rules::is_attribute_name;
 use std::alloc::{AllocError, Global};
 use std::convert::AsStr;
 
@@ -22,6 +23,8 @@ pub struct CountRequest<'w> {
     pub files: bool,
     /// What has the attribute `export-ignore` is left out.
     pub archive: bool,
+    /// What has one of these attributes Set is left out.
+    pub without: Vec<&'w str>,
     /// An ignore file for the whole tree, as its path was given: one that is not absolute begins where the program runs.
     pub exclude_from: Option<&'w str>,
     /// The directory, as its path was given: `.` is the one that the program runs in.
@@ -60,6 +63,16 @@ fn flag<'a>(alloc: Global, name: &'a str, text: &'a str) -> Arg<'a>
         .long(name)
         .action(ArgAction::SetTrue)
         .help(text)
+}
+
+fn without<'a>(alloc: Global) -> Arg<'a>
+    ensures { IsArgOf (texts_rule (codes "without")) result }
+{
+    Arg::new(alloc, "without")
+        .long("without")
+        .value_name("ATTR")
+        .action(ArgAction::Append)
+        .help("Leaves out what has the attribute ATTR, as linguist-vendored; may be repeated")
 }
 
 fn exclude_from<'a>(alloc: Global) -> Arg<'a>
@@ -107,9 +120,39 @@ pub(crate) fn command<'a>(alloc: Global) -> Result<Command<'a>, AllocError>
             "archive",
             "Leaves out what has the attribute export-ignore, as git archive does",
         ))?
+        .arg(without(alloc))?
         .arg(exclude_from(alloc))?
         .arg(directory(alloc))?;
     Ok(command)
+}
+
+/// Why the words are refused that name what is no attribute's name.
+fn misnamed(alloc: Global, name: &str) -> NoRequest
+    ensures { IsRefusal result }
+{
+    let text = format!(
+        in alloc;
+        "error: invalid value {name:?} for '--without <ATTR>': an attribute's name has letters, digits, '-', '.' and '_', and does not begin with '-'\n\nFor more information, try '--help'.\n"
+    );
+    match text {
+        Ok(text) => NoRequest::Refused(text),
+        Err(AllocError) => NoRequest::Memory,
+    }
+}
+
+/// The attributes of these names.
+fn attributes<'w>(alloc: Global, names: &[&'w str]) -> Result<Vec<&'w str>, NoRequest>
+    ensures { AnswersNames (map (λ name. name.now) names.now) result }
+{
+    for name in names {
+        if !is_attribute_name(name.as_bytes()) {
+            return Err(misnamed(alloc, name));
+        }
+    }
+    match names.to_vec(alloc) {
+        Ok(attributes) => Ok(attributes),
+        Err(AllocError) => Err(NoRequest::Memory),
+    }
 }
 
 impl<'w> CountRequest<'w> {
@@ -130,11 +173,17 @@ impl<'w> CountRequest<'w> {
         // Each has a default, so both are there.
         let threads = matches.get_one::<u32>("threads").unwrap_or(4);
         let max_dirs = matches.get_one::<u32>("max-dirs").unwrap_or(65_536);
+        let names = matches.get_strs("without").unwrap_or(&[]);
+        let without = match attributes(alloc, names) {
+            Ok(without) => without,
+            Err(no) => return Err(no),
+        };
         Ok(CountRequest {
             threads,
             max_dirs,
             files: matches.get_flag("files"),
             archive: matches.get_flag("archive"),
+            without,
             exclude_from: matches.get_str("exclude-from"),
             directory: matches.get_str("DIR").unwrap_or(""),
         })

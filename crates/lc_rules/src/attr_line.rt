@@ -8,7 +8,7 @@ ghost use Rattle.lc_rules.specs.Models.{seen_line};
 
 use crate::assignment::{Macro, PatternLine};
 use crate::attr_quotes::unquoted;
-use crate::attr_words::{is_name, read_assignments, split_word, trimmed};
+use crate::attr_words::{is_attribute_name, read_assignments, split_word, trimmed};
 use lc_glob::Pattern;
 use std::alloc::{AllocError, Global};
 
@@ -25,7 +25,7 @@ fn read_macro(alloc: Global, name: &[u8], rest: &[u8]) -> Result<Option<AttrLine
     let Some(assignments) = read_assignments(alloc, rest)? else {
         return Ok(None);
     };
-    if !is_name(name) {
+    if !is_attribute_name(name) {
         return Ok(None);
     }
     let name = name.to_vec(alloc)?;

@@ -71,7 +71,9 @@ fn is_name_byte(b: u8) -> bool
         || b == b'_'
 }
 
-pub(crate) fn is_name(name: &[u8]) -> bool
+/// Whether an attribute or a macro can have this name: letters and digits of ASCII, `-`, `.` and `_`, one or more, of which a `-`
+/// isn't the first, as `linguist-vendored` (gitattributes(5)).
+pub fn is_attribute_name(name: &[u8]) -> bool
     ensures { result ≡ is_name name.now }
 {
     let Some((first, _)) = name.split_first() else {
@@ -90,7 +92,7 @@ fn has_name_bytes(name: &[u8]) -> bool
 fn named(alloc: Global, name: &[u8], state: OwnedState) -> Result<Option<Assignment>, AllocError>
     ensures { IfOk result (λ r. seen_assign r ≡ named name.now (owned_state_model state)) }
 {
-    if !is_name(name) {
+    if !is_attribute_name(name) {
         return Ok(None);
     }
     let name = name.to_vec(alloc)?;

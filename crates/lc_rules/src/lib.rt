@@ -25,6 +25,7 @@ mod verdicts;
 
 pub use attr_chain::AttrChain;
 pub use attr_file::AttrFile;
+pub use attr_words::is_attribute_name;
 pub use faults::{MAX_RULE_BYTES, RuleFault};
 pub use ignore_chain::Chain;
 pub use ignore_file::IgnoreFile;
