@@ -5,8 +5,8 @@ use Rattle.lc_text.specs.declared.checking.CheckFault.{CheckFault}
 use Rattle.lc_text.specs.declared.checking.CheckFault.TheVariants as check
 use Rattle.lc_text.specs.declared.rules.RulesFileFault.{RulesFileFault}
 use Rattle.lc_text.specs.declared.rules.RulesFileFault.TheVariants as rules
-use Rattle.lc_text.specs.declared.running.RunFault.{RunFault}
-use Rattle.lc_text.specs.declared.running.RunFault.TheVariants as run
+use Rattle.lc_table.specs.declared.running.RunFault.{RunFault}
+use Rattle.lc_table.specs.declared.running.RunFault.TheVariants as run
 use Rattle.lc.specs.declared.cause.Cause.{Cause}
 use Rattle.lc.specs.declared.cause.Cause.TheVariants.{Memory, TooManyDirs, TooDeep, Torn, Mismatch, UnreadRules, RulesTooLong}
 use Rattle.lc.specs.declared.cause.Cause.TheVariants.{UnreadInput, InputTooLong, Unwritten}

@@ -11,7 +11,7 @@ use Rattle.lc.specs.declared.cause.Cause.{Cause}
 use Rattle.lc.specs.declared.cause.Cause.TheVariants.{Memory, Unwritten}
 use Rattle.lc.specs.declared.program.Ending.{Ending}
 use Rattle.lc.specs.declared.program.Ending.TheVariants.{Done, SomeFaults, Misused, GaveUp}
-use Rattle.lc_text.specs.declared.running.Outcome.TheVariants as outcome
+use Rattle.lc_table.specs.declared.running.Outcome.TheVariants as outcome
 
 abbrev pub status_of : Ending → ℕ
 status_of Done = 0

@@ -13,7 +13,7 @@ use Rattle.lc_text.specs.Check.{AnswersCheck, no_rules}
 use Rattle.lc_text.specs.CheckText.{text_by}
 use Rattle.lc_text.specs.Joined.{rules_part, joined_text}
 use Rattle.lc_text.specs.RuleReads.{ReadsRules}
-use Rattle.lc_text.specs.Runs.{Walks, AnswersRun}
+use Rattle.lc_table.specs.Runs.{Walks, AnswersRun}
 use Rattle.lc_arguments.specs.declared.request.Request.{Request}
 use Rattle.lc_arguments.specs.declared.request.Request.TheVariants.{CheckJoined, Check, Count}
 use Rattle.lc_arguments.specs.declared.count.CountRequest.{CountRequest}
@@ -22,9 +22,9 @@ use Rattle.lc.specs.declared.cause.Cause.TheVariants.{Memory}
 use Rattle.lc_text.specs.declared.checking.CheckFault.{CheckFault}
 use Rattle.lc_text.specs.declared.rules.RulesFileFault.{RulesFileFault}
 use Rattle.lc_text.specs.declared.rules.RulesFileFault.TheVariants as fault
-use Rattle.lc_text.specs.declared.running.Outcome.{Outcome}
-use Rattle.lc_text.specs.declared.running.Outcome.TheVariants.{Clean}
-use Rattle.lc_text.specs.declared.running.RunFault.{RunFault}
+use Rattle.lc_table.specs.declared.running.Outcome.{Outcome}
+use Rattle.lc_table.specs.declared.running.Outcome.TheVariants.{Clean}
+use Rattle.lc_table.specs.declared.running.RunFault.{RunFault}
 
 -- the answer to a request: whether all is well, or why the program gives up
 abbrev pub Reply : Type 0

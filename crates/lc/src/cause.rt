@@ -5,7 +5,8 @@ ghost use Rattle.std.specs.Cow.{cow_str_bytes};
 ghost use Rattle.lc.specs.Causes.{HasNumber, cause_line, check_cause, rules_cause, run_cause};
 ghost use Rattle.lc.specs.declared.cause.Cause.TheVariants.{Memory};
 
-use lc_text::{CheckFault, RulesFileFault, RunFault};
+use lc_table::RunFault;
+use lc_text::{CheckFault, RulesFileFault};
 use lc_walk::WalkFault;
 use std::alloc::{AllocError, AllocFailed, Global};
 use std::borrow::CowStr;

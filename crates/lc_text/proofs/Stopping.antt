@@ -1,6 +1,5 @@
--- A check or a run that stops at a fault of its input or of its output.
+-- A check that stops at a fault of its input or of its output.
 use Rattle.std.proofs.Common.{◌≡◌, ℕ, List, Result, Ok, Err, refl}
-use Rattle.std.specs.Result.{IsErrAnd}
 use Rattle.lc_census.specs.declared.source.Failed.{Failed}
 use Rattle.lc_census.specs.declared.whole.WholeFault.{WholeFault}
 use Rattle.lc_census.specs.declared.whole.WholeFault.TheVariants as whole
@@ -10,12 +9,6 @@ use Rattle.lc_text.specs.declared.printing.PrintFault.TheVariants as print
 use Rattle.lc_text.specs.Check.{AnswersInput, HasRead, AnswersCheck}
 use Rattle.lc_text.specs.CheckFaults.{input_fault, print_fault}
 use Rattle.lc_text.specs.Writes.{AnswersPrint}
-use Rattle.lc_walk.specs.declared.report.Report.{Report}
-use Rattle.lc_walk.specs.declared.walk_fault.WalkFault.{WalkFault}
-use Rattle.lc_text.specs.Runs.{AnswersRun, table_fault}
-use Rattle.lc_text.specs.TableText.{table_text_of}
-use Rattle.lc_text.specs.declared.running.Outcome.{Outcome}
-use Rattle.lc_text.specs.declared.running.RunFault.{RunFault}
 
 module _ {I O : Type 0} (may_give : I → ℕ → Answer → I → Type 0) (may_take : O → List ℕ → Result ℕ Failed → O → Type 0)
     (rules_in text_of : List ℕ → List ℕ) where
@@ -33,12 +26,3 @@ module _ {I O : Type 0} (may_give : I → ℕ → Answer → I → Type 0) (may_
       → AnswersCheck may_give may_take rules_in text_of input out (Err (print_fault fault)) read wrote
   output_stops print.Write input read out wrote bytes has_read stopped = (bytes, has_read, stopped)
   output_stops print.Memory input read out wrote bytes has_read stopped = stopped
-
--- a table that was not written whole
-pub run_stops : {O : Type 0} (may_take : O → List ℕ → Result ℕ Failed → O → Type 0) (walks : Result Report WalkFault → Type 0)
-    (r : Report) (fault : PrintFault)
-    (answer : Result Outcome RunFault) (out wrote : O) → walks (Ok r) → AnswersPrint may_take out (table_text_of r) (Err fault) wrote
-    → IsErrAnd answer (λ e. e ≡ table_fault fault) → AnswersRun may_take walks out answer wrote
-run_stops may_take walks r fault (Ok outcome) out wrote walked stopped is = absurd is
-run_stops may_take walks r print.Write (Err e) out wrote walked stopped is = rw is (r, walked, stopped)
-run_stops may_take walks r print.Memory (Err e) out wrote walked stopped is = rw is stopped

@@ -8,5 +8,3 @@ pub mod TrialWrites
 pub mod RuleReads
 pub mod Check
 pub mod CheckFaults
-pub mod TableText
-pub mod Runs

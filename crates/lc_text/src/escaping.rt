@@ -53,7 +53,7 @@ fn push_each_escaped(text: &mut Vec<u8>, bytes: &[u8]) -> Result<(), AllocError>
 }
 
 /// Appends bytes as they are printed: a backslash as two, a control byte as `\x` and two digits.
-pub(crate) fn push_escaped(text: &mut Vec<u8>, bytes: &[u8]) -> Result<(), AllocError>
+pub fn push_escaped(text: &mut Vec<u8>, bytes: &[u8]) -> Result<(), AllocError>
     ensures { OnOk result (text.new.items ≡ text.old.items ++ escape_bytes bytes.now) }
 {
     // Most paths have nothing to escape, and are copied whole.
@@ -65,7 +65,7 @@ pub(crate) fn push_escaped(text: &mut Vec<u8>, bytes: &[u8]) -> Result<(), Alloc
 }
 
 /// Appends a path as [`escape`] has it.
-pub(crate) fn push_path(text: &mut Vec<u8>, path: &[u8]) -> Result<(), AllocError>
+pub fn push_path(text: &mut Vec<u8>, path: &[u8]) -> Result<(), AllocError>
     ensures { OnOk result (text.new.items ≡ text.old.items ++ escape_path path.now) }
 {
     if path.is_empty() {

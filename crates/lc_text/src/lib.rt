@@ -1,8 +1,7 @@
-//! What `lc` writes: the table of a run, and the answers of a check.
+//! What `lc` writes: how a text is written, and the answers of a check.
 //!
 //! - `sink`: where text is written; `printing`: a text is written whole, or why not
 //! - `escaping`: how paths are printed
-//! - `tables`: the table of a report; `running`: the walk of a tree, and its table
 //! - `rules`: the rules that a source gives; `checking`: what rules say of paths, a line each
 //! - `trials`: a writer for tests
 //! - `laws`: what is true of the definitions that the contracts cite
@@ -13,18 +12,13 @@ mod escaping;
 mod laws;
 mod printing;
 mod rules;
-mod running;
 mod sink;
-mod tables;
 pub mod trials;
 
 pub use checking::text::check_text;
 pub use checking::{CheckFault, MAX_INPUT, check, check_joined};
-pub use escaping::escape;
+pub use escaping::{escape, push_escaped, push_path};
 pub use laws::a_vector_takes_the_text;
 pub use printing::{PrintFault, print};
 pub use rules::{RulesFileFault, read_rules};
-pub use running::{Outcome, RunFault, run};
 pub use sink::{Sink, StdSink};
-pub use tables::table;
-pub use tables::text::table_text;

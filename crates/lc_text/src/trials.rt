@@ -16,6 +16,14 @@ pub enum WhenFull {
     Fails,
 }
 
+/// Writers to stop a text at each place: how much one takes at once, and what it answers once it has no room.
+pub const WRITERS: &[(usize, WhenFull)] = &[
+    (1, WhenFull::TakesNothing),
+    (1, WhenFull::Fails),
+    (7, WhenFull::TakesNothing),
+    (7, WhenFull::Fails),
+];
+
 /// A writer that takes at most so many bytes at once, and only so many in all.
 ///
 /// ```

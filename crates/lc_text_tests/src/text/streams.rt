@@ -3,7 +3,7 @@
 use lc_census::Source;
 use lc_census::trials::{Bytewise, Counted, Endless, Failing};
 use lc_rules::IgnoreFile;
-use lc_text::trials::{Narrow, WhenFull};
+use lc_text::trials::{Narrow, WRITERS, WhenFull};
 use lc_text::{CheckFault, RulesFileFault, check, check_joined, read_rules};
 use std::alloc::{AllocError, Global};
 use std::process::Abort;
@@ -16,35 +16,6 @@ const PATHS: &[u8] = b"a\nb\n";
 const JOINED: &[u8] = b"a\n--\na\nb\n";
 
 const TEXT: &[u8] = b"ignored\ta\nnone\tb\n";
-
-/// How a writer is made: how much it takes at once, and what it answers when it is full.
-pub(super) const WRITERS: &[(usize, WhenFull)] = &[
-    (1, WhenFull::TakesNothing),
-    (1, WhenFull::Fails),
-    (7, WhenFull::TakesNothing),
-    (7, WhenFull::Fails),
-];
-
-/// As much of the text was taken as there was room for, by a call that is done if that is all of it, and else was stopped.
-pub(super) fn compare_taken<R: Abort>(
-    rt: &R,
-    out: &Narrow,
-    room: usize,
-    text: &[u8],
-    is_done: bool,
-    is_stopped: bool,
-) -> Result<(), Fail> {
-    let is_right = if room == text.len() {
-        is_done
-    } else {
-        is_stopped
-    };
-    assert!(rt;
-        is_right && out.taken.len() == room && text.starts_with(&out.taken),
-        "at {room}"
-    );
-    Ok(())
-}
 
 /// The rules with which the paths give the text.
 fn rules_of(alloc: Global) -> Result<IgnoreFile, AllocError> {
@@ -86,8 +57,15 @@ fn compare_writes<R: AllocGlobal + Abort>(
     for room in 0..=TEXT.len() {
         let mut out = Narrow::new(rt.alloc(), writer.0, room, writer.1)?;
         let answer = checked(rt, rt.alloc(), is_joined, &mut Bytewise(bytes), &mut out)?;
-        let is_stopped = answer == Err(CheckFault::Write);
-        compare_taken(rt, &out, room, TEXT, answer == Ok(()), is_stopped)?;
+        let expected = if room == TEXT.len() {
+            Ok(())
+        } else {
+            Err(CheckFault::Write)
+        };
+        assert!(rt;
+            answer == expected && out.taken.as_slice() == &TEXT[..room],
+            "at {room}"
+        );
     }
     Ok(())
 }

@@ -2,10 +2,10 @@
 
 ghost use Rattle.std.specs.Prelude.{◌≡◌, ◌++◌, OnOk, IfOk, option_map};
 ghost use Rattle.std.specs.List.{flat_map};
-ghost use Rattle.lc_text.specs.TableText.{extension_word, row_line, totals_line, directories_line, file_line, fault_line, table_text_of};
+ghost use Rattle.lc_table.specs.TableText.{extension_word, row_line, totals_line, directories_line, file_line, fault_line, table_text_of};
 
-use crate::escaping::{push_escaped, push_path};
-use crate::tables::words::{eol_word, fault_word, text_word};
+use crate::words::{eol_word, fault_word, text_word};
+use lc_text::{push_escaped, push_path};
 use lc_walk::{FaultLine, FileLine, Report, Sums, TallyRow};
 use std::alloc::{AllocError, Global};
 use std::io::Write;
@@ -109,7 +109,7 @@ fn push_faults(text: &mut Vec<u8>, faults: &[FaultLine]) -> Result<(), AllocErro
 ///
 /// Fields are separated by one tab. After a header there is a line for each key of the tally, one for the totals, one with the
 /// number of directories, and one for each file, if files were asked for, and for each fault, with their paths escaped as
-/// [`escape`](crate::escape) has it.
+/// [`escape`](lc_text::escape) has it.
 pub fn table_text(alloc: Global, report: &Report) -> Result<Vec<u8>, AllocError>
     ensures { IfOk result (λ text. text.items ≡ table_text_of report.now) }
 {

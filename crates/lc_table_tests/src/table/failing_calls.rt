@@ -1,8 +1,8 @@
 //! The table of a run by one worker of which a call fails, whichever it is, and of one that meets a file whose reads fail.
 
-use crate::text::asking::{Case, compare, compare_all};
-use crate::text::runs::{BUILD, FIRST_CASE, IGNORE, KEPT, LOG, RULES, SRC};
-use lc_text::Outcome;
+use crate::table::asking::{Case, compare, compare_all};
+use crate::table::runs::{BUILD, FIRST_CASE, IGNORE, KEPT, LOG, RULES, SRC};
+use lc_table::Outcome;
 use lc_tree::trials::{FailingCall, FailingTree};
 use lc_tree::{MemTree, Sketch};
 use std::process::Abort;

@@ -1,6 +1,6 @@
-use Rattle.lc_text.specs.Runs.{Walks}
-use Rattle.lc_text.proofs.Stopping.{run_stops}
-use Rattle.lc_text.proofs.running.run.Goals as goal
+use Rattle.lc_table.specs.Runs.{Walks}
+use Rattle.lc_table.proofs.Stopping.{run_stops}
+use Rattle.lc_table.proofs.running.run.Goals as goal
 
 pub returns-in_err-table : goal.returns-in_err-table
 returns-in_err-table g c =

@@ -1,13 +1,13 @@
 //! The words in the columns of a table.
 
 ghost use Rattle.std.specs.Prelude.{◌≡◌};
-ghost use Rattle.lc_text.specs.TableText.{eol_word, text_word, fault_word};
+ghost use Rattle.lc_table.specs.TableText.{eol_word, text_word, fault_word};
 
 use lc_census::Eol;
 use lc_rules::TextState;
 use lc_tree::FaultWord;
 
-pub(super) fn eol_word(eol: Eol) -> &'static str
+pub(crate) fn eol_word(eol: Eol) -> &'static str
     ensures { result.now ≡ eol_word eol }
 {
     match eol {
@@ -20,7 +20,7 @@ pub(super) fn eol_word(eol: Eol) -> &'static str
     }
 }
 
-pub(super) fn text_word(text: TextState) -> &'static str
+pub(crate) fn text_word(text: TextState) -> &'static str
     ensures { result.now ≡ text_word text }
 {
     match text {
@@ -32,7 +32,7 @@ pub(super) fn text_word(text: TextState) -> &'static str
     }
 }
 
-pub(super) fn fault_word(word: FaultWord) -> &'static str
+pub(crate) fn fault_word(word: FaultWord) -> &'static str
     ensures { result.now ≡ fault_word word }
 {
     match word {

@@ -2,12 +2,11 @@
 
 ghost use Rattle.std.specs.Prelude.{◌≡◌};
 ghost use Rattle.lc_walk.specs.WalkOptions.{AreWithinLimits};
-ghost use Rattle.lc_text.specs.Runs.{IsOutcomeOf, Walks, AnswersRun, table_fault};
-ghost use Rattle.lc_text.specs.declared.running.RunFault.TheVariants.{Walk};
+ghost use Rattle.lc_table.specs.Runs.{IsOutcomeOf, Walks, AnswersRun, table_fault};
+ghost use Rattle.lc_table.specs.declared.running.RunFault.TheVariants.{Walk};
 
-use crate::printing::PrintFault;
-use crate::sink::Sink;
-use crate::tables::table;
+use crate::writing::table;
+use lc_text::{PrintFault, Sink};
 use lc_tree::Tree;
 use lc_walk::{Options, Report, WalkFault, walk};
 use std::alloc::Global;

@@ -9,14 +9,14 @@ use Rattle.lc_walk.specs.WalkOptions.{asked_by, top_of}
 use Rattle.lc_walk.specs.declared.options.Options.{Options}
 use Rattle.lc_walk.specs.declared.report.Report.{Report}
 use Rattle.lc_walk.specs.declared.walk_fault.WalkFault.{WalkFault}
-use Rattle.lc_text.specs.TableText.{table_text_of}
+use Rattle.lc_table.specs.TableText.{table_text_of}
 use Rattle.lc_text.specs.Writes.{Writes, StopsWriting}
 use Rattle.lc_text.specs.declared.printing.PrintFault.{PrintFault}
 use Rattle.lc_text.specs.declared.printing.PrintFault.TheVariants as print
-use Rattle.lc_text.specs.declared.running.Outcome.{Outcome}
-use Rattle.lc_text.specs.declared.running.Outcome.TheVariants.{Clean, SomeFaults}
-use Rattle.lc_text.specs.declared.running.RunFault.{RunFault}
-use Rattle.lc_text.specs.declared.running.RunFault.TheVariants.{Walk, Memory, Write}
+use Rattle.lc_table.specs.declared.running.Outcome.{Outcome}
+use Rattle.lc_table.specs.declared.running.Outcome.TheVariants.{Clean, SomeFaults}
+use Rattle.lc_table.specs.declared.running.RunFault.{RunFault}
+use Rattle.lc_table.specs.declared.running.RunFault.TheVariants.{Walk, Memory, Write}
 
 -- what a walk by these options answers over a tree whose listings and files may be these
 abbrev pub Walks : (List ℕ → Listings) → (List ℕ → Contents) → Options → Result Report WalkFault → Type 0

@@ -1,11 +1,10 @@
 //! Runs over trees of memory: their tables, by any number of workers, and where they stop.
 
-use crate::text::asking::{
+use crate::table::asking::{
     Asked, Case, HEADER, PLAIN, WITH_FILES, answer_of, compare_all, compare_by,
 };
-use crate::text::streams::{WRITERS, compare_taken};
-use lc_text::trials::{Narrow, WhenFull};
-use lc_text::{Outcome, RunFault};
+use lc_table::{Outcome, RunFault};
+use lc_text::trials::{Narrow, WRITERS, WhenFull};
 use lc_tree::{MemTree, Sketch};
 use lc_walk::WalkFault;
 use std::process::Abort;
@@ -170,9 +169,15 @@ fn compare_writes<R: Threads + Wait + Sync + AllocGlobal + Abort>(
     for room in 0..=text.len() {
         let mut out = Narrow::new(rt.alloc(), writer.0, room, writer.1)?;
         let answer = answer_of(rt, tree, &PLAIN, 2, 16, &mut out)?;
-        let is_done = answer == Ok(Outcome::Clean);
-        let is_stopped = answer == Err(RunFault::Write);
-        compare_taken(rt, &out, room, text, is_done, is_stopped)?;
+        let expected = if room == text.len() {
+            Ok(Outcome::Clean)
+        } else {
+            Err(RunFault::Write)
+        };
+        assert!(rt;
+            answer == expected && out.taken.as_slice() == &text[..room],
+            "at {room}"
+        );
     }
     Ok(())
 }

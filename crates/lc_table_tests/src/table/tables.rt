@@ -1,11 +1,11 @@
 //! Reports, and the text of their table.
 
-use crate::text::asking::HEADER;
-use crate::text::streams::{WRITERS, compare_taken};
+use crate::table::asking::HEADER;
 use lc_census::{Count, Eol};
 use lc_rules::TextState;
-use lc_text::trials::{Narrow, WhenFull};
-use lc_text::{PrintFault, table, table_text};
+use lc_table::{table, table_text};
+use lc_text::PrintFault;
+use lc_text::trials::{Narrow, WRITERS, WhenFull};
 use lc_tree::FaultWord;
 use lc_walk::{FaultLine, FileLine, Report, Sums, TallyRow};
 use std::alloc::{AllocError, Global};
@@ -202,8 +202,15 @@ fn compare_writes<R: AllocGlobal + Abort>(
         if answer == Err(PrintFault::Memory) && out.taken.is_empty() {
             return Err(AllocError.into());
         }
-        let is_stopped = answer == Err(PrintFault::Write);
-        compare_taken(rt, &out, room, text, answer == Ok(()), is_stopped)?;
+        let expected = if room == text.len() {
+            Ok(())
+        } else {
+            Err(PrintFault::Write)
+        };
+        assert!(rt;
+            answer == expected && out.taken.as_slice() == &text[..room],
+            "at {room}"
+        );
     }
     Ok(())
 }

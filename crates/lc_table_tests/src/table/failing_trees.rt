@@ -2,8 +2,8 @@
 
 ghost use Rattle.std.specs.Prelude.{◌≤◌};
 
-use crate::text::asking::{WITH_FILES, answer_of};
-use lc_text::{Outcome, RunFault};
+use crate::table::asking::{WITH_FILES, answer_of};
+use lc_table::{Outcome, RunFault};
 use lc_tree::trials::{FailingCall, FailingTree};
 use lc_tree::{MemTree, Sketch};
 use std::alloc::AllocError;

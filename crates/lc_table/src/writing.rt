@@ -1,16 +1,12 @@
 //! The table of a report.
 
-ghost use Rattle.lc_text.specs.TableText.{table_text_of};
+ghost use Rattle.lc_table.specs.TableText.{table_text_of};
 ghost use Rattle.lc_text.specs.Writes.{AnswersPrint};
 
-pub(crate) mod text;
-mod words;
-
-use crate::printing::{PrintFault, print};
-use crate::sink::Sink;
+use crate::text::table_text;
+use lc_text::{PrintFault, Sink, print};
 use lc_walk::Report;
 use std::alloc::Global;
-use text::table_text;
 
 /// Makes the table of a report ([`table_text`]), and writes it.
 pub fn table<O: Sink>(alloc: Global, report: &Report, out: &mut O) -> Result<(), PrintFault>

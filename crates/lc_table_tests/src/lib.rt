@@ -1,0 +1,5 @@
+//! The tests of the table of a run.
+#![tactic(auto)]
+
+#[cfg(test)]
+mod table;
