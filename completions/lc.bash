@@ -18,10 +18,11 @@ _lc() {
       case $option in
         --threads) mapfile -t COMPREPLY < <(compgen -W '1 2 4 8 16' -- "$current") ;;
         --max-dirs) mapfile -t COMPREPLY < <(compgen -W '65536 1048576' -- "$current") ;;
+        --without) mapfile -t COMPREPLY < <(compgen -W 'linguist-vendored linguist-generated linguist-documentation' -- "$current") ;;
         --exclude-from) mapfile -t COMPREPLY < <(compgen -f -- "$current") ;;
         *)
           case $current in
-            -*) mapfile -t COMPREPLY < <(compgen -W '--threads --max-dirs --files --archive --exclude-from --help' -- "$current") ;;
+            -*) mapfile -t COMPREPLY < <(compgen -W '--threads --max-dirs --files --archive --without --exclude-from --help' -- "$current") ;;
             *) mapfile -t COMPREPLY < <(compgen -d -- "$current") ;;
           esac
           ;;

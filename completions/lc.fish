@@ -10,6 +10,7 @@ complete -c lc -n '__fish_seen_subcommand_from count' -l threads -x -a '1 2 4 8 
 complete -c lc -n '__fish_seen_subcommand_from count' -l max-dirs -x -a '65536 1048576' -d 'The most directories'
 complete -c lc -n '__fish_seen_subcommand_from count' -l files -d 'Also a line for each file'
 complete -c lc -n '__fish_seen_subcommand_from count' -l archive -d 'Leave out what has the attribute export-ignore'
+complete -c lc -n '__fish_seen_subcommand_from count' -l without -x -a 'linguist-vendored linguist-generated linguist-documentation' -d 'Leave out what has this attribute'
 complete -c lc -n '__fish_seen_subcommand_from count' -l exclude-from -r -F -d 'An ignore file for the whole directory'
 complete -c lc -n '__fish_seen_subcommand_from count' -a '(__fish_complete_directories)'
 complete -c lc -n '__fish_seen_subcommand_from check' -F

@@ -269,11 +269,11 @@ class Fault(Exception):
 class Walk:
     """The recursive walk of a tree: a dictionary of names, a folder a dictionary, a file its bytes, anything else None.
 
-    `failing` has what can't be read: pairs of "list" and a directory's path, "rules" or "count" and a file's.
+    `without` has attributes: what has one of them Set is left out. `failing` has what can't be read: pairs of "list" and a directory's path, "rules" or "count" and a file's.
     """
 
-    def __init__(self, tree, archive=False, exclude=b"", failing=()):
-        self.files, self.faults, self.directories, self.archive, self.failing = [], [], 0, archive, failing
+    def __init__(self, tree, without=(), exclude=b"", failing=()):
+        self.files, self.faults, self.directories, self.without, self.failing = [], [], 0, without, failing
         try:
             info = self.info_of(tree)
             rules = [(0, *rule) for text in (exclude, self.rules_in(info, b".git/info/", b"exclude")) for rule in rules_of(text)]
@@ -323,7 +323,7 @@ class Walk:
             if name == b".git" or entry is None or verdict_of(rules, path, is_dir) == b"ignored":
                 continue
             states = attributes_of(lines + [(0, *line) for line in self.info], {**macros, **self.macros}, path, is_dir)
-            if self.archive and states.get(b"export-ignore") == b"set":
+            if any(states.get(attribute) == b"set" for attribute in self.without):
                 continue
             if is_dir:
                 self.walk(entry, path + b"/", rules, lines, macros)

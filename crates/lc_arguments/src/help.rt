@@ -53,7 +53,8 @@ pub(crate) const AFTER_COUNT_LONG: &str =
 .gitignore of DIR or of a directory below it, .git/info/exclude of DIR, or the
 file of --exclude-from. Entries named .git and all that is neither a file nor a
 directory, as symbolic links, are left out too. Ignore files above DIR, Git's
-index and its configuration are not read.
+index and its configuration are not read. With --without ATTR files and
+directories are left out that have the attribute ATTR, by .gitattributes.
 
 The table has a tab between fields. Below its header each line has the number of
 files of one kind, and the sums of their lines, blank lines and bytes. A kind is
@@ -88,7 +89,8 @@ Status:
 Examples:
   lc count .
   lc count --files --threads 8 src
-  lc count --archive --exclude-from rules .";
+  lc count --archive --exclude-from rules .
+  lc count --without linguist-vendored --without linguist-generated .";
 
 pub(crate) const ABOUT_CHECK: &str =
     "Says of paths on standard input, one a line, what the rules of FILE say";
