@@ -269,7 +269,8 @@ class Fault(Exception):
 class Walk:
     """The recursive walk of a tree: a dictionary of names, a folder a dictionary, a file its bytes, anything else None.
 
-    `without` has attributes: what has one of them Set is left out. `failing` has what can't be read: pairs of "list" and a directory's path, "rules" or "count" and a file's.
+    `without` has attributes: what has one of them Set is left out. `failing` has what can't be read: pairs of "list" and a directory's
+    path, "rules" or "count" and a file's.
     """
 
     def __init__(self, tree, without=(), exclude=b"", failing=()):
