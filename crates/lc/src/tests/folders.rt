@@ -14,11 +14,15 @@ const FILES: &[(&str, &[u8])] = &[
     ("a.log", b"x\n"),
     ("keep.log", b"k\n"),
     ("build/x.c", b"x\n"),
+    ("src/.gitattributes", b"build/ made\n"),
     ("src/build/y.c", b"int y;\r\n"),
 ];
 
 const TABLE: &[u8] =
-    b"ext\ttext\teol\tfiles\tlines\tblank\tbytes\n-\t-\tlf\t1\t3\t0\t24\n.c\t-\tcrlf\t1\t1\t0\t8\n.log\t-\tlf\t1\t1\t0\t2\ntotal\t*\t*\t3\t5\t0\t34\ndirectories\t3\n";
+    b"ext\ttext\teol\tfiles\tlines\tblank\tbytes\n-\t-\tlf\t2\t4\t0\t36\n.c\t-\tcrlf\t1\t1\t0\t8\n.log\t-\tlf\t1\t1\t0\t2\ntotal\t*\t*\t4\t6\t0\t46\ndirectories\t3\n";
+
+const WITHOUT_MADE: &[u8] =
+    b"ext\ttext\teol\tfiles\tlines\tblank\tbytes\n-\t-\tlf\t2\t4\t0\t36\n.log\t-\tlf\t1\t1\t0\t2\ntotal\t*\t*\t3\t5\t0\t38\ndirectories\t2\n";
 
 const NOTHING: &[u8] =
     b"ext\ttext\teol\tfiles\tlines\tblank\tbytes\ntotal\t*\t*\t0\t0\t0\t0\ndirectories\t0\nfault\tread\t.\n";
@@ -46,6 +50,13 @@ const CASES: &[Case] = &[
         &["count", "--max-dirs", "1048576", "lc_counts"],
         0,
         TABLE,
+        b"",
+    ),
+    (
+        "without_an_attribute",
+        &["count", "--without", "text", "--without=made", "lc_counts"],
+        0,
+        WITHOUT_MADE,
         b"",
     ),
     (

@@ -1,7 +1,7 @@
 //! Attribute files. `tools/cases` makes each table of cases from those of `docs/cases/attributes.tsv` whose topic
 //! is its name.
 
-use lc_rules::{AttrChain, AttrFile, RuleFault, State, TextState};
+use lc_rules::{AttrChain, AttrFile, RuleFault, State, TextState, is_attribute_name};
 use std::alloc::{AllocError, Global};
 use std::process::Abort;
 use std::sync::Arc;
@@ -373,5 +373,16 @@ fn at_most_a_mebibyte(rt: HostRuntime) -> Result<(), Fail> {
     assert!(rt; is_too_long(rt.alloc(), &bytes));
     assert!(rt; is_top(rt.alloc(), &bytes[1..], true)?);
     assert!(rt; !is_top(rt.alloc(), b"a", false)?);
+    Ok(())
+}
+
+#[test]
+fn names_of_attributes(rt: HostRuntime) -> Result<(), Fail> {
+    for name in ["a", "linguist-vendored", "A.9_z", "_", ".", "0-"] {
+        assert!(rt; is_attribute_name(name.as_bytes()), "{name}");
+    }
+    for name in ["", "-", "-a", "a b", "a=b", "!a", "\u{e9}", "a/b"] {
+        assert!(rt; !is_attribute_name(name.as_bytes()), "{name}");
+    }
     Ok(())
 }
