@@ -130,8 +130,7 @@ pub(crate) fn command<'a>(alloc: Global) -> Result<Command<'a>, AllocError>
 fn misnamed(alloc: Global, name: &str) -> NoRequest
     ensures { IsRefusal result }
 {
-    let text = format!(
-        in alloc;
+    let text = format!(in alloc;
         "error: invalid value {name:?} for '--without <ATTR>': an attribute's name has letters, digits, '-', '.' and '_', and does not begin with '-'\n\nFor more information, try '--help'.\n"
     );
     match text {

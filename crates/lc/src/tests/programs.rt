@@ -148,8 +148,16 @@ const TEXTS: &[(&[&str], u8, &str)] = &[
     (&["count", "--threads", "x", "."], 2, "invalid value 'x'"),
     (&["count", "--max-dirs", "0", "."], 2, "1..=1048576"),
     (&["count", "--max-dirs", "1048577", "."], 2, "1..=1048576"),
-    (&["count", "--without", "a b", "."], 2, "value \"a b\" for '--without <ATTR>'"),
-    (&["count", "--without", "a", "--without=-a", "."], 2, "value \"-a\""),
+    (
+        &["count", "--without", "a b", "."],
+        2,
+        "value \"a b\" for '--without <ATTR>'",
+    ),
+    (
+        &["count", "--without", "a", "--without=-a", "."],
+        2,
+        "value \"-a\"",
+    ),
     (&["count", "--no-such-option", "."], 2, "--no-such-option"),
     (&["--no-such-option"], 2, "--no-such-option"),
     (&["no-such-command"], 2, "no-such-command"),

@@ -347,7 +347,13 @@ fn view_without_attributes(rt: HostRuntime) -> Result<(), Fail> {
         without: &["text", "export-ignore"],
         ..top(EXPORTED)
     };
-    check(&rt, rt.alloc(), "without a second one", asked, Ok(IN_ARCHIVE))?;
+    check(
+        &rt,
+        rt.alloc(),
+        "without a second one",
+        asked,
+        Ok(IN_ARCHIVE),
+    )?;
     let asked = Asked {
         without: &["text"],
         ..top(EXPORTED)

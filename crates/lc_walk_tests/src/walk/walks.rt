@@ -282,7 +282,9 @@ fn an_archive_leaves_out_what_is_not_exported(rt: HostRuntime) -> Result<(), Fai
 const MARKED: Sketch = Sketch::Dir(&[
     (
         b".gitattributes",
-        Sketch::File(b"[attr]made generated\nlib/ vendored\n*.y made\nx.y -generated\n*.v vendored=1\n"),
+        Sketch::File(
+            b"[attr]made generated\nlib/ vendored\n*.y made\nx.y -generated\n*.v vendored=1\n",
+        ),
     ),
     (b"a.y", LINE),
     (b"b.v", LINE),

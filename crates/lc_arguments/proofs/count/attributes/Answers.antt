@@ -1,4 +1,4 @@
-use Rattle.std.proofs.Common.{◌∙◌, map, ap, sym, arith, take_all}
+use Rattle.std.proofs.Common.{◌∙◌, map, ap, sym, take_all}
 use Rattle.std.proofs.lemmas.List.Folds.{list_all-map}
 use Rattle.std.specs.List.{list_all}
 use Rattle.lc_rules.specs.AttrWords.{is_name}

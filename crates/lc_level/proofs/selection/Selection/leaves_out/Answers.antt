@@ -1,4 +1,4 @@
-use Rattle.std.proofs.Common.{◌∙◌, ap, sym, inl, inr, arith, take_all}
+use Rattle.std.proofs.Common.{◌∙◌, ap, sym, inl, inr, take_all}
 use Rattle.std.proofs.lemmas.List.Folds.{list_any_at}
 use Rattle.std.specs.List.{list_any}
 use Rattle.lc_level.proofs.Selecting.{is_set_at, is_set_by, left_out_by, left_in_by}
