@@ -1,6 +1,6 @@
 //! Laws of one directory's work. The functions do nothing: their contracts are what is proved.
 ghost use Rattle.lc_level.specs.Examples.{ExamplesHold};
-ghost use Rattle.lc_level.specs.Laws.{CountedLaw, OpenedLaw};
+ghost use Rattle.lc_level.specs.Laws.{ArchiveLaw, CountedLaw, OpenedLaw};
 ghost use Rattle.lc_level.specs.OneAnswer.{MemoryLaw, NodeAnswersLaw, NodeLevelsLaw, NodeTidyLaw, OneLevelLaw};
 
 use lc_census::bytes_have_one_cutting;
@@ -14,6 +14,11 @@ pub fn work_is_a_level<T: Tree>(tree: &T)
 {
     let _tree = tree;
 }
+
+/// An archive is what is left without `export-ignore`.
+pub fn an_archive_is_without_export_ignore()
+    ensures { ArchiveLaw }
+{}
 
 /// A tree that answers each question in one way has one level for each directory.
 pub fn one_answer_is_one_level<T: Tree>(tree: &T)

@@ -40,8 +40,8 @@ pub use counting::{CountedFiles, count_files};
 pub use desk::Desk;
 pub use job::Job;
 pub use laws::{
-    a_node_is_one_tree, examples_hold, one_answer_is_one_level, trees_of_memory_give_one,
-    work_is_a_level,
+    a_node_is_one_tree, an_archive_is_without_export_ignore, examples_hold,
+    one_answer_is_one_level, trees_of_memory_give_one, work_is_a_level,
 };
 pub use left_in::ChildDirectory;
 pub use opening::{Opened, open_level};
