@@ -3,6 +3,7 @@
 //! - `sink`: where text is written; `printing`: a text is written whole, or why not
 //! - `escaping`: how paths are printed
 //! - `rules`: the rules that a source gives; `checking`: what rules say of paths, a line each
+//! - `shape`: what a table is to look like
 //! - `trials`: a writer for tests
 //! - `laws`: what is true of the definitions that the contracts cite
 #![tactic(auto)]
@@ -12,6 +13,7 @@ mod escaping;
 mod laws;
 mod printing;
 mod rules;
+mod shape;
 mod sink;
 pub mod trials;
 
@@ -21,4 +23,5 @@ pub use escaping::{escape, push_escaped, push_path};
 pub use laws::a_vector_takes_the_text;
 pub use printing::{PrintFault, print};
 pub use rules::{RulesFileFault, read_rules};
+pub use shape::{Columns, Format, Shape, SortBy};
 pub use sink::{Sink, StdSink};
