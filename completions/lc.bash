@@ -19,10 +19,13 @@ _lc() {
         --threads) mapfile -t COMPREPLY < <(compgen -W '1 2 4 8 16' -- "$current") ;;
         --max-dirs) mapfile -t COMPREPLY < <(compgen -W '65536 1048576' -- "$current") ;;
         --without) mapfile -t COMPREPLY < <(compgen -W 'linguist-vendored linguist-generated linguist-documentation' -- "$current") ;;
+        --format) mapfile -t COMPREPLY < <(compgen -W 'table tsv json' -- "$current") ;;
+        --by) mapfile -t COMPREPLY < <(compgen -W 'ext text eol ext,text ext,eol text,eol' -- "$current") ;;
+        --sort) mapfile -t COMPREPLY < <(compgen -W 'files lines blank bytes' -- "$current") ;;
         --exclude-from) mapfile -t COMPREPLY < <(compgen -f -- "$current") ;;
         *)
           case $current in
-            -*) mapfile -t COMPREPLY < <(compgen -W '--threads --max-dirs --files --archive --without --exclude-from --help' -- "$current") ;;
+            -*) mapfile -t COMPREPLY < <(compgen -W '--threads --max-dirs --files --archive --without --exclude-from --format --by --sort --help' -- "$current") ;;
             *) mapfile -t COMPREPLY < <(compgen -d -- "$current") ;;
           esac
           ;;
@@ -30,7 +33,7 @@ _lc() {
       ;;
     check)
       case $current in
-        -*) mapfile -t COMPREPLY < <(compgen -W '--help' -- "$current") ;;
+        -*) mapfile -t COMPREPLY < <(compgen -W '--explain --help' -- "$current") ;;
         *) mapfile -t COMPREPLY < <(compgen -f -- "$current") ;;
       esac
       ;;

@@ -1,4 +1,5 @@
-mod AttributeNames
+mod Misnaming
 mod CountRanges
 mod ReadValues
 mod WordFaults
+pub mod ColumnNames

@@ -38,7 +38,7 @@ abbrev pub count_rules : List Rule
 count_rules =
     number_rule (codes "threads") 16 (codes "4") ∷ number_rule (codes "max-dirs") 1048576 (codes "65536")
     ∷ flag_rule (codes "files") ∷ flag_rule (codes "archive") ∷ texts_rule (codes "without") ∷ text_rule (codes "exclude-from")
-    ∷ word_rule (codes "DIR") ∷ []
+    ∷ text_rule (codes "format") ∷ text_rule (codes "by") ∷ text_rule (codes "sort") ∷ word_rule (codes "DIR") ∷ []
 
 -- each in turn
 abbrev pub with_rules : App → List Rule → App
@@ -49,7 +49,7 @@ abbrev pub count_app : App
 count_app = with_rules (bare_app (codes "count")) count_rules
 
 abbrev pub check_app : App
-check_app = with_rule (bare_app (codes "check")) (word_rule (codes "FILE"))
+check_app = with_rule (with_rule (bare_app (codes "check")) (flag_rule (codes "explain"))) (word_rule (codes "FILE"))
 
 -- for what belongs to no command
 abbrev pub bare_lc_app : App

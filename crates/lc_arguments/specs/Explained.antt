@@ -1,21 +1,23 @@
 -- What an error of clap becomes.
-use Rattle.std.specs.Prelude.{◌≡◌, ◌≢◌, ◌⊎◌, ℕ, true, false, List, [], map, Result, Ok, Err, unwrap_or, codes}
+use Rattle.std.specs.Prelude.{◌≡◌, ◌≢◌, ◌⊎◌, ℕ, true, false, List, [], map, Result, Ok, Err, Option}
 use Rattle.std.specs.Global.{Vec}
 use Rattle.std.specs.List.{list_all}
 use Rattle.clap.specs.Faults.{fault_of}
 use Rattle.clap.specs.Simple.{matches_of}
 use Rattle.clap.specs.Values.{kind_of}
-use Rattle.clap.specs.Walk.{first_of}
 use Rattle.clap.specs.declared.error.Error.{Error}
 use Rattle.clap.specs.declared.error.kind.ErrorKind.TheVariants.{OutOfMemory}
 use Rattle.std.specs.Borrow.{Bor}
 use Rattle.lc_rules.specs.AttrWords.{is_name}
 use Rattle.lc_arguments.specs.CommandLine.{count_app, check_app, lc_app}
-use Rattle.lc_arguments.specs.Words.{IsText, IsNoRequestBy, IsCountOf, MayRefuse, MayShow, MisnameAttributes}
+use Rattle.lc_arguments.specs.Words.{IsText, IsNoRequestBy, IsCheckOf, IsCountOf, MayRefuse, MayShow, AskForNoCount}
+use Rattle.lc_text.specs.declared.shape.Shape.{Shape}
+use Rattle.lc_arguments.specs.ShapeWords.{IsShapeBy}
 use Rattle.lc_arguments.specs.declared.request.NoRequest.{NoRequest}
 use Rattle.lc_arguments.specs.declared.request.NoRequest.TheVariants.{Shown, Refused, Memory}
 use Rattle.lc_arguments.specs.declared.request.Request.{Request}
 use Rattle.lc_arguments.specs.declared.request.Request.TheVariants.{CheckJoined}
+use Rattle.lc_arguments.specs.declared.check.CheckRequest.{CheckRequest}
 use Rattle.lc_arguments.specs.declared.count.CountRequest.{CountRequest}
 
 -- a text that was asked for is shown; any other is why words are refused
@@ -34,7 +36,7 @@ IsRefusal Memory = Unit {0}
 abbrev pub AnswersCountWords : List (List ℕ) → Result CountRequest NoRequest → Type 0
 AnswersCountWords words (Ok c) = (fault_of count_app words ≡ []) × IsCountOf (matches_of count_app words) c
 AnswersCountWords words (Err (Shown _)) = MayShow (fault_of count_app words)
-AnswersCountWords words (Err (Refused _)) = MayRefuse (fault_of count_app words) ⊎ MisnameAttributes words
+AnswersCountWords words (Err (Refused _)) = MayRefuse (fault_of count_app words) ⊎ AskForNoCount words
 AnswersCountWords words (Err Memory) = Unit {0}
 
 -- the attributes that are named, in their order
@@ -44,10 +46,16 @@ AnswersNames names (Err (Shown _)) = ⊥
 AnswersNames names (Err (Refused _)) = list_all is_name names ≡ false
 AnswersNames names (Err Memory) = Unit {0}
 
+-- that shape; or one of the texts says nothing of a table, or there was no memory to say so
+abbrev pub AnswersShape : Option (List ℕ) → Option (List ℕ) → Option (List ℕ) → Result Shape NoRequest → Type 0
+AnswersShape format by sort (Ok shape) = IsShapeBy format by sort shape
+AnswersShape format by sort (Err (Shown _)) = ⊥
+AnswersShape format by sort (Err (Refused _)) = (shape : Shape) → ¬ IsShapeBy format by sort shape
+AnswersShape format by sort (Err Memory) = Unit {0}
+
 -- the words after `check`
-abbrev pub AnswersCheckWords : List (List ℕ) → Result (Bor (List ℕ)) NoRequest → Type 0
-AnswersCheckWords words (Ok file) =
-    (fault_of check_app words ≡ []) × (file.now ≡ unwrap_or (first_of (codes "FILE") (matches_of check_app words)) [])
+abbrev pub AnswersCheckWords : List (List ℕ) → Result CheckRequest NoRequest → Type 0
+AnswersCheckWords words (Ok c) = (fault_of check_app words ≡ []) × IsCheckOf (matches_of check_app words) c
 AnswersCheckWords words (Err why) = IsNoRequestBy (fault_of check_app words) why
 
 -- words that name no command

@@ -1,4 +1,5 @@
 pub mod CommandLine
 pub mod CountArgs
 pub mod Explained
+pub mod ShapeWords
 pub mod Words

@@ -23,6 +23,9 @@ use Rattle.lc_arguments.specs.declared.request.NoRequest.{NoRequest}
 use Rattle.lc_arguments.specs.declared.request.NoRequest.TheVariants.{Shown, Refused, Memory}
 use Rattle.lc_arguments.specs.declared.request.Request.{Request}
 use Rattle.lc_arguments.specs.declared.request.Request.TheVariants.{CheckJoined, Check, Count}
+use Rattle.lc_text.specs.declared.shape.Shape.{Shape}
+use Rattle.lc_arguments.specs.ShapeWords.{IsShapeBy}
+use Rattle.lc_arguments.specs.declared.check.CheckRequest.{CheckRequest}
 use Rattle.lc_arguments.specs.declared.count.CountRequest.{CountRequest}
 
 -- what a parse by this command reads of this argument is a number from the one to the other
@@ -57,6 +60,10 @@ IsNumber id default rows n = n ≡ digits_value 10 (without_leading_plus (unwrap
 abbrev pub texts_read : List ℕ → List Row → List (List ℕ)
 texts_read id rows = unwrap_or (all_of id rows) []
 
+-- the shape that was asked for
+abbrev pub IsShapeIn : List Row → Shape → Type 0
+IsShapeIn rows s = IsShapeBy (first_of (codes "format") rows) (first_of (codes "by") rows) (first_of (codes "sort") rows) s
+
 -- the count that was asked for, by what was read of each argument
 pub record IsCountOf (rows : List Row) (c : CountRequest) : Type 0 where
   pub within : IsCountWithinLimits c
@@ -66,8 +73,14 @@ pub record IsCountOf (rows : List Row) (c : CountRequest) : Type 0 where
   pub archive : IsFlag (codes "archive") rows c.archive
   pub without : map (λ name. name.now) c.without.items ≡ texts_read (codes "without") rows
   pub named : list_all is_name (texts_read (codes "without") rows) ≡ true
+  pub shape : IsShapeIn rows c.shape
   pub exclude : option_map (λ s. s.now) c.exclude_from ≡ first_of (codes "exclude-from") rows
   pub directory : c.directory.now ≡ unwrap_or (first_of (codes "DIR") rows) []
+
+-- the check that was asked for
+pub record IsCheckOf (rows : List Row) (c : CheckRequest) : Type 0 where
+  pub explain : IsFlag (codes "explain") rows c.explain
+  pub file : c.file.now ≡ unwrap_or (first_of (codes "FILE") rows) []
 
 -- kinds of errors of which one is a text that was asked for, or one is not
 abbrev pub IsText : ErrorKind → Type 0
@@ -96,20 +109,21 @@ faults_in (word ∷ words) =
 -- what words ask for that fail in no way
 abbrev pub Asks : List (List ℕ) → Request → Type 0
 Asks words CheckJoined = (more : List (List ℕ)) → (words ≢ codes "count" ∷ more) × (words ≢ codes "check" ∷ more)
-Asks words (Check file) =
-    (more : List (List ℕ)) × (words ≡ codes "check" ∷ more)
-    × (file.now ≡ unwrap_or (first_of (codes "FILE") (matches_of check_app more)) [])
+Asks words (Check c) = (more : List (List ℕ)) × (words ≡ codes "check" ∷ more) × IsCheckOf (matches_of check_app more) c
 Asks words (Count c) = (more : List (List ℕ)) × (words ≡ codes "count" ∷ more) × IsCountOf (matches_of count_app more) c
 
--- the words after `count` fail in no way, but name what is no attribute's name: gitattributes(5), DESCRIPTION
-abbrev pub MisnameAttributes : List (List ℕ) → Type 0
-MisnameAttributes words =
-    (fault_of count_app words ≡ []) × (list_all is_name (texts_read (codes "without") (matches_of count_app words)) ≡ false)
+-- what was read names what is no attribute's name (gitattributes(5), DESCRIPTION), or no shape of a table
+abbrev pub Misname : List Row → Type 0
+Misname rows = (list_all is_name (texts_read (codes "without") rows) ≡ false) ⊎ ((s : Shape) → ¬ IsShapeIn rows s)
+
+-- the words after `count` fail in no way, but name what there is not
+abbrev pub AskForNoCount : List (List ℕ) → Type 0
+AskForNoCount words = (fault_of count_app words ≡ []) × Misname (matches_of count_app words)
 
 -- words are refused
 abbrev pub AreRefused : List (List ℕ) → Type 0
 AreRefused words =
-    MayRefuse (faults_in words) ⊎ ((more : List (List ℕ)) × (words ≡ codes "count" ∷ more) × MisnameAttributes more)
+    MayRefuse (faults_in words) ⊎ ((more : List (List ℕ)) × (words ≡ codes "count" ∷ more) × AskForNoCount more)
 
 -- why words ask for nothing; there may be no memory for any words
 abbrev pub AskNothing : List (List ℕ) → NoRequest → Type 0

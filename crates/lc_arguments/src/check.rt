@@ -1,7 +1,7 @@
 //! The words of `lc check`.
 
 ghost use Rattle.std.specs.Prelude.{◌≡◌, IfOk, map, codes};
-ghost use Rattle.lc_arguments.specs.CommandLine.{check_app, word_rule};
+ghost use Rattle.lc_arguments.specs.CommandLine.{check_app, flag_rule, word_rule};
 ghost use Rattle.lc_arguments.specs.CountArgs.{IsArgOf, IsCommandOf, IsBare};
 ghost use Rattle.lc_arguments.specs.Explained.{AnswersCheckWords};
 
@@ -10,6 +10,24 @@ use crate::request::{NoRequest, explained};
 use clap::{Arg, ArgAction, Command};
 use std::alloc::{AllocError, Global};
 use std::convert::AsStr;
+
+/// What `lc check` is asked for, as by `lc check --explain .gitignore`.
+#[derive(Drop)]
+pub struct CheckRequest<'w> {
+    /// Each answer has the rule that decides.
+    pub explain: bool,
+    /// The ignore file, as its path was given.
+    pub file: &'w str,
+}
+
+fn explain<'a>(alloc: Global) -> Arg<'a>
+    ensures { IsArgOf (flag_rule (codes "explain")) result }
+{
+    Arg::new(alloc, "explain")
+        .long("explain")
+        .action(ArgAction::SetTrue)
+        .help("Also the line of FILE that decides, and its pattern")
+}
 
 fn file<'a>(alloc: Global) -> Arg<'a>
     ensures { IsArgOf (word_rule (codes "FILE")) result }
@@ -37,19 +55,27 @@ fn bare<'a>(alloc: Global) -> Result<Command<'a>, AllocError>
 pub(crate) fn command<'a>(alloc: Global) -> Result<Command<'a>, AllocError>
     ensures { IfOk result (IsCommandOf check_app) }
 {
-    let command = bare(alloc)?.arg(file(alloc))?;
+    let command = bare(alloc)?.arg(explain(alloc))?.arg(file(alloc))?;
     Ok(command)
 }
 
-/// The file that the words after `check` name.
-pub(crate) fn read<'w, W: AsStr>(alloc: Global, words: &'w [W]) -> Result<&'w str, NoRequest>
-    ensures { AnswersCheckWords (map W.text words.entry.now) result }
-{
-    let Ok(command) = command(alloc) else {
-        return Err(NoRequest::Memory);
-    };
-    match command.try_get_matches_from(words) {
-        Ok(matches) => Ok(matches.get_str("FILE").unwrap_or("")),
-        Err(error) => Err(explained(alloc, &error, help::CHECK, ".gitignore")),
+impl<'w> CheckRequest<'w> {
+    /// What the words after `check` ask for.
+    pub(crate) fn read<W: AsStr>(
+        alloc: Global,
+        words: &'w [W],
+    ) -> Result<CheckRequest<'w>, NoRequest>
+        ensures { AnswersCheckWords (map W.text words.entry.now) result }
+    {
+        let Ok(command) = command(alloc) else {
+            return Err(NoRequest::Memory);
+        };
+        match command.try_get_matches_from(words) {
+            Ok(matches) => Ok(CheckRequest {
+                explain: matches.get_flag("explain"),
+                file: matches.get_str("FILE").unwrap_or(""),
+            }),
+            Err(error) => Err(explained(alloc, &error, help::CHECK, ".gitignore")),
+        }
     }
 }

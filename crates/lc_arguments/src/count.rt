@@ -6,9 +6,11 @@ ghost use Rattle.lc_arguments.specs.CountArgs.{is_own_name, IsArgOf, IsBare, IsC
 ghost use Rattle.lc_arguments.specs.Explained.{AnswersCountWords, AnswersNames, IsRefusal};
 
 use crate::help;
-use crate::request::{NoRequest, explained};
+use crate::request::{NoRequest, explained, refused};
+use crate::shape::shape_of;
 use clap::{Arg, ArgAction, Command, value_parser};
 use lc_rules::is_attribute_name;
+use lc_text::Shape;
 use std::alloc::{AllocError, Global};
 use std::convert::AsStr;
 
@@ -27,6 +29,8 @@ pub struct CountRequest<'w> {
     pub without: Vec<&'w str>,
     /// An ignore file for the whole tree, as its path was given: one that is not absolute begins where the program runs.
     pub exclude_from: Option<&'w str>,
+    /// What the table is to look like: as `Tsv`, by all columns and in the order of keys where no word says it.
+    pub shape: Shape,
     /// The directory, as its path was given: `.` is the one that the program runs in.
     pub directory: &'w str,
 }
@@ -85,6 +89,36 @@ fn exclude_from<'a>(alloc: Global) -> Arg<'a>
         .help("An ignore file for all of DIR, which each .gitignore overrides")
 }
 
+fn format<'a>(alloc: Global) -> Arg<'a>
+    ensures { IsArgOf (text_rule (codes "format")) result }
+{
+    Arg::new(alloc, "format")
+        .long("format")
+        .value_name("FORMAT")
+        .action(ArgAction::Set)
+        .help("table for eyes, tsv (tabs between fields, the default) or json")
+}
+
+fn by<'a>(alloc: Global) -> Arg<'a>
+    ensures { IsArgOf (text_rule (codes "by")) result }
+{
+    Arg::new(alloc, "by")
+        .long("by")
+        .value_name("COLUMNS")
+        .action(ArgAction::Set)
+        .help("Sums rows by some of ext,text,eol alone, as --by ext")
+}
+
+fn sort<'a>(alloc: Global) -> Arg<'a>
+    ensures { IsArgOf (text_rule (codes "sort")) result }
+{
+    Arg::new(alloc, "sort")
+        .long("sort")
+        .value_name("COLUMN")
+        .action(ArgAction::Set)
+        .help("The largest files, lines, blank or bytes first")
+}
+
 fn directory<'a>(alloc: Global) -> Arg<'a>
     ensures { IsArgOf (word_rule (codes "DIR")) result }
 {
@@ -122,6 +156,9 @@ pub(crate) fn command<'a>(alloc: Global) -> Result<Command<'a>, AllocError>
         ))?
         .arg(without(alloc))?
         .arg(exclude_from(alloc))?
+        .arg(format(alloc))?
+        .arg(by(alloc))?
+        .arg(sort(alloc))?
         .arg(directory(alloc))?;
     Ok(command)
 }
@@ -130,13 +167,12 @@ pub(crate) fn command<'a>(alloc: Global) -> Result<Command<'a>, AllocError>
 fn misnamed(alloc: Global, name: &str) -> NoRequest
     ensures { IsRefusal result }
 {
-    let text = format!(in alloc;
-        "error: invalid value {name:?} for '--without <ATTR>': an attribute's name has letters, digits, '-', '.' and '_', and does not begin with '-'\n\nFor more information, try '--help'.\n"
-    );
-    match text {
-        Ok(text) => NoRequest::Refused(text),
-        Err(AllocError) => NoRequest::Memory,
-    }
+    refused(
+        alloc,
+        "--without <ATTR>",
+        name,
+        ": an attribute's name has letters, digits, '-', '.' and '_', and does not begin with '-'",
+    )
 }
 
 /// The attributes of these names.
@@ -177,6 +213,13 @@ impl<'w> CountRequest<'w> {
             Ok(without) => without,
             Err(no) => return Err(no),
         };
+        let format = matches.get_str("format");
+        let by = matches.get_str("by");
+        let sort = matches.get_str("sort");
+        let shape = match shape_of(alloc, format, by, sort) {
+            Ok(shape) => shape,
+            Err(no) => return Err(no),
+        };
         Ok(CountRequest {
             threads,
             max_dirs,
@@ -184,6 +227,7 @@ impl<'w> CountRequest<'w> {
             archive: matches.get_flag("archive"),
             without,
             exclude_from: matches.get_str("exclude-from"),
+            shape,
             directory: matches.get_str("DIR").unwrap_or(""),
         })
     }

@@ -56,12 +56,17 @@ directory, as symbolic links, are left out too. Ignore files above DIR, Git's
 index and its configuration are not read. With --without ATTR files and
 directories are left out that have the attribute ATTR, by .gitattributes.
 
-The table has a tab between fields. Below its header each line has the number of
-files of one kind, and the sums of their lines, blank lines and bytes. A kind is
+The table has a tab between fields, for programs that read lines. For eyes there
+is --format table, for other programs --format json. Below its header each line
+has the number of files of one kind, and the sums of their lines, blank lines and
+bytes. A kind is
 
   ext   what stands after the last dot of the name, with a dot before it; or -
   text  the attribute text, by .gitattributes: set, unset, auto, other, or -
   eol   how lines end: lf, crlf, cr, mixed, none; or nul where a NUL byte occurs
+
+--by sums over the columns that it does not name: --by ext has one line for each
+extension. --sort lines puts the most lines first.
 
 The lines after these begin with
 
@@ -88,6 +93,7 @@ Status:
 
 Examples:
   lc count .
+  lc count --format table --by ext --sort lines .
   lc count --files --threads 8 src
   lc count --archive --exclude-from rules .
   lc count --without linguist-vendored --without linguist-generated .";
@@ -109,6 +115,9 @@ end of a path means a directory. Each line of output is a word, a tab and the pa
   below     a directory above it is ignored
   bad       no entry of a tree can have this path
 
+With --explain two fields stand between: FILE and the number of the line that
+decides, and the line's pattern; - and - where none does.
+
 These print paths as they are wanted; those of plain find begin with ./ and are bad:
 
   git ls-files | lc check .gitignore
@@ -121,4 +130,6 @@ Status:
   2  the words are refused
   3  it gave up, with one line on standard error
 
-Example: printf '%s\\n' main.c main.o build/ | lc check .gitignore";
+Examples:
+  printf '%s\\n' main.c main.o build/ | lc check .gitignore
+  git ls-files | lc check --explain .gitignore";

@@ -3,9 +3,10 @@
 ghost use Rattle.std.specs.Prelude.{◌≡◌, IfOk, map};
 ghost use Rattle.lc_arguments.specs.CommandLine.{bare_lc_app, counting_app, lc_app};
 ghost use Rattle.lc_arguments.specs.CountArgs.{IsCommandOf};
-ghost use Rattle.lc_arguments.specs.Explained.{Explains, AnswersOthers};
+ghost use Rattle.lc_arguments.specs.Explained.{Explains, IsRefusal, AnswersOthers};
 ghost use Rattle.lc_arguments.specs.Words.{AnswersWords};
 
+use crate::check::CheckRequest;
 use crate::count::CountRequest;
 use crate::{check, count, help};
 use clap::error::ErrorKind;
@@ -19,7 +20,7 @@ pub enum Request<'w> {
     /// Rules and paths come joined on standard input, as for no words at all.
     CheckJoined,
     /// The rules of a file, and paths on standard input, as for `check .gitignore`.
-    Check { file: &'w str },
+    Check(CheckRequest<'w>),
     /// The table of a directory, as for `count --files src`.
     Count(CountRequest<'w>),
 }
@@ -89,6 +90,19 @@ pub(crate) fn explained(alloc: Global, error: &Error, command: &str, operand: &s
     }
 }
 
+/// Why the value of an option is refused.
+pub(crate) fn refused(alloc: Global, option: &str, value: &str, why: &str) -> NoRequest
+    ensures { IsRefusal result }
+{
+    let text = format!(in alloc;
+        "error: invalid value {value:?} for '{option}'{why}\n\nFor more information, try '--help'.\n"
+    );
+    match text {
+        Ok(text) => NoRequest::Refused(text),
+        Err(AllocError) => NoRequest::Memory,
+    }
+}
+
 /// The directory that a first word may have meant which is no command: itself, where a shell takes it as it stands.
 fn meant_directory(word: &str) -> &str {
     let is_plain = |byte: u8| byte.is_ascii_alphanumeric()
@@ -135,8 +149,8 @@ impl<'w> Request<'w> {
             };
         }
         if first.as_str() == "check" {
-            return match check::read(alloc, rest) {
-                Ok(file) => Ok(Request::Check { file }),
+            return match CheckRequest::read(alloc, rest) {
+                Ok(asked) => Ok(Request::Check(asked)),
                 Err(no) => Err(no),
             };
         }

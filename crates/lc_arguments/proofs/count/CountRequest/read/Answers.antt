@@ -9,7 +9,7 @@ use Rattle.lc_arguments.specs.Explained.{AnswersNames}
 use Rattle.lc_arguments.proofs.ReadValues.{number_read}
 use Rattle.lc_arguments.proofs.WordFaults.{count_is_free, count_is_simple, fails_as, flag_of, matches_as, no_request_of, number_of}
 use Rattle.lc_arguments.proofs.WordFaults.{no_count_by, text_of, text_or, texts_of}
-use Rattle.lc_arguments.proofs.AttributeNames.{count_refused_for}
+use Rattle.lc_arguments.proofs.Misnaming.{count_refused_for, shape_as, shape_refused_for}
 use Rattle.lc_arguments.proofs.count.CountRequest.read.Goals as goal
 
 pub returns-in-Err : goal.returns-in-Err
@@ -31,6 +31,20 @@ returns-in-Err-attributes g c =
     let why = c.in-Err-attributes.no in
     count_refused_for words why (fails_as c.in-Ok.command count_app words (Ok m) is count_is_free parse.kinds)
     (subst (λ (texts : List (List ℕ)). AnswersNames texts (Err why)) names c.in-Err-attributes.ensures)
+
+pub returns-in-Err-shape_of : goal.returns-in-Err-shape_of
+returns-in-Err-shape_of g c =
+    let words = map g.W.AsStr.text c.args.words.now in
+    let m = c.in-Ok-try_get_matches_from.matches in
+    let is = c.in-Ok.ensures.0.0 in
+    let parse = c.in-Ok-try_get_matches_from.ensures in
+    let rows = matches_of count_app words in
+    let are = matches_as c.in-Ok.command count_app words m is count_is_simple parse.matches in
+    shape_refused_for words _ _ _ c.in-Err-shape_of.no
+    (fails_as c.in-Ok.command count_app words (Ok m) is count_is_free parse.kinds)
+    (text_of rows (found_of m) (codes "format") c.get_str-format.result are c.get_str-format.ensures)
+    (text_of rows (found_of m) (codes "by") c.get_str-by.result are c.get_str-by.ensures)
+    (text_of rows (found_of m) (codes "sort") c.get_str-sort.result are c.get_str-sort.ensures) c.in-Err-shape_of.ensures
 
 pub returns : goal.returns
 returns g c =
@@ -62,6 +76,9 @@ returns g c =
         archive = flag_of rows (found_of m) (codes "archive") c.get_flag-2.result are c.get_flag-2.ensures.value c.get_flag-2.ensures.other;
         without = c.in-Ok-attributes.ensures.0 ∙ names;
         named = ap (list_all is_name) (sym names) ∙ c.in-Ok-attributes.ensures.1;
+        shape = shape_as _ _ _ _ _ _ c.in-Ok-shape_of.shape (text_of rows (found_of m) (codes "format") c.get_str-format.result are c.get_str-format.ensures)
+            (text_of rows (found_of m) (codes "by") c.get_str-by.result are c.get_str-by.ensures)
+            (text_of rows (found_of m) (codes "sort") c.get_str-sort.result are c.get_str-sort.ensures) c.in-Ok-shape_of.ensures;
         exclude = text_of rows (found_of m) (codes "exclude-from") c.get_str.result are c.get_str.ensures;
         directory = text_or rows (found_of m) (codes "DIR") c.get_str-2.result _ c.unwrap_or.result are c.get_str-2.ensures refl
             c.unwrap_or.ensures;

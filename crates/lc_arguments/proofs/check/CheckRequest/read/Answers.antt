@@ -2,8 +2,8 @@ use Rattle.std.proofs.Common.{map, codes, refl, Ok}
 use Rattle.clap.specs.Matches.{found_of}
 use Rattle.clap.specs.Simple.{matches_of}
 use Rattle.lc_arguments.specs.CommandLine.{check_app}
-use Rattle.lc_arguments.proofs.WordFaults.{check_is_free, check_is_simple, fails_as, matches_as, no_request_of, text_or}
-use Rattle.lc_arguments.proofs.check.read.Goals as goal
+use Rattle.lc_arguments.proofs.WordFaults.{check_is_free, check_is_simple, fails_as, flag_of, matches_as, no_request_of, text_or}
+use Rattle.lc_arguments.proofs.check.CheckRequest.read.Goals as goal
 
 pub returns-in-Ok-try_get_matches_from : goal.returns-in-Ok-try_get_matches_from
 returns-in-Ok-try_get_matches_from g c =
@@ -11,11 +11,15 @@ returns-in-Ok-try_get_matches_from g c =
     let m = c.in-Ok-try_get_matches_from.matches in
     let command = c.in-Ok.command in
     let is = c.in-Ok.ensures.0 in
-    let parse = c.in-Ok-try_get_matches_from.ensures in (
+    let parse = c.in-Ok-try_get_matches_from.ensures in
+    let rows = matches_of check_app words in
+    let are = matches_as command check_app words m is check_is_simple parse.matches in (
       fails_as command check_app words (Ok m) is check_is_free parse.kinds,
-      text_or (matches_of check_app words) (found_of m) (codes "FILE") c.get_str.result _ c.unwrap_or.result
-          (matches_as command check_app words m is check_is_simple parse.matches)
-          c.get_str.ensures refl c.unwrap_or.ensures,
+      record {
+        explain = flag_of rows (found_of m) (codes "explain") c.get_flag.result are c.get_flag.ensures.value c.get_flag.ensures.other;
+        file = text_or rows (found_of m) (codes "FILE") c.get_str.result _ c.unwrap_or.result are c.get_str.ensures refl
+            c.unwrap_or.ensures;
+      },
     )
 
 pub returns-in-Err : goal.returns-in-Err

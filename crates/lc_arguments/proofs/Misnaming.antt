@@ -1,0 +1,61 @@
+-- Words that ask for what there is not: names of attributes, shapes of a table.
+use Rattle.std.proofs.Common.{◌≡◌, ◌∙◌, ◌<◌, ◌&&◌, ℕ, zero, suc, Bool, true, false, List, [], ◌∷◌, length, map, refl, ap, inl, inr, sym}
+use Rattle.std.proofs.Common.{subst, Err, Option, arith, unwrap_or}
+use Rattle.std.specs.Borrow.{Bor}
+use Rattle.std.specs.List.{list_all, slice_index_or}
+use Rattle.clap.specs.Faults.{fault_of}
+use Rattle.clap.specs.Simple.{matches_of}
+use Rattle.std.specs.Prelude.{codes}
+use Rattle.clap.specs.Walk.{first_of}
+use Rattle.lc_rules.specs.AttrWords.{is_name}
+use Rattle.lc_text.specs.declared.shape.Shape.{Shape}
+use Rattle.lc_arguments.specs.CommandLine.{count_app}
+use Rattle.lc_arguments.specs.Explained.{AnswersCountWords, AnswersNames, AnswersShape, IsRefusal}
+use Rattle.lc_arguments.specs.ShapeWords.{IsColumnsText, IsShapeBy}
+use Rattle.lc_arguments.specs.Words.{texts_read}
+use Rattle.lc_arguments.specs.declared.request.NoRequest.{NoRequest}
+use Rattle.lc_arguments.specs.declared.request.NoRequest.TheVariants.{Shown, Refused, Memory}
+
+and_false : (a : Bool) → (a && false) ≡ false
+and_false true = refl
+and_false false = refl
+
+-- one that is no attribute's name
+pub one_misnamed : (names : List (Bor (List ℕ))) (k : ℕ) (d : Bor (List ℕ)) → k < length names
+    → is_name (slice_index_or names k d).now ≡ false → list_all is_name (map (λ name. name.now) names) ≡ false
+one_misnamed [] k d low bad = absurd (omega arith)
+one_misnamed (name ∷ names) zero d low bad = ap (λ b. b && list_all is_name (map (λ name. name.now) names)) bad
+one_misnamed (name ∷ names) (suc k) d low bad =
+    ap (λ b. is_name name.now && b) (one_misnamed names k d (omega arith) bad) ∙ and_false (is_name name.now)
+
+-- a shape that is asked for by the same texts
+pub shape_as : (format by sort format' by' sort' : Option (List ℕ)) (s : Shape) → format' ≡ format → by' ≡ by → sort' ≡ sort
+    → IsShapeBy format' by' sort' s → IsShapeBy format by sort s
+shape_as format by sort format' by' sort' s f b o is = record {
+  format_is = is.format_is ∙ ap (λ (t : Option (List ℕ)). unwrap_or t (codes "tsv")) f;
+  by_is = subst (λ (t : Option (List ℕ)). IsColumnsText (unwrap_or t (codes "ext,text,eol")) s.by) b is.by_is;
+  sort_is = is.sort_is ∙ o;
+}
+
+-- they are refused for that
+pub refused_for : (names : List (List ℕ)) (why : NoRequest) → IsRefusal why → list_all is_name names ≡ false → AnswersNames names (Err why)
+refused_for names (Shown text) refusal bad = refusal
+refused_for names (Refused text) refusal bad = bad
+refused_for names Memory refusal bad = tt
+
+-- and so are the words after `count` that name them
+pub count_refused_for : (words : List (List ℕ)) (why : NoRequest) → fault_of count_app words ≡ []
+    → AnswersNames (texts_read (codes "without") (matches_of count_app words)) (Err why) → AnswersCountWords words (Err why)
+count_refused_for words (Shown text) fine bad = absurd bad
+count_refused_for words (Refused text) fine bad = inr (fine, inl bad)
+count_refused_for words Memory fine bad = tt
+
+-- so are those that ask for no shape
+pub shape_refused_for : (words : List (List ℕ)) (format by sort : Option (List ℕ)) (why : NoRequest) → fault_of count_app words ≡ []
+    → format ≡ first_of (codes "format") (matches_of count_app words) → by ≡ first_of (codes "by") (matches_of count_app words)
+    → sort ≡ first_of (codes "sort") (matches_of count_app words) → AnswersShape format by sort (Err why)
+    → AnswersCountWords words (Err why)
+shape_refused_for words format by sort (Shown text) fine f b s bad = absurd bad
+shape_refused_for words format by sort (Refused text) fine f b s bad =
+    inr (fine, inr (λ shape is. bad shape (shape_as format by sort _ _ _ shape (sym f) (sym b) (sym s) is)))
+shape_refused_for words format by sort Memory fine f b s bad = tt

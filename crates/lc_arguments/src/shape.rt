@@ -1,0 +1,109 @@
+//! What the words ask a table to look like.
+
+ghost use Rattle.std.specs.Prelude.{◌≡◌, ◌≢◌, MatchOption, option_map};
+ghost use Rattle.lc_text.specs.declared.shape.Columns.{Columns as ColumnsModel};
+ghost use Rattle.lc_text.specs.declared.shape.Format.{Format as FormatModel};
+ghost use Rattle.lc_text.specs.declared.shape.SortBy.{SortBy as SortModel};
+ghost use Rattle.lc_arguments.specs.Explained.{AnswersShape};
+ghost use Rattle.lc_arguments.specs.ShapeWords.{IsColumnsText, format_word, sort_word};
+
+use crate::request::{NoRequest, refused};
+use lc_glob::cut_at_first;
+use lc_text::{Columns, Format, Shape, SortBy};
+use std::alloc::Global;
+
+/// The format of a name.
+fn format_named(name: &str) -> Option<Format>
+    ensures { MatchOption result ((f : FormatModel) → format_word f ≢ name.entry.now) (λ f. format_word f ≡ name.entry.now) }
+{
+    match name {
+        "table" => Some(Format::Table),
+        "tsv" => Some(Format::Tsv),
+        "json" => Some(Format::Json),
+        _ => None,
+    }
+}
+
+/// The number of a name.
+fn sort_named(name: &str) -> Option<SortBy>
+    ensures { MatchOption result ((s : SortModel) → sort_word s ≢ name.entry.now) (λ s. sort_word s ≡ name.entry.now) }
+{
+    match name {
+        "files" => Some(SortBy::Files),
+        "lines" => Some(SortBy::Lines),
+        "blank" => Some(SortBy::Blank),
+        "bytes" => Some(SortBy::Bytes),
+        _ => None,
+    }
+}
+
+/// The columns of some names with commas between them, each once.
+fn columns_named(names: &str) -> Option<Columns>
+    ensures { MatchOption result ((c : ColumnsModel) → ¬ IsColumnsText names.entry.now c) (λ c. IsColumnsText names.entry.now c) }
+{
+    let mut columns = Columns {
+        ext: false,
+        text: false,
+        eol: false,
+    };
+    let mut left = Some(names.as_bytes());
+    'names: while let Some(rest) = left {
+        let (name, others) = cut_at_first(b',', rest);
+        if name == b"ext".as_slice() && !columns.ext {
+            columns.ext = true;
+        } else if name == b"text".as_slice() && !columns.text {
+            columns.text = true;
+        } else if name == b"eol".as_slice() && !columns.eol {
+            columns.eol = true;
+        } else {
+            return None;
+        }
+        left = others;
+    }
+    Some(columns)
+}
+
+/// The shape that the values of the three options ask for.
+pub(crate) fn shape_of(
+    alloc: Global,
+    format: Option<&str>,
+    by: Option<&str>,
+    sort: Option<&str>,
+) -> Result<Shape, NoRequest>
+    ensures { AnswersShape (option_map (λ s. s.now) format.entry) (option_map (λ s. s.now) by.entry)
+        (option_map (λ s. s.now) sort.entry) result }
+{
+    let word = format.unwrap_or("tsv");
+    let Some(format) = format_named(word) else {
+        return Err(refused(
+            alloc,
+            "--format <FORMAT>",
+            word,
+            "\n  [possible values: table, tsv, json]",
+        ));
+    };
+    let word = by.unwrap_or("ext,text,eol");
+    let Some(by) = columns_named(word) else {
+        return Err(refused(
+            alloc,
+            "--by <COLUMNS>",
+            word,
+            ": some of ext, text, eol are wanted, each once, with commas between",
+        ));
+    };
+    let sort = match sort {
+        None => None,
+        Some(word) => match sort_named(word) {
+            None => {
+                return Err(refused(
+                    alloc,
+                    "--sort <COLUMN>",
+                    word,
+                    "\n  [possible values: files, lines, blank, bytes]",
+                ));
+            }
+            by => by,
+        },
+    };
+    Ok(Shape { format, by, sort })
+}
