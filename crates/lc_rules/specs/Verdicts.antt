@@ -1,6 +1,6 @@
 -- What the rules of a chain's files say of a path: gitignore(5), DESCRIPTION, on the order of precedence.
-use Rattle.std.specs.Prelude.{ℕ, zero, suc, Bool, if◌then◌else◌, List, [], ◌∷◌, ◌++◌, map, filter}
-use Rattle.std.specs.List.{after_first}
+use Rattle.std.specs.Prelude.{ℕ, zero, suc, Bool, if◌then◌else◌, List, [], ◌∷◌, ◌++◌, map, filter, Option, Some, None}
+use Rattle.std.specs.List.{after_first, last_or}
 use Rattle.lc_glob.specs.Bytes.{slash}
 use Rattle.lc_glob.specs.Pieces.{is_byte}
 use Rattle.lc_glob.specs.IsMatch.{is_match}
@@ -21,15 +21,18 @@ rule_matches path is_dir rule = is_match rule.1.pattern (below rule.0 path) is_d
 abbrev pub verdict_by : RuleModel → Verdict
 verdict_by rule = if rule.is_negated then Included else Ignored
 
--- the last of these rules decides
-abbrev pub by_last : List (ℕ × RuleModel) → Verdict
-by_last [] = NoRule
-by_last (r ∷ []) = verdict_by r.1
-by_last (r ∷ s ∷ rs) = by_last (s ∷ rs)
+-- the rule that decides: the last one that matches, if any does
+abbrev pub deciding : List (ℕ × RuleModel) → List ℕ → Bool → Option (ℕ × RuleModel)
+deciding rules path is_dir = last_or None (filter (rule_matches path is_dir) rules)
 
--- the verdict: the last rule that matches decides
+-- what the rule that decides says
+abbrev pub verdict_from : Option (ℕ × RuleModel) → Verdict
+verdict_from None = NoRule
+verdict_from (Some rule) = verdict_by rule.1
+
+-- the verdict of these rules
 abbrev pub verdict_of : List (ℕ × RuleModel) → List ℕ → Bool → Verdict
-verdict_of rules path is_dir = by_last (filter (rule_matches path is_dir) rules)
+verdict_of rules path is_dir = verdict_from (deciding rules path is_dir)
 
 -- the rules of a file, each with the file's depth
 abbrev pub at_depth : ℕ → List RuleModel → List (ℕ × RuleModel)

@@ -1,11 +1,12 @@
 //! Chains of ignore files.
 
-ghost use Rattle.std.specs.Prelude.{◌≡◌, [], IfOk};
-ghost use Rattle.lc_rules.specs.Verdicts.{joined, verdict_of};
+ghost use Rattle.std.specs.Prelude.{◌≡◌, [], option_map, IfOk};
+ghost use Rattle.lc_rules.specs.Verdicts.{deciding, joined, verdict_of};
 ghost use Rattle.lc_rules.specs.Chains.{with_file};
 
 use crate::chain_files::{ChainFiles, FilesLeft};
 use crate::ignore_file::IgnoreFile;
+use crate::ignore_line::Rule;
 use crate::paths::PathBelow;
 use crate::verdicts::Verdict;
 use std::alloc::{AllocError, Global};
@@ -56,20 +57,33 @@ impl Chain {
     pub fn verdict(&self, path: &[u8], is_dir: bool) -> Verdict
         ensures { result ≡ verdict_of (joined self.now) path.now is_dir }
     {
-        verdict_by_files(self.files.left(), PathBelow::new(path), is_dir)
+        match self.deciding(path, is_dir) {
+            Some((_, rule)) => rule.verdict(),
+            None => Verdict::NoRule,
+        }
+    }
+
+    /// The rule that decides a path, with the depth of its file.
+    pub fn deciding(&self, path: &[u8], is_dir: bool) -> Option<(u32, &Rule)>
+        ensures { option_map (λ r. (r.0, r.1.now)) result ≡ deciding (joined self.now) path.now is_dir }
+    {
+        deciding_by_files(self.files.left(), PathBelow::new(path), is_dir)
     }
 }
 
 /// Asks the files, the nearest to the path first.
-fn verdict_by_files(files: FilesLeft<'_, IgnoreFile>, path: PathBelow, is_dir: bool) -> Verdict
-    ensures { result ≡ verdict_of (joined files.entry) path.entry.path.now is_dir }
+fn deciding_by_files<'a>(
+    files: FilesLeft<'a, IgnoreFile>,
+    path: PathBelow,
+    is_dir: bool,
+) -> Option<(u32, &'a Rule)>
+    ensures { option_map (λ r. (r.0, r.1.now)) result ≡ deciding (joined files.entry) path.entry.path.now is_dir }
 {
-    let Some((depth, file, nearer)) = files.split_first() else {
-        return Verdict::NoRule;
-    };
+    let (depth, file, nearer) = files.split_first()?;
     let inner = path.at(depth);
-    match verdict_by_files(nearer, inner, is_dir) {
-        Verdict::NoRule => file.verdict(inner.rest, is_dir),
-        decided => decided,
+    if let Some(found) = deciding_by_files(nearer, inner, is_dir) {
+        return Some(found);
     }
+    let rule = file.deciding(inner.rest, is_dir)?;
+    Some((depth, rule))
 }
