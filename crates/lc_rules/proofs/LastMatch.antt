@@ -4,6 +4,7 @@ use Rattle.std.proofs.Common.{refl, sym, ◌∙◌, ap, ap₂, subst}
 use Rattle.std.specs.Option.{option_or}
 use Rattle.std.specs.List.{list_any, last_or}
 use Rattle.lc_rules.specs.IgnoreRules.{RuleModel}
+use Rattle.lc_rules.specs.declared.origin.Origin.{Origin}
 use Rattle.lc_rules.specs.IgnoreLaws.{IsLastMatch, DecidingLaw}
 use Rattle.lc_rules.specs.Verdicts.{rule_matches, deciding}
 use Rattle.lc_rules.proofs.LastRule.{deciding-append, deciding_one}
@@ -20,10 +21,10 @@ filter_none p (x ∷ xs) none = filter_step p x xs (filter_none p xs) (p x) refl
 
 module _ (path : List ℕ) (is_dir : Bool) where
   -- what was found among these rules decides
-  abbrev Told : List (ℕ × RuleModel) → Option (ℕ × RuleModel) → Type 0
+  abbrev Told : List (Origin × RuleModel) → Option (Origin × RuleModel) → Type 0
   Told rules found = MatchOption found (list_any (rule_matches path is_dir) rules ≡ false) (IsLastMatch rules path is_dir)
 
-  told_more : (r : ℕ × RuleModel) (rules : List (ℕ × RuleModel)) (found : Option (ℕ × RuleModel)) → Told rules found
+  told_more : (r : Origin × RuleModel) (rules : List (Origin × RuleModel)) (found : Option (Origin × RuleModel)) → Told rules found
       → (b : Bool) → rule_matches path is_dir r ≡ b → Told (r ∷ rules) (option_or found (cond b (Some r) None))
   told_more r rules (Some x) last b e = record {
     older = r ∷ last.older;
@@ -35,7 +36,7 @@ module _ (path : List ℕ) (is_dir : Bool) where
   told_more r rules None none true e = record { older = []; later = rules; stands = refl; matches = e; last = none }
   told_more r rules None none false e = ap (λ b. b || list_any (rule_matches path is_dir) rules) e ∙ none
 
-  told : (rules : List (ℕ × RuleModel)) → Told rules (deciding rules path is_dir)
+  told : (rules : List (Origin × RuleModel)) → Told rules (deciding rules path is_dir)
   told [] = refl
   told (r ∷ rules) =
       subst (Told (r ∷ rules))
@@ -44,7 +45,7 @@ module _ (path : List ℕ) (is_dir : Bool) where
       (told_more r rules (deciding rules path is_dir) (told rules) (rule_matches path is_dir r) refl)
 
   -- the last rule that matches decides
-  last_decides : (rules : List (ℕ × RuleModel)) (r : ℕ × RuleModel) → IsLastMatch rules path is_dir r → deciding rules path is_dir ≡ Some r
+  last_decides : (rules : List (Origin × RuleModel)) (r : Origin × RuleModel) → IsLastMatch rules path is_dir r → deciding rules path is_dir ≡ Some r
   last_decides rules r last =
       ap (λ l. deciding l path is_dir) last.stands
       ∙ deciding-append last.older (r ∷ last.later) path is_dir

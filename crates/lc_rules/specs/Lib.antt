@@ -5,6 +5,7 @@ pub mod IgnoreRules
 pub mod Verdicts
 pub mod IgnoreLaws
 pub mod Chains
+pub mod IgnoreChains
 pub mod Attributes
 pub mod AttrWords
 pub mod AttrQuotes

@@ -4,6 +4,7 @@ ghost use Rattle.std.specs.Prelude.{◌≡◌, ◌↔◌, ◌<◌, ◌≤◌, []
 ghost use Rattle.lc_rules.specs.IgnoreRules.{rules_of};
 ghost use Rattle.lc_rules.specs.Verdicts.{at_depth, deciding, verdict_of};
 ghost use Rattle.lc_rules.specs.Limits.{max_rule_bytes};
+ghost use Rattle.lc_rules.specs.declared.origin.Origin.TheVariants.{Directory};
 
 use crate::faults::{MAX_RULE_BYTES, RuleFault};
 use crate::ignore_line::{Rule, read_rule};
@@ -71,7 +72,7 @@ impl IgnoreFile {
     /// assert!(rt; file.deciding(b"keep.log", false).map(|rule| rule.line()) == Some(3));
     /// ```
     pub fn deciding(&self, path: &[u8], is_dir: bool) -> Option<&Rule>
-        ensures { option_map (λ r. (0, r.now)) result ≡ deciding (at_depth 0 self.now) path.now is_dir }
+        ensures { option_map (λ r. (Directory 0, r.now)) result ≡ deciding (at_depth 0 self.now) path.now is_dir }
     {
         last_match(&self.rules, &Candidate::new(path), is_dir)
     }
@@ -96,7 +97,7 @@ fn read_rules(alloc: Global, bytes: &[u8]) -> Result<Vec<Rule>, AllocError>
 
 /// The last of the rules that matches a path, looked for from the newest to the oldest.
 fn last_match<'a>(rules: &'a [Rule], path: &Candidate, is_dir: bool) -> Option<&'a Rule>
-    ensures { option_map (λ r. (0, r.now)) result ≡ deciding (at_depth 0 rules.now) path.now is_dir }
+    ensures { option_map (λ r. (Directory 0, r.now)) result ≡ deciding (at_depth 0 rules.now) path.now is_dir }
 {
     let mut left = rules;
     'rules: while let Some((rule, older)) = left.split_last() {

@@ -1,6 +1,6 @@
 //! Which rule decides, by the line that it stands on.
 
-use lc_rules::{Chain, IgnoreFile, Lines, Verdict, text_of_line};
+use lc_rules::{Chain, IgnoreFile, Lines, Origin, Verdict, text_of_line};
 use std::alloc::{AllocError, Global};
 use std::process::Abort;
 use std::sync::Arc;
@@ -84,35 +84,37 @@ fn the_last_decides(rt: HostRuntime) -> Result<(), Fail> {
     Ok(())
 }
 
-/// What decides a path on a chain of two files, at the top and in a directory: a file's depth and a line.
-fn on_a_chain(
-    alloc: Global,
-    top: &[u8],
-    inner: &[u8],
-    path: &[u8],
-) -> Result<Option<(u32, u32)>, AllocError> {
-    let top = Arc::new(alloc, read(alloc, top)?)?;
-    let inner = Arc::new(alloc, read(alloc, inner)?)?;
-    let chain = Chain::top().below(alloc, 0, Some(top))?;
-    let chain = chain.below(alloc, 1, Some(inner))?;
-    match chain.deciding(path, FILE) {
-        Some((depth, rule)) => Ok(Some((depth, rule.line()))),
-        None => Ok(None),
-    }
+/// A file of these bytes, to be put on a chain.
+fn shared(alloc: Global, bytes: &[u8]) -> Result<Option<Arc<IgnoreFile, Global>>, AllocError> {
+    Ok(Some(Arc::new(alloc, read(alloc, bytes)?)?))
+}
+
+/// The chain of an exclude file, of `.git/info/exclude`, and of the files at the top and in a directory.
+fn whole_chain(alloc: Global) -> Result<Chain, AllocError> {
+    let top = shared(alloc, b"\n*.t\n*.c\n")?;
+    let inner = shared(alloc, b"#\n\n\n!k.t\n/u.c\n")?;
+    let chain = Chain::top()
+        .with_exclude(shared(alloc, b"*.o\n*.t\n!*.p\n")?)
+        .below(alloc, 0, top)?
+        .with_info(shared(alloc, b"\n*.p\n*.c\n")?);
+    chain.below(alloc, 1, inner)
 }
 
 #[test]
 fn a_nearer_file_decides(rt: HostRuntime) -> Result<(), Fail> {
-    let top = b"\n*.t\n*.c\n".as_slice();
-    let inner = b"#\n\n\n!k.t\n/u.c\n".as_slice();
+    let chain = whole_chain(rt.alloc())?;
     for (path, wanted) in [
-        (b"s/k.t".as_slice(), Some((1, 4))),
-        (b"s/j.t", Some((0, 2))),
-        (b"s/u.c", Some((1, 5))),
-        (b"s/v/u.c", Some((0, 3))),
+        (b"s/k.t".as_slice(), Some((Origin::Directory(1), 4))),
+        (b"s/j.t", Some((Origin::Directory(0), 2))),
+        (b"s/u.c", Some((Origin::Directory(1), 5))),
+        (b"s/v/u.c", Some((Origin::Directory(0), 3))),
+        (b"s/a.p", Some((Origin::GitInfo, 2))),
+        (b"s/a.o", Some((Origin::ExcludeFile, 1))),
         (b"s/u", None),
     ] {
-        let found = on_a_chain(rt.alloc(), top, inner, path)?;
+        let found = chain
+            .deciding(path, FILE)
+            .map(|(origin, rule)| (origin, rule.line()));
         assert!(rt; found == wanted, "{path:?}: {found:?}");
     }
     Ok(())
