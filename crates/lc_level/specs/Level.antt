@@ -4,7 +4,8 @@ use Rattle.std.specs.Prelude.{Option, Some, option_map, Result, Ok, Err}
 use Rattle.std.specs.List.{find}
 use Rattle.std.specs.Option.{is_none, option_map_or}
 use Rattle.lc_rules.specs.Attributes.{StateModel, set, unset, value, unspecified}
-use Rattle.lc_rules.specs.Verdicts.{joined, verdict_of}
+use Rattle.lc_rules.specs.IgnoreChains.{rules_in}
+use Rattle.lc_rules.specs.Verdicts.{verdict_of}
 use Rattle.lc_rules.specs.declared.verdicts.Verdict.{Verdict}
 use Rattle.lc_rules.specs.declared.verdicts.Verdict.TheVariants.{Ignored, Included, NoRule}
 use Rattle.lc_rules.specs.declared.states.TextState.{TextState}
@@ -69,7 +70,7 @@ attribute_reason s j path is_dir = option_map by_attribute (find (λ name. is_se
 -- by a path
 abbrev pub reason_at : SelectionModel → JobModel → List ℕ → Bool → Option Reason
 reason_at s j path is_dir =
-    cond (is_ignored (verdict_of (joined j.ignore) path is_dir)) (Some by_rule) (attribute_reason s j path is_dir)
+    cond (is_ignored (verdict_of (rules_in j.ignore) path is_dir)) (Some by_rule) (attribute_reason s j path is_dir)
 
 -- by a name in the directory
 abbrev pub reason_of : SelectionModel → JobModel → List ℕ → Bool → Option Reason

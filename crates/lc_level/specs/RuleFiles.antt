@@ -105,8 +105,11 @@ first_of None y = y
 abbrev pub extended : JobModel → RuleBytes → JobModel
 extended j files = record {
   path = j.path;
-  ignore = with_file_at (with_file_at j.ignore 0 (option_map rules_of files.info.rules)) (depth_of j.path)
-      (option_map rules_of files.own.rules);
+  ignore = record {
+    exclude = j.ignore.exclude;
+    info = first_of (option_map rules_of files.info.rules) j.ignore.info;
+    tree = with_file_at j.ignore.tree (depth_of j.path) (option_map rules_of files.own.rules);
+  };
   attributes = record {
     tree = with_file_at j.attributes.tree (depth_of j.path) (option_map (attribute_file_of (is_top j.path)) files.own.attributes);
     info = first_of (option_map (attribute_file_of true) files.info.attributes) j.attributes.info;

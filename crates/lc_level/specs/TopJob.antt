@@ -2,8 +2,11 @@
 use Rattle.std.specs.Prelude.{List, [], Option, None}
 use Rattle.lc_rules.specs.IgnoreRules.{RuleModel}
 use Rattle.lc_level.specs.Job.{JobModel}
-use Rattle.lc_level.specs.RuleFiles.{with_file_at}
 
 -- the top itself, with the rules of the exclude file, if there is one, before all others
 abbrev pub top_job : Option (List RuleModel) → JobModel
-top_job exclude = record { path = []; ignore = with_file_at [] 0 exclude; attributes = record { tree = []; info = None } }
+top_job exclude = record {
+  path = [];
+  ignore = record { exclude = exclude; info = None; tree = [] };
+  attributes = record { tree = []; info = None };
+}

@@ -8,7 +8,7 @@ use lc_rules::{AttrChain, AttrFile, Chain, IgnoreFile};
 use std::alloc::{AllocError, Global};
 use std::sync::Arc;
 
-/// A chain with the file of `.git/info` at the top and a directory's own file; the same chain, shared, where there is neither.
+/// A chain with the file of `.git/info` and a directory's own file; the same chain, shared, where there is neither.
 pub(crate) fn ignore_below(
     alloc: Global,
     chain: &Arc<Chain, Global>,
@@ -16,14 +16,15 @@ pub(crate) fn ignore_below(
     depth: u32,
     own: Option<Arc<IgnoreFile, Global>>,
 ) -> Result<Arc<Chain, Global>, AllocError>
-    ensures { IfOk result (λ c. arc_value c ≡ with_file_at (with_file_at (arc_value chain.now) 0 (shared info)) depth (shared own)) }
+    ensures exclude { IfOk result (λ c. (arc_value c).exclude ≡ (arc_value chain.now).exclude) }
+    ensures info { IfOk result (λ c. (arc_value c).info ≡ first_of (shared info) (arc_value chain.now).info) }
+    ensures tree { IfOk result (λ c. (arc_value c).tree ≡ with_file_at (arc_value chain.now).tree depth (shared own)) }
 {
     if info.is_none() && own.is_none() {
         return Ok(Arc::try_clone(chain)?);
     }
-    let below_info = chain.below(alloc, 0, info)?;
-    let below_own = below_info.below(alloc, depth, own)?;
-    Ok(Arc::new(alloc, below_own)?)
+    let below = chain.below(alloc, depth, own)?;
+    Ok(Arc::new(alloc, below.with_info(info))?)
 }
 
 /// The same of the attribute files; that of `.git/info` stands above all others.

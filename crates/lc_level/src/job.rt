@@ -57,7 +57,7 @@ impl Job {
     pub fn top(alloc: Global, exclude: Option<Arc<IgnoreFile, Global>>) -> Result<Job, AllocError>
         ensures { IfOk result (λ j. j ≡ top_job (shared exclude)) }
     {
-        let ignore = Chain::top().below(alloc, 0, exclude)?;
+        let ignore = Chain::top().with_exclude(exclude);
         let path = Vec::new(alloc);
         let attributes = Arc::new(alloc, AttrChain::top())?;
         Job::new(alloc, path, Arc::new(alloc, ignore)?, attributes)

@@ -1,113 +1,123 @@
--- The verdict from the newest rule to the oldest.
-use Rattle.std.proofs.Common.{◌≡◌, ℕ, Bool, true, false, cond, List, [], ◌∷◌, ◌++◌, map, filter, refl, sym, ◌∙◌, ap}
-use Rattle.std.proofs.lemmas.List.{append-nil, map-append}
+-- The rule that decides, from the newest rule to the oldest.
+use Rattle.std.proofs.Common.{◌≡◌, ℕ, Bool, true, false, cond, List, [], ◌∷◌, ◌++◌, Option, Some, None, filter, refl, sym, ◌∙◌, ap, ap₂}
+use Rattle.std.specs.Prelude.{option_map}
+use Rattle.std.specs.Option.{option_or}
+use Rattle.std.specs.List.{last_or}
+use Rattle.std.proofs.lemmas.List.{map-append}
 use Rattle.std.proofs.lemmas.List.Elements.{filter-append}
 use Rattle.lc_glob.specs.IsMatch.{is_match}
 use Rattle.lc_rules.specs.IgnoreRules.{RuleModel}
-use Rattle.lc_rules.specs.Models.{rule_model}
-use Rattle.lc_rules.specs.Verdicts.{below, rule_matches, verdict_by, by_last, verdict_of, at_depth, joined}
-use Rattle.lc_rules.specs.declared.ignore_line.Rule.{Rule}
-use Rattle.lc_rules.specs.declared.verdicts.Verdict.{Verdict}
-use Rattle.lc_rules.specs.declared.verdicts.Verdict.TheVariants.{Ignored, Included, NoRule}
+use Rattle.lc_rules.specs.IgnoreChains.{ChainModel, joined, rules_if, rules_in}
+use Rattle.lc_rules.specs.Verdicts.{below, rule_matches, deciding, depth_at, at_depth, from_file}
+use Rattle.lc_rules.specs.declared.origin.Origin.{Origin}
+use Rattle.lc_rules.specs.declared.origin.Origin.TheVariants.{ExcludeFile, GitInfo, Directory}
 
--- the verdict of newer rules, or where they have none, that of the older ones
-abbrev pub or_older : Verdict → Verdict → Verdict
-or_older Ignored older = Ignored
-or_older Included older = Included
-or_older NoRule older = older
+last_or-append : {A : Type 0} (o : Option A) (xs ys : List A) → last_or o (xs ++ ys) ≡ last_or (last_or o xs) ys
+last_or-append o [] ys = refl
+last_or-append o (x ∷ xs) ys = last_or-append (Some x) xs ys
 
--- a verdict that is not NoRule doesn't ask older rules
-pub decided_stays : (v older : Verdict) → (v ≡ NoRule → ⊥) → or_older v older ≡ v
-decided_stays Ignored older h = refl
-decided_stays Included older h = refl
-decided_stays NoRule older h = absurd (h refl)
+last_or_some : {A : Type 0} (y : A) (ys : List A) (o : Option A) → last_or (Some y) ys ≡ option_or (last_or (Some y) ys) o
+last_or_some y [] o = refl
+last_or_some y (z ∷ zs) o = last_or_some z zs o
 
-some_verdict : (r : RuleModel) (older : Verdict) → or_older (verdict_by r) older ≡ verdict_by r
-some_verdict r older = elim r.is_negated as (λ b. or_older (cond b Included Ignored) older
-    ≡ cond b Included Ignored) [ true ↦ refl | false ↦ refl ]
-
-by_last_some : (r : ℕ × RuleModel) (rules : List (ℕ × RuleModel)) (older : Verdict)
-    → or_older (by_last (r ∷ rules)) older ≡ by_last (r ∷ rules)
-by_last_some r [] older = some_verdict r.1 older
-by_last_some r (s ∷ rs) older = by_last_some s rs older
-
-by_last_after : (older : List (ℕ × RuleModel)) (r : ℕ × RuleModel) (rules : List (ℕ × RuleModel))
-    → by_last (older ++ (r ∷ rules)) ≡ by_last (r ∷ rules)
-by_last_after [] r rules = refl
-by_last_after (s ∷ []) r rules = refl
-by_last_after (s ∷ t ∷ ss) r rules = by_last_after (t ∷ ss) r rules
-
-by_last-append : (older newer : List (ℕ × RuleModel)) → by_last (older ++ newer) ≡ or_older (by_last newer) (by_last older)
-by_last-append older [] = ap by_last (append-nil older)
-by_last-append older (r ∷ rs) = by_last_after older r rs ∙ sym (by_last_some r rs (by_last older))
+last_or_else : {A : Type 0} (o : Option A) (ys : List A) → last_or o ys ≡ option_or (last_or None ys) o
+last_or_else o [] = refl
+last_or_else o (y ∷ ys) = last_or_some y ys o
 
 -- the newer rules decide, and where none of them matches the older
-pub verdict_of-append : (older newer : List (ℕ × RuleModel)) (path : List ℕ) (is_dir : Bool)
-    → verdict_of (older ++ newer) path is_dir ≡ or_older (verdict_of newer path is_dir) (verdict_of older path is_dir)
-verdict_of-append older newer path is_dir =
-    ap by_last (filter-append (rule_matches path is_dir) older newer)
-    ∙ by_last-append (filter (rule_matches path is_dir) older) (filter (rule_matches path is_dir) newer)
+pub deciding-append : (older newer : List (Origin × RuleModel)) (path : List ℕ) (is_dir : Bool)
+    → deciding (older ++ newer) path is_dir ≡ option_or (deciding newer path is_dir) (deciding older path is_dir)
+deciding-append older newer path is_dir =
+    ap (last_or None) (filter-append (rule_matches path is_dir) older newer)
+    ∙ last_or-append None (filter (rule_matches path is_dir) older) (filter (rule_matches path is_dir) newer)
+    ∙ last_or_else (deciding older path is_dir) (filter (rule_matches path is_dir) newer)
 
--- the rules of one file, the newest last
-verdict_one : (r : ℕ × RuleModel) (path : List ℕ) (is_dir : Bool) (b : Bool) → rule_matches path is_dir r ≡ b
-    → verdict_of (r ∷ []) path is_dir ≡ cond b (verdict_by r.1) NoRule
-verdict_one r path is_dir true e = ap (λ t. by_last (cond t (r ∷ []) [])) e
-verdict_one r path is_dir false e = ap (λ t. by_last (cond t (r ∷ []) [])) e
+-- one rule alone decides where it matches
+pub deciding_one : (r : Origin × RuleModel) (path : List ℕ) (is_dir : Bool) (b : Bool) → rule_matches path is_dir r ≡ b
+    → deciding (r ∷ []) path is_dir ≡ cond b (Some r) None
+deciding_one r path is_dir true e = ap (λ t. last_or None (cond t (r ∷ []) [])) e
+deciding_one r path is_dir false e = ap (λ t. last_or None (cond t (r ∷ []) [])) e
 
-file_newest : (older : List Rule) (r : Rule) (path : List ℕ) (is_dir : Bool)
-    → verdict_of (at_depth 0 (map rule_model (older ++ (r ∷ [])))) path is_dir
-    ≡ or_older (verdict_of ((0, rule_model r) ∷ []) path is_dir) (verdict_of (at_depth 0 (map rule_model older)) path is_dir)
-file_newest older r path is_dir =
-    ap (λ l. verdict_of (at_depth 0 l) path is_dir) (map-append rule_model older (r ∷ []))
-    ∙ ap (λ l. verdict_of l path is_dir) (map-append (λ (x : RuleModel). (0, x)) (map rule_model older) (rule_model r ∷ []))
-    ∙ verdict_of-append (at_depth 0 (map rule_model older)) ((0, rule_model r) ∷ []) path is_dir
+-- the newest rule of one file decides where it matches, and else the others do
+module _ (whole older : List RuleModel) (r : RuleModel) (path : List ℕ) (is_dir : Bool) (split : whole ≡ older ++ r ∷ []) where
+  file_newest : deciding (at_depth 0 whole) path is_dir
+      ≡ option_or (deciding ((Directory 0, r) ∷ []) path is_dir) (deciding (at_depth 0 older) path is_dir)
+  file_newest =
+      ap (λ l. deciding (at_depth 0 l) path is_dir) split
+      ∙ ap (λ l. deciding l path is_dir) (map-append (λ (x : RuleModel). (Directory 0, x)) older (r ∷ []))
+      ∙ deciding-append (at_depth 0 older) ((Directory 0, r) ∷ []) path is_dir
 
--- a newest rule that matches decides
-pub rule_decides : (whole older : List Rule) (r : Rule) (path : List ℕ) (is_dir : Bool) → whole ≡ older ++ (r ∷ [])
-    → is_match (rule_model r).pattern path is_dir ≡ true
-    → verdict_of (at_depth 0 (map rule_model whole)) path is_dir ≡ verdict_by (rule_model r)
-rule_decides whole older r path is_dir e h =
-    ap (λ l. verdict_of (at_depth 0 (map rule_model l)) path is_dir) e ∙ file_newest older r path is_dir
-    ∙ ap (λ v. or_older v (verdict_of (at_depth 0 (map rule_model older)) path is_dir)) (verdict_one (0, rule_model r) path is_dir true h)
-    ∙ some_verdict (rule_model r) (verdict_of (at_depth 0 (map rule_model older)) path is_dir)
+  pub newest_decides : is_match r.pattern path is_dir ≡ true → Some (Directory 0, r) ≡ deciding (at_depth 0 whole) path is_dir
+  newest_decides h =
+      sym (file_newest ∙ ap (λ o. option_or o (deciding (at_depth 0 older) path is_dir)) (deciding_one (Directory 0, r) path is_dir true h))
 
--- one that does not match leaves the verdict to the others
-pub rule_passes : (whole older : List Rule) (r : Rule) (path : List ℕ) (is_dir : Bool) → whole ≡ older ++ (r ∷ [])
-    → is_match (rule_model r).pattern path is_dir ≡ false
-    → verdict_of (at_depth 0 (map rule_model whole)) path is_dir ≡ verdict_of (at_depth 0 (map rule_model older)) path is_dir
-rule_passes whole older r path is_dir e h =
-    ap (λ l. verdict_of (at_depth 0 (map rule_model l)) path is_dir) e ∙ file_newest older r path is_dir
-    ∙ ap (λ v. or_older v (verdict_of (at_depth 0 (map rule_model older)) path is_dir)) (verdict_one (0, rule_model r) path is_dir false h)
+  pub newest_passes : is_match r.pattern path is_dir ≡ false
+      → deciding (at_depth 0 whole) path is_dir ≡ deciding (at_depth 0 older) path is_dir
+  newest_passes h =
+      file_newest ∙ ap (λ o. option_or o (deciding (at_depth 0 older) path is_dir)) (deciding_one (Directory 0, r) path is_dir false h)
 
--- the rules of one file at a depth are those of the file alone, by the path below its directory
-filter_depth : (d : ℕ) (rules : List RuleModel) (path : List ℕ) (is_dir : Bool)
-    → filter (rule_matches path is_dir) (at_depth d rules) ≡ at_depth d (filter (λ r. is_match r.pattern (below d path) is_dir) rules)
-filter_depth d [] path is_dir = refl
-filter_depth d (r ∷ rs) path is_dir =
-    elim (is_match r.pattern (below d path) is_dir) as
-    (λ b. cond b ((d, r) ∷ filter (rule_matches path is_dir) (at_depth d rs)) (filter (rule_matches path is_dir) (at_depth d rs))
-    ≡ at_depth d (cond b (r ∷ filter (λ r. is_match r.pattern (below d path) is_dir) rs)
-    (filter (λ r. is_match r.pattern (below d path) is_dir) rs)))
-    [ true ↦ ap (λ l. (d, r) ∷ l) (filter_depth d rs path is_dir) | false ↦ filter_depth d rs path is_dir ]
+-- the rules of one file that match are those that match by the path below its directory
+filter_file : (o : Origin) (rules : List RuleModel) (path : List ℕ) (is_dir : Bool)
+    → filter (rule_matches path is_dir) (from_file o rules)
+    ≡ from_file o (filter (λ r. is_match r.pattern (below (depth_at o) path) is_dir) rules)
+filter_file o [] path is_dir = refl
+filter_file o (r ∷ rs) path is_dir =
+    elim (is_match r.pattern (below (depth_at o) path) is_dir) as
+    (λ b. cond b ((o, r) ∷ filter (rule_matches path is_dir) (from_file o rs)) (filter (rule_matches path is_dir) (from_file o rs))
+    ≡ from_file o (cond b (r ∷ filter (λ r. is_match r.pattern (below (depth_at o) path) is_dir) rs)
+    (filter (λ r. is_match r.pattern (below (depth_at o) path) is_dir) rs)))
+    [ true ↦ ap (λ l. (o, r) ∷ l) (filter_file o rs path is_dir) | false ↦ filter_file o rs path is_dir ]
 
-by_last_depth : (d e : ℕ) (rules : List RuleModel) → by_last (at_depth d rules) ≡ by_last (at_depth e rules)
-by_last_depth d e [] = refl
-by_last_depth d e (r ∷ []) = refl
-by_last_depth d e (r ∷ s ∷ rs) = by_last_depth d e (s ∷ rs)
+last_or-file : (o p : Origin) (x : Option (Origin × RuleModel)) (rules : List RuleModel)
+    → last_or (option_map (λ r. (o, r.1)) x) (from_file o rules) ≡ option_map (λ r. (o, r.1)) (last_or x (from_file p rules))
+last_or-file o p x [] = refl
+last_or-file o p x (r ∷ rs) = last_or-file o p (Some (p, r)) rs
 
 -- a file's rules see the path without the segments above it
-pub file_below : (d : ℕ) (rules : List RuleModel) (path : List ℕ) (is_dir : Bool)
-    → verdict_of (at_depth 0 rules) (below d path) is_dir ≡ verdict_of (at_depth d rules) path is_dir
-file_below d rules path is_dir =
-    ap by_last (filter_depth 0 rules (below d path) is_dir)
-    ∙ by_last_depth 0 d (filter (λ r. is_match r.pattern (below d path) is_dir) rules)
-    ∙ sym (ap by_last (filter_depth d rules path is_dir))
+pub file_below : (o : Origin) (rules : List RuleModel) (path : List ℕ) (is_dir : Bool)
+    → deciding (from_file o rules) path is_dir ≡ option_map (λ r. (o, r.1)) (deciding (at_depth 0 rules) (below (depth_at o) path) is_dir)
+file_below o rules path is_dir =
+    ap (last_or None) (filter_file o rules path is_dir)
+    ∙ last_or-file o (Directory 0) None (filter (λ r. is_match r.pattern (below (depth_at o) path) is_dir) rules)
+    ∙ ap (λ l. option_map (λ r. (o, r.1)) (last_or None l)) (sym (filter_file (Directory 0) rules (below (depth_at o) path) is_dir))
 
--- the nearer files of a chain decide, or else the first
-pub nearer_decides : (files nearer : List (ℕ × List RuleModel)) (f : ℕ × List RuleModel) (path : List ℕ) (is_dir : Bool) (v : Verdict)
-    → files ≡ f ∷ nearer → v ≡ verdict_of (joined nearer) path is_dir
-    → verdict_of (joined files) path is_dir ≡ or_older v (verdict_of (at_depth f.0 f.1) path is_dir)
-nearer_decides files nearer f path is_dir v e h =
-    ap (λ l. verdict_of (joined l) path is_dir) e
-    ∙ verdict_of-append (at_depth f.0 f.1) (joined nearer) path is_dir
-    ∙ ap (λ w. or_older w (verdict_of (at_depth f.0 f.1) path is_dir)) (sym h)
+-- of a chain whose first file stands at this depth
+module _ (files nearer : List (ℕ × List RuleModel)) (d : ℕ) (rules : List RuleModel) (split : files ≡ (d, rules) ∷ nearer)
+    (path inner : List ℕ) (cut : inner ≡ below d path) (is_dir : Bool) where
+  -- the nearer files decide, or else the first, which sees the path below its directory
+  pub nearer_decide : (found here : Option (Origin × RuleModel)) → found ≡ deciding (joined nearer) path is_dir
+      → here ≡ deciding (at_depth 0 rules) inner is_dir
+      → option_or found (option_map (λ r. (Directory d, r.1)) here) ≡ deciding (joined files) path is_dir
+  nearer_decide found here by_nearer by_first =
+      ap₂ (λ x y. option_or x (option_map (λ r. (Directory d, r.1)) y)) by_nearer
+      (by_first ∙ ap (λ p. deciding (at_depth 0 rules) p is_dir) cut)
+      ∙ ap (option_or (deciding (joined nearer) path is_dir)) (sym (file_below (Directory d) rules path is_dir))
+      ∙ sym (ap (λ l. deciding (joined l) path is_dir) split ∙ deciding-append (at_depth d rules) (joined nearer) path is_dir)
+
+-- the files of the tree decide, or else that of `.git/info`, or else the exclude file
+pub chain_decides : (c : ChainModel) (path : List ℕ) (is_dir : Bool) (tree info exclude : Option (Origin × RuleModel))
+    → tree ≡ deciding (joined c.tree) path is_dir → info ≡ deciding (rules_if GitInfo c.info) path is_dir
+    → exclude ≡ deciding (rules_if ExcludeFile c.exclude) path is_dir
+    → option_or tree (option_or info exclude) ≡ deciding (rules_in c) path is_dir
+chain_decides c path is_dir tree info exclude by_tree by_info by_exclude =
+    ap₂ option_or by_tree (ap₂ option_or by_info by_exclude)
+    ∙ sym (deciding-append (rules_if ExcludeFile c.exclude ++ rules_if GitInfo c.info) (joined c.tree) path is_dir
+    ∙ ap (option_or (deciding (joined c.tree) path is_dir))
+    (deciding-append (rules_if ExcludeFile c.exclude) (rules_if GitInfo c.info) path is_dir))
+
+-- a file at the top decides as it does alone, by rules of its own origin
+pub file_decides : {B : Type 0} (now : B → RuleModel) (o : Origin) (file : Option (List RuleModel)) (rules : List RuleModel)
+    (path : List ℕ) (is_dir : Bool) (found : Option B) → depth_at o ≡ 0 → file ≡ Some rules
+    → option_map (λ r. (Directory 0, now r)) found ≡ deciding (at_depth 0 rules) path is_dir
+    → option_map (λ r. (o, now r)) found ≡ deciding (rules_if o file) path is_dir
+file_decides {B} now o file rules path is_dir found top is by_file =
+    same found
+    ∙ (ap of_origin by_file
+    ∙ (ap (λ d. of_origin (deciding (at_depth 0 rules) (below d path) is_dir)) (sym top)
+    ∙ (sym (file_below o rules path is_dir) ∙ ap (λ f. deciding (rules_if o f) path is_dir) (sym is))))
+  where
+    of_origin : Option (Origin × RuleModel) → Option (Origin × RuleModel)
+    of_origin x = option_map (λ r. (o, r.1)) x
+    same : (x : Option B) → option_map (λ r. (o, now r)) x ≡ of_origin (option_map (λ r. (Directory 0, now r)) x)
+    same None = refl
+    same (Some r) = refl

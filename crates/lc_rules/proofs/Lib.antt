@@ -2,6 +2,8 @@ pub mod ChainOrder
 pub mod Cuts
 pub mod LineEnds
 pub mod LastRule
+pub mod LastMatch
+pub mod RuleLineNumbers
 pub mod WordCuts
 pub mod AttrReading
 pub mod DecisionLaws

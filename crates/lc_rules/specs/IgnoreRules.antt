@@ -1,14 +1,16 @@
 -- The rules of an ignore file: gitignore(5), PATTERN FORMAT.
 use Rattle.std.specs.Prelude.{ℕ, Bool, true, false, ◌==◌, if◌then◌else◌, List, [], ◌∷◌, Option, Some, None}
-use Rattle.std.specs.List.{filter_map}
+use Rattle.std.specs.List.{filter_map, enumerate_from}
 use Rattle.lc_glob.specs.Bytes.{backslash, exclamation_mark}
 use Rattle.lc_glob.specs.Patterns.{PatternModel}
 use Rattle.lc_glob.specs.Reading.{pattern_of}
 use Rattle.lc_rules.specs.Bytes.{carriage_return, space, hash}
 use Rattle.lc_rules.specs.RuleLines.{lines_of}
 
--- a rule: whether it includes again what an earlier rule ignored, and its pattern, perhaps a dead one
+-- a rule: the number of its line, counted from 1; whether it includes again what an earlier rule ignored; and its pattern,
+-- perhaps a dead one
 pub record RuleModel : Type 0 where
+  pub line : ℕ
   pub is_negated : Bool
   pub pattern : PatternModel
 
@@ -31,24 +33,28 @@ without_spaces (b ∷ []) = byte_before b []
 without_spaces (b ∷ c ∷ cs) =
     if b == backslash then b ∷ c ∷ without_spaces cs else byte_before b (without_spaces (c ∷ cs))
 
+-- the text of a line: what of it is read as a rule
+abbrev pub text_of_line : List ℕ → List ℕ
+text_of_line line = without_spaces (without_return line)
+
 -- a rule that ignores, and one that includes again
-abbrev pub plain_rule : List ℕ → RuleModel
-plain_rule bytes = record { is_negated = false; pattern = pattern_of bytes }
+abbrev pub plain_rule : ℕ → List ℕ → RuleModel
+plain_rule number bytes = record { line = number; is_negated = false; pattern = pattern_of bytes }
 
-abbrev pub negated_rule : List ℕ → RuleModel
-negated_rule bytes = record { is_negated = true; pattern = pattern_of bytes }
+abbrev pub negated_rule : ℕ → List ℕ → RuleModel
+negated_rule number bytes = record { line = number; is_negated = true; pattern = pattern_of bytes }
 
--- the rule of a line without its trailing spaces: none of an empty line and of a comment, which begins with a hash; an
+-- the rule of the text of a line with this number: none of an empty line and of a comment, which begins with a hash; an
 -- exclamation mark negates the pattern after it
-abbrev pub rule_from : List ℕ → Option RuleModel
-rule_from [] = None
-rule_from (b ∷ bs) =
-    if b == hash then None else Some (if b == exclamation_mark then negated_rule bs else plain_rule (b ∷ bs))
+abbrev pub rule_from : ℕ → List ℕ → Option RuleModel
+rule_from number [] = None
+rule_from number (b ∷ bs) =
+    if b == hash then None else Some (if b == exclamation_mark then negated_rule number bs else plain_rule number (b ∷ bs))
 
--- the rule that a line gives
-abbrev pub rule_of_line : List ℕ → Option RuleModel
-rule_of_line line = rule_from (without_spaces (without_return line))
+-- the rule that a line gives, by its number
+abbrev pub rule_of_line : ℕ × List ℕ → Option RuleModel
+rule_of_line (number, line) = rule_from number (text_of_line line)
 
--- the rules of an ignore file, in the order of their lines
+-- the rules of an ignore file, in the order of their lines; lines are counted from 1
 abbrev pub rules_of : List ℕ → List RuleModel
-rules_of bytes = filter_map rule_of_line (lines_of bytes)
+rules_of bytes = filter_map rule_of_line (enumerate_from 1 (lines_of bytes))

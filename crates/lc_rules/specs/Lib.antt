@@ -3,7 +3,9 @@ pub mod Limits
 pub mod RuleLines
 pub mod IgnoreRules
 pub mod Verdicts
+pub mod IgnoreLaws
 pub mod Chains
+pub mod IgnoreChains
 pub mod Attributes
 pub mod AttrWords
 pub mod AttrQuotes

@@ -2,7 +2,6 @@
 use Rattle.std.specs.Prelude.{map, Option, Some, None}
 use Rattle.lc_rules.specs.Attributes.{StateModel, set, unset, value, unspecified, AssignmentModel, MacroModel}
 use Rattle.lc_rules.specs.AttrLines.{PatternLineModel, AttrLineModel, macro_line, pattern_line}
-use Rattle.lc_rules.specs.IgnoreRules.{RuleModel}
 use Rattle.lc_rules.specs.declared.states.State.{State}
 use Rattle.lc_rules.specs.declared.states.State.TheVariants.{Set, Unset, Value, Unspecified}
 use Rattle.lc_rules.specs.declared.assignment.OwnedState.{OwnedState}
@@ -14,11 +13,6 @@ use Rattle.lc_rules.specs.declared.assignment.Macro.{Macro as CodeMacro}
 use Rattle.lc_rules.specs.declared.assignment.PatternLine.{PatternLine}
 use Rattle.lc_rules.specs.declared.attr_line.AttrLine.{AttrLine}
 use Rattle.lc_rules.specs.declared.attr_line.AttrLine.TheVariants.{Macro, Pattern}
-use Rattle.lc_rules.specs.declared.ignore_line.Rule.{Rule}
-
--- a rule of an ignore file
-abbrev pub rule_model : Rule → RuleModel
-rule_model r = record { is_negated = r.is_negated; pattern = r.pattern }
 
 -- what a state that is lent shows
 abbrev pub state_model : State → StateModel

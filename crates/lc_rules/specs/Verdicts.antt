@@ -1,10 +1,12 @@
--- What the rules of a chain's files say of a path: gitignore(5), DESCRIPTION, on the order of precedence.
-use Rattle.std.specs.Prelude.{ℕ, zero, suc, Bool, if◌then◌else◌, List, [], ◌∷◌, ◌++◌, map, filter}
-use Rattle.std.specs.List.{after_first}
+-- What rules say of a path: gitignore(5), DESCRIPTION, on the order of precedence.
+use Rattle.std.specs.Prelude.{ℕ, zero, suc, Bool, if◌then◌else◌, List, map, filter, Option, Some, None}
+use Rattle.std.specs.List.{after_first, last_or}
 use Rattle.lc_glob.specs.Bytes.{slash}
 use Rattle.lc_glob.specs.Pieces.{is_byte}
 use Rattle.lc_glob.specs.IsMatch.{is_match}
 use Rattle.lc_rules.specs.IgnoreRules.{RuleModel}
+use Rattle.lc_rules.specs.declared.origin.Origin.{Origin}
+use Rattle.lc_rules.specs.declared.origin.Origin.TheVariants.{ExcludeFile, GitInfo, Directory}
 use Rattle.lc_rules.specs.declared.verdicts.Verdict.{Verdict}
 use Rattle.lc_rules.specs.declared.verdicts.Verdict.TheVariants.{Ignored, Included, NoRule}
 
@@ -13,29 +15,37 @@ abbrev pub below : ℕ → List ℕ → List ℕ
 below zero path = path
 below (suc depth) path = below depth (after_first (is_byte slash) path)
 
--- whether a rule, with the depth of its file, matches a path
-abbrev pub rule_matches : List ℕ → Bool → (ℕ × RuleModel) → Bool
-rule_matches path is_dir rule = is_match rule.1.pattern (below rule.0 path) is_dir
+-- how deep the directory is of which a file sees what stands below it
+abbrev pub depth_at : Origin → ℕ
+depth_at ExcludeFile = 0
+depth_at GitInfo = 0
+depth_at (Directory depth) = depth
+
+-- whether a rule of a file of this origin matches a path
+abbrev pub rule_matches : List ℕ → Bool → (Origin × RuleModel) → Bool
+rule_matches path is_dir rule = is_match rule.1.pattern (below (depth_at rule.0) path) is_dir
 
 -- what a rule says where it matches
 abbrev pub verdict_by : RuleModel → Verdict
 verdict_by rule = if rule.is_negated then Included else Ignored
 
--- the last of these rules decides
-abbrev pub by_last : List (ℕ × RuleModel) → Verdict
-by_last [] = NoRule
-by_last (r ∷ []) = verdict_by r.1
-by_last (r ∷ s ∷ rs) = by_last (s ∷ rs)
+-- the rule that decides: the last one that matches, if any does
+abbrev pub deciding : List (Origin × RuleModel) → List ℕ → Bool → Option (Origin × RuleModel)
+deciding rules path is_dir = last_or None (filter (rule_matches path is_dir) rules)
 
--- the verdict: the last rule that matches decides
-abbrev pub verdict_of : List (ℕ × RuleModel) → List ℕ → Bool → Verdict
-verdict_of rules path is_dir = by_last (filter (rule_matches path is_dir) rules)
+-- what the rule that decides says
+abbrev pub verdict_from : Option (Origin × RuleModel) → Verdict
+verdict_from None = NoRule
+verdict_from (Some rule) = verdict_by rule.1
 
--- the rules of a file, each with the file's depth
-abbrev pub at_depth : ℕ → List RuleModel → List (ℕ × RuleModel)
-at_depth depth rules = map (λ r. (depth, r)) rules
+-- the verdict of these rules
+abbrev pub verdict_of : List (Origin × RuleModel) → List ℕ → Bool → Verdict
+verdict_of rules path is_dir = verdict_from (deciding rules path is_dir)
 
--- all rules of a chain's files in one list, file by file from the top down
-abbrev pub joined : List (ℕ × List RuleModel) → List (ℕ × RuleModel)
-joined [] = []
-joined (f ∷ fs) = at_depth f.0 f.1 ++ joined fs
+-- the rules of a file, each with the file's origin
+abbrev pub from_file : Origin → List RuleModel → List (Origin × RuleModel)
+from_file origin rules = map (λ r. (origin, r)) rules
+
+-- those of a file of a directory at this depth
+abbrev pub at_depth : ℕ → List RuleModel → List (Origin × RuleModel)
+at_depth depth rules = from_file (Directory depth) rules

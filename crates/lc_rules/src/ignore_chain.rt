@@ -1,75 +1,154 @@
 //! Chains of ignore files.
 
-ghost use Rattle.std.specs.Prelude.{◌≡◌, [], IfOk};
-ghost use Rattle.lc_rules.specs.Verdicts.{joined, verdict_of};
-ghost use Rattle.lc_rules.specs.Chains.{with_file};
+ghost use Rattle.std.specs.Prelude.{◌≡◌, ℕ, option_map, IfOk};
+ghost use Rattle.lc_rules.specs.Chains.{lent};
+ghost use Rattle.lc_rules.specs.IgnoreChains.{joined, no_ignore_files, rules_if, rules_in, with_exclude, with_info, with_own};
+ghost use Rattle.lc_rules.specs.Verdicts.{deciding, depth_at, verdict_of};
+ghost use Rattle.lc_rules.specs.declared.origin.Origin.{Origin as OriginModel};
+ghost use Rattle.lc_rules.specs.declared.origin.Origin.TheVariants.{Directory};
 
-use crate::chain_files::{ChainFiles, FilesLeft};
+use crate::chain_files::{ChainFiles, FilesLeft, share};
 use crate::ignore_file::IgnoreFile;
+use crate::ignore_line::Rule;
+use crate::origin::Origin;
 use crate::paths::PathBelow;
 use crate::verdicts::Verdict;
 use std::alloc::{AllocError, Global};
 use std::marker::Model;
 use std::sync::Arc;
 
-/// The ignore files that speak of a directory's entries, from the top down, each with the depth of its directory. A
-/// later one overrides those before it.
+/// The ignore files that speak of a directory's entries: the exclude file of the whole tree, that of `.git/info`, and those of
+/// the tree from the top down, each with the depth of its directory. Each overrides those before it.
 #[derive(Drop)]
 pub struct Chain {
-    files: ChainFiles<IgnoreFile>,
+    exclude: Option<Arc<IgnoreFile, Global>>,
+    info: Option<Arc<IgnoreFile, Global>>,
+    tree: ChainFiles<IgnoreFile>,
 }
 
 impl Model for Chain {
-    ghost use Rattle.std.specs.Prelude.{ℕ, List};
-    ghost use Rattle.lc_rules.specs.IgnoreRules.{RuleModel};
+    ghost use Rattle.lc_rules.specs.Chains.{lent};
+    ghost use Rattle.lc_rules.specs.IgnoreChains.{ChainModel};
 
-    ghost Value = { List (ℕ × List RuleModel) };
+    ghost Value = { ChainModel };
 
-    ghost view = { λ c. c.files };
+    ghost view = { λ c. record { exclude = lent c.exclude; info = lent c.info; tree = c.tree } };
 }
 
 impl Chain {
     /// The chain without a file.
     pub fn top() -> Chain
-        ensures { result ≡ [] }
+        ensures { result ≡ no_ignore_files }
     {
         Chain {
-            files: ChainFiles::new(),
+            exclude: None,
+            info: None,
+            tree: ChainFiles::new(),
         }
     }
 
-    /// The chain with one file more, or an equal one. The file is that of a directory with `depth` segments.
+    /// The chain with the exclude file of the whole tree, or an equal one.
+    pub fn with_exclude(self, file: Option<Arc<IgnoreFile, Global>>) -> Chain
+        ensures { result ≡ with_exclude self file }
+    {
+        let Some(file) = file else {
+            return self;
+        };
+        Chain {
+            exclude: Some(file),
+            info: self.info,
+            tree: self.tree,
+        }
+    }
+
+    /// The chain with the file of `.git/info/exclude`, or an equal one.
+    pub fn with_info(self, file: Option<Arc<IgnoreFile, Global>>) -> Chain
+        ensures { result ≡ with_info self file }
+    {
+        let Some(file) = file else {
+            return self;
+        };
+        Chain {
+            exclude: self.exclude,
+            info: Some(file),
+            tree: self.tree,
+        }
+    }
+
+    /// The chain with one file more of the tree, or an equal one. The file is that of a directory with `depth` segments.
     pub fn below(
         &self,
         alloc: Global,
         depth: u32,
         file: Option<Arc<IgnoreFile, Global>>,
     ) -> Result<Chain, AllocError>
-        ensures { IfOk result (λ chain. chain ≡ with_file self.now depth file) }
+        ensures { IfOk result (λ chain. chain ≡ with_own self.now depth file) }
     {
-        let files = self.files.with(alloc, depth, file)?;
-        Ok(Chain { files })
+        let exclude = share(&self.exclude)?;
+        let info = share(&self.info)?;
+        let tree = self.tree.with(alloc, depth, file)?;
+        Ok(Chain {
+            exclude,
+            info,
+            tree,
+        })
     }
 
-    /// What the last rule that matches a path says of it. Each file sees the path without its first segments, as many
-    /// as the file's depth.
+    /// What the last rule that matches a path says of it. Each file of the tree sees the path without its first segments, as
+    /// many as the file's depth.
     pub fn verdict(&self, path: &[u8], is_dir: bool) -> Verdict
-        ensures { result ≡ verdict_of (joined self.now) path.now is_dir }
+        ensures { result ≡ verdict_of (rules_in self.now) path.now is_dir }
     {
-        verdict_by_files(self.files.left(), PathBelow::new(path), is_dir)
+        match self.deciding(path, is_dir) {
+            Some((_, rule)) => rule.verdict(),
+            None => Verdict::NoRule,
+        }
+    }
+
+    /// The rule that decides a path, and where its file stands.
+    pub fn deciding(&self, path: &[u8], is_dir: bool) -> Option<(Origin, &Rule)>
+        ensures { option_map (λ r. (r.0, r.1.now)) result ≡ deciding (rules_in self.now) path.now is_dir }
+    {
+        let by_tree = deciding_by_files(self.tree.left(), PathBelow::new(path), is_dir);
+        if let Some((depth, rule)) = by_tree {
+            return Some((Origin::Directory(depth), rule));
+        }
+        if let Some(rule) = deciding_by_file(&self.info, path, is_dir) {
+            return Some((Origin::GitInfo, rule));
+        }
+        let rule = deciding_by_file(&self.exclude, path, is_dir)?;
+        Some((Origin::ExcludeFile, rule))
     }
 }
 
-/// Asks the files, the nearest to the path first.
-fn verdict_by_files(files: FilesLeft<'_, IgnoreFile>, path: PathBelow, is_dir: bool) -> Verdict
-    ensures { result ≡ verdict_of (joined files.entry) path.entry.path.now is_dir }
+/// Asks a file at the top, if it is there.
+fn deciding_by_file<'a>(
+    file: &'a Option<Arc<IgnoreFile, Global>>,
+    path: &[u8],
+    is_dir: bool,
+) -> Option<&'a Rule>
+    ensures { (origin : OriginModel) → depth_at origin ≡ 0
+        → option_map (λ r. (origin, r.now)) result ≡ deciding (rules_if origin (lent file.now)) path.now is_dir }
 {
-    let Some((depth, file, nearer)) = files.split_first() else {
-        return Verdict::NoRule;
-    };
-    let inner = path.at(depth);
-    match verdict_by_files(nearer, inner, is_dir) {
-        Verdict::NoRule => file.verdict(inner.rest, is_dir),
-        decided => decided,
+    match file {
+        Some(file) => file.deciding(path, is_dir),
+        None => None,
     }
+}
+
+/// Asks the files of the tree, the nearest to the path first.
+fn deciding_by_files<'a>(
+    files: FilesLeft<'a, IgnoreFile>,
+    path: PathBelow,
+    is_dir: bool,
+) -> Option<(u32, &'a Rule)>
+    ensures { option_map (λ r. (Directory r.0, r.1.now)) result ≡ deciding (joined files.entry) path.entry.path.now is_dir }
+{
+    let (depth, file, nearer) = files.split_first()?;
+    let inner = path.at(depth);
+    if let Some(found) = deciding_by_files(nearer, inner, is_dir) {
+        return Some(found);
+    }
+    let rule = file.deciding(inner.rest, is_dir)?;
+    Some((depth, rule))
 }

@@ -1,10 +1,10 @@
 //! Ignore files.
 
-ghost use Rattle.std.specs.Prelude.{◌≡◌, ◌↔◌, ◌<◌, [], length, map, IfOk, IsTrue};
+ghost use Rattle.std.specs.Prelude.{◌≡◌, ◌↔◌, ◌<◌, ◌≤◌, [], length, option_map, IfOk, IsTrue};
 ghost use Rattle.lc_rules.specs.IgnoreRules.{rules_of};
-ghost use Rattle.lc_rules.specs.Models.{rule_model};
-ghost use Rattle.lc_rules.specs.Verdicts.{at_depth, verdict_of};
+ghost use Rattle.lc_rules.specs.Verdicts.{at_depth, deciding, verdict_of};
 ghost use Rattle.lc_rules.specs.Limits.{max_rule_bytes};
+ghost use Rattle.lc_rules.specs.declared.origin.Origin.TheVariants.{Directory};
 
 use crate::faults::{MAX_RULE_BYTES, RuleFault};
 use crate::ignore_line::{Rule, read_rule};
@@ -21,13 +21,12 @@ pub struct IgnoreFile {
 }
 
 impl Model for IgnoreFile {
-    ghost use Rattle.std.specs.Prelude.{List, map};
+    ghost use Rattle.std.specs.Prelude.{List};
     ghost use Rattle.lc_rules.specs.IgnoreRules.{RuleModel};
-    ghost use Rattle.lc_rules.specs.Models.{rule_model};
 
     ghost Value = { List RuleModel };
 
-    ghost view = { λ f. map rule_model f.rules.items };
+    ghost view = { λ f. f.rules.items };
 }
 
 impl IgnoreFile {
@@ -60,34 +59,52 @@ impl IgnoreFile {
     pub fn verdict(&self, path: &[u8], is_dir: bool) -> Verdict
         ensures { result ≡ verdict_of (at_depth 0 self.now) path.now is_dir }
     {
-        last_verdict(&self.rules, &Candidate::new(path), is_dir)
+        match self.deciding(path, is_dir) {
+            Some(rule) => rule.verdict(),
+            None => Verdict::NoRule,
+        }
+    }
+
+    /// The rule by which the file alone decides a path below its directory.
+    ///
+    /// ```
+    /// let file = IgnoreFile::read(alloc, b"*.log\n\n!keep.log\n")?;
+    /// assert!(rt; file.deciding(b"keep.log", false).map(|rule| rule.line()) == Some(3));
+    /// ```
+    pub fn deciding(&self, path: &[u8], is_dir: bool) -> Option<&Rule>
+        ensures { option_map (λ r. (Directory 0, r.now)) result ≡ deciding (at_depth 0 self.now) path.now is_dir }
+    {
+        last_match(&self.rules, &Candidate::new(path), is_dir)
     }
 }
 
 fn read_rules(alloc: Global, bytes: &[u8]) -> Result<Vec<Rule>, AllocError>
-    ensures { IfOk result (λ rules. map rule_model rules.items ≡ rules_of bytes.now) }
+    requires { length bytes.now ≤ max_rule_bytes }
+    ensures { IfOk result (λ rules. rules.items ≡ rules_of bytes.now) }
 {
     let mut rules = Vec::new(alloc);
+    let mut number = 1;
     let mut left = Lines::of(bytes);
     'lines: while let Some((line, others)) = left.split_first() {
-        if let Some(rule) = read_rule(alloc, line)? {
+        if let Some(rule) = read_rule(alloc, number, line)? {
             rules.push(rule)?;
         }
+        number += 1;
         left = others;
     }
     Ok(rules)
 }
 
-/// What the last of the rules that matches a path says, from the newest to the oldest.
-fn last_verdict(rules: &[Rule], path: &Candidate, is_dir: bool) -> Verdict
-    ensures { result ≡ verdict_of (at_depth 0 (map rule_model rules.now)) path.now is_dir }
+/// The last of the rules that matches a path, looked for from the newest to the oldest.
+fn last_match<'a>(rules: &'a [Rule], path: &Candidate, is_dir: bool) -> Option<&'a Rule>
+    ensures { option_map (λ r. (Directory 0, r.now)) result ≡ deciding (at_depth 0 rules.now) path.now is_dir }
 {
     let mut left = rules;
     'rules: while let Some((rule, older)) = left.split_last() {
-        if rule.pattern.matches_candidate(path, is_dir) {
-            return rule.verdict();
+        if rule.matches(path, is_dir) {
+            return Some(rule);
         }
         left = older;
     }
-    Verdict::NoRule
+    None
 }

@@ -1,31 +1,54 @@
 //! How a line of an ignore file gives a rule.
 
-ghost use Rattle.std.specs.Prelude.{◌≡◌, IfOk, MatchOption, Some, None};
-ghost use Rattle.lc_rules.specs.IgnoreRules.{without_return, without_spaces, rule_of_line};
-ghost use Rattle.lc_rules.specs.Models.{rule_model};
+ghost use Rattle.std.specs.Prelude.{◌≡◌, IfOk};
+ghost use Rattle.lc_glob.specs.IsMatch.{is_match};
+ghost use Rattle.lc_rules.specs.IgnoreRules.{without_return, without_spaces, text_of_line, rule_of_line};
 ghost use Rattle.lc_rules.specs.Verdicts.{verdict_by};
 
 use crate::verdicts::Verdict;
-use lc_glob::Pattern;
+use lc_glob::{Candidate, Pattern};
 use std::alloc::{AllocError, Global};
+use std::marker::Model;
 
-/// A line that gives a rule.
+/// A rule of an ignore file.
 #[derive(Debug, Drop)]
-pub(crate) struct Rule {
-    pub(crate) is_negated: bool,
-    pub(crate) pattern: Pattern,
+pub struct Rule {
+    line: u32,
+    is_negated: bool,
+    pattern: Pattern,
+}
+
+impl Model for Rule {
+    ghost use Rattle.lc_rules.specs.IgnoreRules.{RuleModel};
+
+    ghost Value = { RuleModel };
+
+    ghost view = { λ r. record { line = r.line; is_negated = r.is_negated; pattern = r.pattern } };
 }
 
 impl Rule {
+    /// The number of its line in the file, counted from 1. Empty lines and comments count too.
+    pub fn line(&self) -> u32
+        ensures { result ≡ self.now.line }
+    {
+        self.line
+    }
+
     /// What this rule says where its pattern matches.
-    pub(crate) fn verdict(&self) -> Verdict
-        ensures { result ≡ verdict_by (rule_model self.now) }
+    pub fn verdict(&self) -> Verdict
+        ensures { result ≡ verdict_by self.now }
     {
         if self.is_negated {
             Verdict::Included
         } else {
             Verdict::Ignored
         }
+    }
+
+    pub(crate) fn matches(&self, path: &Candidate, is_dir: bool) -> bool
+        ensures { result ≡ is_match self.now.pattern path.now is_dir }
+    {
+        self.pattern.matches_candidate(path, is_dir)
     }
 }
 
@@ -59,23 +82,35 @@ fn without_spaces<'a>(line: &'a [u8]) -> &'a [u8]
     &line[..kept]
 }
 
-/// The rule of a line, or none of an empty line or a comment.
-pub(crate) fn read_rule(alloc: Global, line: &[u8]) -> Result<Option<Rule>, AllocError>
-    ensures { IfOk result (λ r. MatchOption r (rule_of_line line.now ≡ None) (λ rule. rule_of_line line.now ≡ Some (rule_model rule))) }
+/// What of a line of an ignore file is read as a rule: the line without one carriage return at its end, and then without the
+/// spaces at its end that no backslash quotes.
+///
+/// ```
+/// assert!(rt; text_of_line(b"!*.log  \r") == b"!*.log".as_slice());
+/// ```
+pub fn text_of_line<'a>(line: &'a [u8]) -> &'a [u8]
+    ensures { result.now ≡ text_of_line line.now }
 {
-    let text = without_spaces(without_return(line));
+    without_spaces(without_return(line))
+}
+
+/// The rule of a line with this number, or none of an empty line or a comment.
+pub(crate) fn read_rule(alloc: Global, number: u32, line: &[u8]) -> Result<Option<Rule>, AllocError>
+    ensures { IfOk result (λ rule. rule ≡ rule_of_line (number, line.now)) }
+{
+    let text = text_of_line(line);
     let Some((first, rest)) = text.split_first() else {
         return Ok(None);
     };
-    match first {
-        b'#' => Ok(None),
-        b'!' => Ok(Some(Rule {
-            is_negated: true,
-            pattern: Pattern::read(alloc, rest)?,
-        })),
-        _ => Ok(Some(Rule {
-            is_negated: false,
-            pattern: Pattern::read(alloc, text)?,
-        })),
-    }
+    let (is_negated, pattern) = match first {
+        b'#' => return Ok(None),
+        b'!' => (true, rest),
+        _ => (false, text),
+    };
+    let pattern = Pattern::read(alloc, pattern)?;
+    Ok(Some(Rule {
+        line: number,
+        is_negated,
+        pattern,
+    }))
 }

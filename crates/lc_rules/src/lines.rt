@@ -1,20 +1,34 @@
 //! The lines of a file of rules.
 
 ghost use Rattle.std.specs.Prelude.{◌≡◌, MatchOption, List, ℕ, ◌∷◌, []};
-ghost use Rattle.lc_rules.specs.RuleLines.{without_mark, lines_of, lines_left};
+ghost use Rattle.lc_rules.specs.RuleLines.{without_mark, lines_of};
 
 use lc_glob::cut_at_first;
+use std::marker::Model;
 
-/// The lines that are left.
-#[derive(Clone, Copy)]
-pub(crate) struct Lines<'a> {
+/// The lines of a file of rules that are left.
+///
+/// ```
+/// let Some((line, others)) = Lines::of(b"*.log\n!keep.log\n").split_first() else { .. };
+/// ```
+#[derive(Drop)]
+pub struct Lines<'a> {
     rest: Option<&'a [u8]>,
+}
+
+impl<'a> Model for Lines<'a> {
+    ghost use Rattle.std.specs.Prelude.{ℕ, List};
+    ghost use Rattle.lc_rules.specs.RuleLines.{lines_left};
+
+    ghost Value = { List (List ℕ) };
+
+    ghost view = { λ l. lines_left l.rest };
 }
 
 impl<'a> Lines<'a> {
     /// The lines of a file, without its byte order mark.
-    pub(crate) fn of(bytes: &'a [u8]) -> Self
-        ensures { lines_left result.rest ≡ lines_of bytes.now }
+    pub fn of(bytes: &'a [u8]) -> Self
+        ensures { result ≡ lines_of bytes.now }
     {
         Lines {
             rest: Some(without_mark(bytes)),
@@ -22,8 +36,8 @@ impl<'a> Lines<'a> {
     }
 
     /// The first line, and the others.
-    pub(crate) fn split_first(self) -> Option<(&'a [u8], Lines<'a>)>
-        ensures { MatchOption result (lines_left self.entry.rest ≡ []) (λ p. lines_left self.entry.rest ≡ p.0.now ∷ lines_left p.1.rest) }
+    pub fn split_first(self) -> Option<(&'a [u8], Lines<'a>)>
+        ensures { MatchOption result (self.entry ≡ []) (λ p. self.entry ≡ p.0.now ∷ p.1) }
     {
         let (line, rest) = cut_at_first(b'\n', self.rest?);
         Some((line, Lines { rest }))

@@ -2,4 +2,5 @@
 
 mod attributes;
 mod chains;
+mod deciding;
 mod ignore;

@@ -3,6 +3,7 @@ use Rattle.std.specs.Prelude.{◌≡◌, false, [], ◌∷◌, Ok, None, map, co
 use Rattle.lc_census.specs.declared.totals.Count.{Count}
 use Rattle.lc_census.specs.declared.totals.Eol.TheVariants.{Lf}
 use Rattle.lc_level.specs.Answers.{file_item, directory_item, other_item, Answers}
+use Rattle.lc_rules.specs.IgnoreChains.{no_ignore_files}
 use Rattle.lc_walk.specs.Found.{children_at}
 use Rattle.lc_level.specs.Job.{JobModel}
 use Rattle.lc_level.specs.Selection.{SelectionModel, selection_of_archive}
@@ -17,7 +18,7 @@ abbrev pub as_it_is : SelectionModel
 as_it_is = selection_of_archive false
 
 abbrev pub top_job : JobModel
-top_job = record { path = []; ignore = []; attributes = record { tree = []; info = None } }
+top_job = record { path = []; ignore = no_ignore_files; attributes = record { tree = []; info = None } }
 
 -- a `.gitignore` of `*.o`, `.git/info/exclude` of `!k.o` and `b/`, and files and directories
 abbrev pub small_directory : Answers

@@ -1,12 +1,14 @@
-use Rattle.std.proofs.Common.{◌≡◌, length, map, ◌++◌}
-use Rattle.std.specs.List.{filter_map}
+use Rattle.std.proofs.Common.{◌≡◌, ◌≤◌, ◌+◌, length, ◌++◌}
+use Rattle.std.specs.List.{filter_map, enumerate_from}
 use Rattle.lc_rules.specs.IgnoreRules.{rules_of, rule_of_line}
-use Rattle.lc_rules.specs.Models.{rule_model}
-use Rattle.lc_rules.specs.RuleLines.{lines_left}
+use Rattle.lc_rules.specs.Limits.{max_rule_bytes}
 use Rattle.lc_rules.proofs.ignore_file.read_rules.Given as goal
 
 abbrev pub invariant-lines : goal.invariant-lines
-invariant-lines l = rules_of l.bytes ≡ map rule_model l.rules.items ++ filter_map rule_of_line (lines_left l.left.rest)
+invariant-lines l = record {
+  rules : rules_of l.bytes ≡ l.rules.items ++ filter_map rule_of_line (enumerate_from l.number l.left);
+  few : l.number + length l.left ≤ max_rule_bytes + 2;
+}
 
 abbrev pub decreases-lines : goal.decreases-lines
-decreases-lines l = length (lines_left l.left.rest)
+decreases-lines l = length l.left
