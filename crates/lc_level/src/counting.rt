@@ -4,9 +4,9 @@ ghost use Rattle.lc_glob.specs.Path.{path_in};
 ghost use Rattle.lc_level.specs.CountedNames.{AddsResult, AddsCounted, IsCounted};
 ghost use Rattle.lc_level.specs.LeftIn.{bytes_of};
 
-use crate::desk::Desk;
-use crate::files::count_file;
 use crate::job::Job;
+use crate::level_reader::LevelReader;
+use crate::scratch::Scratch;
 use crate::unread::Unread;
 use crate::{Counted, FileFault};
 use lc_census::Count;
@@ -51,47 +51,47 @@ impl CountedFiles {
     }
 }
 
-/// Counts the file of a name, which moves to the counted files or to the faults.
-fn count_one<T: Tree>(
-    alloc: Global,
-    tree: &T,
-    job: &Job,
-    name: Vec<u8>,
-    desk: &mut Desk,
-    found: &mut CountedFiles,
-) -> Result<(), AllocError>
-    requires { desk.old.path.directory ≡ job.now.path }
-    ensures same { desk.new.path.directory ≡ desk.old.path.directory }
-    ensures counted { AddsCounted (T.gives tree.entry.now) job.now name.items found.old found.new result }
-{
-    let Ok(()) = desk.path.set_name(&name) else {
-        return Err(AllocError);
-    };
-    let path = desk.path.as_slice();
-    match count_file(alloc, tree, path, &mut desk.buffer) {
-        Ok(count) => found.push_file(alloc, job, path, name, count),
-        Err(Unread::Fault(word)) => found.push_fault(job, name, word),
-        Err(Unread::Memory) => Err(AllocError),
+impl<T: Tree> LevelReader<'_, T> {
+    /// Counts the file of a name, which moves to the counted files or to the faults.
+    fn count_one(
+        &self,
+        job: &Job,
+        name: Vec<u8>,
+        scratch: &mut Scratch,
+        found: &mut CountedFiles,
+    ) -> Result<(), AllocError>
+        requires { scratch.old.path.directory ≡ job.now.path }
+        ensures same { scratch.new.path.directory ≡ scratch.old.path.directory }
+        ensures counted { AddsCounted (T.gives self.now.tree.now) job.now name.items found.old found.new result }
+    {
+        let Ok(()) = scratch.path.set_name(&name) else {
+            return Err(AllocError);
+        };
+        let path = scratch.path.as_slice();
+        match self.count_file(path, &mut scratch.buffer) {
+            Ok(count) => found.push_file(self.alloc, job, path, name, count),
+            Err(Unread::Fault(word)) => found.push_fault(job, name, word),
+            Err(Unread::Memory) => Err(AllocError),
+        }
     }
-}
 
-/// Counts the files of these names, in order. The desk stands in their directory.
-pub fn count_files<T: Tree>(
-    alloc: Global,
-    tree: &T,
-    job: &Job,
-    names: Vec<Vec<u8>>,
-    desk: &mut Desk,
-) -> Result<CountedFiles, AllocError>
-    requires { desk.old.path.directory ≡ job.now.path }
-    ensures { IfOk result (IsCounted (T.gives tree.entry.now) job.now (bytes_of names.items)) }
-{
-    let mut found = CountedFiles {
-        files: Vec::new(alloc),
-        faults: Vec::new(alloc),
-    };
-    for name in names {
-        count_one(alloc, tree, job, name, desk, &mut found)?;
+    /// Counts the files of these names, in order. The scratch paths are those of their directory.
+    pub fn count(
+        &self,
+        job: &Job,
+        names: Vec<Vec<u8>>,
+        scratch: &mut Scratch,
+    ) -> Result<CountedFiles, AllocError>
+        requires { scratch.old.path.directory ≡ job.now.path }
+        ensures { IfOk result (IsCounted (T.gives self.now.tree.now) job.now (bytes_of names.items)) }
+    {
+        let mut found = CountedFiles {
+            files: Vec::new(self.alloc),
+            faults: Vec::new(self.alloc),
+        };
+        for name in names {
+            self.count_one(job, name, scratch, &mut found)?;
+        }
+        Ok(found)
     }
-    Ok(found)
 }

@@ -4,56 +4,52 @@ ghost use Rattle.lc_census.specs.Limits.{buffer_len};
 ghost use Rattle.lc_level.specs.FileReads.{IsAnswer};
 ghost use Rattle.lc_tree.specs.Trees.{MayCount, MayReadRules};
 
+use crate::level_reader::LevelReader;
 use crate::unread::Unread;
 use lc_census::{CensusFault, Count, MAX_TURNS, WholeFault, count_in, read_whole};
 use lc_rules::MAX_RULE_BYTES;
 use lc_tree::{FaultWord, ReadFault, Tree};
-use std::alloc::Global;
 
-/// Counts the file at a path by reads into the lent buffer.
-pub(crate) fn count_file<T: Tree>(
-    alloc: Global,
-    tree: &T,
-    path: &[u8],
-    buffer: &mut [u8],
-) -> Result<Count, Unread>
-    requires some { 0 < length buffer.old }
-    requires room { length buffer.old ≤ buffer_len }
-    ensures { IsAnswer (MayCount (T.gives tree.entry.now path.now)) (λ count. count) result }
-{
-    let mut file = match tree.open_file(alloc, path) {
-        Ok(file) => file,
-        Err(ReadFault::Memory) => return Err(Unread::Memory),
-        Err(_) => return Err(Unread::Fault(FaultWord::Read)),
-    };
-    match count_in(buffer, &mut file, MAX_TURNS) {
-        Ok(count) => Ok(count),
-        Err(CensusFault::Read) => Err(Unread::Fault(FaultWord::Read)),
-        Err(CensusFault::Endless) => Err(Unread::Fault(FaultWord::Endless)),
-        Err(CensusFault::Memory) => Err(Unread::Memory),
+impl<T: Tree> LevelReader<'_, T> {
+    /// Counts the file at a path by reads into the lent buffer.
+    pub(crate) fn count_file(&self, path: &[u8], buffer: &mut [u8]) -> Result<Count, Unread>
+        requires some { 0 < length buffer.old }
+        requires room { length buffer.old ≤ buffer_len }
+        ensures { IsAnswer (MayCount (T.gives self.now.tree.now path.now)) (λ count. count) result }
+    {
+        let mut file = match self.tree.open_file(self.alloc, path) {
+            Ok(file) => file,
+            Err(ReadFault::Memory) => return Err(Unread::Memory),
+            Err(_) => return Err(Unread::Fault(FaultWord::Read)),
+        };
+        match count_in(buffer, &mut file, MAX_TURNS) {
+            Ok(count) => Ok(count),
+            Err(CensusFault::Read) => Err(Unread::Fault(FaultWord::Read)),
+            Err(CensusFault::Endless) => Err(Unread::Fault(FaultWord::Endless)),
+            Err(CensusFault::Memory) => Err(Unread::Memory),
+        }
     }
-}
 
-/// Reads the file at a path whole, as rules, into the lent vector.
-pub(crate) fn read_rules<T: Tree>(
-    alloc: Global,
-    tree: &T,
-    path: &[u8],
-    buffer: &mut [u8],
-    bytes: &mut Vec<u8>,
-) -> Result<(), Unread>
-    requires some { 0 < length buffer.old }
-    ensures { IsAnswer (MayReadRules (T.gives tree.entry.now path.now)) (λ _. bytes.new.items) result }
-{
-    let mut file = match tree.open_file(alloc, path) {
-        Ok(file) => file,
-        Err(ReadFault::Memory) => return Err(Unread::Memory),
-        Err(_) => return Err(Unread::Fault(FaultWord::Read)),
-    };
-    match read_whole(buffer, bytes, &mut file, MAX_RULE_BYTES) {
-        Ok(()) => Ok(()),
-        Err(WholeFault::Read) => Err(Unread::Fault(FaultWord::Read)),
-        Err(WholeFault::TooLong) => Err(Unread::Fault(FaultWord::Long)),
-        Err(WholeFault::Memory) => Err(Unread::Memory),
+    /// Reads the file at a path whole, as rules, into the lent vector.
+    pub(crate) fn read_rules(
+        &self,
+        path: &[u8],
+        buffer: &mut [u8],
+        bytes: &mut Vec<u8>,
+    ) -> Result<(), Unread>
+        requires some { 0 < length buffer.old }
+        ensures { IsAnswer (MayReadRules (T.gives self.now.tree.now path.now)) (λ _. bytes.new.items) result }
+    {
+        let mut file = match self.tree.open_file(self.alloc, path) {
+            Ok(file) => file,
+            Err(ReadFault::Memory) => return Err(Unread::Memory),
+            Err(_) => return Err(Unread::Fault(FaultWord::Read)),
+        };
+        match read_whole(buffer, bytes, &mut file, MAX_RULE_BYTES) {
+            Ok(()) => Ok(()),
+            Err(WholeFault::Read) => Err(Unread::Fault(FaultWord::Read)),
+            Err(WholeFault::TooLong) => Err(Unread::Fault(FaultWord::Long)),
+            Err(WholeFault::Memory) => Err(Unread::Memory),
+        }
     }
 }

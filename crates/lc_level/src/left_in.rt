@@ -6,12 +6,12 @@ ghost use Rattle.lc_level.specs.Level.{is_kept, job_at};
 
 use crate::Cause;
 use crate::job::Job;
+use crate::level_reader::LevelReader;
 use crate::path_buffer::PathBuffer;
-use crate::selection::Selection;
 use lc_glob::path::{is_too_deep, is_too_long};
 use lc_rules::Verdict;
-use lc_tree::{Entry, Kind};
-use std::alloc::{AllocError, Global};
+use lc_tree::{Entry, Kind, Tree};
+use std::alloc::AllocError;
 use std::marker::Model;
 
 /// The files and the directories that are left in, each in the order of the listing.
@@ -39,124 +39,116 @@ impl Model for ChildDirectory {
     ghost view = { λ c. (c.name.items, c.job) };
 }
 
-/// Whether the rules and the selection leave in what stands at a path.
-fn is_left_in(
-    alloc: Global,
-    job: &Job,
-    path: &[u8],
-    is_dir: bool,
-    selection: &Selection,
-) -> Result<bool, AllocError>
-    ensures { IfOk result (λ left. left ≡ is_kept selection.now job.now path.now is_dir) }
-{
-    match job.ignore().verdict(path, is_dir) {
-        Verdict::Ignored => return Ok(false),
-        Verdict::Included => {}
-        Verdict::NoRule => {}
+impl<T: Tree> LevelReader<'_, T> {
+    /// Whether the rules and the selection leave in what stands at a path.
+    fn is_left_in(&self, job: &Job, path: &[u8], is_dir: bool) -> Result<bool, AllocError>
+        ensures { IfOk result (λ left. left ≡ is_kept self.now.selection job.now path.now is_dir) }
+    {
+        match job.ignore().verdict(path, is_dir) {
+            Verdict::Ignored => return Ok(false),
+            Verdict::Included => {}
+            Verdict::NoRule => {}
+        }
+        let is_out = self.selection.leaves_out(self.alloc, job, path, is_dir)?;
+        Ok(!is_out)
     }
-    let is_out = selection.leaves_out(alloc, job, path, is_dir)?;
-    Ok(!is_out)
-}
 
-/// Takes a file.
-fn keep_file(
-    alloc: Global,
-    job: &Job,
-    selection: &Selection,
-    name: Vec<u8>,
-    path: &[u8],
-    left: &mut LeftIn,
-) -> Result<(), Cause>
-    ensures { KeepsFile (is_kept selection.now job.now path.now false) name.items left.old left.new result }
-{
-    match is_left_in(alloc, job, path, false, selection) {
-        Ok(true) => {}
-        Ok(false) => return Ok(()),
-        Err(_) => return Err(Cause::Memory),
+    /// Takes a file.
+    fn keep_file(
+        &self,
+        job: &Job,
+        name: Vec<u8>,
+        path: &[u8],
+        left: &mut LeftIn,
+    ) -> Result<(), Cause>
+        ensures { KeepsFile (is_kept self.now.selection job.now path.now false) name.items left.old left.new result }
+    {
+        match self.is_left_in(job, path, false) {
+            Ok(true) => {}
+            Ok(false) => return Ok(()),
+            Err(_) => return Err(Cause::Memory),
+        }
+        match left.files.push(name) {
+            Ok(()) => Ok(()),
+            Err(_) => Err(Cause::Memory),
+        }
     }
-    match left.files.push(name) {
-        Ok(()) => Ok(()),
-        Err(_) => Err(Cause::Memory),
-    }
-}
 
-/// Takes a directory.
-fn keep_directory(
-    alloc: Global,
-    job: &Job,
-    selection: &Selection,
-    name: Vec<u8>,
-    path: &[u8],
-    left: &mut LeftIn,
-) -> Result<(), Cause>
-    requires { length path.now ≤ max_path }
-    ensures { KeepsDirectory (is_kept selection.now job.now path.now true) (nat_lt max_depth (depth_of path.now))
-        (name.items, job_at job.now path.now) left.old left.new result }
-{
-    match is_left_in(alloc, job, path, true, selection) {
-        Ok(true) => {}
-        Ok(false) => return Ok(()),
-        Err(_) => return Err(Cause::Memory),
+    /// Takes a directory.
+    fn keep_directory(
+        &self,
+        job: &Job,
+        name: Vec<u8>,
+        path: &[u8],
+        left: &mut LeftIn,
+    ) -> Result<(), Cause>
+        requires { length path.now ≤ max_path }
+        ensures { KeepsDirectory (is_kept self.now.selection job.now path.now true) (nat_lt max_depth (depth_of path.now))
+            (name.items, job_at job.now path.now) left.old left.new result }
+    {
+        match self.is_left_in(job, path, true) {
+            Ok(true) => {}
+            Ok(false) => return Ok(()),
+            Err(_) => return Err(Cause::Memory),
+        }
+        if is_too_deep(path) {
+            return Err(Cause::TooDeep);
+        }
+        let Ok(job) = job.at(self.alloc, path) else {
+            return Err(Cause::Memory);
+        };
+        match left.children.push(ChildDirectory { name, job }) {
+            Ok(()) => Ok(()),
+            Err(_) => Err(Cause::Memory),
+        }
     }
-    if is_too_deep(path) {
-        return Err(Cause::TooDeep);
-    }
-    let Ok(job) = job.at(alloc, path) else {
-        return Err(Cause::Memory);
-    };
-    match left.children.push(ChildDirectory { name, job }) {
-        Ok(()) => Ok(()),
-        Err(_) => Err(Cause::Memory),
-    }
-}
 
-/// Takes one entry: its name moves to those that are left in, if it is.
-fn keep(
-    alloc: Global,
-    job: &Job,
-    selection: &Selection,
-    entry: Entry,
-    path: &mut PathBuffer,
-    left: &mut LeftIn,
-) -> Result<(), Cause>
-    requires { path.old.directory ≡ job.now.path }
-    ensures same { path.new.directory ≡ path.old.directory }
-    ensures kept { Keeps selection.now job.now entry left.old left.new result }
-{
-    if entry.name.as_slice() == b".git".as_slice() {
-        return Ok(());
+    /// Takes one entry: its name moves to those that are left in, if it is.
+    fn keep(
+        &self,
+        job: &Job,
+        entry: Entry,
+        path: &mut PathBuffer,
+        left: &mut LeftIn,
+    ) -> Result<(), Cause>
+        requires { path.old.directory ≡ job.now.path }
+        ensures same { path.new.directory ≡ path.old.directory }
+        ensures kept { Keeps self.now.selection job.now entry left.old left.new result }
+    {
+        if entry.name.as_slice() == b".git".as_slice() {
+            return Ok(());
+        }
+        let Ok(()) = path.set_name(&entry.name) else {
+            return Err(Cause::Memory);
+        };
+        if is_too_long(path.as_slice()) {
+            return Err(Cause::TooDeep);
+        }
+        match entry.kind {
+            Kind::Other => Ok(()),
+            Kind::File => self.keep_file(job, entry.name, path.as_slice(), left),
+            Kind::Dir => self.keep_directory(job, entry.name, path.as_slice(), left),
+        }
     }
-    let Ok(()) = path.set_name(&entry.name) else {
-        return Err(Cause::Memory);
-    };
-    if is_too_long(path.as_slice()) {
-        return Err(Cause::TooDeep);
-    }
-    match entry.kind {
-        Kind::Other => Ok(()),
-        Kind::File => keep_file(alloc, job, selection, entry.name, path.as_slice(), left),
-        Kind::Dir => keep_directory(alloc, job, selection, entry.name, path.as_slice(), left),
-    }
-}
 
-/// Takes all entries, in order.
-pub(crate) fn left_in(
-    alloc: Global,
-    job: &Job,
-    selection: &Selection,
-    entries: Vec<Entry>,
-    path: &mut PathBuffer,
-) -> Result<LeftIn, Cause>
-    requires { path.old.directory ≡ job.now.path }
-    ensures same { path.new.directory ≡ path.old.directory }
-    ensures left { LeavesIn selection.now job.now entries.items result }
-{
-    let mut left = LeftIn {
-        files: Vec::new(alloc),
-        children: Vec::new(alloc),
-    };
-    for entry in entries {
-        keep(alloc, job, selection, entry, path, &mut left)?;
+    /// Takes all entries, in order.
+    pub(crate) fn left_in(
+        &self,
+        job: &Job,
+        entries: Vec<Entry>,
+        path: &mut PathBuffer,
+    ) -> Result<LeftIn, Cause>
+        requires at { path.old.directory ≡ job.now.path }
+        ensures same { path.new.directory ≡ path.old.directory }
+        ensures left { LeavesIn self.now.selection job.now entries.items result }
+    {
+        let mut left = LeftIn {
+            files: Vec::new(self.alloc),
+            children: Vec::new(self.alloc),
+        };
+        for entry in entries {
+            self.keep(job, entry, path, &mut left)?;
+        }
+        Ok(left)
     }
-    Ok(left)
 }

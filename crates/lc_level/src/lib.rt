@@ -8,7 +8,7 @@
 //! - `counted`, `counting`: what became of its files, and counting them
 //! - `files`, `unread`: opening one file, to count it or to read it as rules, and why that was not possible
 //! - `paths`: the path of a name in a directory
-//! - `path_buffer`, `desk`: the paths of its entries one after another, and all buffers of a worker
+//! - `level_reader`: what is lent for all of this; `scratch`, `path_buffer`: its buffers, and the paths of entries one after another
 //! - `unlisted`: why a directory gives nothing of its entries
 //! - `laws`: that this work makes the level of the definitions
 #![tactic(auto)]
@@ -17,35 +17,37 @@ mod cause;
 mod chains;
 mod counted;
 mod counting;
-mod desk;
 mod entry_looks;
 mod files;
 mod git_info;
 mod job;
 mod laws;
 mod left_in;
+mod level_reader;
 mod opening;
 mod path_buffer;
 mod paths;
 mod place;
 mod rule_files;
 mod rule_pair;
+mod scratch;
 mod selection;
 mod unlisted;
 mod unread;
 
 pub use cause::Cause;
 pub use counted::{Counted, FileFault};
-pub use counting::{CountedFiles, count_files};
-pub use desk::Desk;
+pub use counting::CountedFiles;
 pub use job::Job;
 pub use laws::{
     a_node_is_one_tree, an_archive_is_without_export_ignore, examples_hold,
     one_answer_is_one_level, trees_of_memory_give_one, work_is_a_level,
 };
 pub use left_in::ChildDirectory;
-pub use opening::{Opened, open_level};
+pub use level_reader::LevelReader;
+pub use opening::Opened;
 pub use paths::path_in;
 pub use place::Place;
+pub use scratch::Scratch;
 pub use selection::Selection;
 pub use unlisted::Unlisted;

@@ -6,90 +6,87 @@ ghost use Rattle.lc_rules.specs.IgnoreRules.{rules_of};
 ghost use Rattle.lc_level.specs.EntryLooks.{has_file};
 ghost use Rattle.lc_level.specs.RuleReads.{IsRead, IsParsed};
 
-use crate::desk::Desk;
 use crate::entry_looks::has_file;
-use crate::files::read_rules;
+use crate::level_reader::LevelReader;
+use crate::scratch::Scratch;
 use crate::unread::Unread;
 use lc_rules::{AttrFile, IgnoreFile, RuleFault};
 use lc_tree::{Entry, FaultWord, Tree};
 use std::alloc::Global;
 use std::sync::Arc;
 
-/// Reads the file of this name in the desk's directory into the desk's rules, and says whether it is there.
-fn read_named<T: Tree>(
-    alloc: Global,
-    tree: &T,
-    entries: &[Entry],
-    name: &[u8],
-    desk: &mut Desk,
-) -> Result<bool, Unread>
-    ensures same { desk.new.path.directory ≡ desk.old.path.directory }
-    ensures read { IsRead (T.gives tree.entry.now (path_in desk.old.path.directory name.now))
-        (has_file name.now entries.now) result desk.new.rules.items }
-{
-    if !has_file(entries, name) {
-        return Ok(false);
+impl<T: Tree> LevelReader<'_, T> {
+    /// Reads the file of this name in the directory of the scratch paths into its rules, and says whether it is there.
+    fn read_named(
+        &self,
+        entries: &[Entry],
+        name: &[u8],
+        scratch: &mut Scratch,
+    ) -> Result<bool, Unread>
+        ensures same { scratch.new.path.directory ≡ scratch.old.path.directory }
+        ensures read { IsRead (T.gives self.now.tree.now (path_in scratch.old.path.directory name.now))
+            (has_file name.now entries.now) result scratch.new.rules.items }
+    {
+        if !has_file(entries, name) {
+            return Ok(false);
+        }
+        let Ok(()) = scratch.path.set_name(name) else {
+            return Err(Unread::Memory);
+        };
+        self.read_rules(
+            scratch.path.as_slice(),
+            &mut scratch.buffer,
+            &mut scratch.rules,
+        )?;
+        Ok(true)
     }
-    let Ok(()) = desk.path.set_name(name) else {
-        return Err(Unread::Memory);
-    };
-    read_rules(
-        alloc,
-        tree,
-        desk.path.as_slice(),
-        &mut desk.buffer,
-        &mut desk.rules,
-    )?;
-    Ok(true)
-}
 
-/// Reads the ignore file of this name in the desk's directory, if it is there.
-pub(crate) fn ignore_file<T: Tree>(
-    alloc: Global,
-    tree: &T,
-    entries: &[Entry],
-    name: &[u8],
-    desk: &mut Desk,
-) -> Result<Option<Arc<IgnoreFile, Global>>, Unread>
-    ensures same { desk.new.path.directory ≡ desk.old.path.directory }
-    ensures read { IsParsed (T.gives tree.entry.now (path_in desk.old.path.directory name.now))
-        (has_file name.now entries.now) rules_of result }
-{
-    if !read_named(alloc, tree, entries, name, desk)? {
-        return Ok(None);
+    /// Reads the ignore file of this name in the directory of the scratch paths, if it is there.
+    pub(crate) fn ignore_file(
+        &self,
+        entries: &[Entry],
+        name: &[u8],
+        scratch: &mut Scratch,
+    ) -> Result<Option<Arc<IgnoreFile, Global>>, Unread>
+        ensures same { scratch.new.path.directory ≡ scratch.old.path.directory }
+        ensures read { IsParsed (T.gives self.now.tree.now (path_in scratch.old.path.directory name.now))
+            (has_file name.now entries.now) rules_of result }
+    {
+        if !self.read_named(entries, name, scratch)? {
+            return Ok(None);
+        }
+        match IgnoreFile::read(self.alloc, &scratch.rules) {
+            Ok(file) => match Arc::new(self.alloc, file) {
+                Ok(file) => Ok(Some(file)),
+                Err(_) => Err(Unread::Memory),
+            },
+            Err(RuleFault::TooLong) => unreachable!(),
+            Err(RuleFault::Memory) => Err(Unread::Memory),
+        }
     }
-    match IgnoreFile::read(alloc, &desk.rules) {
-        Ok(file) => match Arc::new(alloc, file) {
-            Ok(file) => Ok(Some(file)),
-            Err(_) => Err(Unread::Memory),
-        },
-        Err(RuleFault::TooLong) => unreachable!(),
-        Err(RuleFault::Memory) => Err(Unread::Memory),
-    }
-}
 
-/// Reads the attribute file of this name in the desk's directory, if it is there; `top` says whether it may define macros.
-pub(crate) fn attribute_file<T: Tree>(
-    alloc: Global,
-    tree: &T,
-    entries: &[Entry],
-    name: &[u8],
-    top: bool,
-    desk: &mut Desk,
-) -> Result<Option<Arc<AttrFile, Global>>, Unread>
-    ensures same { desk.new.path.directory ≡ desk.old.path.directory }
-    ensures read { IsParsed (T.gives tree.entry.now (path_in desk.old.path.directory name.now)) (has_file name.now entries.now)
-        (attribute_file_of top) result }
-{
-    if !read_named(alloc, tree, entries, name, desk)? {
-        return Ok(None);
-    }
-    match AttrFile::read(alloc, &desk.rules, top) {
-        Ok(file) => match Arc::new(alloc, file) {
-            Ok(file) => Ok(Some(file)),
-            Err(_) => Err(Unread::Memory),
-        },
-        Err(RuleFault::TooLong) => unreachable!(),
-        Err(RuleFault::Memory) => Err(Unread::Memory),
+    /// Reads the attribute file of this name in the directory of the scratch paths, if it is there; `top` says whether it may define macros.
+    pub(crate) fn attribute_file(
+        &self,
+        entries: &[Entry],
+        name: &[u8],
+        top: bool,
+        scratch: &mut Scratch,
+    ) -> Result<Option<Arc<AttrFile, Global>>, Unread>
+        ensures same { scratch.new.path.directory ≡ scratch.old.path.directory }
+        ensures read { IsParsed (T.gives self.now.tree.now (path_in scratch.old.path.directory name.now)) (has_file name.now entries.now)
+            (attribute_file_of top) result }
+    {
+        if !self.read_named(entries, name, scratch)? {
+            return Ok(None);
+        }
+        match AttrFile::read(self.alloc, &scratch.rules, top) {
+            Ok(file) => match Arc::new(self.alloc, file) {
+                Ok(file) => Ok(Some(file)),
+                Err(_) => Err(Unread::Memory),
+            },
+            Err(RuleFault::TooLong) => unreachable!(),
+            Err(RuleFault::Memory) => Err(Unread::Memory),
+        }
     }
 }

@@ -5,8 +5,8 @@ ghost use Rattle.lc_level.specs.EntryLooks.{has_file};
 ghost use Rattle.lc_level.specs.RulePairs.{ReadsBoth};
 
 use crate::Place;
-use crate::desk::Desk;
-use crate::rule_files::{attribute_file, ignore_file};
+use crate::level_reader::LevelReader;
+use crate::scratch::Scratch;
 use crate::unlisted::Unlisted;
 use lc_rules::{AttrFile, IgnoreFile};
 use lc_tree::{Entry, Tree};
@@ -47,35 +47,34 @@ pub(crate) struct PairNames<'a> {
     pub(crate) top: bool,
 }
 
-/// Reads the two files of these names in the desk's directory, the rules first.
-pub(crate) fn read_pair<T: Tree>(
-    alloc: Global,
-    tree: &T,
-    entries: &[Entry],
-    names: PairNames,
-    desk: &mut Desk,
-) -> Result<RulePair, Unlisted>
-    ensures same { desk.new.path.directory ≡ desk.old.path.directory }
-    ensures read { ReadsBoth
-        (T.gives tree.entry.now (path_in desk.old.path.directory names.entry.rules.name.now))
-        (T.gives tree.entry.now (path_in desk.old.path.directory names.entry.attributes.name.now))
-        (has_file names.entry.rules.name.now entries.now) (has_file names.entry.attributes.name.now entries.now)
-        names.entry.top names.entry.rules.place names.entry.attributes.place result }
-{
-    let rules = match ignore_file(alloc, tree, entries, names.rules.name, desk) {
-        Ok(file) => file,
-        Err(unread) => return Err(unread.at(names.rules.place)),
-    };
-    let attributes = match attribute_file(
-        alloc,
-        tree,
-        entries,
-        names.attributes.name,
-        names.top,
-        desk,
-    ) {
-        Ok(file) => file,
-        Err(unread) => return Err(unread.at(names.attributes.place)),
-    };
-    Ok(RulePair { rules, attributes })
+impl<T: Tree> LevelReader<'_, T> {
+    /// Reads the two files of these names in the directory of the scratch paths, the rules first.
+    pub(crate) fn read_pair(
+        &self,
+        entries: &[Entry],
+        names: PairNames,
+        scratch: &mut Scratch,
+    ) -> Result<RulePair, Unlisted>
+        ensures same { scratch.new.path.directory ≡ scratch.old.path.directory }
+        ensures read { ReadsBoth
+            (T.gives self.now.tree.now (path_in scratch.old.path.directory names.entry.rules.name.now))
+            (T.gives self.now.tree.now (path_in scratch.old.path.directory names.entry.attributes.name.now))
+            (has_file names.entry.rules.name.now entries.now) (has_file names.entry.attributes.name.now entries.now)
+            names.entry.top names.entry.rules.place names.entry.attributes.place result }
+    {
+        let rules = match self.ignore_file(entries, names.rules.name, scratch) {
+            Ok(file) => file,
+            Err(unread) => return Err(unread.at(names.rules.place)),
+        };
+        let attributes = match self.attribute_file(
+            entries,
+            names.attributes.name,
+            names.top,
+            scratch,
+        ) {
+            Ok(file) => file,
+            Err(unread) => return Err(unread.at(names.attributes.place)),
+        };
+        Ok(RulePair { rules, attributes })
+    }
 }

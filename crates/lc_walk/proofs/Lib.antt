@@ -1,8 +1,8 @@
+pub mod AllWorked
 pub mod Broken
 pub mod ChildPlaces
 pub mod Composed
 pub mod Core
-pub mod CrewWorked
 pub mod FilesByPlace
 pub mod Filtered
 pub mod Fuller

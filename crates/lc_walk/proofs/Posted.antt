@@ -1,11 +1,11 @@
 -- What posts leave of a pass.
-use Rattle.std.proofs.Common.{◌≡◌, ◌≢◌, ℕ, zero, suc, List, [], ◌∷◌, ◌++◌, length, take, refl, sym, ◌∙◌, ap, subst, None, Ok, Err}
+use Rattle.std.proofs.Common.{◌≡◌, ℕ, zero, suc, List, [], ◌∷◌, ◌++◌, length, take, refl, sym, ◌∙◌, ap, subst, Ok, Err}
 use Rattle.std.proofs.Common.{append_assoc, append-nil}
 use Rattle.std.specs.List.{AllByRecursion}
 use Rattle.std.proofs.lemmas.List.{map-append}
 use Rattle.std.proofs.Math.Seq.{take-append_seam}
 use Rattle.lc_board.specs.Holding as events
-use Rattle.lc_board.specs.Pass.{Pass, holding, held_number, adding, filled}
+use Rattle.lc_board.specs.Pass.{Pass, held_number, adding, filled}
 use Rattle.lc_board.specs.declared.event.Event.{Event}
 use Rattle.lc_board.specs.declared.event.Event.TheVariants.{Post, Claim, Return, Fault, Over}
 use Rattle.lc_level.specs.Job.{JobModel}
@@ -39,14 +39,6 @@ job_stays (Claim w i j ∷ s) m a = absurd a.0
 job_stays (Return w i r ∷ s) m a = absurd a.0
 job_stays (Fault w i r ∷ s) m a = absurd a.0
 job_stays (Over w ∷ s) m a = absurd a.0
-
-claim_stays : (s m : Events) → AllByRecursion IsPost s → events.holding (s ++ m) ≡ events.holding m
-claim_stays [] m a = refl
-claim_stays (Post w p i j ∷ s) m a = claim_stays s m a.1
-claim_stays (Claim w i j ∷ s) m a = absurd a.0
-claim_stays (Return w i r ∷ s) m a = absurd a.0
-claim_stays (Fault w i r ∷ s) m a = absurd a.0
-claim_stays (Over w ∷ s) m a = absurd a.0
 
 both_only : (s m : Events) → AllByRecursion IsPost s → AllByRecursion IsPost m → AllByRecursion IsPost (s ++ m)
 both_only [] m a b = b
@@ -100,10 +92,6 @@ posted_then p q r js ks a b = record {
       ∙ ap (λ x. x ++ jobs_of (events.posts_held b.since)) a.jobs_are
       ∙ ap (λ x. js ++ x) b.jobs_are;
 }
-
--- a post leaves the claim held
-pub still_holds : (p q : Pass JobModel Row) (js : List JobModel) → HasPosted p q js → holding p ≢ None → holding q ≢ None
-still_holds p q js a n e = n (sym (ap events.holding a.mine ∙ claim_stays a.since p.mine a.only) ∙ e)
 
 -- ---- the children's names with the numbers of their posts
 
@@ -180,10 +168,3 @@ pub refused_first : (p q r : Pass JobModel Row) (done rest all : List (List ℕ 
 refused_first p q r done rest all c Memory e a b = posted_first p q r done rest all c b.0 e a b.1
 refused_first p q r done rest all c TooManyDirs e a b = let h = posted_first p q r done rest all c b.0 e a b.1 in (h.0, h.1, b.2)
 refused_first p q r done rest all c TooDeep e a b = b
-
--- so does a post that was refused
-pub refused_holds : (p q : Pass JobModel Row) (jobs : List JobModel) (cause : Cause) → RefusesPost jobs p q cause → holding p ≢ None
-    → holding q ≢ None
-refused_holds p q jobs Memory x n = still_holds p q _ x.1 n
-refused_holds p q jobs TooManyDirs x n = still_holds p q _ x.1 n
-refused_holds p q jobs TooDeep x n = absurd x

@@ -1,13 +1,12 @@
 -- The rows by which a worker ends its claims are lawful.
-use Rattle.std.proofs.Common.{◌≡◌, ◌≢◌, ℕ, List, [], ◌++◌, map, take, cond, refl, sym, ◌∙◌, ap, subst, Option, Some, None, Result, Ok}
+use Rattle.std.proofs.Common.{◌≡◌, ℕ, List, [], ◌++◌, map, take, cond, refl, sym, ◌∙◌, ap, subst, Option, Some, None, Result, Ok}
 use Rattle.std.proofs.Common.{Err, inl, inr, arith}
 use Rattle.std.proofs.Math.Seq.{take-length}
 use Rattle.std.proofs.lemmas.List.Sorted.{IsPermutation-append_comm}
 use Rattle.std.specs.List.Sorted.{IsStrictlySortedBy}
 use Rattle.std.specs.declared.alloc.AllocError.{AllocError}
 use Rattle.lc_board.specs.Holding.{job_held, posts_held}
-use Rattle.lc_board.specs.Pass.{Pass, holding, after_claim, after_give, after_fault}
-use Rattle.lc_board.specs.declared.answers.Claim.TheVariants.{Got}
+use Rattle.lc_board.specs.Pass.{Pass, after_give, after_fault}
 use Rattle.lc_board.specs.declared.answers.Ended.TheVariants as ended
 use Rattle.lc_tree.specs.Listing.{IsListing}
 use Rattle.lc_tree.specs.Trees.{Listings, Contents}
@@ -31,7 +30,7 @@ use Rattle.lc_walk.specs.WalkReport.{tallied}
 use Rattle.lc_walk.specs.Worked.{IsLawfulEnd}
 use Rattle.lc_walk.proofs.Joining.{stands_permuted}
 use Rattle.lc_walk.proofs.Posted.{posts_come, job_stays}
-use Rattle.lc_walk.proofs.Working.{works_claim, works_posts, works_give, works_fault, serves_broken, then_serves}
+use Rattle.lc_walk.proofs.Working.{works_posts, works_give, works_fault, serves_broken, then_serves}
 use Rattle.lc_level.specs.declared.cause.Cause.{Cause}
 use Rattle.lc_level.specs.declared.cause.Cause.TheVariants.{Memory, TooManyDirs, TooDeep}
 use Rattle.lc_level.specs.declared.counting.CountedFiles.{CountedFiles}
@@ -51,13 +50,18 @@ module _ (ask : Asked) (lists : List ℕ → Listings) (gives : List ℕ → Con
       (ended.Returned (Broken (record { job = j; cause = c }))) a
 
   -- a directory was given up before anything was posted
-  pub memory_end : (p : Pass JobModel Row) (j : JobModel) → HoldsJob j p → Lawful p j Memory no_answers
+  memory_end : (p : Pass JobModel Row) (j : JobModel) → HoldsJob j p → Lawful p j Memory no_answers
   memory_end p j h = record {
     job_is = h.job_is;
     tidy = no_entries;
     says = record { posted = 0; posts_are = ap jobs_of h.none; cause_is = tt };
     may = inl (refl, h.none);
   }
+
+  -- and with it the tally, whatever stood there
+  pub serves_unasked : (p : Pass JobModel Row) (j : JobModel) (t : Option TallyModel) → HoldsJob j p
+      → GoesOn ask (MayAnswer lists gives) p (after_give p (Broken (record { job = j; cause = Memory }))) t None
+  serves_unasked p j t h = works_give ask (MayAnswer lists gives) p _ no_answers t None (memory_end p j h) (λ fs s. tt) (λ e. inl refl)
 
   unopened_end : (p : Pass JobModel Row) (j : JobModel) (c : Cause) → HoldsJob j p
       → OpensLevel lists gives ask.selection j (Err (unlisted.Broken c)) → (a : Answers) × Lawful p j c a
@@ -182,20 +186,3 @@ module _ (ask : Asked) (lists : List ℕ → Listings) (gives : List ℕ → Con
             subst (λ xs. StandsFor u (map tallied xs ++ fs)) (sym own_files)
             (stands_permuted u (fs ++ map tallied found.files.items) (map tallied found.files.items ++ fs)
             (IsPermutation-append_comm fs (map tallied found.files.items)) (adds fs s))
-
--- a pass with a job holds a claim
-pub job_holds : (p : Pass JobModel Row) (j : JobModel) → HoldsJob j p → holding p ≢ None
-job_holds p j h e = let n : Some h.number ≡ None = sym h.holds ∙ e in absurd (cc n)
-
--- a claim that was got
-pub got_job : (p : Pass JobModel Row) (i : ℕ) (j : JobModel) → HoldsJob j (after_claim p (Got i j))
-got_job p i j = record { number = i; holds = refl; job_is = refl; none = refl; nothing = refl }
-
--- what was got is given up
-pub works_given_up : (ask : Asked) (lists : List ℕ → Listings) (gives : List ℕ → Contents) (p : Pass JobModel Row) (i : ℕ)
-    (j : JobModel) (t : Option TallyModel) →
-    GoesOn ask (MayAnswer lists gives) p (after_give (after_claim p (Got i j)) (Broken (record { job = j; cause = Memory }))) t t
-works_given_up ask lists gives p i j t first w =
-    works_give ask (MayAnswer lists gives) (after_claim p (Got i j)) (Broken (record { job = j; cause = Memory })) no_answers t t
-    (memory_end ask lists gives (after_claim p (Got i j)) j (got_job p i j)) (λ fs s. s) inr first
-    (works_claim ask (MayAnswer lists gives) p (Got i j) t first w)

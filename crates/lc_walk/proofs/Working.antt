@@ -1,7 +1,8 @@
 -- What a worker has done goes on with each call.
 use Rattle.std.proofs.Common.{◌≡◌, ◌≢◌, ◌⊎◌, inl, inr, ℕ, Bool, List, [], ◌∷◌, ◌++◌, refl, sym, ◌∙◌, ap, subst, Option, Some, None}
-use Rattle.std.proofs.Common.{Result, Ok, Err, append_assoc}
+use Rattle.std.proofs.Common.{Result, Ok, Err, true, append_assoc}
 use Rattle.std.specs.List.{AllByRecursion}
+use Rattle.std.specs.Result.{is_err}
 use Rattle.std.specs.declared.alloc.AllocError.{AllocError}
 use Rattle.lc_board.specs.Holding.{job_held, posts_held}
 use Rattle.lc_board.specs.Pass.{Pass, held_number, after_claim, after_give, after_fault}
@@ -183,3 +184,9 @@ module _ (ask : Asked) (MayAnswer : List ℕ → Answers → Type 0) where
       → GoesOn ask MayAnswer p q (Some t) (Some t) → Serves ask MayAnswer q r t u result → Serves ask MayAnswer p r t u result
   then_serves p q r t u (Ok _) a b = λ first w. b first (a first w)
   then_serves p q r t u (Err _) a b = λ first w. b first (a first w)
+
+  -- where memory was refused no tally is left
+  pub refused_serves : (p q : Pass JobModel Row) (t u : TallyModel) (result : Result (Unit {0}) AllocError) → is_err result ≡ true
+      → Serves ask MayAnswer p q t u result → GoesOn ask MayAnswer p q (Some t) None
+  refused_serves p q t u (Ok _) e s = absurd (cc e)
+  refused_serves p q t u (Err _) e s = s

@@ -1,4 +1,5 @@
 pub mod Assembled
+pub mod BoardPasses
 pub mod CountedFiles
 pub mod Examples
 pub mod Extension

@@ -40,7 +40,7 @@ pub fn finish<B: Shared<Job, Row>, T: Tree>(
     tally: Tally,
 ) -> Result<Report, WalkFault>
     requires room { (1 ≤ B.capacity_of board) × (B.capacity_of board ≤ 1048576) }
-    requires crew { 1 ≤ B.workers_of board }
+    requires workers { 1 ≤ B.workers_of board }
     requires top { (root : JobModel) × B.is_root board root × (root.path ≡ []) }
     requires all { vec_len passes ≡ B.workers_of board }
     requires each { (w : ℕ) (p : B.Pass) → slice_get passes.items w ≡ Some p → B.owns board p × ((B.Pass.view p).worker ≡ w) }

@@ -3,13 +3,12 @@
 //! - `row`: what a worker gives for a directory
 //! - `tally`: the sums over the counted files, a row for each key
 //! - `report`: what a walk reports, and how the rows of a closed board make it
-//! - `worker`, with what is below it: one worker; `crew`: all workers at the same time
+//! - `worker`, with what is below it: one worker; `workers`: all workers at the same time
 //! - `closing`: the end of a walk; `walking`: the whole walk, by its `options`; `walk_fault`: why there is no report
 //! - `laws`: what is true of the definitions that the contracts cite
 #![tactic(auto)]
 
 mod closing;
-mod crew;
 mod laws;
 mod options;
 mod report;
@@ -18,6 +17,7 @@ mod tally;
 mod walk_fault;
 mod walking;
 mod worker;
+mod workers;
 
 pub use closing::finish;
 pub use laws::{
@@ -31,4 +31,4 @@ pub use row::{BrokenRow, Child, FaultedRow, ListedRow, Row};
 pub use tally::{Sums, Tally, TallyRow, extension};
 pub use walk_fault::WalkFault;
 pub use walking::{walk, walk_on};
-pub use worker::{End, Worked, work};
+pub use worker::{End, Worked, Worker};

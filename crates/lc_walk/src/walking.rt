@@ -6,11 +6,11 @@ ghost use Rattle.lc_walk.specs.WalkAnswers.{WalkAnswers};
 ghost use Rattle.lc_walk.specs.WalkOptions.{AreWithinLimits, asked_by, top_of};
 
 use crate::closing::finish;
-use crate::crew::{Gathered, gather, run_all};
 use crate::options::Options;
 use crate::report::Report;
 use crate::row::Row;
 use crate::walk_fault::WalkFault;
+use crate::workers::{Gathered, gather, run_all};
 use lc_board::{Shared, Words};
 use lc_level::Job;
 use lc_tree::Tree;

@@ -3,11 +3,9 @@
 //! - `serving`: what it does with a directory that it has claimed
 //! - `posting`: how it posts the child directories; `adding`: how it adds the counted files to its tally
 //! - `idle`: how it waits where there is nothing to claim
-ghost use Rattle.std.specs.Prelude.{◌≡◌, None, Option};
-ghost use Rattle.lc_board.specs.Pass.{Pass, holding};
-ghost use Rattle.lc_level.specs.Answers.{Answers};
 ghost use Rattle.lc_level.specs.TreeAnswers.{MayAnswer};
-ghost use Rattle.lc_walk.specs.Serving.{EndsAs, GoesOn};
+ghost use Rattle.lc_walk.specs.BoardPasses.{IsFree, IsPassOf};
+ghost use Rattle.lc_walk.specs.Serving.{EndsAs};
 ghost use Rattle.lc_walk.specs.WalkOptions.{asked_by};
 ghost use Rattle.lc_walk.specs.Worked.{HasWorked};
 
@@ -17,13 +15,12 @@ mod posting;
 mod serving;
 
 use crate::options::Options;
-use crate::row::{BrokenRow, Row};
+use crate::row::Row;
 use crate::tally::Tally;
 use crate::worker::idle::Idle;
 use lc_board::{Claim, Shared};
-use lc_level::{Cause, Desk, Job};
+use lc_level::{Job, Scratch};
 use lc_tree::Tree;
-use serving::serve;
 use std::alloc::Global;
 use std::sync::{Wait, WaitMethods};
 
@@ -45,104 +42,50 @@ pub struct Worked<P> {
     pub tally: Option<Tally>,
 }
 
-/// Gives up what is left, as there is no report without memory.
-fn give_up_rest<B: Shared<Job, Row>, T: Tree, W: Wait>(
-    rt: &W,
-    board: &B,
-    pass: B::Pass,
-    tree: &T,
-    options: &Options<'_>,
-    tally: Option<Tally>,
-) -> Worked<B::Pass>
-    requires pass { B.owns board.now pass }
-    requires free { holding (B.Pass.view pass) ≡ None }
-    ensures pass { B.owns board.now result.pass }
-    ensures free { holding (B.Pass.view result.pass) ≡ None }
-    ensures end { EndsAs result.end (B.Pass.view result.pass) }
-    ensures worked { GoesOn (asked_by options.now) (MayAnswer (T.lists tree.now) (T.gives tree.now))
-        (B.Pass.view pass) (B.Pass.view result.pass) tally result.tally }
-{
-    let _tree = tree;
-    let _options = options;
-    let mut pass = pass;
-    let mut idle = Idle::new();
-    for _ in rt.forever() {
-        match board.claim(rt, &mut pass) {
-            Claim::Got(_, job) => {
-                idle.end();
-                let cause = Cause::Memory;
-                board.give(rt, &mut pass, Row::Broken(BrokenRow { job, cause }));
-            }
-            Claim::Later => idle.wait(rt),
-            Claim::Over => {
-                return Worked {
-                    pass,
-                    end: End::Over,
-                    tally,
-                };
-            }
-            Claim::Memory => {
-                return Worked {
-                    pass,
-                    end: End::Memory,
-                    tally,
-                };
-            }
-        }
-    }
-    unreachable!()
+/// A worker, by what is lent to it for all its directories.
+///
+/// ```
+/// let worker = Worker { rt, alloc, board: &board, tree: &tree, options: &options };
+/// let Worked { pass, end, tally } = worker.run(pass);
+/// ```
+#[derive(Drop)]
+pub struct Worker<'w, B, T, W> {
+    pub rt: &'w W,
+    pub alloc: Global,
+    pub board: &'w B,
+    pub tree: &'w T,
+    pub options: &'w Options<'w>,
 }
 
-/// Claims directories and serves each, until there are no more.
-pub fn work<B: Shared<Job, Row>, T: Tree, W: Wait>(
-    rt: &W,
-    alloc: Global,
-    board: &B,
-    pass: B::Pass,
-    tree: &T,
-    options: &Options<'_>,
-) -> Worked<B::Pass>
-    requires pass { B.owns board.now pass }
-    requires free { holding (B.Pass.view pass) ≡ None }
-    ensures pass { B.owns board.now result.pass }
-    ensures free { holding (B.Pass.view result.pass) ≡ None }
-    ensures end { EndsAs result.end (B.Pass.view result.pass) }
-    ensures worked { HasWorked (asked_by options.now) (MayAnswer (T.lists tree.now) (T.gives tree.now))
-        (B.Pass.view pass) (B.Pass.view result.pass) result.tally }
-{
-    let mut pass = pass;
-    let mut tally = Tally::new(alloc);
-    let Ok(mut desk) = Desk::new(alloc) else {
-        return give_up_rest(rt, board, pass, tree, options, Some(tally));
-    };
-    let mut idle = Idle::new();
-    for _ in rt.forever() {
-        match board.claim(rt, &mut pass) {
-            Claim::Got(_, job) => {
-                idle.end();
-                match serve(
-                    rt, alloc, board, &mut pass, tree, options, job, &mut desk, &mut tally,
-                ) {
-                    Ok(()) => {}
-                    Err(_) => return give_up_rest(rt, board, pass, tree, options, None),
+impl<B: Shared<Job, Row>, T: Tree, W: Wait> Worker<'_, B, T, W> {
+    /// Claims directories and serves each, until there are no more.
+    pub fn run(&self, pass: B::Pass) -> Worked<B::Pass>
+        requires { IsPassOf B.owns B.Pass.view self.now.board.now IsFree pass }
+        ensures pass { IsPassOf B.owns B.Pass.view self.now.board.now IsFree result.pass }
+        ensures end { EndsAs result.end (B.Pass.view result.pass) }
+        ensures worked { HasWorked (asked_by self.now.options.now) (MayAnswer (T.lists self.now.tree.now) (T.gives self.now.tree.now))
+            (B.Pass.view pass) (B.Pass.view result.pass) result.tally }
+    {
+        let mut pass = pass;
+        let mut scratch = Scratch::new(self.alloc).ok();
+        let mut tally = Some(Tally::new(self.alloc));
+        let mut idle = Idle::new();
+        for _ in self.rt.forever() {
+            let end = match self.board.claim(self.rt, &mut pass) {
+                Claim::Got(_, job) => {
+                    idle.end();
+                    self.serve_or_give_up(&mut pass, job, &mut scratch, &mut tally);
+                    continue;
                 }
-            }
-            Claim::Later => idle.wait(rt),
-            Claim::Over => {
-                return Worked {
-                    pass,
-                    end: End::Over,
-                    tally: Some(tally),
-                };
-            }
-            Claim::Memory => {
-                return Worked {
-                    pass,
-                    end: End::Memory,
-                    tally: Some(tally),
-                };
-            }
+                Claim::Later => {
+                    idle.wait(self.rt);
+                    continue;
+                }
+                Claim::Over => End::Over,
+                Claim::Memory => End::Memory,
+            };
+            return Worked { pass, end, tally };
         }
+        unreachable!()
     }
-    unreachable!()
 }

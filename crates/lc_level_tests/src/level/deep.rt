@@ -1,7 +1,7 @@
 //! What is too long or too deep for a walk.
 
 use crate::level::work::{Asked, Level, check, open, top};
-use lc_level::{Cause, Desk, Job, Selection, Unlisted};
+use lc_level::{Cause, Job, LevelReader, Scratch, Selection, Unlisted};
 use lc_tree::{MemTree, Node, Sketch};
 use std::alloc::{AllocError, Global};
 use std::test::Fail;
@@ -54,11 +54,15 @@ fn nested(alloc: Global, depth: u32) -> Result<Node, AllocError> {
 
 /// Goes down to the directory from which no other is reached, and says how deep it is and how it ended.
 fn descend(alloc: Global, tree: &MemTree) -> Result<(u32, Option<Unlisted>), AllocError> {
-    let mut desk = Desk::new(alloc)?;
-    let selection = Selection::new(false, &[]);
+    let mut scratch = Scratch::new(alloc)?;
+    let levels = LevelReader {
+        alloc,
+        tree,
+        selection: Selection::new(false, &[]),
+    };
     let mut job = Job::top(alloc, None)?;
     for depth in 0..300 {
-        match open(alloc, tree, &job, &selection, &mut desk)? {
+        match open(&levels, &job, &mut scratch)? {
             Err(unlisted) => return Ok((depth, Some(unlisted))),
             Ok(opened) => {
                 let mut children = opened.children;

@@ -1,8 +1,6 @@
 //! One directory's work on a sketch, and what is wanted of it.
 
-use lc_level::{
-    Cause, CountedFiles, Desk, Job, Opened, Selection, Unlisted, count_files, open_level,
-};
+use lc_level::{Cause, CountedFiles, Job, LevelReader, Opened, Scratch, Selection, Unlisted};
 use lc_rules::{IgnoreFile, RuleFault, TextState};
 use lc_tree::{FaultWord, MemTree, Sketch};
 use std::alloc::{AllocError, Global};
@@ -55,13 +53,11 @@ fn exclude_file(
 
 /// What opening a directory answers, but for want of memory.
 pub(crate) fn open(
-    alloc: Global,
-    tree: &MemTree,
+    levels: &LevelReader<MemTree>,
     job: &Job,
-    selection: &Selection,
-    desk: &mut Desk,
+    scratch: &mut Scratch,
 ) -> Result<Result<Opened, Unlisted>, AllocError> {
-    match open_level(alloc, tree, job, selection, desk) {
+    match levels.open(job, scratch) {
         Err(Unlisted::Broken(Cause::Memory)) => Err(AllocError),
         answer => Ok(answer),
     }
@@ -69,17 +65,15 @@ pub(crate) fn open(
 
 /// The job of the directory that is asked about.
 fn job_of(
-    alloc: Global,
-    tree: &MemTree,
+    levels: &LevelReader<MemTree>,
     asked: &Asked,
-    desk: &mut Desk,
+    scratch: &mut Scratch,
 ) -> Result<Option<Job>, AllocError> {
-    let top = Job::top(alloc, exclude_file(alloc, asked.exclude)?)?;
-    let selection = Selection::new(asked.archive, asked.without);
+    let top = Job::top(levels.alloc, exclude_file(levels.alloc, asked.exclude)?)?;
     let Some(below) = asked.below else {
         return Ok(Some(top));
     };
-    let Ok(opened) = open(alloc, tree, &top, &selection, desk)? else {
+    let Ok(opened) = open(levels, &top, scratch)? else {
         return Ok(None);
     };
     for child in opened.children {
@@ -99,13 +93,11 @@ struct Found {
 
 /// Opens the directory of the job and counts its files.
 fn work(
-    alloc: Global,
-    tree: &MemTree,
+    levels: &LevelReader<MemTree>,
     job: &Job,
-    selection: &Selection,
-    desk: &mut Desk,
+    scratch: &mut Scratch,
 ) -> Result<Result<Found, Unlisted>, AllocError> {
-    let opened = match open_level(alloc, tree, job, selection, desk) {
+    let opened = match levels.open(job, scratch) {
         Ok(opened) => opened,
         Err(Unlisted::Broken(Cause::Memory)) => return Err(AllocError),
         Err(unlisted) => return Ok(Err(unlisted)),
@@ -115,11 +107,11 @@ fn work(
         files,
         children,
     } = opened;
-    let mut names = Vec::new(alloc);
+    let mut names = Vec::new(levels.alloc);
     for child in children {
         names.push(child.name)?;
     }
-    let counted = count_files(alloc, tree, &job, files, desk)?;
+    let counted = levels.count(&job, files, scratch)?;
     let children = names;
     Ok(Ok(Found { counted, children }))
 }
@@ -167,13 +159,17 @@ pub(crate) fn check(
 ) -> Result<(), AllocError> {
     let node = asked.tree.node(alloc)?;
     let tree = MemTree::new(&node);
-    let mut desk = Desk::new(alloc)?;
-    let Some(job) = job_of(alloc, &tree, &asked, &mut desk)? else {
+    let levels = LevelReader {
+        alloc,
+        tree: &tree,
+        selection: Selection::new(asked.archive, asked.without),
+    };
+    let mut scratch = Scratch::new(alloc)?;
+    let Some(job) = job_of(&levels, &asked, &mut scratch)? else {
         assert!(rt; false, "{case}: no such directory");
         return Ok(());
     };
-    let selection = Selection::new(asked.archive, asked.without);
-    let found = work(alloc, &tree, &job, &selection, &mut desk)?;
+    let found = work(&levels, &job, &mut scratch)?;
     assert!(rt; is_wanted(&found, &wanted), "{case}");
     Ok(())
 }

@@ -4,9 +4,9 @@ ghost use Rattle.lc_board.specs.Pass.{holding, new_pass};
 
 use crate::walk::walked::walk_options;
 use lc_board::{Claim, CloseFault, Closed, Ended, Locked, Shared, Words};
-use lc_level::{Cause, Desk, Job, Place, Selection, open_level};
+use lc_level::{Cause, Job, LevelReader, Place, Scratch, Selection};
 use lc_tree::{FaultWord, MemTree, Sketch, Tree};
-use lc_walk::{BrokenRow, End, Row, Tally, WalkFault, Worked, assemble, work};
+use lc_walk::{BrokenRow, End, Row, Tally, WalkFault, Worked, Worker, assemble};
 use std::alloc::{AllocError, Global};
 use std::process::Abort;
 use std::sync::Wait;
@@ -117,7 +117,14 @@ fn check_each_kind<B: Shared<Job, Row>, R: Wait + Abort>(
     let tree = MemTree::new(&node);
     let mut options = walk_options(1, 4);
     options.files = true;
-    let Worked { pass, end, .. } = work(rt, alloc, &board, pass, &tree, &options);
+    let worker = Worker {
+        rt,
+        alloc,
+        board: &board,
+        tree: &tree,
+        options: &options,
+    };
+    let Worked { pass, end, .. } = worker.run(pass);
     if end == End::Memory {
         return Err(AllocError);
     }
@@ -142,9 +149,12 @@ const ONE_IN_THE_OTHER: Sketch = Sketch::Dir(&[(b"d", Sketch::Dir(&[(b"e", Sketc
 
 /// The last child directory of a job's.
 fn last_child<T: Tree>(alloc: Global, tree: &T, job: &Job) -> Result<Job, AllocError> {
-    let mut desk = Desk::new(alloc)?;
-    let selection = Selection::new(false, &[]);
-    let Ok(mut opened) = open_level(alloc, tree, job, &selection, &mut desk) else {
+    let levels = LevelReader {
+        alloc,
+        tree,
+        selection: Selection::new(false, &[]),
+    };
+    let Ok(mut opened) = levels.open(job, &mut Scratch::new(alloc)?) else {
         return Err(AllocError);
     };
     match opened.children.pop() {
@@ -187,7 +197,15 @@ fn check_broken_top<B: Shared<Job, Row>, R: Wait + Abort>(
     let tree = MemTree::new(&node);
     let (board, mut pass) = start_one::<B>(alloc)?;
     break_top(rt, alloc, &board, &mut pass, &tree)?;
-    let Worked { pass, end, tally } = work(rt, alloc, &board, pass, &tree, &walk_options(1, 4));
+    let options = walk_options(1, 4);
+    let worker = Worker {
+        rt,
+        alloc,
+        board: &board,
+        tree: &tree,
+        options: &options,
+    };
+    let Worked { pass, end, tally } = worker.run(pass);
     if end == End::Memory {
         return Err(AllocError);
     }
@@ -247,7 +265,14 @@ fn check_refused<B: Shared<Job, Row>, R: Wait + Abort>(
     let tree = MemTree::new(&node);
     let mut options = walk_options(1, 4);
     options.files = true;
-    let Worked { pass, end, tally } = work(rt, alloc, &board, pass, &tree, &options);
+    let worker = Worker {
+        rt,
+        alloc,
+        board: &board,
+        tree: &tree,
+        options: &options,
+    };
+    let Worked { pass, end, tally } = worker.run(pass);
     if end == End::Memory {
         return Err(AllocError);
     }

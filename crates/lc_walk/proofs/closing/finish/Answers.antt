@@ -28,4 +28,4 @@ returns-in-Err g c tree selection worked root is at_top =
     (g.B.Shared.capacity_of c.args.board) (g.B.Shared.workers_of c.args.board) root g.B.Shared.promises
     (map (λ p. g.B.Pass.Token.view p) c.args.passes.items) c.requires.room.0
     (mapped (λ p. g.B.Pass.Token.view p) c.args.passes.items ∙ sym c.args.passes.ok.0 ∙ c.requires.all) at_top
-    c.requires.crew worked.ended c.in-Err.fault c.in-Err.ensures.fault)
+    c.requires.workers worked.ended c.in-Err.fault c.in-Err.ensures.fault)

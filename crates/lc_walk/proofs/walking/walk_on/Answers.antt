@@ -4,7 +4,7 @@ use Rattle.lc_board.proofs.ReturnedPasses.{still_in_order, taken_in_order}
 use Rattle.lc_level.specs.TreeAnswers.{MayAnswer}
 use Rattle.lc_walk.specs.Passes.{HaveWorked}
 use Rattle.lc_walk.specs.WalkOptions.{asked_by}
-use Rattle.lc_walk.proofs.CrewWorked.{have_worked}
+use Rattle.lc_walk.proofs.AllWorked.{have_worked}
 use Rattle.lc_walk.proofs.walking.walk_on.Goals as goal
 
 pub run_all-requires-clause-each : goal.run_all-requires-clause-each

@@ -1,0 +1,13 @@
+use Rattle.std.proofs.Common.{rules}
+use Rattle.lc_level.proofs.CountedMore.{counted_next}
+use Rattle.lc_level.proofs.level_reader.LevelReader.count.Goals as goal
+
+pub loop-name-preserved : goal.loop-name-preserved
+loop-name-preserved g c = (
+  tt,
+  tt,
+  search rules,
+  counted_next (g.T.Tree.gives c.args.self.now.tree.now) c.args.job.now c.loop-name.yielded c.in-Some.name
+      c.loop-name.found c.count_one.new.found c.count_one.result c.in_ok-count_one.field-0 c.in_ok-count_one.was (search rules)
+      c.count_one.ensures.counted,
+)

@@ -1,0 +1,16 @@
+use Rattle.std.proofs.Common.{◌≡◌, ◌&&◌, false, sym, ◌∙◌, codes}
+use Rattle.lc_level.specs.EntryLooks.{has_dir}
+use Rattle.lc_level.specs.RuleFiles.{is_top}
+use Rattle.lc_level.proofs.Depths.{below_top}
+use Rattle.lc_level.proofs.GitReads.{no_git}
+use Rattle.lc_level.proofs.level_reader.LevelReader.read_info.Goals as goal
+
+pub returns-then-not-is_empty : goal.returns-then-not-is_empty
+returns-then-not-is_empty g c =
+    let law = g.met.T.Tree g.world.𝓛 g.world.𝓜 g.world.𝓡 ((λ s x. x), (λ x. x), (λ x. x), λ x. x) in
+    let there = is_top c.args.directory.now && has_dir (codes ".git") c.args.entries.now in
+    let absent : there ≡ false = below_top c.args.directory.now (has_dir (codes ".git") c.args.entries.now)
+    (sym c.is_empty.ensures ∙ c.if-not-is_empty.true) in
+    no_git (g.T.Tree.lists c.args.self.now.tree.now) (g.T.Tree.gives c.args.self.now.tree.now) (law.some_count c.args.self.now.tree.now)
+    (law.some_rules c.args.self.now.tree.now)
+    there c.none.result absent c.none.ensures

@@ -1,0 +1,30 @@
+//! The buffers of a worker.
+ghost use Rattle.std.specs.Prelude.{◌≡◌, vec_len};
+ghost use Rattle.lc_census.specs.Limits.{buffer_len};
+
+use crate::path_buffer::PathBuffer;
+use lc_census::new_buffer;
+use std::alloc::{AllocError, Global};
+
+/// The buffers that a worker lends to all its directories, so that a directory takes no memory for what it does not keep.
+#[derive(Drop)]
+pub struct Scratch {
+    // Of one read of a file.
+    pub(crate) buffer: Vec<u8>,
+    // Of a rule file.
+    pub(crate) rules: Vec<u8>,
+    // Of an entry.
+    pub(crate) path: PathBuffer,
+    ghost sized: { vec_len buffer ≡ buffer_len },
+}
+
+impl Scratch {
+    /// Empty buffers, and one of `BUFFER_LEN` bytes for reads.
+    pub fn new(alloc: Global) -> Result<Scratch, AllocError> {
+        Ok(Scratch {
+            buffer: new_buffer(alloc)?,
+            rules: Vec::new(alloc),
+            path: PathBuffer::new(alloc),
+        })
+    }
+}

@@ -1,0 +1,118 @@
+//! All workers of a walk: they run at the same time, and their tallies become one.
+ghost use Rattle.std.specs.Prelude.{◌≡◌, ℕ, ◌<◌, ◌++◌, ◌∷◌, [], List, IfOk, IfSome, map, vec_len, slice_index_or};
+ghost use Rattle.lc_level.specs.TreeAnswers.{MayAnswer};
+ghost use Rattle.lc_walk.specs.BoardPasses.{IsFree, IsPassOf};
+ghost use Rattle.lc_walk.specs.Running.{HasRun, AllOver, TalliesAll};
+ghost use Rattle.lc_walk.specs.Worked.{TalliesFor};
+ghost use Rattle.lc_walk.specs.declared.worker.End.TheVariants.{Over};
+ghost use Rattle.lc_walk.specs.Tally.{CountedFile, StandsFor};
+ghost use Rattle.lc_walk.specs.WalkOptions.{asked_by};
+
+use crate::options::Options;
+use crate::row::Row;
+use crate::tally::{MOST_FILES, Tally};
+use crate::worker::{End, Worked, Worker};
+use lc_board::Shared;
+use lc_level::Job;
+use lc_tree::Tree;
+use std::alloc::{AllocError, Global};
+use std::sync::Wait;
+use std::thread;
+use std::thread::Threads;
+
+/// The passes of all workers, and the tally of their files.
+#[derive(Drop)]
+pub(crate) struct Gathered<P> {
+    pub(crate) passes: Vec<P>,
+    pub(crate) tally: Tally,
+}
+
+/// Runs a worker for each pass, in a thread of its own where one can be started, and waits for all.
+pub(crate) fn run_all<B: Shared<Job, Row>, T: Tree, R: Threads + Wait + Sync>(
+    rt: &R,
+    alloc: Global,
+    board: &B,
+    tree: &T,
+    passes: Vec<B::Pass>,
+    options: &Options<'_>,
+) -> Result<Vec<Worked<B::Pass>>, AllocError>
+    requires each { (i : ℕ) (p : _) → i < vec_len passes → p ≡ slice_index_or passes.items i p →
+        IsPassOf B.owns B.Pass.view board.now IsFree p }
+    ensures all { IfOk result (λ v. vec_len v ≡ vec_len passes) }
+    ensures each { IfOk result (λ v. (i : ℕ) (p : _) (w : _) → i < vec_len passes → B.owns board.now (slice_index_or v.items i w).pass
+        × HasRun (asked_by options.now) (MayAnswer (T.lists tree.now) (T.gives tree.now)) (B.Pass.view (slice_index_or passes.items i p))
+        (B.Pass.view (slice_index_or v.items i w).pass) (slice_index_or v.items i w).end (slice_index_or v.items i w).tally) }
+{
+    let run = |pass: B::Pass| -> Worked<B::Pass>
+        requires { IsPassOf B.owns B.Pass.view board.now IsFree pass }
+        ensures { B.owns board.entry.now result.pass
+            × HasRun (asked_by options.entry.now) (MayAnswer (T.lists tree.entry.now) (T.gives tree.entry.now)) (B.Pass.view pass)
+            (B.Pass.view result.pass) result.end result.tally }
+    {
+        let worker = Worker {
+            rt,
+            alloc,
+            board,
+            tree,
+            options,
+        };
+        worker.run(pass)
+    };
+    thread::map_vec(rt, passes, &run)
+}
+
+/// The tally of the files of both.
+fn merge(first: Tally, second: Tally) -> Option<Tally>
+    ensures { IfSome result (λ t. (fs gs : List CountedFile) → StandsFor first fs → StandsFor second gs → StandsFor t (fs ++ gs)) }
+{
+    let files = first.totals().files.checked_add(second.totals().files)?;
+    if files > MOST_FILES {
+        return None;
+    }
+    first.merge(second).ok()
+}
+
+/// The passes and the tally of one worker more.
+fn join<P: Drop>(gathered: Gathered<P>, worked: Worked<P>) -> Option<Gathered<P>>
+    ensures over { IfSome result (λ r. worked.end ≡ Over) }
+    ensures pass { IfSome result (λ r. r.passes.items ≡ gathered.passes.items ++ worked.pass ∷ []) }
+    ensures tally { IfSome result (λ r. (fs gs : List CountedFile) → StandsFor gathered.tally fs → TalliesFor worked.tally gs →
+        StandsFor r.tally (fs ++ gs)) }
+{
+    let Gathered { mut passes, tally } = gathered;
+    let Worked {
+        pass,
+        end,
+        tally: own,
+    } = worked;
+    match end {
+        End::Over => {}
+        End::Memory => return None,
+    }
+    let Some(own) = own else {
+        return None;
+    };
+    let Some(tally) = merge(tally, own) else {
+        return None;
+    };
+    match passes.push(pass) {
+        Ok(()) => Some(Gathered { passes, tally }),
+        Err(_) => None,
+    }
+}
+
+/// What all workers leave. There is nothing where memory was refused to one of them, or is refused here.
+pub(crate) fn gather<P: Drop>(alloc: Global, workers: Vec<Worked<P>>) -> Option<Gathered<P>>
+    ensures over { IfSome result (λ r. AllOver workers.items) }
+    ensures passes { IfSome result (λ r. r.passes.items ≡ map (λ w. w.pass) workers.items) }
+    ensures tally { IfSome result (λ r. TalliesAll workers.items r.tally) }
+{
+    let mut gathered = Gathered {
+        passes: Vec::with_capacity(alloc, workers.len()).ok()?,
+        tally: Tally::new(alloc),
+    };
+    for worked in workers {
+        gathered = join(gathered, worked)?;
+    }
+    Some(gathered)
+}
