@@ -136,18 +136,20 @@ def without_spaces(line):
     return line[:end]
 
 
+def rule_lines(text):
+    """The lines of an ignore file that give rules: the number of each, its text, whether it is negated, and its pattern."""
+    rules = []
+    for number, line in enumerate(lines_of(text), 1):
+        line = without_spaces(line[:-1] if line.endswith(b"\r") else line)
+        if line and not line.startswith(b"#"):
+            negated = line.startswith(b"!")
+            rules.append((number, line, negated, Pattern(line[negated:])))
+    return rules
+
+
 def rules_of(text):
     """The rules of an ignore file: whether each is negated, and its pattern."""
-    rules = []
-    for line in lines_of(text):
-        line = line[:-1] if line.endswith(b"\r") else line
-        if line.startswith(b"#"):
-            continue
-        line = without_spaces(line)
-        if line:
-            negated = line.startswith(b"!")
-            rules.append((negated, Pattern(line[negated:])))
-    return rules
+    return [rule[2:] for rule in rule_lines(text)]
 
 
 def verdict_of(rules, path, is_dir):
@@ -162,21 +164,39 @@ def escaped(text):
     return b"".join(b"\\\\" if b == 92 else b"\\x%02x" % b if b < 32 or b == 127 else bytes([b]) for b in text)
 
 
-def check_line(rules, line):
+def deciding(rules, path, is_dir):
+    """The last of these lines that matches, if any does."""
+    return next((rule for rule in reversed(rules) if rule[3].matches(path, is_dir)), None)
+
+
+def answer(rules, line):
+    """What these lines say of a line of paths, and the one that decides."""
     path = line[:-1] if line.endswith(b"/") else line
     segments = path.split(b"/")
     if len(path) > 4096 or b"\0" in path or any(it in (b"", b".", b"..") for it in segments):
-        word = b"bad"
-    elif any(verdict_of(rules, b"/".join(segments[:n]), True) == b"ignored" for n in range(1, len(segments))):
-        word = b"below"
-    else:
-        word = verdict_of(rules, path, line.endswith(b"/"))
-    return word + b"\t" + escaped(line) + b"\n"
+        return b"bad", None
+    for end in range(1, len(segments)):
+        rule = deciding(rules, b"/".join(segments[:end]), True)
+        if rule and not rule[2]:
+            return b"below", rule
+    rule = deciding(rules, path, line.endswith(b"/"))
+    return b"none" if not rule else b"included" if rule[2] else b"ignored", rule
 
 
-def check_text(rules, lines):
-    rules = [(0, *rule) for rule in rules_of(rules)]
-    return b"".join(check_line(rules, line) for line in lines)
+def check_text(text, lines):
+    """What `lc check` prints of these lines of paths, by a file of this text."""
+    rules = rule_lines(text)
+    return b"".join(answer(rules, line)[0] + b"\t" + escaped(line) + b"\n" for line in lines)
+
+
+def explained_text(name, text, lines):
+    """What `lc check --explain NAME` prints of them."""
+    rules, printed = rule_lines(text), []
+    for line in lines:
+        word, rule = answer(rules, line)
+        where = [escaped(name) + b":%d" % rule[0], escaped(rule[1])] if rule else [b"-", b"-"]
+        printed.append(b"\t".join([word, *where, escaped(line)]) + b"\n")
+    return b"".join(printed)
 
 
 # Attributes: a state is b"set", b"unset", b"unspecified" or b"=" and a value.
