@@ -5,10 +5,12 @@ use Rattle.std.specs.List.{range_with_len}
 use Rattle.std.proofs.lemmas.Bool.{cases_lt, false_from_ne_true}
 use Rattle.std.proofs.lemmas.List.{get_or-take, get_or-drop, length-drop, length-take-le, take_rest}
 use Rattle.std.proofs.lemmas.List.Folds.{list_any_none, list_any-from_Any}
+use Rattle.std.proofs.lemmas.List.Sums.{position_or_len_is}
 use Rattle.std.proofs.lemmas.List.FromFn.{get_or-range_with_len, length-range_with_len}
 use Rattle.memchr.specs.Find.{IsFirstByte, is_byte}
 use Rattle.lc_rules.specs.declared.verdicts.Verdict.{Verdict}
 use Rattle.lc_text.specs.CheckText.{is_ignored, is_ignored_parent, has_ignored_parent, IsClearTo}
+use Rattle.lc_text.specs.ExplainedText.{highest_ignored}
 
 get_or-range : (n k d : ℕ) → k < n → get_or (range_with_len 0 n) k d ≡ k
 get_or-range n k d low = get_or-range_with_len 0 n k d low ∙ zero-add k
@@ -109,3 +111,13 @@ module _ (verdict : List ℕ → Bool → Verdict) where
 
     pub slash-is : (len : ℕ) → IsFirstByte (is_byte 47) left (Some len) → nat_eq (get_or path (at + len) 0) 47 ≡ true
     slash-is len first = ap (λ b. nat_eq b 47) (sym (get_or-left len)) ∙ first.1
+
+-- the first place with an ignored directory before it tells the highest
+pub highest_ignored-is : (verdict : List ℕ → Bool → Verdict) (path : List ℕ) (k : ℕ) → IsClearTo verdict path k → k < length path
+    → is_ignored_parent verdict path k ≡ true → highest_ignored verdict path ≡ take k path
+highest_ignored-is verdict path k to low is =
+    let all = length-range_with_len 0 (length path) in
+    ap (λ n. take n path) (position_or_len_is (is_ignored_parent verdict path) (range_with_len 0 (length path)) k 0
+    (omega (arith, all, low))
+    (λ j before. ap (is_ignored_parent verdict path) (get_or-range (length path) j 0 (omega (arith, low, before))) ∙ to.clear j before)
+    (λ within. ap (is_ignored_parent verdict path) (get_or-range (length path) k 0 low) ∙ is))

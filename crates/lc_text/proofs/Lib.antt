@@ -1,6 +1,8 @@
 pub mod LinesOf
 pub mod Taking
 pub mod Directories
+pub mod Ignoring
+pub mod Explained
 pub mod Dashes
 pub mod Plain
 pub mod Stopping

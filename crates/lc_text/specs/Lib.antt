@@ -2,6 +2,8 @@ pub mod Escape
 pub mod Lines
 pub mod PathLines
 pub mod CheckText
+pub mod ExplainedText
+pub mod Findings
 pub mod Joined
 pub mod Writes
 pub mod TrialWrites

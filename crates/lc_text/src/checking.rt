@@ -4,17 +4,21 @@ ghost use Rattle.std.specs.Prelude.{◌≡◌};
 ghost use Rattle.lc_text.specs.Check.{AnswersCheck, no_rules};
 ghost use Rattle.lc_text.specs.CheckFaults.{input_fault, rules_fault, print_fault};
 ghost use Rattle.lc_text.specs.CheckText.{text_by};
+ghost use Rattle.lc_text.specs.ExplainedText.{explained_text_of};
 ghost use Rattle.lc_text.specs.declared.checking.CheckFault.TheVariants.{Memory};
 ghost use Rattle.lc_text.specs.Joined.{rules_part, joined_text};
 
 mod checker;
+pub(crate) mod explained;
 mod joined;
 mod lines;
 mod path_line;
 pub(crate) mod text;
 
 use crate::printing::{PrintFault, print};
+use crate::rules::RuleText;
 use crate::sink::Sink;
+use explained::explained_text;
 use joined::split_joined;
 use lc_census::{Source, WholeFault, new_buffer, read_whole};
 use lc_rules::{IgnoreFile, RuleFault};
@@ -102,6 +106,28 @@ pub fn check<S: Source, O: Sink>(
     let mut paths = Vec::new(alloc);
     read_whole(&mut buffer, &mut paths, input, MAX_INPUT)?;
     let text = check_text(alloc, rules, &paths)?;
+    print(out, &text)?;
+    Ok(())
+}
+
+/// Reads paths to the input's end, and writes what the rules of a file with this name say of each, and which of them says it
+/// ([`explained_text`]).
+///
+/// After any fault but `Write` nothing was written.
+pub fn check_explained<S: Source, O: Sink>(
+    alloc: Global,
+    name: &[u8],
+    rules: &RuleText,
+    input: &mut S,
+    out: &mut O,
+) -> Result<(), CheckFault>
+    ensures { AnswersCheck S.may_give O.may_take no_rules (explained_text_of name.now rules.now) input.old out.old result
+        input.new out.new }
+{
+    let mut buffer = new_buffer(alloc)?;
+    let mut paths = Vec::new(alloc);
+    read_whole(&mut buffer, &mut paths, input, MAX_INPUT)?;
+    let text = explained_text(alloc, name, rules, &paths)?;
     print(out, &text)?;
     Ok(())
 }

@@ -1,13 +1,15 @@
-//! The rules of a file, read from its source.
+//! The rules of a file, read from its source, and its text with them.
 
 ghost use Rattle.std.specs.Prelude.{◌≡◌, ◌≢◌};
-ghost use Rattle.lc_text.specs.RuleReads.{ReadsRules, file_fault, bytes_fault};
+ghost use Rattle.lc_text.specs.RuleReads.{ReadsRules, ReadsRuleText, file_fault, bytes_fault};
+ghost use Rattle.lc_rules.specs.IgnoreRules.{rules_of};
 ghost use Rattle.lc_text.specs.declared.rules.RulesFileFault.TheVariants.{TooLong, Memory};
 
 use lc_census::{Source, WholeFault, new_buffer, read_whole};
 use lc_rules::{IgnoreFile, MAX_RULE_BYTES, RuleFault};
 use std::alloc::{AllocError, Global};
 use std::io;
+use std::marker::Model;
 use thiserror::Error;
 
 /// Why a file gave no rules.
@@ -67,6 +69,38 @@ impl From<RuleFault> for RulesFileFault {
     }
 }
 
+/// The text of an ignore file, with the rules that it gives.
+#[derive(Debug, Drop)]
+pub struct RuleText {
+    bytes: Vec<u8>,
+    rules: IgnoreFile,
+}
+
+impl Model for RuleText {
+    ghost use Rattle.std.specs.Prelude.{◌≡◌, ℕ, List};
+    ghost use Rattle.lc_rules.specs.IgnoreRules.{rules_of};
+
+    ghost Value = { List ℕ };
+
+    ghost view = { λ t. t.bytes.items };
+
+    ghost invariant = { λ t. t.rules ≡ rules_of t.bytes.items };
+}
+
+impl RuleText {
+    pub(crate) fn bytes(&self) -> &[u8]
+        ensures { result.now ≡ self.now }
+    {
+        &self.bytes
+    }
+
+    pub(crate) fn rules(&self) -> &IgnoreFile
+        ensures { result.now ≡ rules_of self.now }
+    {
+        &self.rules
+    }
+}
+
 /// Reads a file of rules to its end, at most one byte past the limit of their length.
 ///
 /// ```
@@ -76,9 +110,23 @@ impl From<RuleFault> for RulesFileFault {
 pub fn read_rules<S: Source>(alloc: Global, file: &mut S) -> Result<IgnoreFile, RulesFileFault>
     ensures { ReadsRules S.may_give file.old result file.new }
 {
+    let RuleText { rules, .. } = read_rule_text(alloc, file)?;
+    Ok(rules)
+}
+
+/// Reads a file of rules as [`read_rules`] does, and keeps its text, so that a rule can be told of by its line.
+///
+/// ```
+/// let mut file = StdSource(fs::open(rt, ".gitignore")?);
+/// let rules = read_rule_text(rt.alloc(), &mut file)?;
+/// check_explained(rt.alloc(), b".gitignore", &rules, &mut input, &mut out)?;
+/// ```
+pub fn read_rule_text<S: Source>(alloc: Global, file: &mut S) -> Result<RuleText, RulesFileFault>
+    ensures { ReadsRuleText S.may_give file.old result file.new }
+{
     let mut buffer = new_buffer(alloc)?;
     let mut bytes = Vec::new(alloc);
     read_whole(&mut buffer, &mut bytes, file, MAX_RULE_BYTES)?;
     let rules = IgnoreFile::read(alloc, &bytes)?;
-    Ok(rules)
+    Ok(RuleText { bytes, rules })
 }

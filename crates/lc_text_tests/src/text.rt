@@ -1,5 +1,6 @@
 //! What no clause says: worked cases, that calls succeed where there is memory, and streams that misbehave.
 
+mod explained;
 mod interrupted;
 mod streams;
 mod texts;

@@ -2,12 +2,14 @@
 //!
 //! Paths come in runs that share their directories, so what the rules say of these is asked once for a run.
 
-ghost use Rattle.std.specs.Prelude.{◌≡◌, ℕ, ◌<◌, ◌≤◌, length, take, false, true, MatchOption};
-ghost use Rattle.lc_text.specs.CheckText.{file_verdict, is_ignored, is_ignored_parent, has_ignored_parent, IsClearTo};
+ghost use Rattle.std.specs.Prelude.{◌≡◌, ℕ, ◌<◌, ◌≤◌, length, take, option_map, false, MatchOption};
+ghost use Rattle.lc_text.specs.CheckText.{file_verdict, is_ignored, is_ignored_parent, IsClearTo};
 ghost use Rattle.lc_text.specs.CheckText.{verdict_word, path_word};
+ghost use Rattle.lc_text.specs.ExplainedText.{path_rule};
+ghost use Rattle.lc_text.specs.Findings.{finding_word, finding_rule, ignoring_rule, IsIgnoringAbove};
 
 use crate::checking::path_line::is_bad_path;
-use lc_rules::{IgnoreFile, Verdict};
+use lc_rules::{IgnoreFile, Rule, Verdict};
 use memchr::memchr;
 
 /// How many bytes two paths share at their front.
@@ -39,15 +41,62 @@ fn verdict_word(verdict: Verdict) -> &'static str
     }
 }
 
+/// The rule that ignores a directory, if it is ignored.
+fn ignoring<'a>(rules: &'a IgnoreFile, directory: &[u8]) -> Option<&'a Rule>
+    ensures { option_map (λ r. r.now) result ≡ ignoring_rule rules.now directory.now }
+{
+    let rule = rules.deciding(directory, true)?;
+    if is_ignored(rule.verdict()) {
+        Some(rule)
+    } else {
+        None
+    }
+}
+
+/// What is found of a path, the first that holds.
+#[derive(Clone, Copy)]
+pub(crate) enum Finding<'a> {
+    /// No entry of a tree can have this path.
+    Bad,
+    /// Of the ignored directories above it the highest is ignored by this rule.
+    Below(&'a Rule),
+    /// The rule that decides it, if any does.
+    Decided(Option<&'a Rule>),
+}
+
+impl<'a> Finding<'a> {
+    pub(crate) fn word(self) -> &'static str
+        ensures { result.now ≡ finding_word self.entry }
+    {
+        match self {
+            Finding::Bad => "bad",
+            Finding::Below(_) => "below",
+            Finding::Decided(None) => verdict_word(Verdict::NoRule),
+            Finding::Decided(Some(rule)) => verdict_word(rule.verdict()),
+        }
+    }
+
+    /// The rule that gives the word.
+    pub(crate) fn rule(self) -> Option<&'a Rule>
+        ensures { option_map (λ r. r.now) result ≡ finding_rule self.entry }
+    {
+        match self {
+            Finding::Bad => None,
+            Finding::Below(rule) => Some(rule),
+            Finding::Decided(rule) => rule,
+        }
+    }
+}
+
 /// Rules, and what is known of the directories above the path that was asked about last.
 #[derive(Drop)]
 pub(crate) struct Checker<'a> {
     rules: &'a IgnoreFile,
     directory: &'a [u8],
-    is_excluded: bool,
-    // no directory above this one is ignored, and the flag tells of this one
+    excluded_by: Option<&'a Rule>,
+    // no directory above this one is ignored, and the rule is the one that ignores this one
     ghost clear: { (k : ℕ) → k < length directory.now → is_ignored_parent (file_verdict rules.now) directory.now k ≡ false },
-    ghost told: { 0 < length directory.now → is_excluded ≡ is_ignored (file_verdict rules.now directory.now true) },
+    ghost told: { 0 < length directory.now → option_map (λ r. r.now) excluded_by ≡ ignoring_rule rules.now directory.now },
 }
 
 impl<'a> Checker<'a> {
@@ -58,28 +107,28 @@ impl<'a> Checker<'a> {
         Checker {
             rules,
             directory: &[],
-            is_excluded: false,
+            excluded_by: None,
         }
     }
 
-    /// The word for a path, the first that holds: `bad`, `below` an ignored directory, what its own verdict is.
-    pub(crate) fn word(&mut self, path: &'a [u8], is_dir: bool) -> &'static str
-        ensures word { result.now ≡ path_word (file_verdict self.old.rules.now) path.now is_dir }
+    pub(crate) fn find(&mut self, path: &'a [u8], is_dir: bool) -> Finding<'a>
+        ensures word { finding_word result ≡ path_word (file_verdict self.old.rules.now) path.now is_dir }
+        ensures rule { finding_rule result ≡ path_rule self.old.rules.now path.now is_dir }
         ensures rules { self.new.rules.now ≡ self.old.rules.now }
     {
         if is_bad_path(path) {
-            "bad"
-        } else if self.has_ignored_parent(path) {
-            "below"
-        } else {
-            verdict_word(self.rules.verdict(path, is_dir))
+            return Finding::Bad;
+        }
+        match self.ignoring_above(path) {
+            Some(rule) => Finding::Below(rule),
+            None => Finding::Decided(self.rules.deciding(path, is_dir)),
         }
     }
 
     /// How many bytes of the path are known to stand below no ignored directory, or none where the last directory is
     /// ignored and stands above the path.
     fn clear_len(&self, path: &[u8]) -> Option<usize>
-        ensures { MatchOption result (has_ignored_parent (file_verdict self.now.rules.now) path.now ≡ true)
+        ensures { MatchOption result (IsIgnoringAbove self.now.rules.now path.now self.now.excluded_by)
             (λ len. IsClearTo (file_verdict self.now.rules.now) path.now len) }
     {
         let shared = shared_len(self.directory, path);
@@ -90,33 +139,33 @@ impl<'a> Checker<'a> {
         {
             return Some(shared);
         }
-        if self.is_excluded {
+        if self.excluded_by.is_some() {
             return None;
         }
         Some(shared + 1)
     }
 
-    /// Whether some directory above the path is ignored.
-    fn has_ignored_parent(&mut self, path: &'a [u8]) -> bool
-        ensures parent { result ≡ has_ignored_parent (file_verdict self.old.rules.now) path.now }
+    /// The rule that ignores the highest ignored directory above the path, if one above it is ignored.
+    fn ignoring_above(&mut self, path: &'a [u8]) -> Option<&'a Rule>
+        ensures above { IsIgnoringAbove self.old.rules.now path.now result }
         ensures rules { self.new.rules.now ≡ self.old.rules.now }
     {
         let Some(mut at) = self.clear_len(path) else {
-            return true;
+            return self.excluded_by;
         };
         'directories: while let Some(len) = memchr(b'/', &path[at..]) {
             let directory = &path[..at + len];
-            let is_excluded = is_ignored(self.rules.verdict(directory, true));
+            let excluded_by = ignoring(self.rules, directory);
             *self = Checker {
                 rules: self.rules,
                 directory,
-                is_excluded,
+                excluded_by,
             };
-            if is_excluded {
-                return true;
+            if excluded_by.is_some() {
+                return excluded_by;
             }
             at += len + 1;
         }
-        false
+        None
     }
 }

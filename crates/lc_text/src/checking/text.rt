@@ -20,7 +20,7 @@ fn push_checked<'a>(
     ensures rules { checker.new.rules.now ≡ checker.old.rules.now }
 {
     let (path, is_dir) = split_slash(line);
-    text.extend_from_slice(checker.word(path, is_dir).as_bytes())?;
+    text.extend_from_slice(checker.find(path, is_dir).word().as_bytes())?;
     text.extend_from_slice(b"\t")?;
     push_escaped(text, line)?;
     text.extend_from_slice(b"\n")

@@ -1,12 +1,14 @@
-use Rattle.std.proofs.Common.{◌≡◌, ◌∙◌, true, false, nat_eq, length, take, sym, ap, arith}
+use Rattle.std.proofs.Common.{◌≡◌, ◌<◌, ◌∙◌, nat_eq, length, take, sym, ap, arith}
 use Rattle.std.proofs.Math.Seq.{take-length}
-use Rattle.lc_text.specs.CheckText.{file_verdict, is_ignored}
-use Rattle.lc_text.proofs.Directories.{is_ignored_parent-slash, has_ignored_parent-some, clear-shared, clear-more}
+use Rattle.lc_text.specs.CheckText.{file_verdict}
+use Rattle.lc_text.specs.Findings.{ignoring_rule}
+use Rattle.lc_text.proofs.Directories.{clear-shared, clear-more}
+use Rattle.lc_text.proofs.Ignoring.{found_above, found_none}
 use Rattle.lc_text.proofs.checking.checker.Checker.clear_len.Goals as goal
 
-pub returns-then-self : goal.returns-then-self
-returns-then-self c =
-    let verdict = file_verdict c.args.self.now.rules.now in
+pub returns-then-is_some : goal.returns-then-is_some
+returns-then-is_some c =
+    let rules = c.args.self.now.rules.now in
     let directory = c.args.self.now.directory.now in
     let path = c.args.path.now in
     let shared = c.shared_len-shared.result in
@@ -14,13 +16,16 @@ returns-then-self c =
     let directory_is : directory ≡ take shared path = sym (ap (λ n. take n directory) whole ∙ take-length directory)
     ∙ c.shared_len-shared.ensures.shared in
     let told = c.args.self.now.told (omega (arith, c.if-shared-eq0.false, whole)) in
-    let excluded = sym c.if-self.true ∙ (told ∙ ap (λ l. is_ignored (verdict l true)) directory_is) in
-    has_ignored_parent-some verdict path shared (omega (arith, c.if-shared-path.false, c.shared_len-shared.ensures.within_other))
-    (is_ignored_parent-slash verdict path shared true (ap (λ b. nat_eq b 47) c.if-path-shared-ne47.false) excluded)
+    found_above rules path shared
+    (clear-shared (file_verdict rules) directory path shared c.shared_len-shared.ensures.within_one
+    c.shared_len-shared.ensures.within_other c.shared_len-shared.ensures.shared c.args.self.now.clear)
+    (omega (arith, c.if-shared-path.false, c.shared_len-shared.ensures.within_other))
+    (ap (λ b. nat_eq b 47) c.if-path-shared-ne47.false) c.args.self.now.excluded_by
+    (sym c.is_some.ensures ∙ c.if-is_some.true) (told ∙ ap (ignoring_rule rules) directory_is)
 
 pub returns : goal.returns
 returns c =
-    let verdict = file_verdict c.args.self.now.rules.now in
+    let rules = c.args.self.now.rules.now in
     let directory = c.args.self.now.directory.now in
     let path = c.args.path.now in
     let shared = c.shared_len-shared.result in
@@ -28,8 +33,9 @@ returns c =
     let directory_is : directory ≡ take shared path = sym (ap (λ n. take n directory) whole ∙ take-length directory)
     ∙ c.shared_len-shared.ensures.shared in
     let told = c.args.self.now.told (omega (arith, c.if-shared-eq0.false, whole)) in
-    let included = sym c.if-self.false ∙ (told ∙ ap (λ l. is_ignored (verdict l true)) directory_is) in
-    clear-more verdict path shared (omega (arith, c.if-shared-path.false, c.shared_len-shared.ensures.within_other))
-    (clear-shared verdict directory path shared c.shared_len-shared.ensures.within_one c.shared_len-shared.ensures.within_other
-    c.shared_len-shared.ensures.shared c.args.self.now.clear)
-    (is_ignored_parent-slash verdict path shared false (ap (λ b. nat_eq b 47) c.if-path-shared-ne47.false) included)
+    let low : c.shared_len-shared.result < length c.args.path.now = omega (arith, c.if-shared-path.false, c.shared_len-shared.ensures.within_other) in
+    let clear = clear-shared (file_verdict rules) directory path shared c.shared_len-shared.ensures.within_one
+    c.shared_len-shared.ensures.within_other c.shared_len-shared.ensures.shared c.args.self.now.clear in
+    clear-more (file_verdict rules) path shared low clear
+    (found_none rules path shared clear low (ap (λ b. nat_eq b 47) c.if-path-shared-ne47.false) c.args.self.now.excluded_by
+    (sym c.is_some.ensures ∙ c.if-is_some.false) (told ∙ ap (ignoring_rule rules) directory_is))

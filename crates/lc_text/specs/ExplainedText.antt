@@ -1,0 +1,48 @@
+-- The text of an explained check: a line for each line of paths, with the rule that gives the path its word.
+use Rattle.std.specs.Prelude.{ℕ, ◌-◌, Bool, true, cond, List, [], ◌++◌, length, take, codes, decimal, Option, Some, None, option_map}
+use Rattle.std.specs.List.{flat_map, position_or_len, range_with_len, slice_index_or}
+use Rattle.lc_rules.specs.IgnoreRules.{RuleModel, text_of_line, rules_of}
+use Rattle.lc_rules.specs.RuleLines.{lines_of as rule_lines_of}
+use Rattle.lc_rules.specs.Verdicts.{at_depth, deciding}
+use Rattle.lc_rules.specs.declared.verdicts.Verdict.{Verdict}
+use Rattle.lc_text.specs.CheckText.{file_verdict, is_ignored_parent, has_ignored_parent, path_word}
+use Rattle.lc_text.specs.Escape.{escape_bytes}
+use Rattle.lc_text.specs.Lines.{lines_of}
+use Rattle.lc_text.specs.PathLines.{is_bad_path, is_dir_line, path_of}
+
+-- the rule of one file that decides a path, or a directory
+abbrev pub file_rule : List RuleModel → List ℕ → Bool → Option RuleModel
+file_rule rules path is_dir = option_map (λ r. r.1) (deciding (at_depth 0 rules) path is_dir)
+
+-- the highest ignored directory above a path, where there is one: that which is the first on the way down
+abbrev pub highest_ignored : (List ℕ → Bool → Verdict) → List ℕ → List ℕ
+highest_ignored verdict path = take (position_or_len (is_ignored_parent verdict path) (range_with_len 0 (length path))) path
+
+-- the rule that gives a path its word: none of a bad path; that which ignores the highest ignored directory above it; or else
+-- that which decides the path itself
+abbrev pub path_rule : List RuleModel → List ℕ → Bool → Option RuleModel
+path_rule rules path is_dir =
+    cond (is_bad_path path) None
+    (cond (has_ignored_parent (file_verdict rules) path) (file_rule rules (highest_ignored (file_verdict rules) path) true)
+    (file_rule rules path is_dir))
+
+-- what the line of a file with this number is read as
+abbrev pub line_text : List ℕ → ℕ → List ℕ
+line_text bytes number = text_of_line (slice_index_or (rule_lines_of bytes) (number - 1) [])
+
+-- two fields for a rule: the file's name with the number of the line, and the text of that line; a dash in each where there is no rule
+abbrev pub rule_fields : List ℕ → List ℕ → Option RuleModel → List ℕ
+rule_fields name bytes None = codes "-\t-"
+rule_fields name bytes (Some rule) =
+    escape_bytes name ++ codes ":" ++ decimal rule.line ++ codes "\t" ++ escape_bytes (line_text bytes rule.line)
+
+-- the word as in a check, the two fields of the rule, and the line as it came
+abbrev pub explained_line : List ℕ → List ℕ → List ℕ → List ℕ
+explained_line name bytes line =
+    path_word (file_verdict (rules_of bytes)) (path_of line) (is_dir_line line) ++ codes "\t"
+    ++ rule_fields name bytes (path_rule (rules_of bytes) (path_of line) (is_dir_line line)) ++ codes "\t"
+    ++ escape_bytes line ++ codes "\n"
+
+-- the lines of the paths, by the rules of a file with this name and these bytes
+abbrev pub explained_text_of : List ℕ → List ℕ → List ℕ → List ℕ
+explained_text_of name bytes paths = flat_map (explained_line name bytes) (lines_of paths)

@@ -1,0 +1,110 @@
+//! The text of an explained check.
+
+ghost use Rattle.std.specs.Prelude.{◌≡◌, ◌++◌, IfSome, OnOk, IfOk, map, option_map};
+ghost use Rattle.lc_rules.specs.IgnoreLaws.{IsOnLine};
+ghost use Rattle.lc_rules.specs.IgnoreRules.{rules_of, text_of_line};
+ghost use Rattle.lc_rules.specs.RuleLines.{lines_of};
+ghost use Rattle.lc_text.specs.ExplainedText.{line_text, rule_fields, explained_line, explained_text_of};
+
+use crate::checking::checker::Checker;
+use crate::checking::lines::split_line;
+use crate::checking::path_line::split_slash;
+use crate::escaping::push_escaped;
+use crate::rules::RuleText;
+use lc_rules::{Lines, Rule, text_of_line};
+use std::alloc::{AllocError, Global};
+use std::io::Write;
+
+/// A file of rules as it is told of: its name, and what each of its lines is read as.
+#[derive(Drop)]
+struct RuleLines<'a> {
+    name: &'a [u8],
+    rules: &'a RuleText,
+    texts: Vec<&'a [u8]>,
+    ghost read: { map (λ t. t.now) texts.items ≡ map text_of_line (lines_of rules.now) },
+}
+
+impl<'a> RuleLines<'a> {
+    fn new(alloc: Global, name: &'a [u8], rules: &'a RuleText) -> Result<RuleLines<'a>, AllocError>
+        ensures { IfOk result (λ lines. (lines.name.now ≡ name.now) × (lines.rules.now ≡ rules.now)) }
+    {
+        let mut texts = Vec::new(alloc);
+        let mut left = Lines::of(rules.bytes());
+        'lines: while let Some((line, others)) = left.split_first() {
+            texts.push(text_of_line(line))?;
+            left = others;
+        }
+        Ok(RuleLines { name, rules, texts })
+    }
+
+    /// What the line of a rule is read as.
+    fn text(&self, rule: &Rule) -> &'a [u8]
+        requires { IsOnLine (lines_of self.now.rules.now) rule.now }
+        ensures { result.now ≡ line_text self.now.rules.now rule.now.line }
+    {
+        self.texts[rule.line() as usize - 1]
+    }
+
+    /// Appends where a rule stands and the text of its line, or a dash for each.
+    fn push_rule(&self, rule: Option<&Rule>, text: &mut Vec<u8>) -> Result<(), AllocError>
+        requires { IfSome rule (λ r. IsOnLine (lines_of self.now.rules.now) r.now) }
+        ensures { OnOk result (text.new.items ≡ text.old.items
+            ++ rule_fields self.now.name.now self.now.rules.now (option_map (λ r. r.now) rule.entry)) }
+    {
+        let Some(rule) = rule else {
+            return text.extend_from_slice(b"-\t-");
+        };
+        push_escaped(text, self.name)?;
+        let line = rule.line();
+        write!(text, ":{line}\t").map_err(|_| AllocError)?;
+        push_escaped(text, self.text(rule))
+    }
+}
+
+/// Appends the line that is printed for a line of the paths.
+fn push_explained<'a>(
+    lines: &RuleLines,
+    checker: &mut Checker<'a>,
+    line: &'a [u8],
+    text: &mut Vec<u8>,
+) -> Result<(), AllocError>
+    requires { checker.old.rules.now ≡ rules_of lines.now.rules.now }
+    ensures text { OnOk result (text.new.items ≡ text.old.items ++ explained_line lines.now.name.now lines.now.rules.now line.now) }
+    ensures rules { checker.new.rules.now ≡ checker.old.rules.now }
+{
+    let (path, is_dir) = split_slash(line);
+    let finding = checker.find(path, is_dir);
+    text.extend_from_slice(finding.word().as_bytes())?;
+    text.extend_from_slice(b"\t")?;
+    lines.push_rule(finding.rule(), text)?;
+    text.extend_from_slice(b"\t")?;
+    push_escaped(text, line)?;
+    text.extend_from_slice(b"\n")
+}
+
+/// What the rules of a file say of each line of paths, and which rule says it.
+///
+/// A line of the text is four fields with tabs between: the word, as [`check_text`](crate::check_text) has it; where the rule
+/// stands that gives it, as `NAME:LINE`, lines being counted from 1; the text of that line, with its `!`, without its trailing
+/// spaces; and the line of paths. Of `below` it is the rule that ignores the highest ignored directory above the path. Where no
+/// rule gives the word, the second field and the third are dashes. Name, text and path are escaped as [`escape`](crate::escape)
+/// has it.
+pub fn explained_text(
+    alloc: Global,
+    name: &[u8],
+    rules: &RuleText,
+    paths: &[u8],
+) -> Result<Vec<u8>, AllocError>
+    ensures { IfOk result (λ text. text.items ≡ explained_text_of name.now rules.now paths.now) }
+{
+    let lines = RuleLines::new(alloc, name, rules)?;
+    let mut checker = Checker::new(rules.rules());
+    let mut text = Vec::new(alloc);
+    let mut rest = paths;
+    'lines: while !rest.is_empty() {
+        let (line, others) = split_line(rest);
+        push_explained(&lines, &mut checker, line, &mut text)?;
+        rest = others;
+    }
+    Ok(text)
+}
