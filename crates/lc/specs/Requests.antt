@@ -1,10 +1,10 @@
 -- How a request is answered, by what was read and written.
-use Rattle.std.specs.Prelude.{◌≡◌, ◌⊎◌, ℕ, List, Option, Some, None, Result, Ok, Err}
+use Rattle.std.specs.Prelude.{◌≡◌, ◌⊎◌, ℕ, cond, List, Option, Some, None, Result, Ok, Err}
 use Rattle.std.specs.Borrow.{Bor}
 use Rattle.std.specs.declared.sync.Arc.{Arc}
 use Rattle.lc_census.specs.declared.source.Failed.{Failed}
 use Rattle.lc_census.specs.Reads.{Answer}
-use Rattle.lc_rules.specs.IgnoreRules.{RuleModel}
+use Rattle.lc_rules.specs.IgnoreRules.{RuleModel, rules_of}
 use Rattle.lc_level.specs.RuleReads.{shared}
 use Rattle.lc_tree.specs.SysTrees.{AnyListing, AnyContents}
 use Rattle.lc_walk.specs.declared.options.Options.{Options}
@@ -12,10 +12,12 @@ use Rattle.lc.specs.Causes.{check_cause, rules_cause, run_cause}
 use Rattle.lc_text.specs.Check.{AnswersCheck, no_rules}
 use Rattle.lc_text.specs.CheckText.{text_by}
 use Rattle.lc_text.specs.Joined.{rules_part, joined_text}
-use Rattle.lc_text.specs.RuleReads.{ReadsRules}
+use Rattle.lc_text.specs.ExplainedText.{explained_text_of}
+use Rattle.lc_text.specs.RuleReads.{ReadsRuleText}
 use Rattle.lc_table.specs.Runs.{Walks, AnswersRun}
 use Rattle.lc_arguments.specs.declared.request.Request.{Request}
 use Rattle.lc_arguments.specs.declared.request.Request.TheVariants.{CheckJoined, Check, Count}
+use Rattle.lc_arguments.specs.declared.check.CheckRequest.{CheckRequest}
 use Rattle.lc_arguments.specs.declared.count.CountRequest.{CountRequest}
 use Rattle.lc.specs.declared.cause.Cause.{Cause}
 use Rattle.lc.specs.declared.cause.Cause.TheVariants.{Memory}
@@ -39,17 +41,22 @@ abbrev pub ran : Result Outcome RunFault → Reply
 ran (Ok outcome) = Ok outcome
 ran (Err fault) = Err (run_cause fault)
 
--- what opening a file of rules and reading it may answer
+-- what opening a file of rules and reading it may answer: its bytes, or why it gives no rules
 abbrev pub Loaded : Type 1
-Loaded = Result (List RuleModel) RulesFileFault → Type 0
+Loaded = Result (List ℕ) RulesFileFault → Type 0
 
--- by what the reads of such a file may give: the rules of the bytes of some file that was read whole; it was not opened or a
--- read failed; it is too long
-abbrev pub LoadsRules : {F : Type 0} → (F → ℕ → Answer → F → Type 0) → Loaded
-LoadsRules {F} may_give (Ok rules) = (file read : F) × ReadsRules may_give file (Ok rules) read
-LoadsRules may_give (Err fault.Unread) = Unit {0}
-LoadsRules {F} may_give (Err fault.TooLong) = (file read : F) × ReadsRules may_give file (Err fault.TooLong) read
-LoadsRules may_give (Err fault.Memory) = Unit {0}
+-- by what the reads of such a file may give: the bytes of some file that was read whole; it was not opened or a read failed; it is
+-- too long
+abbrev pub LoadsFile : {F : Type 0} → (F → ℕ → Answer → F → Type 0) → Loaded
+LoadsFile {F} may_give (Ok bytes) = (file read : F) × ReadsRuleText may_give file (Ok bytes) read
+LoadsFile may_give (Err fault.Unread) = Unit {0}
+LoadsFile {F} may_give (Err fault.TooLong) = (file read : F) × ReadsRuleText may_give file (Err fault.TooLong) read
+LoadsFile may_give (Err fault.Memory) = Unit {0}
+
+-- the rules of such a file
+abbrev pub LoadsRules : Loaded → Result (List RuleModel) RulesFileFault → Type 0
+LoadsRules loads (Ok rules) = (bytes : List ℕ) × loads (Ok bytes) × (rules ≡ rules_of bytes)
+LoadsRules loads (Err fault) = loads (Err fault)
 
 -- a file gave no rules
 abbrev pub IsWithoutRules : Loaded → Reply → Type 0
@@ -59,7 +66,7 @@ IsWithoutRules loads reply = (fault : RulesFileFault) × loads (Err fault) × (r
 abbrev pub Excludes : Loaded → Option (Bor (List ℕ)) → Option (List RuleModel) → Type 0
 Excludes loads None exclude = exclude ≡ None
 Excludes loads (Some _) None = ⊥
-Excludes loads (Some _) (Some rules) = loads (Ok rules)
+Excludes loads (Some _) (Some rules) = LoadsRules loads (Ok rules)
 
 -- those rules, or why there are none
 abbrev pub AnswersExcluded : {A : Type 0} → Loaded → Option (Bor (List ℕ)) → Result (Option (Arc (List RuleModel) A)) Cause → Type 0
@@ -82,6 +89,10 @@ AnswersCount loads may_take c out reply wrote =
     × AnswersRun may_take (Walks (λ path. AnyListing) (λ path. AnyContents) o) out answer wrote)
     ⊎ ((IsWithoutRules loads reply ⊎ (reply ≡ Err Memory)) × (wrote ≡ out))
 
+-- what a check of some paths prints, by the bytes of its file
+abbrev pub text_asked : CheckRequest → List ℕ → List ℕ → List ℕ
+text_asked c bytes = cond c.explain (explained_text_of c.file.now bytes) (text_by (rules_of bytes))
+
 -- a check of rules and paths that come joined
 abbrev pub AnswersJoined : {I O : Type 0} → (I → ℕ → Answer → I → Type 0) → (O → List ℕ → Result ℕ Failed → O → Type 0)
     → I → O → Reply → I → O → Type 0
@@ -92,14 +103,14 @@ AnswersJoined may_give may_take input out reply read wrote =
 module _ {I O : Type 0} (may_give : I → ℕ → Answer → I → Type 0) (loads : Loaded)
     (may_take : O → List ℕ → Result ℕ Failed → O → Type 0) where
   -- a check of paths by the rules of the file, or this gave no rules and nothing was read or written
-  abbrev pub AnswersFile : I → O → Reply → I → O → Type 0
-  AnswersFile input out reply read wrote =
-      ((rules : List RuleModel) × loads (Ok rules) × (answer : Result (Unit {0}) CheckFault) × (reply ≡ checked answer)
-      × AnswersCheck may_give may_take no_rules (text_by rules) input out answer read wrote)
+  abbrev pub AnswersFile : CheckRequest → I → O → Reply → I → O → Type 0
+  AnswersFile c input out reply read wrote =
+      ((bytes : List ℕ) × loads (Ok bytes) × (answer : Result (Unit {0}) CheckFault) × (reply ≡ checked answer)
+      × AnswersCheck may_give may_take no_rules (text_asked c bytes) input out answer read wrote)
       ⊎ (IsWithoutRules loads reply × (read ≡ input) × (wrote ≡ out))
 
   -- a count leaves the input as it was
   abbrev pub AnswersRequest : Request → I → O → Reply → I → O → Type 0
   AnswersRequest CheckJoined input out reply read wrote = AnswersJoined may_give may_take input out reply read wrote
-  AnswersRequest (Check file) input out reply read wrote = AnswersFile input out reply read wrote
+  AnswersRequest (Check c) input out reply read wrote = AnswersFile c input out reply read wrote
   AnswersRequest (Count c) input out reply read wrote = (read ≡ input) × AnswersCount loads may_take c out reply wrote

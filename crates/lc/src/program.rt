@@ -3,17 +3,17 @@
 ghost use Rattle.std.specs.Prelude.{◌≡◌, map};
 ghost use Rattle.lc_arguments.specs.Words.{IsWithinLimits, IsCountWithinLimits};
 ghost use Rattle.lc.specs.Program.{Tells, TellsCause, Introduces, EndsShown, Ends, status_of};
-ghost use Rattle.lc.specs.Requests.{LoadsRules, AnswersExcluded, AnswersFile, AnswersJoined, AnswersCount, AnswersRequest};
+ghost use Rattle.lc.specs.Requests.{LoadsFile, AnswersExcluded, AnswersFile, AnswersJoined, AnswersCount, AnswersRequest};
 ghost use Rattle.lc.specs.declared.program.Ending.{Ending};
 ghost use Rattle.lc.specs.declared.program.Ending.TheVariants as ending;
 
 use crate::cause::Cause;
-use crate::rules_file::rules_of_file;
-use lc_arguments::{CountRequest, NoRequest, Request};
+use crate::rules_file::{rule_text_of_file, rules_of_file};
+use lc_arguments::{CheckRequest, CountRequest, NoRequest, Request};
 use lc_census::{Source, StdSource};
 use lc_rules::IgnoreFile;
 use lc_table::{Outcome, run};
-use lc_text::{Sink, check, check_joined, print};
+use lc_text::{Sink, check, check_explained, check_joined, print};
 use lc_tree::SysTree;
 use lc_walk::Options;
 use std::alloc::{AllocError, Global};
@@ -97,15 +97,20 @@ fn show<O: Sink, E: Sink>(alloc: Global, text: &str, out: &mut O, err: &mut E) -
 /// Reads the rules of a file, and checks the paths of the input.
 fn check_file<R: Files + AllocGlobal, S: Source, O: Sink>(
     rt: &R,
-    file: &str,
+    asked: &CheckRequest<'_>,
     input: &mut S,
     out: &mut O,
 ) -> Result<Outcome, Cause>
-    ensures { AnswersFile S.may_give (LoadsRules ⟦<StdSource<R::File> as Source>⟧.may_give) O.may_take
+    ensures { AnswersFile S.may_give (LoadsFile ⟦<StdSource<R::File> as Source>⟧.may_give) O.may_take asked.now
         input.old out.old result input.new out.new }
 {
-    let rules = rules_of_file(rt, file)?;
-    check(rt.alloc(), &rules, input, out)?;
+    if asked.explain {
+        let rules = rule_text_of_file(rt, asked.file)?;
+        check_explained(rt.alloc(), asked.file.as_bytes(), &rules, input, out)?;
+    } else {
+        let rules = rules_of_file(rt, asked.file)?;
+        check(rt.alloc(), &rules, input, out)?;
+    }
     Ok(Outcome::Clean)
 }
 
@@ -126,7 +131,7 @@ fn excluded<R: Files + AllocGlobal>(
     rt: &R,
     file: Option<&str>,
 ) -> Result<Option<Arc<IgnoreFile, Global>>, Cause>
-    ensures { AnswersExcluded (LoadsRules ⟦<StdSource<R::File> as Source>⟧.may_give) file.entry result }
+    ensures { AnswersExcluded (LoadsFile ⟦<StdSource<R::File> as Source>⟧.may_give) file.entry result }
 {
     let Some(file) = file else {
         return Ok(None);
@@ -145,7 +150,7 @@ where
     R::File: Send,
     R::Dir: Send,
     requires limits { IsCountWithinLimits asked.now }
-    ensures { AnswersCount (LoadsRules ⟦<StdSource<R::File> as Source>⟧.may_give) O.may_take asked.now out.old result out.new }
+    ensures { AnswersCount (LoadsFile ⟦<StdSource<R::File> as Source>⟧.may_give) O.may_take asked.now out.old result out.new }
 {
     let exclude = excluded(rt, asked.exclude_from)?;
     let tree = SysTree::new(rt, rt.alloc(), asked.directory)?;
@@ -171,12 +176,12 @@ where
     R::File: Send,
     R::Dir: Send,
     requires limits { IsWithinLimits request.now }
-    ensures { AnswersRequest S.may_give (LoadsRules ⟦<StdSource<R::File> as Source>⟧.may_give) O.may_take request.now
+    ensures { AnswersRequest S.may_give (LoadsFile ⟦<StdSource<R::File> as Source>⟧.may_give) O.may_take request.now
         input.old out.old result input.new out.new }
 {
     match request {
         Request::CheckJoined => check_input(rt.alloc(), input, out),
-        Request::Check { file } => check_file(rt, file, input, out),
+        Request::Check(asked) => check_file(rt, asked, input, out),
         Request::Count(asked) => count(rt, asked, out),
     }
 }
@@ -192,7 +197,7 @@ fn end_of<R: Files + Threads + Wait + Sync + AllocGlobal, W: AsStr, S: Source, O
 where
     R::File: Send,
     R::Dir: Send,
-    ensures { Ends S.may_give (LoadsRules ⟦<StdSource<R::File> as Source>⟧.may_give)
+    ensures { Ends S.may_give (LoadsFile ⟦<StdSource<R::File> as Source>⟧.may_give)
         O.may_take E.may_take (map W.text words.now) input.old out.old err.old result input.new out.new err.new }
 {
     let request = match Request::read(rt.alloc(), words) {
@@ -212,7 +217,8 @@ where
 /// written has a fault, 2 the words are refused, 3 it gave up, with one line on `err`.
 ///
 /// - no words: `input` has the lines of an ignore file, then a line `--`, then paths ([`check_joined`]);
-/// - `check FILE`: the rules are those of FILE, which is read first, and `input` has the paths ([`check`]);
+/// - `check FILE`: the rules are those of FILE, which is read first, and `input` has the paths ([`check`]; with `--explain`
+///   [`check_explained`]);
 /// - `count DIR`: the table of a directory of the system ([`run`]); a file of `--exclude-from` is read before the walk.
 pub fn program<
     R: Files + Threads + Wait + Sync + AllocGlobal,
@@ -225,7 +231,7 @@ where
     R::File: Send,
     R::Dir: Send,
     ensures { (ending : Ending) × (result ≡ status_of ending)
-        × Ends S.may_give (LoadsRules ⟦<StdSource<R::File> as Source>⟧.may_give)
+        × Ends S.may_give (LoadsFile ⟦<StdSource<R::File> as Source>⟧.may_give)
         O.may_take E.may_take (map W.text words.now) input.old out.old err.old ending input.new out.new err.new }
 {
     end_of(rt, words, input, out, err).status()

@@ -3,6 +3,7 @@ use Rattle.std.proofs.Common.{◌≡◌, ℕ, ◌<◌, Bool, true, false, cond, 
 use Rattle.std.specs.Prelude.{option_map}
 use Rattle.lc_rules.specs.IgnoreRules.{RuleModel}
 use Rattle.lc_rules.specs.Verdicts.{verdict_from, deciding, at_depth}
+use Rattle.lc_rules.specs.declared.origin.Origin.{Origin}
 use Rattle.lc_rules.specs.declared.verdicts.Verdict.TheVariants.{Ignored, Included}
 use Rattle.lc_text.specs.CheckText.{file_verdict, is_ignored, is_ignored_parent, IsClearTo}
 use Rattle.lc_text.specs.ExplainedText.{file_rule}
@@ -10,7 +11,7 @@ use Rattle.lc_text.specs.Findings.{ignoring_rule, IsIgnoringAbove}
 use Rattle.lc_text.proofs.Directories.{is_ignored_parent-slash, has_ignored_parent-some, highest_ignored-is}
 
 -- of what decides: the rule that ignores
-abbrev ignoring_of : Option (ℕ × RuleModel) → Option RuleModel
+abbrev ignoring_of : Option (Origin × RuleModel) → Option RuleModel
 ignoring_of found = cond (is_ignored (verdict_from found)) (option_map (λ r. r.1) found) None
 
 signed : (rule : RuleModel) (b : Bool) → cond (is_ignored (cond b Included Ignored)) (Some rule) None ≡ None
@@ -18,7 +19,7 @@ signed : (rule : RuleModel) (b : Bool) → cond (is_ignored (cond b Included Ign
 signed rule true e = refl
 signed rule false e = absurd (cc)
 
-none_ignores : (found : Option (ℕ × RuleModel)) → ignoring_of found ≡ None → is_ignored (verdict_from found) ≡ false
+none_ignores : (found : Option (Origin × RuleModel)) → ignoring_of found ≡ None → is_ignored (verdict_from found) ≡ false
 none_ignores None e = refl
 none_ignores (Some r) e = signed r.1 r.1.is_negated e
 

@@ -20,6 +20,11 @@ const ANSWERED: &[Answered] = &[
         &["check", "/dev/null"],
         b"none\ta\nnone\t--\nnone\ta\n",
     ),
+    (
+        "file_of_no_rules_explained",
+        &["check", "--explain", "/dev/null"],
+        b"none\t-\t-\ta\nnone\t-\t-\t--\nnone\t-\t-\ta\n",
+    ),
 ];
 
 /// What is shown, words, and the line on standard error that is wanted.
@@ -36,6 +41,11 @@ const TOO_LONG: &[u8] = b"lc: rules too long\n";
 
 const GIVEN_UP: &[GivenUp] = &[
     ("missing_file", &["check", "/no/such/file"], UNREAD),
+    (
+        "missing_file_explained",
+        &["check", "--explain", "/no/such/file"],
+        UNREAD,
+    ),
     ("directory_as_file", &["check", "/"], UNREAD),
     ("reads_that_fail", &["check", "/proc/self/mem"], UNREAD),
     ("file_without_end", &["check", "/dev/zero"], TOO_LONG),
@@ -133,7 +143,7 @@ fn an_output_that_stops(rt: HostRuntime) -> Result<(), Fail> {
 const TEXTS: &[(&[&str], u8, &str)] = &[
     (&["--help"], 0, "Usage: lc [COMMAND]"),
     (&["-h"], 0, "Example: lc count ."),
-    (&["check", "--help"], 0, "Usage: lc check <FILE>"),
+    (&["check", "--help"], 0, "Usage: lc check [OPTIONS] <FILE>"),
     (&["count", "--help"], 0, "Usage: lc count [OPTIONS] <DIR>"),
     (&["help", "count"], 0, "Usage: lc count [OPTIONS] <DIR>"),
     (&["-V"], 0, "lc 0.1.0"),
@@ -158,6 +168,24 @@ const TEXTS: &[(&[&str], u8, &str)] = &[
         2,
         "value \"-a\"",
     ),
+    (
+        &["count", "--format", "xml", "."],
+        2,
+        "[possible values: table, tsv, json]",
+    ),
+    (
+        &["count", "--sort", "names", "."],
+        2,
+        "value \"names\" for '--sort <COLUMN>'",
+    ),
+    (
+        &["count", "--by", "ext,size", "."],
+        2,
+        "value \"ext,size\" for '--by <COLUMNS>'",
+    ),
+    (&["count", "--by", "ext,ext", "."], 2, "each once"),
+    (&["count", "--by", "", "."], 2, "--by <COLUMNS>"),
+    (&["count", "--by", "eol,", "."], 2, "--by <COLUMNS>"),
     (&["count", "--no-such-option", "."], 2, "--no-such-option"),
     (&["--no-such-option"], 2, "--no-such-option"),
     (&["no-such-command"], 2, "no-such-command"),
