@@ -1,1 +1,7 @@
+pub mod Decimals
+pub mod RowLaws
+pub mod Sorted
 pub mod Stopping
+pub mod Summing
+pub mod Tokens
+pub mod Totals

@@ -9,9 +9,10 @@ use Rattle.lc_walk.specs.WalkOptions.{asked_by, top_of}
 use Rattle.lc_walk.specs.declared.options.Options.{Options}
 use Rattle.lc_walk.specs.declared.report.Report.{Report}
 use Rattle.lc_walk.specs.declared.walk_fault.WalkFault.{WalkFault}
-use Rattle.lc_table.specs.TableText.{table_text_of}
+use Rattle.lc_table.specs.TableText.{IsTextOf}
 use Rattle.lc_text.specs.Writes.{Writes, StopsWriting}
 use Rattle.lc_text.specs.declared.printing.PrintFault.{PrintFault}
+use Rattle.lc_text.specs.declared.shape.Shape.{Shape}
 use Rattle.lc_text.specs.declared.printing.PrintFault.TheVariants as print
 use Rattle.lc_table.specs.declared.running.Outcome.{Outcome}
 use Rattle.lc_table.specs.declared.running.Outcome.TheVariants.{Clean, SomeFaults}
@@ -32,12 +33,20 @@ abbrev pub IsOutcomeOf : Report → Outcome → Type 0
 IsOutcomeOf r Clean = r.faults.items ≡ []
 IsOutcomeOf r SomeFaults = r.faults.items ≢ []
 
-module _ {O : Type 0} (may_take : O → List ℕ → Result ℕ Failed → O → Type 0) (walks : Result Report WalkFault → Type 0) where
+-- what a call answers that writes a report's table of this shape: it was written whole; a write stopped it; nothing was written
+abbrev pub AnswersTable : {O : Type 0} → (O → List ℕ → Result ℕ Failed → O → Type 0) → Shape → Report
+    → O → Result (Unit {0}) PrintFault → O → Type 0
+AnswersTable may_take shape r out (Ok _) wrote = (text : List ℕ) × IsTextOf shape r text × Writes may_take out text wrote
+AnswersTable may_take shape r out (Err print.Write) wrote = (text : List ℕ) × IsTextOf shape r text × StopsWriting may_take out text wrote
+AnswersTable may_take shape r out (Err print.Memory) wrote = wrote ≡ out
+
+module _ {O : Type 0} (may_take : O → List ℕ → Result ℕ Failed → O → Type 0) (walks : Result Report WalkFault → Type 0) (shape : Shape) where
   abbrev pub AnswersRun : O → Result Outcome RunFault → O → Type 0
   -- the table of the report was written whole
-  AnswersRun out (Ok outcome) wrote = (r : Report) × walks (Ok r) × IsOutcomeOf r outcome × Writes may_take out (table_text_of r) wrote
+  AnswersRun out (Ok outcome) wrote =
+      (r : Report) × walks (Ok r) × IsOutcomeOf r outcome × AnswersTable may_take shape r out (Ok tt) wrote
   -- the walk gave no report, and nothing was written
   AnswersRun out (Err (Walk f)) wrote = walks (Err f) × (wrote ≡ out)
   AnswersRun out (Err Memory) wrote = wrote ≡ out
   -- a prefix of the table was written
-  AnswersRun out (Err Write) wrote = (r : Report) × walks (Ok r) × StopsWriting may_take out (table_text_of r) wrote
+  AnswersRun out (Err Write) wrote = (r : Report) × walks (Ok r) × AnswersTable may_take shape r out (Err print.Write) wrote

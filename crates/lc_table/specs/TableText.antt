@@ -1,80 +1,21 @@
--- The text of a table: a header, a line for each key, the totals, the directories, the files, the faults.
-use Rattle.std.specs.Prelude.{ℕ, List, [], ◌∷◌, ◌++◌, codes, decimal, Option, Some, None}
-use Rattle.std.specs.List.{flat_map}
-use Rattle.lc_census.specs.declared.totals.Eol.{Eol}
-use Rattle.lc_census.specs.declared.totals.Eol.TheVariants.{NoEnd, Lf, CrLf, Cr, Mixed, Nul}
-use Rattle.lc_rules.specs.declared.states.TextState.{TextState}
-use Rattle.lc_rules.specs.declared.states.TextState.TheVariants as text
+-- The text of a table, by its shape.
+use Rattle.std.specs.Prelude.{◌≡◌, ℕ, List}
+use Rattle.lc_text.specs.declared.shape.Columns.{Columns}
+use Rattle.lc_text.specs.declared.shape.Format.{Format}
+use Rattle.lc_text.specs.declared.shape.Format.TheVariants.{Tsv, Json}
+use Rattle.lc_text.specs.declared.shape.Shape.{Shape}
+use Rattle.lc_table.specs.JsonText.{json_text_of}
+use Rattle.lc_table.specs.ShownRows.{AreShown}
+use Rattle.lc_table.specs.TsvText.{tsv_text_of}
 use Rattle.lc_walk.specs.TallyRows.{TallyRowModel}
-use Rattle.lc_walk.specs.ReportLines.{FileLineModel}
-use Rattle.lc_level.specs.FaultLines.{FaultLineModel}
-use Rattle.lc_walk.specs.declared.tally.sums.Sums.{Sums}
-use Rattle.lc_tree.specs.declared.fault_word.FaultWord.{FaultWord}
-use Rattle.lc_tree.specs.declared.fault_word.FaultWord.TheVariants as fault
 use Rattle.lc_walk.specs.declared.report.Report.{Report}
-use Rattle.lc_text.specs.Escape.{escape_bytes, escape_path}
 
--- the class of line ends
-abbrev pub eol_word : Eol → List ℕ
-eol_word NoEnd = codes "none"
-eol_word Lf = codes "lf"
-eol_word CrLf = codes "crlf"
-eol_word Cr = codes "cr"
-eol_word Mixed = codes "mixed"
-eol_word Nul = codes "nul"
+-- the text of a report in a format, with these rows
+abbrev pub text_in : Format → Columns → Report → List TallyRowModel → List ℕ
+text_in Tsv by r rows = tsv_text_of by r rows
+text_in Json by r rows = json_text_of by r rows
 
--- what the attribute `text` is
-abbrev pub text_word : TextState → List ℕ
-text_word text.Set = codes "set"
-text_word text.Unset = codes "unset"
-text_word text.Auto = codes "auto"
-text_word text.Other = codes "other"
-text_word text.Unspecified = codes "-"
-
-abbrev pub fault_word : FaultWord → List ℕ
-fault_word fault.Read = codes "read"
-fault_word fault.Name = codes "name"
-fault_word fault.Twice = codes "twice"
-fault_word fault.Many = codes "many"
-fault_word fault.Long = codes "long"
-fault_word fault.Endless = codes "endless"
-
--- a dot and the escaped bytes, or `-` for none
-abbrev pub extension_word : Option (List ℕ) → List ℕ
-extension_word None = codes "-"
-extension_word (Some name) = codes "." ++ escape_bytes name
-
--- fields with a tab between, and a line feed
-abbrev pub line_with : List (List ℕ) → List ℕ
-line_with [] = codes "\n"
-line_with (f ∷ []) = f ++ codes "\n"
-line_with (f ∷ g ∷ fs) = f ++ codes "\t" ++ line_with (g ∷ fs)
-
-abbrev pub sums_fields : Sums → List (List ℕ)
-sums_fields s = decimal s.files ∷ decimal s.lines ∷ decimal s.blank ∷ decimal s.bytes ∷ []
-
-abbrev pub header_line : List ℕ
-header_line = codes "ext\ttext\teol\tfiles\tlines\tblank\tbytes\n"
-
-abbrev pub row_line : TallyRowModel → List ℕ
-row_line r = line_with (extension_word r.key.extension ∷ text_word r.key.text ∷ eol_word r.key.eol ∷ sums_fields r.sums)
-
-abbrev pub totals_line : Sums → List ℕ
-totals_line s = line_with (codes "total" ∷ codes "*" ∷ codes "*" ∷ sums_fields s)
-
-abbrev pub directories_line : ℕ → List ℕ
-directories_line n = line_with (codes "directories" ∷ decimal n ∷ [])
-
-abbrev pub file_line : FileLineModel → List ℕ
-file_line f =
-    line_with (codes "file" ∷ text_word f.text ∷ eol_word f.count.eol
-    ∷ decimal f.count.lines ∷ decimal f.count.blank ∷ decimal f.count.bytes ∷ escape_path f.path ∷ [])
-
-abbrev pub fault_line : FaultLineModel → List ℕ
-fault_line f = line_with (codes "fault" ∷ fault_word f.word ∷ escape_path f.path ∷ [])
-
--- the table of a report
-abbrev pub table_text_of : Report → List ℕ
-table_text_of r =
-    header_line ++ flat_map row_line r.rows.items ++ totals_line r.totals ++ directories_line r.directories
-    ++ flat_map file_line r.files.items ++ flat_map fault_line r.faults.items
+-- a text of a report's table of this shape
+abbrev pub IsTextOf : Shape → Report → List ℕ → Type 0
+IsTextOf shape r text =
+    (rows : List TallyRowModel) × AreShown shape.by shape.sort r.rows.items rows × (text ≡ text_in shape.format shape.by r rows)

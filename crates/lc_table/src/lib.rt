@@ -1,14 +1,26 @@
 //! The table of a run: a tree is walked, and what was found is written.
 //!
-//! - `words`: the words in the columns of a table; `text`: its text
+//! - `shown`: the rows that a table shows, summed and sorted
+//! - `words`: the words in the columns of a table; `tsv`: its text with tabs
+//! - `json_report`: its text as JSON, by `json_text`: one that is written token by token
+//! - `text`: its text in any format
 //! - `writing`: the table of a report, written; `running`: the walk of a tree, and its table
+//! - `laws`: what is true of the definitions that the contracts cite
 #![tactic(auto)]
 
+mod json_report;
+mod json_text;
+mod laws;
 mod running;
+mod shown;
 mod text;
+mod tsv;
 mod words;
 mod writing;
 
+pub use laws::{
+    shown_rows_are_the_summed_ones, shown_rows_keep_the_totals, whole_keys_add_up_to_themselves,
+};
 pub use running::{Outcome, RunFault, run};
 pub use text::table_text;
 pub use writing::table;

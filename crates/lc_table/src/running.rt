@@ -6,7 +6,7 @@ ghost use Rattle.lc_table.specs.Runs.{IsOutcomeOf, Walks, AnswersRun, table_faul
 ghost use Rattle.lc_table.specs.declared.running.RunFault.TheVariants.{Walk};
 
 use crate::writing::table;
-use lc_text::{PrintFault, Sink};
+use lc_text::{PrintFault, Shape, Sink};
 use lc_tree::Tree;
 use lc_walk::{Options, Report, WalkFault, walk};
 use std::alloc::Global;
@@ -70,7 +70,8 @@ fn outcome_of(report: &Report) -> Outcome
 ///
 /// ```
 /// let tree = SysTree::new(&rt, rt.alloc(), "src")?;
-/// let outcome = run(&rt, rt.alloc(), &tree, &options, &mut out)?;
+/// let shape = Shape { format: Format::Tsv, by: Columns::ALL, sort: None };
+/// let outcome = run(&rt, rt.alloc(), &tree, &options, shape, &mut out)?;
 /// assert_eq!(outcome, Outcome::Clean);
 /// ```
 pub fn run<T: Tree, R: Threads + Wait + Sync, O: Sink>(
@@ -78,13 +79,14 @@ pub fn run<T: Tree, R: Threads + Wait + Sync, O: Sink>(
     alloc: Global,
     tree: &T,
     options: &Options<'_>,
+    shape: Shape,
     out: &mut O,
 ) -> Result<Outcome, RunFault>
     requires limits { AreWithinLimits options.now }
-    ensures { AnswersRun O.may_take (Walks (T.lists tree.now) (T.gives tree.now) options.now) out.old result out.new }
+    ensures { AnswersRun O.may_take (Walks (T.lists tree.now) (T.gives tree.now) options.now) shape out.old result out.new }
 {
     let report = walk(rt, alloc, tree, options)?;
     let outcome = outcome_of(&report);
-    table(alloc, &report, out)?;
+    table(alloc, &report, shape, out)?;
     Ok(outcome)
 }

@@ -1,7 +1,7 @@
 //! The words in the columns of a table.
 
 ghost use Rattle.std.specs.Prelude.{◌≡◌};
-ghost use Rattle.lc_table.specs.TableText.{eol_word, text_word, fault_word};
+ghost use Rattle.lc_table.specs.TsvText.{eol_word, text_word, fault_word};
 
 use lc_census::Eol;
 use lc_rules::TextState;

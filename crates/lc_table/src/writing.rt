@@ -1,18 +1,22 @@
-//! The table of a report.
+//! The table of a report, written.
 
-ghost use Rattle.lc_table.specs.TableText.{table_text_of};
-ghost use Rattle.lc_text.specs.Writes.{AnswersPrint};
+ghost use Rattle.lc_table.specs.Runs.{AnswersTable};
 
 use crate::text::table_text;
-use lc_text::{PrintFault, Sink, print};
+use lc_text::{PrintFault, Shape, Sink, print};
 use lc_walk::Report;
 use std::alloc::Global;
 
 /// Makes the table of a report ([`table_text`]), and writes it.
-pub fn table<O: Sink>(alloc: Global, report: &Report, out: &mut O) -> Result<(), PrintFault>
-    ensures { AnswersPrint O.may_take out.old (table_text_of report.now) result out.new }
+pub fn table<O: Sink>(
+    alloc: Global,
+    report: &Report,
+    shape: Shape,
+    out: &mut O,
+) -> Result<(), PrintFault>
+    ensures { AnswersTable O.may_take shape report.now out.old result out.new }
 {
-    let text = table_text(alloc, report)?;
+    let text = table_text(alloc, report, shape)?;
     print(out, &text)?;
     Ok(())
 }

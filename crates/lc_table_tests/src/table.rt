@@ -3,5 +3,7 @@
 mod asking;
 mod failing_calls;
 mod failing_trees;
+mod json;
 mod runs;
+mod shapes;
 mod tables;

@@ -3,8 +3,6 @@
 /// The writing of a table.
 #[derive(Debug, Clone, Copy, PartialEq, Eq)]
 pub enum Format {
-    /// Aligned columns for a person's eyes.
-    Table,
     /// A tab between fields.
     Tsv,
     /// One JSON object (RFC 8259) on one line.

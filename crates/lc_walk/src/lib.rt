@@ -28,7 +28,7 @@ pub use laws::{
 pub use options::Options;
 pub use report::{FaultLine, FileLine, Report, assemble};
 pub use row::{BrokenRow, Child, FaultedRow, ListedRow, Row};
-pub use tally::{Sums, Tally, TallyRow, extension};
+pub use tally::{KeyRef, Sums, Tally, TallyRow, extension};
 pub use walk_fault::WalkFault;
 pub use walking::{walk, walk_on};
 pub use worker::{End, Worked, Worker};

@@ -16,7 +16,7 @@ mod sums;
 mod tally_row;
 
 pub use extensions::extension;
-use key::KeyRef;
+pub use key::KeyRef;
 use lc_census::Count;
 use lc_rules::TextState;
 use row_hints::{RowHints, slot_of};
@@ -133,6 +133,26 @@ impl Tally {
             rows.push(row.copy(*self.rows.allocator())?)?;
         }
         Ok(rows)
+    }
+
+    /// The rows themselves, in the order of their keys.
+    pub fn into_rows(self) -> Vec<TallyRow>
+        ensures { result.items ≡ self.rows }
+    {
+        let Tally { rows, .. } = self;
+        rows
+    }
+
+    /// Adds some files of one key by their sums. What no walk's files have is refused as want of memory is: more than 2^63 files in
+    /// all, or more than 2^64 - 1 lines, blank lines or bytes a file.
+    pub fn add_sums(&mut self, key: &KeyRef<'_>, more: Sums) -> Result<(), AllocError>
+        ensures grows { OnOk result (Grows self.old self.new key.now more) }
+        ensures unchanged { OnErr result (self.new ≡ self.old) }
+    {
+        if more.files > MOST_FILES - self.totals.files || !more.is_modest() {
+            return Err(AllocError);
+        }
+        self.grow(key, more)
     }
 
     // Adds some files of one key.

@@ -7,8 +7,8 @@ use lc_board::{Locked, Shared, Words};
 use lc_level::Job;
 use lc_rules::IgnoreFile;
 use lc_table::{Outcome, RunFault, run, table};
-use lc_text::Sink;
 use lc_text::trials::Narrow;
+use lc_text::{Columns, Format, Shape, Sink};
 use lc_tree::trials::BytewiseTree;
 use lc_tree::{MemTree, Sketch, Tree};
 use lc_walk::{Options, Row, WalkFault, walk_on};
@@ -47,7 +47,14 @@ pub(super) struct Case<'a> {
     pub(super) lines: &'a [u8],
 }
 
-/// The first line of each table.
+/// A table with tabs, of all columns, in the order of its keys.
+pub(super) const TSV: Shape = Shape {
+    format: Format::Tsv,
+    by: Columns::ALL,
+    sort: None,
+};
+
+/// The first line of each such table.
 pub(super) const HEADER: &[u8] = b"ext\ttext\teol\tfiles\tlines\tblank\tbytes\n";
 
 fn excluding(alloc: Global, rules: &[u8]) -> Result<Option<Arc<IgnoreFile, Global>>, AllocError> {
@@ -113,7 +120,7 @@ pub(super) fn answer_of<R: Threads + Wait + Sync + AllocGlobal + Abort, T: Tree,
     requires directories { (1 ≤ max_dirs) × (max_dirs ≤ 1048576) }
 {
     let options = options_of(rt.alloc(), asked, threads, max_dirs)?;
-    match run(rt, rt.alloc(), tree, &options, out) {
+    match run(rt, rt.alloc(), tree, &options, TSV, out) {
         Err(RunFault::Memory | RunFault::Walk(WalkFault::Memory)) => {
             assert!(rt; out.taken().is_empty());
             Err(AllocError)
@@ -138,7 +145,7 @@ fn outcome_over<B: Shared<Job, Row>, R: Threads + Wait + Sync + AllocGlobal + Ab
         Err(WalkFault::Memory) => return Err(AllocError),
         Err(_) => return Ok(None),
     };
-    match table(rt.alloc(), &report, out) {
+    match table(rt.alloc(), &report, TSV, out) {
         Ok(()) if report.faults.is_empty() => Ok(Some(Outcome::Clean)),
         Ok(()) => Ok(Some(Outcome::SomeFaults)),
         Err(_) => {

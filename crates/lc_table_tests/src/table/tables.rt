@@ -1,6 +1,6 @@
 //! Reports, and the text of their table.
 
-use crate::table::asking::HEADER;
+use crate::table::asking::{HEADER, TSV};
 use lc_census::{Count, Eol};
 use lc_rules::TextState;
 use lc_table::{table, table_text};
@@ -13,25 +13,26 @@ use std::process::Abort;
 use std::test::Fail;
 
 /// An extension, a text state, a class, and the files, lines, blank lines and bytes.
-type Row = (Option<&'static [u8]>, TextState, Eol, [u64; 4]);
+pub(super) type Row = (Option<&'static [u8]>, TextState, Eol, [u64; 4]);
 
 /// A path, a text state, a class, and the lines, blank lines and bytes.
-type File = (&'static [u8], TextState, Eol, [u64; 3]);
+pub(super) type File = (&'static [u8], TextState, Eol, [u64; 3]);
 
 /// What is shown, the rows, the totals, the directories, the files, the faults, and the lines after the header.
-struct Case {
-    name: &'static str,
-    rows: &'static [Row],
-    totals: [u64; 4],
-    directories: u64,
-    files: &'static [File],
-    faults: &'static [(&'static [u8], FaultWord)],
-    lines: &'static [u8],
+#[derive(Clone, Copy)]
+pub(super) struct Case {
+    pub(super) name: &'static str,
+    pub(super) rows: &'static [Row],
+    pub(super) totals: [u64; 4],
+    pub(super) directories: u64,
+    pub(super) files: &'static [File],
+    pub(super) faults: &'static [(&'static [u8], FaultWord)],
+    pub(super) lines: &'static [u8],
 }
 
-const NONE: TextState = TextState::Unspecified;
+pub(super) const NONE: TextState = TextState::Unspecified;
 
-const CASES: &[Case] = &[
+pub(super) const CASES: &[Case] = &[
     Case {
         name: "a_line_for_each_key",
         rows: &[
@@ -162,7 +163,7 @@ fn faults_of(alloc: Global, case: &Case) -> Result<Vec<FaultLine>, AllocError> {
     Ok(faults)
 }
 
-fn report_of(alloc: Global, case: &Case) -> Result<Report, AllocError> {
+pub(super) fn report_of(alloc: Global, case: &Case) -> Result<Report, AllocError> {
     let [files, lines, blank, bytes] = case.totals;
     let totals = Sums {
         files,
@@ -183,7 +184,7 @@ fn report_of(alloc: Global, case: &Case) -> Result<Report, AllocError> {
 fn tables(rt: HostRuntime) -> Result<(), Fail> {
     for case in CASES {
         let report = report_of(rt.alloc(), case)?;
-        let text = table_text(rt.alloc(), &report)?;
+        let text = table_text(rt.alloc(), &report, TSV)?;
         let lines = text.as_slice().strip_prefix(HEADER);
         assert!(rt; lines == Some(case.lines), "{}", case.name);
     }
@@ -198,7 +199,7 @@ fn compare_writes<R: AllocGlobal + Abort>(
 ) -> Result<(), Fail> {
     for room in 0..=text.len() {
         let mut out = Narrow::new(rt.alloc(), writer.0, room, writer.1)?;
-        let answer = table(rt.alloc(), report, &mut out);
+        let answer = table(rt.alloc(), report, TSV, &mut out);
         if answer == Err(PrintFault::Memory) && out.taken.is_empty() {
             return Err(AllocError.into());
         }
@@ -218,7 +219,7 @@ fn compare_writes<R: AllocGlobal + Abort>(
 #[test]
 fn a_table_stops_at_every_place(rt: HostRuntime) -> Result<(), Fail> {
     let report = report_of(rt.alloc(), &CASES[2])?;
-    let text = table_text(rt.alloc(), &report)?;
+    let text = table_text(rt.alloc(), &report, TSV)?;
     for writer in WRITERS {
         compare_writes(&rt, &report, &text, *writer)?;
     }

@@ -6,12 +6,15 @@ use lc_census::Eol;
 use lc_rules::TextState;
 use std::marker::Model;
 
-/// The key of a row, lent for a look-up.
+/// The key of a row, which lends its extension.
 #[derive(Drop)]
-pub(crate) struct KeyRef<'a> {
-    pub(crate) extension: Option<&'a [u8]>,
-    pub(crate) text: TextState,
-    pub(crate) eol: Eol,
+pub struct KeyRef<'a> {
+    /// The extension of the files' names, or none.
+    pub extension: Option<&'a [u8]>,
+    /// What the attribute `text` is for the files.
+    pub text: TextState,
+    /// How the files' lines end.
+    pub eol: Eol,
 }
 
 impl<'a> Model for KeyRef<'a> {

@@ -1,6 +1,6 @@
 //! The sums over some counted files.
-ghost use Rattle.std.specs.Prelude.{◌≡◌};
-ghost use Rattle.lc_walk.specs.Sums.{plus, one_file, no_files, HasRoom};
+ghost use Rattle.std.specs.Prelude.{◌≡◌, true};
+ghost use Rattle.lc_walk.specs.Sums.{plus, one_file, no_files, HasRoom, IsModest};
 
 use lc_census::Count;
 
@@ -38,6 +38,14 @@ impl Sums {
             blank: u128::from(count.blank),
             bytes: u128::from(count.bytes),
         }
+    }
+
+    /// Whether at most 2^63 files can have these sums, if each has fewer than 2^64 bytes.
+    pub(crate) fn is_modest(&self) -> bool
+        ensures { result ≡ true → IsModest self.now }
+    {
+        let most = u128::from(self.files) * u128::from(u64::MAX);
+        self.files <= 1 << 63 && self.lines <= most && self.blank <= most && self.bytes <= most
     }
 
     pub(crate) fn add(self, more: Sums) -> Sums

@@ -60,7 +60,8 @@ impl TallyRow {
         })
     }
 
-    pub(crate) fn sums(&self) -> Sums
+    /// The sums over its files.
+    pub fn sums(&self) -> Sums
         ensures { result ≡ self.now.sums }
     {
         Sums {
@@ -71,7 +72,8 @@ impl TallyRow {
         }
     }
 
-    pub(crate) fn key(&self) -> KeyRef<'_>
+    /// Its key.
+    pub fn key(&self) -> KeyRef<'_>
         ensures { result ≡ self.now.key }
     {
         KeyRef {
@@ -81,14 +83,16 @@ impl TallyRow {
         }
     }
 
-    pub(crate) fn copy(&self, alloc: Global) -> Result<TallyRow, AllocError>
+    /// A copy of the row and its extension.
+    pub fn copy(&self, alloc: Global) -> Result<TallyRow, AllocError>
         ensures { IfOk result (λ r. r ≡ self.now) }
     {
         TallyRow::new(alloc, &self.key(), self.sums())
     }
 
+    /// Where its key stands to this one in the order of keys.
     #[tactic(auto, unfolding(crate::specs::Key::key_cmp))]
-    pub(crate) fn compare(&self, key: &KeyRef<'_>) -> Ordering
+    pub fn compare(&self, key: &KeyRef<'_>) -> Ordering
         ensures { result ≡ key_cmp self.now.key key.now }
     {
         compare_extensions(&self.ext, key.extension)

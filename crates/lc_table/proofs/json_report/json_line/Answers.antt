@@ -1,0 +1,34 @@
+use Rattle.std.proofs.Common.{◌≡◌, List, [], ◌∷◌, ◌++◌, map, codes, IfOk, sym, ap, subst, ◌∙◌}
+use Rattle.json.specs.Print.{print}
+use Rattle.json.specs.Token.{Token, begin_object, end_object}
+use Rattle.json.specs.Tree.{json_tokens}
+use Rattle.lc_table.specs.JsonText.{Member, array_with, object_with, integer, sums_members, row_value, fault_value, files_member, report_value}
+use Rattle.lc_table.specs.JsonTokens.{member_tokens, members_tokens_of}
+use Rattle.lc_table.proofs.Tokens.{in_turn_5, object_of_parts}
+use Rattle.lc_table.proofs.json_report.json_line.Goals as goal
+
+pub returns : goal.returns
+returns c =
+    let rows : Member = (codes "rows", array_with (map (row_value c.args.by) c.args.rows.now)) in
+    let total : Member = (codes "total", object_with (sums_members c.args.report.now.totals)) in
+    let directories : Member = (codes "directories", integer c.args.report.now.directories) in
+    let files = files_member c.args.report.now.files.items in
+    let faults : Member = (codes "faults", array_with (map fault_value c.args.report.now.faults.items)) in
+    let whole : c.end_object.new.self ≡ json_tokens (report_value c.args.by c.args.report.now c.args.rows.now) =
+    rw (
+      c.in_ok-end_object.ensures,
+      c.in_ok-write_faults.ensures,
+      c.in_ok-write_files.ensures,
+      c.in_ok-integer_member.ensures,
+      c.in_ok-write_total.ensures,
+      c.in_ok-write_rows.ensures,
+      c.in_ok-begin_object.ensures,
+      c.new-text.ensures,
+      c.from.ensures,
+      c.deref.ensures.value,
+      c.deref-2.ensures.value,
+    )
+    (ap (λ (ts : List Token). begin_object ∷ ts)
+    (in_turn_5 (member_tokens rows) (member_tokens total) (member_tokens directories) (members_tokens_of files) (member_tokens faults)
+    (end_object ∷ []) ∙ sym (object_of_parts rows total directories faults files))) in
+    subst (λ (ts : List Token). IfOk c.into_line.result (λ line. line.items ≡ print ts ++ codes "\n")) whole c.into_line.ensures

@@ -1,0 +1,22 @@
+use Rattle.std.proofs.Common.{List, [], ◌∷◌, ◌++◌, codes, take_all, sym, ap, ◌∙◌}
+use Rattle.std.specs.List.{flat_map}
+use Rattle.json.specs.Token.{Token, key, begin_array, end_array}
+use Rattle.json.specs.Tree.{json_tokens}
+use Rattle.lc_walk.specs.TallyRows.{TallyRowModel}
+use Rattle.lc_table.specs.JsonText.{row_value}
+use Rattle.lc_table.proofs.Tokens.{array_tokens, in_turn_4}
+use Rattle.lc_table.proofs.json_report.write_rows.Goals as goal
+
+pub returns : goal.returns
+returns c =
+    let own : TallyRowModel → List Token = λ r. json_tokens (row_value c.args.by r) in
+    rw (
+      c.in_ok-end_array.ensures,
+      c.loop-row.invariant,
+      c.in_ok-begin_array.ensures,
+      c.in_ok-key.ensures,
+      take_all c.loop-row.row-index c.args.rows.now c.loop-row-test.false,
+    )
+    (in_turn_4 c.args.text.now (key (codes "rows") ∷ []) (begin_array ∷ []) (flat_map own c.args.rows.now) (end_array ∷ [])
+    ∙ ap (λ (ts : List Token). c.args.text.now ++ key (codes "rows") ∷ begin_array ∷ ts)
+    (sym (array_tokens (row_value c.args.by) c.args.rows.now)))

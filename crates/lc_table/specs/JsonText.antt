@@ -1,0 +1,97 @@
+-- The JSON value of a report, and its text.
+use Rattle.std.specs.Prelude.{ℕ, Bool, if◌then◌else◌, List, [], ◌∷◌, ◌++◌, map, codes, decimal, Option, Some, None}
+use Rattle.std.specs.Str.{is_utf8}
+use Rattle.json.specs.Json.{Json, null, number, string, array, object, Items, no_items, item, Members, no_members, member}
+use Rattle.json.specs.Print.{print}
+use Rattle.json.specs.Tree.{json_tokens}
+use Rattle.lc_rules.specs.declared.states.TextState.{TextState}
+use Rattle.lc_rules.specs.declared.states.TextState.TheVariants as text
+use Rattle.lc_level.specs.FaultLines.{FaultLineModel}
+use Rattle.lc_text.specs.declared.shape.Columns.{Columns}
+use Rattle.lc_walk.specs.Key.{Key}
+use Rattle.lc_walk.specs.ReportLines.{FileLineModel}
+use Rattle.lc_walk.specs.TallyRows.{TallyRowModel}
+use Rattle.lc_walk.specs.declared.report.Report.{Report}
+use Rattle.lc_walk.specs.declared.tally.sums.Sums.{Sums}
+use Rattle.lc_table.specs.TsvText.{eol_word, text_word, fault_word}
+
+abbrev pub items_with : List Json → Items
+items_with [] = no_items
+items_with (j ∷ js) = item j (items_with js)
+
+abbrev pub array_with : List Json → Json
+array_with js = array (items_with js)
+
+-- a name and its value
+abbrev pub Member : Type 0
+Member = List ℕ × Json
+
+abbrev pub members_with : List Member → Members
+members_with [] = no_members
+members_with (m ∷ ms) = member m.0 m.1 (members_with ms)
+
+abbrev pub object_with : List Member → Json
+object_with ms = object (members_with ms)
+
+abbrev pub integer : ℕ → Json
+integer n = number (decimal n)
+
+-- bytes as a text where they are UTF-8, and else as a list of numbers under another name
+abbrev pub bytes_member : List ℕ → List ℕ → List ℕ → Member
+bytes_member name other bytes = if is_utf8 bytes then (name, string bytes) else (other, array_with (map integer bytes))
+
+abbrev pub extension_member : Option (List ℕ) → Member
+extension_member None = (codes "ext", null)
+extension_member (Some name) = bytes_member (codes "ext") (codes "ext_bytes") (codes "." ++ name)
+
+abbrev pub path_member : List ℕ → Member
+path_member = bytes_member (codes "path") (codes "path_bytes")
+
+-- null where the attribute `text` is unspecified
+abbrev pub text_value : TextState → Json
+text_value text.Set = string (text_word text.Set)
+text_value text.Unset = string (text_word text.Unset)
+text_value text.Auto = string (text_word text.Auto)
+text_value text.Other = string (text_word text.Other)
+text_value text.Unspecified = null
+
+-- no member for a column that is left out
+abbrev pub if_kept : Bool → Member → List Member
+if_kept kept m = if kept then m ∷ [] else []
+
+abbrev pub sums_members : Sums → List Member
+sums_members s =
+    (codes "files", integer s.files) ∷ (codes "lines", integer s.lines) ∷ (codes "blank", integer s.blank)
+    ∷ (codes "bytes", integer s.bytes) ∷ []
+
+abbrev pub key_members : Columns → Key → List Member
+key_members by k =
+    if_kept by.ext (extension_member k.extension)
+    ++ (if_kept by.text (codes "text", text_value k.text) ++ if_kept by.eol (codes "eol", string (eol_word k.eol)))
+
+abbrev pub row_value : Columns → TallyRowModel → Json
+row_value by r = object_with (key_members by r.key ++ sums_members r.sums)
+
+abbrev pub file_value : FileLineModel → Json
+file_value f =
+    object_with (path_member f.path ∷ (codes "text", text_value f.text) ∷ (codes "eol", string (eol_word f.count.eol))
+    ∷ (codes "lines", integer f.count.lines) ∷ (codes "blank", integer f.count.blank) ∷ (codes "bytes", integer f.count.bytes) ∷ [])
+
+abbrev pub fault_value : FaultLineModel → Json
+fault_value f = object_with ((codes "word", string (fault_word f.word)) ∷ path_member f.path ∷ [])
+
+-- no member where no file is listed
+abbrev pub files_member : List FileLineModel → List Member
+files_member [] = []
+files_member (f ∷ fs) = (codes "files", array_with (map file_value (f ∷ fs))) ∷ []
+
+-- the value of a report, with these rows
+abbrev pub report_value : Columns → Report → List TallyRowModel → Json
+report_value by r rows =
+    object_with ((codes "rows", array_with (map (row_value by) rows)) ∷ (codes "total", object_with (sums_members r.totals))
+    ∷ (codes "directories", integer r.directories)
+    ∷ (files_member r.files.items ++ (codes "faults", array_with (map fault_value r.faults.items)) ∷ []))
+
+-- the value on one line
+abbrev pub json_text_of : Columns → Report → List TallyRowModel → List ℕ
+json_text_of by r rows = print (json_tokens (report_value by r rows)) ++ codes "\n"

@@ -1,0 +1,87 @@
+-- The text of a table with tabs: a header, a line for each key, the totals, the directories, the files, the faults.
+use Rattle.std.specs.Prelude.{ℕ, Bool, if◌then◌else◌, List, [], ◌∷◌, ◌++◌, codes, decimal, Option, Some, None}
+use Rattle.std.specs.List.{flat_map}
+use Rattle.lc_census.specs.declared.totals.Eol.{Eol}
+use Rattle.lc_census.specs.declared.totals.Eol.TheVariants.{NoEnd, Lf, CrLf, Cr, Mixed, Nul}
+use Rattle.lc_rules.specs.declared.states.TextState.{TextState}
+use Rattle.lc_rules.specs.declared.states.TextState.TheVariants as text
+use Rattle.lc_walk.specs.TallyRows.{TallyRowModel}
+use Rattle.lc_walk.specs.ReportLines.{FileLineModel}
+use Rattle.lc_level.specs.FaultLines.{FaultLineModel}
+use Rattle.lc_walk.specs.declared.tally.sums.Sums.{Sums}
+use Rattle.lc_tree.specs.declared.fault_word.FaultWord.{FaultWord}
+use Rattle.lc_tree.specs.declared.fault_word.FaultWord.TheVariants as fault
+use Rattle.lc_walk.specs.declared.report.Report.{Report}
+use Rattle.lc_text.specs.Escape.{escape_bytes, escape_path}
+use Rattle.lc_text.specs.declared.shape.Columns.{Columns}
+
+-- the class of line ends
+abbrev pub eol_word : Eol → List ℕ
+eol_word NoEnd = codes "none"
+eol_word Lf = codes "lf"
+eol_word CrLf = codes "crlf"
+eol_word Cr = codes "cr"
+eol_word Mixed = codes "mixed"
+eol_word Nul = codes "nul"
+
+-- what the attribute `text` is
+abbrev pub text_word : TextState → List ℕ
+text_word text.Set = codes "set"
+text_word text.Unset = codes "unset"
+text_word text.Auto = codes "auto"
+text_word text.Other = codes "other"
+text_word text.Unspecified = codes "-"
+
+abbrev pub fault_word : FaultWord → List ℕ
+fault_word fault.Read = codes "read"
+fault_word fault.Name = codes "name"
+fault_word fault.Twice = codes "twice"
+fault_word fault.Many = codes "many"
+fault_word fault.Long = codes "long"
+fault_word fault.Endless = codes "endless"
+
+-- a dot and the escaped bytes, or `-` for none
+abbrev pub extension_word : Option (List ℕ) → List ℕ
+extension_word None = codes "-"
+extension_word (Some name) = codes "." ++ escape_bytes name
+
+-- fields with a tab between, and a line feed
+abbrev pub line_with : List (List ℕ) → List ℕ
+line_with [] = codes "\n"
+line_with (f ∷ []) = f ++ codes "\n"
+line_with (f ∷ g ∷ fs) = f ++ codes "\t" ++ line_with (g ∷ fs)
+
+abbrev pub sums_fields : Sums → List (List ℕ)
+sums_fields s = decimal s.files ∷ decimal s.lines ∷ decimal s.blank ∷ decimal s.bytes ∷ []
+
+abbrev pub header_line : List ℕ
+header_line = codes "ext\ttext\teol\tfiles\tlines\tblank\tbytes\n"
+
+-- a star in a column that is left out
+abbrev pub column : Bool → List ℕ → List ℕ
+column kept word = if kept then word else codes "*"
+
+abbrev pub row_line : Columns → TallyRowModel → List ℕ
+row_line by r =
+    line_with (column by.ext (extension_word r.key.extension) ∷ column by.text (text_word r.key.text) ∷ column by.eol (eol_word r.key.eol)
+    ∷ sums_fields r.sums)
+
+abbrev pub totals_line : Sums → List ℕ
+totals_line s = line_with (codes "total" ∷ codes "*" ∷ codes "*" ∷ sums_fields s)
+
+abbrev pub directories_line : ℕ → List ℕ
+directories_line n = line_with (codes "directories" ∷ decimal n ∷ [])
+
+abbrev pub file_line : FileLineModel → List ℕ
+file_line f =
+    line_with (codes "file" ∷ text_word f.text ∷ eol_word f.count.eol
+    ∷ decimal f.count.lines ∷ decimal f.count.blank ∷ decimal f.count.bytes ∷ escape_path f.path ∷ [])
+
+abbrev pub fault_line : FaultLineModel → List ℕ
+fault_line f = line_with (codes "fault" ∷ fault_word f.word ∷ escape_path f.path ∷ [])
+
+-- the table of a report, with these rows
+abbrev pub tsv_text_of : Columns → Report → List TallyRowModel → List ℕ
+tsv_text_of by r rows =
+    header_line ++ flat_map (row_line by) rows ++ totals_line r.totals ++ directories_line r.directories
+    ++ flat_map file_line r.files.items ++ flat_map fault_line r.faults.items

@@ -1,0 +1,226 @@
+//! The text of a table as JSON.
+
+ghost use Rattle.std.specs.Prelude.{◌≡◌, ◌++◌, codes, map, IfOk, OnOk, option_map};
+ghost use Rattle.json.specs.Json.{string};
+ghost use Rattle.json.specs.Tree.{json_tokens};
+ghost use Rattle.lc_table.specs.TsvText.{eol_word};
+ghost use Rattle.lc_table.specs.JsonText.{array_with, object_with, extension_member, if_kept, text_value, sums_members, key_members, row_value};
+ghost use Rattle.lc_table.specs.JsonText.{file_value, fault_value, files_member, json_text_of};
+ghost use Rattle.lc_table.specs.JsonTokens.{member_tokens, members_tokens_of};
+
+use crate::json_text::JsonText;
+use crate::words::{eol_word, fault_word, text_word};
+use lc_census::Eol;
+use lc_rules::TextState;
+use lc_text::Columns;
+use lc_walk::{FaultLine, FileLine, Report, Sums, TallyRow};
+use std::alloc::{AllocError, Global};
+
+fn write_extension(
+    text: &mut JsonText,
+    dotted: &mut Vec<u8>,
+    ext: &Option<Vec<u8>>,
+) -> Result<(), AllocError>
+    ensures { OnOk result (text.new ≡ text.old ++ member_tokens (extension_member (option_map (λ v. v.items) ext.now))) }
+{
+    match ext {
+        None => {
+            text.key("ext")?;
+            text.null()?;
+            Ok(())
+        }
+        Some(name) => {
+            dotted.clear();
+            dotted.push(b'.')?;
+            dotted.extend_from_slice(name)?;
+            text.bytes_member("ext", "ext_bytes", dotted)?;
+            Ok(())
+        }
+    }
+}
+
+fn write_text_state(text: &mut JsonText, state: TextState) -> Result<(), AllocError>
+    ensures { OnOk result (text.new ≡ text.old ++ member_tokens (codes "text", text_value state)) }
+{
+    match state {
+        TextState::Unspecified => {
+            text.key("text")?;
+            text.null()?;
+            Ok(())
+        }
+        TextState::Set | TextState::Unset | TextState::Auto | TextState::Other => {
+            text.string_member("text", text_word(state))?;
+            Ok(())
+        }
+    }
+}
+
+fn write_sums(text: &mut JsonText, sums: &Sums) -> Result<(), AllocError>
+    ensures { OnOk result (text.new ≡ text.old ++ members_tokens_of (sums_members sums.now)) }
+{
+    text.integer_member("files", u128::from(sums.files))?;
+    text.integer_member("lines", sums.lines)?;
+    text.integer_member("blank", sums.blank)?;
+    text.integer_member("bytes", sums.bytes)?;
+    Ok(())
+}
+
+fn write_kept_extension(
+    text: &mut JsonText,
+    dotted: &mut Vec<u8>,
+    kept: bool,
+    row: &TallyRow,
+) -> Result<(), AllocError>
+    ensures { OnOk result (text.new ≡ text.old ++ members_tokens_of (if_kept kept (extension_member row.now.key.extension))) }
+{
+    if kept {
+        write_extension(text, dotted, &row.ext)?;
+    }
+    Ok(())
+}
+
+fn write_kept_text(text: &mut JsonText, kept: bool, state: TextState) -> Result<(), AllocError>
+    ensures { OnOk result (text.new ≡ text.old ++ members_tokens_of (if_kept kept (codes "text", text_value state))) }
+{
+    if kept {
+        write_text_state(text, state)?;
+    }
+    Ok(())
+}
+
+fn write_kept_eol(text: &mut JsonText, kept: bool, eol: Eol) -> Result<(), AllocError>
+    ensures { OnOk result (text.new ≡ text.old ++ members_tokens_of (if_kept kept (codes "eol", string (eol_word eol)))) }
+{
+    if kept {
+        text.string_member("eol", eol_word(eol))?;
+    }
+    Ok(())
+}
+
+fn write_key(
+    text: &mut JsonText,
+    dotted: &mut Vec<u8>,
+    by: Columns,
+    row: &TallyRow,
+) -> Result<(), AllocError>
+    ensures { OnOk result (text.new ≡ text.old ++ members_tokens_of (key_members by row.now.key)) }
+{
+    write_kept_extension(text, dotted, by.ext, row)?;
+    write_kept_text(text, by.text, row.text)?;
+    write_kept_eol(text, by.eol, row.eol)?;
+    Ok(())
+}
+
+fn write_row(
+    text: &mut JsonText,
+    dotted: &mut Vec<u8>,
+    by: Columns,
+    row: &TallyRow,
+) -> Result<(), AllocError>
+    ensures { OnOk result (text.new ≡ text.old ++ json_tokens (row_value by row.now)) }
+{
+    text.begin_object()?;
+    write_key(text, dotted, by, row)?;
+    write_sums(text, &row.sums())?;
+    text.end_object()?;
+    Ok(())
+}
+
+fn write_file(text: &mut JsonText, file: &FileLine) -> Result<(), AllocError>
+    ensures { OnOk result (text.new ≡ text.old ++ json_tokens (file_value file.now)) }
+{
+    text.begin_object()?;
+    text.bytes_member("path", "path_bytes", &file.path)?;
+    write_text_state(text, file.text)?;
+    text.string_member("eol", eol_word(file.count.eol))?;
+    text.integer_member("lines", u128::from(file.count.lines))?;
+    text.integer_member("blank", u128::from(file.count.blank))?;
+    text.integer_member("bytes", u128::from(file.count.bytes))?;
+    text.end_object()?;
+    Ok(())
+}
+
+fn write_fault(text: &mut JsonText, fault: &FaultLine) -> Result<(), AllocError>
+    ensures { OnOk result (text.new ≡ text.old ++ json_tokens (fault_value fault.now)) }
+{
+    text.begin_object()?;
+    text.string_member("word", fault_word(fault.word))?;
+    text.bytes_member("path", "path_bytes", &fault.path)?;
+    text.end_object()?;
+    Ok(())
+}
+
+fn write_rows(
+    text: &mut JsonText,
+    alloc: Global,
+    by: Columns,
+    rows: &[TallyRow],
+) -> Result<(), AllocError>
+    ensures { OnOk result (text.new ≡ text.old ++ member_tokens (codes "rows", array_with (map (row_value by) rows.now))) }
+{
+    text.key("rows")?;
+    text.begin_array()?;
+    let mut dotted = Vec::new(alloc);
+    for row in rows {
+        write_row(text, &mut dotted, by, row)?;
+    }
+    text.end_array()?;
+    Ok(())
+}
+
+fn write_files(text: &mut JsonText, files: &[FileLine]) -> Result<(), AllocError>
+    ensures { OnOk result (text.new ≡ text.old ++ members_tokens_of (files_member files.now)) }
+{
+    if files.is_empty() {
+        return Ok(());
+    }
+    text.key("files")?;
+    text.begin_array()?;
+    for file in files {
+        write_file(text, file)?;
+    }
+    text.end_array()?;
+    Ok(())
+}
+
+fn write_faults(text: &mut JsonText, faults: &[FaultLine]) -> Result<(), AllocError>
+    ensures { OnOk result (text.new ≡ text.old ++ member_tokens (codes "faults", array_with (map fault_value faults.now))) }
+{
+    text.key("faults")?;
+    text.begin_array()?;
+    for fault in faults {
+        write_fault(text, fault)?;
+    }
+    text.end_array()?;
+    Ok(())
+}
+
+fn write_total(text: &mut JsonText, totals: &Sums) -> Result<(), AllocError>
+    ensures { OnOk result (text.new ≡ text.old ++ member_tokens (codes "total", object_with (sums_members totals.now))) }
+{
+    text.key("total")?;
+    text.begin_object()?;
+    write_sums(text, totals)?;
+    text.end_object()?;
+    Ok(())
+}
+
+/// One object on one line.
+pub(crate) fn json_line(
+    alloc: Global,
+    report: &Report,
+    by: Columns,
+    rows: &[TallyRow],
+) -> Result<Vec<u8>, AllocError>
+    ensures { IfOk result (λ text. text.items ≡ json_text_of by report.now rows.now) }
+{
+    let mut text = JsonText::new(alloc);
+    text.begin_object()?;
+    write_rows(&mut text, alloc, by, rows)?;
+    write_total(&mut text, &report.totals)?;
+    text.integer_member("directories", u128::from(report.directories))?;
+    write_files(&mut text, &report.files)?;
+    write_faults(&mut text, &report.faults)?;
+    text.end_object()?;
+    text.into_line()
+}

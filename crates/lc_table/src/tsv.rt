@@ -1,0 +1,144 @@
+//! The text of a table with a tab between fields.
+
+ghost use Rattle.std.specs.Prelude.{◌≡◌, ◌++◌, OnOk, IfOk, option_map};
+ghost use Rattle.std.specs.List.{flat_map};
+ghost use Rattle.lc_table.specs.TsvText.{column, extension_word, row_line, totals_line, directories_line, file_line, fault_line};
+ghost use Rattle.lc_table.specs.TsvText.{tsv_text_of};
+
+use crate::words::{eol_word, fault_word, text_word};
+use lc_text::{Columns, push_escaped, push_path};
+use lc_walk::{FaultLine, FileLine, Report, Sums, TallyRow};
+use std::alloc::{AllocError, Global};
+use std::io::Write;
+
+fn push_extension(text: &mut Vec<u8>, extension: &Option<Vec<u8>>) -> Result<(), AllocError>
+    ensures { OnOk result (text.new.items ≡ text.old.items ++ extension_word (option_map (λ v. v.items) extension.now)) }
+{
+    match extension {
+        None => text.extend_from_slice(b"-"),
+        Some(name) => {
+            text.extend_from_slice(b".")?;
+            push_escaped(text, name)
+        }
+    }
+}
+
+fn column(kept: bool, word: &'static str) -> &'static str
+    ensures { result.now ≡ column kept word.now }
+{
+    if kept { word } else { "*" }
+}
+
+fn push_kept_extension(text: &mut Vec<u8>, by: Columns, row: &TallyRow) -> Result<(), AllocError>
+    ensures { OnOk result (text.new.items ≡ text.old.items ++ column by.ext (extension_word row.now.key.extension)) }
+{
+    if by.ext {
+        push_extension(text, &row.ext)
+    } else {
+        text.extend_from_slice(b"*")
+    }
+}
+
+fn push_row(text: &mut Vec<u8>, by: Columns, row: &TallyRow) -> Result<(), AllocError>
+    ensures { OnOk result (text.new.items ≡ text.old.items ++ row_line by row.now) }
+{
+    push_kept_extension(text, by, row)?;
+    let state = column(by.text, text_word(row.text));
+    let eol = column(by.eol, eol_word(row.eol));
+    let TallyRow {
+        files,
+        lines,
+        blank,
+        bytes,
+        ..
+    } = row;
+    writeln!(text, "\t{state}\t{eol}\t{files}\t{lines}\t{blank}\t{bytes}").map_err(|_| AllocError)
+}
+
+fn push_totals(text: &mut Vec<u8>, totals: &Sums) -> Result<(), AllocError>
+    ensures { OnOk result (text.new.items ≡ text.old.items ++ totals_line totals.now) }
+{
+    let Sums {
+        files,
+        lines,
+        blank,
+        bytes,
+    } = totals;
+    writeln!(text, "total\t*\t*\t{files}\t{lines}\t{blank}\t{bytes}").map_err(|_| AllocError)
+}
+
+fn push_directories(text: &mut Vec<u8>, directories: u64) -> Result<(), AllocError>
+    ensures { OnOk result (text.new.items ≡ text.old.items ++ directories_line directories) }
+{
+    writeln!(text, "directories\t{directories}").map_err(|_| AllocError)
+}
+
+fn push_file(text: &mut Vec<u8>, file: &FileLine) -> Result<(), AllocError>
+    ensures { OnOk result (text.new.items ≡ text.old.items ++ file_line file.now) }
+{
+    let state = text_word(file.text);
+    let eol = eol_word(file.count.eol);
+    let lines = file.count.lines;
+    let blank = file.count.blank;
+    let bytes = file.count.bytes;
+    write!(text, "file\t{state}\t{eol}\t{lines}\t{blank}\t{bytes}\t").map_err(|_| AllocError)?;
+    push_path(text, &file.path)?;
+    text.extend_from_slice(b"\n")
+}
+
+fn push_fault(text: &mut Vec<u8>, fault: &FaultLine) -> Result<(), AllocError>
+    ensures { OnOk result (text.new.items ≡ text.old.items ++ fault_line fault.now) }
+{
+    let word = fault_word(fault.word);
+    write!(text, "fault\t{word}\t").map_err(|_| AllocError)?;
+    push_path(text, &fault.path)?;
+    text.extend_from_slice(b"\n")
+}
+
+fn push_rows(text: &mut Vec<u8>, by: Columns, rows: &[TallyRow]) -> Result<(), AllocError>
+    ensures { OnOk result (text.new.items ≡ text.old.items ++ flat_map (row_line by) rows.now) }
+{
+    for row in rows {
+        push_row(text, by, row)?;
+    }
+    Ok(())
+}
+
+fn push_files(text: &mut Vec<u8>, files: &[FileLine]) -> Result<(), AllocError>
+    ensures { OnOk result (text.new.items ≡ text.old.items ++ flat_map file_line files.now) }
+{
+    for file in files {
+        push_file(text, file)?;
+    }
+    Ok(())
+}
+
+fn push_faults(text: &mut Vec<u8>, faults: &[FaultLine]) -> Result<(), AllocError>
+    ensures { OnOk result (text.new.items ≡ text.old.items ++ flat_map fault_line faults.now) }
+{
+    for fault in faults {
+        push_fault(text, fault)?;
+    }
+    Ok(())
+}
+
+/// Fields are separated by one tab. After a header there is a line for each row, one for the totals, one with the number of
+/// directories, and one for each file, if files were asked for, and for each fault, with their paths escaped as
+/// [`escape`](lc_text::escape) has it.
+pub(crate) fn tsv_text(
+    alloc: Global,
+    report: &Report,
+    by: Columns,
+    rows: &[TallyRow],
+) -> Result<Vec<u8>, AllocError>
+    ensures { IfOk result (λ text. text.items ≡ tsv_text_of by report.now rows.now) }
+{
+    let mut text = Vec::new(alloc);
+    text.extend_from_slice(b"ext\ttext\teol\tfiles\tlines\tblank\tbytes\n")?;
+    push_rows(&mut text, by, rows)?;
+    push_totals(&mut text, &report.totals)?;
+    push_directories(&mut text, report.directories)?;
+    push_files(&mut text, &report.files)?;
+    push_faults(&mut text, &report.faults)?;
+    Ok(text)
+}
