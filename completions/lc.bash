@@ -19,7 +19,7 @@ _lc() {
         --threads) mapfile -t COMPREPLY < <(compgen -W '1 2 4 8 16' -- "$current") ;;
         --max-dirs) mapfile -t COMPREPLY < <(compgen -W '65536 1048576' -- "$current") ;;
         --without) mapfile -t COMPREPLY < <(compgen -W 'linguist-vendored linguist-generated linguist-documentation' -- "$current") ;;
-        --format) mapfile -t COMPREPLY < <(compgen -W 'table tsv json' -- "$current") ;;
+        --format) mapfile -t COMPREPLY < <(compgen -W 'tsv json' -- "$current") ;;
         --by) mapfile -t COMPREPLY < <(compgen -W 'ext text eol ext,text ext,eol text,eol' -- "$current") ;;
         --sort) mapfile -t COMPREPLY < <(compgen -W 'files lines blank bytes' -- "$current") ;;
         --exclude-from) mapfile -t COMPREPLY < <(compgen -f -- "$current") ;;

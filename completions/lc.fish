@@ -12,7 +12,7 @@ complete -c lc -n '__fish_seen_subcommand_from count' -l files -d 'Also a line f
 complete -c lc -n '__fish_seen_subcommand_from count' -l archive -d 'Leave out what has the attribute export-ignore'
 complete -c lc -n '__fish_seen_subcommand_from count' -l without -x -a 'linguist-vendored linguist-generated linguist-documentation' -d 'Leave out what has this attribute'
 complete -c lc -n '__fish_seen_subcommand_from count' -l exclude-from -r -F -d 'An ignore file for the whole directory'
-complete -c lc -n '__fish_seen_subcommand_from count' -l format -x -a 'table tsv json' -d 'What the table is written as'
+complete -c lc -n '__fish_seen_subcommand_from count' -l format -x -a 'tsv json' -d 'What the table is written as'
 complete -c lc -n '__fish_seen_subcommand_from count' -l by -x -a 'ext text eol ext,text ext,eol text,eol' -d 'Sum rows by these columns alone'
 complete -c lc -n '__fish_seen_subcommand_from count' -l sort -x -a 'files lines blank bytes' -d 'The largest first'
 complete -c lc -n '__fish_seen_subcommand_from count' -a '(__fish_complete_directories)'

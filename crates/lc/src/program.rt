@@ -162,7 +162,7 @@ where
         archive: asked.archive,
         without: asked.without.as_slice(),
     };
-    let outcome = run(rt, rt.alloc(), &tree, &options, out)?;
+    let outcome = run(rt, rt.alloc(), &tree, &options, asked.shape, out)?;
     Ok(outcome)
 }
 

@@ -4,13 +4,12 @@ use Rattle.std.specs.Str.{bytes_eq}
 use Rattle.lc_glob.specs.Pieces.{pieces_of}
 use Rattle.lc_text.specs.declared.shape.Columns.{Columns}
 use Rattle.lc_text.specs.declared.shape.Format.{Format}
-use Rattle.lc_text.specs.declared.shape.Format.TheVariants.{Table, Tsv, Json}
+use Rattle.lc_text.specs.declared.shape.Format.TheVariants.{Tsv, Json}
 use Rattle.lc_text.specs.declared.shape.Shape.{Shape}
 use Rattle.lc_text.specs.declared.shape.SortBy.{SortBy}
 use Rattle.lc_text.specs.declared.shape.SortBy.TheVariants.{Files, Lines, Blank, Bytes}
 
 abbrev pub format_word : Format → List ℕ
-format_word Table = codes "table"
 format_word Tsv = codes "tsv"
 format_word Json = codes "json"
 

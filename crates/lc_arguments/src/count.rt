@@ -96,7 +96,7 @@ fn format<'a>(alloc: Global) -> Arg<'a>
         .long("format")
         .value_name("FORMAT")
         .action(ArgAction::Set)
-        .help("table for eyes, tsv (tabs between fields, the default) or json")
+        .help("tsv (tabs between fields, the default) or json")
 }
 
 fn by<'a>(alloc: Global) -> Arg<'a>

@@ -56,10 +56,9 @@ directory, as symbolic links, are left out too. Ignore files above DIR, Git's
 index and its configuration are not read. With --without ATTR files and
 directories are left out that have the attribute ATTR, by .gitattributes.
 
-The table has a tab between fields, for programs that read lines. For eyes there
-is --format table, for other programs --format json. Below its header each line
-has the number of files of one kind, and the sums of their lines, blank lines and
-bytes. A kind is
+The table has a tab between fields; --format json writes it as JSON. Below its
+header each line has the number of files of one kind, and the sums of their lines,
+blank lines and bytes. A kind is
 
   ext   what stands after the last dot of the name, with a dot before it; or -
   text  the attribute text, by .gitattributes: set, unset, auto, other, or -
@@ -93,7 +92,7 @@ Status:
 
 Examples:
   lc count .
-  lc count --format table --by ext --sort lines .
+  lc count --by ext --sort lines .
   lc count --files --threads 8 src
   lc count --archive --exclude-from rules .
   lc count --without linguist-vendored --without linguist-generated .";

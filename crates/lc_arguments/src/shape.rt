@@ -17,7 +17,6 @@ fn format_named(name: &str) -> Option<Format>
     ensures { MatchOption result ((f : FormatModel) → format_word f ≢ name.entry.now) (λ f. format_word f ≡ name.entry.now) }
 {
     match name {
-        "table" => Some(Format::Table),
         "tsv" => Some(Format::Tsv),
         "json" => Some(Format::Json),
         _ => None,
@@ -79,7 +78,7 @@ pub(crate) fn shape_of(
             alloc,
             "--format <FORMAT>",
             word,
-            "\n  [possible values: table, tsv, json]",
+            "\n  [possible values: tsv, json]",
         ));
     };
     let word = by.unwrap_or("ext,text,eol");

@@ -171,7 +171,7 @@ const TEXTS: &[(&[&str], u8, &str)] = &[
     (
         &["count", "--format", "xml", "."],
         2,
-        "[possible values: table, tsv, json]",
+        "[possible values: tsv, json]",
     ),
     (
         &["count", "--sort", "names", "."],
