@@ -6,6 +6,7 @@ use Rattle.std.proofs.lemmas.Bool.{ltb-true}
 use denote.RawPtr.{null_ptr}
 use Rattle.lc_census.specs.declared.totals.Eol.TheVariants.{Lf}
 use Rattle.lc_level.specs.Answers.{Item, file_item, directory_item, other_item}
+use Rattle.lc_rules.specs.declared.origin.Origin.TheVariants.{Directory}
 use Rattle.lc_level.specs.Level.{Reason, named_git, by_rule, by_attribute, other_kind, Level, faulted_level, listed_level, level}
 use Rattle.lc_level.specs.Level.{counted_in, failed_in, walked_in, left_in}
 use Rattle.lc_level.specs.NodeTrees.{tree_of_node}
@@ -106,7 +107,7 @@ small_names alloc archive = names_in (level (selection_of_archive archive) (top_
 
 -- what is left out of it in any case
 abbrev pub small_outside : List (List ℕ × Reason)
-small_outside = (codes ".git", named_git) ∷ (codes "a.o", by_rule) ∷ (codes "l", other_kind) ∷ []
+small_outside = (codes ".git", named_git) ∷ (codes "a.o", by_rule (Directory 0) 1) ∷ (codes "l", other_kind) ∷ []
 
 abbrev pub small_as_it_is : Names
 small_as_it_is = record {

@@ -1,13 +1,13 @@
 -- One level of the walk: what becomes of each entry of one directory.
 use Rattle.std.specs.Prelude.{ℕ, ◌≡◌, Bool, true, false, cond, List, [], ◌∷◌, flat_map, map, bytes_eq, codes}
-use Rattle.std.specs.Prelude.{Option, Some, option_map, Result, Ok, Err}
+use Rattle.std.specs.Prelude.{if◌then◌else◌, Option, None, Some, option_map, Result, Ok, Err}
 use Rattle.std.specs.List.{find}
-use Rattle.std.specs.Option.{is_none, option_map_or}
+use Rattle.std.specs.Option.{is_none, option_map_or, option_or}
 use Rattle.lc_rules.specs.Attributes.{StateModel, set, unset, value, unspecified}
 use Rattle.lc_rules.specs.IgnoreChains.{rules_in}
-use Rattle.lc_rules.specs.Verdicts.{verdict_of}
-use Rattle.lc_rules.specs.declared.verdicts.Verdict.{Verdict}
-use Rattle.lc_rules.specs.declared.verdicts.Verdict.TheVariants.{Ignored, Included, NoRule}
+use Rattle.lc_rules.specs.IgnoreRules.{RuleModel}
+use Rattle.lc_rules.specs.Verdicts.{deciding}
+use Rattle.lc_rules.specs.declared.origin.Origin.{Origin}
 use Rattle.lc_rules.specs.declared.states.TextState.{TextState}
 use Rattle.lc_census.specs.declared.totals.Count.{Count}
 use Rattle.lc_tree.specs.declared.fault_word.FaultWord.{FaultWord}
@@ -30,11 +30,11 @@ pub record FileFaultModel : Type 0 where
   pub name : List ℕ
   pub word : FaultWord
 
--- why an entry is left out, the first that holds: it is named `.git`; a rule ignores it; an attribute that leaves out is Set for it; it is
--- neither a file nor a directory
+-- why an entry is left out, the first that holds: it is named `.git`; the rule that decides ignores it, and stands in a file of this
+-- origin, on the line with this number; an attribute that leaves out is Set for it; it is neither a file nor a directory
 pub data Reason : Type 0 where
   named_git : Reason
-  by_rule : Reason
+  by_rule : Origin → (line : ℕ) → Reason
   by_attribute : (name : List ℕ) → Reason
   other_kind : Reason
 
@@ -50,11 +50,6 @@ pub data Level : Type 0 where
   faulted_level : (path : List ℕ) → FaultWord → Level
   listed_level : List (List ℕ × Fate) → Level
 
-abbrev pub is_ignored : Verdict → Bool
-is_ignored Ignored = true
-is_ignored Included = false
-is_ignored NoRule = false
-
 abbrev pub is_set : StateModel → Bool
 is_set set = true
 is_set unset = false
@@ -67,10 +62,15 @@ is_set unspecified = false
 abbrev pub attribute_reason : SelectionModel → JobModel → List ℕ → Bool → Option Reason
 attribute_reason s j path is_dir = option_map by_attribute (find (λ name. is_set (state_of j.attributes path is_dir name)) s.without)
 
+-- the rule that decides, where it ignores
+abbrev pub rule_reason : Option (Origin × RuleModel) → Option Reason
+rule_reason None = None
+rule_reason (Some rule) = if rule.1.is_negated then None else Some (by_rule rule.0 rule.1.line)
+
 -- by a path
 abbrev pub reason_at : SelectionModel → JobModel → List ℕ → Bool → Option Reason
 reason_at s j path is_dir =
-    cond (is_ignored (verdict_of (rules_in j.ignore) path is_dir)) (Some by_rule) (attribute_reason s j path is_dir)
+    option_or (rule_reason (deciding (rules_in j.ignore) path is_dir)) (attribute_reason s j path is_dir)
 
 -- by a name in the directory
 abbrev pub reason_of : SelectionModel → JobModel → List ℕ → Bool → Option Reason
