@@ -65,11 +65,12 @@ pub(crate) fn open(
 
 /// The job of the directory that is asked about.
 fn job_of(
+    alloc: Global,
     levels: &LevelReader<MemTree>,
     asked: &Asked,
     scratch: &mut Scratch,
 ) -> Result<Option<Job>, AllocError> {
-    let top = Job::top(levels.alloc, exclude_file(levels.alloc, asked.exclude)?)?;
+    let top = Job::top(alloc, exclude_file(alloc, asked.exclude)?)?;
     let Some(below) = asked.below else {
         return Ok(Some(top));
     };
@@ -93,6 +94,7 @@ struct Found {
 
 /// Opens the directory of the job and counts its files.
 fn work(
+    alloc: Global,
     levels: &LevelReader<MemTree>,
     job: &Job,
     scratch: &mut Scratch,
@@ -107,7 +109,7 @@ fn work(
         files,
         children,
     } = opened;
-    let mut names = Vec::new(levels.alloc);
+    let mut names = Vec::new(alloc);
     for child in children {
         names.push(child.name)?;
     }
@@ -159,17 +161,14 @@ pub(crate) fn check(
 ) -> Result<(), AllocError> {
     let node = asked.tree.node(alloc)?;
     let tree = MemTree::new(&node);
-    let levels = LevelReader {
-        alloc,
-        tree: &tree,
-        selection: Selection::new(asked.archive, asked.without),
-    };
+    let selection = Selection::new(asked.archive, asked.without);
+    let levels = LevelReader::new(alloc, &tree, selection);
     let mut scratch = Scratch::new(alloc)?;
-    let Some(job) = job_of(&levels, &asked, &mut scratch)? else {
+    let Some(job) = job_of(alloc, &levels, &asked, &mut scratch)? else {
         assert!(rt; false, "{case}: no such directory");
         return Ok(());
     };
-    let found = work(&levels, &job, &mut scratch)?;
+    let found = work(alloc, &levels, &job, &mut scratch)?;
     assert!(rt; is_wanted(&found, &wanted), "{case}");
     Ok(())
 }

@@ -24,11 +24,7 @@ impl<'w, B: Shared<Job, Row>, T: Tree, W: Wait> Worker<'w, B, T, W> {
         ensures tree { result.tree.now ≡ self.now.tree.now }
         ensures selection { result.selection ≡ (asked_by self.now.options.now).selection }
     {
-        LevelReader {
-            alloc: self.alloc,
-            tree: self.tree,
-            selection: self.options.selection(),
-        }
+        LevelReader::new(self.alloc, self.tree, self.options.selection())
     }
 
     /// Ends the claim of a directory by giving it up. It answers `Err` where that was for want of memory.

@@ -149,12 +149,9 @@ const ONE_IN_THE_OTHER: Sketch = Sketch::Dir(&[(b"d", Sketch::Dir(&[(b"e", Sketc
 
 /// The last child directory of a job's.
 fn last_child<T: Tree>(alloc: Global, tree: &T, job: &Job) -> Result<Job, AllocError> {
-    let levels = LevelReader {
-        alloc,
-        tree,
-        selection: Selection::new(false, &[]),
-    };
-    let Ok(mut opened) = levels.open(job, &mut Scratch::new(alloc)?) else {
+    let levels = LevelReader::new(alloc, tree, Selection::new(false, &[]));
+    let mut scratch = Scratch::new(alloc)?;
+    let Ok(mut opened) = levels.open(job, &mut scratch) else {
         return Err(AllocError);
     };
     match opened.children.pop() {
