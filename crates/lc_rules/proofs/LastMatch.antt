@@ -51,7 +51,8 @@ module _ (path : List ℕ) (is_dir : Bool) where
       ∙ deciding-append last.older (r ∷ last.later) path is_dir
       ∙ ap (λ o. option_or o (deciding last.older path is_dir))
       (deciding-append (r ∷ []) last.later path is_dir
-      ∙ ap₂ option_or (ap (last_or None) (filter_none (rule_matches path is_dir) last.later last.last)) (deciding_one r path is_dir true last.matches))
+      ∙ ap₂ option_or (ap (last_or None) (filter_none (rule_matches path is_dir) last.later last.last))
+      (deciding_one r path is_dir true last.matches))
 
 -- the rule that decides is the last one that matches, and no other rule is
 pub decides_by_last : DecidingLaw

@@ -12,7 +12,8 @@ use Rattle.lc_rules.specs.declared.verdicts.Verdict.{Verdict}
 use Rattle.lc_text.specs.CheckText.{is_ignored, is_ignored_parent, has_ignored_parent, IsClearTo}
 use Rattle.lc_text.specs.ExplainedText.{highest_ignored}
 
-get_or-range : (n k d : ℕ) → k < n → get_or (range_with_len 0 n) k d ≡ k
+-- a number of a range from 0 stands at the place that it tells
+pub get_or-range : (n k d : ℕ) → k < n → get_or (range_with_len 0 n) k d ≡ k
 get_or-range n k d low = get_or-range_with_len 0 n k d low ∙ zero-add k
 
 module _ (verdict : List ℕ → Bool → Verdict) where

@@ -36,7 +36,8 @@ module _ (P : RuleModel → Type 0) (rules : List RuleModel) (all : All P rules)
   of_file_rule path is_dir =
       of_deciding path is_dir (deciding (at_depth 0 rules) path is_dir) (decides_by_last (at_depth 0 rules) path is_dir).0
 
-  by_tests : (bad below : Bool) (above own : Option RuleModel) → IfSome above P → IfSome own P → IfSome (cond bad None (cond below above own)) P
+  by_tests : (bad below : Bool) (above own : Option RuleModel) → IfSome above P → IfSome own P
+      → IfSome (cond bad None (cond below above own)) P
   by_tests true below above own x y = tt
   by_tests false true above own x y = x
   by_tests false false above own x y = y
@@ -88,8 +89,9 @@ pub text_at : (texts : List (Bor (List ℕ))) (lines : List (List ℕ)) (i : ℕ
     → map (λ t. t.now) texts ≡ map text_of_line lines → i < length lines → found ≡ get_or texts i found
     → found.now ≡ text_of_line (get_or lines i [])
 text_at texts lines i found read low is =
-    let within : i < length texts = omega (arith, ap length read, length-map texts (λ (t : Bor (List ℕ)). t.now), length-map lines text_of_line) in
-    ap (λ (t : Bor (List ℕ)). t.now) is ∙ sym (get_or-map (λ (t : Bor (List ℕ)). t.now) texts i found [] within)
+    let now = λ (t : Bor (List ℕ)). t.now in
+    let within : i < length texts = omega (arith, ap length read, length-map texts now, length-map lines text_of_line) in
+    ap now is ∙ sym (get_or-map now texts i found [] within)
     ∙ ap (λ l. get_or l i []) read ∙ get_or-map text_of_line lines i [] [] low
 
 -- one line more

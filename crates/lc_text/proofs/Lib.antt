@@ -3,6 +3,7 @@ pub mod Taking
 pub mod Directories
 pub mod Ignoring
 pub mod Explained
+pub mod GivenWords
 pub mod Dashes
 pub mod Plain
 pub mod Stopping

@@ -6,8 +6,8 @@ use Rattle.lc_rules.specs.Verdicts.{verdict_by}
 use Rattle.lc_rules.specs.declared.verdicts.Verdict.TheVariants.{NoRule}
 use Rattle.lc_text.specs.CheckText.{file_verdict, is_ignored, has_ignored_parent, verdict_word}
 use Rattle.lc_text.specs.ExplainedText.{file_rule, highest_ignored}
-use Rattle.lc_text.specs.declared.checking.checker.Finding.{Finding}
-use Rattle.lc_text.specs.declared.checking.checker.Finding.TheVariants.{Bad, Below, Decided}
+use Rattle.lc_text.specs.declared.checking.finding.Finding.{Finding}
+use Rattle.lc_text.specs.declared.checking.finding.Finding.TheVariants.{Bad, Below, Decided}
 
 -- its word
 abbrev pub finding_word : Finding → List ℕ

@@ -3,6 +3,7 @@ pub mod Lines
 pub mod PathLines
 pub mod CheckText
 pub mod ExplainedText
+pub mod ExplainLaws
 pub mod Findings
 pub mod Joined
 pub mod Writes

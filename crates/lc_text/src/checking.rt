@@ -10,6 +10,7 @@ ghost use Rattle.lc_text.specs.Joined.{rules_part, joined_text};
 
 mod checker;
 pub(crate) mod explained;
+mod finding;
 mod joined;
 mod lines;
 mod path_line;

@@ -21,7 +21,7 @@ pub use checking::explained::explained_text;
 pub use checking::text::check_text;
 pub use checking::{CheckFault, MAX_INPUT, check, check_explained, check_joined};
 pub use escaping::{escape, push_escaped, push_path};
-pub use laws::a_vector_takes_the_text;
+pub use laws::{a_vector_takes_the_text, the_rule_gives_the_word};
 pub use printing::{PrintFault, print};
 pub use rules::{RuleText, RulesFileFault, read_rule_text, read_rules};
 pub use shape::{Columns, Format, Shape, SortBy};

@@ -3,11 +3,11 @@
 //! Paths come in runs that share their directories, so what the rules say of these is asked once for a run.
 
 ghost use Rattle.std.specs.Prelude.{◌≡◌, ℕ, ◌<◌, ◌≤◌, length, take, option_map, false, MatchOption};
-ghost use Rattle.lc_text.specs.CheckText.{file_verdict, is_ignored, is_ignored_parent, IsClearTo};
-ghost use Rattle.lc_text.specs.CheckText.{verdict_word, path_word};
+ghost use Rattle.lc_text.specs.CheckText.{file_verdict, is_ignored, is_ignored_parent, IsClearTo, path_word};
 ghost use Rattle.lc_text.specs.ExplainedText.{path_rule};
 ghost use Rattle.lc_text.specs.Findings.{finding_word, finding_rule, ignoring_rule, IsIgnoringAbove};
 
+use crate::checking::finding::Finding;
 use crate::checking::path_line::is_bad_path;
 use lc_rules::{IgnoreFile, Rule, Verdict};
 use memchr::memchr;
@@ -31,16 +31,6 @@ fn is_ignored(verdict: Verdict) -> bool
     matches!(verdict, Verdict::Ignored)
 }
 
-fn verdict_word(verdict: Verdict) -> &'static str
-    ensures { result.now ≡ verdict_word verdict }
-{
-    match verdict {
-        Verdict::Ignored => "ignored",
-        Verdict::Included => "included",
-        Verdict::NoRule => "none",
-    }
-}
-
 /// The rule that ignores a directory, if it is ignored.
 fn ignoring<'a>(rules: &'a IgnoreFile, directory: &[u8]) -> Option<&'a Rule>
     ensures { option_map (λ r. r.now) result ≡ ignoring_rule rules.now directory.now }
@@ -50,41 +40,6 @@ fn ignoring<'a>(rules: &'a IgnoreFile, directory: &[u8]) -> Option<&'a Rule>
         Some(rule)
     } else {
         None
-    }
-}
-
-/// What is found of a path, the first that holds.
-#[derive(Clone, Copy)]
-pub(crate) enum Finding<'a> {
-    /// No entry of a tree can have this path.
-    Bad,
-    /// Of the ignored directories above it the highest is ignored by this rule.
-    Below(&'a Rule),
-    /// The rule that decides it, if any does.
-    Decided(Option<&'a Rule>),
-}
-
-impl<'a> Finding<'a> {
-    pub(crate) fn word(self) -> &'static str
-        ensures { result.now ≡ finding_word self.entry }
-    {
-        match self {
-            Finding::Bad => "bad",
-            Finding::Below(_) => "below",
-            Finding::Decided(None) => verdict_word(Verdict::NoRule),
-            Finding::Decided(Some(rule)) => verdict_word(rule.verdict()),
-        }
-    }
-
-    /// The rule that gives the word.
-    pub(crate) fn rule(self) -> Option<&'a Rule>
-        ensures { option_map (λ r. r.now) result ≡ finding_rule self.entry }
-    {
-        match self {
-            Finding::Bad => None,
-            Finding::Below(rule) => Some(rule),
-            Finding::Decided(rule) => rule,
-        }
     }
 }
 

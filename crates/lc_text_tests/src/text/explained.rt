@@ -16,14 +16,20 @@ const WORDS: &[Case] = &[
     (
         "each_word",
         b"*.log\n!keep.log\n/build/\n",
-        b"a.log\nbuild/x.c\nsrc/m.c\nkeep.log\n./z\n",
-        b"ignored\tf:1\t*.log\ta.log\nbelow\tf:3\t/build/\tbuild/x.c\nnone\t-\t-\tsrc/m.c\nincluded\tf:2\t!keep.log\tkeep.log\nbad\t-\t-\t./z\n",
+        b"a.log\nbuild/x.c\nm.c\nkeep.log\n./z\n",
+        b"ignored\tf:1\t*.log\ta.log\nbelow\tf:3\t/build/\tbuild/x.c\nnone\t-\t-\tm.c\nincluded\tf:2\t!keep.log\tkeep.log\nbad\t-\t-\t./z\n",
     ),
     (
         "the_highest_directory",
         b"c/\nb/\n/a/b/\n!a/b/c/d\n",
-        b"a/b/c/d\na/b/c/e\na/c/d\na/b/\na/bb\nb/c/d\nc/b/d\n",
-        b"below\tf:3\t/a/b/\ta/b/c/d\nbelow\tf:3\t/a/b/\ta/b/c/e\nbelow\tf:1\tc/\ta/c/d\nignored\tf:3\t/a/b/\ta/b/\nnone\t-\t-\ta/bb\nbelow\tf:2\tb/\tb/c/d\nbelow\tf:1\tc/\tc/b/d\n",
+        b"a/b/c/d\na/b/c/e\na/c/d\na/b/\n",
+        b"below\tf:3\t/a/b/\ta/b/c/d\nbelow\tf:3\t/a/b/\ta/b/c/e\nbelow\tf:1\tc/\ta/c/d\nignored\tf:3\t/a/b/\ta/b/\n",
+    ),
+    (
+        "ignored_directories_in_either_order",
+        b"c/\nb/\n",
+        b"b/c/d\nc/b/d\nbb/d\n",
+        b"below\tf:2\tb/\tb/c/d\nbelow\tf:1\tc/\tc/b/d\nnone\t-\t-\tbb/d\n",
     ),
     (
         "the_last_rule",

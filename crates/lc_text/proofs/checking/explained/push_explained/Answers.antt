@@ -8,8 +8,8 @@ use Rattle.lc_text.proofs.checking.explained.push_explained.Goals as goal
 
 pub push_rule-requires : goal.push_rule-requires
 push_rule-requires c =
-    found_on_line c.args.lines.now.rules.now c.args.checker.now.rules.now c.split_slash-is_dir.result.0.now c.split_slash-is_dir.result.1 c.rule.result c.requires
-    (c.rule.ensures ∙ c.find-finding.ensures.rule)
+    found_on_line c.args.lines.now.rules.now c.args.checker.now.rules.now c.split_slash-is_dir.result.0.now
+    c.split_slash-is_dir.result.1 c.rule.result c.requires (c.rule.ensures ∙ c.find-finding.ensures.rule)
 
 pub returns-clause-text : goal.returns-clause-text
 returns-clause-text c =

@@ -33,7 +33,7 @@ returns c =
     let directory_is : directory ≡ take shared path = sym (ap (λ n. take n directory) whole ∙ take-length directory)
     ∙ c.shared_len-shared.ensures.shared in
     let told = c.args.self.now.told (omega (arith, c.if-shared-eq0.false, whole)) in
-    let low : c.shared_len-shared.result < length c.args.path.now = omega (arith, c.if-shared-path.false, c.shared_len-shared.ensures.within_other) in
+    let low : shared < length path = omega (arith, c.if-shared-path.false, c.shared_len-shared.ensures.within_other) in
     let clear = clear-shared (file_verdict rules) directory path shared c.shared_len-shared.ensures.within_one
     c.shared_len-shared.ensures.within_other c.shared_len-shared.ensures.shared c.args.self.now.clear in
     clear-more (file_verdict rules) path shared low clear
