@@ -1,4 +1,5 @@
 pub mod Decimals
+pub mod Depths
 pub mod RowLaws
 pub mod Sorted
 pub mod Stopping

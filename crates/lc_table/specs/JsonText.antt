@@ -1,7 +1,7 @@
 -- The JSON value of a report, and its text.
-use Rattle.std.specs.Prelude.{ℕ, Bool, if◌then◌else◌, List, [], ◌∷◌, ◌++◌, map, codes, decimal, Option, Some, None}
+use Rattle.std.specs.Prelude.{◌≡◌, ℕ, Bool, if◌then◌else◌, List, [], ◌∷◌, ◌++◌, map, codes, decimal, Option, Some, None}
 use Rattle.std.specs.Str.{is_utf8}
-use Rattle.json.specs.Json.{Json, null, number, string, array, object, Items, no_items, item, Members, no_members, member}
+use Rattle.json.specs.Json.{Json, null, number, string, array, object, Items, no_items, item, Members, no_members, member, document}
 use Rattle.json.specs.Print.{print}
 use Rattle.json.specs.Tree.{json_tokens}
 use Rattle.lc_rules.specs.declared.states.TextState.{TextState}
@@ -95,3 +95,7 @@ report_value by r rows =
 -- the value on one line
 abbrev pub json_text_of : Columns → Report → List TallyRowModel → List ℕ
 json_text_of by r rows = print (json_tokens (report_value by r rows)) ++ codes "\n"
+
+-- a JSON document of a value (RFC 8259), and a line feed
+abbrev pub IsDocument : Json → List ℕ → Type 0
+IsDocument j text = (line : List ℕ) × (text ≡ line ++ codes "\n") × (document line ≡ Some j)

@@ -4,18 +4,18 @@ use Rattle.lc_text.specs.declared.shape.Columns.{Columns}
 use Rattle.lc_text.specs.declared.shape.Format.{Format}
 use Rattle.lc_text.specs.declared.shape.Format.TheVariants.{Tsv, Json}
 use Rattle.lc_text.specs.declared.shape.Shape.{Shape}
-use Rattle.lc_table.specs.JsonText.{json_text_of}
+use Rattle.lc_table.specs.JsonText.{IsDocument, json_text_of, report_value}
 use Rattle.lc_table.specs.ShownRows.{AreShown}
 use Rattle.lc_table.specs.TsvText.{tsv_text_of}
 use Rattle.lc_walk.specs.TallyRows.{TallyRowModel}
 use Rattle.lc_walk.specs.declared.report.Report.{Report}
 
--- the text of a report in a format, with these rows
-abbrev pub text_in : Format → Columns → Report → List TallyRowModel → List ℕ
-text_in Tsv by r rows = tsv_text_of by r rows
-text_in Json by r rows = json_text_of by r rows
+-- a text of a report in a format, with these rows
+abbrev pub IsTextIn : Format → Columns → Report → List TallyRowModel → List ℕ → Type 0
+IsTextIn Tsv by r rows text = text ≡ tsv_text_of by r rows
+IsTextIn Json by r rows text = (text ≡ json_text_of by r rows) × IsDocument (report_value by r rows) text
 
 -- a text of a report's table of this shape
 abbrev pub IsTextOf : Shape → Report → List ℕ → Type 0
 IsTextOf shape r text =
-    (rows : List TallyRowModel) × AreShown shape.by shape.sort r.rows.items rows × (text ≡ text_in shape.format shape.by r rows)
+    (rows : List TallyRowModel) × AreShown shape.by shape.sort r.rows.items rows × IsTextIn shape.format shape.by r rows text

@@ -5,7 +5,7 @@ ghost use Rattle.json.specs.Json.{string};
 ghost use Rattle.json.specs.Tree.{json_tokens};
 ghost use Rattle.lc_table.specs.TsvText.{eol_word};
 ghost use Rattle.lc_table.specs.JsonText.{array_with, object_with, extension_member, if_kept, text_value, sums_members, key_members, row_value};
-ghost use Rattle.lc_table.specs.JsonText.{file_value, fault_value, files_member, json_text_of};
+ghost use Rattle.lc_table.specs.JsonText.{file_value, fault_value, files_member, json_text_of, report_value, IsDocument};
 ghost use Rattle.lc_table.specs.JsonTokens.{member_tokens, members_tokens_of};
 
 use crate::json_text::JsonText;
@@ -212,7 +212,8 @@ pub(crate) fn json_line(
     by: Columns,
     rows: &[TallyRow],
 ) -> Result<Vec<u8>, AllocError>
-    ensures { IfOk result (λ text. text.items ≡ json_text_of by report.now rows.now) }
+    ensures text { IfOk result (λ text. text.items ≡ json_text_of by report.now rows.now) }
+    ensures document { IfOk result (λ text. IsDocument (report_value by report.now rows.now) text.items) }
 {
     let mut text = JsonText::new(alloc);
     text.begin_object()?;

@@ -1,6 +1,7 @@
 //! A JSON text, written a token at a time.
 
 ghost use Rattle.std.specs.Prelude.{◌≡◌, [], ◌∷◌, ◌++◌, codes, decimal, map, IfOk, OnOk};
+ghost use Rattle.json.specs.Lex.{tokens};
 ghost use Rattle.json.specs.Print.{print};
 ghost use Rattle.json.specs.Token.{begin_object, end_object, begin_array, end_array, key, string, number, null};
 ghost use Rattle.std.specs.List.{flat_map};
@@ -42,7 +43,8 @@ impl JsonText {
 
     /// The text and a line feed.
     pub(crate) fn into_line(self) -> Result<Vec<u8>, AllocError>
-        ensures { IfOk result (λ line. line.items ≡ print self ++ codes "\n") }
+        ensures text { IfOk result (λ line. line.items ≡ print self ++ codes "\n") }
+        ensures reads_back { IfOk result (λ _. tokens (print self) ≡ self) }
     {
         let JsonText { writer } = self;
         let mut line = writer.into_inner();

@@ -1,10 +1,12 @@
 use Rattle.std.proofs.Common.{◌≡◌, List, [], ◌∷◌, ◌++◌, map, codes, IfOk, sym, ap, subst, ◌∙◌}
+use Rattle.json.specs.Lex.{tokens}
 use Rattle.json.specs.Print.{print}
 use Rattle.json.specs.Token.{Token, begin_object, end_object}
 use Rattle.json.specs.Tree.{json_tokens}
 use Rattle.lc_table.specs.JsonText.{Member, array_with, object_with, integer, sums_members, row_value, fault_value, files_member, report_value}
 use Rattle.lc_table.specs.JsonTokens.{member_tokens, members_tokens_of}
 use Rattle.lc_table.proofs.Tokens.{in_turn_5, object_of_parts}
+use Rattle.lc_table.proofs.Depths.{is_document}
 use Rattle.lc_table.proofs.json_report.json_line.Goals as goal
 
 pub returns : goal.returns
@@ -31,4 +33,10 @@ returns c =
     (ap (λ (ts : List Token). begin_object ∷ ts)
     (in_turn_5 (member_tokens rows) (member_tokens total) (member_tokens directories) (members_tokens_of files) (member_tokens faults)
     (end_object ∷ []) ∙ sym (object_of_parts rows total directories faults files))) in
-    subst (λ (ts : List Token). IfOk c.into_line.result (λ line. line.items ≡ print ts ++ codes "\n")) whole c.into_line.ensures
+    let text = subst (λ (ts : List Token). IfOk c.into_line.result (λ line. line.items ≡ print ts ++ codes "\n")) whole
+    c.into_line.ensures.text in
+    let back = subst (λ (ts : List Token). IfOk c.into_line.result (λ _. tokens (print ts) ≡ ts)) whole c.into_line.ensures.reads_back in
+    record {
+      text = text;
+      document = is_document c.args.by c.args.report.now c.args.rows.now c.into_line.result text back;
+    }

@@ -1,5 +1,5 @@
-use Rattle.std.proofs.Common.{List, ◌++◌, ap, ◌∙◌, sym}
-use Rattle.json.specs.Token.{Token, key, string}
+use Rattle.std.proofs.Common.{List, ◌++◌, ap, ◌∙◌}
+use Rattle.json.specs.Token.{key, string}
 use Rattle.std.proofs.Common.{ℕ, ◌∷◌, []}
 use Rattle.lc_table.proofs.Tokens.{text_tokens, listed_tokens}
 use Rattle.lc_table.proofs.json_text.JsonText.bytes_member.Goals as goal

@@ -1,0 +1,113 @@
+-- The value of a report is a document.
+use Rattle.std.proofs.Common.{◌≡◌, ℕ, ◌≤◌, Bool, true, false, cond, List, [], ◌∷◌, ◌++◌, map, Option, Some, None}
+use Rattle.std.proofs.Common.{option_and_then, codes, sym, ap, ◌∙◌, arith, append-nil}
+use Rattle.std.proofs.Common.{Result, Ok, Err, IfOk}
+use Rattle.std.specs.Prelude.{Vec}
+use Rattle.std.specs.Global.{Global}
+use Rattle.std.specs.Str.{is_utf8}
+use Rattle.json.specs.Json.{Json, string, document, if_last, max_depth, value}
+use Rattle.json.specs.Lex.{tokens}
+use Rattle.json.specs.Print.{print}
+use Rattle.json.specs.Token.{Token}
+use Rattle.json.specs.Tree.{json_tokens, depth, items_depth, members_depth}
+use Rattle.json.proofs.Printed.Trees.{value-json_tokens}
+use Rattle.lc_rules.specs.declared.states.TextState.{TextState}
+use Rattle.lc_rules.specs.declared.states.TextState.TheVariants as text
+use Rattle.lc_level.specs.FaultLines.{FaultLineModel}
+use Rattle.lc_text.specs.declared.shape.Columns.{Columns}
+use Rattle.lc_walk.specs.ReportLines.{FileLineModel}
+use Rattle.lc_walk.specs.TallyRows.{TallyRowModel}
+use Rattle.lc_walk.specs.declared.report.Report.{Report}
+use Rattle.lc_table.specs.JsonText.{Member, items_with, members_with, array_with, integer, bytes_member, extension_member}
+use Rattle.lc_table.specs.JsonText.{text_value, if_kept, key_members, sums_members, row_value, file_value, fault_value, files_member, report_value, IsDocument}
+use Rattle.lc_table.specs.TsvText.{eol_word}
+
+-- an array is as deep as its values
+items_within : {X : Type 0} (v : X → Json) (n : ℕ) → ((x : X) → depth (v x) ≤ n) → (xs : List X) → items_depth (items_with (map v xs)) ≤ n
+items_within v n each [] = omega arith
+items_within v n each (x ∷ xs) = let first = each x in let rest = items_within v n each xs in omega arith
+
+-- members of both lists
+both_within : (n : ℕ) (ms ns : List Member) → members_depth (members_with ms) ≤ n → members_depth (members_with ns) ≤ n
+    → members_depth (members_with (ms ++ ns)) ≤ n
+both_within n [] ns a b = b
+both_within n (m ∷ ms) ns a b = let rest = both_within n ms ns (omega arith) b in omega arith
+
+chosen_within : (b : Bool) (m n : Member) → depth m.1 ≤ 1 → depth n.1 ≤ 1 → depth (cond {A = Member} b m n).1 ≤ 1
+chosen_within true m n h k = h
+chosen_within false m n h k = k
+
+bytes_within : (name other bytes : List ℕ) → depth (bytes_member name other bytes).1 ≤ 1
+bytes_within name other bytes =
+    let inner = items_within integer 0 (λ n. omega arith) bytes in
+    chosen_within (is_utf8 bytes) (name, string bytes) (other, array_with (map integer bytes)) (omega arith) (omega arith)
+
+extension_within : (e : Option (List ℕ)) → depth (extension_member e).1 ≤ 1
+extension_within None = omega arith
+extension_within (Some name) = bytes_within (codes "ext") (codes "ext_bytes") (codes "." ++ name)
+
+text_within : (t : TextState) → depth (text_value t) ≤ 1
+text_within text.Set = omega arith
+text_within text.Unset = omega arith
+text_within text.Auto = omega arith
+text_within text.Other = omega arith
+text_within text.Unspecified = omega arith
+
+kept_within : (kept : Bool) (m : Member) → depth m.1 ≤ 1 → members_depth (members_with (if_kept kept m)) ≤ 1
+kept_within true m h = omega arith
+kept_within false m h = omega arith
+
+row_within : (by : Columns) (r : TallyRowModel) → depth (row_value by r) ≤ 2
+row_within by r =
+    let text : Member = (codes "text", text_value r.key.text) in
+    let eol : Member = (codes "eol", string (eol_word r.key.eol)) in
+    let key : members_depth (members_with (key_members by r.key)) ≤ 1 =
+    both_within 1 (if_kept by.ext (extension_member r.key.extension)) (if_kept by.text text ++ if_kept by.eol eol)
+    (kept_within by.ext _ (extension_within r.key.extension))
+    (both_within 1 (if_kept by.text text) (if_kept by.eol eol) (kept_within by.text text (text_within r.key.text))
+    (kept_within by.eol eol (omega arith))) in
+    let all : members_depth (members_with (key_members by r.key ++ sums_members r.sums)) ≤ 1 =
+    both_within 1 (key_members by r.key) (sums_members r.sums) key (omega arith) in
+    omega arith
+
+file_within : (f : FileLineModel) → depth (file_value f) ≤ 2
+file_within f =
+    let path = bytes_within (codes "path") (codes "path_bytes") f.path in
+    let state = text_within f.text in
+    omega arith
+
+fault_within : (f : FaultLineModel) → depth (fault_value f) ≤ 2
+fault_within f = let path = bytes_within (codes "path") (codes "path_bytes") f.path in omega arith
+
+files_within : (fs : List FileLineModel) → members_depth (members_with (files_member fs)) ≤ 3
+files_within [] = omega arith
+files_within (f ∷ fs) = let all = items_within file_value 2 file_within (f ∷ fs) in omega arith
+
+report_within : (by : Columns) (r : Report) (rows : List TallyRowModel) → depth (report_value by r rows) ≤ 4
+report_within by r rows =
+    let faults : Member = (codes "faults", array_with (map fault_value r.faults.items)) in
+    let each_row = items_within (row_value by) 2 (row_within by) rows in
+    let each_fault = items_within fault_value 2 fault_within r.faults.items in
+    let last : members_depth (members_with (faults ∷ [])) ≤ 3 = omega arith in
+    let both = both_within 3 (files_member r.files.items) (faults ∷ []) (files_within r.files.items) last in
+    omega arith
+
+read_back : (j : Json) → depth j ≤ max_depth → (ts : List Token) → ts ≡ json_tokens j
+    → option_and_then (λ (p : Json × List Token). if_last p.0 p.1) (value max_depth ts) ≡ Some j
+read_back j shallow ts same =
+    ap (λ o. option_and_then (λ (p : Json × List Token). if_last p.0 p.1) o)
+    (ap (value max_depth) (same ∙ sym (append-nil (json_tokens j))) ∙ value-json_tokens j max_depth [] shallow)
+
+report_document : (by : Columns) (r : Report) (rows : List TallyRowModel)
+    → tokens (print (json_tokens (report_value by r rows))) ≡ json_tokens (report_value by r rows)
+    → document (print (json_tokens (report_value by r rows))) ≡ Some (report_value by r rows)
+report_document by r rows back =
+    let shallow = report_within by r rows in read_back (report_value by r rows) (omega arith) _ back
+
+-- a line that reads back as the tokens of a report's value is a document of it
+pub is_document : {E : Type 0} (by : Columns) (r : Report) (rows : List TallyRowModel) (answer : Result (Vec ℕ Global) E)
+    → IfOk answer (λ line. line.items ≡ print (json_tokens (report_value by r rows)) ++ codes "\n")
+    → IfOk answer (λ _. tokens (print (json_tokens (report_value by r rows))) ≡ json_tokens (report_value by r rows))
+    → IfOk answer (λ line. IsDocument (report_value by r rows) line.items)
+is_document by r rows (Ok line) text back = (print (json_tokens (report_value by r rows)), text, report_document by r rows back)
+is_document by r rows (Err e) text back = text
