@@ -27,4 +27,5 @@ pub mod WalkOn
 pub mod WalkOptions
 pub mod WalkReport
 pub mod Walked
+pub mod Walks
 pub mod Worked

@@ -1,9 +1,9 @@
 //! The walk over a tree.
 ghost use Rattle.std.specs.Prelude.{◌≡◌, IfOk};
-ghost use Rattle.lc_board.specs.WordClose.{words_promises};
 ghost use Rattle.lc_level.specs.TreeAnswers.{MayAnswer};
 ghost use Rattle.lc_walk.specs.WalkAnswers.{WalkAnswers};
 ghost use Rattle.lc_walk.specs.WalkOptions.{AreWithinLimits, asked_by, top_of};
+ghost use Rattle.lc_walk.specs.Walks.{Walks};
 
 use crate::closing::finish;
 use crate::options::Options;
@@ -68,8 +68,7 @@ pub fn walk<T: Tree, R: Threads + Wait + Sync>(
     options: &Options<'_>,
 ) -> Result<Report, WalkFault>
     requires limits { AreWithinLimits options.now }
-    ensures { WalkAnswers (MayAnswer (T.lists tree.now) (T.gives tree.now)) (asked_by options.now)
-        options.now.max_dirs options.now.threads (top_of options.now) words_promises result }
+    ensures { Walks (T.lists tree.now) (T.gives tree.now) options.now result }
 {
     walk_on::<Words<Job, Row>, T, R>(rt, alloc, tree, options)
 }
