@@ -14,7 +14,8 @@ use Rattle.lc_text.specs.CheckText.{text_by}
 use Rattle.lc_text.specs.Joined.{rules_part, joined_text}
 use Rattle.lc_text.specs.ExplainedText.{explained_text_of}
 use Rattle.lc_text.specs.RuleReads.{ReadsRuleText}
-use Rattle.lc_table.specs.Runs.{Walks, AnswersRun}
+use Rattle.lc_walk.specs.Walks.{Walks}
+use Rattle.lc_table.specs.Runs.{AnswersRun}
 use Rattle.lc_arguments.specs.declared.request.Request.{Request}
 use Rattle.lc_arguments.specs.declared.request.Request.TheVariants.{CheckJoined, Check, Count}
 use Rattle.lc_arguments.specs.declared.check.CheckRequest.{CheckRequest}

@@ -1,12 +1,6 @@
 -- What a run answers, by what its walk answers.
 use Rattle.std.specs.Prelude.{◌≡◌, ◌≢◌, ℕ, List, [], Result, Ok, Err}
-use Rattle.lc_board.specs.WordClose.{words_promises}
 use Rattle.lc_census.specs.declared.source.Failed.{Failed}
-use Rattle.lc_level.specs.TreeAnswers.{MayAnswer}
-use Rattle.lc_tree.specs.Trees.{Listings, Contents}
-use Rattle.lc_walk.specs.WalkAnswers.{WalkAnswers}
-use Rattle.lc_walk.specs.WalkOptions.{asked_by, top_of}
-use Rattle.lc_walk.specs.declared.options.Options.{Options}
 use Rattle.lc_walk.specs.declared.report.Report.{Report}
 use Rattle.lc_walk.specs.declared.walk_fault.WalkFault.{WalkFault}
 use Rattle.lc_table.specs.TableText.{IsTextOf}
@@ -18,10 +12,6 @@ use Rattle.lc_table.specs.declared.running.Outcome.{Outcome}
 use Rattle.lc_table.specs.declared.running.Outcome.TheVariants.{Clean, SomeFaults}
 use Rattle.lc_table.specs.declared.running.RunFault.{RunFault}
 use Rattle.lc_table.specs.declared.running.RunFault.TheVariants.{Walk, Memory, Write}
-
--- what a walk by these options answers over a tree whose listings and files may be these
-abbrev pub Walks : (List ℕ → Listings) → (List ℕ → Contents) → Options → Result Report WalkFault → Type 0
-Walks lists gives o answer = WalkAnswers (MayAnswer lists gives) (asked_by o) o.max_dirs o.threads (top_of o) words_promises answer
 
 -- a table that was not written, or not whole
 abbrev pub table_fault : PrintFault → RunFault

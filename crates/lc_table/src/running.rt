@@ -2,7 +2,8 @@
 
 ghost use Rattle.std.specs.Prelude.{◌≡◌};
 ghost use Rattle.lc_walk.specs.WalkOptions.{AreWithinLimits};
-ghost use Rattle.lc_table.specs.Runs.{IsOutcomeOf, Walks, AnswersRun, table_fault};
+ghost use Rattle.lc_walk.specs.Walks.{Walks};
+ghost use Rattle.lc_table.specs.Runs.{IsOutcomeOf, AnswersRun, table_fault};
 ghost use Rattle.lc_table.specs.declared.running.RunFault.TheVariants.{Walk};
 
 use crate::writing::table;

@@ -1,4 +1,4 @@
-use Rattle.lc_table.specs.Runs.{Walks}
+use Rattle.lc_walk.specs.Walks.{Walks}
 use Rattle.lc_table.proofs.Stopping.{run_stops}
 use Rattle.lc_table.proofs.running.run.Goals as goal
 
