@@ -12,7 +12,8 @@ use Rattle.std.specs.Char.{is_ascii_digit}
 use Rattle.json.specs.Word.{head, after_whole, after_fraction, after_exponent, after_number}
 use Rattle.json.specs.Print.{IsNumber}
 
-all_digits : (ds : List ℕ) → ((i : ℕ) → i < length ds → (48 ≤ get_or ds i 0) × (get_or ds i 0 ≤ 57)) → prefix_len is_ascii_digit ds ≡ length ds
+all_digits : (ds : List ℕ) → ((i : ℕ) → i < length ds → (48 ≤ get_or ds i 0) × (get_or ds i 0 ≤ 57))
+    → prefix_len is_ascii_digit ds ≡ length ds
 all_digits [] h = refl
 all_digits (d ∷ ds) h =
     let first = h 0 (omega arith) in

@@ -19,7 +19,8 @@ use Rattle.lc_walk.specs.ReportLines.{FileLineModel}
 use Rattle.lc_walk.specs.TallyRows.{TallyRowModel}
 use Rattle.lc_walk.specs.declared.report.Report.{Report}
 use Rattle.lc_table.specs.JsonText.{Member, items_with, members_with, array_with, integer, bytes_member, extension_member}
-use Rattle.lc_table.specs.JsonText.{text_value, if_kept, key_members, sums_members, row_value, file_value, fault_value, files_member, report_value, IsDocument}
+use Rattle.lc_table.specs.JsonText.{text_value, if_kept, key_members, sums_members, row_value, file_value, fault_value}
+use Rattle.lc_table.specs.JsonText.{files_member, report_value, IsDocument}
 use Rattle.lc_table.specs.TsvText.{eol_word}
 
 -- an array is as deep as its values

@@ -1,6 +1,6 @@
 -- The tokens of arrays and objects by their parts.
-use Rattle.std.proofs.Common.{◌≡◌, ℕ, ◌==◌, Bool, true, false, if◌then◌else◌, List, [], ◌∷◌, ◌++◌, length, map, codes, refl, ◌∙◌, ap, append_assoc}
-use Rattle.std.proofs.Common.{append-nil}
+use Rattle.std.proofs.Common.{◌≡◌, ℕ, ◌==◌, Bool, true, false, if◌then◌else◌, List, [], ◌∷◌, ◌++◌, length, map, codes}
+use Rattle.std.proofs.Common.{refl, ◌∙◌, ap, append_assoc, append-nil}
 use Rattle.std.specs.List.{flat_map}
 use Rattle.std.proofs.lemmas.List.Concat.{flat_map-append}
 use Rattle.std.specs.Str.{IsUtf8, is_utf8}
@@ -33,7 +33,8 @@ both_tokens ms ns =
     (flat_map-append member_tokens ms ns) ∙ append_assoc (members_tokens_of ms) (members_tokens_of ns) (end_object ∷ []))
 
 -- bytes that are a text
-pub text_tokens : (name other bytes : List ℕ) → IsUtf8 bytes → member_tokens (bytes_member name other bytes) ≡ member_tokens (name, string bytes)
+pub text_tokens : (name other bytes : List ℕ) → IsUtf8 bytes
+    → member_tokens (bytes_member name other bytes) ≡ member_tokens (name, string bytes)
 text_tokens name other bytes is =
     ap (λ b. member_tokens (if b then (name, string bytes) else (other, array_with (map integer bytes)))) (is_utf8-from_IsUtf8 bytes is)
 

@@ -111,7 +111,8 @@ same_sum v (x ∷ xs) ys same =
     let gone = own_but v x in
     let kept : (j : Key) → sum_by (at (but v k) j) (x ∷ xs) ≡ sum_by (at (but v k) j) ys =
     λ j. at_but v j k _ refl (x ∷ xs) ∙ ap (cond (same_key j k) 0) (same j) ∙ sym (at_but v j k _ refl ys) in
-    let rest = same_sum (but v k) xs ys (λ j. let e = kept j in let none = no_part v x j in omega (arith, sum_by-cons (at (but v k) j) x xs)) in
+    let rest = same_sum (but v k) xs ys (λ j.
+    let e = kept j in let none = no_part v x j in omega (arith, sum_by-cons (at (but v k) j) x xs)) in
     let own = same k in
     omega (arith, split v k (x ∷ xs), split v k ys, sum_by-cons (but v k) x xs)
 

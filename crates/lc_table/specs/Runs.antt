@@ -30,7 +30,8 @@ AnswersTable may_take shape r out (Ok _) wrote = (text : List ℕ) × IsTextOf s
 AnswersTable may_take shape r out (Err print.Write) wrote = (text : List ℕ) × IsTextOf shape r text × StopsWriting may_take out text wrote
 AnswersTable may_take shape r out (Err print.Memory) wrote = wrote ≡ out
 
-module _ {O : Type 0} (may_take : O → List ℕ → Result ℕ Failed → O → Type 0) (walks : Result Report WalkFault → Type 0) (shape : Shape) where
+module _ {O : Type 0} (may_take : O → List ℕ → Result ℕ Failed → O → Type 0) (walks : Result Report WalkFault → Type 0)
+    (shape : Shape) where
   abbrev pub AnswersRun : O → Result Outcome RunFault → O → Type 0
   -- the table of the report was written whole
   AnswersRun out (Ok outcome) wrote =

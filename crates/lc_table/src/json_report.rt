@@ -4,8 +4,8 @@ ghost use Rattle.std.specs.Prelude.{◌≡◌, ◌++◌, codes, map, IfOk, OnOk,
 ghost use Rattle.json.specs.Json.{string};
 ghost use Rattle.json.specs.Tree.{json_tokens};
 ghost use Rattle.lc_table.specs.TsvText.{eol_word};
-ghost use Rattle.lc_table.specs.JsonText.{array_with, object_with, extension_member, if_kept, text_value, sums_members, key_members, row_value};
-ghost use Rattle.lc_table.specs.JsonText.{file_value, fault_value, files_member, json_text_of, report_value, IsDocument};
+ghost use Rattle.lc_table.specs.JsonText.{array_with, object_with, extension_member, if_kept, text_value, sums_members, key_members};
+ghost use Rattle.lc_table.specs.JsonText.{row_value, file_value, fault_value, files_member, json_text_of, report_value, IsDocument};
 ghost use Rattle.lc_table.specs.JsonTokens.{member_tokens, members_tokens_of};
 
 use crate::json_text::JsonText;

@@ -3,7 +3,8 @@ use Rattle.json.specs.Lex.{tokens}
 use Rattle.json.specs.Print.{print}
 use Rattle.json.specs.Token.{Token, begin_object, end_object}
 use Rattle.json.specs.Tree.{json_tokens}
-use Rattle.lc_table.specs.JsonText.{Member, array_with, object_with, integer, sums_members, row_value, fault_value, files_member, report_value}
+use Rattle.lc_table.specs.JsonText.{Member, array_with, object_with, integer, sums_members, row_value, fault_value}
+use Rattle.lc_table.specs.JsonText.{files_member, report_value}
 use Rattle.lc_table.specs.JsonTokens.{member_tokens, members_tokens_of}
 use Rattle.lc_table.proofs.Tokens.{in_turn_5, object_of_parts}
 use Rattle.lc_table.proofs.Depths.{is_document}
