@@ -90,9 +90,13 @@ AnswersCount loads may_take c out reply wrote =
     × AnswersRun may_take (Walks (λ path. AnyListing) (λ path. AnyContents) o) c.shape out answer wrote)
     ⊎ ((IsWithoutRules loads reply ⊎ (reply ≡ Err Memory)) × (wrote ≡ out))
 
--- what a check of some paths prints, by the bytes of its file
+-- what a check of some paths prints by the bytes of its file
+abbrev pub text_by_bytes : List ℕ → List ℕ → List ℕ
+text_by_bytes bytes paths = text_by (rules_of bytes) paths
+
+-- and what that prints for which the words ask
 abbrev pub text_asked : CheckRequest → List ℕ → List ℕ → List ℕ
-text_asked c bytes = cond c.explain (explained_text_of c.file.now bytes) (text_by (rules_of bytes))
+text_asked c bytes = cond c.explain (explained_text_of c.file.now bytes) (text_by_bytes bytes)
 
 -- a check of rules and paths that come joined
 abbrev pub AnswersJoined : {I O : Type 0} → (I → ℕ → Answer → I → Type 0) → (O → List ℕ → Result ℕ Failed → O → Type 0)
@@ -103,15 +107,15 @@ AnswersJoined may_give may_take input out reply read wrote =
 
 module _ {I O : Type 0} (may_give : I → ℕ → Answer → I → Type 0) (loads : Loaded)
     (may_take : O → List ℕ → Result ℕ Failed → O → Type 0) where
-  -- a check of paths by the rules of the file, or this gave no rules and nothing was read or written
-  abbrev pub AnswersFile : CheckRequest → I → O → Reply → I → O → Type 0
-  AnswersFile c input out reply read wrote =
+  -- a check of paths that prints so by the bytes of the file, or this gave no rules and nothing was read or written
+  abbrev pub AnswersFile : (List ℕ → List ℕ → List ℕ) → I → O → Reply → I → O → Type 0
+  AnswersFile text_of input out reply read wrote =
       ((bytes : List ℕ) × loads (Ok bytes) × (answer : Result (Unit {0}) CheckFault) × (reply ≡ checked answer)
-      × AnswersCheck may_give may_take no_rules (text_asked c bytes) input out answer read wrote)
+      × AnswersCheck may_give may_take no_rules (text_of bytes) input out answer read wrote)
       ⊎ (IsWithoutRules loads reply × (read ≡ input) × (wrote ≡ out))
 
   -- a count leaves the input as it was
   abbrev pub AnswersRequest : Request → I → O → Reply → I → O → Type 0
   AnswersRequest CheckJoined input out reply read wrote = AnswersJoined may_give may_take input out reply read wrote
-  AnswersRequest (Check c) input out reply read wrote = AnswersFile c input out reply read wrote
+  AnswersRequest (Check c) input out reply read wrote = AnswersFile (text_asked c) input out reply read wrote
   AnswersRequest (Count c) input out reply read wrote = (read ≡ input) × AnswersCount loads may_take c out reply wrote

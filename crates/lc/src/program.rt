@@ -4,6 +4,8 @@ ghost use Rattle.std.specs.Prelude.{◌≡◌, map};
 ghost use Rattle.lc_arguments.specs.Words.{IsWithinLimits, IsCountWithinLimits};
 ghost use Rattle.lc.specs.Program.{Tells, TellsCause, Introduces, EndsShown, Ends, status_of};
 ghost use Rattle.lc.specs.Requests.{LoadsFile, AnswersExcluded, AnswersFile, AnswersJoined, AnswersCount, AnswersRequest};
+ghost use Rattle.lc.specs.Requests.{text_asked, text_by_bytes};
+ghost use Rattle.lc_text.specs.ExplainedText.{explained_text_of};
 ghost use Rattle.lc.specs.declared.program.Ending.{Ending};
 ghost use Rattle.lc.specs.declared.program.Ending.TheVariants as ending;
 
@@ -95,23 +97,49 @@ fn show<O: Sink, E: Sink>(alloc: Global, text: &str, out: &mut O, err: &mut E) -
 }
 
 /// Reads the rules of a file, and checks the paths of the input.
+fn check_plainly<R: Files + AllocGlobal, S: Source, O: Sink>(
+    rt: &R,
+    file: &str,
+    input: &mut S,
+    out: &mut O,
+) -> Result<Outcome, Cause>
+    ensures { AnswersFile S.may_give (LoadsFile ⟦<StdSource<R::File> as Source>⟧.may_give) O.may_take text_by_bytes
+        input.old out.old result input.new out.new }
+{
+    let rules = rules_of_file(rt, file)?;
+    check(rt.alloc(), &rules, input, out)?;
+    Ok(Outcome::Clean)
+}
+
+/// The same, and tells of the rules by their lines.
+fn check_explaining<R: Files + AllocGlobal, S: Source, O: Sink>(
+    rt: &R,
+    file: &str,
+    input: &mut S,
+    out: &mut O,
+) -> Result<Outcome, Cause>
+    ensures { AnswersFile S.may_give (LoadsFile ⟦<StdSource<R::File> as Source>⟧.may_give) O.may_take (explained_text_of file.entry.now)
+        input.old out.old result input.new out.new }
+{
+    let rules = rule_text_of_file(rt, file)?;
+    check_explained(rt.alloc(), file.as_bytes(), &rules, input, out)?;
+    Ok(Outcome::Clean)
+}
+
 fn check_file<R: Files + AllocGlobal, S: Source, O: Sink>(
     rt: &R,
     asked: &CheckRequest<'_>,
     input: &mut S,
     out: &mut O,
 ) -> Result<Outcome, Cause>
-    ensures { AnswersFile S.may_give (LoadsFile ⟦<StdSource<R::File> as Source>⟧.may_give) O.may_take asked.now
+    ensures { AnswersFile S.may_give (LoadsFile ⟦<StdSource<R::File> as Source>⟧.may_give) O.may_take (text_asked asked.now)
         input.old out.old result input.new out.new }
 {
     if asked.explain {
-        let rules = rule_text_of_file(rt, asked.file)?;
-        check_explained(rt.alloc(), asked.file.as_bytes(), &rules, input, out)?;
+        check_explaining(rt, asked.file, input, out)
     } else {
-        let rules = rules_of_file(rt, asked.file)?;
-        check(rt.alloc(), &rules, input, out)?;
+        check_plainly(rt, asked.file, input, out)
     }
-    Ok(Outcome::Clean)
 }
 
 /// Checks the paths of the input by the rules before them.

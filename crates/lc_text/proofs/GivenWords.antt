@@ -7,6 +7,7 @@ use Rattle.std.proofs.lemmas.List.FromFn.{length-range_with_len}
 use Rattle.std.proofs.lemmas.List.Sums.{passes_at_first, fails_before_first}
 use Rattle.std.proofs.lemmas.Bool.{cases_lt}
 use Rattle.lc_rules.specs.IgnoreRules.{RuleModel}
+use Rattle.lc_rules.specs.declared.origin.Origin.{Origin}
 use Rattle.lc_rules.specs.Verdicts.{deciding, at_depth, verdict_from, verdict_by}
 use Rattle.lc_rules.specs.declared.verdicts.Verdict.{Verdict}
 use Rattle.lc_rules.specs.declared.verdicts.Verdict.TheVariants.{Ignored, Included, NoRule}
@@ -25,13 +26,13 @@ only_ignored Included e = absurd (cc)
 only_ignored NoRule e = absurd (cc)
 
 -- of what decides, where that ignores
-by_ignored : (found : Option (ℕ × RuleModel)) → is_ignored (verdict_from found) ≡ true
+by_ignored : (found : Option (Origin × RuleModel)) → is_ignored (verdict_from found) ≡ true
     → (rule : RuleModel) × (option_map (λ r. r.1) found ≡ Some rule) × (verdict_by rule ≡ Ignored)
 by_ignored None e = absurd (cc)
 by_ignored (Some r) e = (r.1, refl, only_ignored (verdict_by r.1) e)
 
 -- and of what decides in any way
-by_verdict : (found : Option (ℕ × RuleModel)) → verdict_word (verdict_from found) ≡ rule_word (option_map (λ r. r.1) found)
+by_verdict : (found : Option (Origin × RuleModel)) → verdict_word (verdict_from found) ≡ rule_word (option_map (λ r. r.1) found)
 by_verdict None = refl
 by_verdict (Some r) = refl
 
