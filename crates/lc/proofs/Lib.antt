@@ -1,1 +1,1 @@
-pub mod Loading
+mod Loading

@@ -1,0 +1,21 @@
+use Rattle.std.proofs.Common.{ap, inl, sym}
+use Rattle.lc.proofs.Loading.{fault_replied}
+use Rattle.lc.specs.Requests.{checked}
+use Rattle.lc.proofs.program.check_plainly.Goals as goal
+
+pub returns-in_err-check : goal.returns-in_err-check
+returns-in_err-check g c =
+    let loaded = c.in_ok-rules.ensures in
+    inl (
+      loaded.0,
+      loaded.1,
+      c.check.result,
+      fault_replied c.from_residual-in_err-check.result c.check.result c.in_err-check.field-0.0 c.from_residual-in_err-check.ensures.1
+          c.in_err-check.was,
+      rw loaded.2 at c.check.ensures,
+    )
+
+pub returns : goal.returns
+returns g c =
+    let loaded = c.in_ok-rules.ensures in
+    inl (loaded.0, loaded.1, c.check.result, sym (ap checked c.in_ok-check.was), rw loaded.2 at c.check.ensures)
