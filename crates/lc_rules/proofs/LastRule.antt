@@ -118,6 +118,7 @@ file_decides {B} now o file rules path is_dir found top is by_file =
   where
     of_origin : Option (Origin × RuleModel) → Option (Origin × RuleModel)
     of_origin x = option_map (λ r. (o, r.1)) x
+
     same : (x : Option B) → option_map (λ r. (o, now r)) x ≡ of_origin (option_map (λ r. (Directory 0, now r)) x)
     same None = refl
     same (Some r) = refl
