@@ -45,7 +45,8 @@ module _ (path : List ℕ) (is_dir : Bool) where
       (told_more r rules (deciding rules path is_dir) (told rules) (rule_matches path is_dir r) refl)
 
   -- the last rule that matches decides
-  last_decides : (rules : List (Origin × RuleModel)) (r : Origin × RuleModel) → IsLastMatch rules path is_dir r → deciding rules path is_dir ≡ Some r
+  last_decides : (rules : List (Origin × RuleModel)) (r : Origin × RuleModel) → IsLastMatch rules path is_dir r → deciding rules path
+      is_dir ≡ Some r
   last_decides rules r last =
       ap (λ l. deciding l path is_dir) last.stands
       ∙ deciding-append last.older (r ∷ last.later) path is_dir

@@ -1,6 +1,8 @@
 -- The text of an explained check, line by line.
-use Rattle.std.proofs.Common.{◌≡◌, ℕ, Bool, true, false, cond, List, [], ◌∷◌, ◌++◌, Option, Some, None, IfSome, MatchOption, Bor, length, map}
-use Rattle.std.proofs.Common.{get_or, ◌<◌, Result, Ok, Err, is_ok, if◌then◌else◌, sym, ap, ap₂, ◌∙◌, subst, codes, arith, append_assoc, length-append}
+use Rattle.std.proofs.Common.{◌≡◌, ℕ, Bool, true, false, cond, List, [], ◌∷◌, ◌++◌, Option, Some, None, IfSome, MatchOption, Bor, length}
+use Rattle.std.proofs.Common.{map}
+use Rattle.std.proofs.Common.{get_or, ◌<◌, Result, Ok, Err, is_ok, if◌then◌else◌, sym, ap, ap₂, ◌∙◌, subst, codes, arith, append_assoc}
+use Rattle.std.proofs.Common.{length-append}
 use Rattle.std.specs.Prelude.{option_map, OnOk}
 use Rattle.std.specs.List.{All, list_any, flat_map}
 use Rattle.std.proofs.Math.Seq.{get_or-append_seam}

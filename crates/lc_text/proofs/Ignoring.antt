@@ -1,5 +1,6 @@
 -- The rule that ignores a directory, and the rules of the directories above a path.
-use Rattle.std.proofs.Common.{◌≡◌, ℕ, ◌<◌, Bool, true, false, cond, List, Option, Some, None, Bor, length, take, get_or, nat_eq, is_some, refl, sym, ap, ◌∙◌}
+use Rattle.std.proofs.Common.{◌≡◌, ℕ, ◌<◌, Bool, true, false, cond, List, Option, Some, None, Bor, length, take, get_or, nat_eq, is_some}
+use Rattle.std.proofs.Common.{refl, sym, ap, ◌∙◌}
 use Rattle.std.specs.Prelude.{option_map}
 use Rattle.lc_rules.specs.IgnoreRules.{RuleModel}
 use Rattle.lc_rules.specs.Verdicts.{verdict_from, deciding, at_depth}

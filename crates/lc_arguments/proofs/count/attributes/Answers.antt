@@ -16,5 +16,6 @@ returns-in-Ok c =
     let names = c.args.names.now in (
       ap (map (λ name. name.now)) (c.in-Ok.ensures.items_if_clones_equal (λ x y same. same)),
       list_all-map is_name (λ name. name.now) names
-          ∙ (sym (ap (list_all (λ name. is_name name.now)) (take_all c.loop-name.name-index names c.loop-name-test.false)) ∙ c.loop-name.invariant),
+          ∙ (sym (ap (list_all (λ name. is_name name.now)) (take_all c.loop-name.name-index names c.loop-name-test.false)) ∙
+          c.loop-name.invariant),
     )

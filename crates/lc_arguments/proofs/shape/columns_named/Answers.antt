@@ -19,15 +19,18 @@ returns-else-eq-3 c d =
     c.names.invariant)
     (λ is. elim c.else-eq.branch [
       | else-eq-via-then-eq+else-not-columns w ↦ had _ w.if-not-columns.false
-      | else-eq-via-else-eq w ↦ absurd (is_not (slice_eq-Decides Decides-eqb _ _ _ c.eq.ensures) w.if-eq.false (is ∙ sym c.as_slice.ensures))
+      | else-eq-via-else-eq w ↦ absurd (is_not (slice_eq-Decides Decides-eqb _ _ _ c.eq.ensures) w.if-eq.false
+          (is ∙ sym c.as_slice.ensures))
     ])
     (λ is. elim c.else-eq-2.branch [
       | else-eq-2-via-then-eq-2+else-not-columns-2 w ↦ had _ w.if-not-columns-2.false
-      | else-eq-2-via-else-eq-2 w ↦ absurd (is_not (slice_eq-Decides Decides-eqb _ _ _ c.eq-else-eq.ensures) w.if-eq-2.false (is ∙ sym c.as_slice-else-eq.ensures))
+      | else-eq-2-via-else-eq-2 w ↦ absurd (is_not (slice_eq-Decides Decides-eqb _ _ _ c.eq-else-eq.ensures) w.if-eq-2.false
+          (is ∙ sym c.as_slice-else-eq.ensures))
     ])
     (λ is. elim c.else-eq-3.branch [
       | else-eq-3-via-then-eq-3+else-not-columns-3 w ↦ had _ w.if-not-columns-3.false
-      | else-eq-3-via-else-eq-3 w ↦ absurd (is_not (slice_eq-Decides Decides-eqb _ _ _ c.eq-else-eq-2.ensures) w.if-eq-3.false (is ∙ sym c.as_slice-else-eq-2.ensures))
+      | else-eq-3-via-else-eq-3 w ↦ absurd (is_not (slice_eq-Decides Decides-eqb _ _ _ c.eq-else-eq-2.ensures) w.if-eq-3.false
+          (is ∙ sym c.as_slice-else-eq-2.ensures))
     ])
 
 pub names-preserved : goal.names-preserved

@@ -21,7 +21,8 @@ pub returns : goal.returns
 returns c = record {
   format_is = c.in-Some.ensures ∙ text_is c.args.format _ c.unwrap_or-word.result (codes "tsv") refl c.unwrap_or-word.ensures;
   by_is = subst (λ (text : List ℕ). IsColumnsText text c.in-Some-columns_named.by)
-      (text_is c.args.by _ c.unwrap_or-word-2.result (codes "ext,text,eol") refl c.unwrap_or-word-2.ensures) c.in-Some-columns_named.ensures;
+      (text_is c.args.by _ c.unwrap_or-word-2.result (codes "ext,text,eol") refl c.unwrap_or-word-2.ensures)
+      c.in-Some-columns_named.ensures;
   sort_is = elim c.match-sort.branch [
     | in-None w ↦ ap (option_map sort_word) w.sort-is ∙ sym (ap (option_map (λ (s : Bor (List ℕ)). s.now)) w.in-None.is)
     | in-Some-sort+in_default-sort_named w ↦

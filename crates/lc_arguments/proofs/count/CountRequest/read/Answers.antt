@@ -76,7 +76,8 @@ returns g c =
         archive = flag_of rows (found_of m) (codes "archive") c.get_flag-2.result are c.get_flag-2.ensures.value c.get_flag-2.ensures.other;
         without = c.in-Ok-attributes.ensures.0 ∙ names;
         named = ap (list_all is_name) (sym names) ∙ c.in-Ok-attributes.ensures.1;
-        shape = shape_as _ _ _ _ _ _ c.in-Ok-shape_of.shape (text_of rows (found_of m) (codes "format") c.get_str-format.result are c.get_str-format.ensures)
+        shape = shape_as _ _ _ _ _ _ c.in-Ok-shape_of.shape (text_of rows (found_of m) (codes "format") c.get_str-format.result are
+            c.get_str-format.ensures)
             (text_of rows (found_of m) (codes "by") c.get_str-by.result are c.get_str-by.ensures)
             (text_of rows (found_of m) (codes "sort") c.get_str-sort.result are c.get_str-sort.ensures) c.in-Ok-shape_of.ensures;
         exclude = text_of rows (found_of m) (codes "exclude-from") c.get_str.result are c.get_str.ensures;

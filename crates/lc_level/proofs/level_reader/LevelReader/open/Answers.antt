@@ -41,12 +41,15 @@ own_of gives p q es fs r a b k = subst (λ (d : List ℕ). Own gives d fs r) a (
 
 pub returns-in_err-listing-clause-opens : goal.returns-in_err-listing-clause-opens
 returns-in_err-listing-clause-opens g c =
-    passed_on (OpensLevel (g.T.Tree.lists c.args.self.now.tree.now) (g.T.Tree.gives c.args.self.now.tree.now) c.args.self.now.selection c.args.job.now)
+    passed_on (OpensLevel (g.T.Tree.lists c.args.self.now.tree.now) (g.T.Tree.gives c.args.self.now.tree.now) c.args.self.now.selection
+    c.args.job.now)
     c.from_residual.result
     c.in_err-listing.field-0.0 c.from_residual.ensures.1
-    (list_refused (g.T.Tree.lists c.args.self.now.tree.now) (g.T.Tree.gives c.args.self.now.tree.now) c.args.self.now.selection c.args.job.now
+    (list_refused (g.T.Tree.lists c.args.self.now.tree.now) (g.T.Tree.gives c.args.self.now.tree.now) c.args.self.now.selection
+    c.args.job.now
     c.in_err-listing.field-0.0
-    (subst (λ (p : List ℕ). ListsFor (g.T.Tree.lists c.args.self.now.tree.now p) Directory (Err c.in_err-listing.field-0.0)) c.path-path.ensures
+    (subst (λ (p : List ℕ). ListsFor (g.T.Tree.lists c.args.self.now.tree.now p) Directory (Err c.in_err-listing.field-0.0))
+    c.path-path.ensures
     c.in_err-listing.ensures))
 
 pub returns-in_err-info-clause-opens : goal.returns-in_err-info-clause-opens
@@ -56,10 +59,12 @@ returns-in_err-info-clause-opens g c =
     let gives = g.T.Tree.gives c.args.self.now.tree.now in
     let same : c.entries.result.now ≡ c.in_ok-listing.listing = cc in
     let is : IsListing c.in_ok-listing.listing = subst IsListing same c.entries.ensures.listing in
-    passed_on (OpensLevel (g.T.Tree.lists c.args.self.now.tree.now) (g.T.Tree.gives c.args.self.now.tree.now) c.args.self.now.selection c.args.job.now)
+    passed_on (OpensLevel (g.T.Tree.lists c.args.self.now.tree.now) (g.T.Tree.gives c.args.self.now.tree.now) c.args.self.now.selection
+    c.args.job.now)
     c.from_residual-in_err-info.result
     c.in_err-info.field-0.0 c.from_residual-in_err-info.ensures.1
-    (info_opens lists gives (law.some_count c.args.self.now.tree.now) (law.some_rules c.args.self.now.tree.now) c.args.self.now.selection c.args.job.now
+    (info_opens lists gives (law.some_count c.args.self.now.tree.now) (law.some_rules c.args.self.now.tree.now)
+    c.args.self.now.selection c.args.job.now
     c.in_ok-listing.listing
     (subst (λ (p : List ℕ). lists p (Ok c.in_ok-listing.listing)) c.path-path.ensures c.in_ok-listing.ensures) is c.in_err-info.field-0.0
     (git_of lists gives c.path-path.result.now c.args.job.now.path c.entries.result.now c.in_ok-listing.listing
@@ -73,10 +78,12 @@ returns-in_err-own-clause-opens g c =
     let same : c.entries.result.now ≡ c.in_ok-listing.listing = cc in
     let again : c.entries-2.result.now ≡ c.in_ok-listing.listing = cc in
     let is : IsListing c.in_ok-listing.listing = subst IsListing same c.entries.ensures.listing in
-    passed_on (OpensLevel (g.T.Tree.lists c.args.self.now.tree.now) (g.T.Tree.gives c.args.self.now.tree.now) c.args.self.now.selection c.args.job.now)
+    passed_on (OpensLevel (g.T.Tree.lists c.args.self.now.tree.now) (g.T.Tree.gives c.args.self.now.tree.now) c.args.self.now.selection
+    c.args.job.now)
     c.from_residual-in_err-own.result
     c.in_err-own.field-0.0 c.from_residual-in_err-own.ensures.1
-    (own_refused lists gives (law.some_count c.args.self.now.tree.now) (law.some_rules c.args.self.now.tree.now) c.args.self.now.selection c.args.job.now
+    (own_refused lists gives (law.some_count c.args.self.now.tree.now) (law.some_rules c.args.self.now.tree.now)
+    c.args.self.now.selection c.args.job.now
     c.in_ok-listing.listing
     (subst (λ (p : List ℕ). lists p (Ok c.in_ok-listing.listing)) c.path-path.ensures c.in_ok-listing.ensures) is c.in_ok-info.info
     (git_of lists gives c.path-path.result.now c.args.job.now.path c.entries.result.now c.in_ok-listing.listing (Ok c.in_ok-info.info)
@@ -120,7 +127,8 @@ all_read g c =
     record {
       here = here;
       is = is;
-      read = has_read lists gives (law.some_count c.args.self.now.tree.now) (law.some_rules c.args.self.now.tree.now) c.args.self.now.selection j es here is
+      read = has_read lists gives (law.some_count c.args.self.now.tree.now) (law.some_rules c.args.self.now.tree.now)
+          c.args.self.now.selection j es here is
           c.in_ok-info.info c.in_ok-own.own git own;
     }
 

@@ -25,7 +25,8 @@ returns-in_err-git g c =
     let git = has_dir (codes ".git") c.args.entries.now in
     let there : git ≡ true = cc in
     passed_on (ReadsGit lists gives git) c.from_residual.result c.in_err-git.field-0.0 c.from_residual.ensures.1
-    (git_refused lists gives (law.some_count c.args.self.now.tree.now) (law.some_rules c.args.self.now.tree.now) git c.in_err-git.field-0.0 there
+    (git_refused lists gives (law.some_count c.args.self.now.tree.now) (law.some_rules c.args.self.now.tree.now) git
+    c.in_err-git.field-0.0 there
     c.in_err-git.ensures)
 
 pub returns-then-not-has_dir-2 : goal.returns-then-not-has_dir-2
@@ -47,7 +48,8 @@ returns-in_err-info g c =
     let there : git ≡ true = cc in
     let present : has_dir (codes "info") c.in_ok-git.git ≡ true = cc in
     passed_on (ReadsGit lists gives git) c.from_residual-in_err-info.result c.in_err-info.field-0.0 c.from_residual-in_err-info.ensures.1
-    (info_refused lists gives (law.some_count c.args.self.now.tree.now) (law.some_rules c.args.self.now.tree.now) git c.in_ok-git.git c.in_err-info.field-0.0
+    (info_refused lists gives (law.some_count c.args.self.now.tree.now) (law.some_rules c.args.self.now.tree.now) git c.in_ok-git.git
+    c.in_err-info.field-0.0
     there c.in_ok-git.ensures present c.in_err-info.ensures)
 
 pub returns : goal.returns
@@ -64,7 +66,8 @@ returns g c =
     (has_file (codes "exclude") c.entries-2.result.now) (has_file (codes "attributes") c.entries-2.result.now) true ExcludeFile
     InfoAttributes c.read_pair.result)
     c.in-Ok.ensures c.read_pair.ensures.read in
-    both_files (g.T.Tree.lists c.args.self.now.tree.now) gives (law.some_count c.args.self.now.tree.now) (law.some_rules c.args.self.now.tree.now)
+    both_files (g.T.Tree.lists c.args.self.now.tree.now) gives (law.some_count c.args.self.now.tree.now)
+    (law.some_rules c.args.self.now.tree.now)
     (has_dir (codes ".git") c.args.entries.now) c.in_ok-git.git c.in_ok-info.info c.read_pair.result there c.in_ok-git.ensures present
     c.in_ok-info.ensures
     (subst (λ (l : List EntryModel). ReadsBoth (gives (codes ".git/info/exclude")) (gives (codes ".git/info/attributes"))
