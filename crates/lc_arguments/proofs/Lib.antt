@@ -1,5 +1,5 @@
 mod Misnaming
-mod CountRanges
+mod CommandRules
 mod ReadValues
 mod WordFaults
 pub mod ColumnNames

@@ -6,13 +6,13 @@ use Rattle.std.specs.List.{list_all, slice_index_or}
 use Rattle.clap.specs.Faults.{fault_of}
 use Rattle.clap.specs.Simple.{matches_of}
 use Rattle.std.specs.Prelude.{codes}
-use Rattle.clap.specs.Walk.{first_of}
+use Rattle.clap.specs.Walk.{Row, first_of}
 use Rattle.lc_rules.specs.AttrWords.{is_name}
 use Rattle.lc_text.specs.declared.shape.Shape.{Shape}
-use Rattle.lc_arguments.specs.CommandLine.{count_app}
-use Rattle.lc_arguments.specs.Explained.{AnswersCountWords, AnswersNames, AnswersShape, IsRefusal}
+use Rattle.lc_arguments.specs.CommandLine.{count_app, explain_app}
+use Rattle.lc_arguments.specs.Explained.{AnswersCountWords, AnswersExclusions, AnswersExplainWords, AnswersNames, AnswersShape, IsRefusal}
 use Rattle.lc_arguments.specs.ShapeWords.{IsColumnsText, IsShapeBy}
-use Rattle.lc_arguments.specs.Words.{texts_read}
+use Rattle.lc_arguments.specs.Words.{AskNothing, texts_read}
 use Rattle.lc_arguments.specs.declared.request.NoRequest.{NoRequest}
 use Rattle.lc_arguments.specs.declared.request.NoRequest.TheVariants.{Shown, Refused, Memory}
 
@@ -43,12 +43,26 @@ refused_for names (Shown text) refusal bad = refusal
 refused_for names (Refused text) refusal bad = bad
 refused_for names Memory refusal bad = tt
 
--- and so are the words after `count` that name them
+-- and so are those by which entries would be left out
+pub misnamed_by : (rows : List Row) (why : NoRequest) → AnswersNames (texts_read (codes "without") rows) (Err why)
+    → AnswersExclusions rows (Err why)
+misnamed_by rows (Shown text) bad = absurd bad
+misnamed_by rows (Refused text) bad = bad
+misnamed_by rows Memory bad = tt
+
+-- the words after `count` that name them
 pub count_refused_for : (words : List (List ℕ)) (why : NoRequest) → fault_of count_app words ≡ []
-    → AnswersNames (texts_read (codes "without") (matches_of count_app words)) (Err why) → AnswersCountWords words (Err why)
+    → AnswersExclusions (matches_of count_app words) (Err why) → AnswersCountWords words (Err why)
 count_refused_for words (Shown text) fine bad = absurd bad
 count_refused_for words (Refused text) fine bad = inr (fine, inl bad)
 count_refused_for words Memory fine bad = tt
+
+-- and those after `explain`
+pub explain_refused_for : (words : List (List ℕ)) (why : NoRequest) → fault_of explain_app words ≡ []
+    → AnswersExclusions (matches_of explain_app words) (Err why) → AnswersExplainWords words (Err why)
+explain_refused_for words (Shown text) fine bad = absurd bad
+explain_refused_for words (Refused text) fine bad = inr (fine, bad)
+explain_refused_for words Memory fine bad = tt
 
 -- so are those that ask for no shape
 pub shape_refused_for : (words : List (List ℕ)) (format by sort : Option (List ℕ)) (why : NoRequest) → fault_of count_app words ≡ []
@@ -59,3 +73,12 @@ shape_refused_for words format by sort (Shown text) fine f b s bad = absurd bad
 shape_refused_for words format by sort (Refused text) fine f b s bad =
     inr (fine, inr (λ shape is. bad shape (shape_as format by sort _ _ _ shape (sym f) (sym b) (sym s) is)))
 shape_refused_for words format by sort Memory fine f b s bad = tt
+
+-- words that begin with `explain` ask for nothing where those after it do not
+pub no_explanation_of : (words more : List (List ℕ)) (why : NoRequest) → words ≡ codes "explain" ∷ more
+    → AnswersExplainWords more (Err why) → AskNothing words why
+no_explanation_of words more (Shown text) is shown = subst (λ (ws : List (List ℕ)). AskNothing ws (Shown text)) (sym is) shown
+no_explanation_of words more (Refused text) is refused =
+    subst (λ (ws : List (List ℕ)). AskNothing ws (Refused text)) (sym is)
+    (elim refused [ inl fails ↦ inl fails | inr names ↦ inr (inr (more, refl, names)) ])
+no_explanation_of words more Memory is none = tt

@@ -17,8 +17,8 @@ use Rattle.clap.specs.declared.error.kind.ErrorKind.TheVariants as kind
 use Rattle.clap.specs.declared.parser.matches.ArgMatches.{ArgMatches}
 use Rattle.clap.specs.declared.parser.matches.Found.{Found}
 use Rattle.clap.proofs.OnLiterals.{clap_on_literals}
-use Rattle.lc_arguments.specs.CommandLine.{count_app, check_app, lc_app}
-use Rattle.lc_arguments.specs.Explained.{AnswersCountWords, Explains}
+use Rattle.lc_arguments.specs.CommandLine.{count_app, check_app, explain_app, lc_app}
+use Rattle.lc_arguments.specs.Explained.{AnswersCountWords, AnswersExplainWords, Explains}
 use Rattle.lc_arguments.specs.Words.{IsFlag, IsNumber, IsText, IsNoRequestBy, texts_read}
 use Rattle.lc_arguments.specs.declared.request.NoRequest.{NoRequest}
 use Rattle.lc_arguments.specs.declared.request.NoRequest.TheVariants.{Shown, Refused, Memory}
@@ -42,6 +42,16 @@ check_is_simple = refl
 pub check_is_free : is_simple_and_free check_app ≡ true
 unfolding clap_on_literals
 check_is_free = refl
+
+-- so is explain
+pub explain_is_simple : is_simple explain_app ≡ true
+unfolding clap_on_literals
+explain_is_simple = refl
+
+-- and it asks for nothing more
+pub explain_is_free : is_simple_and_free explain_app ≡ true
+unfolding clap_on_literals
+explain_is_free = refl
 
 -- nor does lc
 pub lc_is_free : is_simple_and_free lc_app ≡ true
@@ -125,6 +135,13 @@ pub no_count_by : (words : List Text) (why : NoRequest) → IsNoRequestBy (fault
 no_count_by words (Shown text) by = by
 no_count_by words (Refused text) by = inl by
 no_count_by words Memory by = tt
+
+-- and as those of an explanation
+pub no_explanation_by : (words : List Text) (why : NoRequest) → IsNoRequestBy (fault_of explain_app words) why
+    → AnswersExplainWords words (Err why)
+no_explanation_by words (Shown text) by = by
+no_explanation_by words (Refused text) by = inl by
+no_explanation_by words Memory by = tt
 
 -- texts that were read are those of the words, or none
 pub texts_of : (rows : List Row) (f : Found) (id : Text) (o : Option (Bor (List (Bor Text)))) (none result : Bor (List (Bor Text)))

@@ -1,5 +1,5 @@
 -- The commands and their arguments, as clap sees them.
-use Rattle.std.specs.Prelude.{ℕ, true, List, [], ◌∷◌, pos, Some, codes}
+use Rattle.std.specs.Prelude.{ℕ, true, List, [], ◌∷◌, ◌++◌, pos, Some, codes}
 use Rattle.clap.specs.Simple.{App, Shape, new_app, new_rule, on_top, with_rule, with_subcommand}
 use Rattle.clap.specs.Walk.{Rule}
 use Rattle.clap.specs.declared.builder.action.ArgAction.TheVariants.{Append, Set, SetTrue}
@@ -30,26 +30,54 @@ texts_rule name = record (new_rule name) { long = Some name; value_names = 1; ac
 abbrev pub word_rule : List ℕ → Rule
 word_rule name = record (new_rule name) { required = true; action = Some Set }
 
+-- words that need not be there
+abbrev pub words_rule : List ℕ → Rule
+words_rule name = record (new_rule name) { action = Some Append }
+
 -- a command without arguments, whose own name is not among the words
 abbrev pub bare_app : List ℕ → App
 bare_app name = on_top (λ (s : Shape). record s { no_binary_name = true }) (new_app name)
 
+-- what leaves entries out beside the rules of a directory
+abbrev pub exclusion_rules : List Rule
+exclusion_rules = text_rule (codes "exclude-from") ∷ flag_rule (codes "archive") ∷ texts_rule (codes "without") ∷ []
+
+-- what the table has and looks like
+abbrev pub table_rules : List Rule
+table_rules =
+    flag_rule (codes "files") ∷ flag_rule (codes "left-out") ∷ text_rule (codes "format") ∷ text_rule (codes "by")
+    ∷ text_rule (codes "sort") ∷ []
+
+-- the bounds of a count
+abbrev pub limit_rules : List Rule
+limit_rules = number_rule (codes "threads") 16 (codes "4") ∷ number_rule (codes "max-dirs") 1048576 (codes "65536") ∷ []
+
 abbrev pub count_rules : List Rule
-count_rules =
-    number_rule (codes "threads") 16 (codes "4") ∷ number_rule (codes "max-dirs") 1048576 (codes "65536")
-    ∷ flag_rule (codes "files") ∷ flag_rule (codes "archive") ∷ texts_rule (codes "without") ∷ text_rule (codes "exclude-from")
-    ∷ text_rule (codes "format") ∷ text_rule (codes "by") ∷ text_rule (codes "sort") ∷ word_rule (codes "DIR") ∷ []
+count_rules = exclusion_rules ++ table_rules ++ limit_rules ++ word_rule (codes "DIR") ∷ []
+
+abbrev pub check_rules : List Rule
+check_rules = flag_rule (codes "explain") ∷ word_rule (codes "FILE") ∷ []
+
+abbrev pub explain_rules : List Rule
+explain_rules = exclusion_rules ++ word_rule (codes "DIR") ∷ words_rule (codes "PATH") ∷ []
 
 -- each in turn
 abbrev pub with_rules : App → List Rule → App
 with_rules a [] = a
 with_rules a (r ∷ rs) = with_rules (with_rule a r) rs
 
+-- a command of this name with these arguments
+abbrev pub app_with : List ℕ → List Rule → App
+app_with name rules = with_rules (bare_app name) rules
+
 abbrev pub count_app : App
-count_app = with_rules (bare_app (codes "count")) count_rules
+count_app = app_with (codes "count") count_rules
 
 abbrev pub check_app : App
-check_app = with_rule (with_rule (bare_app (codes "check")) (flag_rule (codes "explain"))) (word_rule (codes "FILE"))
+check_app = app_with (codes "check") check_rules
+
+abbrev pub explain_app : App
+explain_app = app_with (codes "explain") explain_rules
 
 -- for what belongs to no command
 abbrev pub bare_lc_app : App
@@ -58,5 +86,8 @@ bare_lc_app = on_top (λ (s : Shape). record s { no_binary_name = true; has_vers
 abbrev pub counting_app : App
 counting_app = with_subcommand bare_lc_app count_app.top
 
+abbrev pub checking_app : App
+checking_app = with_subcommand counting_app check_app.top
+
 abbrev pub lc_app : App
-lc_app = with_subcommand counting_app check_app.top
+lc_app = with_subcommand checking_app explain_app.top

@@ -9,8 +9,10 @@ use Rattle.clap.specs.declared.error.Error.{Error}
 use Rattle.clap.specs.declared.error.kind.ErrorKind.TheVariants.{OutOfMemory}
 use Rattle.std.specs.Borrow.{Bor}
 use Rattle.lc_rules.specs.AttrWords.{is_name}
-use Rattle.lc_arguments.specs.CommandLine.{count_app, check_app, lc_app}
-use Rattle.lc_arguments.specs.Words.{IsText, IsNoRequestBy, IsCheckOf, IsCountOf, MayRefuse, MayShow, AskForNoCount}
+use Rattle.lc_arguments.specs.CommandLine.{count_app, check_app, explain_app, lc_app}
+use Rattle.lc_arguments.specs.Words.{IsText, IsNoRequestBy, IsCheckOf, IsCountOf, IsExplainOf, MayRefuse, MayShow}
+use Rattle.lc_arguments.specs.Words.{AskForNoCount, AskForNoExplanation, AreExclusionsOf, Misname}
+use Rattle.clap.specs.Walk.{Row}
 use Rattle.lc_text.specs.declared.shape.Shape.{Shape}
 use Rattle.lc_arguments.specs.ShapeWords.{IsShapeBy}
 use Rattle.lc_arguments.specs.declared.request.NoRequest.{NoRequest}
@@ -19,6 +21,8 @@ use Rattle.lc_arguments.specs.declared.request.Request.{Request}
 use Rattle.lc_arguments.specs.declared.request.Request.TheVariants.{CheckJoined}
 use Rattle.lc_arguments.specs.declared.check.CheckRequest.{CheckRequest}
 use Rattle.lc_arguments.specs.declared.count.CountRequest.{CountRequest}
+use Rattle.lc_arguments.specs.declared.exclusions.Exclusions.{Exclusions}
+use Rattle.lc_arguments.specs.declared.explain.ExplainRequest.{ExplainRequest}
 
 -- a text that was asked for is shown; any other is why words are refused
 abbrev pub Explains : Error → NoRequest → Type 0
@@ -38,6 +42,20 @@ AnswersCountWords words (Ok c) = (fault_of count_app words ≡ []) × IsCountOf 
 AnswersCountWords words (Err (Shown _)) = MayShow (fault_of count_app words)
 AnswersCountWords words (Err (Refused _)) = MayRefuse (fault_of count_app words) ⊎ AskForNoCount words
 AnswersCountWords words (Err Memory) = Unit {0}
+
+-- the words after `explain`
+abbrev pub AnswersExplainWords : List (List ℕ) → Result ExplainRequest NoRequest → Type 0
+AnswersExplainWords words (Ok c) = (fault_of explain_app words ≡ []) × IsExplainOf (matches_of explain_app words) c
+AnswersExplainWords words (Err (Shown _)) = MayShow (fault_of explain_app words)
+AnswersExplainWords words (Err (Refused _)) = MayRefuse (fault_of explain_app words) ⊎ AskForNoExplanation words
+AnswersExplainWords words (Err Memory) = Unit {0}
+
+-- what leaves entries out by what was read; or a name is no attribute's
+abbrev pub AnswersExclusions : List Row → Result Exclusions NoRequest → Type 0
+AnswersExclusions rows (Ok e) = AreExclusionsOf rows e
+AnswersExclusions rows (Err (Shown _)) = ⊥
+AnswersExclusions rows (Err (Refused _)) = Misname rows
+AnswersExclusions rows (Err Memory) = Unit {0}
 
 -- the attributes that are named, in their order
 abbrev pub AnswersNames : List (List ℕ) → Result (Vec (Bor (List ℕ))) NoRequest → Type 0

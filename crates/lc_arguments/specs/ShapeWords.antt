@@ -4,7 +4,7 @@ use Rattle.std.specs.Str.{bytes_eq}
 use Rattle.lc_glob.specs.Pieces.{pieces_of}
 use Rattle.lc_text.specs.declared.shape.Columns.{Columns}
 use Rattle.lc_text.specs.declared.shape.Format.{Format}
-use Rattle.lc_text.specs.declared.shape.Format.TheVariants.{Tsv, Json}
+use Rattle.lc_text.specs.declared.shape.Format.TheVariants.{Tsv, Json, Table}
 use Rattle.lc_text.specs.declared.shape.Shape.{Shape}
 use Rattle.lc_text.specs.declared.shape.SortBy.{SortBy}
 use Rattle.lc_text.specs.declared.shape.SortBy.TheVariants.{Files, Lines, Blank, Bytes}
@@ -12,6 +12,7 @@ use Rattle.lc_text.specs.declared.shape.SortBy.TheVariants.{Files, Lines, Blank,
 abbrev pub format_word : Format → List ℕ
 format_word Tsv = codes "tsv"
 format_word Json = codes "json"
+format_word Table = codes "table"
 
 abbrev pub sort_word : SortBy → List ℕ
 sort_word Files = codes "files"

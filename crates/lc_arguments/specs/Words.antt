@@ -18,15 +18,17 @@ use Rattle.clap.specs.declared.error.kind.ErrorKind.{ErrorKind}
 use Rattle.clap.specs.declared.error.kind.ErrorKind.TheVariants.{DisplayHelp, DisplayVersion}
 use Rattle.clap.specs.declared.parser.matches.ArgMatches.{ArgMatches}
 use Rattle.lc_rules.specs.AttrWords.{is_name}
-use Rattle.lc_arguments.specs.CommandLine.{count_app, check_app, lc_app}
+use Rattle.lc_arguments.specs.CommandLine.{count_app, check_app, explain_app, lc_app}
 use Rattle.lc_arguments.specs.declared.request.NoRequest.{NoRequest}
 use Rattle.lc_arguments.specs.declared.request.NoRequest.TheVariants.{Shown, Refused, Memory}
 use Rattle.lc_arguments.specs.declared.request.Request.{Request}
-use Rattle.lc_arguments.specs.declared.request.Request.TheVariants.{CheckJoined, Check, Count}
+use Rattle.lc_arguments.specs.declared.request.Request.TheVariants.{CheckJoined, Check, Count, Explain}
 use Rattle.lc_text.specs.declared.shape.Shape.{Shape}
 use Rattle.lc_arguments.specs.ShapeWords.{IsShapeBy}
 use Rattle.lc_arguments.specs.declared.check.CheckRequest.{CheckRequest}
 use Rattle.lc_arguments.specs.declared.count.CountRequest.{CountRequest}
+use Rattle.lc_arguments.specs.declared.exclusions.Exclusions.{Exclusions}
+use Rattle.lc_arguments.specs.declared.explain.ExplainRequest.{ExplainRequest}
 
 -- what a parse by this command reads of this argument is a number from the one to the other
 abbrev pub ReadsWithin : Command → List ℕ → ℕ → ℕ → Type 0
@@ -46,6 +48,7 @@ abbrev pub IsWithinLimits : Request → Type 0
 IsWithinLimits CheckJoined = Unit {0}
 IsWithinLimits (Check _) = Unit {0}
 IsWithinLimits (Count c) = IsCountWithinLimits c
+IsWithinLimits (Explain _) = Unit {0}
 
 -- a flag, as it was read
 abbrev pub IsFlag : List ℕ → List Row → Bool → Type 0
@@ -60,6 +63,17 @@ IsNumber id default rows n = n ≡ digits_value 10 (without_leading_plus (unwrap
 abbrev pub texts_read : List ℕ → List Row → List (List ℕ)
 texts_read id rows = unwrap_or (all_of id rows) []
 
+-- what is no attribute's name was read (gitattributes(5), DESCRIPTION)
+abbrev pub Misname : List Row → Type 0
+Misname rows = list_all is_name (texts_read (codes "without") rows) ≡ false
+
+-- what leaves entries out, by what was read
+pub record AreExclusionsOf (rows : List Row) (e : Exclusions) : Type 0 where
+  pub from : option_map (λ s. s.now) e.from ≡ first_of (codes "exclude-from") rows
+  pub archive : IsFlag (codes "archive") rows e.archive
+  pub without : map (λ name. name.now) e.without.items ≡ texts_read (codes "without") rows
+  pub named : list_all is_name (texts_read (codes "without") rows) ≡ true
+
 -- the shape that was asked for
 abbrev pub IsShapeIn : List Row → Shape → Type 0
 IsShapeIn rows s = IsShapeBy (first_of (codes "format") rows) (first_of (codes "by") rows) (first_of (codes "sort") rows) s
@@ -70,17 +84,21 @@ pub record IsCountOf (rows : List Row) (c : CountRequest) : Type 0 where
   pub threads : IsNumber (codes "threads") (codes "4") rows c.threads
   pub max_dirs : IsNumber (codes "max-dirs") (codes "65536") rows c.max_dirs
   pub files : IsFlag (codes "files") rows c.files
-  pub archive : IsFlag (codes "archive") rows c.archive
-  pub without : map (λ name. name.now) c.without.items ≡ texts_read (codes "without") rows
-  pub named : list_all is_name (texts_read (codes "without") rows) ≡ true
+  pub left_out : IsFlag (codes "left-out") rows c.left_out
+  pub exclusions : AreExclusionsOf rows c.exclusions
   pub shape : IsShapeIn rows c.shape
-  pub exclude : option_map (λ s. s.now) c.exclude_from ≡ first_of (codes "exclude-from") rows
   pub directory : c.directory.now ≡ unwrap_or (first_of (codes "DIR") rows) []
 
 -- the check that was asked for
 pub record IsCheckOf (rows : List Row) (c : CheckRequest) : Type 0 where
   pub explain : IsFlag (codes "explain") rows c.explain
   pub file : c.file.now ≡ unwrap_or (first_of (codes "FILE") rows) []
+
+-- the explanation that was asked for
+pub record IsExplainOf (rows : List Row) (c : ExplainRequest) : Type 0 where
+  pub exclusions : AreExclusionsOf rows c.exclusions
+  pub directory : c.directory.now ≡ unwrap_or (first_of (codes "DIR") rows) []
+  pub paths : map (λ path. path.now) c.paths.items ≡ texts_read (codes "PATH") rows
 
 -- kinds of errors of which one is a text that was asked for, or one is not
 abbrev pub IsText : ErrorKind → Type 0
@@ -104,26 +122,37 @@ faults_in [] = []
 faults_in (word ∷ words) =
     cond (bytes_eq word (codes "count")) (fault_of count_app words)
     (cond (bytes_eq word (codes "check")) (fault_of check_app words)
-    (fault_of lc_app (word ∷ words)))
+    (cond (bytes_eq word (codes "explain")) (fault_of explain_app words)
+    (fault_of lc_app (word ∷ words))))
+
+-- the words begin with no command
+abbrev pub NameNoCommand : List (List ℕ) → Type 0
+NameNoCommand words = (more : List (List ℕ)) →
+    (words ≢ codes "count" ∷ more) × (words ≢ codes "check" ∷ more) × (words ≢ codes "explain" ∷ more)
 
 -- what words ask for that fail in no way
 abbrev pub Asks : List (List ℕ) → Request → Type 0
-Asks words CheckJoined = (more : List (List ℕ)) → (words ≢ codes "count" ∷ more) × (words ≢ codes "check" ∷ more)
+Asks words CheckJoined = NameNoCommand words
 Asks words (Check c) = (more : List (List ℕ)) × (words ≡ codes "check" ∷ more) × IsCheckOf (matches_of check_app more) c
 Asks words (Count c) = (more : List (List ℕ)) × (words ≡ codes "count" ∷ more) × IsCountOf (matches_of count_app more) c
+Asks words (Explain c) = (more : List (List ℕ)) × (words ≡ codes "explain" ∷ more) × IsExplainOf (matches_of explain_app more) c
 
--- what was read names what is no attribute's name (gitattributes(5), DESCRIPTION), or no shape of a table
-abbrev pub Misname : List Row → Type 0
-Misname rows = (list_all is_name (texts_read (codes "without") rows) ≡ false) ⊎ ((s : Shape) → ¬ IsShapeIn rows s)
-
--- the words after `count` fail in no way, but name what there is not
+-- the words after `count` fail in no way, but name what is no attribute, or no shape of a table
 abbrev pub AskForNoCount : List (List ℕ) → Type 0
-AskForNoCount words = (fault_of count_app words ≡ []) × Misname (matches_of count_app words)
+AskForNoCount words =
+    (fault_of count_app words ≡ [])
+    × (Misname (matches_of count_app words) ⊎ ((s : Shape) → ¬ IsShapeIn (matches_of count_app words) s))
+
+-- and those after `explain`, but name what is no attribute
+abbrev pub AskForNoExplanation : List (List ℕ) → Type 0
+AskForNoExplanation words = (fault_of explain_app words ≡ []) × Misname (matches_of explain_app words)
 
 -- words are refused
 abbrev pub AreRefused : List (List ℕ) → Type 0
 AreRefused words =
-    MayRefuse (faults_in words) ⊎ ((more : List (List ℕ)) × (words ≡ codes "count" ∷ more) × AskForNoCount more)
+    MayRefuse (faults_in words)
+    ⊎ (((more : List (List ℕ)) × (words ≡ codes "count" ∷ more) × AskForNoCount more)
+    ⊎ ((more : List (List ℕ)) × (words ≡ codes "explain" ∷ more) × AskForNoExplanation more))
 
 -- why words ask for nothing; there may be no memory for any words
 abbrev pub AskNothing : List (List ℕ) → NoRequest → Type 0

@@ -1,13 +1,14 @@
 //! The words of `lc check`.
 
 ghost use Rattle.std.specs.Prelude.{◌≡◌, IfOk, map, codes};
-ghost use Rattle.lc_arguments.specs.CommandLine.{check_app, flag_rule, word_rule};
-ghost use Rattle.lc_arguments.specs.CountArgs.{IsArgOf, IsCommandOf, IsBare};
+ghost use Rattle.lc_arguments.specs.CommandLine.{check_app};
+ghost use Rattle.lc_arguments.specs.CountArgs.{IsCommandOf, IsBare};
 ghost use Rattle.lc_arguments.specs.Explained.{AnswersCheckWords};
 
+use crate::arguments::{flag, with_arg, word};
 use crate::help;
 use crate::request::{NoRequest, explained};
-use clap::{Arg, ArgAction, Command};
+use clap::Command;
 use std::alloc::{AllocError, Global};
 use std::convert::AsStr;
 
@@ -18,24 +19,6 @@ pub struct CheckRequest<'w> {
     pub explain: bool,
     /// The ignore file, as its path was given.
     pub file: &'w str,
-}
-
-fn explain<'a>(alloc: Global) -> Arg<'a>
-    ensures { IsArgOf (flag_rule (codes "explain")) result }
-{
-    Arg::new(alloc, "explain")
-        .long("explain")
-        .action(ArgAction::SetTrue)
-        .help("Also the line of FILE that decides, and its pattern")
-}
-
-fn file<'a>(alloc: Global) -> Arg<'a>
-    ensures { IsArgOf (word_rule (codes "FILE")) result }
-{
-    Arg::new(alloc, "FILE")
-        .required(true)
-        .action(ArgAction::Set)
-        .help("An ignore file")
 }
 
 fn bare<'a>(alloc: Global) -> Result<Command<'a>, AllocError>
@@ -55,7 +38,16 @@ fn bare<'a>(alloc: Global) -> Result<Command<'a>, AllocError>
 pub(crate) fn command<'a>(alloc: Global) -> Result<Command<'a>, AllocError>
     ensures { IfOk result (IsCommandOf check_app) }
 {
-    let command = bare(alloc)?.arg(explain(alloc))?.arg(file(alloc))?;
+    let command = bare(alloc)?;
+    let command = with_arg(
+        command,
+        flag(
+            alloc,
+            "explain",
+            "Also the line of FILE that decides, and its pattern",
+        ),
+    )?;
+    let command = with_arg(command, word(alloc, "FILE", "An ignore file"))?;
     Ok(command)
 }
 

@@ -1,15 +1,17 @@
 //! The words of `lc count`.
 
-ghost use Rattle.std.specs.Prelude.{◌≡◌, true, codes, map, IfOk};
-ghost use Rattle.lc_arguments.specs.CommandLine.{number_rule, flag_rule, text_rule, texts_rule, word_rule};
-ghost use Rattle.lc_arguments.specs.CountArgs.{is_own_name, IsArgOf, IsBare, IsCountCommand};
-ghost use Rattle.lc_arguments.specs.Explained.{AnswersCountWords, AnswersNames, IsRefusal};
+ghost use Rattle.std.specs.Prelude.{◌≡◌, ℕ, ◌++◌, List, codes, map, IfOk};
+ghost use Rattle.clap.specs.Walk.{Rule};
+ghost use Rattle.lc_arguments.specs.CommandLine.{number_rule, text_rule, limit_rules, table_rules};
+ghost use Rattle.lc_arguments.specs.CountArgs.{IsArgOf, IsBare, IsCountCommand, HasRules};
+ghost use Rattle.lc_arguments.specs.Explained.{AnswersCountWords};
 
+use crate::arguments::{flag, with_arg, word};
+use crate::exclusions::{Exclusions, with_exclusions};
 use crate::help;
-use crate::request::{NoRequest, explained, refused};
+use crate::request::{NoRequest, explained};
 use crate::shape::shape_of;
 use clap::{Arg, ArgAction, Command, value_parser};
-use lc_rules::is_attribute_name;
 use lc_text::Shape;
 use std::alloc::{AllocError, Global};
 use std::convert::AsStr;
@@ -23,12 +25,10 @@ pub struct CountRequest<'w> {
     pub max_dirs: u32,
     /// The table also has a line for each file.
     pub files: bool,
-    /// What has the attribute `export-ignore` is left out.
-    pub archive: bool,
-    /// What has one of these attributes Set is left out.
-    pub without: Vec<&'w str>,
-    /// An ignore file for the whole tree, as its path was given: one that is not absolute begins where the program runs.
-    pub exclude_from: Option<&'w str>,
+    /// The table also has the number of entries, and a line for each that is left out.
+    pub left_out: bool,
+    /// What leaves entries out beside the rules of the directory.
+    pub exclusions: Exclusions<'w>,
     /// What the table is to look like: as `Tsv`, by all columns and in the order of keys where no word says it.
     pub shape: Shape,
     /// The directory, as its path was given: `.` is the one that the program runs in.
@@ -59,36 +59,6 @@ fn max_dirs<'a>(alloc: Global) -> Arg<'a>
         .help("The most directories, DIR included, 1 to 1048576")
 }
 
-fn flag<'a>(alloc: Global, name: &'a str, text: &'a str) -> Arg<'a>
-    requires own { is_own_name name.now ≡ true }
-    ensures { IsArgOf (flag_rule name.entry.now) result }
-{
-    Arg::new(alloc, name)
-        .long(name)
-        .action(ArgAction::SetTrue)
-        .help(text)
-}
-
-fn without<'a>(alloc: Global) -> Arg<'a>
-    ensures { IsArgOf (texts_rule (codes "without")) result }
-{
-    Arg::new(alloc, "without")
-        .long("without")
-        .value_name("ATTR")
-        .action(ArgAction::Append)
-        .help("Leaves out what has the attribute ATTR, as linguist-vendored; may be repeated")
-}
-
-fn exclude_from<'a>(alloc: Global) -> Arg<'a>
-    ensures { IsArgOf (text_rule (codes "exclude-from")) result }
-{
-    Arg::new(alloc, "exclude-from")
-        .long("exclude-from")
-        .value_name("FILE")
-        .action(ArgAction::Set)
-        .help("An ignore file for all of DIR, which each .gitignore overrides")
-}
-
 fn format<'a>(alloc: Global) -> Arg<'a>
     ensures { IsArgOf (text_rule (codes "format")) result }
 {
@@ -96,7 +66,7 @@ fn format<'a>(alloc: Global) -> Arg<'a>
         .long("format")
         .value_name("FORMAT")
         .action(ArgAction::Set)
-        .help("tsv (tabs between fields, the default) or json")
+        .help("tsv (tabs between fields, the default), table (for the eye) or json")
 }
 
 fn by<'a>(alloc: Global) -> Arg<'a>
@@ -119,15 +89,6 @@ fn sort<'a>(alloc: Global) -> Arg<'a>
         .help("The largest files, lines, blank or bytes first")
 }
 
-fn directory<'a>(alloc: Global) -> Arg<'a>
-    ensures { IsArgOf (word_rule (codes "DIR")) result }
-{
-    Arg::new(alloc, "DIR")
-        .required(true)
-        .action(ArgAction::Set)
-        .help("The directory to count")
-}
-
 fn bare<'a>(alloc: Global) -> Result<Command<'a>, AllocError>
     ensures { IfOk result (IsBare (codes "count")) }
 {
@@ -141,53 +102,46 @@ fn bare<'a>(alloc: Global) -> Result<Command<'a>, AllocError>
     )
 }
 
+/// The command with the options that say what the table has and looks like.
+fn with_table<'a>(alloc: Global, command: Command<'a>) -> Result<Command<'a>, AllocError>
+    ensures { (name : List ℕ) (rules : List Rule) → HasRules name rules command.entry
+        → IfOk result (HasRules name (rules ++ table_rules)) }
+{
+    let command = with_arg(command, flag(alloc, "files", "Also a line for each file"))?;
+    let command = with_arg(
+        command,
+        flag(
+            alloc,
+            "left-out",
+            "Also the number of entries, and a line for each that is left out, with why",
+        ),
+    )?;
+    let command = with_arg(command, format(alloc))?;
+    let command = with_arg(command, by(alloc))?;
+    let command = with_arg(command, sort(alloc))?;
+    Ok(command)
+}
+
+/// The command with the options that bound a count.
+fn with_limits<'a>(alloc: Global, command: Command<'a>) -> Result<Command<'a>, AllocError>
+    ensures { (name : List ℕ) (rules : List Rule) → HasRules name rules command.entry
+        → IfOk result (HasRules name (rules ++ limit_rules)) }
+{
+    let command = with_arg(command, threads(alloc))?;
+    let command = with_arg(command, max_dirs(alloc))?;
+    Ok(command)
+}
+
 /// The command, without its name among the words.
 pub(crate) fn command<'a>(alloc: Global) -> Result<Command<'a>, AllocError>
     ensures { IfOk result IsCountCommand }
 {
-    let command = bare(alloc)?
-        .arg(threads(alloc))?
-        .arg(max_dirs(alloc))?
-        .arg(flag(alloc, "files", "Also a line for each file"))?
-        .arg(flag(
-            alloc,
-            "archive",
-            "Leaves out what has the attribute export-ignore, as git archive does",
-        ))?
-        .arg(without(alloc))?
-        .arg(exclude_from(alloc))?
-        .arg(format(alloc))?
-        .arg(by(alloc))?
-        .arg(sort(alloc))?
-        .arg(directory(alloc))?;
+    let command = bare(alloc)?;
+    let command = with_exclusions(alloc, command)?;
+    let command = with_table(alloc, command)?;
+    let command = with_limits(alloc, command)?;
+    let command = with_arg(command, word(alloc, "DIR", "The directory to count"))?;
     Ok(command)
-}
-
-/// Why the words are refused that name what is no attribute's name.
-fn misnamed(alloc: Global, name: &str) -> NoRequest
-    ensures { IsRefusal result }
-{
-    refused(
-        alloc,
-        "--without <ATTR>",
-        name,
-        ": an attribute's name has letters, digits, '-', '.' and '_', and does not begin with '-'",
-    )
-}
-
-/// The attributes of these names.
-fn attributes<'w>(alloc: Global, names: &[&'w str]) -> Result<Vec<&'w str>, NoRequest>
-    ensures { AnswersNames (map (λ name. name.now) names.now) result }
-{
-    for name in names {
-        if !is_attribute_name(name.as_bytes()) {
-            return Err(misnamed(alloc, name));
-        }
-    }
-    match names.to_vec(alloc) {
-        Ok(attributes) => Ok(attributes),
-        Err(AllocError) => Err(NoRequest::Memory),
-    }
 }
 
 impl<'w> CountRequest<'w> {
@@ -208,9 +162,8 @@ impl<'w> CountRequest<'w> {
         // Each has a default, so both are there.
         let threads = matches.get_one::<u32>("threads").unwrap_or(4);
         let max_dirs = matches.get_one::<u32>("max-dirs").unwrap_or(65_536);
-        let names = matches.get_strs("without").unwrap_or(&[]);
-        let without = match attributes(alloc, names) {
-            Ok(without) => without,
+        let exclusions = match Exclusions::read(alloc, &matches) {
+            Ok(exclusions) => exclusions,
             Err(no) => return Err(no),
         };
         let format = matches.get_str("format");
@@ -224,9 +177,8 @@ impl<'w> CountRequest<'w> {
             threads,
             max_dirs,
             files: matches.get_flag("files"),
-            archive: matches.get_flag("archive"),
-            without,
-            exclude_from: matches.get_str("exclude-from"),
+            left_out: matches.get_flag("left-out"),
+            exclusions,
             shape,
             directory: matches.get_str("DIR").unwrap_or(""),
         })

@@ -11,7 +11,7 @@ pub(crate) const VERSION: &str = version!("");
 
 /// With the kit and its logic, as `rt version` says.
 pub(crate) const LONG_VERSION: &str = version!(
-    "\nproved by rattle-kit-13b in its logic dac8208d650f15bf"
+    "\nproved by rattle-kit-13f in its logic dac8208d650f15bf"
 );
 
 /// What stands before the directory in an example.
@@ -20,9 +20,13 @@ pub(crate) const COUNT: &str = "lc count";
 /// What stands before the ignore file in an example.
 pub(crate) const CHECK: &str = "git ls-files | lc check";
 
+/// What stands before the directory in an example.
+pub(crate) const EXPLAIN: &str = "lc explain";
+
 pub(crate) const ABOUT: &str =
-    "lc count DIR   counts files and lines of a directory, without what Git would ignore
-lc check FILE  says of paths on standard input what the rules of FILE say";
+    "lc count DIR    counts files and lines of a directory, without what Git would ignore
+lc explain DIR  says of paths below DIR which rule leaves them out, or why else
+lc check FILE   says of paths on standard input what the rules of FILE say";
 
 pub(crate) const AFTER: &str = "Example: lc count .";
 
@@ -32,13 +36,13 @@ paths, which are answered as check answers them.
 
 Status:
   0  done
-  1  count: the table was written, but something could not be read
+  1  count, explain: the answer was written, but something could not be read
   2  the words are refused
   3  it gave up, with one line on standard error
 
 Example: lc count .
 
-See also: lc count --help, lc check --help, man lc";
+See also: lc count --help, lc explain --help, lc check --help, man lc";
 
 pub(crate) const ABOUT_COUNT: &str =
     "Counts files and lines of a directory, without what Git would ignore";
@@ -56,9 +60,9 @@ directory, as symbolic links, are left out too. Ignore files above DIR, Git's
 index and its configuration are not read. With --without ATTR files and
 directories are left out that have the attribute ATTR, by .gitattributes.
 
-The table has a tab between fields; --format json writes it as JSON. Below its
-header each line has the number of files of one kind, and the sums of their lines,
-blank lines and bytes. A kind is
+The table has a tab between fields; --format table aligns it for the eye, and
+--format json writes it as JSON. Below its header each line has the number of
+files of one kind, and the sums of their lines, blank lines and bytes. A kind is
 
   ext   what stands after the last dot of the name, with a dot before it; or -
   text  the attribute text, by .gitattributes: set, unset, auto, other, or -
@@ -71,7 +75,10 @@ The lines after these begin with
 
   total        the sums over all files
   directories  the number of directories that were read, DIR included
+  entries      with --left-out, the number of entries of these directories
   file         with --files, one file: text, eol, lines, blank, bytes, path
+  left         with --left-out, an entry that is left out: why, where, path; a rule
+               and its line, an attribute, git (named .git), other (no file)
   fault        what was not read: why, path
 
   read     it could not be opened, listed or read
@@ -92,10 +99,49 @@ Status:
 
 Examples:
   lc count .
-  lc count --by ext --sort lines .
+  lc count --format table --by ext --sort lines .
+  lc count --left-out .
   lc count --files --threads 8 src
   lc count --archive --exclude-from rules .
   lc count --without linguist-vendored --without linguist-generated .";
+
+pub(crate) const ABOUT_EXPLAIN: &str =
+    "Says of paths below DIR which rule leaves them out or in, by the rule files of DIR";
+
+pub(crate) const AFTER_EXPLAIN: &str =
+    "The words of the answer, limits and statuses: lc explain --help
+
+Example: lc explain . build/main.o";
+
+pub(crate) const AFTER_EXPLAIN_LONG: &str =
+    "Paths are relative to DIR, and need not exist. A slash at the end means a directory;
+without one DIR is asked what the path is, and what isn't there is taken for a
+file. Each line of output has a tab between four fields: a word, where the rule
+stands that decides, its pattern, and the path.
+
+  ignored   the last rule that matches ignores it
+  included  the last rule that matches begins with !
+  none      no rule matches
+  below     a directory above it is ignored, by the rule that is named
+  left      no rule ignores it, but lc count leaves it out: git (.git), other
+            (neither file nor directory), attribute:NAME (--archive, --without)
+  bad       no entry of a tree can have this path
+  fault     what is named could not be listed or read, so nothing can be said
+
+The rule files are those that lc count DIR reads. Each directory on the way is
+listed once for a run of paths below it.
+
+Limits: 16,777,216 bytes of input, 4,096 bytes a path.
+
+Status:
+  0  each path was answered
+  1  each path was answered, but something could not be read
+  2  the words are refused
+  3  it gave up, with one line on standard error
+
+Examples:
+  lc explain . a.log build/main.o
+  git ls-files -o | lc explain .";
 
 pub(crate) const ABOUT_CHECK: &str =
     "Says of paths on standard input, one a line, what the rules of FILE say";

@@ -1,16 +1,22 @@
 //! What the words of a command line ask for, as `clap` reads them.
 //!
 //! - `request`: what is asked for, or why nothing is; the words that name no command
-//! - `count`, `check`: the words of either command; `shape`: what a count's words say of its table
+//! - `count`, `check`, `explain`: the words of each command; `shape`: what a count's words say of its table
+//! - `exclusions`: what leaves entries out, for counts and explanations; `arguments`: what several commands have
 //! - `help`: the texts of help and of the version
 #![tactic(auto)]
 
+mod arguments;
 mod check;
 mod count;
+mod exclusions;
+mod explain;
 mod help;
 mod request;
 mod shape;
 
 pub use check::CheckRequest;
 pub use count::CountRequest;
+pub use exclusions::Exclusions;
+pub use explain::ExplainRequest;
 pub use request::{NoRequest, Request};

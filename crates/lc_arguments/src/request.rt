@@ -1,14 +1,15 @@
 //! What the words after the program's name ask for.
 
 ghost use Rattle.std.specs.Prelude.{◌≡◌, IfOk, map};
-ghost use Rattle.lc_arguments.specs.CommandLine.{bare_lc_app, counting_app, lc_app};
+ghost use Rattle.lc_arguments.specs.CommandLine.{bare_lc_app, counting_app, checking_app, lc_app};
 ghost use Rattle.lc_arguments.specs.CountArgs.{IsCommandOf};
 ghost use Rattle.lc_arguments.specs.Explained.{Explains, IsRefusal, AnswersOthers};
 ghost use Rattle.lc_arguments.specs.Words.{AnswersWords};
 
 use crate::check::CheckRequest;
 use crate::count::CountRequest;
-use crate::{check, count, help};
+use crate::explain::ExplainRequest;
+use crate::{check, count, explain, help};
 use clap::error::ErrorKind;
 use clap::{Command, Error};
 use std::alloc::{AllocError, Global};
@@ -23,6 +24,8 @@ pub enum Request<'w> {
     Check(CheckRequest<'w>),
     /// The table of a directory, as for `count --files src`.
     Count(CountRequest<'w>),
+    /// What the rules of a directory say of paths, and which rule says it, as for `explain . a.log`.
+    Explain(ExplainRequest<'w>),
 }
 
 /// Why the words ask for nothing.
@@ -59,12 +62,20 @@ fn with_count<'a>(alloc: Global) -> Result<Command<'a>, AllocError>
     Ok(command)
 }
 
+fn with_check<'a>(alloc: Global) -> Result<Command<'a>, AllocError>
+    ensures { IfOk result (IsCommandOf checking_app) }
+{
+    let check = check::command(alloc)?;
+    let command = with_count(alloc)?.subcommand(check)?;
+    Ok(command)
+}
+
 /// The command line without the program's name, for what belongs to no command: help, the version, refusals.
 fn command<'a>(alloc: Global) -> Result<Command<'a>, AllocError>
     ensures { IfOk result (IsCommandOf lc_app) }
 {
-    let check = check::command(alloc)?;
-    let command = with_count(alloc)?.subcommand(check)?;
+    let explain = explain::command(alloc)?;
+    let command = with_check(alloc)?.subcommand(explain)?;
     Ok(command)
 }
 
@@ -151,6 +162,12 @@ impl<'w> Request<'w> {
         if first.as_str() == "check" {
             return match CheckRequest::read(alloc, rest) {
                 Ok(asked) => Ok(Request::Check(asked)),
+                Err(no) => Err(no),
+            };
+        }
+        if first.as_str() == "explain" {
+            return match ExplainRequest::read(alloc, rest) {
+                Ok(asked) => Ok(Request::Explain(asked)),
                 Err(no) => Err(no),
             };
         }

@@ -19,6 +19,7 @@ fn format_named(name: &str) -> Option<Format>
     match name {
         "tsv" => Some(Format::Tsv),
         "json" => Some(Format::Json),
+        "table" => Some(Format::Table),
         _ => None,
     }
 }
@@ -78,7 +79,7 @@ pub(crate) fn shape_of(
             alloc,
             "--format <FORMAT>",
             word,
-            "\n  [possible values: tsv, json]",
+            "\n  [possible values: tsv, table, json]",
         ));
     };
     let word = by.unwrap_or("ext,text,eol");

@@ -1,14 +1,14 @@
-use Rattle.std.proofs.Common.{◌∙◌, ℕ, List, map, ap, arith, codes, refl, subst, sym, Err, Ok}
+use Rattle.std.proofs.Common.{List, map, arith, codes, refl, subst, Err, Ok}
 use Rattle.std.specs.Str.Parse.{ParsesUnsigned, ExplainsUnsignedError, HasUnsignedDigitsIfOk}
 use Rattle.clap.specs.Matches.{found_of, one_text}
 use Rattle.clap.specs.Simple.{matches_of}
-use Rattle.std.specs.List.{list_all}
-use Rattle.lc_rules.specs.AttrWords.{is_name}
 use Rattle.lc_arguments.specs.CommandLine.{count_app}
-use Rattle.lc_arguments.specs.Explained.{AnswersNames}
+use Rattle.lc_arguments.specs.Explained.{AnswersExclusions}
+use Rattle.lc_arguments.specs.Words.{AreExclusionsOf}
+use Rattle.clap.specs.Walk.{Row}
 use Rattle.lc_arguments.proofs.ReadValues.{number_read}
 use Rattle.lc_arguments.proofs.WordFaults.{count_is_free, count_is_simple, fails_as, flag_of, matches_as, no_request_of, number_of}
-use Rattle.lc_arguments.proofs.WordFaults.{no_count_by, text_of, text_or, texts_of}
+use Rattle.lc_arguments.proofs.WordFaults.{no_count_by, text_of, text_or}
 use Rattle.lc_arguments.proofs.Misnaming.{count_refused_for, shape_as, shape_refused_for}
 use Rattle.lc_arguments.proofs.count.CountRequest.read.Goals as goal
 
@@ -18,19 +18,16 @@ returns-in-Err g c =
     (no_request_of c.in-Ok.command count_app (map g.W.AsStr.text c.args.words.now) c.in-Err.error c.explained.result c.in-Ok.ensures.0.0
     count_is_free c.in-Err.ensures.kinds c.explained.ensures)
 
-pub returns-in-Err-attributes : goal.returns-in-Err-attributes
-returns-in-Err-attributes g c =
+pub returns-in-Err-read : goal.returns-in-Err-read
+returns-in-Err-read g c =
     let words = map g.W.AsStr.text c.args.words.now in
     let m = c.in-Ok-try_get_matches_from.matches in
     let is = c.in-Ok.ensures.0.0 in
     let parse = c.in-Ok-try_get_matches_from.ensures in
-    let rows = matches_of count_app words in
     let are = matches_as c.in-Ok.command count_app words m is count_is_simple parse.matches in
-    let names = texts_of rows (found_of m) (codes "without") c.get_strs.result _ c.unwrap_or-names.result are c.get_strs.ensures refl
-    c.unwrap_or-names.ensures in
-    let why = c.in-Err-attributes.no in
+    let why = c.in-Err-read.no in
     count_refused_for words why (fails_as c.in-Ok.command count_app words (Ok m) is count_is_free parse.kinds)
-    (subst (λ (texts : List (List ℕ)). AnswersNames texts (Err why)) names c.in-Err-attributes.ensures)
+    (subst (λ (rows : List Row). AnswersExclusions rows (Err why)) are c.in-Err-read.ensures)
 
 pub returns-in-Err-shape_of : goal.returns-in-Err-shape_of
 returns-in-Err-shape_of g c =
@@ -64,24 +61,21 @@ returns g c =
     1048576 65536 (codes "65536")
     (one_text (found_of m) (codes "max-dirs")) c.get_one-2.result c.unwrap_or-max_dirs.result c.get_one-2.ensures.none
     c.get_one-2.ensures.value
-    (λ u x h. h.0) (omega arith) (reads.1 m parse.parsed) (omega arith) (omega arith) refl c.unwrap_or-max_dirs.ensures in
-    let names = texts_of rows (found_of m) (codes "without") c.get_strs.result _ c.unwrap_or-names.result are c.get_strs.ensures refl
-    c.unwrap_or-names.ensures in (
+    (λ u x h. h.0) (omega arith) (reads.1 m parse.parsed) (omega arith) (omega arith) refl c.unwrap_or-max_dirs.ensures in (
       fails_as command count_app words (Ok m) is count_is_free parse.kinds,
       record {
         within = (threads.0, threads.1, max_dirs.0, max_dirs.1);
         threads = number_of rows (found_of m) (codes "threads") (codes "4") c.unwrap_or-threads.result are threads.2;
         max_dirs = number_of rows (found_of m) (codes "max-dirs") (codes "65536") c.unwrap_or-max_dirs.result are max_dirs.2;
         files = flag_of rows (found_of m) (codes "files") c.get_flag.result are c.get_flag.ensures.value c.get_flag.ensures.other;
-        archive = flag_of rows (found_of m) (codes "archive") c.get_flag-2.result are c.get_flag-2.ensures.value c.get_flag-2.ensures.other;
-        without = c.in-Ok-attributes.ensures.0 ∙ names;
-        named = ap (list_all is_name) (sym names) ∙ c.in-Ok-attributes.ensures.1;
+        left_out = flag_of rows (found_of m) (codes "left-out") c.get_flag-2.result are c.get_flag-2.ensures.value
+            c.get_flag-2.ensures.other;
+        exclusions = subst (λ (rs : List Row). AreExclusionsOf rs c.in-Ok-read.exclusions) are c.in-Ok-read.ensures;
         shape = shape_as _ _ _ _ _ _ c.in-Ok-shape_of.shape (text_of rows (found_of m) (codes "format") c.get_str-format.result are
             c.get_str-format.ensures)
             (text_of rows (found_of m) (codes "by") c.get_str-by.result are c.get_str-by.ensures)
             (text_of rows (found_of m) (codes "sort") c.get_str-sort.result are c.get_str-sort.ensures) c.in-Ok-shape_of.ensures;
-        exclude = text_of rows (found_of m) (codes "exclude-from") c.get_str.result are c.get_str.ensures;
-        directory = text_or rows (found_of m) (codes "DIR") c.get_str-2.result _ c.unwrap_or.result are c.get_str-2.ensures refl
+        directory = text_or rows (found_of m) (codes "DIR") c.get_str.result _ c.unwrap_or.result are c.get_str.ensures refl
             c.unwrap_or.ensures;
       },
     )

@@ -3,7 +3,7 @@ use Rattle.std.proofs.lemmas.List.Folds.{list_all-map}
 use Rattle.std.specs.List.{list_all}
 use Rattle.lc_rules.specs.AttrWords.{is_name}
 use Rattle.lc_arguments.proofs.Misnaming.{one_misnamed, refused_for}
-use Rattle.lc_arguments.proofs.count.attributes.Goals as goal
+use Rattle.lc_arguments.proofs.exclusions.attributes.Goals as goal
 
 pub returns-then-not-is_attribute_name : goal.returns-then-not-is_attribute_name
 returns-then-not-is_attribute_name c =

@@ -1,0 +1,159 @@
+-- Commands that are given arguments in turn, and what is read of a number among these.
+use Rattle.std.proofs.Common.{◌≡◌, ◌∙◌, ◌<◌, ℕ, zero, suc, Bool, true, false, not, ◌&&◌, ◌||◌, List, [], ◌∷◌, ◌++◌, length, map, get_or, refl}
+use Rattle.std.proofs.Common.{sym, ap, ap₂, subst, arith}
+use Rattle.std.specs.Prelude.{pos, Some}
+use Rattle.std.specs.List.{All, list_any, slice_index_or}
+use Rattle.std.specs.Str.{bytes_eq}
+use Rattle.std.proofs.lemmas.List.{append-nil, append_assoc, get_or-map, length-map, map-append}
+use Rattle.std.proofs.lemmas.List.Elements.{All-append, All-cons, All-nil}
+use Rattle.std.proofs.lemmas.List.Folds.{list_any_at}
+use Rattle.std.proofs.lemmas.Slice.Eq.{bytes_eq-Decides}
+use Rattle.clap.specs.Built.{AddsInTurn, AddsArg, FitsChain, HasDistinctIds}
+use Rattle.clap.specs.Lexer.{without_minus}
+use Rattle.clap.specs.Matches.{found_of, one_text}
+use Rattle.clap.specs.Values.{IsSignedIn}
+use Rattle.clap.specs.declared.builder.arg.Arg.{Arg}
+use Rattle.clap.specs.declared.builder.command.Command.{Command}
+use Rattle.clap.specs.declared.builder.command.Command.TheViews.{out-Command}
+use Rattle.clap.specs.declared.builder.value_parser.ValueParser.TheVariants.{Signed}
+use Rattle.clap.specs.Simple.{App, app_of, with_rule}
+use Rattle.clap.specs.Walk.{Rule, rule_of}
+use Rattle.lc_arguments.specs.CommandLine.{app_with, bare_app, number_rule, with_rules}
+use Rattle.lc_arguments.specs.CountArgs.{HasRules, IsArgOf, IsBare, IsCommandOf}
+use Rattle.lc_arguments.specs.Words.{ReadsWithin}
+use Rattle.lc_arguments.proofs.ReadValues.{read_in_chain}
+
+abbrev pub ids_of : List Arg → List (List ℕ)
+ids_of xs = map (λ (a : Arg). a.id.now) xs
+
+-- no name stands twice
+abbrev pub are_apart : List (List ℕ) → Bool
+are_apart [] = true
+are_apart (n ∷ ns) = not (list_any (bytes_eq n) ns) && are_apart ns
+
+both : (a b : Bool) → (a && b) ≡ true → (a ≡ true) × (b ≡ true)
+both true b e = (refl, e)
+both false b e = absurd (cc)
+
+not_true : (a : Bool) → not a ≡ true → a ≡ true → ⊥
+not_true true e t = cc
+not_true false e t = cc
+
+id_at : (xs : List Arg) (k : ℕ) (d : Arg) → k < length xs → get_or (ids_of xs) k [] ≡ (slice_index_or xs k d).id.now
+id_at [] k d low = absurd (omega arith)
+id_at (x ∷ xs) zero d low = refl
+id_at (x ∷ xs) (suc k) d low = id_at xs k d (omega arith)
+
+length_ids : (xs : List Arg) → length (ids_of xs) ≡ length xs
+length_ids [] = refl
+length_ids (x ∷ xs) = ap suc (length_ids xs)
+
+-- the first name stands nowhere after it
+first_apart : (x : Arg) (xs : List Arg) → not (list_any (bytes_eq x.id.now) (ids_of xs)) ≡ true → (k : ℕ) (d : Arg) → k < length xs
+    → x.id.now ≡ (slice_index_or xs k d).id.now → ⊥
+first_apart x xs none k d low same =
+    let there : bytes_eq x.id.now (get_or (ids_of xs) k []) ≡ true = (bytes_eq-Decides x.id.now (get_or (ids_of xs) k [])).1
+    (same ∙ sym (id_at xs k d low)) in
+    let within : k < length (ids_of xs) = rw (length_ids xs) low in
+    not_true _ none (list_any_at (bytes_eq x.id.now) (ids_of xs) k [] within there)
+
+-- arguments whose names pass the test have distinct names
+pub distinct_ids : (xs : List Arg) → are_apart (ids_of xs) ≡ true → HasDistinctIds xs
+distinct_ids [] apart j k d e low high same = absurd (omega arith)
+distinct_ids (x ∷ xs) apart zero zero d e low high same = refl
+distinct_ids (x ∷ xs) apart zero (suc k) d e low high same =
+    let parts = both _ _ apart in
+    absurd (first_apart x xs parts.0 k d (omega arith) ((bytes_eq-Decides x.id.now (slice_index_or xs k d).id.now).0 same))
+distinct_ids (x ∷ xs) apart (suc j) zero d e low high same =
+    let parts = both _ _ apart in
+    absurd (first_apart x xs parts.0 j e (omega arith) (sym ((bytes_eq-Decides (slice_index_or xs j e).id.now x.id.now).0 same)))
+distinct_ids (x ∷ xs) apart (suc j) (suc k) d e low high same =
+    let parts = both _ _ apart in
+    ap suc (distinct_ids xs parts.1 j k d e (omega arith) (omega arith) same)
+
+-- the ids by the rules
+ids_by_rules : (xs : List Arg) → ids_of xs ≡ map (λ (r : Rule). r.id) (map rule_of xs)
+ids_by_rules [] = refl
+ids_by_rules (x ∷ xs) = ap (λ l. x.id.now ∷ l) (ids_by_rules xs)
+
+-- a command that is given arguments in turn has their rules in turn
+rules_in_turn : (old new : Command) (xs : List Arg) → AddsInTurn AddsArg old xs new → All FitsChain xs → (a : App) → app_of old ≡ a
+    → (app_of new ≡ with_rules a (map rule_of xs)) × ((out-Command old).has_globals ≡ false → (out-Command new).has_globals ≡ false)
+rules_in_turn old new [] added fits a is =
+    (ap app_of (sym added) ∙ is, λ local. ap (λ (c : Command). (out-Command c).has_globals) (sym added) ∙ local)
+rules_in_turn old new (x ∷ xs) added fits a is =
+    let fit = fits 0 x (omega arith) in
+    let step = added.1 in
+    let rest = rules_in_turn added.0 new xs added.2 (λ k d low. fits (suc k) d (omega arith)) (with_rule a (rule_of x))
+    (step.shape fit.1 ∙ ap (λ (b : App). with_rule b (rule_of x)) is) in
+    (rest.0, λ local. rest.1 (step.globals ∙ (ap (λ b. b || x.global) local ∙ ap (λ b. false || b) fit.1)))
+
+-- a command that was given no argument
+pub none_given : (name : List ℕ) (bare : Command) → IsBare name bare → HasRules name [] bare
+none_given name bare is = record {
+  bare = bare;
+  is_bare = is;
+  args = [];
+  added = refl;
+  fits = λ k d low. absurd (omega arith);
+  are = refl;
+}
+
+adds_last : (old mid new : Command) (xs : List Arg) (x : Arg) → AddsInTurn AddsArg old xs mid → AddsArg mid x new
+    → AddsInTurn AddsArg old (xs ++ x ∷ []) new
+adds_last old mid new [] x same added = (new, subst (λ (c : Command). AddsArg c x new) (sym same) added, refl)
+adds_last old mid new (y ∷ ys) x before added = (before.0, before.1, adds_last before.0 mid new ys x before.2 added)
+
+-- and one that is given one more
+pub one_more : (name : List ℕ) (rules : List Rule) (rule : Rule) (old new : Command) (arg : Arg) → HasRules name rules old
+    → IsArgOf rule arg → AddsArg old arg new → HasRules name (rules ++ rule ∷ []) new
+one_more name rules rule old new arg has is added = record {
+  bare = has.bare;
+  is_bare = has.is_bare;
+  args = has.args ++ arg ∷ [];
+  added = adds_last has.bare old new has.args arg has.added added;
+  fits = All-append FitsChain has.args (arg ∷ []) has.fits (All-cons FitsChain arg [] is.1 (All-nil FitsChain));
+  are = map-append rule_of has.args (arg ∷ []) ∙ ap₂ (λ (rs : List Rule) (r : Rule). rs ++ r ∷ []) has.are is.0;
+}
+
+-- some rules and then others, one by one
+abbrev pub one_by_one : List Rule → List Rule → List Rule
+one_by_one rules [] = rules
+one_by_one rules (r ∷ more) = one_by_one (rules ++ r ∷ []) more
+
+joined : (rules more : List Rule) → one_by_one rules more ≡ rules ++ more
+joined rules [] = sym (append-nil rules)
+joined rules (r ∷ more) = joined (rules ++ r ∷ []) more ∙ append_assoc rules (r ∷ []) more
+
+-- a command that was given others one by one was given them all
+pub all_given : (name : List ℕ) (rules more : List Rule) (c : Command) → HasRules name (one_by_one rules more) c
+    → HasRules name (rules ++ more) c
+all_given name rules more c has = subst (λ (rs : List Rule). HasRules name rs c) (joined rules more) has
+
+-- clap sees it as the command with these rules
+pub seen_with : (name : List ℕ) (rules : List Rule) (c : Command) → HasRules name rules c → IsCommandOf (app_with name rules) c
+seen_with name rules c has =
+    let turned = rules_in_turn has.bare c has.args has.added has.fits (bare_app name) has.is_bare.0.0 in
+    (turned.0 ∙ ap (with_rules (bare_app name)) has.are, turned.1 has.is_bare.0.1)
+
+-- what a parse reads of a number among its arguments is in its range
+pub reads_number : (name : List ℕ) (rules : List Rule) (c : Command) → HasRules name rules c
+    → are_apart (map (λ (r : Rule). r.id) rules) ≡ true → (k : ℕ) (other : Rule) → k < length rules
+    → (id : List ℕ) (most : ℕ) (default : List ℕ) → slice_index_or rules k other ≡ number_rule id most default → ReadsWithin c id 1 most
+reads_number name rules c has apart k other within id most default is m parsed text read = go has.args refl
+  where
+    go : (xs : List Arg) → has.args ≡ xs
+        → (digits : List ℕ) × (text ≡ without_minus digits) × IsSignedIn (pos 1) (pos most) digits
+    go [] none =
+        let empty : rules ≡ [] = sym has.are ∙ ap (map rule_of) none in
+        let low : k < 0 = subst (λ (rs : List Rule). k < length rs) empty within in
+        absurd (omega (arith, low))
+    go (x ∷ xs) some =
+        let args = has.args in
+        let there : k < length args = rw (← length-map args rule_of, has.are) within in
+        let rule : rule_of (slice_index_or args k x) ≡ number_rule id most default =
+        sym (get_or-map rule_of args k x other there) ∙ (ap (λ (rs : List Rule). slice_index_or rs k other) has.are ∙ is) in
+        let ids : are_apart (ids_of args) ≡ true = ap are_apart (ids_by_rules args ∙ ap (map (λ (r : Rule). r.id)) has.are) ∙ apart in
+        read_in_chain has.bare c args k x m has.added has.is_bare.1 has.is_bare.2 has.is_bare.0.1 has.fits (distinct_ids args ids) there parsed
+        (Signed (pos 1) (pos most)) (ap (λ (r : Rule). r.parser) rule) text
+        (subst (λ (i : List ℕ). one_text (found_of m) i ≡ Some text) (sym (ap (λ (r : Rule). r.id) rule)) read)

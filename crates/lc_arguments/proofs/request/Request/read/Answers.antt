@@ -1,0 +1,8 @@
+use Rattle.std.proofs.Common.{map, rules}
+use Rattle.lc_arguments.proofs.Misnaming.{no_explanation_of}
+use Rattle.lc_arguments.proofs.request.Request.read.Goals as goal
+
+pub returns-in-Err-read-2 : goal.returns-in-Err-read-2
+returns-in-Err-read-2 g c =
+    no_explanation_of (map g.W.AsStr.text c.args.words.now) (map g.W.AsStr.text c.in-Some.rest.now) c.in-Err-read-2.no (search rules)
+    c.in-Err-read-2.ensures

@@ -1,0 +1,10 @@
+use Rattle.std.proofs.Common.{◌∙◌, ◌||◌, Bool, ap, ap₂}
+use Rattle.clap.specs.Simple.{App, with_subcommand}
+use Rattle.lc_arguments.proofs.request.with_check.Goals as goal
+
+pub returns : goal.returns
+returns c = (
+  c.in_ok-command.ensures.shape c.in_ok-check.ensures.1 ∙ ap₂ with_subcommand c.in_ok-with_count.ensures.0
+      (ap (λ (a : App). a.top) c.in_ok-check.ensures.0),
+  c.in_ok-command.ensures.globals ∙ ap₂ (λ (x y : Bool). x || y) c.in_ok-with_count.ensures.1 c.in_ok-check.ensures.1,
+)

@@ -1,0 +1,111 @@
+//! What leaves entries out beside the rules of a directory, as the words say it.
+
+ghost use Rattle.std.specs.Prelude.{◌≡◌, ℕ, ◌++◌, List, map, codes, IfOk};
+ghost use Rattle.clap.specs.Matches.{found_of};
+ghost use Rattle.clap.specs.Walk.{Rule, rows_of};
+ghost use Rattle.lc_arguments.specs.CommandLine.{text_rule, texts_rule, exclusion_rules};
+ghost use Rattle.lc_arguments.specs.CountArgs.{IsArgOf, HasRules};
+ghost use Rattle.lc_arguments.specs.Explained.{AnswersExclusions, AnswersNames, IsRefusal};
+
+use crate::arguments::{flag, with_arg};
+use crate::request::{NoRequest, refused};
+use clap::{Arg, ArgAction, ArgMatches, Command};
+use lc_rules::is_attribute_name;
+use std::alloc::{AllocError, Global};
+
+/// What leaves entries out beside the rules of a directory, as by `--exclude-from rules --without linguist-vendored`.
+#[derive(Drop)]
+pub struct Exclusions<'w> {
+    /// An ignore file for the whole tree, as its path was given: one that is not absolute begins where the program runs.
+    pub from: Option<&'w str>,
+    /// What has the attribute `export-ignore` is left out.
+    pub archive: bool,
+    /// What has one of these attributes Set is left out.
+    pub without: Vec<&'w str>,
+}
+
+fn exclude_from<'a>(alloc: Global) -> Arg<'a>
+    ensures { IsArgOf (text_rule (codes "exclude-from")) result }
+{
+    Arg::new(alloc, "exclude-from")
+        .long("exclude-from")
+        .value_name("FILE")
+        .action(ArgAction::Set)
+        .help("An ignore file for all of DIR, which each .gitignore overrides")
+}
+
+fn without<'a>(alloc: Global) -> Arg<'a>
+    ensures { IsArgOf (texts_rule (codes "without")) result }
+{
+    Arg::new(alloc, "without")
+        .long("without")
+        .value_name("ATTR")
+        .action(ArgAction::Append)
+        .help("Leaves out what has the attribute ATTR, as linguist-vendored; may be repeated")
+}
+
+/// A command with the options of exclusions.
+pub(crate) fn with_exclusions<'a>(
+    alloc: Global,
+    command: Command<'a>,
+) -> Result<Command<'a>, AllocError>
+    ensures { (name : List ℕ) (rules : List Rule) → HasRules name rules command.entry
+        → IfOk result (HasRules name (rules ++ exclusion_rules)) }
+{
+    let command = with_arg(command, exclude_from(alloc))?;
+    let command = with_arg(
+        command,
+        flag(
+            alloc,
+            "archive",
+            "Leaves out what has the attribute export-ignore, as git archive does",
+        ),
+    )?;
+    let command = with_arg(command, without(alloc))?;
+    Ok(command)
+}
+
+/// Why the words are refused that name what is no attribute's name.
+fn misnamed(alloc: Global, name: &str) -> NoRequest
+    ensures { IsRefusal result }
+{
+    refused(
+        alloc,
+        "--without <ATTR>",
+        name,
+        ": an attribute's name has letters, digits, '-', '.' and '_', and does not begin with '-'",
+    )
+}
+
+/// The attributes of these names.
+fn attributes<'w>(alloc: Global, names: &[&'w str]) -> Result<Vec<&'w str>, NoRequest>
+    ensures { AnswersNames (map (λ name. name.now) names.now) result }
+{
+    for name in names {
+        if !is_attribute_name(name.as_bytes()) {
+            return Err(misnamed(alloc, name));
+        }
+    }
+    match names.to_vec(alloc) {
+        Ok(attributes) => Ok(attributes),
+        Err(AllocError) => Err(NoRequest::Memory),
+    }
+}
+
+impl<'w> Exclusions<'w> {
+    /// Those that were read.
+    pub(crate) fn read(alloc: Global, matches: &ArgMatches<'w>) -> Result<Exclusions<'w>, NoRequest>
+        ensures { AnswersExclusions (rows_of (found_of matches.now)) result }
+    {
+        let names = matches.get_strs("without").unwrap_or(&[]);
+        let without = match attributes(alloc, names) {
+            Ok(without) => without,
+            Err(no) => return Err(no),
+        };
+        Ok(Exclusions {
+            from: matches.get_str("exclude-from"),
+            archive: matches.get_flag("archive"),
+            without,
+        })
+    }
+}

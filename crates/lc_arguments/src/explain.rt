@@ -1,0 +1,90 @@
+//! The words of `lc explain`.
+
+ghost use Rattle.std.specs.Prelude.{◌≡◌, IfOk, map, codes};
+ghost use Rattle.lc_arguments.specs.CommandLine.{explain_app, words_rule};
+ghost use Rattle.lc_arguments.specs.CountArgs.{IsArgOf, IsBare, IsCommandOf};
+ghost use Rattle.lc_arguments.specs.Explained.{AnswersExplainWords};
+
+use crate::arguments::{with_arg, word};
+use crate::exclusions::{Exclusions, with_exclusions};
+use crate::help;
+use crate::request::{NoRequest, explained};
+use clap::{Arg, ArgAction, Command};
+use std::alloc::{AllocError, Global};
+use std::convert::AsStr;
+
+/// What `lc explain` is asked for, as by `lc explain . a.log src/m.c`.
+#[derive(Drop)]
+pub struct ExplainRequest<'w> {
+    /// What leaves entries out beside the rules of the directory.
+    pub exclusions: Exclusions<'w>,
+    /// The directory, as its path was given.
+    pub directory: &'w str,
+    /// The paths that are asked about, relative to the directory; where there are none they come on standard input.
+    pub paths: Vec<&'w str>,
+}
+
+fn paths<'a>(alloc: Global) -> Arg<'a>
+    ensures { IsArgOf (words_rule (codes "PATH")) result }
+{
+    Arg::new(alloc, "PATH").action(ArgAction::Append).help(
+        "Paths below DIR; without them, those on standard input, one a line",
+    )
+}
+
+fn bare<'a>(alloc: Global) -> Result<Command<'a>, AllocError>
+    ensures { IfOk result (IsBare (codes "explain")) }
+{
+    Ok(
+        Command::new(alloc, "explain")
+            .about(help::ABOUT_EXPLAIN)
+            .after_help(help::AFTER_EXPLAIN)
+            .after_long_help(help::AFTER_EXPLAIN_LONG)
+            .no_binary_name(true)
+            .bin_name("lc explain")?,
+    )
+}
+
+/// The command, without its name among the words.
+pub(crate) fn command<'a>(alloc: Global) -> Result<Command<'a>, AllocError>
+    ensures { IfOk result (IsCommandOf explain_app) }
+{
+    let command = bare(alloc)?;
+    let command = with_exclusions(alloc, command)?;
+    let command = with_arg(
+        command,
+        word(alloc, "DIR", "The directory whose rules are asked"),
+    )?;
+    let command = with_arg(command, paths(alloc))?;
+    Ok(command)
+}
+
+impl<'w> ExplainRequest<'w> {
+    /// What the words after `explain` ask for.
+    pub(crate) fn read<W: AsStr>(
+        alloc: Global,
+        words: &'w [W],
+    ) -> Result<ExplainRequest<'w>, NoRequest>
+        ensures { AnswersExplainWords (map W.text words.entry.now) result }
+    {
+        let Ok(command) = command(alloc) else {
+            return Err(NoRequest::Memory);
+        };
+        let matches = match command.try_get_matches_from(words) {
+            Ok(matches) => matches,
+            Err(error) => return Err(explained(alloc, &error, help::EXPLAIN, ".")),
+        };
+        let exclusions = match Exclusions::read(alloc, &matches) {
+            Ok(exclusions) => exclusions,
+            Err(no) => return Err(no),
+        };
+        let Ok(paths) = matches.get_strs("PATH").unwrap_or(&[]).to_vec(alloc) else {
+            return Err(NoRequest::Memory);
+        };
+        Ok(ExplainRequest {
+            exclusions,
+            directory: matches.get_str("DIR").unwrap_or(""),
+            paths,
+        })
+    }
+}
