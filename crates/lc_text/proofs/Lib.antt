@@ -6,5 +6,7 @@ pub mod Explained
 pub mod GivenWords
 pub mod Dashes
 pub mod Plain
+pub mod Appended
+pub mod Clear
 pub mod Stopping
 pub mod KnownWrites

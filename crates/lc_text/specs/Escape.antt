@@ -15,12 +15,13 @@ is_control b = nat_lt b 32 || nat_eq b 127
 abbrev pub is_plain : ℕ → Bool
 is_plain b = not (nat_eq b backslash) && not (is_control b)
 
--- two backslashes for one; a backslash, `x` and two digits for a control byte; every other byte as it is
+-- a backslash, `x` and two digits
+abbrev pub hex_byte : ℕ → List ℕ
+hex_byte b = codes "\\x" ++ hex_digit (b / 16) ∷ hex_digit (b % 16) ∷ []
+
+-- two backslashes for one; the digits of a control byte; every other byte as it is
 abbrev pub escape_byte : ℕ → List ℕ
-escape_byte b =
-    cond (nat_eq b backslash) (codes "\\\\")
-    (cond (is_control b) (codes "\\x" ++ hex_digit (b / 16) ∷ hex_digit (b % 16) ∷ [])
-    (b ∷ []))
+escape_byte b = cond (nat_eq b backslash) (codes "\\\\") (cond (is_control b) (hex_byte b) (b ∷ []))
 
 -- each byte in turn
 abbrev pub escape_bytes : List ℕ → List ℕ

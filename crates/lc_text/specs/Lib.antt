@@ -1,4 +1,6 @@
 pub mod Escape
+pub mod Visible
+pub mod RulePlaces
 pub mod Lines
 pub mod PathLines
 pub mod CheckText

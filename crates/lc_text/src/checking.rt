@@ -12,8 +12,8 @@ mod checker;
 pub(crate) mod explained;
 mod finding;
 mod joined;
-mod lines;
-mod path_line;
+pub(crate) mod lines;
+pub(crate) mod path_line;
 pub(crate) mod text;
 
 use crate::printing::{PrintFault, print};

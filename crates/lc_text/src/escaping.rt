@@ -6,14 +6,14 @@ ghost use Rattle.lc_text.specs.Escape.{hex_digit, is_control, is_plain, escape_b
 
 use std::alloc::{AllocError, Global};
 
-fn hex_digit(n: u8) -> u8
+pub(crate) fn hex_digit(n: u8) -> u8
     requires { n < 16 }
     ensures { result ≡ hex_digit n }
 {
     if n < 10 { b'0' + n } else { b'a' - 10 + n }
 }
 
-fn is_control(b: u8) -> bool
+pub(crate) fn is_control(b: u8) -> bool
     ensures { result ≡ is_control b }
 {
     b < 32 || b == 127
@@ -31,7 +31,7 @@ fn push_escaped_byte(text: &mut Vec<u8>, b: u8) -> Result<(), AllocError>
     }
 }
 
-fn is_plain(b: u8) -> bool
+pub(crate) fn is_plain(b: u8) -> bool
     ensures { result ≡ is_plain b }
 {
     b != b'\\' && !is_control(b)

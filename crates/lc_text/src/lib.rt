@@ -1,7 +1,8 @@
 //! What `lc` writes: how a text is written, and the answers of a check.
 //!
 //! - `sink`: where text is written; `printing`: a text is written whole, or why not
-//! - `escaping`: how paths are printed
+//! - `escaping`: how paths are printed; `visible`: how they are shown in a terminal
+//! - `places`: where a rule stands
 //! - `rules`: the rules that a source gives; `checking`: what rules say of paths, a line each
 //! - `shape`: what a table is to look like
 //! - `trials`: a writer for tests
@@ -11,18 +12,24 @@
 mod checking;
 mod escaping;
 mod laws;
+mod places;
 mod printing;
 mod rules;
 mod shape;
 mod sink;
 pub mod trials;
+mod visible;
 
 pub use checking::explained::explained_text;
+pub use checking::lines::split_line;
+pub use checking::path_line::{is_bad_path, split_slash};
 pub use checking::text::check_text;
 pub use checking::{CheckFault, MAX_INPUT, check, check_explained, check_joined};
 pub use escaping::{escape, push_escaped, push_path};
 pub use laws::{a_vector_takes_the_text, the_rule_gives_the_word};
+pub use places::{above, push_origin};
 pub use printing::{PrintFault, print};
 pub use rules::{RuleText, RulesFileFault, read_rule_text, read_rules};
 pub use shape::{Columns, Format, Shape, SortBy};
 pub use sink::{Sink, StdSink};
+pub use visible::{push_visible, push_visible_path};

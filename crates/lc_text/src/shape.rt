@@ -5,6 +5,8 @@
 pub enum Format {
     /// A tab between fields.
     Tsv,
+    /// Columns as wide as what stands in them, for a person.
+    Table,
     /// One JSON object (RFC 8259) on one line.
     Json,
 }

@@ -2,5 +2,7 @@
 
 mod explained;
 mod interrupted;
+mod places;
 mod streams;
 mod texts;
+mod visible;

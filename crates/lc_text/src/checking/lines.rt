@@ -6,7 +6,7 @@ ghost use Rattle.lc_text.specs.Lines.{lines_of};
 use lc_glob::cut_at_first;
 
 /// The first line, and what follows it.
-pub(crate) fn split_line(bytes: &[u8]) -> (&[u8], &[u8])
+pub fn split_line(bytes: &[u8]) -> (&[u8], &[u8])
     requires { 0 < length bytes.now }
     ensures lines { lines_of bytes.now ≡ result.0.now ∷ lines_of result.1.now }
     ensures less { length result.1.now < length bytes.now }

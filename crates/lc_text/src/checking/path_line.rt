@@ -6,7 +6,7 @@ ghost use Rattle.lc_text.specs.PathLines.{is_dir_line, path_of, is_bad_path};
 use lc_glob::path::{is_good_path, is_too_long};
 
 /// The path of a line, without one slash at its end, and whether it has one: that means a directory.
-pub(crate) fn split_slash(line: &[u8]) -> (&[u8], bool)
+pub fn split_slash(line: &[u8]) -> (&[u8], bool)
     ensures path { result.0.now ≡ path_of line.now }
     ensures dir { result.1 ≡ is_dir_line line.now }
 {
@@ -17,7 +17,7 @@ pub(crate) fn split_slash(line: &[u8]) -> (&[u8], bool)
 }
 
 /// Whether no entry of a tree can have this path, or it is too long.
-pub(crate) fn is_bad_path(path: &[u8]) -> bool
+pub fn is_bad_path(path: &[u8]) -> bool
     ensures { result ≡ is_bad_path path.now }
 {
     is_too_long(path) || !is_good_path(path)

@@ -1,0 +1,6 @@
+use Rattle.std.proofs.Common.{◌≡◌, ◌++◌, take, flat_map, string_bytes}
+use Rattle.lc_text.specs.Visible.{visible_byte}
+use Rattle.lc_text.proofs.visible.push_each_byte.Given as goal
+
+abbrev pub invariant-loop-b : goal.invariant-loop-b
+invariant-loop-b l = string_bytes l.text ≡ string_bytes l.initial.text ++ flat_map visible_byte (take l.b-index l.bytes)

@@ -1,0 +1,65 @@
+//! Where a rule stands, as it is printed.
+
+use lc_rules::Origin;
+use lc_text::push_origin;
+use std::process::Abort;
+use std::test::Fail;
+
+/// What is shown, a path, where the file of its rule stands, the number of the line, and the text.
+type Case = (&'static str, &'static [u8], Origin, u32, &'static [u8]);
+
+const CASES: &[Case] = &[
+    ("top", b"a.log", Origin::Directory(0), 1, b".gitignore:1"),
+    (
+        "directory_of_the_path",
+        b"src/gen",
+        Origin::Directory(1),
+        3,
+        b"src/.gitignore:3",
+    ),
+    (
+        "directory_further_up",
+        b"a/b/c.c",
+        Origin::Directory(1),
+        10,
+        b"a/.gitignore:10",
+    ),
+    (
+        "two_directories",
+        b"a/b/c.c",
+        Origin::Directory(2),
+        10,
+        b"a/b/.gitignore:10",
+    ),
+    (
+        "escaped",
+        b"t\x01/a",
+        Origin::Directory(1),
+        2,
+        b"t\\x01/.gitignore:2",
+    ),
+    (
+        "git_info",
+        b"notes.txt",
+        Origin::GitInfo,
+        2,
+        b".git/info/exclude:2",
+    ),
+    (
+        "exclude_file",
+        b"d/x.bak",
+        Origin::ExcludeFile,
+        4_294_967_295,
+        b"--exclude-from:4294967295",
+    ),
+];
+
+#[test]
+fn places_of_rules(rt: HostRuntime) -> Result<(), Fail> {
+    for (name, path, origin, line, expected) in CASES {
+        let mut text = Vec::new(rt.alloc());
+        push_origin(&mut text, path, *origin, *line)?;
+        assert!(rt; text.as_slice() == *expected, "{name}");
+    }
+    Ok(())
+}

@@ -1,0 +1,64 @@
+//! Paths as a terminal shows them.
+
+use lc_text::push_visible_path;
+use std::process::Abort;
+use std::test::Fail;
+
+/// What is shown, a path, and its text.
+type Case = (&'static str, &'static str, &'static str);
+
+const CASES: &[Case] = &[
+    ("top", "", "."),
+    ("plain", "src/main.c", "src/main.c"),
+    ("backslash_and_tab", "a\\b\tc", "a\\\\b\\x09c"),
+    ("delete_and_tilde", "~\x7f", "~\\x7f"),
+    ("letters", "Grüße/日本", "Grüße/日本"),
+    (
+        "first_and_last_of_c1",
+        "\u{80}\u{9f}\u{a0}",
+        "\\xc2\\x80\\xc2\\x9f\u{a0}",
+    ),
+    (
+        "separators",
+        "\u{2028}\u{2029}",
+        "\\xe2\\x80\\xa8\\xe2\\x80\\xa9",
+    ),
+    (
+        "marks",
+        "\u{61c}\u{200e}\u{200f}",
+        "\\xd8\\x9c\\xe2\\x80\\x8e\\xe2\\x80\\x8f",
+    ),
+    (
+        "embeddings",
+        "\u{202a}\u{202e}",
+        "\\xe2\\x80\\xaa\\xe2\\x80\\xae",
+    ),
+    (
+        "isolates",
+        "\u{2066}\u{2069}",
+        "\\xe2\\x81\\xa6\\xe2\\x81\\xa9",
+    ),
+    (
+        "beside_them",
+        "\u{200d}\u{2027}\u{202f}\u{2065}\u{206a}",
+        "\u{200d}\u{2027}\u{202f}\u{2065}\u{206a}",
+    ),
+];
+
+#[test]
+fn visible_paths(rt: HostRuntime) -> Result<(), Fail> {
+    for (name, path, expected) in CASES {
+        let mut text = String::new(rt.alloc());
+        push_visible_path(&mut text, path.as_bytes())?;
+        assert!(rt; text.as_str() == *expected, "{name}");
+    }
+    Ok(())
+}
+
+#[test]
+fn a_path_that_is_no_text(rt: HostRuntime) -> Result<(), Fail> {
+    let mut text = String::new(rt.alloc());
+    push_visible_path(&mut text, b"caf\xe9\\\n")?;
+    assert!(rt; text.as_str() == "caf\\xe9\\\\\\x0a");
+    Ok(())
+}
