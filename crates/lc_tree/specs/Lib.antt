@@ -1,5 +1,6 @@
 pub mod ByteOrder
 pub mod FailingTrees
+pub mod FaultWords
 pub mod FileAnswers
 pub mod Kinds
 pub mod Listed

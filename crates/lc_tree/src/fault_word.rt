@@ -1,5 +1,8 @@
 //! Why a part of a tree was not counted.
 
+ghost use Rattle.std.specs.Prelude.{◌≡◌};
+ghost use Rattle.lc_tree.specs.FaultWords.{fault_word};
+
 /// Why a listing or a file was not read.
 #[derive(Clone, Copy, Debug, Drop, PartialEq, Eq)]
 pub enum FaultWord {
@@ -15,4 +18,20 @@ pub enum FaultWord {
     Long,
     /// A file's reads did not come to an end.
     Endless,
+}
+
+impl FaultWord {
+    /// The word that is printed, as `read`.
+    pub fn as_str(self) -> &'static str
+        ensures { result.now ≡ fault_word self }
+    {
+        match self {
+            FaultWord::Read => "read",
+            FaultWord::Name => "name",
+            FaultWord::Twice => "twice",
+            FaultWord::Many => "many",
+            FaultWord::Long => "long",
+            FaultWord::Endless => "endless",
+        }
+    }
 }
