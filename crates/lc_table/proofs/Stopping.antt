@@ -8,7 +8,7 @@ use Rattle.lc_census.specs.declared.source.Failed.{Failed}
 use Rattle.lc_walk.specs.declared.report.Report.{Report}
 use Rattle.lc_walk.specs.declared.walk_fault.WalkFault.{WalkFault}
 use Rattle.lc_table.specs.Runs.{AnswersRun, AnswersTable, table_fault}
-use Rattle.lc_table.specs.declared.running.Outcome.{Outcome}
+use Rattle.lc_text.specs.declared.outcome.Outcome.{Outcome}
 use Rattle.lc_table.specs.declared.running.RunFault.{RunFault}
 
 -- a table that was not written whole

@@ -8,8 +8,8 @@ use Rattle.lc_text.specs.Writes.{Writes, StopsWriting}
 use Rattle.lc_text.specs.declared.printing.PrintFault.{PrintFault}
 use Rattle.lc_text.specs.declared.shape.Shape.{Shape}
 use Rattle.lc_text.specs.declared.printing.PrintFault.TheVariants as print
-use Rattle.lc_table.specs.declared.running.Outcome.{Outcome}
-use Rattle.lc_table.specs.declared.running.Outcome.TheVariants.{Clean, SomeFaults}
+use Rattle.lc_text.specs.declared.outcome.Outcome.{Outcome}
+use Rattle.lc_text.specs.declared.outcome.Outcome.TheVariants.{Clean, SomeFaults}
 use Rattle.lc_table.specs.declared.running.RunFault.{RunFault}
 use Rattle.lc_table.specs.declared.running.RunFault.TheVariants.{Walk, Memory, Write}
 

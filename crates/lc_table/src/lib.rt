@@ -21,6 +21,6 @@ mod writing;
 pub use laws::{
     shown_rows_are_the_summed_ones, shown_rows_keep_the_totals, whole_keys_add_up_to_themselves,
 };
-pub use running::{Outcome, RunFault, run};
+pub use running::{RunFault, run};
 pub use text::table_text;
 pub use writing::table;

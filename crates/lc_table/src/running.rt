@@ -7,22 +7,13 @@ ghost use Rattle.lc_table.specs.Runs.{IsOutcomeOf, AnswersRun, table_fault};
 ghost use Rattle.lc_table.specs.declared.running.RunFault.TheVariants.{Walk};
 
 use crate::writing::table;
-use lc_text::{PrintFault, Shape, Sink};
+use lc_text::{Outcome, PrintFault, Shape, Sink};
 use lc_tree::Tree;
 use lc_walk::{Options, Report, WalkFault, walk};
 use std::alloc::Global;
 use std::sync::Wait;
 use std::thread::Threads;
 use thiserror::Error;
-
-/// Whether a table that was written has a fault.
-#[derive(Debug, Clone, Copy, PartialEq, Eq)]
-pub enum Outcome {
-    /// Every directory and every file that was met was read.
-    Clean,
-    /// The table has a line for each directory or file that was not read.
-    SomeFaults,
-}
 
 /// Why a table was not written, or not whole.
 #[derive(Debug, Clone, Copy, PartialEq, Eq, Error)]

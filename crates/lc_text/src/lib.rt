@@ -4,6 +4,7 @@
 //! - `escaping`: how paths are printed; `visible`: how they are shown in a terminal
 //! - `places`: where a rule stands
 //! - `rules`: the rules that a source gives; `checking`: what rules say of paths, a line each
+//! - `outcome`: whether what was written tells of a fault
 //! - `shape`: what a table is to look like
 //! - `trials`: a writer for tests
 //! - `laws`: what is true of the definitions that the contracts cite
@@ -12,6 +13,7 @@
 mod checking;
 mod escaping;
 mod laws;
+mod outcome;
 mod places;
 mod printing;
 mod rules;
@@ -27,9 +29,10 @@ pub use checking::text::check_text;
 pub use checking::{CheckFault, MAX_INPUT, check, check_explained, check_joined};
 pub use escaping::{escape, push_escaped, push_path};
 pub use laws::{a_vector_takes_the_text, the_rule_gives_the_word};
+pub use outcome::Outcome;
 pub use places::{above, push_origin};
 pub use printing::{PrintFault, print};
-pub use rules::{RuleText, RulesFileFault, read_rule_text, read_rules};
+pub use rules::{RuleText, RulesFileFault, read_rule_text};
 pub use shape::{Columns, Format, Shape, SortBy};
 pub use sink::{Sink, StdSink};
 pub use visible::{push_visible, push_visible_path};

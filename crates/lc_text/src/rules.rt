@@ -1,7 +1,8 @@
 //! The rules of a file, read from its source, and its text with them.
 
-ghost use Rattle.std.specs.Prelude.{◌≡◌, ◌≢◌};
-ghost use Rattle.lc_text.specs.RuleReads.{ReadsRules, ReadsRuleText, file_fault, bytes_fault};
+ghost use Rattle.std.specs.Prelude.{◌≡◌, ◌≢◌, IfOk};
+ghost use Rattle.std.specs.Arc.{arc_value};
+ghost use Rattle.lc_text.specs.RuleReads.{ReadsRuleText, file_fault, bytes_fault};
 ghost use Rattle.lc_rules.specs.IgnoreRules.{rules_of};
 ghost use Rattle.lc_text.specs.declared.rules.RulesFileFault.TheVariants.{TooLong, Memory};
 
@@ -10,6 +11,7 @@ use lc_rules::{IgnoreFile, MAX_RULE_BYTES, RuleFault};
 use std::alloc::{AllocError, Global};
 use std::io;
 use std::marker::Model;
+use std::sync::Arc;
 use thiserror::Error;
 
 /// Why a file gave no rules.
@@ -73,48 +75,46 @@ impl From<RuleFault> for RulesFileFault {
 #[derive(Debug, Drop)]
 pub struct RuleText {
     bytes: Vec<u8>,
-    rules: IgnoreFile,
+    rules: Arc<IgnoreFile, Global>,
 }
 
 impl Model for RuleText {
     ghost use Rattle.std.specs.Prelude.{◌≡◌, ℕ, List};
+    ghost use Rattle.std.specs.Arc.{arc_value};
     ghost use Rattle.lc_rules.specs.IgnoreRules.{rules_of};
 
     ghost Value = { List ℕ };
 
     ghost view = { λ t. t.bytes.items };
 
-    ghost invariant = { λ t. t.rules ≡ rules_of t.bytes.items };
+    ghost invariant = { λ t. arc_value t.rules ≡ rules_of t.bytes.items };
 }
 
 impl RuleText {
-    pub(crate) fn bytes(&self) -> &[u8]
+    /// The bytes of the file.
+    pub fn bytes(&self) -> &[u8]
         ensures { result.now ≡ self.now }
     {
         &self.bytes
     }
 
-    pub(crate) fn rules(&self) -> &IgnoreFile
+    /// The rules that they give.
+    pub fn rules(&self) -> &IgnoreFile
         ensures { result.now ≡ rules_of self.now }
     {
         &self.rules
     }
+
+    /// The same rules, shared.
+    pub fn shared_rules(&self) -> Result<Arc<IgnoreFile, Global>, AllocError>
+        ensures { IfOk result (λ rules. arc_value rules ≡ rules_of self.now) }
+    {
+        Ok(Arc::try_clone(&self.rules)?)
+    }
 }
 
-/// Reads a file of rules to its end, at most one byte past the limit of their length.
-///
-/// ```
-/// let mut file = StdSource(fs::open(rt, ".gitignore")?);
-/// let rules = read_rules(rt.alloc(), &mut file)?;
-/// ```
-pub fn read_rules<S: Source>(alloc: Global, file: &mut S) -> Result<IgnoreFile, RulesFileFault>
-    ensures { ReadsRules S.may_give file.old result file.new }
-{
-    let RuleText { rules, .. } = read_rule_text(alloc, file)?;
-    Ok(rules)
-}
-
-/// Reads a file of rules as [`read_rules`] does, and keeps its text, so that a rule can be told of by its line.
+/// Reads a file of rules to its end, at most one byte past the limit of their length. It keeps the text, so that a rule can be told of
+/// by its line.
 ///
 /// ```
 /// let mut file = StdSource(fs::open(rt, ".gitignore")?);
@@ -128,5 +128,8 @@ pub fn read_rule_text<S: Source>(alloc: Global, file: &mut S) -> Result<RuleText
     let mut bytes = Vec::new(alloc);
     read_whole(&mut buffer, &mut bytes, file, MAX_RULE_BYTES)?;
     let rules = IgnoreFile::read(alloc, &bytes)?;
-    Ok(RuleText { bytes, rules })
+    match Arc::new(alloc, rules) {
+        Ok(rules) => Ok(RuleText { bytes, rules }),
+        Err(_) => Err(RulesFileFault::Memory),
+    }
 }

@@ -2,7 +2,7 @@
 
 use crate::table::asking::{Case, compare, compare_all};
 use crate::table::runs::{BUILD, FIRST_CASE, IGNORE, KEPT, LOG, RULES, SRC};
-use lc_table::Outcome;
+use lc_text::Outcome;
 use lc_tree::trials::{FailingCall, FailingTree};
 use lc_tree::{MemTree, Sketch};
 use std::process::Abort;

@@ -3,7 +3,8 @@
 ghost use Rattle.std.specs.Prelude.{◌≤◌};
 
 use crate::table::asking::{WITH_FILES, answer_of};
-use lc_table::{Outcome, RunFault};
+use lc_table::RunFault;
+use lc_text::Outcome;
 use lc_tree::trials::{FailingCall, FailingTree};
 use lc_tree::{MemTree, Sketch};
 use std::alloc::AllocError;

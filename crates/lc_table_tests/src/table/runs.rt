@@ -3,7 +3,8 @@
 use crate::table::asking::{
     Asked, Case, HEADER, PLAIN, WITH_FILES, answer_of, compare_all, compare_by,
 };
-use lc_table::{Outcome, RunFault};
+use lc_table::RunFault;
+use lc_text::Outcome;
 use lc_text::trials::{Narrow, WRITERS, WhenFull};
 use lc_tree::{MemTree, Sketch};
 use lc_walk::WalkFault;

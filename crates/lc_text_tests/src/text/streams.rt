@@ -4,7 +4,7 @@ use lc_census::Source;
 use lc_census::trials::{Bytewise, Counted, Endless, Failing};
 use lc_rules::IgnoreFile;
 use lc_text::trials::{Narrow, WRITERS, WhenFull};
-use lc_text::{CheckFault, RulesFileFault, check, check_joined, read_rules};
+use lc_text::{CheckFault, RulesFileFault, check, check_joined, read_rule_text};
 use std::alloc::{AllocError, Global};
 use std::process::Abort;
 use std::test::Fail;
@@ -161,8 +161,8 @@ fn compare_rules<R: AllocGlobal + Abort, S: Source>(
     file: &mut S,
     wanted: Result<usize, RulesFileFault>,
 ) -> Result<(), Fail> {
-    let answer = match read_rules(rt.alloc(), file) {
-        Ok(rules) => Ok(rules.len()),
+    let answer = match read_rule_text(rt.alloc(), file) {
+        Ok(text) => Ok(text.rules().len()),
         Err(RulesFileFault::Memory) => return Err(AllocError.into()),
         Err(fault) => Err(fault),
     };
