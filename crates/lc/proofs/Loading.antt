@@ -1,14 +1,13 @@
 -- A file of rules that was opened, and a check by it.
-use Rattle.std.proofs.Common.{◌≡◌, ◌∙◌, ℕ, List, Result, Ok, Err, ap, refl, sym}
+use Rattle.std.proofs.Common.{◌≡◌, ◌∙◌, ℕ, List, Result, Ok, Err, ap, sym}
 use Rattle.std.specs.Result.{IsErrAnd}
 use Rattle.lc_census.specs.Reads.{Answer}
-use Rattle.lc_rules.specs.IgnoreRules.{RuleModel}
-use Rattle.lc_text.specs.RuleReads.{ReadsRules, ReadsRuleText}
+use Rattle.lc_text.specs.RuleReads.{ReadsRuleText}
 use Rattle.lc_text.specs.declared.rules.RulesFileFault.{RulesFileFault}
 use Rattle.lc_text.specs.declared.rules.RulesFileFault.TheVariants as fault
 use Rattle.lc_text.specs.declared.checking.CheckFault.{CheckFault}
 use Rattle.lc.specs.Causes.{check_cause}
-use Rattle.lc.specs.Requests.{LoadsFile, LoadsRules, Reply, checked}
+use Rattle.lc.specs.Requests.{LoadsFile, Reply, checked}
 
 -- what reading the opened file answered is what loading answers
 pub loads_file : {F : Type 0} (may_give : F → ℕ → Answer → F → Type 0) (answer : Result (List ℕ) RulesFileFault) (file read : F)
@@ -17,14 +16,6 @@ loads_file may_give (Ok bytes) file read reads = (file, read, reads)
 loads_file may_give (Err fault.Unread) file read reads = tt
 loads_file may_give (Err fault.TooLong) file read reads = (file, read, reads)
 loads_file may_give (Err fault.Memory) file read reads = tt
-
--- and so of its rules
-pub loads_rules : {F : Type 0} (may_give : F → ℕ → Answer → F → Type 0) (answer : Result (List RuleModel) RulesFileFault) (file read : F)
-    → ReadsRules may_give file answer read → LoadsRules (LoadsFile may_give) answer
-loads_rules may_give (Ok rules) file read reads = (reads.0, (file, read, (reads.0, reads.1, refl)), reads.2)
-loads_rules may_give (Err fault.Unread) file read reads = tt
-loads_rules may_give (Err fault.TooLong) file read reads = (file, read, reads)
-loads_rules may_give (Err fault.Memory) file read reads = tt
 
 -- the fault of a check that was passed on is the reply
 pub fault_replied : (reply : Reply) (answer : Result (Unit {0}) CheckFault) (fault : CheckFault)

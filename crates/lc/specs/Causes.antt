@@ -3,6 +3,10 @@ use Rattle.std.specs.Prelude.{ℕ, List, ◌++◌, codes, decimal}
 use Rattle.lc_walk.specs.declared.walk_fault.WalkFault.TheVariants as walk
 use Rattle.lc_text.specs.declared.checking.CheckFault.{CheckFault}
 use Rattle.lc_text.specs.declared.checking.CheckFault.TheVariants as check
+use Rattle.lc_explain.specs.declared.explaining.ExplainFault.{ExplainFault}
+use Rattle.lc_explain.specs.declared.explaining.ExplainFault.TheVariants as explain
+use Rattle.lc_text.specs.declared.printing.PrintFault.{PrintFault}
+use Rattle.lc_text.specs.declared.printing.PrintFault.TheVariants as print
 use Rattle.lc_text.specs.declared.rules.RulesFileFault.{RulesFileFault}
 use Rattle.lc_text.specs.declared.rules.RulesFileFault.TheVariants as rules
 use Rattle.lc_table.specs.declared.running.RunFault.{RunFault}
@@ -52,3 +56,15 @@ run_cause (run.Walk (walk.Torn n)) = Torn n
 run_cause (run.Walk (walk.Mismatch w)) = Mismatch w
 run_cause run.Memory = Memory
 run_cause run.Write = Unwritten
+
+-- explanations of an input that stopped
+abbrev pub explain_cause : ExplainFault → Cause
+explain_cause explain.Read = UnreadInput
+explain_cause explain.InputTooLong = InputTooLong
+explain_cause explain.Memory = Memory
+explain_cause explain.Write = Unwritten
+
+-- a text that was not written, or not whole
+abbrev pub print_cause : PrintFault → Cause
+print_cause print.Memory = Memory
+print_cause print.Write = Unwritten

@@ -11,7 +11,7 @@ use Rattle.lc.specs.declared.cause.Cause.{Cause}
 use Rattle.lc.specs.declared.cause.Cause.TheVariants.{Memory, Unwritten}
 use Rattle.lc.specs.declared.program.Ending.{Ending}
 use Rattle.lc.specs.declared.program.Ending.TheVariants.{Done, SomeFaults, Misused, GaveUp}
-use Rattle.lc_table.specs.declared.running.Outcome.TheVariants as outcome
+use Rattle.lc_text.specs.declared.outcome.Outcome.TheVariants as outcome
 
 abbrev pub status_of : Ending → ℕ
 status_of Done = 0
@@ -64,7 +64,7 @@ module _ {I O E : Type 0} (may_give : I → ℕ → Answer → I → Type 0) (lo
   -- a request was answered and all is well, or a text was shown
   Ends words input out err Done read wrote told =
       (Replies words input out (Ok outcome.Clean) read wrote × (told ≡ err)) ⊎ Shows words input out err Done read wrote told
-  -- a table was written that has a fault
+  -- an answer was written that tells of a fault
   Ends words input out err SomeFaults read wrote told = Replies words input out (Ok outcome.SomeFaults) read wrote × (told ≡ err)
   -- the words fail, nothing was read or written, and why was told
   Ends words input out err Misused read wrote told =

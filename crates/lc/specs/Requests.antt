@@ -1,14 +1,16 @@
 -- How a request is answered, by what was read and written.
-use Rattle.std.specs.Prelude.{◌≡◌, ◌⊎◌, ℕ, cond, List, Option, Some, None, Result, Ok, Err}
+use Rattle.std.specs.Prelude.{◌≡◌, ◌⊎◌, ℕ, cond, List, [], ◌∷◌, map, Option, Some, None, Result, Ok, Err, option_map}
 use Rattle.std.specs.Borrow.{Bor}
-use Rattle.std.specs.declared.sync.Arc.{Arc}
 use Rattle.lc_census.specs.declared.source.Failed.{Failed}
 use Rattle.lc_census.specs.Reads.{Answer}
-use Rattle.lc_rules.specs.IgnoreRules.{RuleModel, rules_of}
+use Rattle.lc_rules.specs.IgnoreRules.{rules_of}
 use Rattle.lc_level.specs.RuleReads.{shared}
 use Rattle.lc_tree.specs.SysTrees.{AnyListing, AnyContents}
 use Rattle.lc_walk.specs.declared.options.Options.{Options}
-use Rattle.lc.specs.Causes.{check_cause, rules_cause, run_cause}
+use Rattle.lc.specs.Causes.{check_cause, explain_cause, print_cause, rules_cause, run_cause}
+use Rattle.lc_explain.specs.Explain.{AnswersExplain, AnswersLines, MaySay}
+use Rattle.lc_explain.specs.declared.explaining.ExplainFault.{ExplainFault}
+use Rattle.lc_explain.specs.declared.question.Question.{Question}
 use Rattle.lc_text.specs.Check.{AnswersCheck, no_rules}
 use Rattle.lc_text.specs.CheckText.{text_by}
 use Rattle.lc_text.specs.Joined.{rules_part, joined_text}
@@ -17,16 +19,18 @@ use Rattle.lc_text.specs.RuleReads.{ReadsRuleText}
 use Rattle.lc_walk.specs.Walks.{Walks}
 use Rattle.lc_table.specs.Runs.{AnswersRun}
 use Rattle.lc_arguments.specs.declared.request.Request.{Request}
-use Rattle.lc_arguments.specs.declared.request.Request.TheVariants.{CheckJoined, Check, Count}
+use Rattle.lc_arguments.specs.declared.request.Request.TheVariants.{CheckJoined, Check, Count, Explain}
 use Rattle.lc_arguments.specs.declared.check.CheckRequest.{CheckRequest}
 use Rattle.lc_arguments.specs.declared.count.CountRequest.{CountRequest}
+use Rattle.lc_arguments.specs.declared.explain.ExplainRequest.{ExplainRequest}
 use Rattle.lc.specs.declared.cause.Cause.{Cause}
 use Rattle.lc.specs.declared.cause.Cause.TheVariants.{Memory}
 use Rattle.lc_text.specs.declared.checking.CheckFault.{CheckFault}
+use Rattle.lc_text.specs.declared.printing.PrintFault.{PrintFault}
 use Rattle.lc_text.specs.declared.rules.RulesFileFault.{RulesFileFault}
 use Rattle.lc_text.specs.declared.rules.RulesFileFault.TheVariants as fault
-use Rattle.lc_table.specs.declared.running.Outcome.{Outcome}
-use Rattle.lc_table.specs.declared.running.Outcome.TheVariants.{Clean}
+use Rattle.lc_text.specs.declared.outcome.Outcome.{Outcome}
+use Rattle.lc_text.specs.declared.outcome.Outcome.TheVariants.{Clean}
 use Rattle.lc_table.specs.declared.running.RunFault.{RunFault}
 
 -- the answer to a request: whether all is well, or why the program gives up
@@ -42,6 +46,14 @@ abbrev pub ran : Result Outcome RunFault → Reply
 ran (Ok outcome) = Ok outcome
 ran (Err fault) = Err (run_cause fault)
 
+abbrev pub explained : Result Outcome ExplainFault → Reply
+explained (Ok outcome) = Ok outcome
+explained (Err fault) = Err (explain_cause fault)
+
+abbrev pub told : Result Outcome PrintFault → Reply
+told (Ok outcome) = Ok outcome
+told (Err fault) = Err (print_cause fault)
+
 -- what opening a file of rules and reading it may answer: its bytes, or why it gives no rules
 abbrev pub Loaded : Type 1
 Loaded = Result (List ℕ) RulesFileFault → Type 0
@@ -54,34 +66,32 @@ LoadsFile may_give (Err fault.Unread) = Unit {0}
 LoadsFile {F} may_give (Err fault.TooLong) = (file read : F) × ReadsRuleText may_give file (Err fault.TooLong) read
 LoadsFile may_give (Err fault.Memory) = Unit {0}
 
--- the rules of such a file
-abbrev pub LoadsRules : Loaded → Result (List RuleModel) RulesFileFault → Type 0
-LoadsRules loads (Ok rules) = (bytes : List ℕ) × loads (Ok bytes) × (rules ≡ rules_of bytes)
-LoadsRules loads (Err fault) = loads (Err fault)
-
 -- a file gave no rules
 abbrev pub IsWithoutRules : Loaded → Reply → Type 0
 IsWithoutRules loads reply = (fault : RulesFileFault) × loads (Err fault) × (reply ≡ Err (rules_cause fault))
 
--- the rules for the whole tree are those of the file that the words name, if they name one
-abbrev pub Excludes : Loaded → Option (Bor (List ℕ)) → Option (List RuleModel) → Type 0
-Excludes loads None exclude = exclude ≡ None
+-- the text of the rules for the whole tree is that of the file which the words name, if they name one
+abbrev pub Excludes : Loaded → Option (Bor (List ℕ)) → Option (List ℕ) → Type 0
+Excludes loads None text = text ≡ None
 Excludes loads (Some _) None = ⊥
-Excludes loads (Some _) (Some rules) = LoadsRules loads (Ok rules)
+Excludes loads (Some _) (Some bytes) = loads (Ok bytes)
 
--- those rules, or why there are none
-abbrev pub AnswersExcluded : {A : Type 0} → Loaded → Option (Bor (List ℕ)) → Result (Option (Arc (List RuleModel) A)) Cause → Type 0
-AnswersExcluded loads file (Ok rules) = Excludes loads file (shared rules)
-AnswersExcluded loads file (Err cause) = IsWithoutRules loads (Err cause) ⊎ (cause ≡ Memory)
+-- that text, or why there is none
+abbrev pub AnswersExcluded : Loaded → Option (Bor (List ℕ)) → Result (Option (List ℕ)) Cause → Type 0
+AnswersExcluded loads file (Ok text) = Excludes loads file text
+AnswersExcluded loads file (Err cause) = IsWithoutRules loads (Err cause)
 
 -- options that ask for what the words of a count ask
 pub record IsAskedBy (loads : Loaded) (c : CountRequest) (o : Options) : Type 0 where
   pub threads : o.threads ≡ c.threads
   pub max_dirs : o.max_dirs ≡ c.max_dirs
-  pub files : o.files ≡ c.files
-  pub archive : o.archive ≡ c.archive
-  pub without : o.without.now ≡ c.without.items
-  pub exclude : Excludes loads c.exclude_from (shared o.exclude)
+  pub files : o.lists.files ≡ c.files
+  pub left_out : o.lists.left_out ≡ c.left_out
+  pub archive : o.archive ≡ c.exclusions.archive
+  pub without : o.without.now ≡ c.exclusions.without.items
+  pub text : Option (List ℕ)
+  pub is_text : Excludes loads c.exclusions.from text
+  pub exclude : shared o.exclude ≡ option_map rules_of text
 
 -- a run over a tree of the system by what the words ask, or there were no rules or no memory and nothing was written
 abbrev pub AnswersCount : {O : Type 0} → Loaded → (O → List ℕ → Result ℕ Failed → O → Type 0) → CountRequest → O → Reply → O → Type 0
@@ -89,6 +99,24 @@ AnswersCount loads may_take c out reply wrote =
     ((o : Options) × IsAskedBy loads c o × (answer : Result Outcome RunFault) × (reply ≡ ran answer)
     × AnswersRun may_take (Walks (λ path. AnyListing) (λ path. AnyContents) o) c.shape out answer wrote)
     ⊎ ((IsWithoutRules loads reply ⊎ (reply ≡ Err Memory)) × (wrote ≡ out))
+
+-- a question that asks what the words of an explanation ask
+pub record IsQuestionOf (loads : Loaded) (c : ExplainRequest) (q : Question) : Type 0 where
+  pub archive : q.archive ≡ c.exclusions.archive
+  pub without : q.without.now ≡ c.exclusions.without.items
+  pub exclude : Excludes loads c.exclusions.from q.exclude
+
+-- what may be said of paths in a tree of the system
+abbrev pub AnswersPaths : {I O : Type 0} → (I → ℕ → Answer → I → Type 0) → (O → List ℕ → Result ℕ Failed → O → Type 0)
+    → Question → List (Bor (List ℕ)) → I → O → Reply → I → O → Type 0
+-- those of the input
+AnswersPaths may_give may_take q [] input out reply read wrote =
+    (answer : Result Outcome ExplainFault) × (reply ≡ explained answer)
+    × AnswersExplain may_take (MaySay (λ path. AnyListing) (λ path. AnyContents) q) may_give input out answer read wrote
+-- those of the words
+AnswersPaths may_give may_take q (path ∷ paths) input out reply read wrote =
+    (answer : Result Outcome PrintFault) × (reply ≡ told answer) × (read ≡ input)
+    × AnswersLines may_take (MaySay (λ path. AnyListing) (λ path. AnyContents) q) (map (λ p. p.now) (path ∷ paths)) out answer wrote
 
 -- what a check of some paths prints by the bytes of its file
 abbrev pub text_by_bytes : List ℕ → List ℕ → List ℕ
@@ -114,8 +142,15 @@ module _ {I O : Type 0} (may_give : I → ℕ → Answer → I → Type 0) (load
       × AnswersCheck may_give may_take no_rules (text_of bytes) input out answer read wrote)
       ⊎ (IsWithoutRules loads reply × (read ≡ input) × (wrote ≡ out))
 
+  -- what may be said of the paths by what the words ask, or there were no rules or no memory and nothing was read or written
+  abbrev pub AnswersExplanation : ExplainRequest → I → O → Reply → I → O → Type 0
+  AnswersExplanation c input out reply read wrote =
+      ((q : Question) × IsQuestionOf loads c q × AnswersPaths may_give may_take q c.paths.items input out reply read wrote)
+      ⊎ ((IsWithoutRules loads reply ⊎ (reply ≡ Err Memory)) × (read ≡ input) × (wrote ≡ out))
+
   -- a count leaves the input as it was
   abbrev pub AnswersRequest : Request → I → O → Reply → I → O → Type 0
   AnswersRequest CheckJoined input out reply read wrote = AnswersJoined may_give may_take input out reply read wrote
   AnswersRequest (Check c) input out reply read wrote = AnswersFile (text_asked c) input out reply read wrote
   AnswersRequest (Count c) input out reply read wrote = (read ≡ input) × AnswersCount loads may_take c out reply wrote
+  AnswersRequest (Explain c) input out reply read wrote = AnswersExplanation c input out reply read wrote

@@ -1,7 +1,11 @@
 //! The program `lc`: it counts the files and lines of a directory without what Git would ignore, and says which paths the
-//! rules of an ignore file leave out.
+//! rules of a directory, or of an ignore file, leave out.
+//!
+//! - `program`: the program but for its streams; `answering`: what each request is answered
+//! - `cause`: why it gives up; `rules_file`: the rules of a file that the command line names
 #![tactic(auto)]
 
+mod answering;
 mod cause;
 mod program;
 mod rules_file;

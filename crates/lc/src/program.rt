@@ -1,27 +1,20 @@
 //! The program but for its streams.
 
 ghost use Rattle.std.specs.Prelude.{◌≡◌, map};
-ghost use Rattle.lc_arguments.specs.Words.{IsWithinLimits, IsCountWithinLimits};
 ghost use Rattle.lc.specs.Program.{Tells, TellsCause, Introduces, EndsShown, Ends, status_of};
-ghost use Rattle.lc.specs.Requests.{LoadsFile, AnswersExcluded, AnswersFile, AnswersJoined, AnswersCount, AnswersRequest};
-ghost use Rattle.lc.specs.Requests.{text_asked, text_by_bytes};
-ghost use Rattle.lc_text.specs.ExplainedText.{explained_text_of};
+ghost use Rattle.lc.specs.Requests.{LoadsFile};
 ghost use Rattle.lc.specs.declared.program.Ending.{Ending};
 ghost use Rattle.lc.specs.declared.program.Ending.TheVariants as ending;
 
+use crate::answering::answer;
 use crate::cause::Cause;
-use crate::rules_file::{rule_text_of_file, rules_of_file};
-use lc_arguments::{CheckRequest, CountRequest, NoRequest, Request};
+use lc_arguments::{NoRequest, Request};
 use lc_census::{Source, StdSource};
-use lc_rules::IgnoreFile;
-use lc_table::{Outcome, run};
-use lc_text::{Sink, check, check_explained, check_joined, print};
-use lc_tree::SysTree;
-use lc_walk::Options;
+use lc_text::{Outcome, Sink, print};
 use std::alloc::{AllocError, Global};
 use std::convert::AsStr;
 use std::rt::Files;
-use std::sync::{Arc, Wait};
+use std::sync::Wait;
 use std::thread::Threads;
 
 /// How a run of the program ends.
@@ -29,7 +22,7 @@ use std::thread::Threads;
 pub enum Ending {
     /// It did what it was asked for.
     Done,
-    /// The table was written, and has a fault.
+    /// The answer was written, and tells of a fault.
     SomeFaults,
     /// The words are refused.
     Misused,
@@ -96,124 +89,6 @@ fn show<O: Sink, E: Sink>(alloc: Global, text: &str, out: &mut O, err: &mut E) -
     }
 }
 
-/// Reads the rules of a file, and checks the paths of the input.
-fn check_plainly<R: Files + AllocGlobal, S: Source, O: Sink>(
-    rt: &R,
-    file: &str,
-    input: &mut S,
-    out: &mut O,
-) -> Result<Outcome, Cause>
-    ensures { AnswersFile S.may_give (LoadsFile ⟦<StdSource<R::File> as Source>⟧.may_give) O.may_take text_by_bytes
-        input.old out.old result input.new out.new }
-{
-    let rules = rules_of_file(rt, file)?;
-    check(rt.alloc(), &rules, input, out)?;
-    Ok(Outcome::Clean)
-}
-
-/// The same, and tells of the rules by their lines.
-fn check_explaining<R: Files + AllocGlobal, S: Source, O: Sink>(
-    rt: &R,
-    file: &str,
-    input: &mut S,
-    out: &mut O,
-) -> Result<Outcome, Cause>
-    ensures { AnswersFile S.may_give (LoadsFile ⟦<StdSource<R::File> as Source>⟧.may_give) O.may_take (explained_text_of file.entry.now)
-        input.old out.old result input.new out.new }
-{
-    let rules = rule_text_of_file(rt, file)?;
-    check_explained(rt.alloc(), file.as_bytes(), &rules, input, out)?;
-    Ok(Outcome::Clean)
-}
-
-fn check_file<R: Files + AllocGlobal, S: Source, O: Sink>(
-    rt: &R,
-    asked: &CheckRequest<'_>,
-    input: &mut S,
-    out: &mut O,
-) -> Result<Outcome, Cause>
-    ensures { AnswersFile S.may_give (LoadsFile ⟦<StdSource<R::File> as Source>⟧.may_give) O.may_take (text_asked asked.now)
-        input.old out.old result input.new out.new }
-{
-    if asked.explain {
-        check_explaining(rt, asked.file, input, out)
-    } else {
-        check_plainly(rt, asked.file, input, out)
-    }
-}
-
-/// Checks the paths of the input by the rules before them.
-fn check_input<S: Source, O: Sink>(
-    alloc: Global,
-    input: &mut S,
-    out: &mut O,
-) -> Result<Outcome, Cause>
-    ensures { AnswersJoined S.may_give O.may_take input.old out.old result input.new out.new }
-{
-    check_joined(alloc, input, out)?;
-    Ok(Outcome::Clean)
-}
-
-/// The rules of the file that the words name for the whole tree, if they name one.
-fn excluded<R: Files + AllocGlobal>(
-    rt: &R,
-    file: Option<&str>,
-) -> Result<Option<Arc<IgnoreFile, Global>>, Cause>
-    ensures { AnswersExcluded (LoadsFile ⟦<StdSource<R::File> as Source>⟧.may_give) file.entry result }
-{
-    let Some(file) = file else {
-        return Ok(None);
-    };
-    let rules = rules_of_file(rt, file)?;
-    Ok(Some(Arc::new(rt.alloc(), rules)?))
-}
-
-/// Counts a directory of the system.
-fn count<R: Files + Threads + Wait + Sync + AllocGlobal, O: Sink>(
-    rt: &R,
-    asked: &CountRequest<'_>,
-    out: &mut O,
-) -> Result<Outcome, Cause>
-where
-    R::File: Send,
-    R::Dir: Send,
-    requires limits { IsCountWithinLimits asked.now }
-    ensures { AnswersCount (LoadsFile ⟦<StdSource<R::File> as Source>⟧.may_give) O.may_take asked.now out.old result out.new }
-{
-    let exclude = excluded(rt, asked.exclude_from)?;
-    let tree = SysTree::new(rt, rt.alloc(), asked.directory)?;
-    let options = Options {
-        threads: asked.threads,
-        max_dirs: asked.max_dirs,
-        files: asked.files,
-        exclude,
-        archive: asked.archive,
-        without: asked.without.as_slice(),
-    };
-    let outcome = run(rt, rt.alloc(), &tree, &options, asked.shape, out)?;
-    Ok(outcome)
-}
-
-fn answer<R: Files + Threads + Wait + Sync + AllocGlobal, S: Source, O: Sink>(
-    rt: &R,
-    request: &Request<'_>,
-    input: &mut S,
-    out: &mut O,
-) -> Result<Outcome, Cause>
-where
-    R::File: Send,
-    R::Dir: Send,
-    requires limits { IsWithinLimits request.now }
-    ensures { AnswersRequest S.may_give (LoadsFile ⟦<StdSource<R::File> as Source>⟧.may_give) O.may_take request.now
-        input.old out.old result input.new out.new }
-{
-    match request {
-        Request::CheckJoined => check_input(rt.alloc(), input, out),
-        Request::Check(asked) => check_file(rt, asked, input, out),
-        Request::Count(asked) => count(rt, asked, out),
-    }
-}
-
 /// The program but for its streams and its status.
 fn end_of<R: Files + Threads + Wait + Sync + AllocGlobal, W: AsStr, S: Source, O: Sink, E: Sink>(
     rt: &R,
@@ -241,13 +116,15 @@ where
     }
 }
 
-/// The whole program but for its streams, given the words after its name. It gives the status: 0 done, 1 the table that was
-/// written has a fault, 2 the words are refused, 3 it gave up, with one line on `err`.
+/// The whole program but for its streams, given the words after its name. It gives the status: 0 done, 1 the answer that was
+/// written tells of a fault, 2 the words are refused, 3 it gave up, with one line on `err`.
 ///
-/// - no words: `input` has the lines of an ignore file, then a line `--`, then paths ([`check_joined`]);
-/// - `check FILE`: the rules are those of FILE, which is read first, and `input` has the paths ([`check`]; with `--explain`
-///   [`check_explained`]);
-/// - `count DIR`: the table of a directory of the system ([`run`]); a file of `--exclude-from` is read before the walk.
+/// - no words: `input` has the lines of an ignore file, then a line `--`, then paths ([`check_joined`](lc_text::check_joined));
+/// - `check FILE`: the rules are those of FILE, which is read first, and `input` has the paths ([`check`](lc_text::check); with
+///   `--explain` [`check_explained`](lc_text::check_explained));
+/// - `count DIR`: the table of a directory of the system ([`run`](lc_table::run)); a file of `--exclude-from` is read before the walk;
+/// - `explain DIR`: what the rules of a directory of the system say of the paths of `input` ([`explain`](lc_explain::explain)), or of
+///   those among the words.
 pub fn program<
     R: Files + Threads + Wait + Sync + AllocGlobal,
     W: AsStr,

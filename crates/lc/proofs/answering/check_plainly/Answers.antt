@@ -1,7 +1,7 @@
 use Rattle.std.proofs.Common.{ap, inl, sym}
 use Rattle.lc.proofs.Loading.{fault_replied}
 use Rattle.lc.specs.Requests.{checked}
-use Rattle.lc.proofs.program.check_plainly.Goals as goal
+use Rattle.lc.proofs.answering.check_plainly.Goals as goal
 
 pub returns-in_err-check : goal.returns-in_err-check
 returns-in_err-check g c =

@@ -1,0 +1,203 @@
+//! What a request is answered, by what it reads.
+
+ghost use Rattle.std.specs.Prelude.{◌≡◌, IfOk, option_map};
+ghost use Rattle.lc_arguments.specs.Words.{IsWithinLimits, IsCountWithinLimits};
+ghost use Rattle.lc_level.specs.RuleReads.{shared};
+ghost use Rattle.lc_rules.specs.IgnoreRules.{rules_of};
+ghost use Rattle.lc_text.specs.ExplainedText.{explained_text_of};
+ghost use Rattle.lc.specs.Requests.{LoadsFile, AnswersExcluded, AnswersFile, AnswersJoined, AnswersCount, AnswersRequest};
+ghost use Rattle.lc.specs.Requests.{AnswersPaths, AnswersExplanation, text_asked, text_by_bytes};
+
+use crate::cause::Cause;
+use crate::rules_file::rule_text_of_file;
+use lc_arguments::{CheckRequest, CountRequest, ExplainRequest, Request};
+use lc_census::{Source, StdSource};
+use lc_explain::{Question, explain, explain_words};
+use lc_rules::IgnoreFile;
+use lc_table::run;
+use lc_text::{Outcome, RuleText, Sink, check, check_explained, check_joined};
+use lc_tree::SysTree;
+use lc_walk::{Lists, Options};
+use std::alloc::{AllocError, Global};
+use std::rt::Files;
+use std::sync::{Arc, Wait};
+use std::thread::Threads;
+
+/// Reads the rules of a file, and checks the paths of the input.
+fn check_plainly<R: Files + AllocGlobal, S: Source, O: Sink>(
+    rt: &R,
+    file: &str,
+    input: &mut S,
+    out: &mut O,
+) -> Result<Outcome, Cause>
+    ensures { AnswersFile S.may_give (LoadsFile ⟦<StdSource<R::File> as Source>⟧.may_give) O.may_take text_by_bytes
+        input.old out.old result input.new out.new }
+{
+    let rules = rule_text_of_file(rt, file)?;
+    check(rt.alloc(), rules.rules(), input, out)?;
+    Ok(Outcome::Clean)
+}
+
+/// The same, and tells of the rules by their lines.
+fn check_explaining<R: Files + AllocGlobal, S: Source, O: Sink>(
+    rt: &R,
+    file: &str,
+    input: &mut S,
+    out: &mut O,
+) -> Result<Outcome, Cause>
+    ensures { AnswersFile S.may_give (LoadsFile ⟦<StdSource<R::File> as Source>⟧.may_give) O.may_take (explained_text_of file.entry.now)
+        input.old out.old result input.new out.new }
+{
+    let rules = rule_text_of_file(rt, file)?;
+    check_explained(rt.alloc(), file.as_bytes(), &rules, input, out)?;
+    Ok(Outcome::Clean)
+}
+
+fn check_file<R: Files + AllocGlobal, S: Source, O: Sink>(
+    rt: &R,
+    asked: &CheckRequest<'_>,
+    input: &mut S,
+    out: &mut O,
+) -> Result<Outcome, Cause>
+    ensures { AnswersFile S.may_give (LoadsFile ⟦<StdSource<R::File> as Source>⟧.may_give) O.may_take (text_asked asked.now)
+        input.old out.old result input.new out.new }
+{
+    if asked.explain {
+        check_explaining(rt, asked.file, input, out)
+    } else {
+        check_plainly(rt, asked.file, input, out)
+    }
+}
+
+/// Checks the paths of the input by the rules before them.
+fn check_input<S: Source, O: Sink>(
+    alloc: Global,
+    input: &mut S,
+    out: &mut O,
+) -> Result<Outcome, Cause>
+    ensures { AnswersJoined S.may_give O.may_take input.old out.old result input.new out.new }
+{
+    check_joined(alloc, input, out)?;
+    Ok(Outcome::Clean)
+}
+
+/// The file that the words name for the whole tree, if they name one.
+fn excluded<R: Files + AllocGlobal>(
+    rt: &R,
+    file: Option<&str>,
+) -> Result<Option<RuleText>, Cause>
+    ensures { AnswersExcluded (LoadsFile ⟦<StdSource<R::File> as Source>⟧.may_give) file.entry result }
+{
+    let Some(file) = file else {
+        return Ok(None);
+    };
+    let rules = rule_text_of_file(rt, file)?;
+    Ok(Some(rules))
+}
+
+/// Its rules.
+fn rules_in(text: &Option<RuleText>) -> Result<Option<Arc<IgnoreFile, Global>>, AllocError>
+    ensures { IfOk result (λ rules. shared rules ≡ option_map rules_of text.now) }
+{
+    match text {
+        None => Ok(None),
+        Some(text) => Ok(Some(text.shared_rules()?)),
+    }
+}
+
+/// Counts a directory of the system.
+fn count<R: Files + Threads + Wait + Sync + AllocGlobal, O: Sink>(
+    rt: &R,
+    asked: &CountRequest<'_>,
+    out: &mut O,
+) -> Result<Outcome, Cause>
+where
+    R::File: Send,
+    R::Dir: Send,
+    requires limits { IsCountWithinLimits asked.now }
+    ensures { AnswersCount (LoadsFile ⟦<StdSource<R::File> as Source>⟧.may_give) O.may_take asked.now out.old result out.new }
+{
+    let text = excluded(rt, asked.exclusions.from)?;
+    let exclude = rules_in(&text)?;
+    let tree = SysTree::new(rt, rt.alloc(), asked.directory)?;
+    let options = Options {
+        threads: asked.threads,
+        max_dirs: asked.max_dirs,
+        lists: Lists {
+            files: asked.files,
+            left_out: asked.left_out,
+        },
+        exclude,
+        archive: asked.exclusions.archive,
+        without: asked.exclusions.without.as_slice(),
+    };
+    let outcome = run(rt, rt.alloc(), &tree, &options, asked.shape, out)?;
+    Ok(outcome)
+}
+
+/// Explains these paths in a directory of the system, or those of the input where there are none.
+fn explain_paths<R: Files + Sync + AllocGlobal, S: Source, O: Sink>(
+    rt: &R,
+    tree: &SysTree<'_, R>,
+    question: &Question<'_>,
+    paths: &[&str],
+    input: &mut S,
+    out: &mut O,
+) -> Result<Outcome, Cause>
+where
+    R::File: Send,
+    R::Dir: Send,
+    ensures { AnswersPaths S.may_give O.may_take question.now paths.now input.old out.old result input.new out.new }
+{
+    if paths.is_empty() {
+        let outcome = explain(rt.alloc(), tree, question, input, out)?;
+        return Ok(outcome);
+    }
+    let outcome = explain_words(rt.alloc(), tree, question, paths, out)?;
+    Ok(outcome)
+}
+
+/// Explains paths in a directory of the system.
+fn explain_asked<R: Files + Sync + AllocGlobal, S: Source, O: Sink>(
+    rt: &R,
+    asked: &ExplainRequest<'_>,
+    input: &mut S,
+    out: &mut O,
+) -> Result<Outcome, Cause>
+where
+    R::File: Send,
+    R::Dir: Send,
+    ensures { AnswersExplanation S.may_give (LoadsFile ⟦<StdSource<R::File> as Source>⟧.may_give) O.may_take asked.now
+        input.old out.old result input.new out.new }
+{
+    let text = excluded(rt, asked.exclusions.from)?;
+    let tree = SysTree::new(rt, rt.alloc(), asked.directory)?;
+    let question = Question {
+        exclude: text,
+        archive: asked.exclusions.archive,
+        without: &asked.exclusions.without,
+    };
+    explain_paths(rt, &tree, &question, &asked.paths, input, out)
+}
+
+/// Answers a request.
+pub(crate) fn answer<R: Files + Threads + Wait + Sync + AllocGlobal, S: Source, O: Sink>(
+    rt: &R,
+    request: &Request<'_>,
+    input: &mut S,
+    out: &mut O,
+) -> Result<Outcome, Cause>
+where
+    R::File: Send,
+    R::Dir: Send,
+    requires limits { IsWithinLimits request.now }
+    ensures { AnswersRequest S.may_give (LoadsFile ⟦<StdSource<R::File> as Source>⟧.may_give) O.may_take request.now
+        input.old out.old result input.new out.new }
+{
+    match request {
+        Request::CheckJoined => check_input(rt.alloc(), input, out),
+        Request::Check(asked) => check_file(rt, asked, input, out),
+        Request::Count(asked) => count(rt, asked, out),
+        Request::Explain(asked) => explain_asked(rt, asked, input, out),
+    }
+}
