@@ -1,6 +1,7 @@
 """docs/RULES.md, docs/OUTPUT.md and the census once more, by regular expressions: what tools/test-fuzz compares the program with."""
 
 import re
+from typing import NamedTuple
 
 MOST_RULES = 1 << 20
 CLASSES = {
@@ -147,19 +148,6 @@ def rule_lines(text):
     return rules
 
 
-def rules_of(text):
-    """The rules of an ignore file: whether each is negated, and its pattern."""
-    return [rule[2:] for rule in rule_lines(text)]
-
-
-def verdict_of(rules, path, is_dir):
-    """`rules` are triples: how many bytes of the path its file doesn't see, whether negated, and the pattern."""
-    for offset, negated, pattern in reversed(rules):
-        if pattern.matches(path[offset:], is_dir):
-            return b"included" if negated else b"ignored"
-    return b"none"
-
-
 def escaped(text):
     return b"".join(b"\\\\" if b == 92 else b"\\x%02x" % b if b < 32 or b == 127 else bytes([b]) for b in text)
 
@@ -286,27 +274,61 @@ class Fault(Exception):
     """What can't be read of a directory, by its path."""
 
 
-class Walk:
-    """The recursive walk of a tree: a dictionary of names, a folder a dictionary, a file its bytes, anything else None.
+class Rule(NamedTuple):
+    """A rule of a tree: how many bytes of a path its file doesn't see, where it stands, the text of its line, what it means."""
+
+    offset: int
+    place: bytes
+    text: bytes
+    negated: bool
+    pattern: Pattern
+
+    def matches(self, path, is_dir):
+        return self.pattern.matches(path[self.offset:], is_dir)
+
+
+def rules_in_file(text, offset, name):
+    return [Rule(offset, name + b":%d" % number, *rest) for number, *rest in rule_lines(text)]
+
+
+def deciding_rule(rules, path, is_dir):
+    """The last of the rules of a tree that matches, if any does."""
+    return next((rule for rule in reversed(rules) if rule.matches(path, is_dir)), None)
+
+
+class Here(NamedTuple):
+    """What holds in a directory: the rules, the attribute lines and the macros, its own among them."""
+
+    rules: list
+    lines: list
+    macros: dict
+
+
+BUILT_IN = {b"binary": [(b"diff", b"unset"), (b"merge", b"unset"), (b"text", b"unset")]}
+
+
+class Tree:
+    """A tree: a dictionary of names, a folder a dictionary, a file its bytes, anything else None.
 
     `without` has attributes: what has one of them Set is left out. `failing` has what can't be read: pairs of "list" and a directory's
     path, "rules" or "count" and a file's.
     """
 
     def __init__(self, tree, without=(), exclude=b"", failing=()):
-        self.files, self.faults, self.directories, self.without, self.failing = [], [], 0, without, failing
-        try:
-            info = self.info_of(tree)
-            rules = [(0, *rule) for text in (exclude, self.rules_in(info, b".git/info/", b"exclude")) for rule in rules_of(text)]
-            self.info, self.macros = attribute_lines(self.rules_in(info, b".git/info/", b"attributes"), True)
-        except Fault as fault:
-            self.faults.append(fault.args[0])
-            return
-        self.walk(tree, b"", rules, [], {b"binary": [(b"diff", b"unset"), (b"merge", b"unset"), (b"text", b"unset")]})
+        self.tree, self.without, self.exclude, self.failing = tree, without, exclude, failing
+        self.info, self.info_macros = [], {}
 
-    def info_of(self, tree):
+    def top(self):
+        """What holds in the top."""
+        info = self.info_of()
+        rules = rules_in_file(self.exclude, 0, b"--exclude-from")
+        rules += rules_in_file(self.rules_in(info, b".git/info/", b"exclude"), 0, b".git/info/exclude")
+        self.info, self.info_macros = attribute_lines(self.rules_in(info, b".git/info/", b"attributes"), True)
+        return self.inside(self.tree, b"", Here(rules, [], BUILT_IN))
+
+    def info_of(self):
         """The entries of .git/info, none where that is no directory."""
-        found = tree
+        found = self.tree
         for path, name in ((b".", b".git"), (b".git", b"info"), (b".git/info", None)):
             self.ask("list", path)
             if name is not None:
@@ -325,35 +347,111 @@ class Walk:
         self.ask("rules", above + name)
         return entries[name]
 
-    def walk(self, entries, above, rules, lines, macros):
+    def inside(self, entries, above, here):
+        """What holds in a directory that stands in one where `here` holds."""
+        self.ask("list", above[:-1] or b".")
+        rule_file, attribute_file = (self.rules_in(entries, above, name) for name in (b".gitignore", b".gitattributes"))
+        offset = len(above)
+        own, own_macros = attribute_lines(attribute_file, not above)
+        return Here(here.rules + rules_in_file(rule_file, offset, escaped(above) + b".gitignore"),
+                    here.lines + [(offset, *line) for line in own], {**here.macros, **own_macros})
+
+    def states(self, here, path, is_dir):
+        return attributes_of(here.lines + [(0, *line) for line in self.info], {**here.macros, **self.info_macros}, path, is_dir)
+
+    def reason(self, here, path, is_dir, is_other):
+        """Why an entry is left out, as two fields of a line, or None; and the rule that decides, if one does."""
+        if path.rpartition(b"/")[2] == b".git":
+            return (b"git", b"-"), None
+        rule = deciding_rule(here.rules, path, is_dir)
+        if rule and not rule.negated:
+            return (b"rule", rule.place), rule
+        states = self.states(here, path, is_dir)
+        attribute = next((it for it in self.without if states.get(it) == b"set"), None)
+        if attribute is not None:
+            return (b"attribute", attribute), rule
+        return (b"other", b"-") if is_other else None, rule
+
+
+class Explained(Tree):
+    """What `lc explain` says of paths."""
+
+    def text(self, lines):
+        """What is printed of these lines of paths. What failed once is read where it is asked for again."""
+        printed = []
+        for line in lines:
+            printed.append(self.line(line))
+            if printed[-1].startswith(b"fault"):
+                self.failing = ()
+        return b"".join(printed)
+
+    def line(self, line):
+        """What is printed of a line of paths."""
+        path = line[:-1] if line.endswith(b"/") else line
+        names = path.split(b"/")
+        if len(path) > 4096 or b"\0" in path or any(it in (b"", b".", b"..") for it in names):
+            found = [b"bad", b"-", b"-"]
+        else:
+            try:
+                found = self.found(names, line.endswith(b"/"))
+            except Fault as fault:
+                return b"\t".join([b"fault", b"read", b"-", escaped(fault.args[0])]) + b"\n"
+        return b"\t".join([*found, escaped(line)]) + b"\n"
+
+    def found(self, names, as_dir):
+        here, entries = self.top(), self.tree
+        for number, name in enumerate(names, 1):
+            path, is_last = b"/".join(names[:number]), number == len(names)
+            there = entries.get(name, b"")
+            is_dir = isinstance(there, dict) or there is not None and (as_dir or not is_last)
+            reason, rule = self.reason(here, path, is_dir, there is None)
+            if reason and reason[0] == b"rule":
+                return [b"ignored" if is_last else b"below", rule.place, escaped(rule.text)]
+            if reason:
+                return [b"left", b":".join(reason) if reason[0] == b"attribute" else reason[0], b"-"]
+            if not is_last:
+                entries = there if isinstance(there, dict) else {}
+                here = self.inside(entries, path + b"/", here) if isinstance(there, dict) else here
+        return [b"included", rule.place, escaped(rule.text)] if rule else [b"none", b"-", b"-"]
+
+
+class Walk(Tree):
+    """The recursive walk of a tree."""
+
+    def __init__(self, tree, without=(), exclude=b"", failing=()):
+        super().__init__(tree, without, exclude, failing)
+        self.files, self.faults, self.left, self.directories, self.entries = [], [], [], 0, 0
         try:
-            self.ask("list", above[:-1] or b".")
-            rule_file, attribute_file = (self.rules_in(entries, above, name) for name in (b".gitignore", b".gitattributes"))
+            here = self.top()
         except Fault as fault:
             self.faults.append(fault.args[0])
             return
-        offset = len(above)
-        own, own_macros = attribute_lines(attribute_file, not above)
-        rules = rules + [(offset, *rule) for rule in rules_of(rule_file)]
-        self.level(entries, above, rules, lines + [(offset, *line) for line in own], {**macros, **own_macros})
+        self.level(tree, b"", here)
 
-    def level(self, entries, above, rules, lines, macros):
+    def walk(self, entries, above, here):
+        try:
+            here = self.inside(entries, above, here)
+        except Fault as fault:
+            self.faults.append(fault.args[0])
+            return
+        self.level(entries, above, here)
+
+    def level(self, entries, above, here):
         self.directories += 1
+        self.entries += len(entries)
         for name, entry in entries.items():
             path, is_dir = above + name, isinstance(entry, dict)
-            if name == b".git" or entry is None or verdict_of(rules, path, is_dir) == b"ignored":
-                continue
-            states = attributes_of(lines + [(0, *line) for line in self.info], {**macros, **self.macros}, path, is_dir)
-            if any(states.get(attribute) == b"set" for attribute in self.without):
-                continue
-            if is_dir:
-                self.walk(entry, path + b"/", rules, lines, macros)
+            reason, _ = self.reason(here, path, is_dir, entry is None)
+            if reason:
+                self.left.append((path, path + b"/" if is_dir and name != b".git" else path, *reason))
+            elif is_dir:
+                self.walk(entry, path + b"/", here)
             elif ("count", path) in self.failing:
                 self.faults.append(path)
             else:
-                self.files.append((path, text_state(states.get(b"text", b"unspecified")), *census(entry)))
+                self.files.append((path, text_state(self.states(here, path, is_dir).get(b"text", b"unspecified")), *census(entry)))
 
-    def table(self):
+    def table(self, left_out=False):
         rows, total = {}, [0, 0, 0, 0]
         for path, text, lines, blank, size, eol in self.files:
             found = extension(path)
@@ -369,7 +467,11 @@ class Walk:
             out.append(b"\t".join([word, key[4].encode(), key[5].encode(), *(b"%d" % it for it in rows[key])]))
         out.append(b"\t".join([b"total", b"*", b"*", *(b"%d" % it for it in total)]))
         out.append(b"directories\t%d" % self.directories)
+        if left_out:
+            out.append(b"entries\t%d" % self.entries)
         for path, text, lines, blank, size, eol in sorted(self.files):
             out.append(b"\t".join([b"file", text.encode(), eol.encode(), *(b"%d" % it for it in (lines, blank, size)), escaped(path)]))
+        if left_out:
+            out += [b"\t".join([b"left", why, where, escaped(printed)]) for _, printed, why, where in sorted(self.left)]
         out += [b"fault\tread\t" + escaped(path) for path in sorted(self.faults)]
         return b"\n".join(out) + b"\n"
