@@ -4,7 +4,7 @@ _lc() {
   local current=${COMP_WORDS[COMP_CWORD]} option=${COMP_WORDS[COMP_CWORD - 1]}
   COMPREPLY=()
   if [ "$COMP_CWORD" -eq 1 ]; then
-    mapfile -t COMPREPLY < <(compgen -W 'count check help --help --version' -- "$current")
+    mapfile -t COMPREPLY < <(compgen -W 'count explain check help --help --version' -- "$current")
     return
   fi
   # bash takes the = of --threads=8 as a word
@@ -14,19 +14,24 @@ _lc() {
     option=${COMP_WORDS[COMP_CWORD - 2]}
   fi
   case ${COMP_WORDS[1]} in
-    count)
+    count | explain)
       case $option in
         --threads) mapfile -t COMPREPLY < <(compgen -W '1 2 4 8 16' -- "$current") ;;
         --max-dirs) mapfile -t COMPREPLY < <(compgen -W '65536 1048576' -- "$current") ;;
         --without) mapfile -t COMPREPLY < <(compgen -W 'linguist-vendored linguist-generated linguist-documentation' -- "$current") ;;
-        --format) mapfile -t COMPREPLY < <(compgen -W 'tsv json' -- "$current") ;;
+        --format) mapfile -t COMPREPLY < <(compgen -W 'tsv table json' -- "$current") ;;
         --by) mapfile -t COMPREPLY < <(compgen -W 'ext text eol ext,text ext,eol text,eol' -- "$current") ;;
         --sort) mapfile -t COMPREPLY < <(compgen -W 'files lines blank bytes' -- "$current") ;;
         --exclude-from) mapfile -t COMPREPLY < <(compgen -f -- "$current") ;;
         *)
-          case $current in
-            -*) mapfile -t COMPREPLY < <(compgen -W '--threads --max-dirs --files --archive --without --exclude-from --format --by --sort --help' -- "$current") ;;
-            *) mapfile -t COMPREPLY < <(compgen -d -- "$current") ;;
+          local options='--exclude-from --archive --without --help'
+          if [ "${COMP_WORDS[1]}" = count ]; then
+            options+=' --files --left-out --format --by --sort --threads --max-dirs'
+          fi
+          case ${COMP_WORDS[1]}$current in
+            count-* | explain-*) mapfile -t COMPREPLY < <(compgen -W "$options" -- "$current") ;;
+            count*) mapfile -t COMPREPLY < <(compgen -d -- "$current") ;;
+            *) mapfile -t COMPREPLY < <(compgen -f -- "$current") ;;
           esac
           ;;
       esac
@@ -37,7 +42,7 @@ _lc() {
         *) mapfile -t COMPREPLY < <(compgen -f -- "$current") ;;
       esac
       ;;
-    help) mapfile -t COMPREPLY < <(compgen -W 'count check' -- "$current") ;;
+    help) mapfile -t COMPREPLY < <(compgen -W 'count explain check' -- "$current") ;;
   esac
 }
 
