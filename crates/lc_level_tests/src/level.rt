@@ -1,6 +1,8 @@
 //! What one directory's work answers for trees of memory.
 
 mod deep;
+mod entering;
 mod faults;
+mod left_out;
 mod levels;
 mod work;

@@ -1,6 +1,6 @@
 //! What is too long or too deep for a walk.
 
-use crate::level::work::{Asked, Level, check, open, top};
+use crate::level::work::{Asked, Level, NOTHING, check, open, top};
 use lc_level::{Cause, Job, LevelReader, Scratch, Selection, Unlisted};
 use lc_tree::{MemTree, Node, Sketch};
 use std::alloc::{AllocError, Global};
@@ -55,7 +55,7 @@ fn nested(alloc: Global, depth: u32) -> Result<Node, AllocError> {
 /// Goes down to the directory from which no other is reached, and says how deep it is and how it ended.
 fn descend(alloc: Global, tree: &MemTree) -> Result<(u32, Option<Unlisted>), AllocError> {
     let mut scratch = Scratch::new(alloc)?;
-    let levels = LevelReader::new(alloc, tree, Selection::new(false, &[]));
+    let levels = LevelReader::new(alloc, tree, Selection::new(false, &[]), NOTHING);
     let mut job = Job::top(alloc, None)?;
     for depth in 0..300 {
         match open(&levels, &job, &mut scratch)? {

@@ -1,6 +1,6 @@
 //! One directory's work on a sketch, and what is wanted of it.
 
-use lc_level::{Cause, CountedFiles, Job, LevelReader, Opened, Scratch, Selection, Unlisted};
+use lc_level::{Cause, CountedFiles, Job, Kept, LevelReader, Opened, Scratch, Selection, Unlisted};
 use lc_rules::{IgnoreFile, RuleFault, TextState};
 use lc_tree::{FaultWord, MemTree, Sketch};
 use std::alloc::{AllocError, Global};
@@ -18,6 +18,12 @@ pub(crate) struct Asked<'a> {
     pub(crate) archive: bool,
     pub(crate) without: &'a [&'a str],
 }
+
+/// Nothing beside what a count needs.
+pub(crate) const NOTHING: Kept = Kept {
+    left_out: false,
+    texts: false,
+};
 
 /// The names of the counted files with their text states, those of the others with their faults, and the child directories.
 #[derive(Clone, Copy)]
@@ -64,7 +70,7 @@ pub(crate) fn open(
 }
 
 /// The job of the directory that is asked about.
-fn job_of(
+pub(crate) fn job_of(
     alloc: Global,
     levels: &LevelReader<MemTree>,
     asked: &Asked,
@@ -90,6 +96,7 @@ fn job_of(
 struct Found {
     counted: CountedFiles,
     children: Vec<Vec<u8>>,
+    left_out: usize,
 }
 
 /// Opens the directory of the job and counts its files.
@@ -108,14 +115,19 @@ fn work(
         job,
         files,
         children,
+        left,
+        ..
     } = opened;
     let mut names = Vec::new(alloc);
     for child in children {
         names.push(child.name)?;
     }
     let counted = levels.count(&job, files, scratch)?;
-    let children = names;
-    Ok(Ok(Found { counted, children }))
+    Ok(Ok(Found {
+        counted,
+        children: names,
+        left_out: left.len(),
+    }))
 }
 
 fn are_files(found: &CountedFiles, wanted: &[(&[u8], TextState)]) -> bool {
@@ -145,13 +157,14 @@ fn is_wanted(found: &Result<Found, Unlisted>, wanted: &Result<Level, Unlisted>) 
             are_files(&found.counted, level.files)
                 && are_faults(&found.counted, level.faults)
                 && are_children(&found.children, level.children)
+                && found.left_out == 0
         }
         (Err(unlisted), Err(wanted)) => unlisted == wanted,
         (Ok(_), Err(_)) | (Err(_), Ok(_)) => false,
     }
 }
 
-/// Works on the directory, and compares.
+/// Works on the directory with nothing kept, and compares.
 pub(crate) fn check(
     rt: &impl Abort,
     alloc: Global,
@@ -162,7 +175,7 @@ pub(crate) fn check(
     let node = asked.tree.node(alloc)?;
     let tree = MemTree::new(&node);
     let selection = Selection::new(asked.archive, asked.without);
-    let levels = LevelReader::new(alloc, &tree, selection);
+    let levels = LevelReader::new(alloc, &tree, selection, NOTHING);
     let mut scratch = Scratch::new(alloc)?;
     let Some(job) = job_of(alloc, &levels, &asked, &mut scratch)? else {
         assert!(rt; false, "{case}: no such directory");
