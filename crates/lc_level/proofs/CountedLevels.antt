@@ -1,15 +1,16 @@
 -- The level of a directory, by what opening it and counting its files answered.
-use Rattle.std.proofs.Common.{◌≡◌, ℕ, Bool, true, false, ◌&&◌, ◌||◌, cond, List, [], ◌∷◌, ◌++◌, refl, sym, ◌∙◌, ap, subst, Some, Result}
-use Rattle.std.proofs.Common.{Ok, bytes_eq, codes}
+use Rattle.std.proofs.Common.{◌≡◌, ℕ, Bool, true, false, ◌&&◌, ◌||◌, cond, List, [], ◌∷◌, ◌++◌, length, refl, sym, ◌∙◌, ap, subst, Some}
+use Rattle.std.proofs.Common.{Result, Ok, suc, if◌then◌else◌, bytes_eq, codes}
 use Rattle.std.specs.List.{flat_map, AllByRecursion}
 use Rattle.lc_census.specs.declared.totals.Count.{Count}
 use Rattle.lc_glob.specs.Path.{path_in}
 use Rattle.lc_level.specs.Answers.{Item, file_item, directory_item, other_item, Items, Answers, entry_of, entries_of}
 use Rattle.lc_level.specs.CountedNames.{AreCounted, file_fates, IsCounted}
 use Rattle.lc_level.specs.Job.{JobModel}
-use Rattle.lc_level.specs.LeftIn.{kept_file, kept_directory, bytes_of}
-use Rattle.lc_level.specs.Level.{Fate, IsLevelOf, level, level_of, level_after, level_of_items, is_taken}
-use Rattle.lc_level.specs.Level.{file_fate, fates_of, counted_of, failed_of, counted_in, failed_in}
+use Rattle.lc_level.specs.Laws.{parts_with}
+use Rattle.lc_level.specs.LeftIn.{kept_file, kept_directory, left_entry, bytes_of}
+use Rattle.lc_level.specs.Level.{Fate, LeftModel, IsLevelOf, level, level_of, level_after, level_of_items, is_taken}
+use Rattle.lc_level.specs.Level.{file_fate, fates_of, counted_of, failed_of, counted_in, failed_in, left_in}
 use Rattle.lc_level.specs.Selection.{SelectionModel}
 use Rattle.lc_tree.specs.Listing.{EntryModel, IsListing}
 use Rattle.lc_level.specs.Tidy.{IsTidy, listed_in}
@@ -20,8 +21,8 @@ use Rattle.lc_level.specs.TreeAnswers.{MayHave, MayList, MayAnswer, items_of}
 use Rattle.lc_tree.specs.Trees.{Listings, Contents, MayCount}
 use Rattle.lc_level.specs.declared.counting.CountedFiles.{CountedFiles}
 use Rattle.lc_level.specs.declared.opening.Opened.{Opened}
-use Rattle.lc_level.proofs.Fates.{counted_by, fault_by, files_by, faults_by, children_by, counted_items_are, failed_items_are}
-use Rattle.lc_level.proofs.Fates.{walked_items_are}
+use Rattle.lc_level.proofs.Fates.{counted_by, fault_by, files_by, faults_by, children_by, left_by_item}
+use Rattle.lc_level.proofs.Fates.{counted_items_are, failed_items_are, walked_items_are, left_items_are}
 use Rattle.lc_tree.specs.declared.fault_word.FaultWord.{FaultWord}
 
 abbrev Results : Type 0
@@ -79,6 +80,27 @@ module _ (s : SelectionModel) (k : JobModel) where
   same_children (directory_item n ∷ items) rs = ap (λ l. children_by s k (directory_item n) ++ l) (same_children items rs)
   same_children (other_item n ∷ items) rs = same_children items rs
 
+  -- and what is left out
+  pub same_left : (items : List Item) (rs : Results)
+      → flat_map (left_by_item s k) (counted_items items rs) ≡ flat_map (left_by_item s k) items
+  same_left [] rs = refl
+  same_left (file_item n c rules ∷ items) rs =
+      ap (λ l. left_by_item s k (file_item n c rules) ++ l) (same_left items (results_after (is_taken s k n false) rs))
+  same_left (directory_item n ∷ items) rs = ap (λ l. left_by_item s k (directory_item n) ++ l) (same_left items rs)
+  same_left (other_item n ∷ items) rs = ap (λ l. left_by_item s k (other_item n) ++ l) (same_left items rs)
+
+  -- there are as many
+  pub same_number : (items : List Item) (rs : Results) → length (counted_items items rs) ≡ length items
+  same_number [] rs = refl
+  same_number (file_item n c rules ∷ items) rs = ap suc (same_number items (results_after (is_taken s k n false) rs))
+  same_number (directory_item n ∷ items) rs = ap suc (same_number items rs)
+  same_number (other_item n ∷ items) rs = ap suc (same_number items rs)
+
+  -- each item has one fate
+  pub number_of_fates : (items : List Item) → length (fates_of s k items) ≡ length items
+  number_of_fates [] = refl
+  number_of_fates (item ∷ items) = ap suc (number_of_fates items)
+
   abbrev kept_names : List Item → List (List ℕ)
   kept_names items = flat_map (kept_file s k) (entries_of items)
 
@@ -130,6 +152,20 @@ module _ (s : SelectionModel) (k : JobModel) where
   children_of_items (directory_item n ∷ items) = ap (λ l. kept_directory s k (entry_of (directory_item n)) ++ l) (children_of_items items)
   children_of_items (other_item n ∷ items) = children_of_items items
 
+  nothing_left : (items : List Item) → flat_map (left_entry false s k) (entries_of items) ≡ []
+  nothing_left [] = refl
+  nothing_left (item ∷ items) = nothing_left items
+
+  all_left : (items : List Item) → flat_map (left_by_item s k) items ≡ flat_map (left_entry true s k) (entries_of items)
+  all_left [] = refl
+  all_left (item ∷ items) = ap (λ l. left_by_item s k item ++ l) (all_left items)
+
+  -- the entries that are left out are kept where they are asked for
+  pub left_of_items : (left_out : Bool) (items : List Item)
+      → (if left_out then flat_map (left_by_item s k) items else []) ≡ flat_map (left_entry left_out s k) (entries_of items)
+  left_of_items true items = all_left items
+  left_of_items false items = sym (nothing_left items)
+
   -- a tree may have the items so
   may_one : (gives : List ℕ → Contents) (n : List ℕ) (c : Result Count FaultWord) (names : List (List ℕ)) (t : Bool) (rs : Results)
       → AreCounted gives k (cond t (n ∷ []) [] ++ names) rs →
@@ -152,84 +188,101 @@ module _ (s : SelectionModel) (k : JobModel) where
   may_counted lists gives (directory_item n ∷ items) rs a m = (m.0, may_counted lists gives items rs a m.1)
   may_counted lists gives (other_item n ∷ items) rs a m = (m.0, may_counted lists gives items rs a m.1)
 
-module _ (lists : List ℕ → Listings) (gives : List ℕ → Contents) (s : SelectionModel) (j : JobModel) (o : Opened)
-    (c : IsOpened lists gives s j o) where
-  same_path : o.job.path ≡ j.path
-  same_path = ap (λ (k : JobModel). k.path) c.inside
+-- what is left out, where that is asked for
+abbrev asked : Bool → List LeftModel → List LeftModel
+asked left_out left = if left_out then left else []
 
-  here : MayList lists gives j.path (Ok c.items)
-  here = subst (λ (l : Items). MayList lists gives j.path l) c.here c.may.here
+module _ (lists : List ℕ → Listings) (gives : List ℕ → Contents) (left_out : Bool) (s : SelectionModel) (j : JobModel) (o : Opened)
+    (c : IsOpened lists gives left_out s j o) where
+  abbrev found : List Item
+  found = c.inside.items
+
+  same_path : o.job.path ≡ j.path
+  same_path = ap (λ (k : JobModel). k.path) c.inside.extends
+
+  here : MayList lists gives j.path (Ok found)
+  here = subst (λ (l : Items). MayList lists gives j.path l) c.inside.here c.inside.may.here
 
   -- before anything is counted
   pub opened_level :
-      IsLevelOf (level s j c.answers) (counted_in (fates_of s o.job c.items)) (failed_in (fates_of s o.job c.items)) o.children.items
+      IsLevelOf (level s j c.inside.answers) left_out
+      (parts_with o (counted_in (fates_of s o.job found)) (failed_in (fates_of s o.job found)))
   opened_level = record {
-    fates = fates_of s o.job c.items;
-    listed = ap (level_of s j c.answers) c.here ∙ ap (level_after s j c.items) c.read ∙ ap (level_of_items s c.items) (sym c.inside);
+    fates = fates_of s o.job found;
+    listed = ap (level_of s j c.inside.answers) c.inside.here ∙ ap (level_after s j found) c.inside.read
+        ∙ ap (level_of_items s found) (sym c.inside.extends);
     counts = refl;
     fails = refl;
-    walks = walked_items_are s o.job c.items ∙ children_of_items s o.job c.items ∙ sym c.children;
+    walks = walked_items_are s o.job found ∙ children_of_items s o.job found ∙ sym c.children;
+    leaves = ap (asked left_out) (left_items_are s o.job found) ∙ left_of_items s o.job left_out found ∙ sym c.left;
+    numbers = number_of_fates s o.job found ∙ sym c.entries;
   }
 
-  module _ (found : CountedFiles) (f : IsCounted gives o.job (bytes_of o.files.items) found) where
-    counted : AreCounted gives o.job (flat_map (kept_file s o.job) (entries_of c.items)) f.results
+  module _ (counts : CountedFiles) (f : IsCounted gives o.job (bytes_of o.files.items) counts) where
+    counted : AreCounted gives o.job (flat_map (kept_file s o.job) (entries_of found)) f.results
     counted = subst (λ (ns : List (List ℕ)). AreCounted gives o.job ns f.results) c.files f.may
 
     abbrev items : List Item
-    items = counted_items s o.job c.items f.results
+    items = counted_items s o.job found f.results
 
     abbrev answers : Answers
-    answers = record { here = Ok items; git = c.answers.git; info = c.answers.info }
+    answers = record { here = Ok items; git = c.inside.answers.git; info = c.inside.answers.info }
 
-    same_git : has_git j.path items ≡ has_git j.path c.items
-    same_git = ap (λ b. is_top j.path && b) (same_directory s o.job (codes ".git") c.items f.results)
+    same_git : has_git j.path items ≡ has_git j.path found
+    same_git = ap (λ b. is_top j.path && b) (same_directory s o.job (codes ".git") found f.results)
 
-    same_own : own_bytes j.path items ≡ own_bytes j.path c.items
+    same_own : own_bytes j.path items ≡ own_bytes j.path found
     same_own =
         ap (λ x. both_read (path_in j.path (codes ".gitignore")) x (path_in j.path (codes ".gitattributes"))
         (file_named (codes ".gitattributes") items))
-        (same_file s o.job (codes ".gitignore") c.items f.results)
-        ∙ ap (λ x. both_read (path_in j.path (codes ".gitignore")) (file_named (codes ".gitignore") c.items)
+        (same_file s o.job (codes ".gitignore") found f.results)
+        ∙ ap (λ x. both_read (path_in j.path (codes ".gitignore")) (file_named (codes ".gitignore") found)
         (path_in j.path (codes ".gitattributes")) x)
-        (same_file s o.job (codes ".gitattributes") c.items f.results)
+        (same_file s o.job (codes ".gitattributes") found f.results)
 
-    same_rules : rule_bytes j.path items answers ≡ Ok c.bytes
+    same_rules : rule_bytes j.path items answers ≡ Ok c.inside.bytes
     same_rules =
         ap (λ b. and_then (and_then (info_items b answers) info_bytes)
         (λ i. and_then (own_bytes j.path items) (λ w. Ok (record { info = i; own = w })))) same_git
-        ∙ ap (λ r. and_then (and_then (info_items (has_git j.path c.items) answers) info_bytes)
+        ∙ ap (λ r. and_then (and_then (info_items (has_git j.path found) answers) info_bytes)
         (λ i. and_then r (λ w. Ok (record { info = i; own = w })))) same_own
-        ∙ c.read
+        ∙ c.inside.read
+
+    had_git : has_git j.path items ≡ true → has_git j.path (items_of c.inside.answers.here) ≡ true
+    had_git there = ap (λ (l : Items). has_git j.path (items_of l)) c.inside.here ∙ sym same_git ∙ there
 
     may_answer : MayAnswer lists gives j.path answers
     may_answer = record {
       here = (
-        subst (λ (es : List EntryModel). lists j.path (Ok es)) (sym (same_entries s o.job c.items f.results)) here.0,
+        subst (λ (es : List EntryModel). lists j.path (Ok es)) (sym (same_entries s o.job found f.results)) here.0,
         subst (λ (p : List ℕ). AllByRecursion (MayHave lists gives p) items) same_path
-            (may_counted s o.job lists gives c.items f.results counted
-            (subst (λ (p : List ℕ). AllByRecursion (MayHave lists gives p) c.items) (sym same_path) here.1)),
+            (may_counted s o.job lists gives found f.results counted
+            (subst (λ (p : List ℕ). AllByRecursion (MayHave lists gives p) found) (sym same_path) here.1)),
       );
-      git = λ there. c.may.git (ap (λ (l : Items). has_git j.path (items_of l)) c.here ∙ sym same_git ∙ there);
-      info = λ there inside. c.may.info (ap (λ (l : Items). has_git j.path (items_of l)) c.here ∙ sym same_git ∙ there) inside;
+      git = λ there. c.inside.may.git (had_git there);
+      info = λ there within. c.inside.may.info (had_git there) within;
     }
 
     is_tidy : IsTidy answers
     is_tidy =
-        subst (λ (es : List EntryModel). IsListing es) (sym (same_entries s o.job c.items f.results))
-        (subst (λ (l : Items). IsListing (listed_in l)) c.here c.tidy)
+        subst (λ (es : List EntryModel). IsListing es) (sym (same_entries s o.job found f.results))
+        (subst (λ (l : Items). IsListing (listed_in l)) c.inside.here c.inside.tidy)
 
-    level_is : IsLevelOf (level s j answers) found.files.items found.faults.items o.children.items
+    level_is : IsLevelOf (level s j answers) left_out (parts_with o counts.files.items counts.faults.items)
     level_is = record {
       fates = fates_of s o.job items;
-      listed = ap (level_after s j items) same_rules ∙ ap (level_of_items s items) (sym c.inside);
-      counts = counted_items_are s o.job items ∙ files_of_items s o.job gives c.items f.results counted
+      listed = ap (level_after s j items) same_rules ∙ ap (level_of_items s items) (sym c.inside.extends);
+      counts = counted_items_are s o.job items ∙ files_of_items s o.job gives found f.results counted
           ∙ ap (λ ns. counted_in (file_fates o.job ns f.results)) (sym c.files) ∙ sym f.files;
-      fails = failed_items_are s o.job items ∙ faults_of_items s o.job gives c.items f.results counted
+      fails = failed_items_are s o.job items ∙ faults_of_items s o.job gives found f.results counted
           ∙ ap (λ ns. failed_in (file_fates o.job ns f.results)) (sym c.files) ∙ sym f.faults;
-      walks = walked_items_are s o.job items ∙ same_children s o.job c.items f.results ∙ children_of_items s o.job c.items ∙ sym c.children;
+      walks = walked_items_are s o.job items ∙ same_children s o.job found f.results ∙ children_of_items s o.job found ∙ sym c.children;
+      leaves = ap (asked left_out) (left_items_are s o.job items ∙ same_left s o.job found f.results)
+          ∙ left_of_items s o.job left_out found ∙ sym c.left;
+      numbers = number_of_fates s o.job items ∙ same_number s o.job found f.results ∙ sym c.entries;
     }
 
     -- once its files are counted, by answers that the tree may give
     pub counted_level : (a : Answers) × MayAnswer lists gives j.path a × IsTidy a
-        × IsLevelOf (level s j a) found.files.items found.faults.items o.children.items
+        × IsLevelOf (level s j a) left_out (parts_with o counts.files.items counts.faults.items)
     counted_level = (answers, may_answer, is_tidy, level_is)

@@ -18,6 +18,7 @@ use Rattle.lc_tree.specs.FileAnswers.{census}
 use Rattle.lc_level.specs.NodeTrees.{item_by, item_of, items_within, items_at, tree_of_node}
 use Rattle.lc_tree.specs.Listed.{listed}
 use Rattle.lc_tree.specs.MemTrees.{content_within}
+use Rattle.lc_tree.specs.declared.entry.Kind.TheVariants.{File}
 use Rattle.lc_tree.specs.declared.fault_word.FaultWord.TheVariants.{Read, Name}
 use Rattle.lc_tree.specs.Nodes.{child_within, kind_within, node_below}
 use Rattle.lc_tree.specs.declared.node.Node.{Node, roll-Node, out-roll-Node}
@@ -75,7 +76,8 @@ module _ (alloc : Global) where
   names_are = ap (names_of_listing false) top_is
 
   -- what is left out of it as an archive
-  pub archived_are : (small_names alloc true).outside ≡ small_outside ++ (codes "s", by_attribute (codes "export-ignore")) ∷ []
+  pub archived_are : (small_names alloc true).outside
+      ≡ small_outside ++ record { name = codes "s"; kind = File; reason = by_attribute (codes "export-ignore") } ∷ []
   unfolding IsMatch.is_match Decision.decide
   archived_are = ap (λ here. (names_of_listing true here).outside) top_is
 

@@ -1,13 +1,17 @@
 -- What the fates of a directory's items hold, item by item.
 use Rattle.std.proofs.Common.{◌≡◌, ℕ, true, false, cond, List, [], ◌∷◌, ◌++◌, refl, ◌∙◌, ap, Option, Some, None, Result, Ok, Err}
 use Rattle.std.specs.List.{flat_map}
-use Rattle.std.specs.Option.{is_none, option_map_or}
+use Rattle.std.specs.Option.{is_none, option_map_or, option_or}
 use Rattle.lc_census.specs.declared.totals.Count.{Count}
-use Rattle.lc_level.specs.Answers.{Item, file_item, directory_item, other_item, name_of}
+use Rattle.lc_level.specs.Answers.{Item, file_item, directory_item, other_item, name_of, entry_of}
 use Rattle.lc_level.specs.Job.{JobModel}
-use Rattle.lc_level.specs.Level.{CountedModel, FileFaultModel, Reason, other_kind, Fate, walked, left, reason_of, is_taken, child_job}
-use Rattle.lc_level.specs.Level.{file_fate, fate_of, fates_of, counted_of, failed_of, walked_of, counted_in, failed_in, walked_in}
+use Rattle.lc_level.specs.Level.{CountedModel, FileFaultModel, Reason, other_kind, LeftModel, Fate, walked, left, reason_of, reason_for}
+use Rattle.lc_level.specs.Level.{is_taken, child_job, file_fate, fate_of, fates_of, counted_of, failed_of, walked_of, left_of}
+use Rattle.lc_level.specs.Level.{counted_in, failed_in, walked_in, left_in}
+use Rattle.lc_level.specs.LeftIn.{left_by, left_entry}
 use Rattle.lc_level.specs.Selection.{SelectionModel}
+use Rattle.lc_tree.specs.declared.entry.Kind.{Kind}
+use Rattle.lc_tree.specs.declared.entry.Kind.TheVariants.{File, Dir, Other}
 use Rattle.lc_tree.specs.declared.fault_word.FaultWord.{FaultWord}
 
 -- what a file that is not left out gives
@@ -34,37 +38,65 @@ children_by s j (directory_item name) = cond (is_taken s j name true) ((name, ch
 children_by s j (other_item name) = []
 
 -- what a kept entry gives, and nothing where it is left out
-none_or : {A : Type 0} (f : List ℕ × Fate → List A) (name : List ℕ) (fate : Fate) → ((reason : Reason) → f (name, left reason) ≡ [])
-    → (o : Option Reason) → f (name, option_map_or left o fate) ≡ cond (is_none o) (f (name, fate)) []
-none_or f name fate none None = refl
-none_or f name fate none (Some reason) = none reason
+none_or : {A : Type 0} (f : List ℕ × Fate → List A) (name : List ℕ) (kind : Kind) (fate : Fate)
+    → ((reason : Reason) → f (name, left kind reason) ≡ [])
+    → (o : Option Reason) → f (name, option_map_or (left kind) o fate) ≡ cond (is_none o) (f (name, fate)) []
+none_or f name kind fate none None = refl
+none_or f name kind fate none (Some reason) = none reason
 
 -- the same of what gives nothing in either case
-nothing : {A : Type 0} (f : List ℕ × Fate → List A) (name : List ℕ) (fate : Fate) → ((reason : Reason) → f (name, left reason) ≡ [])
-    → f (name, fate) ≡ [] → (o : Option Reason) → f (name, option_map_or left o fate) ≡ []
-nothing f name fate none is None = is
-nothing f name fate none is (Some reason) = none reason
+nothing : {A : Type 0} (f : List ℕ × Fate → List A) (name : List ℕ) (kind : Kind) (fate : Fate)
+    → ((reason : Reason) → f (name, left kind reason) ≡ [])
+    → f (name, fate) ≡ [] → (o : Option Reason) → f (name, option_map_or (left kind) o fate) ≡ []
+nothing f name kind fate none is None = is
+nothing f name kind fate none is (Some reason) = none reason
+
+abbrev pub left_by_item : SelectionModel → JobModel → Item → List LeftModel
+left_by_item s j item = left_entry true s j (entry_of item)
 
 module _ (s : SelectionModel) (j : JobModel) where
   counted_one : (item : Item) → counted_of (name_of item, fate_of s j item) ≡ files_by s j item
-  counted_one (file_item n r rules) = none_or counted_of n (file_fate j n r) (λ reason. refl) (reason_of s j n false)
-  counted_one (directory_item n) = nothing counted_of n (walked (child_job j n)) (λ reason. refl) refl (reason_of s j n true)
-  counted_one (other_item n) = nothing counted_of n (left other_kind) (λ reason. refl) refl (reason_of s j n false)
+  counted_one (file_item n r rules) = none_or counted_of n File (file_fate j n r) (λ reason. refl) (reason_of s j n false)
+  counted_one (directory_item n) = nothing counted_of n Dir (walked (child_job j n)) (λ reason. refl) refl (reason_of s j n true)
+  counted_one (other_item n) = nothing counted_of n Other (left Other other_kind) (λ reason. refl) refl (reason_of s j n false)
 
   failed_one : (item : Item) → failed_of (name_of item, fate_of s j item) ≡ faults_by s j item
-  failed_one (file_item n r rules) = none_or failed_of n (file_fate j n r) (λ reason. refl) (reason_of s j n false)
-  failed_one (directory_item n) = nothing failed_of n (walked (child_job j n)) (λ reason. refl) refl (reason_of s j n true)
-  failed_one (other_item n) = nothing failed_of n (left other_kind) (λ reason. refl) refl (reason_of s j n false)
+  failed_one (file_item n r rules) = none_or failed_of n File (file_fate j n r) (λ reason. refl) (reason_of s j n false)
+  failed_one (directory_item n) = nothing failed_of n Dir (walked (child_job j n)) (λ reason. refl) refl (reason_of s j n true)
+  failed_one (other_item n) = nothing failed_of n Other (left Other other_kind) (λ reason. refl) refl (reason_of s j n false)
 
-  -- counting a file makes it no directory
+  -- counting a file leaves it in, and makes it no directory
+  none_left : (n : List ℕ) (r : Result Count FaultWord) → left_of (n, file_fate j n r) ≡ []
+  none_left n (Ok count) = refl
+  none_left n (Err word) = refl
+
   no_child : (n : List ℕ) (r : Result Count FaultWord) → walked_of (n, file_fate j n r) ≡ []
   no_child n (Ok count) = refl
   no_child n (Err word) = refl
 
   walked_one : (item : Item) → walked_of (name_of item, fate_of s j item) ≡ children_by s j item
-  walked_one (file_item n r rules) = nothing walked_of n (file_fate j n r) (λ reason. refl) (no_child n r) (reason_of s j n false)
-  walked_one (directory_item n) = none_or walked_of n (walked (child_job j n)) (λ reason. refl) (reason_of s j n true)
-  walked_one (other_item n) = nothing walked_of n (left other_kind) (λ reason. refl) refl (reason_of s j n false)
+  walked_one (file_item n r rules) = nothing walked_of n File (file_fate j n r) (λ reason. refl) (no_child n r) (reason_of s j n false)
+  walked_one (directory_item n) = none_or walked_of n Dir (walked (child_job j n)) (λ reason. refl) (reason_of s j n true)
+  walked_one (other_item n) = nothing walked_of n Other (left Other other_kind) (λ reason. refl) refl (reason_of s j n false)
+
+  -- what is left out is left for the reason that the entry has
+  left_one : (item : Item) → left_of (name_of item, fate_of s j item) ≡ left_by_item s j item
+  left_one (file_item n r rules) = at (reason_of s j n false)
+    where
+      at : (o : Option Reason) → left_of (n, option_map_or (left File) o (file_fate j n r)) ≡ left_by n File o
+      at None = none_left n r
+      at (Some reason) = refl
+  left_one (directory_item n) = at (reason_of s j n true)
+    where
+      at : (o : Option Reason) → left_of (n, option_map_or (left Dir) o (walked (child_job j n))) ≡ left_by n Dir o
+      at None = refl
+      at (Some reason) = refl
+  left_one (other_item n) = at (reason_of s j n false)
+    where
+      at : (o : Option Reason)
+          → left_of (n, option_map_or (left Other) o (left Other other_kind)) ≡ left_by n Other (option_or o (Some other_kind))
+      at None = refl
+      at (Some reason) = refl
 
   by_items : {A : Type 0} (f : List ℕ × Fate → List A) (g : Item → List A) → ((item : Item) → f (name_of item, fate_of s j item) ≡ g item)
       → (items : List Item) → flat_map f (fates_of s j items) ≡ flat_map g items
@@ -82,3 +114,7 @@ module _ (s : SelectionModel) (j : JobModel) where
   -- and the child directories
   pub walked_items_are : (items : List Item) → walked_in (fates_of s j items) ≡ flat_map (children_by s j) items
   walked_items_are items = by_items walked_of (children_by s j) walked_one items
+
+  -- and the entries left out
+  pub left_items_are : (items : List Item) → left_in (fates_of s j items) ≡ flat_map (left_by_item s j) items
+  left_items_are items = by_items left_of (left_by_item s j) left_one items

@@ -7,11 +7,12 @@ use Rattle.lc_level.specs.EntryLooks.{has_file, has_dir}
 use Rattle.lc_level.specs.GitInfo.{ListsFor, MayAnswerGit, ReadsGit}
 use Rattle.lc_tree.specs.Listing.{EntryModel}
 use Rattle.lc_level.specs.RuleFiles.{has_directory, and_then, listing, info_items, info_bytes}
-use Rattle.lc_level.specs.RulePairs.{AreFilesOf, ReadsBoth}
+use Rattle.lc_level.specs.RulePairs.{IsReadOf, ReadsBoth}
 use Rattle.lc_level.specs.PlacePaths.{place_path}
+use Rattle.lc_level.specs.RuleReads.{text_if}
 use Rattle.lc_level.specs.TreeAnswers.{MayList}
 use Rattle.lc_tree.specs.Trees.{Listings, Contents, MayCount, MayReadRules}
-use Rattle.lc_level.specs.declared.rule_pair.RulePair.{RulePair}
+use Rattle.lc_level.specs.declared.rule_pair.PairRead.{PairRead}
 use Rattle.lc_level.specs.declared.unlisted.Unlisted.{Unlisted}
 use Rattle.lc_level.specs.declared.unlisted.Unlisted.TheVariants.{Faulted, Broken}
 use Rattle.lc_tree.specs.declared.fault_word.FaultWord.{FaultWord}
@@ -25,10 +26,17 @@ use Rattle.lc_level.proofs.Tidy.{clash}
 abbrev asked : Items → Items → Answers
 asked git info = record { here = Ok []; git = git; info = info }
 
-no_files : (files : RulePair) → files ≡ record { rules = None; attributes = None }
-    → AreFilesOf true files (record { rules = None; attributes = None })
-no_files files e = subst (λ (f : RulePair). AreFilesOf true f (record { rules = None; attributes = None })) (sym e)
-    (record { rules = refl; attributes = refl })
+abbrev nothing_read : PairRead
+nothing_read = record { files = record { rules = None; attributes = None }; text = None }
+
+no_text : (texts : Bool) → None ≡ text_if texts None
+no_text true = refl
+no_text false = refl
+
+no_files : (texts : Bool) (read : PairRead) → read ≡ nothing_read → IsReadOf texts true read (record { rules = None; attributes = None })
+no_files texts read e =
+    subst (λ (r : PairRead). IsReadOf texts true r (record { rules = None; attributes = None })) (sym e)
+    (record { files = record { rules = refl; attributes = refl }; text = no_text texts })
 
 -- what each file of the tree may give
 module _ (lists : List ℕ → Listings) (gives : List ℕ → Contents)
@@ -63,111 +71,112 @@ module _ (lists : List ℕ → Listings) (gives : List ℕ → Contents)
       and_then (info_items true (asked (Ok (git_items es)) info)) info_bytes ≡ and_then (listing b (codes ".git/info") info) info_bytes
   by_info es info b e = ap (λ t. and_then (listing t (codes ".git/info") info) info_bytes) (has_info es ∙ e)
 
-  at_true : (there : Bool) (r : Result RulePair Unlisted) → there ≡ true → ReadsGit lists gives true r → ReadsGit lists gives there r
-  at_true there r e k = subst (λ b. ReadsGit lists gives b r) (sym e) k
+  module _ (texts : Bool) where
+    at_true : (there : Bool) (r : Result PairRead Unlisted) → there ≡ true → ReadsGit lists gives texts true r → ReadsGit lists gives texts there r
+    at_true there r e k = subst (λ b. ReadsGit lists gives texts b r) (sym e) k
 
-  -- where there is no `.git` nothing is read
-  pub no_git : (there : Bool) (files : RulePair) → there ≡ false → files ≡ record { rules = None; attributes = None }
-      → ReadsGit lists gives there (Ok files)
-  no_git there files e none =
-      subst (λ b. ReadsGit lists gives b (Ok files)) (sym e) (
-        asked (Ok []) (Ok []),
-        record { git = λ t. absurd (clash t refl); info = λ t h. absurd (clash t refl) },
-        (record { rules = None; attributes = None }, no_files files none, refl),
-      )
+    -- where there is no `.git` nothing is read
+    pub no_git : (there : Bool) (read : PairRead) → there ≡ false → read ≡ nothing_read
+        → ReadsGit lists gives texts there (Ok read)
+    no_git there read e none =
+        subst (λ b. ReadsGit lists gives texts b (Ok read)) (sym e) (
+          asked (Ok []) (Ok []),
+          record { git = λ t. absurd (clash t refl); info = λ t h. absurd (clash t refl) },
+          (record { rules = None; attributes = None }, no_files texts read none, refl),
+        )
 
-  -- a fault of `.git`
-  pub git_fault : (there : Bool) (place : Place) (word : FaultWord) → there ≡ true → place ≡ Git → lists (codes ".git") (Err word)
-      → ReadsGit lists gives there (Err (Faulted place word))
-  git_fault there place word e is l =
-      at_true there (Err (Faulted place word)) e (
-        asked (Err word) (Ok []),
-        record { git = λ t. l; info = λ t h. absurd (clash h refl) },
-        λ directory. ap (λ (p : Place). Err (record { path = place_path directory p; word = word })) (sym is),
-      )
+    -- a fault of `.git`
+    pub git_fault : (there : Bool) (place : Place) (word : FaultWord) → there ≡ true → place ≡ Git → lists (codes ".git") (Err word)
+        → ReadsGit lists gives texts there (Err (Faulted place word))
+    git_fault there place word e is l =
+        at_true there (Err (Faulted place word)) e (
+          asked (Err word) (Ok []),
+          record { git = λ t. l; info = λ t h. absurd (clash h refl) },
+          λ directory. ap (λ (p : Place). Err (record { path = place_path directory p; word = word })) (sym is),
+        )
 
-  -- the same, by how the listing was refused
-  pub git_refused : (there : Bool) (u : Unlisted) → there ≡ true → ListsFor (lists (codes ".git")) Git (Err u)
-      → ReadsGit lists gives there (Err u)
-  git_refused there (Faulted place word) e (is, l) = git_fault there place word e is l
-  git_refused there (Broken Memory) e l = tt
-  git_refused there (Broken TooManyDirs) e l = absurd l
-  git_refused there (Broken TooDeep) e l = absurd l
+    -- the same, by how the listing was refused
+    pub git_refused : (there : Bool) (u : Unlisted) → there ≡ true → ListsFor (lists (codes ".git")) Git (Err u)
+        → ReadsGit lists gives texts there (Err u)
+    git_refused there (Faulted place word) e (is, l) = git_fault there place word e is l
+    git_refused there (Broken Memory) e l = tt
+    git_refused there (Broken TooManyDirs) e l = absurd l
+    git_refused there (Broken TooDeep) e l = absurd l
 
-  -- where `.git` has no `info` nothing is read
-  pub no_info : (there : Bool) (es : List EntryModel) (files : RulePair) → there ≡ true → lists (codes ".git") (Ok es)
-      → has_dir (codes "info") es ≡ false →
-      files ≡ record { rules = None; attributes = None } → ReadsGit lists gives there (Ok files)
-  no_info there es files e l absent none =
-      at_true there (Ok files) e (
-        asked (Ok (git_items es)) (Ok []),
-        record { git = λ t. may_git es l; info = λ t h. absurd (clash h (has_info es ∙ absent)) },
-        (record { rules = None; attributes = None }, no_files files none, by_info es (Ok []) false absent),
-      )
+    -- where `.git` has no `info` nothing is read
+    pub no_info : (there : Bool) (es : List EntryModel) (read : PairRead) → there ≡ true → lists (codes ".git") (Ok es)
+        → has_dir (codes "info") es ≡ false →
+        read ≡ nothing_read → ReadsGit lists gives texts there (Ok read)
+    no_info there es read e l absent none =
+        at_true there (Ok read) e (
+          asked (Ok (git_items es)) (Ok []),
+          record { git = λ t. may_git es l; info = λ t h. absurd (clash h (has_info es ∙ absent)) },
+          (record { rules = None; attributes = None }, no_files texts read none, by_info es (Ok []) false absent),
+        )
 
-  -- a fault of `.git/info`
-  pub info_fault : (there : Bool) (es : List EntryModel) (place : Place) (word : FaultWord) → there ≡ true
-      → lists (codes ".git") (Ok es) → has_dir (codes "info") es ≡ true →
-      place ≡ GitInfo → lists (codes ".git/info") (Err word) → ReadsGit lists gives there (Err (Faulted place word))
-  info_fault there es place word e l present is m =
-      at_true there (Err (Faulted place word)) e (
-        asked (Ok (git_items es)) (Err word),
-        record { git = λ t. may_git es l; info = λ t h. m },
-        λ directory. by_info es (Err word) true present
-            ∙ ap (λ (p : Place). Err (record { path = place_path directory p; word = word })) (sym is),
-      )
+    -- a fault of `.git/info`
+    pub info_fault : (there : Bool) (es : List EntryModel) (place : Place) (word : FaultWord) → there ≡ true
+        → lists (codes ".git") (Ok es) → has_dir (codes "info") es ≡ true →
+        place ≡ GitInfo → lists (codes ".git/info") (Err word) → ReadsGit lists gives texts there (Err (Faulted place word))
+    info_fault there es place word e l present is m =
+        at_true there (Err (Faulted place word)) e (
+          asked (Ok (git_items es)) (Err word),
+          record { git = λ t. may_git es l; info = λ t h. m },
+          λ directory. by_info es (Err word) true present
+              ∙ ap (λ (p : Place). Err (record { path = place_path directory p; word = word })) (sym is),
+        )
 
-  -- the same, or want of memory
-  pub info_refused : (there : Bool) (es : List EntryModel) (u : Unlisted) → there ≡ true → lists (codes ".git") (Ok es)
-      → has_dir (codes "info") es ≡ true →
-      ListsFor (lists (codes ".git/info")) GitInfo (Err u) → ReadsGit lists gives there (Err u)
-  info_refused there es (Faulted place word) e l present (is, m) = info_fault there es place word e l present is m
-  info_refused there es (Broken Memory) e l present m = tt
-  info_refused there es (Broken TooManyDirs) e l present m = absurd m
-  info_refused there es (Broken TooDeep) e l present m = absurd m
+    -- the same, or want of memory
+    pub info_refused : (there : Bool) (es : List EntryModel) (u : Unlisted) → there ≡ true → lists (codes ".git") (Ok es)
+        → has_dir (codes "info") es ≡ true →
+        ListsFor (lists (codes ".git/info")) GitInfo (Err u) → ReadsGit lists gives texts there (Err u)
+    info_refused there es (Faulted place word) e l present (is, m) = info_fault there es place word e l present is m
+    info_refused there es (Broken Memory) e l present m = tt
+    info_refused there es (Broken TooManyDirs) e l present m = absurd m
+    info_refused there es (Broken TooDeep) e l present m = absurd m
 
-  abbrev in_info : List ℕ → Contents
-  in_info n = gives (path_in (codes ".git/info") n)
+    abbrev in_info : List ℕ → Contents
+    in_info n = gives (path_in (codes ".git/info") n)
 
-  abbrev info_of : List EntryModel → AsRules → Items
-  info_of fs given = Ok (items_at (any_count (codes ".git/info")) given fs)
+    abbrev info_of : List EntryModel → AsRules → Items
+    info_of fs given = Ok (items_at (any_count (codes ".git/info")) given fs)
 
-  abbrev InfoGiven : List EntryModel → Result RulePair Unlisted → Type 0
-  InfoGiven fs r = PairGiven in_info (codes "exclude") (codes "attributes") refl fs (any_rules (codes ".git/info"))
-      (λ n. (some_rules (path_in (codes ".git/info") n)).1) true ExcludeFile InfoAttributes r
+    abbrev InfoGiven : List EntryModel → Result PairRead Unlisted → Type 0
+    InfoGiven fs r = PairGiven in_info (codes "exclude") (codes "attributes") refl fs (any_rules (codes ".git/info"))
+        (λ n. (some_rules (path_in (codes ".git/info") n)).1) texts true ExcludeFile InfoAttributes r
 
-  -- what its two files answered
-  pub both_files : (there : Bool) (es fs : List EntryModel) (r : Result RulePair Unlisted) → there ≡ true
-      → lists (codes ".git") (Ok es) → has_dir (codes "info") es ≡ true →
-      lists (codes ".git/info") (Ok fs) →
-      ReadsBoth (gives (codes ".git/info/exclude")) (gives (codes ".git/info/attributes")) (has_file (codes "exclude") fs)
-      (has_file (codes "attributes") fs) true ExcludeFile InfoAttributes r →
-      ReadsGit lists gives there r
-  both_files there es fs r e l present m reads =
-      at_true there r e (at r (pair_given in_info (codes "exclude") (codes "attributes") refl fs (any_rules (codes ".git/info"))
-      (λ n. (some_rules (path_in (codes ".git/info") n)).1) true ExcludeFile InfoAttributes r reads))
-    where
-      may : (given : AsRules) → ((n : List ℕ) → MayReadRules (in_info n) (given n))
-          → MayAnswerGit lists gives true (asked (Ok (git_items es)) (info_of fs given))
-      may given k = record { git = λ t. may_git es l; info = λ t h. listed (codes ".git/info") fs given k m }
+    -- what its two files answered
+    pub both_files : (there : Bool) (es fs : List EntryModel) (r : Result PairRead Unlisted) → there ≡ true
+        → lists (codes ".git") (Ok es) → has_dir (codes "info") es ≡ true →
+        lists (codes ".git/info") (Ok fs) →
+        ReadsBoth texts (gives (codes ".git/info/exclude")) (gives (codes ".git/info/attributes")) (has_file (codes "exclude") fs)
+        (has_file (codes "attributes") fs) true ExcludeFile InfoAttributes r →
+        ReadsGit lists gives texts there r
+    both_files there es fs r e l present m reads =
+        at_true there r e (at r (pair_given in_info (codes "exclude") (codes "attributes") refl fs (any_rules (codes ".git/info"))
+        (λ n. (some_rules (path_in (codes ".git/info") n)).1) texts true ExcludeFile InfoAttributes r reads))
+      where
+        may : (given : AsRules) → ((n : List ℕ) → MayReadRules (in_info n) (given n))
+            → MayAnswerGit lists gives true (asked (Ok (git_items es)) (info_of fs given))
+        may given k = record { git = λ t. may_git es l; info = λ t h. listed (codes ".git/info") fs given k m }
 
-      at : (o : Result RulePair Unlisted) → InfoGiven fs o → ReadsGit lists gives true o
-      at (Ok files) (given, k, (bytes, are, is)) = (
-        asked (Ok (git_items es)) (info_of fs given),
-        may given k,
-        (
-          bytes,
-          are,
-          by_info es (info_of fs given) true present ∙ is (codes ".git/info/exclude") (codes ".git/info/attributes")
-              (any_count (codes ".git/info")),
-        ),
-      )
-      at (Err (Faulted place word)) (given, k, is) = (
-        asked (Ok (git_items es)) (info_of fs given),
-        may given k,
-        λ directory. by_info es (info_of fs given) true present
-            ∙ is (place_path directory) (any_count (codes ".git/info")),
-      )
-      at (Err (Broken Memory)) k = tt
-      at (Err (Broken TooManyDirs)) k = absurd k
-      at (Err (Broken TooDeep)) k = absurd k
+        at : (o : Result PairRead Unlisted) → InfoGiven fs o → ReadsGit lists gives texts true o
+        at (Ok read) (given, k, (bytes, are, is)) = (
+          asked (Ok (git_items es)) (info_of fs given),
+          may given k,
+          (
+            bytes,
+            are,
+            by_info es (info_of fs given) true present ∙ is (codes ".git/info/exclude") (codes ".git/info/attributes")
+                (any_count (codes ".git/info")),
+          ),
+        )
+        at (Err (Faulted place word)) (given, k, is) = (
+          asked (Ok (git_items es)) (info_of fs given),
+          may given k,
+          λ directory. by_info es (info_of fs given) true present
+              ∙ is (place_path directory) (any_count (codes ".git/info")),
+        )
+        at (Err (Broken Memory)) k = tt
+        at (Err (Broken TooManyDirs)) k = absurd k
+        at (Err (Broken TooDeep)) k = absurd k

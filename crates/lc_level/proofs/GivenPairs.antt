@@ -5,10 +5,10 @@ use Rattle.lc_level.specs.EntryLooks.{has_file}
 use Rattle.lc_tree.specs.Listing.{EntryModel}
 use Rattle.lc_level.specs.FaultLines.{FaultLineModel}
 use Rattle.lc_level.specs.RuleFiles.{Pair, file_named, both_read}
-use Rattle.lc_level.specs.RulePairs.{AreFilesOf, ReadsBoth}
+use Rattle.lc_level.specs.RulePairs.{IsReadOf, ReadsBoth}
 use Rattle.lc_level.specs.RuleReads.{MayGive}
 use Rattle.lc_tree.specs.Trees.{Contents, MayReadRules}
-use Rattle.lc_level.specs.declared.rule_pair.RulePair.{RulePair}
+use Rattle.lc_level.specs.declared.rule_pair.PairRead.{PairRead}
 use Rattle.lc_level.specs.declared.unlisted.Unlisted.{Unlisted}
 use Rattle.lc_level.specs.declared.unlisted.Unlisted.TheVariants.{Faulted, Broken}
 use Rattle.lc_tree.specs.declared.fault_word.FaultWord.{FaultWord}
@@ -38,17 +38,17 @@ module _ (gives : List ℕ → Contents) (first_name second_name : List ℕ) (ap
       both_read p (file_named first_name (items_at counted given es)) q (file_named second_name (items_at counted given es))
 
   -- what all files give as rules, so that reading the two gives what was answered
-  abbrev pub PairGiven : Bool → Place → Place → Result RulePair Unlisted → Type 0
-  PairGiven top first second (Ok files) =
+  abbrev pub PairGiven : Bool → Bool → Place → Place → Result PairRead Unlisted → Type 0
+  PairGiven texts top first second (Ok read) =
       (given : AsRules) × ((n : List ℕ) → MayReadRules (gives n) (given n))
-      × ((bytes : Pair) × AreFilesOf top files bytes × ((p q : List ℕ) (counted : Counted) → read_of p q given counted ≡ Ok bytes))
-  PairGiven top first second (Err (Faulted place word)) =
+      × ((bytes : Pair) × IsReadOf texts top read bytes × ((p q : List ℕ) (counted : Counted) → read_of p q given counted ≡ Ok bytes))
+  PairGiven texts top first second (Err (Faulted place word)) =
       (given : AsRules) × ((n : List ℕ) → MayReadRules (gives n) (given n))
       × ((path_at : Place → List ℕ) (counted : Counted)
       → read_of (path_at first) (path_at second) given counted ≡ Err (record { path = path_at place; word = word }))
-  PairGiven top first second (Err (Broken Memory)) = Unit {0}
-  PairGiven top first second (Err (Broken TooManyDirs)) = ⊥
-  PairGiven top first second (Err (Broken TooDeep)) = ⊥
+  PairGiven texts top first second (Err (Broken Memory)) = Unit {0}
+  PairGiven texts top first second (Err (Broken TooManyDirs)) = ⊥
+  PairGiven texts top first second (Err (Broken TooDeep)) = ⊥
 
   abbrev with_both : Option (Result (List ℕ) FaultWord) → Option (Result (List ℕ) FaultWord) → AsRules
   with_both x y = but second_name y (but first_name x rules)
@@ -77,10 +77,10 @@ module _ (gives : List ℕ → Contents) (first_name second_name : List ℕ) (ap
   first_at x v e = ap (λ o. but first_name o rules first_name) e ∙ at_name first_name v rules
 
   -- the answer for two files is one for the items
-  pub pair_given : (top : Bool) (first second : Place) (r : Result RulePair Unlisted) →
-      ReadsBoth (gives first_name) (gives second_name) (has_file first_name es) (has_file second_name es) top first second r
-      → PairGiven top first second r
-  pair_given top first second (Ok files) (bytes, are, may) =
+  pub pair_given : (texts top : Bool) (first second : Place) (r : Result PairRead Unlisted) →
+      ReadsBoth texts (gives first_name) (gives second_name) (has_file first_name es) (has_file second_name es) top first second r
+      → PairGiven texts top first second r
+  pair_given texts top first second (Ok read) (bytes, are, may) =
       let x : Option (Result (List ℕ) FaultWord) = option_map Ok bytes.rules in
       let y : Option (Result (List ℕ) FaultWord) = option_map Ok bytes.attributes in (
         with_both x y,
@@ -92,7 +92,7 @@ module _ (gives : List ℕ → Contents) (first_name second_name : List ℕ) (ap
               ∙ both_ok p q bytes.rules bytes.attributes,
         ),
       )
-  pair_given top first second (Err (Faulted place word)) (inl (is, may)) =
+  pair_given texts top first second (Err (Faulted place word)) (inl (is, may)) =
       let x : Option (Result (List ℕ) FaultWord) = Some (Err word) in (
         but first_name x rules,
         may_but gives first_name (has_file first_name es) x rules may may_read,
@@ -101,7 +101,7 @@ module _ (gives : List ℕ → Contents) (first_name second_name : List ℕ) (ap
             (given_items (gives first_name) counted (but first_name x rules) first_name x es may (first_at x))
             ∙ ap (λ (l : Place). Err (record { path = path_at l; word = word })) (sym is),
       )
-  pair_given top first second (Err (Faulted place word)) (inr (is, before, may)) =
+  pair_given texts top first second (Err (Faulted place word)) (inr (is, before, may)) =
       let x : Option (Result (List ℕ) FaultWord) = option_map Ok before.0 in
       let y : Option (Result (List ℕ) FaultWord) = Some (Err word) in (
         with_both x y,
@@ -111,6 +111,6 @@ module _ (gives : List ℕ → Contents) (first_name second_name : List ℕ) (ap
             ∙ second_fault (path_at first) (path_at second) before.0 word
             ∙ ap (λ (l : Place). Err (record { path = path_at l; word = word })) (sym is),
       )
-  pair_given top first second (Err (Broken Memory)) r = tt
-  pair_given top first second (Err (Broken TooManyDirs)) r = absurd r
-  pair_given top first second (Err (Broken TooDeep)) r = absurd r
+  pair_given texts top first second (Err (Broken Memory)) r = tt
+  pair_given texts top first second (Err (Broken TooManyDirs)) r = absurd r
+  pair_given texts top first second (Err (Broken TooDeep)) r = absurd r

@@ -1,6 +1,7 @@
 pub mod CountedLevels
 pub mod CountedMore
 pub mod Depths
+pub mod EnterLevels
 pub mod Examples
 pub mod Fates
 pub mod GitReads

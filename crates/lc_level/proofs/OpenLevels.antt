@@ -1,250 +1,80 @@
--- The answers of a tree for a directory, by what opening it answered.
-use Rattle.std.proofs.Common.{◌≡◌, ℕ, Bool, true, false, ◌&&◌, ◌||◌, List, [], ◌∷◌, refl, sym, ◌∙◌, ap, subst, Result, Ok, Err, codes}
-use Rattle.std.proofs.Common.{arith}
+-- The answers of a tree for a directory, by what opening it answered after it was entered.
+use Rattle.std.proofs.Common.{◌≡◌, ℕ, suc, ◌<◌, ◌^◌, Bool, true, ◌||◌, List, [], ◌∷◌, length, refl, sym, ◌∙◌, ap, subst, Result, Ok, Err, arith}
 use Rattle.std.specs.List.{list_any, flat_map}
-use Rattle.std.specs.List.Sorted.{IsStrictlySortedBy}
-use Rattle.lc_census.specs.declared.totals.Count.{Count}
-use Rattle.lc_glob.specs.Path.{path_in}
-use Rattle.lc_level.specs.Answers.{Item, Answers, entry_of, entries_of}
-use Rattle.lc_level.specs.Deep.{is_too_deep, some_too_deep}
-use Rattle.lc_level.specs.EntryLooks.{has_file, has_dir}
-use Rattle.lc_level.specs.GitInfo.{ListsFor, MayAnswerGit, ReadsGit}
+use Rattle.lc_level.specs.Answers.{Item, entry_of, entries_of, Items}
+use Rattle.lc_level.specs.Deep.{is_too_deep, some_too_deep, too_deep_among}
+use Rattle.lc_level.specs.Enters.{IsInside, IsEntered, EntersLevel}
 use Rattle.lc_level.specs.Job.{JobModel}
-use Rattle.lc_level.specs.Tidy.{IsTidy}
-use Rattle.lc_level.specs.Level.{faulted_level, level, level_after}
-use Rattle.lc_tree.specs.Listing.{EntryModel, IsListing}
-use Rattle.lc_level.specs.LeftIn.{kept_file, kept_directory, bytes_of, LeavesIn}
+use Rattle.lc_level.specs.LeftIn.{kept_file, kept_directory, left_entry, bytes_of, LeavesIn}
 use Rattle.lc_level.specs.Opens.{IsOpened, OpensLevel}
-use Rattle.lc_level.specs.FaultLines.{FaultLineModel}
 use Rattle.lc_level.specs.Selection.{SelectionModel}
-use Rattle.lc_level.specs.RuleFiles.{Pair, RuleBytes, has_git, is_top, and_then, info_items, info_bytes, own_bytes, rule_bytes, extended}
-use Rattle.lc_level.specs.RulePairs.{AreFilesOf, ReadsBoth}
-use Rattle.lc_level.specs.PlacePaths.{place_path}
-use Rattle.lc_level.specs.TreeAnswers.{MayAnswer}
-use Rattle.lc_tree.specs.Trees.{Listings, Contents, MayCount, MayReadRules}
+use Rattle.lc_level.specs.Tidy.{listed_in}
+use Rattle.lc_tree.specs.Listing.{EntryModel, IsListing}
+use Rattle.lc_tree.specs.Trees.{Listings, Contents}
+use Rattle.lc_level.specs.declared.entering.Entered.{Entered}
+use Rattle.lc_level.specs.declared.left_in.LeftIn.{LeftIn}
 use Rattle.lc_level.specs.declared.opening.Opened.{Opened}
-use Rattle.lc_level.specs.declared.rule_pair.RulePair.{RulePair}
 use Rattle.lc_level.specs.declared.unlisted.Unlisted.{Unlisted}
 use Rattle.lc_level.specs.declared.unlisted.Unlisted.TheVariants.{Faulted, Broken}
-use Rattle.lc_tree.specs.declared.fault_word.FaultWord.{FaultWord}
 use Rattle.lc_level.specs.declared.cause.Cause.{Cause}
 use Rattle.lc_level.specs.declared.cause.Cause.TheVariants.{Memory, TooManyDirs, TooDeep}
-use Rattle.lc_level.specs.declared.place.Place.{Place}
-use Rattle.lc_level.specs.declared.place.Place.TheVariants.{Directory, IgnoreFile, AttributeFile}
-use Rattle.lc_level.proofs.GitReads.{any_count, any_rules, listed}
-use Rattle.lc_level.proofs.GivenItems.{AsRules, items_at, entries_items, directory_items}
-use Rattle.lc_level.proofs.GivenPairs.{PairGiven, pair_given}
-
--- what follows a reading, by what it gave
-and_then_ok : {A B : Type 0} (r : Result A FaultLineModel) (x : A) (next : A → Result B FaultLineModel) → r ≡ Ok x
-    → and_then r next ≡ next x
-and_then_ok r x next e = ap (λ s. and_then s next) e
-
-and_then_err : {A B : Type 0} (r : Result A FaultLineModel) (f : FaultLineModel) (next : A → Result B FaultLineModel) → r ≡ Err f
-    → and_then r next ≡ Err f
-and_then_err r f next e = ap (λ s. and_then s next) e
 
 any_of_map : (p : EntryModel → Bool) (items : List Item) → list_any (λ i. p (entry_of i)) items ≡ list_any p (entries_of items)
 any_of_map p [] = refl
 any_of_map p (i ∷ is) = ap (λ b. p (entry_of i) || b) (any_of_map p is)
 
-no_entries : IsListing []
-unfolding IsStrictlySortedBy
-no_entries = record { good = refl; order = tt; few = omega arith }
+length_entries : (items : List Item) → length (entries_of items) ≡ length items
+length_entries [] = refl
+length_entries (i ∷ is) = ap suc (length_entries is)
 
-no_top : (b : Bool) → (b && false) ≡ true → ⊥
-no_top true e = cc
-no_top false e = cc
+module _ (lists : List ℕ → Listings) (gives : List ℕ → Contents) (left_out : Bool) (s : SelectionModel) (j : JobModel) where
+  -- what stops entering a directory stops opening it
+  pub enter_refused : (texts : Bool) (u : Unlisted) → EntersLevel lists gives j texts (Err u) → OpensLevel lists gives left_out s j (Err u)
+  enter_refused texts (Faulted place word) (a, may, tidy, is) = (a, may, tidy, is s)
+  enter_refused texts (Broken Memory) e = tt
+  enter_refused texts (Broken TooManyDirs) e = absurd e
+  enter_refused texts (Broken TooDeep) e = absurd e
 
--- the directory was not listed
-pub list_refused : (lists : List ℕ → Listings) (gives : List ℕ → Contents) (s : SelectionModel) (j : JobModel) (u : Unlisted)
-    → ListsFor (lists j.path) Directory (Err u) → OpensLevel lists gives s j (Err u)
-list_refused lists gives s j (Faulted place word) (is, l) =
-    let a : Answers = record { here = Err word; git = Ok []; info = Ok [] } in (
-      a,
-      record { here = l; git = λ t. absurd (no_top (is_top j.path) t); info = λ t h. absurd (no_top (is_top j.path) t) },
-      no_entries,
-      ap (λ (p : Place). faulted_level (place_path j.path p) word) (sym is),
-    )
-list_refused lists gives s j (Broken Memory) l = tt
-list_refused lists gives s j (Broken TooManyDirs) l = absurd l
-list_refused lists gives s j (Broken TooDeep) l = absurd l
+  module _ (texts : Bool) (e : Entered) (c : IsEntered lists gives j texts e) where
+    -- a directory has few entries
+    pub few_entries : length e.entries.items < 2 ^ 32
+    few_entries =
+        let is : IsListing (entries_of c.inside.items) = subst (λ (l : Items). IsListing (listed_in l)) c.inside.here c.inside.tidy in
+        omega (arith, is.few, ap length c.entries)
 
-module _ (lists : List ℕ → Listings) (gives : List ℕ → Contents)
-    (some_count : (path : List ℕ) → (r : Result Count FaultWord) × MayCount (gives path) r)
-    (some_rules : (path : List ℕ) → (r : Result (List ℕ) FaultWord) × MayReadRules (gives path) r)
-    (s : SelectionModel) (j : JobModel) (es : List EntryModel) (may_list : lists j.path (Ok es)) (is_listing : IsListing es) where
-  abbrev own_items : AsRules → List Item
-  own_items given = items_at (any_count lists gives some_count some_rules j.path) given es
+    -- one of its entries is too deep
+    deep_opens : list_any (is_too_deep s e.job) e.entries.items ≡ true → OpensLevel lists gives left_out s j (Err (Broken TooDeep))
+    deep_opens deep =
+        let here : list_any (is_too_deep s e.job) (entries_of c.inside.items) ≡ true =
+        ap (list_any (is_too_deep s e.job)) (sym c.entries) ∙ deep in (
+          c.inside.answers,
+          c.inside.may,
+          c.inside.tidy,
+          ap (too_deep_among s j c.inside.answers) c.inside.here ∙ ap (some_too_deep s j c.inside.items) c.inside.read
+              ∙ ap (λ (k : JobModel). list_any (λ i. is_too_deep s k (entry_of i)) c.inside.items) (sym c.inside.extends)
+              ∙ any_of_map (is_too_deep s e.job) c.inside.items ∙ here,
+        )
 
-  abbrev own_rules : AsRules
-  own_rules = any_rules lists gives some_count some_rules j.path
+    -- its entries were not taken
+    pub take_refused : (cause : Cause) → LeavesIn left_out s e.job e.entries.items (Err cause)
+        → OpensLevel lists gives left_out s j (Err (Broken cause))
+    take_refused Memory l = tt
+    take_refused TooManyDirs l = absurd l
+    take_refused TooDeep l = deep_opens l
 
-  abbrev there : Bool
-  there = is_top j.path && has_dir (codes ".git") es
-
-  -- the answers with those for `.git`
-  abbrev answers : AsRules → Answers → Answers
-  answers given a = record { here = Ok (own_items given); git = a.git; info = a.info }
-
-  git_there : (given : AsRules) → has_git j.path (own_items given) ≡ there
-  git_there given =
-      ap (λ b. is_top j.path && b) (directory_items (any_count lists gives some_count some_rules j.path) given (codes ".git") es)
-
-  -- the answers that were put together may be given
-  pub may_answer : (given : AsRules) → ((n : List ℕ) → MayReadRules (gives (path_in j.path n)) (given n)) → (a : Answers)
-      → MayAnswerGit lists gives there a →
-      MayAnswer lists gives j.path (answers given a)
-  may_answer given may a git = record {
-    here = listed lists gives some_count some_rules j.path es given may may_list;
-    git = λ t. git.git (sym (git_there given) ∙ t);
-    info = λ t h. git.info (sym (git_there given) ∙ t) h;
-  }
-
-  -- and are tidy
-  pub is_tidy : (given : AsRules) (a : Answers) → IsTidy (answers given a)
-  is_tidy given a = subst IsListing (sym (entries_items (any_count lists gives some_count some_rules j.path) given es)) is_listing
-
-  -- what reading the rule files gives, by the two parts of it
-  bytes_by : (given : AsRules) (a : Answers) (r : Result Pair FaultLineModel) → and_then (info_items there a) info_bytes ≡ r →
-      rule_bytes j.path (own_items given) (answers given a)
-      ≡ and_then r (λ i. and_then (own_bytes j.path (own_items given)) (λ o. Ok (record { info = i; own = o })))
-  bytes_by given a r e =
-      ap (λ b. and_then (and_then (info_items b a) info_bytes)
-      (λ i. and_then (own_bytes j.path (own_items given)) (λ o. Ok (record { info = i; own = o })))) (git_there given)
-      ∙ ap (λ s. and_then s (λ i. and_then (own_bytes j.path (own_items given)) (λ o. Ok (record { info = i; own = o })))) e
-
-  -- a fault of `.git`, or of the directory's own files, is the level
-  fault_level : (given : AsRules) (a : Answers) (path : List ℕ) (word : FaultWord) →
-      rule_bytes j.path (own_items given) (answers given a) ≡ Err (record { path = path; word = word })
-      → level s j (answers given a) ≡ faulted_level path word
-  fault_level given a path word e = ap (level_after s j (own_items given)) e
-
-  -- a refusal of `.git/info` is one of the directory
-  pub info_opens : (u : Unlisted) → ReadsGit lists gives there (Err u) → OpensLevel lists gives s j (Err u)
-  info_opens (Faulted place word) (a, git, is) = (
-    answers own_rules a,
-    may_answer own_rules (λ n. (some_rules (path_in j.path n)).1) a git,
-    is_tidy own_rules a,
-    fault_level own_rules a (place_path j.path place) word
-        (bytes_by own_rules a (Err (record { path = place_path j.path place; word = word })) (is j.path)),
-  )
-  info_opens (Broken Memory) r = tt
-  info_opens (Broken TooManyDirs) r = absurd r
-  info_opens (Broken TooDeep) r = absurd r
-
-  -- ---- the directory's own two files
-
-  abbrev ReadsOwn : Result RulePair Unlisted → Type 0
-  ReadsOwn r =
-      ReadsBoth (gives (path_in j.path (codes ".gitignore"))) (gives (path_in j.path (codes ".gitattributes")))
-      (has_file (codes ".gitignore") es) (has_file (codes ".gitattributes") es) (is_top j.path) IgnoreFile AttributeFile r
-
-  abbrev in_directory : List ℕ → Contents
-  in_directory n = gives (path_in j.path n)
-
-  abbrev OwnGiven : Result RulePair Unlisted → Type 0
-  OwnGiven r = PairGiven in_directory (codes ".gitignore") (codes ".gitattributes") refl es own_rules
-      (λ n. (some_rules (path_in j.path n)).1) (is_top j.path) IgnoreFile AttributeFile r
-
-  own_given : (r : Result RulePair Unlisted) → ReadsOwn r → OwnGiven r
-  own_given r reads = pair_given in_directory (codes ".gitignore") (codes ".gitattributes") refl es own_rules
-      (λ n. (some_rules (path_in j.path n)).1) (is_top j.path) IgnoreFile AttributeFile r reads
-
-  -- so is one of its own rule files
-  pub own_refused : (info : RulePair) → ReadsGit lists gives there (Ok info) → (u : Unlisted) → ReadsOwn (Err u)
-      → OpensLevel lists gives s j (Err u)
-  own_refused info (a, git, (i, are, is)) u reads = at u (own_given (Err u) reads)
-    where
-      at : (v : Unlisted) → OwnGiven (Err v) → OpensLevel lists gives s j (Err v)
-      at (Faulted place word) (given, may, e) = (
-        answers given a,
-        may_answer given may a git,
-        is_tidy given a,
-        fault_level given a (place_path j.path place) word
-            (bytes_by given a (Ok i) is
-            ∙ and_then_err (own_bytes j.path (own_items given)) (record { path = place_path j.path place; word = word })
-            (λ o. Ok (record { info = i; own = o }))
-            (e (place_path j.path) (any_count lists gives some_count some_rules j.path))),
-      )
-      at (Broken Memory) r = tt
-      at (Broken TooManyDirs) r = absurd r
-      at (Broken TooDeep) r = absurd r
-
-  -- all rule files were read
-  pub record HasRead (info own : RulePair) : Type 0 where
-    pub given : AsRules
-    pub may : (n : List ℕ) → MayReadRules (gives (path_in j.path n)) (given n)
-    pub git_answers : Answers
-    pub git : MayAnswerGit lists gives there git_answers
-    pub info_bytes : Pair
-    pub own_bytes : Pair
-    pub info_are : AreFilesOf true info info_bytes
-    pub own_are : AreFilesOf (is_top j.path) own own_bytes
-    pub read : rule_bytes j.path (own_items given) (answers given git_answers) ≡ Ok (record { info = info_bytes; own = own_bytes })
-
-  -- what was read, where neither was refused
-  pub has_read : (info own : RulePair) → ReadsGit lists gives there (Ok info) → ReadsOwn (Ok own) → HasRead info own
-  has_read info own (a, git, (i, are, is)) reads =
-      let g = own_given (Ok own) reads in
-      record {
-        given = g.0;
-        may = g.1;
-        git_answers = a;
-        git = git;
-        info_bytes = i;
-        own_bytes = g.2.0;
-        info_are = are;
-        own_are = g.2.1;
-        read = bytes_by g.0 a (Ok i) is
-            ∙ and_then_ok (own_bytes j.path (own_items g.0)) g.2.0 (λ o. Ok (record { info = i; own = o }))
-            (g.2.2 (path_in j.path (codes ".gitignore")) (path_in j.path (codes ".gitattributes"))
-            (any_count lists gives some_count some_rules j.path));
-      }
-
-  -- one of the entries is too deep
-  pub deep_opens : (info own : RulePair) → HasRead info own → (k : JobModel)
-      → ((i o : Pair) → AreFilesOf true info i → AreFilesOf (is_top j.path) own o → k ≡ extended j (record { info = i; own = o })) →
-      list_any (is_too_deep s k) es ≡ true → OpensLevel lists gives s j (Err (Broken TooDeep))
-  deep_opens info own r k inside deep =
-      let items = own_items r.given in
-      let files : RuleBytes = record { info = r.info_bytes; own = r.own_bytes } in
-      let same : list_any (λ i. is_too_deep s (extended j files) (entry_of i)) items ≡ list_any (is_too_deep s (extended j files)) es =
-      any_of_map (is_too_deep s (extended j files)) items
-      ∙ ap (λ (ds : List EntryModel). list_any (is_too_deep s (extended j files)) ds)
-      (entries_items (any_count lists gives some_count some_rules j.path) r.given es) in
-      let here : list_any (is_too_deep s (extended j files)) es ≡ true =
-      subst (λ (l : JobModel). list_any (is_too_deep s l) es ≡ true) (inside r.info_bytes r.own_bytes r.info_are r.own_are) deep in (
-        answers r.given r.git_answers,
-        may_answer r.given r.may r.git_answers r.git,
-        is_tidy r.given r.git_answers,
-        ap (some_too_deep s j items) r.read ∙ same ∙ here,
-      )
-
-  -- the entries that are left in
-  pub opened : (info own : RulePair) → HasRead info own → (o : Opened) →
-      ((x y : Pair) → AreFilesOf true info x → AreFilesOf (is_top j.path) own y → o.job ≡ extended j (record { info = x; own = y })) →
-      bytes_of o.files.items ≡ flat_map (kept_file s o.job) es → o.children.items ≡ flat_map (kept_directory s o.job) es →
-      IsOpened lists gives s j o
-  opened info own r o inside files children =
-      let are : es ≡ entries_of (own_items r.given) = sym (entries_items (any_count lists gives some_count some_rules j.path) r.given es) in
-      record {
-        answers = answers r.given r.git_answers;
-        may = may_answer r.given r.may r.git_answers r.git;
-        tidy = is_tidy r.given r.git_answers;
-        items = own_items r.given;
-        here = refl;
-        bytes = record { info = r.info_bytes; own = r.own_bytes };
-        read = r.read;
-        inside = inside r.info_bytes r.own_bytes r.info_are r.own_are;
-        files = subst (λ (ds : List EntryModel). bytes_of o.files.items ≡ flat_map (kept_file s o.job) ds) are files;
-        children = subst (λ (ds : List EntryModel). o.children.items ≡ flat_map (kept_directory s o.job) ds) are children;
-      }
-
-  -- the entries were not taken
-  pub left_refused : (info own : RulePair) → HasRead info own → (k : JobModel)
-      → ((i o : Pair) → AreFilesOf true info i → AreFilesOf (is_top j.path) own o → k ≡ extended j (record { info = i; own = o })) →
-      (cause : Cause) → LeavesIn s k es (Err cause) → OpensLevel lists gives s j (Err (Broken cause))
-  left_refused info own r k inside Memory l = tt
-  left_refused info own r k inside TooManyDirs l = absurd l
-  left_refused info own r k inside TooDeep l = deep_opens info own r k inside l
+    -- they were taken
+    pub opened : (found : LeftIn) → LeavesIn left_out s e.job e.entries.items (Ok found)
+        → IsOpened lists gives left_out s j (record {
+          job = e.job;
+          files = found.files;
+          children = found.children;
+          left = found.left;
+          entries = length e.entries.items;
+        })
+    opened found (files, children, left) = record {
+      inside = c.inside;
+      files = files ∙ ap (flat_map (kept_file s e.job)) c.entries;
+      children = children ∙ ap (flat_map (kept_directory s e.job)) c.entries;
+      left = left ∙ ap (flat_map (left_entry left_out s e.job)) c.entries;
+      entries = ap length c.entries ∙ length_entries c.inside.items;
+    }

@@ -1,13 +1,35 @@
--- What the attributes of a selection leave out.
-use Rattle.std.proofs.Common.{◌≡◌, ◌⊎◌, ◌∙◌, ◌||◌, ℕ, Bool, true, false, cond, List, [], ◌∷◌, map, refl, sym, ap, inl, inr, is_some, codes}
-use Rattle.std.proofs.Common.{Some}
+-- Which attribute of a selection leaves out, if one does.
+use Rattle.std.proofs.Common.{◌≡◌, ◌⊎◌, ◌∙◌, ◌<◌, ◌||◌, ℕ, zero, suc, Bool, true, false, cond, List, [], ◌∷◌, length, get_or, take, map, refl}
+use Rattle.std.proofs.Common.{sym, ap, subst, inl, inr, codes, arith, Option, Some, None}
 use Rattle.std.specs.Borrow.{Bor}
 use Rattle.std.specs.List.{find, list_any}
 use Rattle.std.specs.Prelude.{option_map}
 use Rattle.lc_rules.specs.AttrStates.{state_of}
 use Rattle.lc_level.specs.Job.{JobModel}
-use Rattle.lc_level.specs.Level.{attribute_reason, by_attribute, is_set}
+use Rattle.lc_level.specs.Level.{Reason, attribute_reason, by_attribute, is_set}
 use Rattle.lc_level.specs.Selection.{SelectionModel, selection_of}
+
+-- where none passes, none is found
+find_none : {X : Type 0} (p : X → Bool) (xs : List X) → list_any p xs ≡ false → find p xs ≡ None
+find_none p [] none = refl
+find_none {X} p (x ∷ xs) none = at (p x) none (λ e. find_none p xs e)
+  where
+    at : (b : Bool) → (b || list_any p xs) ≡ false → (list_any p xs ≡ false → find p xs ≡ None) → cond b (Some x) (find p xs) ≡ None
+    at true e rest = cc
+    at false e rest = rest e
+
+-- the first that passes is found
+find_first : {X : Type 0} (p : X → Bool) (xs : List X) (i : ℕ) (d : X) → i < length xs → list_any p (take i xs) ≡ false
+    → p (get_or xs i d) ≡ true → find p xs ≡ Some (get_or xs i d)
+find_first p [] i d within before passes = absurd (omega (arith, within))
+find_first p (x ∷ xs) zero d within before passes = ap (λ b. cond b (Some x) (find p xs)) passes
+find_first {X} p (x ∷ xs) (suc i) d within before passes =
+    at (p x) before (λ e. find_first p xs i d (omega (arith, within)) e passes)
+  where
+    at : (b : Bool) → (b || list_any p (take i xs)) ≡ false → (list_any p (take i xs) ≡ false → find p xs ≡ Some (get_or xs i d))
+        → cond b (Some x) (find p xs) ≡ Some (get_or xs i d)
+    at true e rest = cc
+    at false e rest = rest e
 
 module _ (j : JobModel) (path : List ℕ) (is_dir : Bool) where
   -- whether an attribute is Set at the path
@@ -17,48 +39,70 @@ module _ (j : JobModel) (path : List ℕ) (is_dir : Bool) where
   abbrev pub is_set_by : Bor (List ℕ) → Bool
   is_set_by name = is_set_at name.now
 
-  -- there is a reason if some attribute is Set
-  some_found : (names : List (List ℕ)) → is_some (option_map by_attribute (find is_set_at names)) ≡ list_any is_set_at names
-  some_found [] = refl
-  some_found (name ∷ names) = go (is_set_at name) (some_found names)
+  find_lent : (names : List (Bor (List ℕ)))
+      → find is_set_at (map (λ name. name.now) names) ≡ option_map (λ (name : Bor (List ℕ)). name.now) (find is_set_by names)
+  find_lent [] = refl
+  find_lent (name ∷ names) = at (is_set_by name) (find_lent names)
     where
-      go : (b : Bool) → is_some (option_map by_attribute (find is_set_at names)) ≡ list_any is_set_at names
-          → is_some (option_map by_attribute (cond b (Some name) (find is_set_at names))) ≡ (b || list_any is_set_at names)
-      go true rest = refl
-      go false rest = rest
-
-  any_lent : (names : List (Bor (List ℕ))) → list_any is_set_at (map (λ name. name.now) names) ≡ list_any is_set_by names
-  any_lent [] = refl
-  any_lent (name ∷ names) = ap (λ b. is_set_by name || b) (any_lent names)
+      at : (b : Bool) → find is_set_at (map (λ (n : Bor (List ℕ)). n.now) names)
+          ≡ option_map (λ (n : Bor (List ℕ)). n.now) (find is_set_by names) → cond b (Some name.now) (find is_set_at (map (λ (n : Bor (List ℕ)). n.now) names))
+          ≡ option_map (λ (n : Bor (List ℕ)). n.now) (cond b (Some name) (find is_set_by names))
+      at true rest = refl
+      at false rest = rest
 
   -- the reason by the words' attributes, after that of an archive
-  reason_by : (archive : Bool) (names : List (Bor (List ℕ)))
-      → is_some (attribute_reason (selection_of archive (map (λ name. name.now) names)) j path is_dir)
-      ≡ cond archive (is_set_at (codes "export-ignore") || list_any is_set_by names) (list_any is_set_by names)
-  reason_by true names =
-      some_found (codes "export-ignore" ∷ map (λ name. name.now) names) ∙ ap (λ b. is_set_at (codes "export-ignore") || b) (any_lent names)
-  reason_by false names = some_found (map (λ name. name.now) names) ∙ any_lent names
+  abbrev reason_by : Bool → Option (Bor (List ℕ)) → Option Reason
+  reason_by archive found =
+      option_map by_attribute (cond archive (cond (is_set_at (codes "export-ignore")) (Some (codes "export-ignore"))
+      (option_map (λ (name : Bor (List ℕ)). name.now) found)) (option_map (λ (name : Bor (List ℕ)). name.now) found))
 
-  -- one of the words' attributes that is Set leaves out, in an archive too
-  pub left_out_by : (s : SelectionModel) (archive : Bool) (names : List (Bor (List ℕ))) → selection_of archive (map (λ name. name.now) names) ≡ s
-      → list_any is_set_by names ≡ true → true ≡ is_some (attribute_reason s j path is_dir)
-  left_out_by s archive names is any =
-      sym (ap (λ (t : SelectionModel). is_some (attribute_reason t j path is_dir)) (sym is) ∙ (reason_by archive names ∙ go archive (is_set_at (codes "export-ignore"))))
-    where
-      go : (a b : Bool) → cond a (b || list_any is_set_by names) (list_any is_set_by names) ≡ true
-      go true true = refl
-      go true false = any
-      go false b = any
+  by_words : (archive : Bool) (names : List (Bor (List ℕ)))
+      → attribute_reason (selection_of archive (map (λ name. name.now) names)) j path is_dir ≡ reason_by archive (find is_set_by names)
+  by_words true names =
+      ap (λ o. option_map by_attribute (cond (is_set_at (codes "export-ignore")) (Some (codes "export-ignore")) o)) (find_lent names)
+  by_words false names = ap (option_map by_attribute) (find_lent names)
 
-  -- and where none is, nothing does
-  pub left_in_by : (s : SelectionModel) (archive : Bool) (names : List (Bor (List ℕ))) → selection_of archive (map (λ name. name.now) names) ≡ s
-      → (archive ≡ false) ⊎ (is_set_at (codes "export-ignore") ≡ false) → list_any is_set_by names ≡ false
-      → false ≡ is_some (attribute_reason s j path is_dir)
-  left_in_by s archive names is none any =
-      sym (ap (λ (t : SelectionModel). is_some (attribute_reason t j path is_dir)) (sym is) ∙ (reason_by archive names ∙ go archive (is_set_at (codes "export-ignore")) none))
-    where
-      go : (a b : Bool) → (a ≡ false) ⊎ (b ≡ false) → cond a (b || list_any is_set_by names) (list_any is_set_by names) ≡ false
-      go false b either = any
-      go true false either = any
-      go true true (inl e) = cc
-      go true true (inr e) = cc
+  module _ (s : SelectionModel) (archive : Bool) (names : List (Bor (List ℕ)))
+      (is : selection_of archive (map (λ name. name.now) names) ≡ s) where
+    reason_is : attribute_reason s j path is_dir ≡ reason_by archive (find is_set_by names)
+    reason_is = ap (λ (t : SelectionModel). attribute_reason t j path is_dir) (sym is) ∙ by_words archive names
+
+    -- what an archive leaves out comes first
+    pub archive_first : archive ≡ true → is_set_at (codes "export-ignore") ≡ true
+        → Some (by_attribute (codes "export-ignore")) ≡ attribute_reason s j path is_dir
+    archive_first asked set =
+        sym (reason_is ∙ ap (λ b. reason_by b (find is_set_by names)) asked
+        ∙ ap (λ b. option_map by_attribute (cond b (Some (codes "export-ignore"))
+        (option_map (λ (name : Bor (List ℕ)). name.now) (find is_set_by names)))) set)
+
+    -- where it has no say, the words' attributes decide
+    by_names : (archive ≡ false) ⊎ (is_set_at (codes "export-ignore") ≡ false)
+        → (found : Option (Bor (List ℕ)))
+        → reason_by archive found ≡ option_map by_attribute (option_map (λ (name : Bor (List ℕ)). name.now) found)
+    by_names none found = at archive (is_set_at (codes "export-ignore")) none
+      where
+        lent : Option (List ℕ)
+        lent = option_map (λ (name : Bor (List ℕ)). name.now) found
+
+        at : (a b : Bool) → (a ≡ false) ⊎ (b ≡ false)
+            → option_map by_attribute (cond a (cond b (Some (codes "export-ignore")) lent) lent) ≡ option_map by_attribute lent
+        at false b either = refl
+        at true false either = refl
+        at true true (inl e) = cc
+        at true true (inr e) = cc
+
+    -- the first of the words' attributes that is Set
+    pub word_first : (archive ≡ false) ⊎ (is_set_at (codes "export-ignore") ≡ false) → (i : ℕ) (d : Bor (List ℕ)) → i < length names
+        → list_any is_set_by (take i names) ≡ false → is_set_by (get_or names i d) ≡ true
+        → Some (by_attribute (get_or names i d).now) ≡ attribute_reason s j path is_dir
+    word_first none i d within before set =
+        sym (reason_is ∙ by_names none (find is_set_by names)
+        ∙ ap (λ o. option_map by_attribute (option_map (λ (name : Bor (List ℕ)). name.now) o))
+        (find_first is_set_by names i d within before set))
+
+    -- and where none is, nothing leaves out
+    pub no_word : (archive ≡ false) ⊎ (is_set_at (codes "export-ignore") ≡ false) → list_any is_set_by names ≡ false
+        → None ≡ attribute_reason s j path is_dir
+    no_word none any =
+        sym (reason_is ∙ by_names none (find is_set_by names)
+        ∙ ap (λ o. option_map by_attribute (option_map (λ (name : Bor (List ℕ)). name.now) o)) (find_none is_set_by names any))

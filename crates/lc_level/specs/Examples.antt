@@ -7,13 +7,14 @@ use denote.RawPtr.{null_ptr}
 use Rattle.lc_census.specs.declared.totals.Eol.TheVariants.{Lf}
 use Rattle.lc_level.specs.Answers.{Item, file_item, directory_item, other_item}
 use Rattle.lc_rules.specs.declared.origin.Origin.TheVariants.{Directory}
-use Rattle.lc_level.specs.Level.{Reason, named_git, by_rule, by_attribute, other_kind, Level, faulted_level, listed_level, level}
+use Rattle.lc_level.specs.Level.{named_git, by_rule, by_attribute, other_kind, LeftModel, Level, faulted_level, listed_level, level}
 use Rattle.lc_level.specs.Level.{counted_in, failed_in, walked_in, left_in}
 use Rattle.lc_level.specs.NodeTrees.{tree_of_node}
 use Rattle.lc_level.specs.Selection.{selection_of_archive}
 use Rattle.lc_level.specs.TopJob.{top_job}
 use Rattle.lc_tree.specs.FileAnswers.{census}
 use Rattle.lc_tree.specs.Nodes.{Child}
+use Rattle.lc_tree.specs.declared.entry.Kind.TheVariants.{File, Other}
 use Rattle.lc_tree.specs.declared.fault_word.FaultWord.TheVariants.{Read, Name}
 use Rattle.lc_tree.specs.declared.node.Node.{Node, roll-Node}
 use Rattle.lc_tree.specs.declared.node.Node.TheOpen.{Node-F}
@@ -90,7 +91,7 @@ pub record Names : Type 0 where
   pub files : List (List ℕ)
   pub faults : List (List ℕ)
   pub children : List (List ℕ)
-  pub outside : List (List ℕ × Reason)
+  pub outside : List LeftModel
 
 abbrev pub names_in : Level → Names
 names_in (faulted_level path word) = record { files = []; faults = []; children = []; outside = [] }
@@ -106,8 +107,11 @@ abbrev pub small_names : Global → Bool → Names
 small_names alloc archive = names_in (level (selection_of_archive archive) (top_job None) (tree_of_node (small_node alloc) []))
 
 -- what is left out of it in any case
-abbrev pub small_outside : List (List ℕ × Reason)
-small_outside = (codes ".git", named_git) ∷ (codes "a.o", by_rule (Directory 0) 1) ∷ (codes "l", other_kind) ∷ []
+abbrev pub small_outside : List LeftModel
+small_outside =
+    record { name = codes ".git"; kind = File; reason = named_git }
+    ∷ record { name = codes "a.o"; kind = File; reason = by_rule (Directory 0) 1 }
+    ∷ record { name = codes "l"; kind = Other; reason = other_kind } ∷ []
 
 abbrev pub small_as_it_is : Names
 small_as_it_is = record {
@@ -123,7 +127,8 @@ pub record ExamplesHold (alloc : Global) : Type 0 where
   pub top : (tree_of_node (small_node alloc) []).here ≡ Ok small_items
   pub count : census (codes "one\n") ≡ record { lines = 1; blank = 0; bytes = 4; eol = Lf }
   pub names : small_names alloc false ≡ small_as_it_is
-  pub archived : (small_names alloc true).outside ≡ small_outside ++ (codes "s", by_attribute (codes "export-ignore")) ∷ []
+  pub archived : (small_names alloc true).outside
+      ≡ small_outside ++ record { name = codes "s"; kind = File; reason = by_attribute (codes "export-ignore") } ∷ []
   pub closed_there : (tree_of_node (small_node alloc) (codes "b" ∷ [])).here ≡ Err Read
   pub bad_name_there : (tree_of_node (small_node alloc) (codes "d" ∷ [])).here ≡ Err Name
   pub none_there : (tree_of_node (small_node alloc) (codes "f" ∷ [])).here ≡ Err Read

@@ -3,11 +3,11 @@ use Rattle.std.specs.Prelude.{◌≡◌, ℕ, Bool, true, List, Result, Ok, Err,
 use Rattle.lc_level.specs.Answers.{Answers}
 use Rattle.lc_tree.specs.Listing.{EntryModel}
 use Rattle.lc_level.specs.RuleFiles.{Pair, has_directory, and_then, info_items, info_bytes}
-use Rattle.lc_level.specs.RulePairs.{AreFilesOf}
+use Rattle.lc_level.specs.RulePairs.{IsReadOf}
 use Rattle.lc_level.specs.PlacePaths.{place_path}
 use Rattle.lc_level.specs.TreeAnswers.{MayList, items_of}
 use Rattle.lc_tree.specs.Trees.{Listings, Contents}
-use Rattle.lc_level.specs.declared.rule_pair.RulePair.{RulePair}
+use Rattle.lc_level.specs.declared.rule_pair.PairRead.{PairRead}
 use Rattle.lc_level.specs.declared.unlisted.Unlisted.{Unlisted}
 use Rattle.lc_level.specs.declared.unlisted.Unlisted.TheVariants.{Faulted, Broken}
 use Rattle.lc_level.specs.declared.cause.Cause.TheVariants.{Memory, TooManyDirs, TooDeep}
@@ -27,15 +27,15 @@ module _ (lists : List ℕ → Listings) (gives : List ℕ → Contents) where
     pub git : there ≡ true → MayList lists gives (codes ".git") a.git
     pub info : there ≡ true → has_directory (codes "info") (items_of a.git) ≡ true → MayList lists gives (codes ".git/info") a.info
 
-  -- the answer by such answers: the files, or the place of the first fault, or memory was refused
-  abbrev pub ReadsGit : Bool → Result RulePair Unlisted → Type 0
-  ReadsGit there (Ok files) =
+  -- the answer by such answers: what was read, or the place of the first fault, or memory was refused
+  abbrev pub ReadsGit : Bool → Bool → Result PairRead Unlisted → Type 0
+  ReadsGit texts there (Ok read) =
       (a : Answers) × MayAnswerGit there a
-      × ((bytes : Pair) × AreFilesOf true files bytes × (and_then (info_items there a) info_bytes ≡ Ok bytes))
-  ReadsGit there (Err (Faulted place word)) =
+      × ((bytes : Pair) × IsReadOf texts true read bytes × (and_then (info_items there a) info_bytes ≡ Ok bytes))
+  ReadsGit texts there (Err (Faulted place word)) =
       (a : Answers) × MayAnswerGit there a
       × ((directory : List ℕ)
       → and_then (info_items there a) info_bytes ≡ Err (record { path = place_path directory place; word = word }))
-  ReadsGit there (Err (Broken Memory)) = Unit {0}
-  ReadsGit there (Err (Broken TooManyDirs)) = ⊥
-  ReadsGit there (Err (Broken TooDeep)) = ⊥
+  ReadsGit texts there (Err (Broken Memory)) = Unit {0}
+  ReadsGit texts there (Err (Broken TooManyDirs)) = ⊥
+  ReadsGit texts there (Err (Broken TooDeep)) = ⊥

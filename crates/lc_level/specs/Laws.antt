@@ -1,11 +1,11 @@
 -- The laws of one directory's work.
-use Rattle.std.specs.Prelude.{◌≡◌, ℕ, true, false, List, ◌∷◌, codes}
+use Rattle.std.specs.Prelude.{◌≡◌, ℕ, Bool, true, false, List, ◌∷◌, codes}
 use Rattle.lc_tree.specs.Trees.{Listings, Contents}
 use Rattle.lc_level.specs.Answers.{Answers}
 use Rattle.lc_level.specs.CountedNames.{IsCounted}
 use Rattle.lc_level.specs.Job.{JobModel}
 use Rattle.lc_level.specs.LeftIn.{bytes_of}
-use Rattle.lc_level.specs.Level.{CountedModel, FileFaultModel, IsLevelOf, level}
+use Rattle.lc_level.specs.Level.{CountedModel, FileFaultModel, LevelParts, IsLevelOf, level}
 use Rattle.lc_level.specs.Opens.{IsOpened}
 use Rattle.lc_level.specs.Selection.{SelectionModel, selection_of}
 use Rattle.lc_level.specs.Tidy.{IsTidy}
@@ -17,18 +17,28 @@ use Rattle.lc_level.specs.declared.opening.Opened.{Opened}
 abbrev pub ArchiveLaw : Type 0
 ArchiveLaw = (names : List (List ℕ)) → selection_of true names ≡ selection_of false (codes "export-ignore" ∷ names)
 
+-- what is told of a directory that was opened, whose files gave these
+abbrev pub parts_with : Opened → List CountedModel → List FileFaultModel → LevelParts
+parts_with o files faults = record {
+  files = files;
+  faults = faults;
+  children = o.children.items;
+  left = o.left.items;
+  entries = o.entries;
+}
+
 module _ (lists : List ℕ → Listings) (gives : List ℕ → Contents) where
   -- a directory that was opened and whose files were counted: by answers that the tree may give, these are its level
   abbrev pub CountedLaw : Type 0
   CountedLaw =
-      (s : SelectionModel) (j : JobModel) (o : Opened) (found : CountedFiles) →
-      IsOpened lists gives s j o → IsCounted gives o.job (bytes_of o.files.items) found →
+      (left_out : Bool) (s : SelectionModel) (j : JobModel) (o : Opened) (found : CountedFiles) →
+      IsOpened lists gives left_out s j o → IsCounted gives o.job (bytes_of o.files.items) found →
       (a : Answers) × MayAnswer lists gives j.path a × IsTidy a
-      × IsLevelOf (level s j a) found.files.items found.faults.items o.children.items
+      × IsLevelOf (level s j a) left_out (parts_with o found.files.items found.faults.items)
 
-  -- the child directories of one that was opened are those of its level, whatever its files give
+  -- all but the files of one that was opened is that of its level, whatever its files give
   abbrev pub OpenedLaw : Type 0
   OpenedLaw =
-      (s : SelectionModel) (j : JobModel) (o : Opened) (c : IsOpened lists gives s j o) →
+      (left_out : Bool) (s : SelectionModel) (j : JobModel) (o : Opened) (c : IsOpened lists gives left_out s j o) →
       (files : List CountedModel) × (faults : List FileFaultModel)
-      × IsLevelOf (level s j c.answers) files faults o.children.items
+      × IsLevelOf (level s j c.inside.answers) left_out (parts_with o files faults)

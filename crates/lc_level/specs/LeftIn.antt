@@ -1,15 +1,18 @@
--- Which entries of a directory its rules and the selection leave in: gitignore(5), PATTERN FORMAT, and for an archive gitattributes(5),
+-- Which entries of a directory are left in, and which are left out: gitignore(5), PATTERN FORMAT, and for an archive gitattributes(5),
 -- Creating an archive.
-use Rattle.std.specs.Prelude.{◌≡◌, ℕ, Bool, true, false, ◌&&◌, cond, List, [], ◌∷◌, ◌++◌, map, Vec, Result, Ok, Err}
+use Rattle.std.specs.Prelude.{◌≡◌, ℕ, Bool, true, false, ◌&&◌, cond, if◌then◌else◌, is_none, List, [], ◌∷◌, ◌++◌, map, Vec, Option}
+use Rattle.std.specs.Prelude.{Some, None, Result, Ok, Err, unwrap_or}
 use Rattle.std.specs.List.{flat_map, list_any}
 use Rattle.std.specs.Global.{Global}
 use Rattle.lc_level.specs.Deep.{is_too_deep}
 use Rattle.lc_tree.specs.Kinds.{is_file, is_dir}
 use Rattle.lc_level.specs.Job.{JobModel}
-use Rattle.lc_level.specs.Level.{is_taken, child_job}
+use Rattle.lc_level.specs.Level.{Reason, other_kind, LeftModel, reason_for, is_taken, child_job}
 use Rattle.lc_level.specs.Selection.{SelectionModel}
 use Rattle.lc_tree.specs.Listing.{EntryModel}
 use Rattle.lc_level.specs.declared.left_in.LeftIn.{LeftIn}
+use Rattle.lc_tree.specs.declared.entry.Kind.{Kind}
+use Rattle.lc_tree.specs.declared.entry.Kind.TheVariants.{File, Dir, Other}
 use Rattle.lc_level.specs.declared.cause.Cause.{Cause}
 use Rattle.lc_level.specs.declared.cause.Cause.TheVariants.{Memory, TooManyDirs, TooDeep}
 
@@ -20,39 +23,68 @@ kept_file s j e = cond (is_file e.kind && is_taken s j e.name false) (e.name ∷
 abbrev pub kept_directory : SelectionModel → JobModel → EntryModel → List (List ℕ × JobModel)
 kept_directory s j e = cond (is_dir e.kind && is_taken s j e.name true) ((e.name, child_job j e.name) ∷ []) []
 
+-- an entry that is left out for this reason, if it is
+abbrev pub left_by : List ℕ → Kind → Option Reason → List LeftModel
+left_by name kind None = []
+left_by name kind (Some reason) = record { name = name; kind = kind; reason = reason } ∷ []
+
+-- the same where entries left out are asked for
+abbrev pub kept_left : Bool → List ℕ → Kind → Option Reason → List LeftModel
+kept_left left_out name kind reason = if left_out then left_by name kind reason else []
+
+abbrev pub left_entry : Bool → SelectionModel → JobModel → EntryModel → List LeftModel
+left_entry left_out s j e = kept_left left_out e.name e.kind (reason_for s j e.name e.kind)
+
 -- the bytes of names
 abbrev pub bytes_of : List (Vec ℕ Global) → List (List ℕ)
 bytes_of names = map (λ (n : Vec ℕ Global). n.items) names
 
--- what taking the file of a name answers, where the rules leave it in or not
-abbrev pub KeepsFile : Bool → List ℕ → LeftIn → LeftIn → Result (Unit {0}) Cause → Type 0
-KeepsFile kept name old new (Ok _) =
-    (bytes_of new.files.items ≡ bytes_of old.files.items ++ cond kept (name ∷ []) []) × (new.children.items ≡ old.children.items)
-KeepsFile kept name old new (Err Memory) = Unit {0}
-KeepsFile kept name old new (Err TooManyDirs) = ⊥
-KeepsFile kept name old new (Err TooDeep) = ⊥
+-- what was taken before, and after it these names of files, child directories and entries left out
+pub record Gains (old new : LeftIn) (files : List (List ℕ)) (children : List (List ℕ × JobModel)) (left : List LeftModel) : Type 0 where
+  pub files_are : bytes_of new.files.items ≡ bytes_of old.files.items ++ files
+  pub children_are : new.children.items ≡ old.children.items ++ children
+  pub left_are : new.left.items ≡ old.left.items ++ left
+
+-- what taking the file of a name answers, by why it is left out, if it is
+abbrev pub TakesFile : Bool → Option Reason → List ℕ → LeftIn → LeftIn → Result (Unit {0}) Cause → Type 0
+TakesFile left_out reason name old new (Ok _) =
+    Gains old new (cond (is_none reason) (name ∷ []) []) [] (kept_left left_out name File reason)
+TakesFile left_out reason name old new (Err Memory) = Unit {0}
+TakesFile left_out reason name old new (Err TooManyDirs) = ⊥
+TakesFile left_out reason name old new (Err TooDeep) = ⊥
 
 -- what taking a child directory answers, which may have too many segments
-abbrev pub KeepsDirectory : Bool → Bool → List ℕ × JobModel → LeftIn → LeftIn → Result (Unit {0}) Cause → Type 0
-KeepsDirectory kept deep child old new (Ok _) =
-    (bytes_of new.files.items ≡ bytes_of old.files.items) × (new.children.items ≡ old.children.items ++ cond kept (child ∷ []) [])
-KeepsDirectory kept deep child old new (Err Memory) = Unit {0}
-KeepsDirectory kept deep child old new (Err TooManyDirs) = ⊥
-KeepsDirectory kept deep child old new (Err TooDeep) = (kept ≡ true) × (deep ≡ true)
+abbrev pub TakesDirectory : Bool → Option Reason → Bool → List ℕ × JobModel → LeftIn → LeftIn → Result (Unit {0}) Cause → Type 0
+TakesDirectory left_out reason deep child old new (Ok _) =
+    Gains old new [] (cond (is_none reason) (child ∷ []) []) (kept_left left_out child.0 Dir reason)
+TakesDirectory left_out reason deep child old new (Err Memory) = Unit {0}
+TakesDirectory left_out reason deep child old new (Err TooManyDirs) = ⊥
+TakesDirectory left_out reason deep child old new (Err TooDeep) = (is_none reason ≡ true) × (deep ≡ true)
+
+-- what leaving out an entry of any kind answers
+abbrev pub LeavesOut : Bool → Reason → List ℕ → Kind → LeftIn → LeftIn → Result (Unit {0}) Cause → Type 0
+LeavesOut left_out reason name kind old new (Ok _) = Gains old new [] [] (kept_left left_out name kind (Some reason))
+LeavesOut left_out reason name kind old new (Err Memory) = Unit {0}
+LeavesOut left_out reason name kind old new (Err TooManyDirs) = ⊥
+LeavesOut left_out reason name kind old new (Err TooDeep) = ⊥
+
+-- what taking what is neither a file nor a directory answers
+abbrev pub TakesOther : Bool → Option Reason → List ℕ → LeftIn → LeftIn → Result (Unit {0}) Cause → Type 0
+TakesOther left_out reason name old new result =
+    LeavesOut left_out (unwrap_or reason other_kind) name Other old new result
 
 -- what taking one entry more answers
-abbrev pub Keeps : SelectionModel → JobModel → EntryModel → LeftIn → LeftIn → Result (Unit {0}) Cause → Type 0
-Keeps s j e old new (Ok _) =
-    (bytes_of new.files.items ≡ bytes_of old.files.items ++ kept_file s j e)
-    × (new.children.items ≡ old.children.items ++ kept_directory s j e)
-Keeps s j e old new (Err Memory) = Unit {0}
-Keeps s j e old new (Err TooManyDirs) = ⊥
-Keeps s j e old new (Err TooDeep) = is_too_deep s j e ≡ true
+abbrev pub Takes : Bool → SelectionModel → JobModel → EntryModel → LeftIn → LeftIn → Result (Unit {0}) Cause → Type 0
+Takes left_out s j e old new (Ok _) = Gains old new (kept_file s j e) (kept_directory s j e) (left_entry left_out s j e)
+Takes left_out s j e old new (Err Memory) = Unit {0}
+Takes left_out s j e old new (Err TooManyDirs) = ⊥
+Takes left_out s j e old new (Err TooDeep) = is_too_deep s j e ≡ true
 
--- what taking all entries answers: those left in, in order; or one of them is too deep; or memory was refused
-abbrev pub LeavesIn : SelectionModel → JobModel → List EntryModel → Result LeftIn Cause → Type 0
-LeavesIn s j es (Ok left) =
-    (bytes_of left.files.items ≡ flat_map (kept_file s j) es) × (left.children.items ≡ flat_map (kept_directory s j) es)
-LeavesIn s j es (Err Memory) = Unit {0}
-LeavesIn s j es (Err TooManyDirs) = ⊥
-LeavesIn s j es (Err TooDeep) = list_any (is_too_deep s j) es ≡ true
+-- what taking all entries answers: those left in and out, in order; or one of them is too deep; or memory was refused
+abbrev pub LeavesIn : Bool → SelectionModel → JobModel → List EntryModel → Result LeftIn Cause → Type 0
+LeavesIn left_out s j es (Ok found) =
+    (bytes_of found.files.items ≡ flat_map (kept_file s j) es) × (found.children.items ≡ flat_map (kept_directory s j) es)
+    × (found.left.items ≡ flat_map (left_entry left_out s j) es)
+LeavesIn left_out s j es (Err Memory) = Unit {0}
+LeavesIn left_out s j es (Err TooManyDirs) = ⊥
+LeavesIn left_out s j es (Err TooDeep) = list_any (is_too_deep s j) es ≡ true

@@ -1,5 +1,5 @@
 -- One level of the walk: what becomes of each entry of one directory.
-use Rattle.std.specs.Prelude.{ℕ, ◌≡◌, Bool, true, false, cond, List, [], ◌∷◌, flat_map, map, bytes_eq, codes}
+use Rattle.std.specs.Prelude.{ℕ, ◌≡◌, Bool, true, false, cond, List, [], ◌∷◌, length, flat_map, map, bytes_eq, codes}
 use Rattle.std.specs.Prelude.{if◌then◌else◌, Option, None, Some, option_map, Result, Ok, Err}
 use Rattle.std.specs.List.{find}
 use Rattle.std.specs.Option.{is_none, option_map_or, option_or}
@@ -10,6 +10,8 @@ use Rattle.lc_rules.specs.Verdicts.{deciding}
 use Rattle.lc_rules.specs.declared.origin.Origin.{Origin}
 use Rattle.lc_rules.specs.declared.states.TextState.{TextState}
 use Rattle.lc_census.specs.declared.totals.Count.{Count}
+use Rattle.lc_tree.specs.declared.entry.Kind.{Kind}
+use Rattle.lc_tree.specs.declared.entry.Kind.TheVariants.{File, Dir, Other}
 use Rattle.lc_tree.specs.declared.fault_word.FaultWord.{FaultWord}
 use Rattle.lc_glob.specs.Path.{path_in}
 use Rattle.lc_rules.specs.AttrStates.{state_of, as_text}
@@ -38,12 +40,19 @@ pub data Reason : Type 0 where
   by_attribute : (name : List ℕ) → Reason
   other_kind : Reason
 
--- what becomes of an entry: a file is counted, or has a fault; a directory is to be walked, by this job; or the entry is left out
+-- an entry that is left out: what stands under its name, and why it is
+pub record LeftModel : Type 0 where
+  pub name : List ℕ
+  pub kind : Kind
+  pub reason : Reason
+
+-- what becomes of an entry: a file is counted, or has a fault; a directory is to be walked, by this job; or the entry, of this kind, is
+-- left out
 pub data Fate : Type 0 where
   counted : CountedModel → Fate
   failed : FaultWord → Fate
   walked : JobModel → Fate
-  left : Reason → Fate
+  left : Kind → Reason → Fate
 
 -- a directory gives a fault at some path and nothing else, or its entries' names with their fates, in the order of its listing
 pub data Level : Type 0 where
@@ -76,6 +85,12 @@ reason_at s j path is_dir =
 abbrev pub reason_of : SelectionModel → JobModel → List ℕ → Bool → Option Reason
 reason_of s j name is_dir = cond (bytes_eq name (codes ".git")) (Some named_git) (reason_at s j (path_in j.path name) is_dir)
 
+-- of an entry, which may be of a kind that is left out
+abbrev pub reason_for : SelectionModel → JobModel → List ℕ → Kind → Option Reason
+reason_for s j name File = reason_of s j name false
+reason_for s j name Dir = reason_of s j name true
+reason_for s j name Other = option_or (reason_of s j name false) (Some other_kind)
+
 -- nothing does
 abbrev pub is_kept : SelectionModel → JobModel → List ℕ → Bool → Bool
 is_kept s j path is_dir = is_none (reason_at s j path is_dir)
@@ -101,9 +116,9 @@ file_fate j name (Ok count) = counted (record { name = name; text = text_of j (p
 file_fate j name (Err word) = failed word
 
 abbrev pub fate_of : SelectionModel → JobModel → Item → Fate
-fate_of s j (file_item name count rules) = option_map_or left (reason_of s j name false) (file_fate j name count)
-fate_of s j (directory_item name) = option_map_or left (reason_of s j name true) (walked (child_job j name))
-fate_of s j (other_item name) = option_map_or left (reason_of s j name false) (left other_kind)
+fate_of s j (file_item name count rules) = option_map_or (left File) (reason_of s j name false) (file_fate j name count)
+fate_of s j (directory_item name) = option_map_or (left Dir) (reason_of s j name true) (walked (child_job j name))
+fate_of s j (other_item name) = option_map_or (left Other) (reason_of s j name false) (left Other other_kind)
 
 abbrev pub fates_of : SelectionModel → JobModel → List Item → List (List ℕ × Fate)
 fates_of s j items = map (λ item. (name_of item, fate_of s j item)) items
@@ -122,8 +137,8 @@ abbrev pub walked_of : List ℕ × Fate → List (List ℕ × JobModel)
 walked_of (name, walked job) = (name, job) ∷ []
 walked_of (name, _) = []
 
-abbrev pub left_of : List ℕ × Fate → List (List ℕ × Reason)
-left_of (name, left reason) = (name, reason) ∷ []
+abbrev pub left_of : List ℕ × Fate → List LeftModel
+left_of (name, left kind reason) = record { name = name; kind = kind; reason = reason } ∷ []
 left_of (name, _) = []
 
 -- the counted files, the faults of files, the child directories with their jobs, the entries left out
@@ -136,17 +151,27 @@ failed_in fates = flat_map failed_of fates
 abbrev pub walked_in : List (List ℕ × Fate) → List (List ℕ × JobModel)
 walked_in fates = flat_map walked_of fates
 
-abbrev pub left_in : List (List ℕ × Fate) → List (List ℕ × Reason)
+abbrev pub left_in : List (List ℕ × Fate) → List LeftModel
 left_in fates = flat_map left_of fates
 
--- a level that was listed has these counted files, file faults and child directories
-pub record IsLevelOf (l : Level) (files : List CountedModel) (faults : List FileFaultModel) (children : List (List ℕ × JobModel))
-    : Type 0 where
+-- what is told of a directory that was listed: its counted files, the faults of files, its child directories, entries left out, and
+-- the number of all its entries
+pub record LevelParts : Type 0 where
+  pub files : List CountedModel
+  pub faults : List FileFaultModel
+  pub children : List (List ℕ × JobModel)
+  pub left : List LeftModel
+  pub entries : ℕ
+
+-- a level that was listed has these parts; the entries left out where they are asked for
+pub record IsLevelOf (l : Level) (left_out : Bool) (parts : LevelParts) : Type 0 where
   pub fates : List (List ℕ × Fate)
   pub listed : l ≡ listed_level fates
-  pub counts : counted_in fates ≡ files
-  pub fails : failed_in fates ≡ faults
-  pub walks : walked_in fates ≡ children
+  pub counts : counted_in fates ≡ parts.files
+  pub fails : failed_in fates ≡ parts.faults
+  pub walks : walked_in fates ≡ parts.children
+  pub leaves : (if left_out then left_in fates else []) ≡ parts.left
+  pub numbers : length fates ≡ parts.entries
 
 -- ---- the whole
 

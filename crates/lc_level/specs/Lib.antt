@@ -1,6 +1,7 @@
 pub mod Answers
 pub mod CountedNames
 pub mod Deep
+pub mod Enters
 pub mod EntryLooks
 pub mod Examples
 pub mod FaultLines
@@ -15,6 +16,7 @@ pub mod OneAnswer
 pub mod Opens
 pub mod PathBuffers
 pub mod PlacePaths
+pub mod Reasons
 pub mod RuleFiles
 pub mod RulePairs
 pub mod RuleReads

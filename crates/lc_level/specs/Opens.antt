@@ -1,14 +1,14 @@
--- What opening a directory answers: its listing, its rule files and its entries, before its files are counted.
-use Rattle.std.specs.Prelude.{◌≡◌, ℕ, true, List, Result, Ok, Err}
+-- What opening a directory answers: what becomes of its entries, before its files are counted.
+use Rattle.std.specs.Prelude.{◌≡◌, ℕ, Bool, true, List, length, Result, Ok, Err}
 use Rattle.std.specs.List.{flat_map}
-use Rattle.lc_level.specs.Answers.{Item, Answers, entries_of}
+use Rattle.lc_level.specs.Answers.{Answers, entries_of}
 use Rattle.lc_level.specs.Deep.{has_too_deep}
+use Rattle.lc_level.specs.Enters.{IsInside}
 use Rattle.lc_level.specs.Job.{JobModel}
 use Rattle.lc_level.specs.Tidy.{IsTidy}
-use Rattle.lc_level.specs.LeftIn.{kept_file, kept_directory, bytes_of}
+use Rattle.lc_level.specs.LeftIn.{kept_file, kept_directory, left_entry, bytes_of}
 use Rattle.lc_level.specs.Level.{faulted_level, level}
 use Rattle.lc_level.specs.PlacePaths.{place_path}
-use Rattle.lc_level.specs.RuleFiles.{RuleBytes, rule_bytes, extended}
 use Rattle.lc_level.specs.Selection.{SelectionModel}
 use Rattle.lc_level.specs.TreeAnswers.{MayAnswer}
 use Rattle.lc_tree.specs.Trees.{Listings, Contents}
@@ -17,19 +17,15 @@ use Rattle.lc_level.specs.declared.unlisted.Unlisted.{Unlisted}
 use Rattle.lc_level.specs.declared.unlisted.Unlisted.TheVariants.{Faulted, Broken}
 use Rattle.lc_level.specs.declared.cause.Cause.TheVariants.{Memory, TooManyDirs, TooDeep}
 
-module _ (lists : List ℕ → Listings) (gives : List ℕ → Contents) (s : SelectionModel) (j : JobModel) where
-  -- by answers that the tree may give: the directory with its rule files, and the names that these leave in
+module _ (lists : List ℕ → Listings) (gives : List ℕ → Contents) (left_out : Bool) (s : SelectionModel) (j : JobModel) where
+  -- by answers that the tree may give: the directory with its rule files, what of its entries these leave in and out, and how many
+  -- entries it has
   pub record IsOpened (o : Opened) : Type 0 where
-    pub answers : Answers
-    pub may : MayAnswer lists gives j.path answers
-    pub tidy : IsTidy answers
-    pub items : List Item
-    pub here : answers.here ≡ Ok items
-    pub bytes : RuleBytes
-    pub read : rule_bytes j.path items answers ≡ Ok bytes
-    pub inside : o.job ≡ extended j bytes
-    pub files : bytes_of o.files.items ≡ flat_map (kept_file s o.job) (entries_of items)
-    pub children : o.children.items ≡ flat_map (kept_directory s o.job) (entries_of items)
+    pub inside : IsInside lists gives j o.job
+    pub files : bytes_of o.files.items ≡ flat_map (kept_file s o.job) (entries_of inside.items)
+    pub children : o.children.items ≡ flat_map (kept_directory s o.job) (entries_of inside.items)
+    pub left : o.left.items ≡ flat_map (left_entry left_out s o.job) (entries_of inside.items)
+    pub entries : o.entries ≡ length inside.items
 
   -- a directory that is opened, at fault, too deep for a walk, or given up for want of memory
   abbrev pub OpensLevel : Result Opened Unlisted → Type 0

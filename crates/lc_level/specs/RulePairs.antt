@@ -3,9 +3,10 @@ use Rattle.std.specs.Prelude.{◌≡◌, ℕ, Bool, ◌⊎◌, List, Option, Som
 use Rattle.lc_rules.specs.IgnoreRules.{rules_of}
 use Rattle.lc_rules.specs.AttrLines.{attribute_file_of}
 use Rattle.lc_level.specs.RuleFiles.{Pair}
-use Rattle.lc_level.specs.RuleReads.{shared, MayGive}
+use Rattle.lc_level.specs.RuleReads.{shared, text_items, text_if, MayGive}
 use Rattle.lc_tree.specs.Trees.{Contents}
 use Rattle.lc_level.specs.declared.rule_pair.RulePair.{RulePair}
+use Rattle.lc_level.specs.declared.rule_pair.PairRead.{PairRead}
 use Rattle.lc_level.specs.declared.unlisted.Unlisted.{Unlisted}
 use Rattle.lc_level.specs.declared.unlisted.Unlisted.TheVariants.{Faulted, Broken}
 use Rattle.lc_level.specs.declared.unread.Unread.{Unread}
@@ -23,19 +24,24 @@ pub record AreFilesOf (top : Bool) (files : RulePair) (bytes : Pair) : Type 0 wh
   pub rules : shared files.rules ≡ option_map rules_of bytes.rules
   pub attributes : shared files.attributes ≡ option_map (attribute_file_of top) bytes.attributes
 
+-- they were read of these bytes; of the rules, these are kept where texts are
+pub record IsReadOf (texts top : Bool) (read : PairRead) (bytes : Pair) : Type 0 where
+  pub files : AreFilesOf top read.files bytes
+  pub text : text_items read.text ≡ text_if texts bytes.rules
+
 -- the bytes of two files may have been read: what the file of each name gives, and whether it is there
 pub record MayGiveBoth (rules attributes : Contents) (rules_there attributes_there : Bool) (bytes : Pair) : Type 0 where
   pub rules_given : MayGive rules rules_there (option_map Ok bytes.rules)
   pub attributes_given : MayGive attributes attributes_there (option_map Ok bytes.attributes)
 
--- the answer to reading both, the first first: their files, or the place of the first fault, or memory was refused
-abbrev pub ReadsBoth : Contents → Contents → Bool → Bool → Bool → Place → Place → Result RulePair Unlisted → Type 0
-ReadsBoth rules attributes rules_there attributes_there top first second (Ok files) =
-    (bytes : Pair) × AreFilesOf top files bytes × MayGiveBoth rules attributes rules_there attributes_there bytes
-ReadsBoth rules attributes rules_there attributes_there top first second (Err (Faulted place word)) =
+-- the answer to reading both, the first first: what was read, or the place of the first fault, or memory was refused
+abbrev pub ReadsBoth : Bool → Contents → Contents → Bool → Bool → Bool → Place → Place → Result PairRead Unlisted → Type 0
+ReadsBoth texts rules attributes rules_there attributes_there top first second (Ok read) =
+    (bytes : Pair) × IsReadOf texts top read bytes × MayGiveBoth rules attributes rules_there attributes_there bytes
+ReadsBoth texts rules attributes rules_there attributes_there top first second (Err (Faulted place word)) =
     ((place ≡ first) × MayGive rules rules_there (Some (Err word)))
     ⊎ ((place ≡ second) × ((bytes : Option (List ℕ)) × MayGive rules rules_there (option_map Ok bytes))
     × MayGive attributes attributes_there (Some (Err word)))
-ReadsBoth rules attributes rules_there attributes_there top first second (Err (Broken Memory)) = Unit {0}
-ReadsBoth rules attributes rules_there attributes_there top first second (Err (Broken TooManyDirs)) = ⊥
-ReadsBoth rules attributes rules_there attributes_there top first second (Err (Broken TooDeep)) = ⊥
+ReadsBoth texts rules attributes rules_there attributes_there top first second (Err (Broken Memory)) = Unit {0}
+ReadsBoth texts rules attributes rules_there attributes_there top first second (Err (Broken TooManyDirs)) = ⊥
+ReadsBoth texts rules attributes rules_there attributes_there top first second (Err (Broken TooDeep)) = ⊥

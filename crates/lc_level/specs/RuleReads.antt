@@ -1,9 +1,12 @@
 -- What reading a rule file of a directory answers.
-use Rattle.std.specs.Prelude.{◌≡◌, ℕ, Bool, true, false, List, Option, Some, None, Result, Ok, Err, option_map}
+use Rattle.std.specs.Prelude.{◌≡◌, ℕ, Bool, true, false, if◌then◌else◌, List, Vec, Option, Some, None, Result, Ok, Err, option_map}
+use Rattle.std.specs.Global.{Global}
 use Rattle.std.specs.declared.sync.Arc.{Arc}
 use Rattle.std.specs.Arc.{arc_value}
 use Rattle.lc_tree.specs.Trees.{Contents, MayReadRules}
 use Rattle.lc_tree.specs.declared.fault_word.FaultWord.{FaultWord}
+use Rattle.lc_rules.specs.IgnoreRules.{RuleModel, rules_of}
+use Rattle.lc_level.specs.declared.rule_files.IgnoreRead.{IgnoreRead}
 use Rattle.lc_level.specs.declared.unread.Unread.{Unread}
 use Rattle.lc_level.specs.declared.unread.Unread.TheVariants as unread
 
@@ -30,3 +33,19 @@ IsParsed gives there parse (Ok file) =
     (bytes : Option (List ℕ)) × (shared file ≡ option_map parse bytes) × MayGive gives there (option_map Ok bytes)
 IsParsed gives there parse (Err (unread.Fault word)) = MayGive gives there (Some (Err word))
 IsParsed gives there parse (Err unread.Memory) = Unit {0}
+
+-- the bytes of a text, if there is one
+abbrev pub text_items : Option (Vec ℕ Global) → Option (List ℕ)
+text_items text = option_map (λ (t : Vec ℕ Global). t.items) text
+
+-- the text of a file, where texts are kept
+abbrev pub text_if : Bool → Option (List ℕ) → Option (List ℕ)
+text_if texts bytes = if texts then bytes else None
+
+-- the same of an ignore file, whose text is kept where texts are
+abbrev pub IsIgnoreRead : Bool → Contents → Bool → Result IgnoreRead Unread → Type 0
+IsIgnoreRead texts gives there (Ok read) =
+    (bytes : Option (List ℕ)) × (shared read.file ≡ option_map rules_of bytes) × (text_items read.text ≡ text_if texts bytes)
+    × MayGive gives there (option_map Ok bytes)
+IsIgnoreRead texts gives there (Err (unread.Fault word)) = MayGive gives there (Some (Err word))
+IsIgnoreRead texts gives there (Err unread.Memory) = Unit {0}

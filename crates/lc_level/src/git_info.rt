@@ -5,7 +5,7 @@ ghost use Rattle.lc_level.specs.GitInfo.{ListsFor, ReadsGit};
 
 use crate::entry_looks::has_dir;
 use crate::level_reader::LevelReader;
-use crate::rule_pair::{PairNames, RuleName, RulePair};
+use crate::rule_pair::{PairNames, PairRead, RuleName};
 use crate::scratch::Scratch;
 use crate::unlisted::Unlisted;
 use crate::{Cause, Place};
@@ -31,15 +31,15 @@ impl<T: Tree> LevelReader<'_, T> {
         &self,
         entries: &[Entry],
         scratch: &mut Scratch,
-    ) -> Result<RulePair, Unlisted>
-        ensures { ReadsGit (T.lists self.now.tree.now) (T.gives self.now.tree.now) (has_dir (codes ".git") entries.now) result }
+    ) -> Result<PairRead, Unlisted>
+        ensures { ReadsGit (T.lists self.now.tree.now) (T.gives self.now.tree.now) self.now.kept.texts (has_dir (codes ".git") entries.now) result }
     {
         if !has_dir(entries, b".git") {
-            return Ok(RulePair::none());
+            return Ok(PairRead::none());
         }
         let git = self.list_for(b".git", Place::Git)?;
         if !has_dir(git.entries(), b"info") {
-            return Ok(RulePair::none());
+            return Ok(PairRead::none());
         }
         let info = self.list_for(b".git/info", Place::GitInfo)?;
         let Ok(()) = scratch.path.enter(b".git/info") else {

@@ -1,13 +1,15 @@
 //! A directory to be walked.
-ghost use Rattle.std.specs.Prelude.{◌≡◌, ◌≤◌, length, IfOk};
+ghost use Rattle.std.specs.Prelude.{◌≡◌, ◌≤◌, length, option_map, IfOk};
 ghost use Rattle.std.specs.Arc.{arc_value};
 ghost use Rattle.lc_glob.specs.Path.{depth_of, max_path};
 ghost use Rattle.lc_level.specs.Level.{job_at};
 ghost use Rattle.lc_level.specs.RuleReads.{shared};
 ghost use Rattle.lc_level.specs.TopJob.{top_job};
+ghost use Rattle.lc_rules.specs.IgnoreChains.{rules_in};
+ghost use Rattle.lc_rules.specs.Verdicts.{deciding};
 
 use lc_glob::path::depth_of;
-use lc_rules::{AttrChain, Chain, IgnoreFile};
+use lc_rules::{AttrChain, Chain, IgnoreFile, Origin, Rule};
 use std::alloc::{AllocError, Global};
 use std::marker::Model;
 use std::sync::Arc;
@@ -119,13 +121,20 @@ impl Job {
     }
 
     /// The job of a directory at this path, under the rule files of this one.
-    pub(crate) fn at(&self, alloc: Global, path: &[u8]) -> Result<Job, AllocError>
+    pub fn at(&self, alloc: Global, path: &[u8]) -> Result<Job, AllocError>
         requires { length path.now ≤ max_path }
         ensures { IfOk result (λ j. j ≡ job_at self.now path.now) }
     {
         let path = path.to_vec(alloc)?;
         let ignore = Arc::try_clone(&self.parts.ignore)?;
         Job::new(alloc, path, ignore, Arc::try_clone(&self.parts.attributes)?)
+    }
+
+    /// The rule that decides what stands at a path, and where its file stands.
+    pub fn deciding(&self, path: &[u8], is_dir: bool) -> Option<(Origin, &Rule)>
+        ensures { option_map (λ r. (r.0, r.1.now)) result ≡ deciding (rules_in self.now.ignore) path.now is_dir }
+    {
+        self.parts.ignore.deciding(path, is_dir)
     }
 
     /// The path of the directory: at most 4,096 bytes.

@@ -1,24 +1,25 @@
-//! The entries of a directory that its rules and the selection leave in.
-ghost use Rattle.std.specs.Prelude.{◌≡◌, ◌≤◌, length, IfOk, true, false, nat_lt};
+//! The entries of a directory: those that its rules and the selection leave in, and those that are left out.
+ghost use Rattle.std.specs.Prelude.{◌≡◌, ◌≤◌, true, false, length, nat_lt};
 ghost use Rattle.lc_glob.specs.Path.{depth_of, max_depth, max_path};
-ghost use Rattle.lc_level.specs.LeftIn.{KeepsFile, KeepsDirectory, Keeps, LeavesIn};
-ghost use Rattle.lc_level.specs.Level.{is_kept, job_at};
+ghost use Rattle.lc_level.specs.LeftIn.{LeavesOut, TakesFile, TakesDirectory, TakesOther, Takes, LeavesIn};
+ghost use Rattle.lc_level.specs.Level.{reason_at, job_at};
+ghost use Rattle.lc_level.specs.Reasons.{reason_ref_model};
 
 use crate::Cause;
 use crate::job::Job;
 use crate::level_reader::LevelReader;
 use crate::path_buffer::PathBuffer;
+use crate::reason::{LeftOut, ReasonRef};
 use lc_glob::path::{is_too_deep, is_too_long};
-use lc_rules::Verdict;
 use lc_tree::{Entry, Kind, Tree};
-use std::alloc::AllocError;
 use std::marker::Model;
 
-/// The files and the directories that are left in, each in the order of the listing.
+/// The files and the directories that are left in, and the entries that are left out, each in the order of the listing.
 #[derive(Drop)]
 pub(crate) struct LeftIn {
     pub(crate) files: Vec<Vec<u8>>,
     pub(crate) children: Vec<ChildDirectory>,
+    pub(crate) left: Vec<LeftOut>,
 }
 
 /// A directory that is to be walked.
@@ -40,55 +41,65 @@ impl Model for ChildDirectory {
 }
 
 impl<T: Tree> LevelReader<'_, T> {
-    /// Whether the rules and the selection leave in what stands at a path.
-    fn is_left_in(&self, job: &Job, path: &[u8], is_dir: bool) -> Result<bool, AllocError>
-        ensures { IfOk result (λ left. left ≡ is_kept self.now.selection job.now path.now is_dir) }
+    /// Notes an entry that is left out, where these are kept.
+    fn leave_out(
+        &self,
+        name: Vec<u8>,
+        kind: Kind,
+        reason: ReasonRef,
+        found: &mut LeftIn,
+    ) -> Result<(), Cause>
+        ensures { LeavesOut self.now.kept.left_out (reason_ref_model reason.entry) name.items kind found.old found.new result }
     {
-        match job.ignore().verdict(path, is_dir) {
-            Verdict::Ignored => return Ok(false),
-            Verdict::Included => {}
-            Verdict::NoRule => {}
+        if !self.kept.left_out {
+            return Ok(());
         }
-        let is_out = self.selection.leaves_out(self.alloc, job, path, is_dir)?;
-        Ok(!is_out)
+        let Ok(reason) = reason.to_reason(self.alloc) else {
+            return Err(Cause::Memory);
+        };
+        match found.left.push(LeftOut { name, kind, reason }) {
+            Ok(()) => Ok(()),
+            Err(_) => Err(Cause::Memory),
+        }
     }
 
     /// Takes a file.
-    fn keep_file(
+    fn take_file(
         &self,
         job: &Job,
         name: Vec<u8>,
         path: &[u8],
-        left: &mut LeftIn,
+        found: &mut LeftIn,
     ) -> Result<(), Cause>
-        ensures { KeepsFile (is_kept self.now.selection job.now path.now false) name.items left.old left.new result }
+        ensures { TakesFile self.now.kept.left_out (reason_at self.now.selection job.now path.now false) name.items
+            found.old found.new result }
     {
-        match self.is_left_in(job, path, false) {
-            Ok(true) => {}
-            Ok(false) => return Ok(()),
+        match self.reason_at(job, path, false) {
+            Ok(None) => {}
+            Ok(Some(reason)) => return self.leave_out(name, Kind::File, reason, found),
             Err(_) => return Err(Cause::Memory),
         }
-        match left.files.push(name) {
+        match found.files.push(name) {
             Ok(()) => Ok(()),
             Err(_) => Err(Cause::Memory),
         }
     }
 
     /// Takes a directory.
-    fn keep_directory(
+    fn take_directory(
         &self,
         job: &Job,
         name: Vec<u8>,
         path: &[u8],
-        left: &mut LeftIn,
+        found: &mut LeftIn,
     ) -> Result<(), Cause>
         requires { length path.now ≤ max_path }
-        ensures { KeepsDirectory (is_kept self.now.selection job.now path.now true) (nat_lt max_depth (depth_of path.now))
-            (name.items, job_at job.now path.now) left.old left.new result }
+        ensures { TakesDirectory self.now.kept.left_out (reason_at self.now.selection job.now path.now true)
+            (nat_lt max_depth (depth_of path.now)) (name.items, job_at job.now path.now) found.old found.new result }
     {
-        match self.is_left_in(job, path, true) {
-            Ok(true) => {}
-            Ok(false) => return Ok(()),
+        match self.reason_at(job, path, true) {
+            Ok(None) => {}
+            Ok(Some(reason)) => return self.leave_out(name, Kind::Dir, reason, found),
             Err(_) => return Err(Cause::Memory),
         }
         if is_too_deep(path) {
@@ -97,26 +108,47 @@ impl<T: Tree> LevelReader<'_, T> {
         let Ok(job) = job.at(self.alloc, path) else {
             return Err(Cause::Memory);
         };
-        match left.children.push(ChildDirectory { name, job }) {
+        match found.children.push(ChildDirectory { name, job }) {
             Ok(()) => Ok(()),
             Err(_) => Err(Cause::Memory),
         }
     }
 
-    /// Takes one entry: its name moves to those that are left in, if it is.
-    fn keep(
+    /// Takes what is neither a file nor a directory.
+    fn take_other(
+        &self,
+        job: &Job,
+        name: Vec<u8>,
+        path: &[u8],
+        found: &mut LeftIn,
+    ) -> Result<(), Cause>
+        ensures { TakesOther self.now.kept.left_out (reason_at self.now.selection job.now path.now false) name.items
+            found.old found.new result }
+    {
+        if !self.kept.left_out {
+            return Ok(());
+        }
+        match self.reason_at(job, path, false) {
+            Ok(None) => self.leave_out(name, Kind::Other, ReasonRef::OtherKind, found),
+            Ok(Some(reason)) => self.leave_out(name, Kind::Other, reason, found),
+            Err(_) => Err(Cause::Memory),
+        }
+    }
+
+    /// Takes one entry: its name moves to those that are left in or left out.
+    fn take(
         &self,
         job: &Job,
         entry: Entry,
         path: &mut PathBuffer,
-        left: &mut LeftIn,
+        found: &mut LeftIn,
     ) -> Result<(), Cause>
         requires { path.old.directory ≡ job.now.path }
         ensures same { path.new.directory ≡ path.old.directory }
-        ensures kept { Keeps self.now.selection job.now entry left.old left.new result }
+        ensures takes { Takes self.now.kept.left_out self.now.selection job.now entry found.old found.new result }
     {
         if entry.name.as_slice() == b".git".as_slice() {
-            return Ok(());
+            return self.leave_out(entry.name, entry.kind, ReasonRef::Git, found);
         }
         let Ok(()) = path.set_name(&entry.name) else {
             return Err(Cause::Memory);
@@ -125,9 +157,9 @@ impl<T: Tree> LevelReader<'_, T> {
             return Err(Cause::TooDeep);
         }
         match entry.kind {
-            Kind::Other => Ok(()),
-            Kind::File => self.keep_file(job, entry.name, path.as_slice(), left),
-            Kind::Dir => self.keep_directory(job, entry.name, path.as_slice(), left),
+            Kind::File => self.take_file(job, entry.name, path.as_slice(), found),
+            Kind::Dir => self.take_directory(job, entry.name, path.as_slice(), found),
+            Kind::Other => self.take_other(job, entry.name, path.as_slice(), found),
         }
     }
 
@@ -140,15 +172,16 @@ impl<T: Tree> LevelReader<'_, T> {
     ) -> Result<LeftIn, Cause>
         requires at { path.old.directory ≡ job.now.path }
         ensures same { path.new.directory ≡ path.old.directory }
-        ensures left { LeavesIn self.now.selection job.now entries.items result }
+        ensures left { LeavesIn self.now.kept.left_out self.now.selection job.now entries.items result }
     {
-        let mut left = LeftIn {
+        let mut found = LeftIn {
             files: Vec::new(self.alloc),
             children: Vec::new(self.alloc),
+            left: Vec::new(self.alloc),
         };
         for entry in entries {
-            self.keep(job, entry, path, &mut left)?;
+            self.take(job, entry, path, &mut found)?;
         }
-        Ok(left)
+        Ok(found)
     }
 }

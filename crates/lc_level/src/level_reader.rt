@@ -4,32 +4,50 @@ ghost use Rattle.std.specs.Prelude.{◌≡◌};
 use crate::selection::Selection;
 use std::alloc::Global;
 
+/// What is kept beside what a count needs. What isn't kept costs nothing.
+#[derive(Clone, Copy, Debug, Drop)]
+pub struct Kept {
+    /// The entries that are left out, with their reasons.
+    pub left_out: bool,
+    /// The bytes of `.git/info/exclude` and of each `.gitignore`.
+    pub texts: bool,
+}
+
 /// Reads a tree, a directory at a time: it opens the directory, and counts the files that are left in there.
 ///
 /// ```
-/// let levels = LevelReader::new(alloc, &tree, Selection::new(false, &[]));
+/// let kept = Kept { left_out: false, texts: false };
+/// let levels = LevelReader::new(alloc, &tree, Selection::new(false, &[]), kept);
 /// let mut scratch = Scratch::new(alloc)?;
 /// let top = Job::top(alloc, None)?;
-/// let Opened { job, files, children } = levels.open(&top, &mut scratch)?;
-/// let counted = levels.count(&job, files, &mut scratch)?; // `children` has the directories to be walked
+/// let opened = levels.open(&top, &mut scratch)?; // `opened.children` has the directories to be walked
+/// let counted = levels.count(&opened.job, opened.files, &mut scratch)?;
 /// ```
 #[derive(Drop)]
 pub struct LevelReader<'t, T> {
     pub(crate) alloc: Global,
     pub(crate) tree: &'t T,
     pub(crate) selection: Selection<'t>,
+    pub(crate) kept: Kept,
 }
 
 impl<'t, T> LevelReader<'t, T> {
     /// That of this tree, by this selection.
-    pub fn new(alloc: Global, tree: &'t T, selection: Selection<'t>) -> LevelReader<'t, T>
+    pub fn new(
+        alloc: Global,
+        tree: &'t T,
+        selection: Selection<'t>,
+        kept: Kept,
+    ) -> LevelReader<'t, T>
         ensures tree { result.tree.now ≡ tree.entry.now }
         ensures selection { result.selection ≡ selection.entry }
+        ensures kept { result.kept ≡ kept }
     {
         LevelReader {
             alloc,
             tree,
             selection,
+            kept,
         }
     }
 }

@@ -1,9 +1,9 @@
 //! What one directory gives: its listing, its rule files, its entries in order.
 //!
 //! - `job`: a directory to be walked; `cause`, `place`: why it is given up, and where it is at fault
-//! - `opening`: opening a directory, up to which of its entries its rules leave in
-//! - `git_info`, `rule_files`, `rule_pair`: its rule files, read whole; `chains`: both chains by them
-//! - `entry_looks`, `left_in`: what is looked for among its entries, and which of them stay
+//! - `entering`: a directory's listing and its rule files, read whole; `opening`: which of its entries these leave in
+//! - `git_info`, `rule_files`, `rule_pair`: its rule files; `chains`: both chains by them
+//! - `entry_looks`, `left_in`: what is looked for among its entries, and which of them stay; `deciding`, `reason`: why the others don't
 //! - `selection`: what decides beside the rules
 //! - `counted`, `counting`: what became of its files, and counting them
 //! - `files`, `unread`: opening one file, to count it or to read it as rules, and why that was not possible
@@ -17,6 +17,8 @@ mod cause;
 mod chains;
 mod counted;
 mod counting;
+mod deciding;
+mod entering;
 mod entry_looks;
 mod files;
 mod git_info;
@@ -28,6 +30,7 @@ mod opening;
 mod path_buffer;
 mod paths;
 mod place;
+mod reason;
 mod rule_files;
 mod rule_pair;
 mod scratch;
@@ -38,16 +41,18 @@ mod unread;
 pub use cause::Cause;
 pub use counted::{Counted, FileFault};
 pub use counting::CountedFiles;
+pub use entering::{Entered, RuleTexts};
 pub use job::Job;
 pub use laws::{
     a_node_is_one_tree, an_archive_is_without_export_ignore, examples_hold,
     one_answer_is_one_level, trees_of_memory_give_one, work_is_a_level,
 };
 pub use left_in::ChildDirectory;
-pub use level_reader::LevelReader;
+pub use level_reader::{Kept, LevelReader};
 pub use opening::Opened;
 pub use paths::path_in;
 pub use place::Place;
+pub use reason::{LeftOut, Reason};
 pub use scratch::Scratch;
 pub use selection::Selection;
 pub use unlisted::Unlisted;

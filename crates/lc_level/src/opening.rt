@@ -1,23 +1,15 @@
-//! Opening a directory: its listing, its rule files, and which of its entries these leave in.
-ghost use Rattle.std.specs.Prelude.{◌≡◌, ◌&&◌, IfOk, OnOk, true, codes};
-ghost use Rattle.lc_glob.specs.Path.{path_in};
-ghost use Rattle.lc_level.specs.EntryLooks.{has_file, has_dir};
-ghost use Rattle.lc_level.specs.GitInfo.{ReadsGit};
+//! Opening a directory: which of its entries its rule files leave in.
+ghost use Rattle.std.specs.Prelude.{◌≡◌, IfOk};
 ghost use Rattle.lc_level.specs.Opens.{OpensLevel};
-ghost use Rattle.lc_level.specs.RuleFiles.{Pair, is_top, extended};
-ghost use Rattle.lc_level.specs.RulePairs.{AreFilesOf, ReadsBoth};
-ghost use Rattle.lc_level.specs.declared.place.Place.TheVariants.{IgnoreFile, AttributeFile};
 
-use crate::chains::{attributes_below, ignore_below};
+use crate::entering::Entered;
 use crate::job::Job;
 use crate::left_in::ChildDirectory;
 use crate::level_reader::LevelReader;
-use crate::rule_pair::{PairNames, RuleName, RulePair};
+use crate::reason::LeftOut;
 use crate::scratch::Scratch;
 use crate::unlisted::Unlisted;
-use crate::{Cause, Place};
-use lc_tree::{Entry, Tree};
-use std::alloc::AllocError;
+use lc_tree::Tree;
 
 /// A directory whose entries are known, before its files are counted.
 #[derive(Drop)]
@@ -28,92 +20,29 @@ pub struct Opened {
     pub files: Vec<Vec<u8>>,
     /// The directories that are to be walked.
     pub children: Vec<ChildDirectory>,
+    /// The entries that are left out, in the order of the listing; none unless they are kept.
+    pub left: Vec<LeftOut>,
+    /// The number of all entries.
+    pub entries: u32,
 }
 
 impl<T: Tree> LevelReader<'_, T> {
-    /// The files of `.git/info`, which speak of a tree from its top.
-    fn read_info(
-        &self,
-        directory: &[u8],
-        entries: &[Entry],
-        scratch: &mut Scratch,
-    ) -> Result<RulePair, Unlisted>
-        ensures { ReadsGit (T.lists self.now.tree.now) (T.gives self.now.tree.now)
-            (is_top directory.now && has_dir (codes ".git") entries.now) result }
-    {
-        if !directory.is_empty() {
-            return Ok(RulePair::none());
-        }
-        self.read_git_info(entries, scratch)
-    }
-
-    /// A directory's own `.gitignore` and `.gitattributes`. The scratch paths are then the directory's.
-    fn read_own(
-        &self,
-        directory: &[u8],
-        entries: &[Entry],
-        scratch: &mut Scratch,
-    ) -> Result<RulePair, Unlisted>
-        ensures at { OnOk result (scratch.new.path.directory ≡ directory.now) }
-        ensures read { ReadsBoth
-            (T.gives self.now.tree.now (path_in directory.now (codes ".gitignore")))
-            (T.gives self.now.tree.now (path_in directory.now (codes ".gitattributes")))
-            (has_file (codes ".gitignore") entries.now) (has_file (codes ".gitattributes") entries.now)
-            (is_top directory.now) IgnoreFile AttributeFile result }
-    {
-        let Ok(()) = scratch.path.enter(directory) else {
-            return Err(Unlisted::Broken(Cause::Memory));
-        };
-        let names = PairNames {
-            rules: RuleName {
-                name: b".gitignore",
-                place: Place::IgnoreFile,
-            },
-            attributes: RuleName {
-                name: b".gitattributes",
-                place: Place::AttributeFile,
-            },
-            top: directory.is_empty(),
-        };
-        self.read_pair(entries, names, scratch)
-    }
-
-    /// A directory with these rule files in both chains.
-    fn with_files(&self, job: &Job, info: RulePair, own: RulePair) -> Result<Job, AllocError>
-        ensures path { IfOk result (λ k. k.path ≡ job.now.path) }
-        ensures files { IfOk result (λ k. (i o : Pair) → AreFilesOf true info i → AreFilesOf (is_top job.now.path) own o
-            → k ≡ extended job.now (record { info = i; own = o })) }
-    {
-        let depth = job.depth();
-        let ignore = ignore_below(self.alloc, job.ignore(), info.rules, depth, own.rules)?;
-        let attributes = attributes_below(
-            self.alloc,
-            job.attributes(),
-            info.attributes,
-            depth,
-            own.attributes,
-        )?;
-        job.with_chains(self.alloc, ignore, attributes)
-    }
-
     /// Opens the directory of a job: what stops it is its first fault, or an entry that is too deep for a walk. The scratch
     /// paths are then those of the directory.
     pub fn open(&self, job: &Job, scratch: &mut Scratch) -> Result<Opened, Unlisted>
         ensures at { IfOk result (λ o. scratch.new.path.directory ≡ o.job.path) }
-        ensures opens { OpensLevel (T.lists self.now.tree.now) (T.gives self.now.tree.now) self.now.selection job.now result }
+        ensures opens { OpensLevel (T.lists self.now.tree.now) (T.gives self.now.tree.now) self.now.kept.left_out
+            self.now.selection job.now result }
     {
-        let path = job.path();
-        let listing = self.list_for(path, Place::Directory)?;
-        let info = self.read_info(path, listing.entries(), scratch)?;
-        let own = self.read_own(path, listing.entries(), scratch)?;
-        let Ok(inside) = self.with_files(job, info, own) else {
-            return Err(Unlisted::Broken(Cause::Memory));
-        };
-        match self.left_in(&inside, listing.into_entries(), &mut scratch.path) {
-            Ok(left) => Ok(Opened {
-                job: inside,
-                files: left.files,
-                children: left.children,
+        let Entered { job, entries, .. } = self.enter(job, scratch)?;
+        let number = entries.len() as u32;
+        match self.left_in(&job, entries, &mut scratch.path) {
+            Ok(found) => Ok(Opened {
+                job,
+                files: found.files,
+                children: found.children,
+                left: found.left,
+                entries: number,
             }),
             Err(cause) => Err(Unlisted::Broken(cause)),
         }

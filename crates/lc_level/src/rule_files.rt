@@ -1,10 +1,9 @@
 //! The rule files of a directory, read whole.
-ghost use Rattle.std.specs.Prelude.{◌≡◌, IfOk};
+ghost use Rattle.std.specs.Prelude.{◌≡◌, Some, IfOk};
 ghost use Rattle.lc_glob.specs.Path.{path_in};
 ghost use Rattle.lc_rules.specs.AttrLines.{attribute_file_of};
-ghost use Rattle.lc_rules.specs.IgnoreRules.{rules_of};
 ghost use Rattle.lc_level.specs.EntryLooks.{has_file};
-ghost use Rattle.lc_level.specs.RuleReads.{IsRead, IsParsed};
+ghost use Rattle.lc_level.specs.RuleReads.{text_items, text_if, IsRead, IsParsed, IsIgnoreRead};
 
 use crate::entry_looks::has_file;
 use crate::level_reader::LevelReader;
@@ -12,10 +11,27 @@ use crate::scratch::Scratch;
 use crate::unread::Unread;
 use lc_rules::{AttrFile, IgnoreFile, RuleFault};
 use lc_tree::{Entry, FaultWord, Tree};
-use std::alloc::Global;
+use std::alloc::{AllocError, Global};
 use std::sync::Arc;
 
+/// An ignore file, and its bytes where texts are kept, if it is there.
+#[derive(Drop)]
+pub(crate) struct IgnoreRead {
+    pub(crate) file: Option<Arc<IgnoreFile, Global>>,
+    pub(crate) text: Option<Vec<u8>>,
+}
+
 impl<T: Tree> LevelReader<'_, T> {
+    /// The bytes that were read, where texts are kept.
+    fn text_of(&self, bytes: &[u8]) -> Result<Option<Vec<u8>>, AllocError>
+        ensures { IfOk result (λ text. text_items text ≡ text_if self.now.kept.texts (Some bytes.now)) }
+    {
+        if !self.kept.texts {
+            return Ok(None);
+        }
+        Ok(Some(bytes.to_vec(self.alloc)?))
+    }
+
     /// Reads the file of this name in the directory of the scratch paths into its rules, and says whether it is there.
     fn read_named(
         &self,
@@ -47,21 +63,31 @@ impl<T: Tree> LevelReader<'_, T> {
         entries: &[Entry],
         name: &[u8],
         scratch: &mut Scratch,
-    ) -> Result<Option<Arc<IgnoreFile, Global>>, Unread>
+    ) -> Result<IgnoreRead, Unread>
         ensures same { scratch.new.path.directory ≡ scratch.old.path.directory }
-        ensures read { IsParsed (T.gives self.now.tree.now (path_in scratch.old.path.directory name.now))
-            (has_file name.now entries.now) rules_of result }
+        ensures read { IsIgnoreRead self.now.kept.texts (T.gives self.now.tree.now (path_in scratch.old.path.directory name.now))
+            (has_file name.now entries.now) result }
     {
         if !self.read_named(entries, name, scratch)? {
-            return Ok(None);
+            return Ok(IgnoreRead {
+                file: None,
+                text: None,
+            });
         }
-        match IgnoreFile::read(self.alloc, &scratch.rules) {
-            Ok(file) => match Arc::new(self.alloc, file) {
-                Ok(file) => Ok(Some(file)),
-                Err(_) => Err(Unread::Memory),
-            },
+        let file = match IgnoreFile::read(self.alloc, &scratch.rules) {
+            Ok(file) => file,
             Err(RuleFault::TooLong) => unreachable!(),
-            Err(RuleFault::Memory) => Err(Unread::Memory),
+            Err(RuleFault::Memory) => return Err(Unread::Memory),
+        };
+        let Ok(file) = Arc::new(self.alloc, file) else {
+            return Err(Unread::Memory);
+        };
+        match self.text_of(&scratch.rules) {
+            Ok(text) => Ok(IgnoreRead {
+                file: Some(file),
+                text,
+            }),
+            Err(_) => Err(Unread::Memory),
         }
     }
 

@@ -20,14 +20,24 @@ pub(crate) struct RulePair {
     pub(crate) attributes: Option<Arc<AttrFile, Global>>,
 }
 
-impl RulePair {
+/// Both files as they were read, and the bytes of the rules, as far as they are there and texts are kept.
+#[derive(Drop)]
+pub(crate) struct PairRead {
+    pub(crate) files: RulePair,
+    pub(crate) text: Option<Vec<u8>>,
+}
+
+impl PairRead {
     /// Neither of them.
-    pub(crate) fn none() -> RulePair
-        ensures { result ≡ record { rules = None; attributes = None } }
+    pub(crate) fn none() -> PairRead
+        ensures { result ≡ record { files = record { rules = None; attributes = None }; text = None } }
     {
-        RulePair {
-            rules: None,
-            attributes: None,
+        PairRead {
+            files: RulePair {
+                rules: None,
+                attributes: None,
+            },
+            text: None,
         }
     }
 }
@@ -54,16 +64,16 @@ impl<T: Tree> LevelReader<'_, T> {
         entries: &[Entry],
         names: PairNames,
         scratch: &mut Scratch,
-    ) -> Result<RulePair, Unlisted>
+    ) -> Result<PairRead, Unlisted>
         ensures same { scratch.new.path.directory ≡ scratch.old.path.directory }
-        ensures read { ReadsBoth
+        ensures read { ReadsBoth self.now.kept.texts
             (T.gives self.now.tree.now (path_in scratch.old.path.directory names.entry.rules.name.now))
             (T.gives self.now.tree.now (path_in scratch.old.path.directory names.entry.attributes.name.now))
             (has_file names.entry.rules.name.now entries.now) (has_file names.entry.attributes.name.now entries.now)
             names.entry.top names.entry.rules.place names.entry.attributes.place result }
     {
         let rules = match self.ignore_file(entries, names.rules.name, scratch) {
-            Ok(file) => file,
+            Ok(read) => read,
             Err(unread) => return Err(unread.at(names.rules.place)),
         };
         let attributes = match self.attribute_file(
@@ -75,6 +85,13 @@ impl<T: Tree> LevelReader<'_, T> {
             Ok(file) => file,
             Err(unread) => return Err(unread.at(names.attributes.place)),
         };
-        Ok(RulePair { rules, attributes })
+        let files = RulePair {
+            rules: rules.file,
+            attributes,
+        };
+        Ok(PairRead {
+            files,
+            text: rules.text,
+        })
     }
 }

@@ -1,6 +1,6 @@
 //! What decides, beside the rules of a tree, which of its entries are left out.
-ghost use Rattle.std.specs.Prelude.{◌≡◌, IfOk, is_some, map};
-ghost use Rattle.lc_level.specs.Level.{attribute_reason, is_set};
+ghost use Rattle.std.specs.Prelude.{◌≡◌, IfOk, option_map, map};
+ghost use Rattle.lc_level.specs.Level.{attribute_reason, by_attribute, is_set};
 ghost use Rattle.lc_level.specs.Selection.{selection_of};
 ghost use Rattle.lc_rules.specs.AttrStates.{state_of};
 
@@ -57,24 +57,24 @@ impl<'o> Selection<'o> {
         Selection { archive, without }
     }
 
-    /// Whether an attribute leaves out what stands at a path. Memory is taken for the attributes' macros alone.
-    pub(crate) fn leaves_out(
+    /// The first attribute that leaves out what stands at a path. Memory is taken for the attributes' macros alone.
+    pub(crate) fn first_set(
         &self,
         alloc: Global,
         job: &Job,
         path: &[u8],
         is_dir: bool,
-    ) -> Result<bool, AllocError>
-        ensures { IfOk result (λ out. out ≡ is_some (attribute_reason self.now job.now path.now is_dir)) }
+    ) -> Result<Option<&'o [u8]>, AllocError>
+        ensures { IfOk result (λ name. option_map (λ n. by_attribute n.now) name ≡ attribute_reason self.now job.now path.now is_dir) }
     {
         if self.archive && is_set(alloc, job, path, is_dir, b"export-ignore")? {
-            return Ok(true);
+            return Ok(Some(b"export-ignore"));
         }
         for attribute in self.without {
             if is_set(alloc, job, path, is_dir, attribute.as_bytes())? {
-                return Ok(true);
+                return Ok(Some(attribute.as_bytes()));
             }
         }
-        Ok(false)
+        Ok(None)
     }
 }

@@ -1,6 +1,6 @@
 use Rattle.std.proofs.Common.{◌≡◌}
 use Rattle.std.specs.List.{flat_map}
-use Rattle.lc_level.specs.LeftIn.{kept_file, kept_directory, bytes_of}
+use Rattle.lc_level.specs.LeftIn.{kept_file, kept_directory, left_entry, bytes_of}
 use Rattle.lc_level.proofs.level_reader.LevelReader.left_in.Given as goal
 
 abbrev pub invariant-loop-entry : goal.invariant-loop-entry
@@ -8,5 +8,6 @@ invariant-loop-entry g l =
     (goal.iterator-loop-entry g).can_next l.entry-iterator
     × (goal.iterator-loop-entry g).is_finite l.entry-iterator
     × (l.path.directory ≡ l.job.path)
-    × (bytes_of l.left.files.items ≡ flat_map (kept_file l.self.selection l.job) l.yielded)
-    × (l.left.children.items ≡ flat_map (kept_directory l.self.selection l.job) l.yielded)
+    × (bytes_of l.found.files.items ≡ flat_map (kept_file l.self.selection l.job) l.yielded)
+    × (l.found.children.items ≡ flat_map (kept_directory l.self.selection l.job) l.yielded)
+    × (l.found.left.items ≡ flat_map (left_entry l.self.kept.left_out l.self.selection l.job) l.yielded)

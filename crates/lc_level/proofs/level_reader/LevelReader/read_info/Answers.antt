@@ -13,4 +13,4 @@ returns-then-not-is_empty g c =
     (sym c.is_empty.ensures ∙ c.if-not-is_empty.true) in
     no_git (g.T.Tree.lists c.args.self.now.tree.now) (g.T.Tree.gives c.args.self.now.tree.now) (law.some_count c.args.self.now.tree.now)
     (law.some_rules c.args.self.now.tree.now)
-    there c.none.result absent c.none.ensures
+    c.args.self.now.kept.texts there c.none.result absent c.none.ensures

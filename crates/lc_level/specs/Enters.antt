@@ -1,0 +1,44 @@
+-- What entering a directory answers: its listing and its rule files.
+use Rattle.std.specs.Prelude.{◌≡◌, ℕ, Bool, List, Result, Ok, Err}
+use Rattle.lc_level.specs.Answers.{Item, Answers, entries_of}
+use Rattle.lc_level.specs.Job.{JobModel}
+use Rattle.lc_level.specs.Level.{faulted_level, level}
+use Rattle.lc_level.specs.PlacePaths.{place_path}
+use Rattle.lc_level.specs.RuleFiles.{RuleBytes, rule_bytes, extended}
+use Rattle.lc_level.specs.RuleReads.{text_items, text_if}
+use Rattle.lc_level.specs.Selection.{SelectionModel}
+use Rattle.lc_level.specs.Tidy.{IsTidy}
+use Rattle.lc_level.specs.TreeAnswers.{MayAnswer}
+use Rattle.lc_tree.specs.Trees.{Listings, Contents}
+use Rattle.lc_level.specs.declared.entering.Entered.{Entered}
+use Rattle.lc_level.specs.declared.unlisted.Unlisted.{Unlisted}
+use Rattle.lc_level.specs.declared.unlisted.Unlisted.TheVariants.{Faulted, Broken}
+use Rattle.lc_level.specs.declared.cause.Cause.TheVariants.{Memory, TooManyDirs, TooDeep}
+
+module _ (lists : List ℕ → Listings) (gives : List ℕ → Contents) (j : JobModel) where
+  -- by answers that the tree may give, this is the directory with its rule files in both chains
+  pub record IsInside (k : JobModel) : Type 0 where
+    pub answers : Answers
+    pub may : MayAnswer lists gives j.path answers
+    pub tidy : IsTidy answers
+    pub items : List Item
+    pub here : answers.here ≡ Ok items
+    pub bytes : RuleBytes
+    pub read : rule_bytes j.path items answers ≡ Ok bytes
+    pub extends : k ≡ extended j bytes
+
+  -- by such answers: the directory so, its entries, and the texts of its rules, where texts are kept
+  pub record IsEntered (texts : Bool) (e : Entered) : Type 0 where
+    pub inside : IsInside e.job
+    pub entries : e.entries.items ≡ entries_of inside.items
+    pub info_text : text_items e.texts.info ≡ text_if texts inside.bytes.info.rules
+    pub own_text : text_items e.texts.own ≡ text_if texts inside.bytes.own.rules
+
+  -- a directory that is entered, at fault, or given up for want of memory
+  abbrev pub EntersLevel : Bool → Result Entered Unlisted → Type 0
+  EntersLevel texts (Ok e) = IsEntered texts e
+  EntersLevel texts (Err (Faulted place word)) = (a : Answers) × MayAnswer lists gives j.path a × IsTidy a
+      × ((s : SelectionModel) → level s j a ≡ faulted_level (place_path j.path place) word)
+  EntersLevel texts (Err (Broken Memory)) = Unit {0}
+  EntersLevel texts (Err (Broken TooManyDirs)) = ⊥
+  EntersLevel texts (Err (Broken TooDeep)) = ⊥

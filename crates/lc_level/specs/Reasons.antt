@@ -1,0 +1,19 @@
+-- What definitions see of a reason, of one that is lent, and of an entry that is left out.
+use Rattle.std.specs.Prelude.{Option}
+use Rattle.lc_level.specs.Level.{Reason, named_git, by_rule, by_attribute, other_kind}
+use Rattle.lc_level.specs.declared.reason.Reason.{Reason as OwnedReason}
+use Rattle.lc_level.specs.declared.reason.Reason.TheVariants as owned
+use Rattle.lc_level.specs.declared.reason.ReasonRef.{ReasonRef}
+use Rattle.lc_level.specs.declared.reason.ReasonRef.TheVariants as lent
+
+abbrev pub reason_model : OwnedReason → Reason
+reason_model owned.Git = named_git
+reason_model (owned.Rule origin line) = by_rule origin line
+reason_model (owned.Attribute name) = by_attribute name.items
+reason_model owned.OtherKind = other_kind
+
+abbrev pub reason_ref_model : ReasonRef → Reason
+reason_ref_model lent.Git = named_git
+reason_ref_model (lent.Rule origin line) = by_rule origin line
+reason_ref_model (lent.Attribute name) = by_attribute name.now
+reason_ref_model lent.OtherKind = other_kind

@@ -1,0 +1,129 @@
+//! Entering a directory: its listing and its rule files, read whole.
+ghost use Rattle.std.specs.Prelude.{◌≡◌, ◌&&◌, IfOk, OnOk, true, codes};
+ghost use Rattle.lc_glob.specs.Path.{path_in};
+ghost use Rattle.lc_level.specs.EntryLooks.{has_file, has_dir};
+ghost use Rattle.lc_level.specs.Enters.{EntersLevel};
+ghost use Rattle.lc_level.specs.GitInfo.{ReadsGit};
+ghost use Rattle.lc_level.specs.RuleFiles.{Pair, is_top, extended};
+ghost use Rattle.lc_level.specs.RulePairs.{AreFilesOf, ReadsBoth};
+ghost use Rattle.lc_level.specs.declared.place.Place.TheVariants.{IgnoreFile, AttributeFile};
+
+use crate::chains::{attributes_below, ignore_below};
+use crate::job::Job;
+use crate::level_reader::LevelReader;
+use crate::rule_pair::{PairNames, PairRead, RuleName, RulePair};
+use crate::scratch::Scratch;
+use crate::unlisted::Unlisted;
+use crate::{Cause, Place};
+use lc_tree::{Entry, Tree};
+use std::alloc::AllocError;
+
+/// The bytes of the ignore files that speak of a directory for the first time, as far as they are there and texts are kept.
+#[derive(Drop)]
+pub struct RuleTexts {
+    /// Those of `.git/info/exclude`, which are read in the top alone.
+    pub info: Option<Vec<u8>>,
+    /// Those of the directory's own `.gitignore`.
+    pub own: Option<Vec<u8>>,
+}
+
+/// A directory whose listing and rule files were read.
+#[derive(Drop)]
+pub struct Entered {
+    /// The directory, with its own rule files in both chains.
+    pub job: Job,
+    /// Its entries, in the order of their names.
+    pub entries: Vec<Entry>,
+    /// The texts of its rules.
+    pub texts: RuleTexts,
+}
+
+impl<T: Tree> LevelReader<'_, T> {
+    /// The files of `.git/info`, which speak of a tree from its top.
+    fn read_info(
+        &self,
+        directory: &[u8],
+        entries: &[Entry],
+        scratch: &mut Scratch,
+    ) -> Result<PairRead, Unlisted>
+        ensures { ReadsGit (T.lists self.now.tree.now) (T.gives self.now.tree.now) self.now.kept.texts
+            (is_top directory.now && has_dir (codes ".git") entries.now) result }
+    {
+        if !directory.is_empty() {
+            return Ok(PairRead::none());
+        }
+        self.read_git_info(entries, scratch)
+    }
+
+    /// A directory's own `.gitignore` and `.gitattributes`. The scratch paths are then the directory's.
+    fn read_own(
+        &self,
+        directory: &[u8],
+        entries: &[Entry],
+        scratch: &mut Scratch,
+    ) -> Result<PairRead, Unlisted>
+        ensures at { OnOk result (scratch.new.path.directory ≡ directory.now) }
+        ensures read { ReadsBoth self.now.kept.texts
+            (T.gives self.now.tree.now (path_in directory.now (codes ".gitignore")))
+            (T.gives self.now.tree.now (path_in directory.now (codes ".gitattributes")))
+            (has_file (codes ".gitignore") entries.now) (has_file (codes ".gitattributes") entries.now)
+            (is_top directory.now) IgnoreFile AttributeFile result }
+    {
+        let Ok(()) = scratch.path.enter(directory) else {
+            return Err(Unlisted::Broken(Cause::Memory));
+        };
+        let names = PairNames {
+            rules: RuleName {
+                name: b".gitignore",
+                place: Place::IgnoreFile,
+            },
+            attributes: RuleName {
+                name: b".gitattributes",
+                place: Place::AttributeFile,
+            },
+            top: directory.is_empty(),
+        };
+        self.read_pair(entries, names, scratch)
+    }
+
+    /// A directory with these rule files in both chains.
+    fn with_files(&self, job: &Job, info: RulePair, own: RulePair) -> Result<Job, AllocError>
+        ensures path { IfOk result (λ k. k.path ≡ job.now.path) }
+        ensures files { IfOk result (λ k. (i o : Pair) → AreFilesOf true info i → AreFilesOf (is_top job.now.path) own o
+            → k ≡ extended job.now (record { info = i; own = o })) }
+    {
+        let depth = job.depth();
+        let ignore = ignore_below(self.alloc, job.ignore(), info.rules, depth, own.rules)?;
+        let attributes = attributes_below(
+            self.alloc,
+            job.attributes(),
+            info.attributes,
+            depth,
+            own.attributes,
+        )?;
+        job.with_chains(self.alloc, ignore, attributes)
+    }
+
+    /// Enters the directory of a job: what stops it is its first fault. The scratch paths are then those of the directory.
+    pub fn enter(&self, job: &Job, scratch: &mut Scratch) -> Result<Entered, Unlisted>
+        ensures at { IfOk result (λ e. scratch.new.path.directory ≡ e.job.path) }
+        ensures enters { EntersLevel (T.lists self.now.tree.now) (T.gives self.now.tree.now) job.now self.now.kept.texts result }
+    {
+        let path = job.path();
+        let listing = self.list_for(path, Place::Directory)?;
+        let info = self.read_info(path, listing.entries(), scratch)?;
+        let own = self.read_own(path, listing.entries(), scratch)?;
+        let Ok(inside) = self.with_files(job, info.files, own.files) else {
+            return Err(Unlisted::Broken(Cause::Memory));
+        };
+        let texts = RuleTexts {
+            info: info.text,
+            own: own.text,
+        };
+        Ok(Entered {
+            job: inside,
+            entries: listing.into_entries(),
+            texts,
+        })
+    }
+}
