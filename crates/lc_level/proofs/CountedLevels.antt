@@ -10,7 +10,7 @@ use Rattle.lc_level.specs.Job.{JobModel}
 use Rattle.lc_level.specs.Laws.{parts_with}
 use Rattle.lc_level.specs.LeftIn.{kept_file, kept_directory, left_entry, bytes_of}
 use Rattle.lc_level.specs.Level.{Fate, LeftModel, IsLevelOf, level, level_of, level_after, level_of_items, is_taken}
-use Rattle.lc_level.specs.Level.{file_fate, fates_of, counted_of, failed_of, counted_in, failed_in, left_in}
+use Rattle.lc_level.specs.Level.{file_fate, fates_of, counted_of, failed_of, counted_in, failed_in}
 use Rattle.lc_level.specs.Selection.{SelectionModel}
 use Rattle.lc_tree.specs.Listing.{EntryModel, IsListing}
 use Rattle.lc_level.specs.Tidy.{IsTidy, listed_in}

@@ -1,20 +1,20 @@
 -- The answers of a tree for a directory, by what entering it answered.
-use Rattle.std.proofs.Common.{◌≡◌, ℕ, Bool, true, false, ◌&&◌, List, [], ◌∷◌, refl, sym, ◌∙◌, ap, subst, Result, Ok, Err, codes}
+use Rattle.std.proofs.Common.{◌≡◌, ℕ, Bool, true, false, ◌&&◌, List, [], refl, sym, ◌∙◌, ap, subst, Result, Ok, Err, codes}
 use Rattle.std.proofs.Common.{arith}
 use Rattle.std.specs.List.Sorted.{IsStrictlySortedBy}
 use Rattle.lc_census.specs.declared.totals.Count.{Count}
 use Rattle.lc_glob.specs.Path.{path_in}
-use Rattle.lc_level.specs.Answers.{Item, Answers, entries_of}
+use Rattle.lc_level.specs.Answers.{Item, Answers}
 use Rattle.lc_level.specs.EntryLooks.{has_file, has_dir}
 use Rattle.lc_level.specs.GitInfo.{ListsFor, MayAnswerGit, ReadsGit}
 use Rattle.lc_level.specs.Job.{JobModel}
 use Rattle.lc_level.specs.Tidy.{IsTidy}
 use Rattle.lc_level.specs.Level.{faulted_level, level, level_after}
-use Rattle.lc_level.specs.Enters.{IsInside, IsEntered, EntersLevel}
+use Rattle.lc_level.specs.Enters.{IsEntered, EntersLevel}
 use Rattle.lc_tree.specs.Listing.{EntryModel, IsListing}
 use Rattle.lc_level.specs.FaultLines.{FaultLineModel}
 use Rattle.lc_level.specs.Selection.{SelectionModel}
-use Rattle.lc_level.specs.RuleFiles.{Pair, RuleBytes, has_git, is_top, and_then, info_items, info_bytes, own_bytes, rule_bytes, extended}
+use Rattle.lc_level.specs.RuleFiles.{Pair, has_git, is_top, and_then, info_items, info_bytes, own_bytes, rule_bytes, extended}
 use Rattle.lc_level.specs.RulePairs.{AreFilesOf, IsReadOf, ReadsBoth}
 use Rattle.lc_level.specs.PlacePaths.{place_path}
 use Rattle.lc_level.specs.RuleReads.{text_items}

@@ -5,7 +5,7 @@ use Rattle.std.specs.Option.{is_none, option_map_or, option_or}
 use Rattle.lc_census.specs.declared.totals.Count.{Count}
 use Rattle.lc_level.specs.Answers.{Item, file_item, directory_item, other_item, name_of, entry_of}
 use Rattle.lc_level.specs.Job.{JobModel}
-use Rattle.lc_level.specs.Level.{CountedModel, FileFaultModel, Reason, other_kind, LeftModel, Fate, walked, left, reason_of, reason_for}
+use Rattle.lc_level.specs.Level.{CountedModel, FileFaultModel, Reason, other_kind, LeftModel, Fate, walked, left, reason_of}
 use Rattle.lc_level.specs.Level.{is_taken, child_job, file_fate, fate_of, fates_of, counted_of, failed_of, walked_of, left_of}
 use Rattle.lc_level.specs.Level.{counted_in, failed_in, walked_in, left_in}
 use Rattle.lc_level.specs.LeftIn.{left_by, left_entry}

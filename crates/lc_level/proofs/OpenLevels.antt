@@ -1,19 +1,17 @@
 -- The answers of a tree for a directory, by what opening it answered after it was entered.
-use Rattle.std.proofs.Common.{◌≡◌, ℕ, suc, ◌<◌, ◌^◌, Bool, true, ◌||◌, List, [], ◌∷◌, length, refl, sym, ◌∙◌, ap, subst, Result, Ok, Err, arith}
+use Rattle.std.proofs.Common.{◌≡◌, ℕ, suc, Bool, true, ◌||◌, List, [], ◌∷◌, length, refl, sym, ◌∙◌, ap, Ok, Err}
 use Rattle.std.specs.List.{list_any, flat_map}
-use Rattle.lc_level.specs.Answers.{Item, entry_of, entries_of, Items}
+use Rattle.lc_level.specs.Answers.{Item, entry_of, entries_of}
 use Rattle.lc_level.specs.Deep.{is_too_deep, some_too_deep, too_deep_among}
-use Rattle.lc_level.specs.Enters.{IsInside, IsEntered, EntersLevel}
+use Rattle.lc_level.specs.Enters.{IsEntered, EntersLevel}
 use Rattle.lc_level.specs.Job.{JobModel}
-use Rattle.lc_level.specs.LeftIn.{kept_file, kept_directory, left_entry, bytes_of, LeavesIn}
+use Rattle.lc_level.specs.LeftIn.{kept_file, kept_directory, left_entry, LeavesIn}
 use Rattle.lc_level.specs.Opens.{IsOpened, OpensLevel}
 use Rattle.lc_level.specs.Selection.{SelectionModel}
-use Rattle.lc_level.specs.Tidy.{listed_in}
-use Rattle.lc_tree.specs.Listing.{EntryModel, IsListing}
+use Rattle.lc_tree.specs.Listing.{EntryModel}
 use Rattle.lc_tree.specs.Trees.{Listings, Contents}
 use Rattle.lc_level.specs.declared.entering.Entered.{Entered}
 use Rattle.lc_level.specs.declared.left_in.LeftIn.{LeftIn}
-use Rattle.lc_level.specs.declared.opening.Opened.{Opened}
 use Rattle.lc_level.specs.declared.unlisted.Unlisted.{Unlisted}
 use Rattle.lc_level.specs.declared.unlisted.Unlisted.TheVariants.{Faulted, Broken}
 use Rattle.lc_level.specs.declared.cause.Cause.{Cause}
@@ -36,12 +34,6 @@ module _ (lists : List ℕ → Listings) (gives : List ℕ → Contents) (left_o
   enter_refused texts (Broken TooDeep) e = absurd e
 
   module _ (texts : Bool) (e : Entered) (c : IsEntered lists gives j texts e) where
-    -- a directory has few entries
-    pub few_entries : length e.entries.items < 2 ^ 32
-    few_entries =
-        let is : IsListing (entries_of c.inside.items) = subst (λ (l : Items). IsListing (listed_in l)) c.inside.here c.inside.tidy in
-        omega (arith, is.few, ap length c.entries)
-
     -- one of its entries is too deep
     deep_opens : list_any (is_too_deep s e.job) e.entries.items ≡ true → OpensLevel lists gives left_out s j (Err (Broken TooDeep))
     deep_opens deep =
@@ -63,18 +55,19 @@ module _ (lists : List ℕ → Listings) (gives : List ℕ → Contents) (left_o
     take_refused TooDeep l = deep_opens l
 
     -- they were taken
-    pub opened : (found : LeftIn) → LeavesIn left_out s e.job e.entries.items (Ok found)
+    pub opened : (found : LeftIn) (number : ℕ) → number ≡ length e.entries.items
+        → LeavesIn left_out s e.job e.entries.items (Ok found)
         → IsOpened lists gives left_out s j (record {
           job = e.job;
           files = found.files;
           children = found.children;
           left = found.left;
-          entries = length e.entries.items;
+          entries = number;
         })
-    opened found (files, children, left) = record {
+    opened found number counted (files, children, left) = record {
       inside = c.inside;
       files = files ∙ ap (flat_map (kept_file s e.job)) c.entries;
       children = children ∙ ap (flat_map (kept_directory s e.job)) c.entries;
       left = left ∙ ap (flat_map (left_entry left_out s e.job)) c.entries;
-      entries = ap length c.entries ∙ length_entries c.inside.items;
+      entries = counted ∙ ap length c.entries ∙ length_entries c.inside.items;
     }

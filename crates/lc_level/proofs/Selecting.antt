@@ -1,6 +1,6 @@
 -- Which attribute of a selection leaves out, if one does.
 use Rattle.std.proofs.Common.{◌≡◌, ◌⊎◌, ◌∙◌, ◌<◌, ◌||◌, ℕ, zero, suc, Bool, true, false, cond, List, [], ◌∷◌, length, get_or, take, map, refl}
-use Rattle.std.proofs.Common.{sym, ap, subst, inl, inr, codes, arith, Option, Some, None}
+use Rattle.std.proofs.Common.{sym, ap, inl, inr, codes, arith, Option, Some, None}
 use Rattle.std.specs.Borrow.{Bor}
 use Rattle.std.specs.List.{find, list_any}
 use Rattle.std.specs.Prelude.{option_map}

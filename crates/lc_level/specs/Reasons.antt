@@ -1,5 +1,4 @@
 -- What definitions see of a reason, of one that is lent, and of an entry that is left out.
-use Rattle.std.specs.Prelude.{Option}
 use Rattle.lc_level.specs.Level.{Reason, named_git, by_rule, by_attribute, other_kind}
 use Rattle.lc_level.specs.declared.reason.Reason.{Reason as OwnedReason}
 use Rattle.lc_level.specs.declared.reason.Reason.TheVariants as owned
