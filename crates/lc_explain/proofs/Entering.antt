@@ -1,0 +1,65 @@
+-- What entering a directory gives, by its level.
+use Rattle.std.proofs.Common.{◌≡◌, ℕ, Bool, List, [], ◌∷◌, Result, Ok, Err, sym, ◌∙◌, ap, ap₂, subst, refl, IfOk}
+use Rattle.lc_level.specs.Answers.{Item, Items, Answers}
+use Rattle.lc_level.specs.Enters.{EntersLevel}
+use Rattle.lc_level.specs.FaultLines.{FaultLineModel}
+use Rattle.lc_level.specs.Job.{JobModel}
+use Rattle.lc_level.specs.Level.{Level, faulted_level, listed_level, level, level_of, level_after}
+use Rattle.lc_level.specs.PlacePaths.{place_path}
+use Rattle.lc_level.specs.RuleFiles.{RuleBytes, rule_bytes}
+use Rattle.lc_level.specs.Selection.{SelectionModel}
+use Rattle.lc_level.specs.declared.place.Place.{Place}
+use Rattle.lc_level.specs.declared.unlisted.Unlisted.TheVariants.{Faulted}
+use Rattle.lc_tree.specs.Trees.{Listings, Contents}
+use Rattle.lc_tree.specs.declared.fault_word.FaultWord.{FaultWord}
+use Rattle.lc_explain.specs.Waypoints.{WaypointModel, waypoint, waypoint_of, waypoint_after, MayEnter}
+
+-- a fault in place of a directory
+abbrev as_fault : List ℕ → FaultWord → Result WaypointModel FaultLineModel
+as_fault path word = Err (record { path = path; word = word })
+
+fault_is : (p q : List ℕ) (w v : FaultWord) → faulted_level p w ≡ faulted_level q v → as_fault p w ≡ as_fault q v
+fault_is p q w v e =
+    let a : p ≡ q = cc e in
+    let b : w ≡ v = cc e in
+    ap₂ as_fault a b
+
+after_fault : (s : SelectionModel) (j : JobModel) (path : List ℕ) (word : FaultWord) (items : List Item) (r : Result RuleBytes FaultLineModel)
+    → level_after s j items r ≡ faulted_level path word → waypoint_after j items r ≡ as_fault path word
+after_fault s j path word items (Ok files) e = absurd (cc e)
+after_fault s j path word items (Err f) e = fault_is f.path path f.word word e
+
+fault_of : (s : SelectionModel) (j : JobModel) (path : List ℕ) (word : FaultWord) (a : Answers) (items : Items)
+    → level_of s j a items ≡ faulted_level path word → waypoint_of j a items ≡ as_fault path word
+fault_of s j path word a (Ok items) e = after_fault s j path word items (rule_bytes j.path items a) e
+fault_of s j path word a (Err w) e = fault_is j.path path w word e
+
+no_attributes : SelectionModel
+no_attributes = record { without = [] }
+
+-- a directory at fault can't be entered
+pub fault_entered : (lists : List ℕ → Listings) (gives : List ℕ → Contents) (j : JobModel) (texts : Bool) (place : Place) (word : FaultWord)
+    (directory : List ℕ) → directory ≡ j.path → EntersLevel lists gives j texts (Err (Faulted place word))
+    → MayEnter lists gives j (Err (record { path = place_path directory place; word = word }))
+fault_entered lists gives j texts place word directory at (a, may, tidy, is) = record {
+  answers = a;
+  may = may;
+  tidy = tidy;
+  gives_it = fault_of no_attributes j (place_path j.path place) word a a.here (is no_attributes)
+      ∙ ap (λ (d : List ℕ). as_fault (place_path d place) word) (sym at);
+}
+
+-- a directory that was entered has the path of its job
+path_after : (j : JobModel) (items : List Item) (r : Result RuleBytes FaultLineModel) → IfOk (waypoint_after j items r) (λ here. here.job.path ≡ j.path)
+path_after j items (Ok files) = refl
+path_after j items (Err f) = tt
+
+path_of_items : (j : JobModel) (a : Answers) (items : Items) → IfOk (waypoint_of j a items) (λ here. here.job.path ≡ j.path)
+path_of_items j a (Ok items) = path_after j items (rule_bytes j.path items a)
+path_of_items j a (Err w) = tt
+
+pub entered_path : (lists : List ℕ → Listings) (gives : List ℕ → Contents) (j : JobModel) (here : WaypointModel)
+    → MayEnter lists gives j (Ok here) → here.job.path ≡ j.path
+entered_path lists gives j here entered =
+    let P : Result WaypointModel FaultLineModel → Type 0 = λ r. IfOk r (λ here. here.job.path ≡ j.path) in
+    subst P entered.gives_it (path_of_items j entered.answers entered.answers.here)

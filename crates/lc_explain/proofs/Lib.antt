@@ -1,0 +1,5 @@
+pub mod PathSegments
+pub mod Reaching
+pub mod WayEnds
+pub mod Entering
+pub mod Descending

@@ -1,0 +1,140 @@
+-- What is said of a path, by what is said below a directory on the way to it.
+use Rattle.std.proofs.Common.{◌≡◌, ℕ, Bool, true, false, cond, List, [], ◌∷◌, ◌++◌, Option, Some, None, Result, Ok, Err, refl, sym, ◌∙◌}
+use Rattle.std.proofs.Common.{ap, subst, append_assoc, append-nil}
+use Rattle.lc_glob.specs.Bytes.{slash}
+use Rattle.lc_glob.specs.Path.{path_in, segments_of}
+use Rattle.lc_level.specs.FaultLines.{FaultLineModel}
+use Rattle.lc_level.specs.Job.{JobModel}
+use Rattle.lc_level.specs.Level.{Reason, reason_for, child_job}
+use Rattle.lc_level.specs.Selection.{SelectionModel}
+use Rattle.lc_text.specs.PathLines.{is_bad_path}
+use Rattle.lc_tree.specs.declared.entry.Kind.{Kind}
+use Rattle.lc_tree.specs.declared.entry.Kind.TheVariants.{File, Dir, Other}
+use Rattle.lc_explain.specs.Explained.{Explanation, bad, faulted, below, cited, said_for, said_of, said_beside, kind_asked}
+use Rattle.lc_explain.specs.Explained.{OnTheWay, OnEntering, IsSaid, IsExplained}
+use Rattle.lc_explain.specs.Waypoints.{WaypointModel, Way, kind_in}
+use Rattle.lc_explain.specs.Ways.{Reaches, IsWayBelow, IsWay}
+use Rattle.lc_explain.proofs.PathSegments.{has_first, below_child}
+
+-- a name on the way that is left out, that the walk goes into, or that is no directory
+module _ (reason : Option Reason) (there : Option Kind) (Left : Reason → Type 0) (Into Beside : Type 0) where
+  on_left : (r : Reason) → reason ≡ Some r → Left r → OnTheWay reason there Left Into Beside
+  on_left r is left = subst (λ (o : Option Reason). OnTheWay o there Left Into Beside) (sym is) left
+
+  on_into : reason ≡ None → there ≡ Some Dir → Into → OnTheWay reason there Left Into Beside
+  on_into is at into =
+      subst (λ (o : Option Reason). OnTheWay o there Left Into Beside) (sym is)
+      (subst (λ (k : Option Kind). OnTheWay None k Left Into Beside) (sym at) into)
+
+no_directory : (there : Option Kind) (Left : Reason → Type 0) (Into Beside : Type 0) → (there ≡ Some Dir → ⊥) → Beside
+    → OnTheWay None there Left Into Beside
+no_directory None Left Into Beside other beside = beside
+no_directory (Some File) Left Into Beside other beside = beside
+no_directory (Some Dir) Left Into Beside other beside = absurd (other refl)
+no_directory (Some Other) Left Into Beside other beside = beside
+
+module _ (Enters : JobModel → Result WaypointModel FaultLineModel → Type 0) (s : SelectionModel) (exclude : List ℕ) where
+  -- the last name is said of
+  pub last_said : (way : Way) (here : WaypointModel) (rest name : List ℕ) (as_dir : Bool) (x : Explanation) → segments_of rest ≡ name ∷ []
+      → x ≡ said_of s exclude way here.job name (kind_asked as_dir (kind_in here.entries name))
+      → IsSaid Enters s exclude way here (segments_of rest) as_dir x
+  last_said way here rest name as_dir x cut is =
+      subst (λ (l : List (List ℕ)). IsSaid Enters s exclude way here l as_dir x) (sym cut) is
+
+  module _ (way : Way) (here : WaypointModel) (rest name others : List ℕ) (as_dir : Bool) (x : Explanation)
+      (cut : segments_of rest ≡ name ∷ segments_of others) where
+    abbrev reason : Option Reason
+    reason = reason_for s here.job name (kind_asked true (kind_in here.entries name))
+
+    abbrev Below : List (List ℕ) → Type 0
+    Below names = OnEntering Enters (child_job here.job name) x (λ child. IsSaid Enters s exclude (way ++ child ∷ []) child names as_dir x)
+
+    abbrev Step : List (List ℕ) → Type 0
+    Step names =
+        OnTheWay reason (kind_in here.entries name) (λ r. x ≡ said_for (cited exclude way) below r) (Below names)
+        (x ≡ said_beside s exclude way (child_job here.job name) names as_dir)
+
+    at_name : Step (segments_of others) → IsSaid Enters s exclude way here (segments_of rest) as_dir x
+    at_name step =
+        let h = has_first others in
+        subst (λ (l : List (List ℕ)). IsSaid Enters s exclude way here l as_dir x) (sym (cut ∙ ap (λ (l : List (List ℕ)). name ∷ l) h.are))
+        (subst Step h.are step)
+
+    -- by the reason to leave out a name before it
+    pub left_said : (r : Reason) → reason ≡ Some r → x ≡ said_for (cited exclude way) below r
+        → IsSaid Enters s exclude way here (segments_of rest) as_dir x
+    left_said r is said =
+        at_name (on_left reason (kind_in here.entries name) (λ r. x ≡ said_for (cited exclude way) below r) (Below (segments_of others))
+        (x ≡ said_beside s exclude way (child_job here.job name) (segments_of others) as_dir) r is said)
+
+    -- below what is no directory
+    pub beside_said : reason ≡ None → (kind_in here.entries name ≡ Some Dir → ⊥)
+        → x ≡ said_beside s exclude way (child_job here.job name) (segments_of others) as_dir
+        → IsSaid Enters s exclude way here (segments_of rest) as_dir x
+    beside_said is other said =
+        at_name (subst (λ (o : Option Reason). OnTheWay o (kind_in here.entries name) (λ r. x ≡ said_for (cited exclude way) below r)
+        (Below (segments_of others)) (x ≡ said_beside s exclude way (child_job here.job name) (segments_of others) as_dir)) (sym is)
+        (no_directory (kind_in here.entries name) (λ r. x ≡ said_for (cited exclude way) below r) (Below (segments_of others))
+        (x ≡ said_beside s exclude way (child_job here.job name) (segments_of others) as_dir) other said))
+
+    -- below a directory that the walk goes into
+    pub into_said : reason ≡ None → kind_in here.entries name ≡ Some Dir → Below (segments_of others)
+        → IsSaid Enters s exclude way here (segments_of rest) as_dir x
+    into_said is at said =
+        at_name (on_into reason (kind_in here.entries name) (λ r. x ≡ said_for (cited exclude way) below r) (Below (segments_of others))
+        (x ≡ said_beside s exclude way (child_job here.job name) (segments_of others) as_dir) is at said)
+
+  module _ (top : JobModel) where
+    -- the top reaches itself
+    pub top_reaches : (here : WaypointModel) → here.job.path ≡ [] → Enters top (Ok here) → Reaches Enters s exclude top (here ∷ []) here
+    top_reaches here at entered rest as_dir x said =
+        (Ok here, entered, subst (λ (p : List ℕ). IsSaid Enters s exclude (here ∷ []) here (segments_of (path_in p rest)) as_dir x) (sym at) said)
+
+    -- what is said below a directory that is reached is said of the path
+    pub reached : (way : Way) (here : WaypointModel) (path rest : List ℕ) (as_dir : Bool) (x : Explanation)
+        → Reaches Enters s exclude top way here → path ≡ path_in here.job.path rest → is_bad_path path ≡ false
+        → IsSaid Enters s exclude way here (segments_of rest) as_dir x → IsExplained Enters s exclude top path as_dir x
+    reached way here path rest as_dir x reaches is good said =
+        let OnPath : List ℕ → Type 0 =
+        λ p. OnEntering Enters top x (λ first. IsSaid Enters s exclude (first ∷ []) first (segments_of p) as_dir x) in
+        subst (λ (b : Bool). cond b (x ≡ bad) (OnPath path)) (sym good) (subst OnPath (sym is) (reaches rest as_dir x said))
+
+    -- a directory that the walk goes into from one that is reached is reached
+    pub child_reached : (way : Way) (here child : WaypointModel) (name : List ℕ) → Reaches Enters s exclude top way here
+        → ((left : List ℕ) → segments_of (name ++ slash ∷ left) ≡ name ∷ segments_of left) → (name ≡ [] → ⊥)
+        → reason_for s here.job name (kind_asked true (kind_in here.entries name)) ≡ None → kind_in here.entries name ≡ Some Dir
+        → child.job.path ≡ path_in here.job.path name → Enters (child_job here.job name) (Ok child)
+        → Reaches Enters s exclude top (way ++ child ∷ []) child
+    child_reached way here child name reaches cuts some is at path entered rest as_dir x said =
+        let OnPath : List ℕ → Type 0 =
+        λ p. OnEntering Enters top x (λ first. IsSaid Enters s exclude (first ∷ []) first (segments_of p) as_dir x) in
+        let same : path_in here.job.path (name ++ slash ∷ rest) ≡ path_in child.job.path rest =
+        below_child here.job.path name rest some ∙ ap (λ (d : List ℕ). path_in d rest) (sym path) in
+        subst OnPath same (reaches (name ++ slash ∷ rest) as_dir x
+        (into_said way here (name ++ slash ∷ rest) name rest as_dir x (cuts rest) is at (Ok child, entered, said)))
+
+    -- ---- ways
+
+    -- a way with one directory more
+    pub way_longer : (above way : Way) (here : WaypointModel) → IsWayBelow Enters s exclude top above way
+        → Reaches Enters s exclude top (above ++ way ++ here ∷ []) here → IsWayBelow Enters s exclude top above (way ++ here ∷ [])
+    way_longer above [] here is reaches =
+        (subst (λ (l : Way). Reaches Enters s exclude top (l ++ here ∷ []) here) (append-nil above) reaches, tt)
+    way_longer above (w ∷ ws) here is reaches = (
+      is.0,
+      way_longer (above ++ w ∷ []) ws here is.1
+          (subst (λ (l : Way). Reaches Enters s exclude top (l ++ here ∷ []) here) (sym (append_assoc above (w ∷ []) ws)) reaches),
+    )
+
+    -- a way that was cut
+    pub way_cut : (above way gone : Way) → IsWayBelow Enters s exclude top above (way ++ gone) → IsWayBelow Enters s exclude top above way
+    way_cut above [] gone is = tt
+    way_cut above (w ∷ ws) gone is = (is.0, way_cut (above ++ w ∷ []) ws gone is.1)
+
+    -- its last directory is reached
+    pub way_end : (above way : Way) (here : WaypointModel) → IsWayBelow Enters s exclude top above (way ++ here ∷ [])
+        → Reaches Enters s exclude top (above ++ way ++ here ∷ []) here
+    way_end above [] here is = subst (λ (l : Way). Reaches Enters s exclude top (l ++ here ∷ []) here) (sym (append-nil above)) is.0
+    way_end above (w ∷ ws) here is =
+        subst (λ (l : Way). Reaches Enters s exclude top (l ++ here ∷ []) here) (append_assoc above (w ∷ []) ws)
+        (way_end (above ++ w ∷ []) ws here is.1)

@@ -1,0 +1,14 @@
+use Rattle.std.proofs.Common.{length}
+use Rattle.lc_explain.specs.Waypoints.{MayEnter}
+use Rattle.lc_explain.specs.Ways.{StandsBelow, IsWay}
+use Rattle.lc_explain.proofs.explainer.Explainer.descend.Given as goal
+
+abbrev pub invariant-names : goal.invariant-names
+invariant-names g l = record {
+  way : IsWay (MayEnter (g.T.Tree.lists l.self.levels.tree.now) (g.T.Tree.gives l.self.levels.tree.now)) l.self.levels.selection
+      l.self.exclude.now l.self.top l.way;
+  stands : StandsBelow l.way l.path l.rest;
+}
+
+abbrev pub decreases-names : goal.decreases-names
+decreases-names g l = length l.rest

@@ -1,0 +1,79 @@
+-- What a call answers that explains paths, by its reads and its writes.
+use Rattle.std.specs.Prelude.{◌≡◌, ℕ, Bool, cond, List, Result, Ok, Err, Option, option_map, map}
+use Rattle.std.specs.List.{AllByRecursion}
+use Rattle.lc_census.specs.Reads.{Answer}
+use Rattle.lc_census.specs.declared.source.Failed.{Failed}
+use Rattle.lc_census.specs.declared.whole.WholeFault.{WholeFault}
+use Rattle.lc_census.specs.declared.whole.WholeFault.TheVariants as whole
+use Rattle.lc_level.specs.Selection.{selection_of}
+use Rattle.lc_level.specs.TopJob.{top_job}
+use Rattle.lc_rules.specs.IgnoreRules.{rules_of}
+use Rattle.lc_text.specs.Check.{AnswersInput}
+use Rattle.lc_text.specs.Lines.{lines_of}
+use Rattle.lc_text.specs.PathLines.{path_of, is_dir_line}
+use Rattle.lc_text.specs.Writes.{Writes, StopsWriting}
+use Rattle.lc_text.specs.declared.printing.PrintFault.{PrintFault}
+use Rattle.lc_text.specs.declared.printing.PrintFault.TheVariants as print
+use Rattle.lc_tree.specs.Trees.{Listings, Contents}
+use Rattle.lc_explain.specs.Explained.{Explanation, IsExplained}
+use Rattle.lc_explain.specs.ExplainText.{Told, told_text, has_fault}
+use Rattle.lc_explain.specs.Waypoints.{text_or_none, MayEnter}
+use Rattle.lc_explain.specs.declared.question.Question.{Question}
+use Rattle.lc_explain.specs.declared.explaining.ExplainFault.{ExplainFault}
+use Rattle.lc_explain.specs.declared.explaining.ExplainFault.TheVariants.{Read, InputTooLong, Memory, Write}
+use Rattle.lc_text.specs.declared.outcome.Outcome.{Outcome}
+use Rattle.lc_text.specs.declared.outcome.Outcome.TheVariants.{Clean, SomeFaults}
+
+-- what may be said of a path, by what the listings and the files of a tree may answer and by what is asked
+abbrev pub MaySay : (List ℕ → Listings) → (List ℕ → Contents) → Question → List ℕ → Bool → Explanation → Type 0
+MaySay lists gives question path as_dir x =
+    IsExplained (MayEnter lists gives) (selection_of question.archive (map (λ name. name.now) question.without.now))
+    (text_or_none question.exclude) (top_job (option_map rules_of question.exclude)) path as_dir x
+
+abbrev pub outcome_of : List Told → Outcome
+outcome_of told = cond (has_fault told) SomeFaults Clean
+
+-- lines, each with something that may be said of its path: their text, and whether a directory was at fault
+pub record Explains (Says : List ℕ → Bool → Explanation → Type 0) (lines : List (List ℕ)) (text : List ℕ) (outcome : Outcome)
+    : Type 0 where
+  pub told : List Told
+  pub lines_are : map (λ (t : Told). t.0) told ≡ lines
+  pub said : AllByRecursion (λ (t : Told). Says (path_of t.0) (is_dir_line t.0) t.1) told
+  pub text_is : text ≡ told_text told
+  pub outcome_is : outcome ≡ outcome_of told
+
+module _ {O : Type 0} (may_take : O → List ℕ → Result ℕ Failed → O → Type 0) (Says : List ℕ → Bool → Explanation → Type 0) where
+  -- of lines: their text was written whole; a prefix of it was written; nothing was written
+  abbrev pub AnswersLines : List (List ℕ) → O → Result Outcome PrintFault → O → Type 0
+  AnswersLines lines out (Ok outcome) wrote = (text : List ℕ) × Explains Says lines text outcome × Writes may_take out text wrote
+  AnswersLines lines out (Err print.Write) wrote =
+      (text : List ℕ) × (outcome : Outcome) × Explains Says lines text outcome × StopsWriting may_take out text wrote
+  AnswersLines lines out (Err print.Memory) wrote = wrote ≡ out
+
+  module _ {I : Type 0} (may_give : I → ℕ → Answer → I → Type 0) where
+    abbrev pub AnswersExplain : I → O → Result Outcome ExplainFault → I → O → Type 0
+    -- the input was read whole, and the text of its lines was written whole
+    AnswersExplain input out (Ok outcome) read wrote =
+        (bytes : List ℕ) × AnswersInput may_give input (Ok tt) bytes read × AnswersLines (lines_of bytes) out (Ok outcome) wrote
+    -- a read of the input failed
+    AnswersExplain input out (Err Read) read wrote =
+        ((bytes : List ℕ) × AnswersInput may_give input (Err whole.Read) bytes read) × (wrote ≡ out)
+    -- the input is too long
+    AnswersExplain input out (Err InputTooLong) read wrote =
+        ((bytes : List ℕ) × AnswersInput may_give input (Err whole.TooLong) bytes read) × (wrote ≡ out)
+    -- nothing was written
+    AnswersExplain input out (Err Memory) read wrote = wrote ≡ out
+    -- a prefix of the text was written
+    AnswersExplain input out (Err Write) read wrote =
+        (bytes : List ℕ) × AnswersInput may_give input (Ok tt) bytes read × AnswersLines (lines_of bytes) out (Err print.Write) wrote
+
+-- an input that was not read whole
+abbrev pub input_fault : WholeFault → ExplainFault
+input_fault whole.Read = Read
+input_fault whole.TooLong = InputTooLong
+input_fault whole.Memory = Memory
+
+-- a text that was not written, or not whole
+abbrev pub print_fault : PrintFault → ExplainFault
+print_fault print.Write = Write
+print_fault print.Memory = Memory

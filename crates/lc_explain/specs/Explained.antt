@@ -1,0 +1,112 @@
+-- What is said of a path of a tree, on the way down to it from the top: gitignore(5), DESCRIPTION and PATTERN FORMAT, and
+-- git-check-ignore(1), OUTPUT, on the rule that decides.
+use Rattle.std.specs.Prelude.{◌≡◌, ℕ, Bool, true, false, cond, List, [], ◌∷◌, ◌++◌, Option, Some, None, Result, Ok, Err, MatchResult}
+use Rattle.lc_glob.specs.Path.{path_in, segments_of}
+use Rattle.lc_level.specs.FaultLines.{FaultLineModel}
+use Rattle.lc_level.specs.Job.{JobModel}
+use Rattle.lc_level.specs.Level.{Reason, named_git, by_rule, by_attribute, other_kind, reason_for, child_job}
+use Rattle.lc_level.specs.Selection.{SelectionModel}
+use Rattle.lc_rules.specs.IgnoreChains.{rules_in}
+use Rattle.lc_rules.specs.IgnoreRules.{RuleModel}
+use Rattle.lc_rules.specs.Verdicts.{deciding}
+use Rattle.lc_rules.specs.declared.origin.Origin.{Origin}
+use Rattle.lc_text.specs.ExplainedText.{line_text}
+use Rattle.lc_text.specs.PathLines.{is_bad_path}
+use Rattle.lc_tree.specs.Kinds.{is_dir}
+use Rattle.lc_tree.specs.declared.entry.Kind.{Kind}
+use Rattle.lc_tree.specs.declared.entry.Kind.TheVariants.{File, Dir, Other}
+use Rattle.lc_explain.specs.Waypoints.{WaypointModel, Way, kind_in, text_in}
+
+-- a rule as it is told of: the origin of its file, the number of its line, and the text of that line
+pub record CitedRule : Type 0 where
+  pub origin : Origin
+  pub line : ℕ
+  pub text : List ℕ
+
+-- what is said of a path: no entry can have it; a directory on the way to it is at fault; the highest directory above it that a rule
+-- ignores is ignored by this rule; this rule decides it, and ignores it or includes it again; no rule decides it; or the walk leaves
+-- it out, or a directory above it, for this reason, which is no rule
+pub data Explanation : Type 0 where
+  bad : Explanation
+  faulted : FaultLineModel → Explanation
+  below : CitedRule → Explanation
+  ignored : CitedRule → Explanation
+  included : CitedRule → Explanation
+  unruled : Explanation
+  left_out : Reason → Explanation
+
+-- a rule of the files that were read on a way
+abbrev pub cited : List ℕ → Way → Origin → ℕ → CitedRule
+cited exclude way origin line = record { origin = origin; line = line; text = line_text (text_in exclude way origin) line }
+
+-- what is left out for a reason is ignored by the rule, or else left out
+abbrev pub said_for : (Origin → ℕ → CitedRule) → (CitedRule → Explanation) → Reason → Explanation
+said_for cite ignores (by_rule origin line) = ignores (cite origin line)
+said_for cite ignores named_git = left_out named_git
+said_for cite ignores (by_attribute name) = left_out (by_attribute name)
+said_for cite ignores other_kind = left_out other_kind
+
+-- of what the walk leaves out for a reason, or else by the rule that decides it
+abbrev pub said_by : (Origin → ℕ → CitedRule) → Option Reason → Option (Origin × RuleModel) → Explanation
+said_by cite (Some reason) rule = said_for cite ignored reason
+said_by cite None (Some rule) = included (cite rule.0 rule.1.line)
+said_by cite None None = unruled
+
+-- a name is asked about as what the tree has under it; what is not there is a file, and a name before a slash, or with one at its end,
+-- is that of a directory, unless the tree has what is neither a file nor a directory
+abbrev pub kind_asked : Bool → Option Kind → Kind
+kind_asked as_dir (Some Other) = Other
+kind_asked as_dir (Some Dir) = Dir
+kind_asked true (Some File) = Dir
+kind_asked false (Some File) = File
+kind_asked true None = Dir
+kind_asked false None = File
+
+-- a name before the last: there is a reason to leave it out; or the walk goes into it, or it is no directory of the tree
+abbrev pub OnTheWay : Option Reason → Option Kind → (Reason → Type 0) → Type 0 → Type 0 → Type 0
+OnTheWay (Some reason) there Left Into Beside = Left reason
+OnTheWay None (Some Dir) Left Into Beside = Into
+OnTheWay None (Some File) Left Into Beside = Beside
+OnTheWay None (Some Other) Left Into Beside = Beside
+OnTheWay None None Left Into Beside = Beside
+
+-- and what is said of the names below it
+abbrev pub said_above : (Origin → ℕ → CitedRule) → Option Reason → Explanation → Explanation
+said_above cite None after = after
+said_above cite (Some reason) after = said_for cite below reason
+
+module _ (s : SelectionModel) (exclude : List ℕ) where
+  -- of the last name of a path, in a directory or below one
+  abbrev pub said_of : Way → JobModel → List ℕ → Kind → Explanation
+  said_of way j name kind =
+      said_by (cited exclude way) (reason_for s j name kind) (deciding (rules_in j.ignore) (path_in j.path name) (is_dir kind))
+
+  -- of names below what is not there, or is no directory: it has no entries and no rule files, and those of the directories above decide
+  abbrev pub said_beside : Way → JobModel → List (List ℕ) → Bool → Explanation
+  said_beside way j [] as_dir = unruled
+  said_beside way j (name ∷ []) as_dir = said_of way j name (kind_asked as_dir None)
+  said_beside way j (name ∷ next ∷ names) as_dir =
+      said_above (cited exclude way) (reason_for s j name Dir) (said_beside way (child_job j name) (next ∷ names) as_dir)
+
+module _ (Enters : JobModel → Result WaypointModel FaultLineModel → Type 0) where
+  -- a directory is entered, and says this of what stands below it, or is at fault
+  abbrev pub OnEntering : JobModel → Explanation → (WaypointModel → Type 0) → Type 0
+  OnEntering j x Says =
+      (entered : Result WaypointModel FaultLineModel) × Enters j entered × MatchResult entered Says (λ fault. x ≡ faulted fault)
+
+  module _ (s : SelectionModel) (exclude : List ℕ) where
+    -- of names that stand below the last directory of a way
+    abbrev pub IsSaid : Way → WaypointModel → List (List ℕ) → Bool → Explanation → Type 0
+    IsSaid way here [] as_dir x = ⊥
+    IsSaid way here (name ∷ []) as_dir x = x ≡ said_of s exclude way here.job name (kind_asked as_dir (kind_in here.entries name))
+    IsSaid way here (name ∷ next ∷ names) as_dir x =
+        OnTheWay (reason_for s here.job name (kind_asked true (kind_in here.entries name))) (kind_in here.entries name)
+        (λ reason. x ≡ said_for (cited exclude way) below reason)
+        (OnEntering (child_job here.job name) x (λ child. IsSaid (way ++ child ∷ []) child (next ∷ names) as_dir x))
+        (x ≡ said_beside s exclude way (child_job here.job name) (next ∷ names) as_dir)
+
+    -- of a path, from the top of the tree down; `as_dir` says that it is that of a directory
+    abbrev pub IsExplained : JobModel → List ℕ → Bool → Explanation → Type 0
+    IsExplained top path as_dir x =
+        cond (is_bad_path path) (x ≡ bad)
+        (OnEntering top x (λ here. IsSaid (here ∷ []) here (segments_of path) as_dir x))

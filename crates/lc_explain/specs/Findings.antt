@@ -1,0 +1,25 @@
+-- What the code finds of a path.
+use Rattle.std.specs.Prelude.{ℕ, List}
+use Rattle.lc_level.specs.FaultLines.{FaultLineModel}
+use Rattle.lc_level.specs.Reasons.{reason_model}
+use Rattle.lc_level.specs.PlacePaths.{place_path}
+use Rattle.lc_rules.specs.declared.origin.Origin.{Origin}
+use Rattle.lc_explain.specs.Explained.{CitedRule, Explanation, bad, faulted, below, ignored, included, unruled, left_out}
+use Rattle.lc_explain.specs.declared.finding.DirectoryFault.{DirectoryFault}
+use Rattle.lc_explain.specs.declared.finding.Finding.{Finding}
+use Rattle.lc_explain.specs.declared.finding.Finding.TheVariants as found
+use Rattle.lc_explain.specs.declared.finding.RulePlace.{RulePlace}
+
+-- the path at which a directory is at fault, and why
+abbrev pub fault_line_of : DirectoryFault → FaultLineModel
+fault_line_of fault = record { path = place_path fault.directory.now fault.place; word = fault.word }
+
+-- what it says, by the rules as they are told of
+abbrev pub explanation_of : (Origin → ℕ → CitedRule) → Finding → Explanation
+explanation_of cite found.Bad = bad
+explanation_of cite (found.Fault fault) = faulted (fault_line_of fault)
+explanation_of cite (found.Below rule) = below (cite rule.origin rule.line)
+explanation_of cite (found.Ignored rule) = ignored (cite rule.origin rule.line)
+explanation_of cite (found.Included rule) = included (cite rule.origin rule.line)
+explanation_of cite found.NoRule = unruled
+explanation_of cite (found.Left reason) = left_out (reason_model reason)

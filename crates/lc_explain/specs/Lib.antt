@@ -1,0 +1,6 @@
+pub mod Waypoints
+pub mod Explained
+pub mod Findings
+pub mod ExplainText
+pub mod Explain
+pub mod Ways

@@ -1,0 +1,235 @@
+//! What is found of a path, from the top of the tree down.
+
+ghost use Rattle.std.specs.Prelude.{◌≡◌, ℕ, List, true, false, map, option_map, IfOk, OnOk};
+ghost use Rattle.lc_glob.specs.Path.{path_in, segments_of};
+ghost use Rattle.lc_level.specs.Level.{reason_for};
+ghost use Rattle.lc_level.specs.Selection.{selection_of};
+ghost use Rattle.lc_level.specs.TopJob.{top_job};
+ghost use Rattle.lc_rules.specs.IgnoreChains.{rules_in};
+ghost use Rattle.lc_rules.specs.IgnoreRules.{rules_of};
+ghost use Rattle.lc_rules.specs.Verdicts.{deciding};
+ghost use Rattle.lc_rules.specs.declared.origin.Origin.{Origin};
+ghost use Rattle.lc_text.specs.PathLines.{is_bad_path};
+ghost use Rattle.lc_tree.specs.Kinds.{is_dir};
+ghost use Rattle.lc_explain.specs.Explained.{CitedRule, cited, kind_asked, said_by, said_beside, IsExplained};
+ghost use Rattle.lc_explain.specs.Findings.{explanation_of};
+ghost use Rattle.lc_explain.specs.Waypoints.{WaypointModel, text_or_none, MayEnter};
+ghost use Rattle.lc_explain.specs.Ways.{StandsBelow, Goes, IsWay};
+
+use crate::question::Question;
+use crate::finding::{DirectoryFault, Finding, RulePlace};
+use crate::way::Way;
+use crate::waypoint::Waypoint;
+use lc_glob::cut_at_first;
+use lc_level::{Entered, Job, Kept, LevelReader, RuleTexts, Unlisted};
+use lc_text::is_bad_path;
+use lc_tree::{Kind, Tree};
+use std::alloc::{AllocError, Global};
+
+/// As what a name is asked about, by what stands under it.
+fn kind_asked(as_dir: bool, there: Option<Kind>) -> Kind
+    ensures { result ≡ kind_asked as_dir there }
+{
+    match there {
+        Some(Kind::Other) => Kind::Other,
+        Some(Kind::Dir) => Kind::Dir,
+        Some(Kind::File) | None => {
+            if as_dir {
+                Kind::Dir
+            } else {
+                Kind::File
+            }
+        }
+    }
+}
+
+/// Explains paths of a tree.
+#[derive(Drop)]
+pub(crate) struct Explainer<'t, T> {
+    alloc: Global,
+    pub(crate) levels: LevelReader<'t, T>,
+    pub(crate) top: Job,
+    /// The text of the exclude file.
+    pub(crate) exclude: &'t [u8],
+    ghost keeps: { levels.kept.texts ≡ true },
+}
+
+impl<'t, T: Tree> Explainer<'t, T> {
+    pub(crate) fn new(
+        alloc: Global,
+        tree: &'t T,
+        question: &'t Question<'t>,
+    ) -> Result<Explainer<'t, T>, AllocError>
+        ensures tree { IfOk result (λ e. e.levels.tree.now ≡ tree.entry.now) }
+        ensures selection { IfOk result (λ e. e.levels.selection
+            ≡ selection_of question.entry.now.archive (map (λ name. name.now) question.entry.now.without.now)) }
+        ensures top { IfOk result (λ e. e.top ≡ top_job (option_map rules_of question.entry.now.exclude)) }
+        ensures exclude { IfOk result (λ e. e.exclude.now ≡ text_or_none question.entry.now.exclude) }
+    {
+        let kept = Kept {
+            left_out: false,
+            texts: true,
+        };
+        Ok(Explainer {
+            alloc,
+            levels: LevelReader::new(alloc, tree, question.selection(), kept),
+            top: Job::top(alloc, question.exclude_rules()?)?,
+            exclude: question.exclude_text(),
+        })
+    }
+
+    /// Enters the directory of a job, which then stands at the end of the way; or tells why it can't be entered.
+    fn enter<'p>(
+        &self,
+        way: &mut Way,
+        job: &Job,
+        directory: &'p [u8],
+    ) -> Result<Option<DirectoryFault<'p>>, AllocError>
+        requires { directory.now ≡ job.now.path }
+        ensures { Goes (MayEnter (T.lists self.now.levels.tree.now) (T.gives self.now.levels.tree.now)) job.now way.old way.new result }
+    {
+        match self.levels.enter(job, &mut way.scratch) {
+            Ok(entered) => {
+                let Entered { job, entries, texts } = entered;
+                let RuleTexts { info, own } = texts;
+                way.directories.push(Waypoint {
+                    job,
+                    entries,
+                    info,
+                    own,
+                })?;
+                Ok(None)
+            }
+            Err(Unlisted::Faulted(place, word)) => Ok(Some(DirectoryFault {
+                directory,
+                place,
+                word,
+            })),
+            Err(Unlisted::Broken(_)) => Err(AllocError),
+        }
+    }
+
+    /// Of the last name of a path, in a directory or below one.
+    fn last<'p>(
+        &self,
+        job: &Job,
+        path: &'p [u8],
+        name: &[u8],
+        kind: Kind,
+    ) -> Result<Finding<'p>, AllocError>
+        requires { path.now ≡ path_in job.now.path name.now }
+        ensures { IfOk result (λ f. (cite : Origin → ℕ → CitedRule) → explanation_of cite f
+            ≡ said_by cite (reason_for self.now.levels.selection job.now name.now kind)
+            (deciding (rules_in job.now.ignore) (path_in job.now.path name.now) (is_dir kind))) }
+    {
+        if let Some(reason) = self.levels.reason(job, name, path, kind)? {
+            return Ok(Finding::left_out(reason));
+        }
+        match job.deciding(path, kind.is_dir()) {
+            Some((origin, rule)) => Ok(Finding::Included(RulePlace {
+                origin,
+                line: rule.line(),
+            })),
+            None => Ok(Finding::NoRule),
+        }
+    }
+
+    /// Of what is left of a path below what is not there, or is no directory: the job is that of such a place.
+    fn beside<'p>(
+        &self,
+        job: Job,
+        path: &'p [u8],
+        rest: &[u8],
+        as_dir: bool,
+    ) -> Result<Finding<'p>, AllocError>
+        requires stands { path.now ≡ path_in job.path rest.now }
+        requires good { is_bad_path path.now ≡ false }
+        ensures { IfOk result (λ f. (exclude : List ℕ) (way : List WaypointModel) → explanation_of (cited exclude way) f
+            ≡ said_beside self.now.levels.selection exclude way job (segments_of rest.now) as_dir) }
+    {
+        let mut job = job;
+        let mut rest = rest;
+        'names: loop {
+            let (name, others) = cut_at_first(b'/', rest);
+            let Some(others) = others else {
+                return self.last(&job, path, name, kind_asked(as_dir, None));
+            };
+            let at = &path[..path.len() - others.len() - 1];
+            if let Some(reason) = self.levels.reason(&job, name, at, Kind::Dir)? {
+                return Ok(Finding::below(reason));
+            }
+            job = job.at(self.alloc, at)?;
+            rest = others;
+        }
+    }
+
+    /// Of what is left of a path below the last directory of the way.
+    fn descend<'p>(
+        &self,
+        way: &mut Way,
+        path: &'p [u8],
+        rest: &'p [u8],
+        as_dir: bool,
+    ) -> Result<Finding<'p>, AllocError>
+        requires way { IsWay (MayEnter (T.lists self.now.levels.tree.now) (T.gives self.now.levels.tree.now)) self.now.levels.selection
+            self.now.exclude.now self.now.top way.old }
+        requires stands { StandsBelow way.old path.now rest.now }
+        requires good { is_bad_path path.now ≡ false }
+        ensures way { OnOk result (IsWay (MayEnter (T.lists self.now.levels.tree.now) (T.gives self.now.levels.tree.now))
+            self.now.levels.selection self.now.exclude.now self.now.top way.new) }
+        ensures found { IfOk result (λ f. IsExplained (MayEnter (T.lists self.now.levels.tree.now) (T.gives self.now.levels.tree.now))
+            self.now.levels.selection self.now.exclude.now self.now.top path.now as_dir
+            (explanation_of (cited self.now.exclude.now way.new) f)) }
+    {
+        let mut rest = rest;
+        'names: loop {
+            let Some(here) = way.directories.last() else {
+                unreachable!()
+            };
+            let (name, others) = cut_at_first(b'/', rest);
+            let there = here.kind(name);
+            let Some(others) = others else {
+                return self.last(&here.job, path, name, kind_asked(as_dir, there));
+            };
+            let at = &path[..path.len() - others.len() - 1];
+            if let Some(reason) = self.levels.reason(&here.job, name, at, kind_asked(true, there))? {
+                return Ok(Finding::below(reason));
+            }
+            let job = here.job.at(self.alloc, at)?;
+            let Some(Kind::Dir) = there else {
+                return self.beside(job, path, others, as_dir);
+            };
+            if let Some(fault) = self.enter(way, &job, at)? {
+                return Ok(Finding::Fault(fault));
+            }
+            rest = others;
+        }
+    }
+
+    /// What is found of a path. The way is then the one to it, as far as its directories were entered.
+    pub(crate) fn find<'p>(
+        &self,
+        way: &mut Way,
+        path: &'p [u8],
+        as_dir: bool,
+    ) -> Result<Finding<'p>, AllocError>
+        requires { IsWay (MayEnter (T.lists self.now.levels.tree.now) (T.gives self.now.levels.tree.now)) self.now.levels.selection
+            self.now.exclude.now self.now.top way.old }
+        ensures way { OnOk result (IsWay (MayEnter (T.lists self.now.levels.tree.now) (T.gives self.now.levels.tree.now))
+            self.now.levels.selection self.now.exclude.now self.now.top way.new) }
+        ensures found { IfOk result (λ f. IsExplained (MayEnter (T.lists self.now.levels.tree.now) (T.gives self.now.levels.tree.now))
+            self.now.levels.selection self.now.exclude.now self.now.top path.now as_dir
+            (explanation_of (cited self.now.exclude.now way.new) f)) }
+    {
+        if is_bad_path(path) {
+            return Ok(Finding::Bad);
+        }
+        if let Some(rest) = way.leave(path) {
+            return self.descend(way, path, rest, as_dir);
+        }
+        if let Some(fault) = self.enter(way, &self.top, &[])? {
+            return Ok(Finding::Fault(fault));
+        }
+        self.descend(way, path, path, as_dir)
+    }
+}

@@ -1,0 +1,122 @@
+//! The lines of an input, or words, explained and written.
+
+ghost use Rattle.std.specs.Prelude.{◌≡◌, map};
+ghost use Rattle.lc_explain.specs.Explain.{MaySay, AnswersLines, AnswersExplain, input_fault, print_fault};
+ghost use Rattle.lc_explain.specs.declared.explaining.ExplainFault.TheVariants.{Memory};
+
+use crate::question::Question;
+use crate::explainer::Explainer;
+use crate::telling::Telling;
+use lc_census::{Source, WholeFault, new_buffer, read_whole};
+use lc_text::{MAX_INPUT, Outcome, PrintFault, Sink, print};
+use lc_tree::Tree;
+use std::alloc::{AllocError, Global};
+use thiserror::Error;
+
+/// Why explanations were not written, or not whole.
+#[derive(Debug, Clone, Copy, PartialEq, Eq, Error)]
+pub enum ExplainFault {
+    /// A read of the input failed.
+    #[error("cannot read input")]
+    Read,
+    /// The input has over 16,777,216 bytes.
+    #[error("input too long")]
+    InputTooLong,
+    /// There is no memory for the input, for a directory or for the text.
+    #[error("out of memory")]
+    Memory,
+    /// A write failed, or took nothing. What was written is a prefix of the text.
+    #[error("cannot write")]
+    Write,
+}
+
+impl From<AllocError> for ExplainFault {
+    ghost from_gives = { λ _ fault. fault ≡ Memory };
+
+    fn from(_refused: AllocError) -> ExplainFault {
+        ExplainFault::Memory
+    }
+}
+
+impl From<WholeFault> for ExplainFault {
+    ghost from_gives = { λ whole fault. fault ≡ input_fault whole };
+
+    fn from(fault: WholeFault) -> ExplainFault {
+        match fault {
+            WholeFault::Read => ExplainFault::Read,
+            WholeFault::TooLong => ExplainFault::InputTooLong,
+            WholeFault::Memory => ExplainFault::Memory,
+        }
+    }
+}
+
+impl From<PrintFault> for ExplainFault {
+    ghost from_gives = { λ print fault. fault ≡ print_fault print };
+
+    fn from(fault: PrintFault) -> ExplainFault {
+        match fault {
+            PrintFault::Write => ExplainFault::Write,
+            PrintFault::Memory => ExplainFault::Memory,
+        }
+    }
+}
+
+/// Reads paths to the input's end, at most `MAX_INPUT` bytes, and writes a line for each: what decides it in a tree.
+///
+/// A line of the text is four fields with tabs between: a word, where that comes from, a pattern, and the line of paths as it came,
+/// escaped as [`push_escaped`](lc_text::push_escaped) has it. One slash at a path's end means a directory; else the tree is asked,
+/// and what isn't there is taken for a file. The word is the first that holds on the way from the top down to the path of
+///
+/// - `bad`: no entry of a tree can have this path;
+/// - `fault`: a directory on the way could not be listed, or a rule file of it not be read; then come the word of the fault, a dash, and
+///   the path at fault;
+/// - `below`: a directory above the path is ignored by a rule, the highest of them by this one;
+/// - `ignored`, `included`, `none`: the rule that decides the path, or none does;
+/// - `left`: no rule leaves it out, but a walk does, it or a directory above it: it is named `.git` (`git`), an attribute is Set for it
+///   (`attribute:NAME`), or it is neither a file nor a directory (`other`).
+///
+/// Of a rule the file and the number of its line are told, as `src/.gitignore:3`, and the text of that line. Each directory is entered
+/// once for a run of paths below it. After any fault but `Write` nothing was written.
+///
+/// ```
+/// let tree = SysTree::new(&rt, rt.alloc(), ".")?;
+/// let question = Question { exclude: None, archive: false, without: &[] };
+/// let outcome = explain(rt.alloc(), &tree, &question, &mut b"a.log\nsrc/\n".as_slice(), &mut out)?;
+/// ```
+pub fn explain<T: Tree, S: Source, O: Sink>(
+    alloc: Global,
+    tree: &T,
+    question: &Question,
+    input: &mut S,
+    out: &mut O,
+) -> Result<Outcome, ExplainFault>
+    ensures { AnswersExplain O.may_take (MaySay (T.lists tree.now) (T.gives tree.now) question.now) S.may_give input.old out.old result
+        input.new out.new }
+{
+    let mut buffer = new_buffer(alloc)?;
+    let mut paths = Vec::new(alloc);
+    read_whole(&mut buffer, &mut paths, input, MAX_INPUT)?;
+    let explainer = Explainer::new(alloc, tree, question)?;
+    let telling = Telling::of_lines(alloc, &explainer, &paths)?;
+    print(out, &telling.text)?;
+    Ok(telling.outcome)
+}
+
+/// Writes a line for each of these paths, as [`explain`] does for the lines of an input.
+///
+/// After `PrintFault::Memory` nothing was written.
+pub fn explain_words<T: Tree, O: Sink>(
+    alloc: Global,
+    tree: &T,
+    question: &Question,
+    words: &[&str],
+    out: &mut O,
+) -> Result<Outcome, PrintFault>
+    ensures { AnswersLines O.may_take (MaySay (T.lists tree.now) (T.gives tree.now) question.now) (map (λ word. word.now) words.now)
+        out.old result out.new }
+{
+    let explainer = Explainer::new(alloc, tree, question)?;
+    let telling = Telling::of_words(alloc, &explainer, words)?;
+    print(out, &telling.text)?;
+    Ok(telling.outcome)
+}

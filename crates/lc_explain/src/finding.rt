@@ -1,0 +1,68 @@
+//! What is found of a path.
+
+ghost use Rattle.std.specs.Prelude.{◌≡◌, ℕ};
+ghost use Rattle.lc_level.specs.Reasons.{reason_model};
+ghost use Rattle.lc_rules.specs.declared.origin.Origin.{Origin};
+ghost use Rattle.lc_explain.specs.Explained.{CitedRule, said_for};
+ghost use Rattle.lc_explain.specs.Explained as explained;
+ghost use Rattle.lc_explain.specs.Findings.{explanation_of};
+
+use lc_level::{Place, Reason};
+use lc_rules::Origin;
+use lc_tree::FaultWord;
+
+/// Where a rule stands: the origin of its file, and the number of its line there, from 1.
+#[derive(Clone, Copy, Debug)]
+pub(crate) struct RulePlace {
+    pub(crate) origin: Origin,
+    pub(crate) line: u32,
+}
+
+/// A directory that could not be entered: its path, and where it is at fault.
+#[derive(Clone, Copy, Debug)]
+pub(crate) struct DirectoryFault<'a> {
+    pub(crate) directory: &'a [u8],
+    pub(crate) place: Place,
+    pub(crate) word: FaultWord,
+}
+
+/// What is found of a path.
+#[derive(Debug, Drop)]
+pub(crate) enum Finding<'a> {
+    /// No entry of a tree can have this path.
+    Bad,
+    /// A directory on the way is at fault.
+    Fault(DirectoryFault<'a>),
+    /// Of the ignored directories above it the highest is ignored by this rule.
+    Below(RulePlace),
+    /// This rule decides it, and ignores it.
+    Ignored(RulePlace),
+    /// This rule decides it, and includes it again.
+    Included(RulePlace),
+    /// No rule decides it, and the walk takes it.
+    NoRule,
+    /// The walk leaves it out, or a directory above it, for this reason, which is no rule.
+    Left(Reason),
+}
+
+impl<'a> Finding<'a> {
+    /// Of a path that is left out.
+    pub(crate) fn left_out(reason: Reason) -> Finding<'a>
+        ensures { (cite : Origin → ℕ → CitedRule) → explanation_of cite result ≡ said_for cite explained.ignored (reason_model reason) }
+    {
+        match reason {
+            Reason::Rule { origin, line } => Finding::Ignored(RulePlace { origin, line }),
+            other => Finding::Left(other),
+        }
+    }
+
+    /// Of a path below a directory that is left out.
+    pub(crate) fn below(reason: Reason) -> Finding<'a>
+        ensures { (cite : Origin → ℕ → CitedRule) → explanation_of cite result ≡ said_for cite explained.below (reason_model reason) }
+    {
+        match reason {
+            Reason::Rule { origin, line } => Finding::Below(RulePlace { origin, line }),
+            other => Finding::Left(other),
+        }
+    }
+}

@@ -1,0 +1,19 @@
+//! Explanations of paths: which rule of a tree decides a path, as `git check-ignore -v -n` tells it.
+//!
+//! - `question`: what is asked, beside the paths
+//! - `waypoint`, `way`: the directories that were entered on the way to a path
+//! - `finding`: what is found of a path; `explainer`: finding it, from the top of the tree down
+//! - `telling`: the text of what is found, a line for each path
+//! - `explaining`: the lines of an input, or words, explained and written
+#![tactic(auto)]
+
+mod question;
+mod explainer;
+mod explaining;
+mod finding;
+mod telling;
+mod way;
+mod waypoint;
+
+pub use question::Question;
+pub use explaining::{ExplainFault, explain, explain_words};

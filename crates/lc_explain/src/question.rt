@@ -1,0 +1,57 @@
+//! What is asked of an explanation, beside the paths.
+
+ghost use Rattle.std.specs.Prelude.{◌≡◌, map, option_map, IfOk};
+ghost use Rattle.lc_level.specs.RuleReads.{shared};
+ghost use Rattle.lc_level.specs.Selection.{selection_of};
+ghost use Rattle.lc_rules.specs.IgnoreRules.{rules_of};
+ghost use Rattle.lc_explain.specs.Waypoints.{text_or_none};
+
+use lc_level::Selection;
+use lc_rules::IgnoreFile;
+use lc_text::RuleText;
+use std::alloc::{AllocError, Global};
+use std::sync::Arc;
+
+/// What is asked, beside the paths: as a count is asked for it.
+///
+/// ```
+/// let question = Question { exclude: None, archive: false, without: &[] };
+/// ```
+#[derive(Drop)]
+pub struct Question<'o> {
+    /// Rules for the whole tree, which every `.gitignore` overrides, as Git's `core.excludesFile` (gitignore(5)).
+    pub exclude: Option<RuleText>,
+    /// What has the attribute `export-ignore` is left out, as `git archive` does (gitattributes(5)).
+    pub archive: bool,
+    /// What has one of these attributes Set is left out, files and directories, as `linguist-vendored` (gitattributes(5)).
+    pub without: &'o [&'o str],
+}
+
+impl<'o> Question<'o> {
+    /// What decides, beside the rules of the tree, which entries are left out.
+    pub(crate) fn selection(&self) -> Selection<'o>
+        ensures { result ≡ selection_of self.now.archive (map (λ name. name.now) self.now.without.now) }
+    {
+        Selection::new(self.archive, self.without)
+    }
+
+    /// The rules of the exclude file, if there is one.
+    pub(crate) fn exclude_rules(&self) -> Result<Option<Arc<IgnoreFile, Global>>, AllocError>
+        ensures { IfOk result (λ file. shared file ≡ option_map rules_of self.now.exclude) }
+    {
+        match &self.exclude {
+            None => Ok(None),
+            Some(text) => Ok(Some(text.shared_rules()?)),
+        }
+    }
+
+    /// The text of the exclude file; empty where there is none.
+    pub(crate) fn exclude_text(&self) -> &[u8]
+        ensures { result.now ≡ text_or_none self.now.exclude }
+    {
+        match &self.exclude {
+            None => &[],
+            Some(text) => text.bytes(),
+        }
+    }
+}
