@@ -6,3 +6,5 @@ pub mod Stopping
 pub mod Summing
 pub mod Tokens
 pub mod Totals
+pub mod Widened
+pub mod Commas

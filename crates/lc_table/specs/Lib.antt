@@ -1,6 +1,11 @@
 pub mod ShownRows
 pub mod LentRows
 pub mod TsvText
+pub mod Columns
+pub mod CellWords
+pub mod ScreenText
+pub mod CellTexts
+pub mod Widening
 pub mod JsonText
 pub mod JsonTokens
 pub mod TableText

@@ -4,6 +4,7 @@ ghost use Rattle.std.specs.Prelude.{IfOk};
 ghost use Rattle.lc_table.specs.TableText.{IsTextOf};
 
 use crate::json_report::json_line;
+use crate::screen::screen_text;
 use crate::shown::shown_rows;
 use crate::tsv::tsv_text;
 use lc_text::{Format, Shape};
@@ -17,6 +18,7 @@ pub fn table_text(alloc: Global, report: &Report, shape: Shape) -> Result<Vec<u8
     let rows = shown_rows(alloc, &report.rows, shape.by, shape.sort)?;
     match shape.format {
         Format::Tsv => tsv_text(alloc, report, shape.by, rows.as_slice()),
+        Format::Table => screen_text(alloc, report, shape.by, rows.as_slice()),
         Format::Json => json_line(alloc, report, shape.by, rows.as_slice()),
     }
 }

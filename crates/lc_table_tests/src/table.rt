@@ -5,5 +5,6 @@ mod failing_calls;
 mod failing_trees;
 mod json;
 mod runs;
+mod screens;
 mod shapes;
 mod tables;

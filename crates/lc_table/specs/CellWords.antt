@@ -1,0 +1,16 @@
+-- What stands in cells.
+use Rattle.std.specs.Prelude.{ℕ, ◌%◌, ◌==◌, ◌&&◌, nat_lt, if◌then◌else◌, List, [], ◌∷◌, ◌++◌, length, codes, Option, Some, None}
+use Rattle.lc_text.specs.Visible.{visible_bytes}
+
+-- a comma where a multiple of three digits follow
+abbrev pub comma : List ℕ → List ℕ
+comma digits = if nat_lt 0 (length digits) && (length digits % 3 == 0) then codes "," else []
+
+abbrev pub with_commas : List ℕ → List ℕ
+with_commas [] = []
+with_commas (d ∷ ds) = d ∷ (comma ds ++ with_commas ds)
+
+-- a dot and the bytes, as a terminal shows them, or `-` for none
+abbrev pub visible_extension : Option (List ℕ) → List ℕ
+visible_extension None = codes "-"
+visible_extension (Some name) = codes "." ++ visible_bytes name

@@ -1,0 +1,80 @@
+-- Lines of cells in columns, each as wide as its widest cell.
+use Rattle.std.specs.Prelude.{ℕ, ◌+◌, ◌-◌, max, false, List, [], ◌∷◌, ◌++◌, map, slice_index, replicate, flat_map, chars, codes}
+use Rattle.unicode_width.specs.Width.{str_width}
+use Rattle.lc_table.specs.declared.cells.Side.{Side}
+use Rattle.lc_table.specs.declared.cells.Side.TheVariants.{Left, Right, End}
+
+-- a text, and where in its column it stands
+pub record CellModel : Type 0 where
+  pub side : Side
+  pub text : List ℕ
+
+-- to the left, to the right, or as the end of a line, which is in no column
+abbrev pub word : List ℕ → CellModel
+word t = record { side = Left; text = t }
+
+abbrev pub number : List ℕ → CellModel
+number t = record { side = Right; text = t }
+
+abbrev pub ending : List ℕ → CellModel
+ending t = record { side = End; text = t }
+
+-- how many columns of a terminal a text takes
+abbrev pub width_of : List ℕ → ℕ
+width_of t = str_width false (chars t)
+
+abbrev pub width_at : Side → List ℕ → ℕ
+width_at Left t = width_of t
+width_at Right t = width_of t
+width_at End t = 0
+
+abbrev pub spaces : ℕ → List ℕ
+spaces n = replicate n 32
+
+-- a text in a column of this width
+abbrev pub text_at : Side → ℕ → List ℕ → List ℕ
+text_at Left width t = t ++ spaces (width - width_of t)
+text_at Right width t = spaces (width - width_of t) ++ t
+text_at End width t = t
+
+-- the wider of two, column by column
+abbrev pub wider : List ℕ → List ℕ → List ℕ
+wider [] ws = ws
+wider (v ∷ vs) [] = v ∷ vs
+wider (v ∷ vs) (w ∷ ws) = max v w ∷ wider vs ws
+
+abbrev pub cell_widths : List CellModel → List ℕ
+cell_widths cells = map (λ c. width_at c.side c.text) cells
+
+-- the widths of columns that hold some more lines
+abbrev pub widened : List ℕ → List (List CellModel) → List ℕ
+widened ws [] = ws
+widened ws (line ∷ lines) = widened (wider ws (cell_widths line)) lines
+
+abbrev pub widths_of : List (List CellModel) → List ℕ
+widths_of lines = widened [] lines
+
+-- two spaces stand between cells
+abbrev pub gap : List CellModel → List ℕ
+gap [] = []
+gap (c ∷ cs) = codes "  "
+
+-- the cells of a line from this column on, in columns of these widths
+abbrev pub cells_from : ℕ → List ℕ → List CellModel → List ℕ
+cells_from column ws [] = codes "\n"
+cells_from column ws (c ∷ cs) = text_at c.side (slice_index ws column) c.text ++ (gap cs ++ cells_from (column + 1) ws cs)
+
+abbrev pub line_in : List ℕ → List CellModel → List ℕ
+line_in = cells_from 0
+
+abbrev pub lines_in : List ℕ → List (List CellModel) → List ℕ
+lines_in ws lines = flat_map (line_in ws) lines
+
+-- hyphens in the columns, and two between these
+abbrev pub rule_gap : List ℕ → List ℕ
+rule_gap [] = []
+rule_gap (w ∷ ws) = codes "--"
+
+abbrev pub rule_in : List ℕ → List ℕ
+rule_in [] = codes "\n"
+rule_in (w ∷ ws) = replicate w 45 ++ (rule_gap ws ++ rule_in ws)

@@ -1,0 +1,124 @@
+-- The text of a table for a person: parts of lines in columns, with an empty line between.
+use Rattle.std.specs.Prelude.{ℕ, Bool, true, false, not, ◌||◌, if◌then◌else◌, List, [], ◌∷◌, ◌++◌, map, filter, codes, decimal, Option, Some, None}
+use Rattle.std.specs.List.{list_any}
+use Rattle.lc_census.specs.declared.totals.Eol.{Eol}
+use Rattle.lc_census.specs.declared.totals.Eol.TheVariants.{Nul}
+use Rattle.lc_level.specs.FaultLines.{FaultLineModel}
+use Rattle.lc_text.specs.Visible.{visible_path}
+use Rattle.lc_text.specs.declared.shape.Columns.{Columns}
+use Rattle.lc_walk.specs.ReportLines.{FileLineModel}
+use Rattle.lc_walk.specs.TallyRows.{TallyRowModel, sums_of_rows}
+use Rattle.lc_walk.specs.declared.report.Report.{Report}
+use Rattle.lc_walk.specs.declared.tally.sums.Sums.{Sums}
+use Rattle.lc_table.specs.CellWords.{with_commas, visible_extension}
+use Rattle.lc_table.specs.declared.classes.AllSums.{AllSums}
+use Rattle.lc_table.specs.declared.classes.ClassSums.{ClassSums}
+use Rattle.lc_table.specs.Columns.{CellModel, word, number, ending, widths_of, line_in, lines_in, rule_in}
+use Rattle.lc_table.specs.TsvText.{eol_word, text_word, fault_word}
+
+abbrev pub integer : ℕ → CellModel
+integer n = number (with_commas (decimal n))
+
+-- ---- the rows and their sums
+
+abbrev pub cell_if : Bool → CellModel → List CellModel
+cell_if kept cell = if kept then cell ∷ [] else []
+
+-- the cells in the columns that are kept
+abbrev pub key_cells : Columns → CellModel → CellModel → CellModel → List CellModel
+key_cells by ext text eol = cell_if by.ext ext ++ (cell_if by.text text ++ cell_if by.eol eol)
+
+-- a name in the first of these columns
+abbrev pub name_cells : Columns → List ℕ → List CellModel
+name_cells by name =
+    key_cells by (word name) (word (if by.ext then [] else name)) (word (if by.ext || by.text then [] else name))
+
+abbrev pub sums_cells : Sums → List CellModel
+sums_cells s = integer s.files ∷ integer s.lines ∷ integer s.blank ∷ integer s.bytes ∷ []
+
+abbrev pub row_headings : Columns → List CellModel
+row_headings by =
+    key_cells by (word (codes "ext")) (word (codes "text")) (word (codes "eol"))
+    ++ (number (codes "files") ∷ number (codes "lines") ∷ number (codes "blank") ∷ number (codes "bytes") ∷ [])
+
+abbrev pub row_cells : Columns → TallyRowModel → List CellModel
+row_cells by r =
+    key_cells by (word (visible_extension r.key.extension)) (word (text_word r.key.text)) (word (eol_word r.key.eol))
+    ++ sums_cells r.sums
+
+abbrev pub is_nul : Eol → Bool
+is_nul Nul = true
+is_nul _ = false
+
+-- the rows of binary files
+abbrev pub is_binary : TallyRowModel → Bool
+is_binary r = is_nul r.key.eol
+
+abbrev pub text_sums : List TallyRowModel → Sums
+text_sums rs = sums_of_rows (filter (λ r. not (is_binary r)) rs)
+
+abbrev pub binary_sums : List TallyRowModel → Sums
+binary_sums rs = sums_of_rows (filter is_binary rs)
+
+-- the sums of either class, where some file is binary
+abbrev pub classes_of : List TallyRowModel → Option ClassSums
+classes_of rs = if list_any is_binary rs then Some (record { text = text_sums rs; binary = binary_sums rs }) else None
+
+abbrev pub sums_line : Columns → List ℕ → Sums → List CellModel
+sums_line by name s = name_cells by name ++ sums_cells s
+
+abbrev pub class_lines : Columns → Option ClassSums → List (List CellModel)
+class_lines by None = []
+class_lines by (Some c) = sums_line by (codes "text") c.text ∷ sums_line by (codes "binary") c.binary ∷ []
+
+abbrev pub sums_lines : Columns → AllSums → List (List CellModel)
+sums_lines by s = sums_line by (codes "total") s.total ∷ class_lines by s.classes
+
+-- the sums over all files, and by class
+abbrev pub all_sums : Report → AllSums
+all_sums r = record { total = r.totals; classes = classes_of r.rows.items }
+
+-- headings, the rows and the sums, with a rule between
+abbrev pub rows_in_columns : List ℕ → List CellModel → List (List CellModel) → List (List CellModel) → List ℕ
+rows_in_columns ws headings rows sums = line_in ws headings ++ rule_in ws ++ lines_in ws rows ++ rule_in ws ++ lines_in ws sums
+
+abbrev pub summary : Columns → Report → List TallyRowModel → List ℕ
+summary by r rows =
+    rows_in_columns (widths_of (row_headings by ∷ (map (row_cells by) rows ++ sums_lines by (all_sums r))))
+    (row_headings by) (map (row_cells by) rows) (sums_lines by (all_sums r))
+
+-- ---- what is listed
+
+-- nothing where nothing is listed, and else headings, a line for each, and an empty line
+abbrev pub listing : List CellModel → List (List CellModel) → List ℕ
+listing headings [] = []
+listing headings (l ∷ ls) = lines_in (widths_of (headings ∷ l ∷ ls)) (headings ∷ l ∷ ls) ++ codes "\n"
+
+abbrev pub file_headings : List CellModel
+file_headings =
+    word (codes "text") ∷ word (codes "eol") ∷ number (codes "lines") ∷ number (codes "blank") ∷ number (codes "bytes")
+    ∷ ending (codes "file") ∷ []
+
+abbrev pub file_cells : FileLineModel → List CellModel
+file_cells f =
+    word (text_word f.text) ∷ word (eol_word f.count.eol) ∷ integer f.count.lines ∷ integer f.count.blank ∷ integer f.count.bytes
+    ∷ ending (visible_path f.path) ∷ []
+
+abbrev pub fault_headings : List CellModel
+fault_headings = word (codes "fault") ∷ ending (codes "path") ∷ []
+
+abbrev pub fault_cells : FaultLineModel → List CellModel
+fault_cells f = word (fault_word f.word) ∷ ending (visible_path f.path) ∷ []
+
+-- the number of directories
+abbrev pub count_lines : Report → List (List CellModel)
+count_lines r = (word (codes "directories") ∷ integer r.directories ∷ []) ∷ []
+
+abbrev pub counts : Report → List ℕ
+counts r = lines_in (widths_of (count_lines r)) (count_lines r)
+
+-- the table of a report, with these rows: what is listed, and last the rows with their sums
+abbrev pub screen_text_of : Columns → Report → List TallyRowModel → List ℕ
+screen_text_of by r rows =
+    listing file_headings (map file_cells r.files.items) ++ listing fault_headings (map fault_cells r.faults.items)
+    ++ summary by r rows ++ codes "\n" ++ counts r

@@ -1,0 +1,207 @@
+//! A cell of a table in columns: what it shows, and where.
+
+ghost use Rattle.std.specs.Prelude.{◌≡◌, ◌<◌, ◌++◌, IsAscii, IfOk, OnOk, decimal, option_map, replicate, string_bytes};
+ghost use Rattle.lc_table.specs.CellWords.{comma, visible_extension, with_commas};
+ghost use Rattle.lc_table.specs.Columns.{ending, number, text_at, width_at, width_of, word};
+ghost use Rattle.lc_table.specs.CellTexts.{cell_model, shown_text};
+ghost use Rattle.lc_text.specs.Visible.{visible_path};
+
+use lc_text::{push_visible, push_visible_path};
+use std::alloc::AllocError;
+use unicode_width::UnicodeWidthStr;
+
+/// Where in its column a cell stands.
+#[derive(Debug, Clone, Copy, PartialEq, Eq)]
+pub(crate) enum Side {
+    Left,
+    Right,
+    /// At the end of its line, in no column.
+    End,
+}
+
+/// What a cell shows.
+#[derive(Clone, Copy)]
+pub(crate) enum Shown<'a> {
+    Word(&'static str),
+    Number(u128),
+    /// The extension of a name.
+    Extension(Option<&'a [u8]>),
+    Path(&'a [u8]),
+}
+
+#[derive(Clone, Copy)]
+pub(crate) struct Cell<'a> {
+    side: Side,
+    shown: Shown<'a>,
+}
+
+fn push_comma(text: &mut String, digits: &[u8]) -> Result<(), AllocError>
+    ensures { OnOk result (string_bytes text.new ≡ string_bytes text.old ++ comma digits.now) }
+{
+    if !digits.is_empty() && digits.len() % 3 == 0 {
+        text.push_str(",")
+    } else {
+        Ok(())
+    }
+}
+
+fn push_with_commas(text: &mut String, digits: &[u8]) -> Result<(), AllocError>
+    requires { IsAscii digits.now }
+    ensures { OnOk result (string_bytes text.new ≡ string_bytes text.old ++ with_commas digits.now) }
+{
+    let mut left = digits;
+    'digits: while let Some((digit, others)) = left.split_first() {
+        text.push(char::from(*digit))?;
+        push_comma(text, others)?;
+        left = others;
+    }
+    Ok(())
+}
+
+fn push_number(text: &mut String, n: u128) -> Result<(), AllocError>
+    ensures { OnOk result (string_bytes text.new ≡ string_bytes text.old ++ with_commas (decimal n)) }
+{
+    let mut buffer = itoa::Buffer::new();
+    push_with_commas(text, buffer.format(n).as_bytes())
+}
+
+fn push_extension(text: &mut String, extension: Option<&[u8]>) -> Result<(), AllocError>
+    ensures { OnOk result (string_bytes text.new ≡ string_bytes text.old
+        ++ visible_extension (option_map (λ name. name.now) extension.entry)) }
+{
+    match extension {
+        None => text.push_str("-"),
+        Some(name) => {
+            text.push_str(".")?;
+            push_visible(text, name)
+        }
+    }
+}
+
+pub(crate) fn push_copies(text: &mut String, c: char, count: usize) -> Result<(), AllocError>
+    requires { c < 128 }
+    ensures { OnOk result (string_bytes text.new ≡ string_bytes text.old ++ replicate count c) }
+{
+    let mut left = count;
+    'copies: while left > 0 {
+        text.push(c)?;
+        left -= 1;
+    }
+    Ok(())
+}
+
+impl Shown<'_> {
+    fn push(&self, text: &mut String) -> Result<(), AllocError>
+        ensures { OnOk result (string_bytes text.new ≡ string_bytes text.old ++ shown_text self.now) }
+    {
+        match *self {
+            Shown::Word(word) => text.push_str(word),
+            Shown::Number(n) => push_number(text, n),
+            Shown::Extension(extension) => push_extension(text, extension),
+            Shown::Path(path) => push_visible_path(text, path),
+        }
+    }
+
+    /// Makes the text, in place of what `made` had, and says how wide it is.
+    fn make(&self, made: &mut String) -> Result<usize, AllocError>
+        ensures text { OnOk result (string_bytes made.new ≡ shown_text self.now) }
+        ensures width { IfOk result (λ width. width ≡ width_of (shown_text self.now)) }
+    {
+        made.clear();
+        self.push(made)?;
+        Ok(made.as_str().width())
+    }
+}
+
+impl<'a> Cell<'a> {
+    pub(crate) fn word(text: &'static str) -> Cell<'a>
+        ensures { cell_model result ≡ word text.now }
+    {
+        Cell {
+            side: Side::Left,
+            shown: Shown::Word(text),
+        }
+    }
+
+    /// The name of a column of numbers.
+    pub(crate) fn heading(text: &'static str) -> Cell<'a>
+        ensures { cell_model result ≡ number text.now }
+    {
+        Cell {
+            side: Side::Right,
+            shown: Shown::Word(text),
+        }
+    }
+
+    /// The name of the last column, where that is one of paths.
+    pub(crate) fn last_heading(text: &'static str) -> Cell<'a>
+        ensures { cell_model result ≡ ending text.now }
+    {
+        Cell {
+            side: Side::End,
+            shown: Shown::Word(text),
+        }
+    }
+
+    pub(crate) fn number(n: u128) -> Cell<'a>
+        ensures { cell_model result ≡ number (with_commas (decimal n)) }
+    {
+        Cell {
+            side: Side::Right,
+            shown: Shown::Number(n),
+        }
+    }
+
+    pub(crate) fn extension(extension: Option<&'a [u8]>) -> Cell<'a>
+        ensures { cell_model result ≡ word (visible_extension (option_map (λ name. name.now) extension.entry)) }
+    {
+        Cell {
+            side: Side::Left,
+            shown: Shown::Extension(extension),
+        }
+    }
+
+    pub(crate) fn path(path: &'a [u8]) -> Cell<'a>
+        ensures { cell_model result ≡ ending (visible_path path.entry.now) }
+    {
+        Cell {
+            side: Side::End,
+            shown: Shown::Path(path),
+        }
+    }
+
+    /// How wide its column must be for it.
+    pub(crate) fn width(&self, made: &mut String) -> Result<usize, AllocError>
+        ensures { IfOk result (λ width. width ≡ width_at (cell_model self.now).side (cell_model self.now).text) }
+    {
+        match self.side {
+            Side::End => Ok(0),
+            Side::Left | Side::Right => self.shown.make(made),
+        }
+    }
+
+    /// Appends it as it stands in a column of this width.
+    pub(crate) fn push_in(
+        &self,
+        width: usize,
+        text: &mut String,
+        made: &mut String,
+    ) -> Result<(), AllocError>
+        ensures { OnOk result (string_bytes text.new ≡ string_bytes text.old
+            ++ text_at (cell_model self.now).side width (cell_model self.now).text) }
+    {
+        match self.side {
+            Side::End => self.shown.push(text),
+            Side::Left => {
+                let own = self.shown.make(made)?;
+                text.push_str(made.as_str())?;
+                push_copies(text, ' ', width.saturating_sub(own))
+            }
+            Side::Right => {
+                let own = self.shown.make(made)?;
+                push_copies(text, ' ', width.saturating_sub(own))?;
+                text.push_str(made.as_str())
+            }
+        }
+    }
+}

@@ -1,0 +1,140 @@
+//! What a table in columns lists: files and faults, a line for each.
+
+ghost use Rattle.std.specs.Prelude.{◌≡◌, ◌++◌, map, OnOk, string_bytes};
+ghost use Rattle.lc_table.specs.CellTexts.{cells_of};
+ghost use Rattle.lc_table.specs.Columns.{lines_in, widened};
+ghost use Rattle.lc_table.specs.ScreenText.{fault_cells, fault_headings, file_cells, file_headings, listing};
+
+use crate::cells::Cell;
+use crate::columns::Widths;
+use crate::words::{eol_word, fault_word, text_word};
+use lc_walk::{FaultLine, FileLine};
+use std::alloc::{AllocError, Global};
+
+fn file_headings() -> [Cell<'static>; 6]
+    ensures { cells_of result ≡ file_headings }
+{
+    [
+        Cell::word("text"),
+        Cell::word("eol"),
+        Cell::heading("lines"),
+        Cell::heading("blank"),
+        Cell::heading("bytes"),
+        Cell::last_heading("file"),
+    ]
+}
+
+fn file_cells(file: &FileLine) -> [Cell<'_>; 6]
+    ensures { cells_of result ≡ file_cells file.now }
+{
+    [
+        Cell::word(text_word(file.text)),
+        Cell::word(eol_word(file.count.eol)),
+        Cell::number(u128::from(file.count.lines)),
+        Cell::number(u128::from(file.count.blank)),
+        Cell::number(u128::from(file.count.bytes)),
+        Cell::path(&file.path),
+    ]
+}
+
+fn fit_files(widths: &mut Widths, files: &[FileLine], made: &mut String) -> Result<(), AllocError>
+    ensures { OnOk result (widths.new ≡ widened widths.old (map file_cells files.now)) }
+{
+    for file in files {
+        widths.fit(&file_cells(file), made)?;
+    }
+    Ok(())
+}
+
+fn push_file_lines(
+    widths: &Widths,
+    files: &[FileLine],
+    text: &mut String,
+    made: &mut String,
+) -> Result<(), AllocError>
+    ensures { OnOk result (string_bytes text.new ≡ string_bytes text.old ++ lines_in widths.now (map file_cells files.now)) }
+{
+    for file in files {
+        widths.push_line(&file_cells(file), text, made)?;
+    }
+    Ok(())
+}
+
+/// Appends a line for each file below their headings, and an empty line.
+pub(crate) fn push_files(
+    alloc: Global,
+    files: &[FileLine],
+    text: &mut String,
+    made: &mut String,
+) -> Result<(), AllocError>
+    ensures { OnOk result (string_bytes text.new ≡ string_bytes text.old ++ listing file_headings (map file_cells files.now)) }
+{
+    if files.is_empty() {
+        return Ok(());
+    }
+    let mut widths = Widths::new(alloc);
+    widths.fit(&file_headings(), made)?;
+    fit_files(&mut widths, files, made)?;
+    widths.push_line(&file_headings(), text, made)?;
+    push_file_lines(&widths, files, text, made)?;
+    text.push_str("\n")
+}
+
+fn fault_headings() -> [Cell<'static>; 2]
+    ensures { cells_of result ≡ fault_headings }
+{
+    [Cell::word("fault"), Cell::last_heading("path")]
+}
+
+fn fault_cells(fault: &FaultLine) -> [Cell<'_>; 2]
+    ensures { cells_of result ≡ fault_cells fault.now }
+{
+    [Cell::word(fault_word(fault.word)), Cell::path(&fault.path)]
+}
+
+fn fit_faults(
+    widths: &mut Widths,
+    faults: &[FaultLine],
+    made: &mut String,
+) -> Result<(), AllocError>
+    ensures { OnOk result (widths.new ≡ widened widths.old (map fault_cells faults.now)) }
+{
+    for fault in faults {
+        widths.fit(&fault_cells(fault), made)?;
+    }
+    Ok(())
+}
+
+fn push_fault_lines(
+    widths: &Widths,
+    faults: &[FaultLine],
+    text: &mut String,
+    made: &mut String,
+) -> Result<(), AllocError>
+    ensures { OnOk result (string_bytes text.new ≡ string_bytes text.old ++ lines_in widths.now (map fault_cells faults.now)) }
+{
+    for fault in faults {
+        widths.push_line(&fault_cells(fault), text, made)?;
+    }
+    Ok(())
+}
+
+/// Appends a line for each fault below their headings, and an empty line.
+pub(crate) fn push_faults(
+    alloc: Global,
+    faults: &[FaultLine],
+    text: &mut String,
+    made: &mut String,
+) -> Result<(), AllocError>
+    ensures { OnOk result (string_bytes text.new ≡ string_bytes text.old ++ listing fault_headings (map fault_cells faults.now)) }
+{
+    if faults.is_empty() {
+        return Ok(());
+    }
+    let mut widths = Widths::new(alloc);
+    widths.fit(&fault_headings(), made)?;
+    fit_faults(&mut widths, faults, made)?;
+    widths.push_line(&fault_headings(), text, made)?;
+    push_fault_lines(&widths, faults, text, made)?;
+    text.push_str("\n")
+}

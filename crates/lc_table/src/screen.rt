@@ -1,0 +1,51 @@
+//! The text of a table for a person, in columns.
+
+ghost use Rattle.std.specs.Prelude.{◌≡◌, ◌++◌, IfOk, OnOk, string_bytes};
+ghost use Rattle.lc_table.specs.CellTexts.{cells_of};
+ghost use Rattle.lc_table.specs.ScreenText.{counts, screen_text_of};
+
+use crate::cells::Cell;
+use crate::columns::Widths;
+use crate::listings::{push_faults, push_files};
+use crate::summary::push_summary;
+use lc_text::Columns;
+use lc_walk::{Report, TallyRow};
+use std::alloc::{AllocError, Global};
+
+fn push_counts(
+    alloc: Global,
+    report: &Report,
+    text: &mut String,
+    made: &mut String,
+) -> Result<(), AllocError>
+    ensures { OnOk result (string_bytes text.new ≡ string_bytes text.old ++ counts report.now) }
+{
+    let directories = [
+        Cell::word("directories"),
+        Cell::number(u128::from(report.directories)),
+    ];
+    let mut widths = Widths::new(alloc);
+    widths.fit(&directories, made)?;
+    widths.push_line(&directories, text, made)?;
+    Ok(())
+}
+
+/// What is listed comes first, and the rows with their sums last, so that a terminal shows them. Paths are shown as
+/// [`push_visible`](lc_text::push_visible) has them.
+pub(crate) fn screen_text(
+    alloc: Global,
+    report: &Report,
+    by: Columns,
+    rows: &[TallyRow],
+) -> Result<Vec<u8>, AllocError>
+    ensures { IfOk result (λ text. text.items ≡ screen_text_of by report.now rows.now) }
+{
+    let mut text = String::new(alloc);
+    let mut made = String::new(alloc);
+    push_files(alloc, &report.files, &mut text, &mut made)?;
+    push_faults(alloc, &report.faults, &mut text, &mut made)?;
+    push_summary(alloc, report, by, rows, &mut text, &mut made)?;
+    text.push_str("\n")?;
+    push_counts(alloc, report, &mut text, &mut made)?;
+    Ok(text.into_bytes())
+}

@@ -1,0 +1,186 @@
+//! The rows of a table in columns, and their sums.
+
+ghost use Rattle.std.specs.Prelude.{◌≡◌, ◌++◌, map, OnOk, string_bytes};
+ghost use Rattle.lc_table.specs.CellTexts.{cell_model, cells_of};
+ghost use Rattle.lc_table.specs.Columns.{lines_in, widened};
+ghost use Rattle.lc_table.specs.ScreenText.{cell_if, key_cells, row_cells, row_headings, sums_cells, sums_line, sums_lines, summary};
+ghost use Rattle.lc_table.specs.Columns.{word};
+
+use crate::cells::Cell;
+use crate::classes::AllSums;
+use crate::columns::Widths;
+use crate::words::{eol_word, text_word};
+use lc_text::Columns;
+use lc_walk::{Report, Sums, TallyRow};
+use std::alloc::{AllocError, Global};
+
+fn push_if<'a>(cells: &mut Vec<Cell<'a>>, kept: bool, cell: Cell<'a>) -> Result<(), AllocError>
+    ensures { OnOk result (cells_of cells.new.items ≡ cells_of cells.old.items ++ cell_if kept (cell_model cell.entry)) }
+{
+    if kept {
+        cells.push(cell)?;
+    }
+    Ok(())
+}
+
+fn push_key<'a>(
+    cells: &mut Vec<Cell<'a>>,
+    by: Columns,
+    ext: Cell<'a>,
+    text: &'static str,
+    eol: &'static str,
+) -> Result<(), AllocError>
+    ensures { OnOk result (cells_of cells.new.items
+        ≡ cells_of cells.old.items ++ key_cells by (cell_model ext.entry) (word text.now) (word eol.now)) }
+{
+    push_if(cells, by.ext, ext)?;
+    push_if(cells, by.text, Cell::word(text))?;
+    push_if(cells, by.eol, Cell::word(eol))
+}
+
+fn push_sums(cells: &mut Vec<Cell<'_>>, sums: Sums) -> Result<(), AllocError>
+    ensures { OnOk result (cells_of cells.new.items ≡ cells_of cells.old.items ++ sums_cells sums) }
+{
+    cells.push(Cell::number(u128::from(sums.files)))?;
+    cells.push(Cell::number(sums.lines))?;
+    cells.push(Cell::number(sums.blank))?;
+    cells.push(Cell::number(sums.bytes))?;
+    Ok(())
+}
+
+fn set_headings(cells: &mut Vec<Cell<'_>>, by: Columns) -> Result<(), AllocError>
+    ensures { OnOk result (cells_of cells.new.items ≡ row_headings by) }
+{
+    cells.clear();
+    push_key(cells, by, Cell::word("ext"), "text", "eol")?;
+    cells.push(Cell::heading("files"))?;
+    cells.push(Cell::heading("lines"))?;
+    cells.push(Cell::heading("blank"))?;
+    cells.push(Cell::heading("bytes"))?;
+    Ok(())
+}
+
+fn set_row<'a>(cells: &mut Vec<Cell<'a>>, by: Columns, row: &'a TallyRow) -> Result<(), AllocError>
+    ensures { OnOk result (cells_of cells.new.items ≡ row_cells by row.entry.now) }
+{
+    cells.clear();
+    let ext = Cell::extension(row.key().extension);
+    push_key(cells, by, ext, text_word(row.text), eol_word(row.eol))?;
+    push_sums(cells, row.sums())
+}
+
+fn set_sums(
+    cells: &mut Vec<Cell<'_>>,
+    by: Columns,
+    name: &'static str,
+    sums: Sums,
+) -> Result<(), AllocError>
+    ensures { OnOk result (cells_of cells.new.items ≡ sums_line by name.now sums) }
+{
+    cells.clear();
+    let text = if by.ext { "" } else { name };
+    let eol = if by.ext || by.text { "" } else { name };
+    push_key(cells, by, Cell::word(name), text, eol)?;
+    push_sums(cells, sums)
+}
+
+fn fit_rows<'a>(
+    widths: &mut Widths,
+    by: Columns,
+    rows: &'a [TallyRow],
+    cells: &mut Vec<Cell<'a>>,
+    made: &mut String,
+) -> Result<(), AllocError>
+    ensures { OnOk result (widths.new ≡ widened widths.old (map (row_cells by) rows.entry.now)) }
+{
+    for row in rows {
+        set_row(cells, by, row)?;
+        widths.fit(cells, made)?;
+    }
+    Ok(())
+}
+
+fn push_rows<'a>(
+    widths: &Widths,
+    by: Columns,
+    rows: &'a [TallyRow],
+    cells: &mut Vec<Cell<'a>>,
+    text: &mut String,
+    made: &mut String,
+) -> Result<(), AllocError>
+    ensures { OnOk result (string_bytes text.new ≡ string_bytes text.old ++ lines_in widths.now (map (row_cells by) rows.entry.now)) }
+{
+    for row in rows {
+        set_row(cells, by, row)?;
+        widths.push_line(cells, text, made)?;
+    }
+    Ok(())
+}
+
+fn fit_sums(
+    widths: &mut Widths,
+    by: Columns,
+    sums: &AllSums,
+    cells: &mut Vec<Cell<'_>>,
+    made: &mut String,
+) -> Result<(), AllocError>
+    ensures { OnOk result (widths.new ≡ widened widths.old (sums_lines by sums.now)) }
+{
+    set_sums(cells, by, "total", sums.total)?;
+    widths.fit(cells, made)?;
+    let Some(classes) = sums.classes else {
+        return Ok(());
+    };
+    set_sums(cells, by, "text", classes.text)?;
+    widths.fit(cells, made)?;
+    set_sums(cells, by, "binary", classes.binary)?;
+    widths.fit(cells, made)
+}
+
+fn push_sums_lines(
+    widths: &Widths,
+    by: Columns,
+    sums: &AllSums,
+    cells: &mut Vec<Cell<'_>>,
+    text: &mut String,
+    made: &mut String,
+) -> Result<(), AllocError>
+    ensures { OnOk result (string_bytes text.new ≡ string_bytes text.old ++ lines_in widths.now (sums_lines by sums.now)) }
+{
+    set_sums(cells, by, "total", sums.total)?;
+    widths.push_line(cells, text, made)?;
+    let Some(classes) = sums.classes else {
+        return Ok(());
+    };
+    set_sums(cells, by, "text", classes.text)?;
+    widths.push_line(cells, text, made)?;
+    set_sums(cells, by, "binary", classes.binary)?;
+    widths.push_line(cells, text, made)
+}
+
+/// Appends the rows between their headings and their sums.
+pub(crate) fn push_summary(
+    alloc: Global,
+    report: &Report,
+    by: Columns,
+    rows: &[TallyRow],
+    text: &mut String,
+    made: &mut String,
+) -> Result<(), AllocError>
+    ensures { OnOk result (string_bytes text.new ≡ string_bytes text.old ++ summary by report.now rows.now) }
+{
+    let sums = AllSums::of(report)?;
+    let mut cells = Vec::new(alloc);
+    let mut widths = Widths::new(alloc);
+    set_headings(&mut cells, by)?;
+    widths.fit(&cells, made)?;
+    fit_rows(&mut widths, by, rows, &mut cells, made)?;
+    fit_sums(&mut widths, by, &sums, &mut cells, made)?;
+    set_headings(&mut cells, by)?;
+    widths.push_line(&cells, text, made)?;
+    widths.push_rule(text)?;
+    push_rows(&widths, by, rows, &mut cells, text, made)?;
+    widths.push_rule(text)?;
+    push_sums_lines(&widths, by, &sums, &mut cells, text, made)?;
+    Ok(())
+}
