@@ -8,11 +8,12 @@ use Rattle.lc_level.specs.Level.{Reason, reason_for, child_job}
 use Rattle.lc_level.specs.Selection.{SelectionModel}
 use Rattle.lc_text.specs.PathLines.{is_bad_path}
 use Rattle.lc_tree.specs.declared.entry.Kind.TheVariants.{Dir}
-use Rattle.lc_explain.specs.Explained.{Explanation, faulted, below, cited, said_for, said_of, said_above, said_beside, kind_asked, IsExplained}
+use Rattle.lc_explain.specs.Explained.{Explanation, faulted, below, cited, said_for, said_of, said_above, said_beside, kind_asked}
+use Rattle.lc_explain.specs.Explained.{is_directory, IsExplained}
 use Rattle.lc_explain.specs.Waypoints.{WaypointModel, Way, kind_in}
 use Rattle.lc_explain.specs.Ways.{StandsBelow, Reaches, IsWay}
 use Rattle.lc_explain.proofs.PathSegments.{IsCutAt, has_first, name_first, some_name, good_path, stands_below}
-use Rattle.lc_explain.proofs.Reaching.{last_said, left_said, beside_said, into_said, reached, child_reached, way_longer, way_end}
+use Rattle.lc_explain.proofs.Reaching.{last_said, left_said, beside_said, into_said, reached, top_reaches, child_reached, way_longer, way_end}
 use Rattle.lc_explain.proofs.WayEnds.{last_is}
 
 -- ---- below what is no directory
@@ -87,14 +88,14 @@ module _ (Enters : JobModel → Result WaypointModel FaultLineModel → Type 0) 
           (left_said Enters s exclude way here rest name others as_dir x at.cut r is said)
 
       pub beside_explained : (as_dir : Bool) (x : Explanation)
-          → reason_for s here.job name (kind_asked true (kind_in here.entries name)) ≡ None → (kind_in here.entries name ≡ Some Dir → ⊥)
+          → reason_for s here.job name (kind_asked true (kind_in here.entries name)) ≡ None → is_directory (kind_in here.entries name) ≡ false
           → x ≡ said_beside s exclude way (child_job here.job name) (segments_of others) as_dir → IsExplained Enters s exclude top path as_dir x
       beside_explained as_dir x is other said =
           reached Enters s exclude top way here path rest as_dir x last.reaches last.left good
           (beside_said Enters s exclude way here rest name others as_dir x at.cut is other said)
 
       pub fault_explained : (as_dir : Bool) (x : Explanation) (fault : FaultLineModel)
-          → reason_for s here.job name (kind_asked true (kind_in here.entries name)) ≡ None → kind_in here.entries name ≡ Some Dir
+          → reason_for s here.job name (kind_asked true (kind_in here.entries name)) ≡ None → is_directory (kind_in here.entries name) ≡ true
           → Enters (child_job here.job name) (Err fault) → x ≡ faulted fault → IsExplained Enters s exclude top path as_dir x
       fault_explained as_dir x fault is dir entered said =
           reached Enters s exclude top way here path rest as_dir x last.reaches last.left good
@@ -102,7 +103,7 @@ module _ (Enters : JobModel → Result WaypointModel FaultLineModel → Type 0) 
 
       -- a directory more on the way
       pub way_on : (child : WaypointModel) → IsWay Enters s exclude top way
-          → reason_for s here.job name (kind_asked true (kind_in here.entries name)) ≡ None → kind_in here.entries name ≡ Some Dir
+          → reason_for s here.job name (kind_asked true (kind_in here.entries name)) ≡ None → is_directory (kind_in here.entries name) ≡ true
           → child.job.path ≡ path_in here.job.path name → Enters (child_job here.job name) (Ok child)
           → IsWay Enters s exclude top (way ++ child ∷ []) × StandsBelow (way ++ child ∷ []) path others
       way_on child is none dir child_path entered = (
@@ -117,3 +118,11 @@ module _ (Enters : JobModel → Result WaypointModel FaultLineModel → Type 0) 
               ∙ ap (λ (d : List ℕ). path_in d others) (sym child_path);
         },
       )
+
+  -- the way to the top itself
+  pub top_way : (path : List ℕ) (here : WaypointModel) → here.job.path ≡ [] → Enters top (Ok here)
+      → IsWay Enters s exclude top (here ∷ []) × StandsBelow (here ∷ []) path path
+  top_way path here at entered = (
+    (top_reaches Enters s exclude top here at entered, tt),
+    record { above = []; here = here; is = refl; left = sym (ap (λ (d : List ℕ). path_in d path) at) },
+  )

@@ -143,12 +143,18 @@ stands_below path d rest name others is at good =
     is ∙ ap (path_in d) at.whole
     ∙ below_child d name others (some_name d rest name others at (sym (ap is_good_path is) ∙ good_path path good))
 
+-- a path is longer than what is left below a name on it
+pub longer : (path d rest name others : List ℕ) → path ≡ path_in d rest → IsCutAt rest name others
+    → length path ≡ length (path_in d name) + (length others + 1)
+longer path d rest name others is cut =
+    let same : path ≡ path_in d name ++ slash ∷ others = is ∙ ap (path_in d) cut.whole ∙ joined_end d name others in
+    omega (arith, ap length same, length-append (path_in d name) (slash ∷ others))
+
 -- the path without what follows a name is the path of the name
 pub path_of_name : (path d rest name others : List ℕ) → path ≡ path_in d rest → IsCutAt rest name others
     → take (length path - length others - 1) path ≡ path_in d name
 path_of_name path d rest name others is cut =
     let same : path ≡ path_in d name ++ slash ∷ others = is ∙ ap (path_in d) cut.whole ∙ joined_end d name others in
-    let long : length path ≡ length (path_in d name) + (length others + 1) =
-    omega (arith, ap length same, length-append (path_in d name) (slash ∷ others)) in
+    let long = longer path d rest name others is cut in
     let at : length path - length others - 1 ≡ length (path_in d name) = omega (arith, long) in
     ap (λ n. take n path) at ∙ ap (take (length (path_in d name))) same ∙ take-append_seam (path_in d name) (slash ∷ others)

@@ -8,30 +8,26 @@ use Rattle.lc_level.specs.Job.{JobModel}
 use Rattle.lc_level.specs.Level.{Reason, reason_for, child_job}
 use Rattle.lc_level.specs.Selection.{SelectionModel}
 use Rattle.lc_text.specs.PathLines.{is_bad_path}
-use Rattle.lc_tree.specs.declared.entry.Kind.{Kind}
-use Rattle.lc_tree.specs.declared.entry.Kind.TheVariants.{File, Dir, Other}
-use Rattle.lc_explain.specs.Explained.{Explanation, bad, faulted, below, cited, said_for, said_of, said_beside, kind_asked}
+use Rattle.lc_explain.specs.Explained.{Explanation, bad, faulted, below, cited, said_for, said_of, said_beside, kind_asked, is_directory}
 use Rattle.lc_explain.specs.Explained.{OnTheWay, OnEntering, IsSaid, IsExplained}
 use Rattle.lc_explain.specs.Waypoints.{WaypointModel, Way, kind_in}
 use Rattle.lc_explain.specs.Ways.{Reaches, IsWayBelow, IsWay}
 use Rattle.lc_explain.proofs.PathSegments.{has_first, below_child}
 
 -- a name on the way that is left out, that the walk goes into, or that is no directory
-module _ (reason : Option Reason) (there : Option Kind) (Left : Reason → Type 0) (Into Beside : Type 0) where
-  on_left : (r : Reason) → reason ≡ Some r → Left r → OnTheWay reason there Left Into Beside
-  on_left r is left = subst (λ (o : Option Reason). OnTheWay o there Left Into Beside) (sym is) left
+module _ (reason : Option Reason) (is_there : Bool) (Left : Reason → Type 0) (Into Beside : Type 0) where
+  on_left : (r : Reason) → reason ≡ Some r → Left r → OnTheWay reason is_there Left Into Beside
+  on_left r is left = subst (λ (o : Option Reason). OnTheWay o is_there Left Into Beside) (sym is) left
 
-  on_into : reason ≡ None → there ≡ Some Dir → Into → OnTheWay reason there Left Into Beside
+  on_into : reason ≡ None → is_there ≡ true → Into → OnTheWay reason is_there Left Into Beside
   on_into is at into =
-      subst (λ (o : Option Reason). OnTheWay o there Left Into Beside) (sym is)
-      (subst (λ (k : Option Kind). OnTheWay None k Left Into Beside) (sym at) into)
+      subst (λ (o : Option Reason). OnTheWay o is_there Left Into Beside) (sym is)
+      (subst (λ (b : Bool). OnTheWay None b Left Into Beside) (sym at) into)
 
-no_directory : (there : Option Kind) (Left : Reason → Type 0) (Into Beside : Type 0) → (there ≡ Some Dir → ⊥) → Beside
-    → OnTheWay None there Left Into Beside
-no_directory None Left Into Beside other beside = beside
-no_directory (Some File) Left Into Beside other beside = beside
-no_directory (Some Dir) Left Into Beside other beside = absurd (other refl)
-no_directory (Some Other) Left Into Beside other beside = beside
+  on_beside : reason ≡ None → is_there ≡ false → Beside → OnTheWay reason is_there Left Into Beside
+  on_beside is at beside =
+      subst (λ (o : Option Reason). OnTheWay o is_there Left Into Beside) (sym is)
+      (subst (λ (b : Bool). OnTheWay None b Left Into Beside) (sym at) beside)
 
 module _ (Enters : JobModel → Result WaypointModel FaultLineModel → Type 0) (s : SelectionModel) (exclude : List ℕ) where
   -- the last name is said of
@@ -46,12 +42,15 @@ module _ (Enters : JobModel → Result WaypointModel FaultLineModel → Type 0) 
     abbrev reason : Option Reason
     reason = reason_for s here.job name (kind_asked true (kind_in here.entries name))
 
+    abbrev is_there : Bool
+    is_there = is_directory (kind_in here.entries name)
+
     abbrev Below : List (List ℕ) → Type 0
     Below names = OnEntering Enters (child_job here.job name) x (λ child. IsSaid Enters s exclude (way ++ child ∷ []) child names as_dir x)
 
     abbrev Step : List (List ℕ) → Type 0
     Step names =
-        OnTheWay reason (kind_in here.entries name) (λ r. x ≡ said_for (cited exclude way) below r) (Below names)
+        OnTheWay reason is_there (λ r. x ≡ said_for (cited exclude way) below r) (Below names)
         (x ≡ said_beside s exclude way (child_job here.job name) names as_dir)
 
     at_name : Step (segments_of others) → IsSaid Enters s exclude way here (segments_of rest) as_dir x
@@ -64,24 +63,22 @@ module _ (Enters : JobModel → Result WaypointModel FaultLineModel → Type 0) 
     pub left_said : (r : Reason) → reason ≡ Some r → x ≡ said_for (cited exclude way) below r
         → IsSaid Enters s exclude way here (segments_of rest) as_dir x
     left_said r is said =
-        at_name (on_left reason (kind_in here.entries name) (λ r. x ≡ said_for (cited exclude way) below r) (Below (segments_of others))
+        at_name (on_left reason is_there (λ r. x ≡ said_for (cited exclude way) below r) (Below (segments_of others))
         (x ≡ said_beside s exclude way (child_job here.job name) (segments_of others) as_dir) r is said)
 
     -- below what is no directory
-    pub beside_said : reason ≡ None → (kind_in here.entries name ≡ Some Dir → ⊥)
+    pub beside_said : reason ≡ None → is_there ≡ false
         → x ≡ said_beside s exclude way (child_job here.job name) (segments_of others) as_dir
         → IsSaid Enters s exclude way here (segments_of rest) as_dir x
-    beside_said is other said =
-        at_name (subst (λ (o : Option Reason). OnTheWay o (kind_in here.entries name) (λ r. x ≡ said_for (cited exclude way) below r)
-        (Below (segments_of others)) (x ≡ said_beside s exclude way (child_job here.job name) (segments_of others) as_dir)) (sym is)
-        (no_directory (kind_in here.entries name) (λ r. x ≡ said_for (cited exclude way) below r) (Below (segments_of others))
-        (x ≡ said_beside s exclude way (child_job here.job name) (segments_of others) as_dir) other said))
+    beside_said is at said =
+        at_name (on_beside reason is_there (λ r. x ≡ said_for (cited exclude way) below r) (Below (segments_of others))
+        (x ≡ said_beside s exclude way (child_job here.job name) (segments_of others) as_dir) is at said)
 
     -- below a directory that the walk goes into
-    pub into_said : reason ≡ None → kind_in here.entries name ≡ Some Dir → Below (segments_of others)
+    pub into_said : reason ≡ None → is_there ≡ true → Below (segments_of others)
         → IsSaid Enters s exclude way here (segments_of rest) as_dir x
     into_said is at said =
-        at_name (on_into reason (kind_in here.entries name) (λ r. x ≡ said_for (cited exclude way) below r) (Below (segments_of others))
+        at_name (on_into reason is_there (λ r. x ≡ said_for (cited exclude way) below r) (Below (segments_of others))
         (x ≡ said_beside s exclude way (child_job here.job name) (segments_of others) as_dir) is at said)
 
   module _ (top : JobModel) where
@@ -102,8 +99,8 @@ module _ (Enters : JobModel → Result WaypointModel FaultLineModel → Type 0) 
     -- a directory that the walk goes into from one that is reached is reached
     pub child_reached : (way : Way) (here child : WaypointModel) (name : List ℕ) → Reaches Enters s exclude top way here
         → ((left : List ℕ) → segments_of (name ++ slash ∷ left) ≡ name ∷ segments_of left) → (name ≡ [] → ⊥)
-        → reason_for s here.job name (kind_asked true (kind_in here.entries name)) ≡ None → kind_in here.entries name ≡ Some Dir
-        → child.job.path ≡ path_in here.job.path name → Enters (child_job here.job name) (Ok child)
+        → reason_for s here.job name (kind_asked true (kind_in here.entries name)) ≡ None
+        → is_directory (kind_in here.entries name) ≡ true → child.job.path ≡ path_in here.job.path name → Enters (child_job here.job name) (Ok child)
         → Reaches Enters s exclude top (way ++ child ∷ []) child
     child_reached way here child name reaches cuts some is at path entered rest as_dir x said =
         let OnPath : List ℕ → Type 0 =

@@ -62,13 +62,15 @@ kind_asked false (Some File) = File
 kind_asked true None = Dir
 kind_asked false None = File
 
--- a name before the last: there is a reason to leave it out; or the walk goes into it, or it is no directory of the tree
-abbrev pub OnTheWay : Option Reason → Option Kind → (Reason → Type 0) → Type 0 → Type 0 → Type 0
-OnTheWay (Some reason) there Left Into Beside = Left reason
-OnTheWay None (Some Dir) Left Into Beside = Into
-OnTheWay None (Some File) Left Into Beside = Beside
-OnTheWay None (Some Other) Left Into Beside = Beside
-OnTheWay None None Left Into Beside = Beside
+abbrev pub is_directory : Option Kind → Bool
+is_directory None = false
+is_directory (Some kind) = is_dir kind
+
+-- a name before the last: there is a reason to leave it out; or it is a directory of the tree, which the walk goes into; or it is none
+abbrev pub OnTheWay : Option Reason → Bool → (Reason → Type 0) → Type 0 → Type 0 → Type 0
+OnTheWay (Some reason) is_there Left Into Beside = Left reason
+OnTheWay None true Left Into Beside = Into
+OnTheWay None false Left Into Beside = Beside
 
 -- and what is said of the names below it
 abbrev pub said_above : (Origin → ℕ → CitedRule) → Option Reason → Explanation → Explanation
@@ -100,7 +102,7 @@ module _ (Enters : JobModel → Result WaypointModel FaultLineModel → Type 0) 
     IsSaid way here [] as_dir x = ⊥
     IsSaid way here (name ∷ []) as_dir x = x ≡ said_of s exclude way here.job name (kind_asked as_dir (kind_in here.entries name))
     IsSaid way here (name ∷ next ∷ names) as_dir x =
-        OnTheWay (reason_for s here.job name (kind_asked true (kind_in here.entries name))) (kind_in here.entries name)
+        OnTheWay (reason_for s here.job name (kind_asked true (kind_in here.entries name))) (is_directory (kind_in here.entries name))
         (λ reason. x ≡ said_for (cited exclude way) below reason)
         (OnEntering (child_job here.job name) x (λ child. IsSaid (way ++ child ∷ []) child (next ∷ names) as_dir x))
         (x ≡ said_beside s exclude way (child_job here.job name) (next ∷ names) as_dir)

@@ -1,6 +1,6 @@
 //! What is found of a path, from the top of the tree down.
 
-ghost use Rattle.std.specs.Prelude.{◌≡◌, ℕ, List, true, false, map, option_map, IfOk, OnOk};
+ghost use Rattle.std.specs.Prelude.{◌≡◌, ℕ, List, [], true, false, map, option_map, IfOk, OnOk};
 ghost use Rattle.lc_glob.specs.Path.{path_in, segments_of};
 ghost use Rattle.lc_level.specs.Level.{reason_for};
 ghost use Rattle.lc_level.specs.Selection.{selection_of};
@@ -11,7 +11,7 @@ ghost use Rattle.lc_rules.specs.Verdicts.{deciding};
 ghost use Rattle.lc_rules.specs.declared.origin.Origin.{Origin};
 ghost use Rattle.lc_text.specs.PathLines.{is_bad_path};
 ghost use Rattle.lc_tree.specs.Kinds.{is_dir};
-ghost use Rattle.lc_explain.specs.Explained.{CitedRule, cited, kind_asked, said_by, said_beside, IsExplained};
+ghost use Rattle.lc_explain.specs.Explained.{CitedRule, cited, kind_asked, is_directory, said_by, said_beside, IsExplained};
 ghost use Rattle.lc_explain.specs.Findings.{explanation_of};
 ghost use Rattle.lc_explain.specs.Waypoints.{WaypointModel, text_or_none, MayEnter};
 ghost use Rattle.lc_explain.specs.Ways.{StandsBelow, Goes, IsWay};
@@ -43,6 +43,15 @@ fn kind_asked(as_dir: bool, there: Option<Kind>) -> Kind
     }
 }
 
+fn is_directory(there: Option<Kind>) -> bool
+    ensures { result ≡ is_directory there }
+{
+    match there {
+        None => false,
+        Some(kind) => kind.is_dir(),
+    }
+}
+
 /// Explains paths of a tree.
 #[derive(Drop)]
 pub(crate) struct Explainer<'t, T> {
@@ -52,6 +61,7 @@ pub(crate) struct Explainer<'t, T> {
     /// The text of the exclude file.
     pub(crate) exclude: &'t [u8],
     ghost keeps: { levels.kept.texts ≡ true },
+    ghost starts: { top.path ≡ [] },
 }
 
 impl<'t, T: Tree> Explainer<'t, T> {
@@ -189,16 +199,18 @@ impl<'t, T: Tree> Explainer<'t, T> {
             let (name, others) = cut_at_first(b'/', rest);
             let there = here.kind(name);
             let Some(others) = others else {
-                return self.last(&here.job, path, name, kind_asked(as_dir, there));
+                let found = self.last(&here.job, path, name, kind_asked(as_dir, there))?;
+                return Ok(found);
             };
             let at = &path[..path.len() - others.len() - 1];
             if let Some(reason) = self.levels.reason(&here.job, name, at, kind_asked(true, there))? {
                 return Ok(Finding::below(reason));
             }
             let job = here.job.at(self.alloc, at)?;
-            let Some(Kind::Dir) = there else {
-                return self.beside(job, path, others, as_dir);
-            };
+            if !is_directory(there) {
+                let found = self.beside(job, path, others, as_dir)?;
+                return Ok(found);
+            }
             if let Some(fault) = self.enter(way, &job, at)? {
                 return Ok(Finding::Fault(fault));
             }
@@ -225,11 +237,13 @@ impl<'t, T: Tree> Explainer<'t, T> {
             return Ok(Finding::Bad);
         }
         if let Some(rest) = way.leave(path) {
-            return self.descend(way, path, rest, as_dir);
+            let found = self.descend(way, path, rest, as_dir)?;
+            return Ok(found);
         }
         if let Some(fault) = self.enter(way, &self.top, &[])? {
             return Ok(Finding::Fault(fault));
         }
-        self.descend(way, path, path, as_dir)
+        let found = self.descend(way, path, path, as_dir)?;
+        Ok(found)
     }
 }

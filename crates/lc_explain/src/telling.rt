@@ -202,7 +202,8 @@ impl Telling {
     {
         let (path, as_dir) = split_slash(line);
         let finding = explainer.find(way, path, as_dir)?;
-        self.push(alloc, explainer.exclude, way, line, &finding)
+        self.push(alloc, explainer.exclude, way, line, &finding)?;
+        Ok(())
     }
 
     /// Of the lines of an input.

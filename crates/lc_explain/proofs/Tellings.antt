@@ -1,0 +1,63 @@
+-- The text of explanations, line by line.
+use Rattle.std.proofs.Common.{◌≡◌, ℕ, Bool, true, false, ◌||◌, cond, if◌then◌else◌, List, [], ◌∷◌, ◌++◌, map, refl, sym, ◌∙◌, ap, ap₂, subst}
+use Rattle.std.proofs.Common.{append_assoc, append-nil}
+use Rattle.std.specs.List.{AllByRecursion, flat_map, list_any}
+use Rattle.std.proofs.lemmas.Grind.{flat_map-append}
+use Rattle.std.proofs.lemmas.List.{map-append}
+use Rattle.std.proofs.lemmas.List.Folds.{list_any-append}
+use Rattle.lc_text.specs.Lines.{lines_of}
+use Rattle.lc_text.specs.PathLines.{path_of, is_dir_line}
+use Rattle.lc_text.specs.declared.outcome.Outcome.{Outcome}
+use Rattle.lc_text.specs.declared.outcome.Outcome.TheVariants.{Clean, SomeFaults}
+use Rattle.lc_explain.specs.Explain.{Explains, outcome_of}
+use Rattle.lc_explain.specs.Explained.{Explanation}
+use Rattle.lc_explain.specs.ExplainText.{Told, told_line, told_text, explained_line, is_fault, has_fault}
+
+-- what holds of each holds of one more
+all_more : {A : Type 0} (P : A → Type 0) (xs : List A) (x : A) → AllByRecursion P xs → P x → AllByRecursion P (xs ++ x ∷ [])
+all_more P [] x all here = (here, tt)
+all_more P (y ∷ ys) x all here = (all.0, all_more P ys x all.1 here)
+
+fault_more : (before here : Bool) → cond (before || (here || false)) SomeFaults Clean ≡ (if here then SomeFaults else cond before SomeFaults Clean)
+fault_more true true = refl
+fault_more true false = refl
+fault_more false true = refl
+fault_more false false = refl
+
+-- nothing was told of no lines
+pub told_none : (Says : List ℕ → Bool → Explanation → Type 0) (text : List ℕ) (outcome : Outcome) → text ≡ [] → outcome ≡ Clean
+    → Explains Says [] text outcome
+told_none Says text outcome is clean = record { told = []; lines_are = refl; said = tt; text_is = is; outcome_is = clean }
+
+-- a line more
+pub told_more : (Says : List ℕ → Bool → Explanation → Type 0) (lines : List (List ℕ)) (text more : List ℕ) (before after : Outcome)
+    (line : List ℕ) (x : Explanation) → Explains Says lines text before → Says (path_of line) (is_dir_line line) x
+    → more ≡ text ++ explained_line line x → after ≡ (if is_fault x then SomeFaults else before) → Explains Says (lines ++ line ∷ []) more after
+told_more Says lines text more before after line x told said is outcome =
+    let here : Told = (line, x) in
+    let one : told_text (told.told ++ here ∷ []) ≡ told_text told.told ++ explained_line line x =
+    flat_map-append told_line told.told (here ∷ []) ∙ ap (λ (l : List ℕ). told_text told.told ++ l) (append-nil (explained_line line x)) in
+    let any : has_fault (told.told ++ here ∷ []) ≡ (has_fault told.told || (is_fault x || false)) =
+    list_any-append (λ (t : Told). is_fault t.1) told.told (here ∷ []) in
+    record {
+      told = told.told ++ here ∷ [];
+      lines_are = map-append (λ (t : Told). t.0) told.told (here ∷ []) ∙ ap (λ (l : List (List ℕ)). l ++ line ∷ []) told.lines_are;
+      said = all_more (λ (t : Told). Says (path_of t.0) (is_dir_line t.0) t.1) told.told here told.said said;
+      text_is = is ∙ ap (λ (l : List ℕ). l ++ explained_line line x) told.text_is ∙ sym one;
+      outcome_is = outcome ∙ ap (λ (o : Outcome). if is_fault x then SomeFaults else o) told.outcome_is
+          ∙ sym (fault_more (has_fault told.told) (is_fault x)) ∙ ap (λ (b : Bool). cond b SomeFaults Clean) (sym any);
+    }
+
+-- appended in turn
+pub eight_pieces : (old a b c d e f g h : List ℕ)
+    → (((((((old ++ a) ++ b) ++ c) ++ d) ++ e) ++ f) ++ g) ++ h ≡ old ++ (a ++ b ++ c ++ d ++ e ++ f ++ g ++ h)
+eight_pieces old a b c d e f g h = simp append_assoc
+
+-- the lines of an input, one by one
+pub line_done : (done all : List (List ℕ)) (rest line others : List ℕ) → done ++ lines_of rest ≡ all → lines_of rest ≡ line ∷ lines_of others
+    → (done ++ line ∷ []) ++ lines_of others ≡ all
+line_done done all rest line others is split =
+    append_assoc done (line ∷ []) (lines_of others) ∙ ap (λ (l : List (List ℕ)). done ++ l) (sym split) ∙ is
+
+pub lines_done : (done all : List (List ℕ)) (rest : List ℕ) → done ++ lines_of rest ≡ all → rest ≡ [] → done ≡ all
+lines_done done all rest is none = sym (append-nil done) ∙ ap (λ (l : List ℕ). done ++ lines_of l) (sym none) ∙ is
