@@ -1,5 +1,5 @@
 -- What a call answers, by what was told and how it was written.
-use Rattle.std.proofs.Common.{◌≡◌, ℕ, Bool, List, map, Result, Ok, Err, option_map, sym, subst}
+use Rattle.std.proofs.Common.{◌≡◌, ℕ, Bool, List, map, Result, Ok, Err, option_map, subst}
 use Rattle.lc_census.specs.Reads.{Answer}
 use Rattle.lc_census.specs.declared.source.Failed.{Failed}
 use Rattle.lc_level.specs.Job.{JobModel}
@@ -48,5 +48,5 @@ module _ {O : Type 0} (may_take : O → List ℕ → Result ℕ Failed → O →
         → AnswersInput may_give input (Ok tt) bytes read → Explains Says (lines_of bytes) text outcome
         → AnswersPrint may_take out text (Err fault) wrote
         → AnswersExplain may_take Says may_give input out (Err (print_fault fault)) read wrote
-    explain_stops print.Write input read bytes text outcome out wrote given told stopped = (bytes, given, text, outcome, told, stopped)
+    explain_stops print.Write input read bytes text outcome out wrote given told stopped = (bytes, given, (text, outcome, told, stopped))
     explain_stops print.Memory input read bytes text outcome out wrote given told stopped = stopped

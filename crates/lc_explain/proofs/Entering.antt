@@ -1,10 +1,10 @@
 -- What entering a directory gives, by its level.
-use Rattle.std.proofs.Common.{◌≡◌, ℕ, Bool, List, [], ◌∷◌, Result, Ok, Err, sym, ◌∙◌, ap, ap₂, subst, refl, IfOk}
+use Rattle.std.proofs.Common.{◌≡◌, ℕ, Bool, List, [], Result, Ok, Err, sym, ◌∙◌, ap, ap₂, subst, refl, IfOk}
 use Rattle.lc_level.specs.Answers.{Item, Items, Answers}
 use Rattle.lc_level.specs.Enters.{EntersLevel}
 use Rattle.lc_level.specs.FaultLines.{FaultLineModel}
 use Rattle.lc_level.specs.Job.{JobModel}
-use Rattle.lc_level.specs.Level.{Level, faulted_level, listed_level, level, level_of, level_after}
+use Rattle.lc_level.specs.Level.{faulted_level, level_of, level_after}
 use Rattle.lc_level.specs.PlacePaths.{place_path}
 use Rattle.lc_level.specs.RuleFiles.{RuleBytes, rule_bytes}
 use Rattle.lc_level.specs.Selection.{SelectionModel}
@@ -12,7 +12,7 @@ use Rattle.lc_level.specs.declared.place.Place.{Place}
 use Rattle.lc_level.specs.declared.unlisted.Unlisted.TheVariants.{Faulted}
 use Rattle.lc_tree.specs.Trees.{Listings, Contents}
 use Rattle.lc_tree.specs.declared.fault_word.FaultWord.{FaultWord}
-use Rattle.lc_explain.specs.Waypoints.{WaypointModel, waypoint, waypoint_of, waypoint_after, MayEnter}
+use Rattle.lc_explain.specs.Waypoints.{WaypointModel, waypoint_of, waypoint_after, MayEnter}
 
 -- a fault in place of a directory
 abbrev as_fault : List ℕ → FaultWord → Result WaypointModel FaultLineModel

@@ -1,5 +1,5 @@
 -- What is said of a path, by what is said below a directory on the way to it.
-use Rattle.std.proofs.Common.{◌≡◌, ℕ, Bool, true, false, cond, List, [], ◌∷◌, ◌++◌, Option, Some, None, Result, Ok, Err, refl, sym, ◌∙◌}
+use Rattle.std.proofs.Common.{◌≡◌, ℕ, Bool, true, false, cond, List, [], ◌∷◌, ◌++◌, Option, Some, None, Result, Ok, sym, ◌∙◌}
 use Rattle.std.proofs.Common.{ap, subst, append_assoc, append-nil}
 use Rattle.lc_glob.specs.Bytes.{slash}
 use Rattle.lc_glob.specs.Path.{path_in, segments_of}
@@ -8,10 +8,10 @@ use Rattle.lc_level.specs.Job.{JobModel}
 use Rattle.lc_level.specs.Level.{Reason, reason_for, child_job}
 use Rattle.lc_level.specs.Selection.{SelectionModel}
 use Rattle.lc_text.specs.PathLines.{is_bad_path}
-use Rattle.lc_explain.specs.Explained.{Explanation, bad, faulted, below, cited, said_for, said_of, said_beside, kind_asked, is_directory}
+use Rattle.lc_explain.specs.Explained.{Explanation, bad, below, cited, said_for, said_of, said_beside, kind_asked, is_directory}
 use Rattle.lc_explain.specs.Explained.{OnTheWay, OnEntering, IsSaid, IsExplained}
 use Rattle.lc_explain.specs.Waypoints.{WaypointModel, Way, kind_in}
-use Rattle.lc_explain.specs.Ways.{Reaches, IsWayBelow, IsWay}
+use Rattle.lc_explain.specs.Ways.{Reaches, IsWayBelow}
 use Rattle.lc_explain.proofs.PathSegments.{has_first, below_child}
 
 -- a name on the way that is left out, that the walk goes into, or that is no directory

@@ -1,7 +1,7 @@
 -- The text of explanations, line by line.
-use Rattle.std.proofs.Common.{◌≡◌, ℕ, Bool, true, false, ◌||◌, cond, if◌then◌else◌, List, [], ◌∷◌, ◌++◌, map, refl, sym, ◌∙◌, ap, ap₂, subst}
+use Rattle.std.proofs.Common.{◌≡◌, ℕ, Bool, true, false, ◌||◌, cond, if◌then◌else◌, List, [], ◌∷◌, ◌++◌, refl, sym, ◌∙◌, ap}
 use Rattle.std.proofs.Common.{append_assoc, append-nil}
-use Rattle.std.specs.List.{AllByRecursion, flat_map, list_any}
+use Rattle.std.specs.List.{AllByRecursion}
 use Rattle.std.proofs.lemmas.Grind.{flat_map-append}
 use Rattle.std.proofs.lemmas.List.{map-append}
 use Rattle.std.proofs.lemmas.List.Folds.{list_any-append}
@@ -9,7 +9,7 @@ use Rattle.lc_text.specs.Lines.{lines_of}
 use Rattle.lc_text.specs.PathLines.{path_of, is_dir_line}
 use Rattle.lc_text.specs.declared.outcome.Outcome.{Outcome}
 use Rattle.lc_text.specs.declared.outcome.Outcome.TheVariants.{Clean, SomeFaults}
-use Rattle.lc_explain.specs.Explain.{Explains, outcome_of}
+use Rattle.lc_explain.specs.Explain.{Explains}
 use Rattle.lc_explain.specs.Explained.{Explanation}
 use Rattle.lc_explain.specs.ExplainText.{Told, told_line, told_text, explained_line, is_fault, has_fault}
 

@@ -1,11 +1,10 @@
 -- The last directory of a way, and what is left of a path below it.
 use Rattle.std.proofs.Common.{◌≡◌, ℕ, ◌-◌, suc, false, nat_eq, List, [], ◌∷◌, ◌++◌, length, Option, Some, None, Bor, MatchOption, IfSome}
-use Rattle.std.proofs.Common.{slice_get, refl, sym, ◌∙◌, ap, subst, arith, append_assoc, append-nil, option_to_list}
-use Rattle.std.specs.Prelude.{option_map}
+use Rattle.std.proofs.Common.{slice_get, refl, sym, ◌∙◌, ap, subst, arith, append_assoc, option_to_list}
 use Rattle.lc_glob.specs.Bytes.{slash}
 use Rattle.lc_glob.specs.Path.{path_in}
 use Rattle.lc_explain.specs.Waypoints.{WaypointModel, Way}
-use Rattle.lc_explain.specs.Ways.{StandsBelow, IsCut}
+use Rattle.lc_explain.specs.Ways.{IsCut}
 
 -- a list ends in its last element
 pub record EndsIn {A : Type 0} (xs : List A) (x : A) : Type 0 where

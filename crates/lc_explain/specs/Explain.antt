@@ -1,5 +1,5 @@
 -- What a call answers that explains paths, by its reads and its writes.
-use Rattle.std.specs.Prelude.{◌≡◌, ℕ, Bool, cond, List, Result, Ok, Err, Option, option_map, map}
+use Rattle.std.specs.Prelude.{◌≡◌, ℕ, Bool, cond, List, Result, Ok, Err, option_map, map}
 use Rattle.std.specs.List.{AllByRecursion}
 use Rattle.lc_census.specs.Reads.{Answer}
 use Rattle.lc_census.specs.declared.source.Failed.{Failed}

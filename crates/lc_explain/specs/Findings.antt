@@ -1,5 +1,5 @@
 -- What the code finds of a path.
-use Rattle.std.specs.Prelude.{ℕ, List}
+use Rattle.std.specs.Prelude.{ℕ}
 use Rattle.lc_level.specs.FaultLines.{FaultLineModel}
 use Rattle.lc_level.specs.Reasons.{reason_model}
 use Rattle.lc_level.specs.PlacePaths.{place_path}
@@ -8,7 +8,6 @@ use Rattle.lc_explain.specs.Explained.{CitedRule, Explanation, bad, faulted, bel
 use Rattle.lc_explain.specs.declared.finding.DirectoryFault.{DirectoryFault}
 use Rattle.lc_explain.specs.declared.finding.Finding.{Finding}
 use Rattle.lc_explain.specs.declared.finding.Finding.TheVariants as found
-use Rattle.lc_explain.specs.declared.finding.RulePlace.{RulePlace}
 
 -- the path at which a directory is at fault, and why
 abbrev pub fault_line_of : DirectoryFault → FaultLineModel

@@ -1,11 +1,11 @@
 -- What is known of the directories that were entered on the way to a path.
-use Rattle.std.specs.Prelude.{◌≡◌, ℕ, Bool, List, [], ◌∷◌, ◌++◌, Option, Some, None, Result, Ok, Err, MatchOption, OnOk}
+use Rattle.std.specs.Prelude.{◌≡◌, ℕ, Bool, List, [], ◌∷◌, ◌++◌, Option, Some, None, Result, Ok, Err, MatchOption}
 use Rattle.std.specs.declared.alloc.AllocError.{AllocError}
 use Rattle.lc_glob.specs.Path.{path_in, segments_of}
 use Rattle.lc_level.specs.FaultLines.{FaultLineModel}
 use Rattle.lc_level.specs.Job.{JobModel}
 use Rattle.lc_level.specs.Selection.{SelectionModel}
-use Rattle.lc_explain.specs.Explained.{Explanation, OnEntering, IsSaid, IsExplained}
+use Rattle.lc_explain.specs.Explained.{Explanation, OnEntering, IsSaid}
 use Rattle.lc_explain.specs.Findings.{fault_line_of}
 use Rattle.lc_explain.specs.declared.finding.DirectoryFault.{DirectoryFault}
 use Rattle.lc_explain.specs.Waypoints.{WaypointModel, Way}

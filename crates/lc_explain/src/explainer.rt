@@ -16,8 +16,8 @@ ghost use Rattle.lc_explain.specs.Findings.{explanation_of};
 ghost use Rattle.lc_explain.specs.Waypoints.{WaypointModel, text_or_none, MayEnter};
 ghost use Rattle.lc_explain.specs.Ways.{StandsBelow, Goes, IsWay};
 
-use crate::question::Question;
 use crate::finding::{DirectoryFault, Finding, RulePlace};
+use crate::question::Question;
 use crate::way::Way;
 use crate::waypoint::Waypoint;
 use lc_glob::cut_at_first;
@@ -33,13 +33,7 @@ fn kind_asked(as_dir: bool, there: Option<Kind>) -> Kind
     match there {
         Some(Kind::Other) => Kind::Other,
         Some(Kind::Dir) => Kind::Dir,
-        Some(Kind::File) | None => {
-            if as_dir {
-                Kind::Dir
-            } else {
-                Kind::File
-            }
-        }
+        Some(Kind::File) | None => { if as_dir { Kind::Dir } else { Kind::File } }
     }
 }
 
@@ -100,7 +94,11 @@ impl<'t, T: Tree> Explainer<'t, T> {
     {
         match self.levels.enter(job, &mut way.scratch) {
             Ok(entered) => {
-                let Entered { job, entries, texts } = entered;
+                let Entered {
+                    job,
+                    entries,
+                    texts,
+                } = entered;
                 let RuleTexts { info, own } = texts;
                 way.directories.push(Waypoint {
                     job,
@@ -203,7 +201,10 @@ impl<'t, T: Tree> Explainer<'t, T> {
                 return Ok(found);
             };
             let at = &path[..path.len() - others.len() - 1];
-            if let Some(reason) = self.levels.reason(&here.job, name, at, kind_asked(true, there))? {
+            if let Some(reason) = self
+                .levels
+                .reason(&here.job, name, at, kind_asked(true, there))?
+            {
                 return Ok(Finding::below(reason));
             }
             let job = here.job.at(self.alloc, at)?;

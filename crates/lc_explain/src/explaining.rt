@@ -4,8 +4,8 @@ ghost use Rattle.std.specs.Prelude.{◌≡◌, map};
 ghost use Rattle.lc_explain.specs.Explain.{MaySay, AnswersLines, AnswersExplain, input_fault, print_fault};
 ghost use Rattle.lc_explain.specs.declared.explaining.ExplainFault.TheVariants.{Memory};
 
-use crate::question::Question;
 use crate::explainer::Explainer;
+use crate::question::Question;
 use crate::telling::Telling;
 use lc_census::{Source, WholeFault, new_buffer, read_whole};
 use lc_text::{MAX_INPUT, Outcome, PrintFault, Sink, print};

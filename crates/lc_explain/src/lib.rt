@@ -7,13 +7,13 @@
 //! - `explaining`: the lines of an input, or words, explained and written
 #![tactic(auto)]
 
-mod question;
 mod explainer;
 mod explaining;
 mod finding;
+mod question;
 mod telling;
 mod way;
 mod waypoint;
 
-pub use question::Question;
 pub use explaining::{ExplainFault, explain, explain_words};
+pub use question::Question;

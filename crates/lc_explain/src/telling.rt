@@ -168,13 +168,28 @@ impl Telling {
                 push_fault(alloc, &mut self.text, fault)
             }
             Finding::Below(rule) => {
-                push_ruled(&mut self.text, "below", Cited::new(exclude, way, *rule), line)
+                push_ruled(
+                    &mut self.text,
+                    "below",
+                    Cited::new(exclude, way, *rule),
+                    line,
+                )
             }
             Finding::Ignored(rule) => {
-                push_ruled(&mut self.text, "ignored", Cited::new(exclude, way, *rule), line)
+                push_ruled(
+                    &mut self.text,
+                    "ignored",
+                    Cited::new(exclude, way, *rule),
+                    line,
+                )
             }
             Finding::Included(rule) => {
-                push_ruled(&mut self.text, "included", Cited::new(exclude, way, *rule), line)
+                push_ruled(
+                    &mut self.text,
+                    "included",
+                    Cited::new(exclude, way, *rule),
+                    line,
+                )
             }
             Finding::NoRule => push_plain(&mut self.text, "none", "-", line),
             Finding::Left(reason) => push_left(&mut self.text, reason, line),

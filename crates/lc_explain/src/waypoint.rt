@@ -34,7 +34,10 @@ impl Waypoint {
     pub(crate) fn kind(&self, name: &[u8]) -> Option<Kind>
         ensures { result ≡ kind_in self.now.entries name.now }
     {
-        let entry = self.entries.iter().find(|entry| entry.name.as_slice() == name)?;
+        let entry = self
+            .entries
+            .iter()
+            .find(|entry| entry.name.as_slice() == name)?;
         Some(entry.kind)
     }
 

@@ -1,4 +1,4 @@
-use Rattle.std.proofs.Common.{◌≡◌, ℕ, List, Ok, Err, subst}
+use Rattle.std.proofs.Common.{ℕ, List, Err, subst}
 use Rattle.lc_level.proofs.PassedOn.{passed_on}
 use Rattle.lc_text.specs.Lines.{lines_of}
 use Rattle.lc_text.specs.Writes.{AnswersPrint, Writes}
@@ -38,4 +38,4 @@ returns g c =
     let lines = subst (λ (b : List ℕ). Explains says (lines_of b) telling.text.items telling.outcome) c.deref.ensures.value told in
     let wrote = subst (λ (t : List ℕ). Writes g.O.Sink.may_take c.args.out.now t c.print.new.out) c.deref-2.ensures.value
     c.in_ok-print.ensures.answers in
-    (bytes, c.in_ok-read_whole.ensures, telling.text.items, lines, wrote)
+    (bytes, c.in_ok-read_whole.ensures, (telling.text.items, lines, wrote))

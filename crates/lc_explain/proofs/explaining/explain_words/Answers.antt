@@ -1,4 +1,4 @@
-use Rattle.std.proofs.Common.{◌≡◌, ℕ, List, Ok, Err, map, subst}
+use Rattle.std.proofs.Common.{ℕ, List, Err, map, subst}
 use Rattle.lc_level.proofs.PassedOn.{passed_on}
 use Rattle.lc_text.specs.Writes.{AnswersPrint, Writes}
 use Rattle.lc_explain.specs.Explain.{MaySay, AnswersLines}

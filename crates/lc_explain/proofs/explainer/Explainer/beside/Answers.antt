@@ -1,4 +1,4 @@
-use Rattle.std.proofs.Common.{rules, ◌≡◌, ◌∙◌, Some, None, sym, ap, option_map}
+use Rattle.std.proofs.Common.{rules, ◌≡◌, ◌∙◌, None, sym, ap, option_map}
 use Rattle.lc_glob.specs.Path.{path_in, segments_of}
 use Rattle.lc_level.specs.Level.{job_at, child_job}
 use Rattle.lc_level.specs.Reasons.{reason_model}

@@ -1,4 +1,4 @@
-use Rattle.std.proofs.Common.{rules, ◌≡◌, ◌+◌, ◌-◌, ◌≤◌, ◌++◌, ◌∷◌, [], Ok, Err, Some, None, true, false, length, slice_get, take, refl, sym, ◌∙◌, ap, ap₂, subst, arith}
+use Rattle.std.proofs.Common.{rules, ◌≡◌, ◌-◌, Ok, Err, Some, None, true, false, length, slice_get, refl, sym, ◌∙◌, ap, ap₂, subst, arith}
 use Rattle.std.specs.Prelude.{option_map}
 use Rattle.std.specs.Option.{option_copied}
 use Rattle.lc_glob.specs.Path.{path_in, segments_of}
@@ -6,7 +6,7 @@ use Rattle.lc_level.specs.Job.{JobModel}
 use Rattle.lc_level.specs.Level.{reason_for, job_at, child_job}
 use Rattle.lc_level.specs.Reasons.{reason_model}
 use Rattle.lc_explain.specs.Explained.{cited, kind_asked, is_directory, said_of, said_beside}
-use Rattle.lc_explain.specs.Findings.{explanation_of, fault_line_of}
+use Rattle.lc_explain.specs.Findings.{fault_line_of}
 use Rattle.lc_explain.specs.Waypoints.{WaypointModel, MayEnter, kind_in}
 use Rattle.lc_explain.specs.Ways.{StandsBelow, IsWay, Goes}
 use Rattle.lc_explain.proofs.Descending.{at_last, last_explained, left_explained, beside_explained, fault_explained, way_on}

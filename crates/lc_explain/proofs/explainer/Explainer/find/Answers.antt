@@ -1,6 +1,6 @@
 use Rattle.std.proofs.Common.{rules, ◌≡◌, ◌++◌, ◌∷◌, [], Ok, None, MatchOption, sym, ◌∙◌, ap, subst}
 use Rattle.std.specs.Prelude.{option_map}
-use Rattle.lc_explain.specs.Waypoints.{WaypointModel, Way, MayEnter}
+use Rattle.lc_explain.specs.Waypoints.{Way, MayEnter}
 use Rattle.lc_explain.specs.Ways.{StandsBelow, IsWay, Goes}
 use Rattle.lc_explain.proofs.Descending.{top_way}
 use Rattle.lc_explain.proofs.Entering.{entered_path}

@@ -1,4 +1,4 @@
-use Rattle.std.proofs.Common.{◌≡◌, map, take}
+use Rattle.std.proofs.Common.{map, take}
 use Rattle.lc_explain.specs.Explain.{Explains}
 use Rattle.lc_explain.specs.Explained.{IsExplained}
 use Rattle.lc_explain.specs.Waypoints.{MayEnter}

@@ -1,4 +1,4 @@
-use Rattle.std.proofs.Common.{◌≡◌, ℕ, Bool, List, subst}
+use Rattle.std.proofs.Common.{ℕ, Bool, List, subst}
 use Rattle.lc_text.specs.PathLines.{is_dir_line}
 use Rattle.lc_explain.specs.Explained.{Explanation, cited, IsExplained}
 use Rattle.lc_explain.specs.Findings.{explanation_of}

@@ -1,0 +1,81 @@
+//! Asking about paths of a tree of memory.
+
+use lc_census::Source;
+use lc_explain::{ExplainFault, Question, explain, explain_words};
+use lc_text::trials::{Narrow, WhenFull};
+use lc_text::{Outcome, PrintFault, RuleText, read_rule_text};
+use lc_tree::{MemTree, Sketch, Tree};
+use std::alloc::{AllocError, Global};
+use std::process::Abort;
+use std::test::Fail;
+
+/// What is shown, the tree, lines of paths, and their text.
+pub(crate) type Case = (&'static str, Sketch<'static>, &'static [u8], &'static [u8]);
+
+pub(crate) const PLAIN: Question<'static> = Question {
+    exclude: None,
+    archive: false,
+    without: &[],
+};
+
+/// Rules for a whole tree.
+pub(crate) fn rule_text(alloc: Global, bytes: &[u8]) -> Result<RuleText, AllocError> {
+    let mut file = bytes;
+    match read_rule_text(alloc, &mut file) {
+        Ok(text) => Ok(text),
+        Err(_) => Err(AllocError),
+    }
+}
+
+/// An explanation, but for want of memory, where nothing is written.
+pub(crate) fn explained<T: Tree, S: Source>(
+    rt: &impl Abort,
+    alloc: Global,
+    tree: &T,
+    question: &Question,
+    input: &mut S,
+    out: &mut Narrow,
+) -> Result<Result<Outcome, ExplainFault>, AllocError> {
+    match explain(alloc, tree, question, input, out) {
+        Err(ExplainFault::Memory) => {
+            assert!(rt; out.taken.is_empty());
+            Err(AllocError)
+        }
+        answer => Ok(answer),
+    }
+}
+
+/// The same of words.
+pub(crate) fn explained_words<T: Tree>(
+    rt: &impl Abort,
+    alloc: Global,
+    tree: &T,
+    words: &[&str],
+    out: &mut Narrow,
+) -> Result<Result<Outcome, PrintFault>, AllocError> {
+    match explain_words(alloc, tree, &PLAIN, words, out) {
+        Err(PrintFault::Memory) => {
+            assert!(rt; out.taken.is_empty());
+            Err(AllocError)
+        }
+        answer => Ok(answer),
+    }
+}
+
+/// The lines of paths give this text, and this outcome.
+pub(crate) fn check<R: Abort + AllocGlobal>(
+    rt: &R,
+    case: &Case,
+    question: &Question,
+    outcome: Outcome,
+) -> Result<(), Fail> {
+    let (name, sketch, paths, text) = case;
+    let node = sketch.node(rt.alloc())?;
+    let tree = MemTree::new(&node);
+    let mut input: &[u8] = paths;
+    let mut out = Narrow::new(rt.alloc(), 64, text.len(), WhenFull::Fails)?;
+    let answer = explained(rt, rt.alloc(), &tree, question, &mut input, &mut out)?;
+    assert!(rt; answer == Ok(outcome), "{name}");
+    assert!(rt; out.taken.as_slice() == *text, "{name}");
+    Ok(())
+}

@@ -1,0 +1,147 @@
+//! Trees and paths, and the text of what decides them.
+
+use crate::explain::asking::{Case, PLAIN, check, explained_words, rule_text};
+use lc_explain::Question;
+use lc_text::Outcome;
+use lc_text::trials::{Narrow, WhenFull};
+use lc_tree::{MemTree, Sketch};
+use std::process::Abort;
+use std::test::Fail;
+
+const LINE: Sketch = Sketch::File(b"x\n");
+
+const WORKED: Sketch = Sketch::Dir(&[
+    (b".gitignore", Sketch::File(b"*.log\n!keep.log\n/build/\n")),
+    (b"a.log", LINE),
+    (b"keep.log", LINE),
+    (b"src", Sketch::Dir(&[(b"m.c", LINE)])),
+]);
+
+const DEEP: Sketch = Sketch::Dir(&[
+    (b".gitignore", Sketch::File(b"*.o\nlow/\n")),
+    (
+        b"src",
+        Sketch::Dir(&[
+            (
+                b".gitignore",
+                Sketch::File(b"# own\n!k.o\n/gen\\ \\   \nhigh/\n"),
+            ),
+            (b"a.o", LINE),
+            (b"k.o", LINE),
+            (b"gen  ", Sketch::Dir(&[(b"low", Sketch::Dir(&[]))])),
+            (b"high", Sketch::Dir(&[(b"low", Sketch::Dir(&[]))])),
+            (
+                b"in",
+                Sketch::Dir(&[(b".gitignore", Sketch::File(b"!a.o"))]),
+            ),
+        ]),
+    ),
+]);
+
+const KINDS: Sketch = Sketch::Dir(&[
+    (b".gitignore", Sketch::File(b"d/\n*.x\n")),
+    (b"d", Sketch::Dir(&[])),
+    (b"e", Sketch::Dir(&[(b"d", LINE)])),
+    (b"f", LINE),
+    (b"l", Sketch::Other),
+    (b"l.x", Sketch::Other),
+]);
+
+const INFO: Sketch = Sketch::Dir(&[
+    (b"exclude", Sketch::File(b"\n*.o\n*.t\n")),
+    (b"attributes", Sketch::File(b"v.c export-ignore\n")),
+]);
+
+const REPOSITORY: Sketch = Sketch::Dir(&[
+    (b".git", Sketch::Dir(&[(b"info", INFO), (b"HEAD", LINE)])),
+    (b".gitignore", Sketch::File(b"!b.o\n")),
+    (
+        b".gitattributes",
+        Sketch::File(b"docs vendored\n*.o vendored\n"),
+    ),
+    (b"a.o", LINE),
+    (b"docs", Sketch::Dir(&[(b"a", LINE)])),
+    (b"s", Sketch::Dir(&[(b".git", LINE)])),
+]);
+
+static CASES: [Case; 7] = [
+    (
+        "the worked row",
+        WORKED,
+        b"a.log\nbuild/x.c\nsrc/m.c\nkeep.log\n",
+        b"ignored\t.gitignore:1\t*.log\ta.log\nbelow\t.gitignore:3\t/build/\tbuild/x.c\nnone\t-\t-\tsrc/m.c\nincluded\t.gitignore:2\t!keep.log\tkeep.log\n",
+    ),
+    (
+        "a deeper file overrides, and its lines are told of by its path",
+        DEEP,
+        b"src/a.o\nsrc/k.o\nk.o\nsrc/in/a.o\nsrc/gen  /\n",
+        b"ignored\t.gitignore:1\t*.o\tsrc/a.o\nincluded\tsrc/.gitignore:2\t!k.o\tsrc/k.o\nignored\t.gitignore:1\t*.o\tk.o\nincluded\tsrc/in/.gitignore:1\t!a.o\tsrc/in/a.o\nignored\tsrc/.gitignore:3\t/gen\\\\ \\\\ \tsrc/gen  /\n",
+    ),
+    (
+        "the highest ignored directory decides what is below it",
+        DEEP,
+        b"src/high/low/a\nsrc/high/low/\nlow/high/a.o\nsrc/high\n",
+        b"below\tsrc/.gitignore:4\thigh/\tsrc/high/low/a\nbelow\tsrc/.gitignore:4\thigh/\tsrc/high/low/\nbelow\t.gitignore:2\tlow/\tlow/high/a.o\nignored\tsrc/.gitignore:4\thigh/\tsrc/high\n",
+    ),
+    (
+        "the tree is asked what a name is, unless a slash says it",
+        KINDS,
+        b"d\nd/\ne/d\ne/d/\nf\nf/d\ngone\ngone/d\ngone/d/a\n",
+        b"ignored\t.gitignore:1\td/\td\nignored\t.gitignore:1\td/\td/\nnone\t-\t-\te/d\nignored\t.gitignore:1\td/\te/d/\nnone\t-\t-\tf\nnone\t-\t-\tf/d\nnone\t-\t-\tgone\nnone\t-\t-\tgone/d\nbelow\t.gitignore:1\td/\tgone/d/a\n",
+    ),
+    (
+        "what a walk leaves out without a rule",
+        KINDS,
+        b"l\nl/\nl/a\nl.x\n.git\n.git/config\ne/.git/\n",
+        b"left\tother\t-\tl\nleft\tother\t-\tl/\nleft\tother\t-\tl/a\nignored\t.gitignore:2\t*.x\tl.x\nleft\tgit\t-\t.git\nleft\tgit\t-\t.git/config\nleft\tgit\t-\te/.git/\n",
+    ),
+    (
+        "paths that no entry can have",
+        WORKED,
+        b"\n/\n./a\na//b\n../a\na/b\x00\n",
+        b"bad\t-\t-\t\nbad\t-\t-\t/\nbad\t-\t-\t./a\nbad\t-\t-\ta//b\nbad\t-\t-\t../a\nbad\t-\t-\ta/b\\x00\n",
+    ),
+    ("no paths", WORKED, b"", b""),
+];
+
+#[test]
+fn paths_of_trees(rt: HostRuntime) -> Result<(), Fail> {
+    for case in &CASES {
+        check(&rt, case, &PLAIN, Outcome::Clean)?;
+    }
+    Ok(())
+}
+
+static BESIDE_THE_TREE: Case = (
+    "rules and attributes beside those of the tree's directories",
+    REPOSITORY,
+    b"a.o\nb.o\nc.t\nv.c\nx.bak\ndocs/a\ns/.git\n",
+    b"ignored\t.git/info/exclude:2\t*.o\ta.o\nincluded\t.gitignore:1\t!b.o\tb.o\nignored\t.git/info/exclude:3\t*.t\tc.t\nleft\tattribute:export-ignore\t-\tv.c\nignored\t--exclude-from:2\t*.bak\tx.bak\nleft\tattribute:vendored\t-\tdocs/a\nleft\tgit\t-\ts/.git\n",
+);
+
+#[test]
+fn what_is_asked_decides(rt: HostRuntime) -> Result<(), Fail> {
+    let question = Question {
+        exclude: Some(rule_text(rt.alloc(), b"!a.o\n*.bak\n")?),
+        archive: true,
+        without: &["vendored"],
+    };
+    check(&rt, &BESIDE_THE_TREE, &question, Outcome::Clean)
+}
+
+/// A word is a path, whatever its bytes.
+const WORDS: [&str; 3] = ["a.log", "a\nb", "src/"];
+
+const OF_WORDS: &[u8] =
+    b"ignored\t.gitignore:1\t*.log\ta.log\nnone\t-\t-\ta\\x0ab\nnone\t-\t-\tsrc/\n";
+
+#[test]
+fn words_are_paths(rt: HostRuntime) -> Result<(), Fail> {
+    let node = WORKED.node(rt.alloc())?;
+    let tree = MemTree::new(&node);
+    let mut out = Narrow::new(rt.alloc(), 64, OF_WORDS.len(), WhenFull::Fails)?;
+    let answer = explained_words(&rt, rt.alloc(), &tree, &WORDS, &mut out)?;
+    assert!(rt; answer == Ok(Outcome::Clean));
+    assert!(rt; out.taken.as_slice() == OF_WORDS);
+    Ok(())
+}

@@ -1,0 +1,5 @@
+//! The tests of explanations.
+#![tactic(auto)]
+
+#[cfg(test)]
+mod explain;
