@@ -72,7 +72,8 @@ module _ (lists : List ℕ → Listings) (gives : List ℕ → Contents)
   by_info es info b e = ap (λ t. and_then (listing t (codes ".git/info") info) info_bytes) (has_info es ∙ e)
 
   module _ (texts : Bool) where
-    at_true : (there : Bool) (r : Result PairRead Unlisted) → there ≡ true → ReadsGit lists gives texts true r → ReadsGit lists gives texts there r
+    at_true : (there : Bool) (r : Result PairRead Unlisted) → there ≡ true → ReadsGit lists gives texts true r
+        → ReadsGit lists gives texts there r
     at_true there r e k = subst (λ b. ReadsGit lists gives texts b r) (sym e) k
 
     -- where there is no `.git` nothing is read

@@ -1,6 +1,6 @@
 -- Which attribute of a selection leaves out, if one does.
-use Rattle.std.proofs.Common.{◌≡◌, ◌⊎◌, ◌∙◌, ◌<◌, ◌||◌, ℕ, zero, suc, Bool, true, false, cond, List, [], ◌∷◌, length, get_or, take, map, refl}
-use Rattle.std.proofs.Common.{sym, ap, inl, inr, codes, arith, Option, Some, None}
+use Rattle.std.proofs.Common.{◌≡◌, ◌⊎◌, ◌∙◌, ◌<◌, ◌||◌, ℕ, zero, suc, Bool, true, false, cond, List, [], ◌∷◌, length, get_or, take, map}
+use Rattle.std.proofs.Common.{refl, sym, ap, inl, inr, codes, arith, Option, Some, None}
 use Rattle.std.specs.Borrow.{Bor}
 use Rattle.std.specs.List.{find, list_any}
 use Rattle.std.specs.Prelude.{option_map}
@@ -45,7 +45,8 @@ module _ (j : JobModel) (path : List ℕ) (is_dir : Bool) where
   find_lent (name ∷ names) = at (is_set_by name) (find_lent names)
     where
       at : (b : Bool) → find is_set_at (map (λ (n : Bor (List ℕ)). n.now) names)
-          ≡ option_map (λ (n : Bor (List ℕ)). n.now) (find is_set_by names) → cond b (Some name.now) (find is_set_at (map (λ (n : Bor (List ℕ)). n.now) names))
+          ≡ option_map (λ (n : Bor (List ℕ)). n.now) (find is_set_by names)
+          → cond b (Some name.now) (find is_set_at (map (λ (n : Bor (List ℕ)). n.now) names))
           ≡ option_map (λ (n : Bor (List ℕ)). n.now) (cond b (Some name) (find is_set_by names))
       at true rest = refl
       at false rest = rest

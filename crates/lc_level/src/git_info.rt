@@ -32,7 +32,8 @@ impl<T: Tree> LevelReader<'_, T> {
         entries: &[Entry],
         scratch: &mut Scratch,
     ) -> Result<PairRead, Unlisted>
-        ensures { ReadsGit (T.lists self.now.tree.now) (T.gives self.now.tree.now) self.now.kept.texts (has_dir (codes ".git") entries.now) result }
+        ensures { ReadsGit (T.lists self.now.tree.now) (T.gives self.now.tree.now) self.now.kept.texts
+            (has_dir (codes ".git") entries.now) result }
     {
         if !has_dir(entries, b".git") {
             return Ok(PairRead::none());

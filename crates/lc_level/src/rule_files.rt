@@ -91,7 +91,8 @@ impl<T: Tree> LevelReader<'_, T> {
         }
     }
 
-    /// Reads the attribute file of this name in the directory of the scratch paths, if it is there; `top` says whether it may define macros.
+    /// Reads the attribute file of this name in the directory of the scratch paths, if it is there; `top` says whether it may
+    /// define macros.
     pub(crate) fn attribute_file(
         &self,
         entries: &[Entry],

@@ -1,8 +1,9 @@
 //! Directories that are entered: their entries, the texts of their rules, and what these decide of a path.
 
+use crate::level::left_out::{Why, is_reason};
 use crate::level::work::{Asked, NOTHING, job_of, top};
 use lc_level::{
-    Cause, Entered, Job, Kept, LevelReader, Place, Reason, Scratch, Selection, Unlisted,
+    Cause, Entered, Job, Kept, LevelReader, Place, Scratch, Selection, Unlisted, path_in,
 };
 use lc_rules::{Origin, Verdict};
 use lc_tree::{Entry, FaultWord, Kind, MemTree, Sketch};
@@ -143,51 +144,86 @@ fn rule_of(job: &Job, path: &[u8]) -> Option<(Origin, u32, Verdict)> {
     Some((origin, rule.line(), rule.verdict()))
 }
 
+/// The top with its rule files.
+fn inside_of(levels: &LevelReader<MemTree>, alloc: Global) -> Result<Option<Job>, AllocError> {
+    let mut scratch = Scratch::new(alloc)?;
+    let top = Job::top(alloc, None)?;
+    match enter(levels, &top, &mut scratch)? {
+        Ok(entered) => Ok(Some(entered.job)),
+        Err(_) => Ok(None),
+    }
+}
+
 #[test]
 fn what_decides_inside(rt: HostRuntime) -> Result<(), Fail> {
     let node = TREE.node(rt.alloc())?;
     let tree = MemTree::new(&node);
     let levels = LevelReader::new(rt.alloc(), &tree, Selection::new(true, &[]), NOTHING);
-    let mut scratch = Scratch::new(rt.alloc())?;
-    let top = Job::top(rt.alloc(), None)?;
-    let Ok(entered) = enter(&levels, &top, &mut scratch)? else {
+    let Some(inside) = inside_of(&levels, rt.alloc())? else {
         assert!(rt; false, "the top is at fault");
         return Ok(());
     };
-    let inside = &entered.job;
     let here = Origin::Directory(0);
-    assert!(rt;
-        rule_of(inside, b"a.log") == Some((here, 1, Verdict::Ignored)),
-        "an ignored file"
-    );
-    assert!(rt;
-        rule_of(inside, b"s/keep.log") == Some((here, 2, Verdict::Included)),
-        "one that is included"
-    );
-    assert!(rt;
-        rule_of(inside, b"m.c").is_none(),
-        "one that no rule matches"
-    );
-    let docs = levels.reason(inside, b"docs", b"docs", Kind::Dir)?;
-    assert!(rt; matches!(docs, Some(Reason::Attribute(_))), "{docs:?}");
-    let file = levels.reason(inside, b"m.c", b"m.c", Kind::File)?;
-    assert!(rt; file.is_none(), "{file:?}");
-    let link = levels.reason(inside, b"m.c", b"m.c", Kind::Other)?;
-    assert!(rt; matches!(link, Some(Reason::OtherKind)), "{link:?}");
-    let git = levels.reason(inside, b".git", b".git", Kind::Dir)?;
-    assert!(rt; matches!(git, Some(Reason::Git)), "{git:?}");
+    let cases: [(&[u8], Option<(Origin, u32, Verdict)>); 3] = [
+        (b"a.log", Some((here, 1, Verdict::Ignored))),
+        (b"s/keep.log", Some((here, 2, Verdict::Included))),
+        (b"m.c", None),
+    ];
+    for (path, wanted) in cases {
+        let found = rule_of(&inside, path);
+        assert!(rt; found == wanted, "{path:?}: {found:?}");
+    }
+    Ok(())
+}
+
+/// The reason of an entry of the directory is this.
+fn check_reason(
+    rt: &impl Abort,
+    alloc: Global,
+    levels: &LevelReader<MemTree>,
+    job: &Job,
+    (name, kind): (&[u8], Kind),
+    wanted: Option<Why>,
+) -> Result<(), AllocError> {
+    let path = path_in(alloc, job.path(), name)?;
+    let found = levels.reason(job, name, &path, kind)?;
+    let is_wanted = match (&found, &wanted) {
+        (Some(found), Some(wanted)) => is_reason(found, wanted),
+        (None, None) => true,
+        (Some(_), None) | (None, Some(_)) => false,
+    };
+    assert!(rt; is_wanted, "{name:?}: {found:?}");
+    Ok(())
+}
+
+#[test]
+fn reasons_inside(rt: HostRuntime) -> Result<(), Fail> {
+    let node = TREE.node(rt.alloc())?;
+    let tree = MemTree::new(&node);
+    let levels = LevelReader::new(rt.alloc(), &tree, Selection::new(true, &[]), NOTHING);
+    let Some(inside) = inside_of(&levels, rt.alloc())? else {
+        assert!(rt; false, "the top is at fault");
+        return Ok(());
+    };
+    let cases: [((&[u8], Kind), Option<Why>); 4] = [
+        ((b"docs", Kind::Dir), Some(Why::Attribute(b"export-ignore"))),
+        ((b"m.c", Kind::File), None),
+        ((b"m.c", Kind::Other), Some(Why::OtherKind)),
+        ((b".git", Kind::Dir), Some(Why::Git)),
+    ];
+    for (entry, wanted) in cases {
+        check_reason(&rt, rt.alloc(), &levels, &inside, entry, wanted)?;
+    }
     let below = inside.at(rt.alloc(), b"s")?;
-    let log = levels.reason(&below, b"a.log", b"s/a.log", Kind::File)?;
-    assert!(rt;
-        matches!(
-            log,
-            Some(Reason::Rule {
-                origin: Origin::Directory(0),
-                line: 1
-            })
-        ),
-        "{log:?}"
-    );
+    let by_rule = Some(Why::Rule(Origin::Directory(0), 1));
+    check_reason(
+        &rt,
+        rt.alloc(),
+        &levels,
+        &below,
+        (b"a.log", Kind::File),
+        by_rule,
+    )?;
     Ok(())
 }
 

@@ -10,7 +10,7 @@ use std::test::Fail;
 
 /// Why an entry is to be left out.
 #[derive(Clone, Copy, Debug)]
-enum Why<'a> {
+pub(crate) enum Why<'a> {
     Git,
     Rule(Origin, u32),
     Attribute(&'a [u8]),
@@ -25,7 +25,7 @@ const LEFT_OUT: Kept = Kept {
     texts: false,
 };
 
-fn is_reason(found: &Reason, wanted: &Why) -> bool {
+pub(crate) fn is_reason(found: &Reason, wanted: &Why) -> bool {
     match (found, wanted) {
         (Reason::Git, Why::Git) => true,
         (Reason::Rule { origin, line }, Why::Rule(wanted, number)) => {

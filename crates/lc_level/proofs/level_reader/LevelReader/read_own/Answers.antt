@@ -13,12 +13,13 @@ top_of_length (b ∷ bs) = eqb-suc-zero (length bs)
 
 pub returns-clause-read : goal.returns-clause-read
 returns-clause-read g c =
+    let texts = c.args.self.now.kept.texts in
     let gives = g.T.Tree.gives c.args.self.now.tree.now in
     let ignore = has_file (codes ".gitignore") c.args.entries.now in
     let attributes = has_file (codes ".gitattributes") c.args.entries.now in
-    let here = subst (λ (d : List ℕ). ReadsBoth c.args.self.now.kept.texts (gives (path_in d (codes ".gitignore"))) (gives (path_in d (codes ".gitattributes")))
+    let here = subst (λ (d : List ℕ). ReadsBoth texts (gives (path_in d (codes ".gitignore"))) (gives (path_in d (codes ".gitattributes")))
     ignore attributes c.is_empty.result IgnoreFile AttributeFile c.read_pair.result)
     c.in-Ok.ensures c.read_pair.ensures.read in
-    subst (λ (b : Bool). ReadsBoth c.args.self.now.kept.texts (gives (path_in c.args.directory.now (codes ".gitignore")))
+    subst (λ (b : Bool). ReadsBoth texts (gives (path_in c.args.directory.now (codes ".gitignore")))
     (gives (path_in c.args.directory.now (codes ".gitattributes"))) ignore attributes b IgnoreFile AttributeFile c.read_pair.result)
     (c.is_empty.ensures ∙ top_of_length c.args.directory.now) here
