@@ -14,35 +14,36 @@ use Rattle.lc_board.specs.declared.event.Event.TheVariants.{Post, Claim, Return,
 use Rattle.lc_board.specs.declared.answers.Ended.{Ended}
 use Rattle.lc_board.specs.declared.answers.Ended.TheVariants as ended
 use Rattle.lc_walk.specs.Tally.{TallyModel, CountedFile, StandsFor}
-use Rattle.lc_walk.specs.ReportLines.{file_paths, fault_paths}
 use Rattle.lc_tree.specs.ByteOrder.{AreApart}
+use Rattle.lc_walk.specs.ReportLines.{file_paths, fault_paths, left_paths}
 use Rattle.lc_walk.specs.Report.{IsReport}
 use Rattle.lc_walk.proofs.Joining.{stands_permuted}
 use Rattle.lc_walk.specs.declared.report.Report.{Report}
+use Rattle.lc_walk.specs.declared.report.findings.Findings.{Findings}
 use Rattle.lc_level.specs.Answers.{Answers, no_answers}
 use Rattle.lc_level.specs.Job.{JobModel}
-use Rattle.lc_level.specs.Level.{counted_in}
-use Rattle.lc_walk.specs.Found.{Found, found_of, found_at}
+use Rattle.lc_level.specs.Level.{counted_in, left_in}
+use Rattle.lc_walk.specs.Found.{Found, path_of, found_of, found_at}
 use Rattle.lc_walk.specs.Rows.{row_of, job_of, IsWhole}
 use Rattle.lc_walk.specs.Lawful.{Asked, IsLawful, Says, counted_files}
 use Rattle.lc_level.specs.Tidy.{IsTidy}
 use Rattle.lc_walk.specs.TreeOfRows.{numbers_below, child_number, tree_from, children_by_rows, tree_of_rows}
 use Rattle.lc_walk.specs.Walked.{Walked, AreWhole, row_found, rows_found}
-use Rattle.lc_walk.specs.WalkReport.{tallied, line_of, tallied_in, file_in, fault_in, directory_in, tallied_of, files_of, faults_of}
-use Rattle.lc_walk.specs.WalkReport.{directories_of, IsReportOf}
-use Rattle.lc_walk.specs.Assembled.{fault_line, directories_by_row, files_by_row, faults_by_row}
-use Rattle.lc_walk.specs.Assembled.{directories_in_rows, files_in_rows, faults_in_rows}
+use Rattle.lc_walk.specs.WalkReport.{tallied, line_of, left_line, tallied_in, file_in, fault_in, directory_in, left_out_in, entries_in}
+use Rattle.lc_walk.specs.WalkReport.{tallied_of, files_of, faults_of, directories_of, left_out_of, entry_count, IsReportOf}
+use Rattle.lc_walk.specs.Assembled.{fault_line, directories_by_row, files_by_row, faults_by_row, left_by_row, entries_by_row}
+use Rattle.lc_walk.specs.Assembled.{directories_in_rows, files_in_rows, faults_in_rows, left_in_rows, entries_in_rows, AreFindings}
 use Rattle.lc_walk.specs.Worked.{MayStand, IsLawfulEnd, AreLawful, returned_files, files_given, files_of_pass, files_of_passes}
 use Rattle.lc_walk.proofs.Broken.{NoneFor, unbroken}
 use Rattle.lc_walk.proofs.Fuller.{fuller_says}
 use Rattle.lc_walk.specs.WalkAnswers.{SomeRows, IsWalkReport}
-use Rattle.std.specs.List.{IsDistinct}
 use Rattle.std.specs.List.Sorted.{IsStrictlySortedBy}
 use Rattle.lc_tree.specs.Listing.{IsListing}
 use Rattle.lc_walk.specs.Walk.{walk_of}
 use Rattle.lc_walk.specs.RowViews.{ChildModel}
 use Rattle.lc_walk.proofs.Reports.{report_law}
-use Rattle.lc_walk.proofs.PathsApart.{paths_once_law, file_lines_apart, fault_lines_apart}
+use Rattle.lc_walk.proofs.PathsApart.{paths_once_law, found_apart, file_list_apart, fault_list_apart, left_list_apart}
+use Rattle.lc_walk.proofs.PathsApart.{all_lists_apart}
 use Rattle.lc_level.specs.declared.cause.Cause.TheVariants.{Memory}
 use Rattle.lc_walk.specs.declared.row.Row.{Row}
 use Rattle.lc_walk.specs.declared.row.Row.TheVariants.{Listed, Faulted, Broken}
@@ -51,8 +52,8 @@ use Rattle.lc_board.proofs.RowsOfWorkers.{rows_are_ends}
 use Rattle.lc_board.proofs.Weights.{each-map, flat_map-on}
 use Rattle.lc_walk.proofs.Moves.{lists_moved}
 use Rattle.lc_walk.proofs.Law.{core_law, one_answer_law}
-use Rattle.lc_walk.proofs.Listings.{flat_twice, tallied_went, files_went, faults_went, directories_went, got_here, by_number, by_place}
-use Rattle.lc_walk.proofs.Listings.{below_all, numbers_from_0}
+use Rattle.lc_walk.proofs.Listings.{flat_twice, sum_twice, flat_asked, tallied_went, files_went, faults_went, left_went, directories_went}
+use Rattle.lc_walk.proofs.Listings.{entries_went, got_here, by_number, by_place, sums_by_number, below_all, numbers_from_0}
 
 or_left : (a b : Bool) → a ≡ true → (a || b) ≡ true
 or_left true b e = refl
@@ -85,6 +86,15 @@ files_by_ends ask by (Claim w i j ∷ m) = files_by_ends ask by m
 files_by_ends ask by (Return w i r ∷ m) = ap (λ l. returned_files ask r (by i) ++ l) (files_by_ends ask by m)
 files_by_ends ask by (Fault w i r ∷ m) = files_by_ends ask by m
 files_by_ends ask by (Over w ∷ m) = files_by_ends ask by m
+
+-- lines that were made of a list, where it is asked for
+mapped_asked : {A B : Type 0} (f : A → B) (b : Bool) (xs : List A) → map f (cond b xs []) ≡ cond b (map f xs) []
+mapped_asked f true xs = refl
+mapped_asked f false xs = refl
+
+none_asked : {A : Type 0} (b : Bool) → cond {A = List A} b [] [] ≡ []
+none_asked true = refl
+none_asked false = refl
 
 abbrev or_no_answers : Option (Ended Row) → Answers → Answers
 or_no_answers None a = no_answers
@@ -193,19 +203,27 @@ module _ (ask : Asked) (MayAnswer : List ℕ → Answers → Type 0) (capacity w
 
     record RowFinds (e : Ended Row) (a : Answers) : Type 0 where
       pub tally : files_by_end ask e a ≡ tallied_of (found_at ask.selection (job_of (row_of e)) a)
-      pub files : ask.files ≡ true → files_of (found_at ask.selection (job_of (row_of e)) a) ≡ files_by_row (row_of e)
+      pub files : cond ask.lists.files (files_of (found_at ask.selection (job_of (row_of e)) a)) [] ≡ files_by_row (row_of e)
       pub faults : faults_of (found_at ask.selection (job_of (row_of e)) a) ≡ faults_by_row (row_of e)
+      pub left : cond ask.lists.left_out (left_out_of (found_at ask.selection (job_of (row_of e)) a)) [] ≡ left_by_row (row_of e)
       pub directories : directories_of (found_at ask.selection (job_of (row_of e)) a) ≡ directories_by_row (row_of e)
+      pub entries : entry_count (found_at ask.selection (job_of (row_of e)) a) ≡ entries_by_row (row_of e)
 
     row_finds : (e : Ended Row) (a : Answers) (posts : List (ℕ × JobModel)) → Says ask full e a posts → IsWhole (row_of e) → RowFinds e a
     row_finds (ended.Returned (Listed r)) a posts s w =
         let l = s.level_is in
         let f = found_of r.job in record {
           tally = ap (λ x. map tallied (counted_files x)) l ∙ sym (ap (λ x. tallied_of (f x)) l ∙ tallied_went r.job s.fates);
-          files = λ t. ap (λ x. files_of (f x)) l ∙ files_went r.job s.fates
-              ∙ ap (map (line_of r.job.path)) (sym (s.files_are ∙ ap (λ b. cond b (counted_in s.fates) []) t));
+          files = ap (λ x. cond ask.lists.files (files_of (f x)) []) l ∙ ap (λ xs. cond ask.lists.files xs []) (files_went r.job s.fates)
+              ∙ sym (mapped_asked (line_of r.job.path) ask.lists.files (counted_in s.fates))
+              ∙ ap (map (line_of r.job.path)) (sym s.files_are);
           faults = ap (λ x. faults_of (f x)) l ∙ faults_went r.job s.fates ∙ ap (map (fault_line r.job.path)) (sym s.faults_are);
+          left = ap (λ x. cond ask.lists.left_out (left_out_of (f x)) []) l
+              ∙ ap (λ xs. cond ask.lists.left_out xs []) (left_went r.job s.fates)
+              ∙ sym (mapped_asked (left_line r.job.path) ask.lists.left_out (left_in s.fates))
+              ∙ ap (map (left_line r.job.path)) (sym s.left_are);
           directories = ap (λ x. directories_of (f x)) l ∙ directories_went r.job s.fates;
+          entries = ap (λ x. entry_count (f x)) l ∙ entries_went r.job s.fates ∙ sym s.entries_are;
         }
     row_finds (ended.Returned (Faulted r)) a posts s w = absurd s
     row_finds (ended.Returned (Broken r)) a posts s w = absurd w
@@ -214,9 +232,11 @@ module _ (ask : Asked) (MayAnswer : List ℕ → Answers → Type 0) (capacity w
         let l = s.level_is in
         let f = found_of r.job in record {
           tally = sym (ap (λ x. tallied_of (f x)) l);
-          files = λ t. ap (λ x. files_of (f x)) l;
+          files = ap (λ x. cond ask.lists.files (files_of (f x)) []) l ∙ none_asked ask.lists.files;
           faults = ap (λ x. faults_of (f x)) l;
+          left = ap (λ x. cond ask.lists.left_out (left_out_of (f x)) []) l ∙ none_asked ask.lists.left_out;
           directories = ap (λ x. directories_of (f x)) l;
+          entries = ap (λ x. entry_count (f x)) l;
         }
     row_finds (ended.Faulted (Broken r)) a posts s w = absurd w
 
@@ -245,39 +265,56 @@ module _ (ask : Asked) (MayAnswer : List ℕ → Answers → Type 0) (capacity w
     pub files_found : IsPermutation (files_of_passes ask given passes) (tallied_of found)
     files_found = subst (IsPermutation (files_of_passes ask given passes)) tally_rows by_rows
 
-    file_rows : ask.files ≡ true → files_of found ≡ files_in_rows rows
-    file_rows t = spread_out file_in ∙ by_number (λ i. flat_map file_in (row_found ask (slice_get rows i) (answers i)))
-        (λ e. files_by_row (row_of e)) rows
-        (λ i e is. at_row file_in i e is ∙ (finds_here i e is).files t)
+    -- a list that was asked for, or none
+    asked_rows : {B : Type 0} (b : Bool) (g : Found → List B) (f : Row → List B) →
+        ((i : ℕ) (e : Ended Row) → slice_get rows i ≡ Some e →
+        cond b (flat_map g (found_at ask.selection (job_of (row_of e)) (answers i))) [] ≡ f (row_of e)) →
+        cond b (flat_map g found) [] ≡ flat_map (λ e. f (row_of e)) rows
+    asked_rows b g f same =
+        ap (λ l. cond b l []) (spread_out g)
+        ∙ sym (flat_asked b (λ i. flat_map g (row_found ask (slice_get rows i) (answers i))) (numbers_below (length rows)))
+        ∙ by_number (λ i. cond b (flat_map g (row_found ask (slice_get rows i) (answers i))) []) (λ e. f (row_of e)) rows
+        (λ i e is. ap (λ l. cond b l []) (at_row g i e is) ∙ same i e is)
+
+    file_rows : cond ask.lists.files (files_of found) [] ≡ files_in_rows rows
+    file_rows = asked_rows ask.lists.files file_in files_by_row (λ i e is. (finds_here i e is).files)
+
+    left_rows : cond ask.lists.left_out (left_out_of found) [] ≡ left_in_rows rows
+    left_rows = asked_rows ask.lists.left_out left_out_in left_by_row (λ i e is. (finds_here i e is).left)
 
     fault_rows : faults_of found ≡ faults_in_rows rows
     fault_rows = spread_out fault_in ∙ by_number (λ i. flat_map fault_in (row_found ask (slice_get rows i) (answers i)))
         (λ e. faults_by_row (row_of e)) rows
         (λ i e is. at_row fault_in i e is ∙ (finds_here i e is).faults)
 
-    asked_files : (b : Bool) → ask.files ≡ b → cond ask.files (files_of found) [] ≡ cond ask.files (files_in_rows rows) []
-    asked_files true t = ap (λ l. cond ask.files l []) (file_rows t)
-    asked_files false t = ap (λ b. cond b (files_of found) []) t ∙ sym (ap (λ b. cond b (files_in_rows rows) []) t)
-
     directory_rows : directories_of found ≡ directories_in_rows rows
     directory_rows = spread_out directory_in ∙ by_number (λ i. flat_map directory_in (row_found ask (slice_get rows i) (answers i)))
         (λ e. directories_by_row (row_of e)) rows
         (λ i e is. at_row directory_in i e is ∙ (finds_here i e is).directories)
 
+    entry_rows : entry_count found ≡ entries_in_rows rows
+    entry_rows =
+        sum_twice entries_in (λ i. row_found ask (slice_get rows i) (answers i)) (numbers_below (length rows))
+        ∙ sums_by_number (λ i. entry_count (row_found ask (slice_get rows i) (answers i))) (λ e. entries_by_row (row_of e)) rows
+        (λ i e is. ap (λ o. entry_count (row_found ask o (answers i))) is ∙ (finds_here i e is).entries)
+
     -- the report of what the rows found
-    pub report_of_rows : (t : TallyModel) → StandsFor t (files_of_passes ask given passes) → (r : Report) →
-        IsReport t (length (directories_in_rows rows)) (cond ask.files (files_in_rows rows) []) (faults_in_rows rows) r
-        → IsReportOf ask.files found r
-    report_of_rows t stood r is =
+    pub report_of_rows : (t : TallyModel) → StandsFor t (files_of_passes ask given passes) → (told : Findings) → AreFindings rows told →
+        (r : Report) → IsReport t ask.lists told r → IsReportOf ask.lists found r
+    report_of_rows t stood told tells r is =
         let stands = stands_permuted t (files_of_passes ask given passes) (tallied_of found) files_found stood in
         record {
+          lists_are = is.lists_are;
           tally = is.tally (tallied_of found) stands;
           totals = is.totals ∙ stands.totals;
-          directories = is.directories ∙ sym (ap length directory_rows);
-          files_are = subst (λ l. IsPermutation l r.files.items) (sym (asked_files ask.files refl)) is.files;
+          directories = is.directories ∙ tells.directories ∙ sym (ap length directory_rows);
+          entries = is.entries ∙ tells.entries ∙ sym entry_rows;
+          files_are = subst (λ l. IsPermutation l r.files.items) (tells.files ∙ sym file_rows) is.files;
           file_order = is.file_order;
-          faults_are = subst (λ l. IsPermutation l r.faults.items) (sym fault_rows) is.faults;
+          faults_are = subst (λ l. IsPermutation l r.faults.items) (tells.faults ∙ sym fault_rows) is.faults;
           fault_order = is.fault_order;
+          left_are = subst (λ l. IsPermutation l r.left.items) (tells.left ∙ sym left_rows) is.left;
+          left_order = is.left_order;
         }
 
     -- ---- no path stands twice
@@ -305,39 +342,30 @@ module _ (ask : Asked) (MayAnswer : List ℕ → Answers → Type 0) (capacity w
     moved : IsPermutation (walk_of ask.selection capacity top (tree_of_rows rows answers)) found
     moved = core_law ask full capacity workers top history rows answers walked whole capacity (omega arith)
 
-    once : AreApart (file_paths (files_of (walk_of ask.selection capacity top (tree_of_rows rows answers))))
-        × AreApart (fault_paths (faults_of (walk_of ask.selection capacity top (tree_of_rows rows answers))))
-    once = paths_once_law ask.selection capacity top (tree_of_rows rows answers) (tidy_from (children_by_rows rows) 0)
-
-    nothing_twice : AreApart []
-    unfolding IsDistinct
-    nothing_twice = tt
-
-    files_apart : (b : Bool) → ask.files ≡ b → AreApart (file_paths (cond ask.files (files_in_rows rows) []))
-    files_apart true t =
-        subst (λ l. AreApart (file_paths l)) (file_rows t ∙ sym (ap (λ b. cond b (files_in_rows rows) []) t))
-        (file_lines_apart _ found moved once.0)
-    files_apart false t = subst (λ b. AreApart (file_paths (cond b (files_in_rows rows) []))) (sym t) nothing_twice
-
-    faults_apart : AreApart (fault_paths (faults_in_rows rows))
-    faults_apart = subst (λ l. AreApart (fault_paths l)) fault_rows (fault_lines_apart _ found moved once.1)
+    once : AreApart (map path_of found)
+    once = found_apart _ found moved (paths_once_law ask.selection capacity top (tree_of_rows rows answers)
+        (tidy_from (children_by_rows rows) 0))
 
     -- ---- the report of the walk
 
-    pub report_of_walk : top.path ≡ [] → (t : TallyModel) → StandsFor t (files_of_passes ask given passes) → (r : Report) →
-        IsReport t (length (directories_in_rows rows)) (cond ask.files (files_in_rows rows) []) (faults_in_rows rows) r
-        → IsWalkReport MayAnswer ask capacity workers top r
-    report_of_walk at_top t stood r is =
-        let ours = report_of_rows t stood r is in
+    pub report_of_walk : top.path ≡ [] → (t : TallyModel) → StandsFor t (files_of_passes ask given passes) →
+        (told : Findings) → AreFindings rows told → (r : Report) → IsReport t ask.lists told r → IsWalkReport MayAnswer ask capacity workers top r
+    report_of_walk at_top t stood told tells r is =
+        let ours = report_of_rows t stood told tells r is in
         let fed : NoneFor Memory rows = λ i e here. unbroken (row_of e) Memory (whole i e here) in
         record {
           found = some_rows fed;
           whole = whole;
-          report = λ depth deep. report_law ask.files found (walk_of ask.selection depth top (tree_of_rows rows answers)) r
+          report = λ depth deep. report_law ask.lists found (walk_of ask.selection depth top (tree_of_rows rows answers)) r
               (IsPermutation-sym _ _ (core_law ask full capacity workers top history rows answers walked whole depth deep)) ours;
-          files_once = is.files_strictly (files_apart ask.files refl);
-          faults_once = is.faults_strictly faults_apart;
-          one_answer = λ tree one depth deep. report_law ask.files found (walk_of ask.selection depth top tree) r
+          files_once = is.files_strictly
+              (subst (λ l. AreApart (file_paths l)) (file_rows ∙ sym tells.files) (file_list_apart found once ask.lists.files));
+          faults_once = is.faults_strictly
+              (subst (λ l. AreApart (fault_paths l)) (fault_rows ∙ sym tells.faults) (fault_list_apart found once));
+          left_once = is.left_strictly
+              (subst (λ l. AreApart (left_paths l)) (left_rows ∙ sym tells.left) (left_list_apart found once ask.lists.left_out));
+          apart = all_lists_apart found once ask.lists r ours;
+          one_answer = λ tree one depth deep. report_law ask.lists found (walk_of ask.selection depth top tree) r
               (IsPermutation-sym _ _ (one_answer_law tree ask full capacity workers top history rows answers walked whole at_top
               (λ i e here. one (job_of (row_of e)) (answers i) (may_here fed i e here)) depth deep)) ours;
         }

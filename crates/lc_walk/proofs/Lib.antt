@@ -3,8 +3,11 @@ pub mod Broken
 pub mod ChildPlaces
 pub mod Composed
 pub mod Core
-pub mod FilesByPlace
+pub mod Distinct
+pub mod Elements
+pub mod EntryCounts
 pub mod Filtered
+pub mod FoundByPlace
 pub mod Fuller
 pub mod Gathering
 pub mod Growing
@@ -24,5 +27,6 @@ pub mod Posted
 pub mod Reach
 pub mod Reports
 pub mod RowEnds
+pub mod RulesThatIgnore
 pub mod WalkOn
 pub mod Working

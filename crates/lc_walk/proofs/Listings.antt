@@ -1,15 +1,16 @@
 -- What the parts of a level give to a report, and lists by number.
-use Rattle.std.proofs.Common.{◌≡◌, ℕ, zero, suc, ◌+◌, ◌<◌, List, [], ◌∷◌, ◌++◌, length, slice_get, map, refl, sym, ◌∙◌, ap, arith}
-use Rattle.std.proofs.Common.{subst, Option, Some, None, append-nil, append_assoc}
+use Rattle.std.proofs.Common.{◌≡◌, ℕ, zero, suc, ◌+◌, ◌<◌, Bool, true, false, cond, List, [], ◌∷◌, ◌++◌, length, slice_get, map, sum_by}
+use Rattle.std.proofs.Common.{refl, sym, ◌∙◌, ap, arith, subst, Option, Some, None, append_assoc}
 use Rattle.std.specs.List.{flat_map, range_with_len, enumerate_from, AllByRecursion}
 use Rattle.std.proofs.lemmas.Grind.{flat_map-append}
-use Rattle.std.proofs.lemmas.List.Folds.{flat_map-map}
-use Rattle.std.proofs.lemmas.List.Concat.{flat_map_single}
+use Rattle.std.proofs.lemmas.List.{map-append}
+use Rattle.std.proofs.lemmas.List.Sums.{sum_by-append, sum_by-cons}
 use Rattle.lc_level.specs.Job.{JobModel}
-use Rattle.lc_level.specs.Level.{Fate, listed_level, counted_in, failed_in}
-use Rattle.lc_walk.specs.Found.{Found, found_file, found_directory, fault_of, found_of}
-use Rattle.lc_walk.specs.WalkReport.{tallied, line_of, tallied_in, file_in, fault_in, directory_in, tallied_of, files_of, faults_of}
-use Rattle.lc_walk.specs.WalkReport.{directories_of}
+use Rattle.lc_level.specs.Level.{Fate, counted, failed, walked, left, listed_level, counted_of, failed_of, left_of, counted_in, failed_in}
+use Rattle.lc_level.specs.Level.{left_in}
+use Rattle.lc_walk.specs.Found.{Found, found_directory, found_by, found_of}
+use Rattle.lc_walk.specs.WalkReport.{tallied, line_of, left_line, tallied_in, file_in, fault_in, directory_in, left_out_in, entries_in}
+use Rattle.lc_walk.specs.WalkReport.{tallied_of, files_of, faults_of, directories_of, left_out_of, entry_count}
 use Rattle.lc_walk.specs.Assembled.{fault_line}
 use Rattle.lc_walk.specs.TreeOfRows.{numbers_below}
 use Rattle.lc_board.proofs.Weights.{each-map, each-append, flat_map-on}
@@ -25,49 +26,93 @@ pub flat_none : {A B : Type 0} (f : A → List B) (xs : List A) → ((x : A) →
 flat_none f [] e = refl
 flat_none f (x ∷ xs) e = ap (λ l. l ++ flat_map f xs) (e x) ∙ flat_none f xs e
 
-went : {B : Type 0} (g : Found → List B) (j : JobModel) (fates : List (List ℕ × Fate)) → flat_map g (found_of j (listed_level fates))
-    ≡ g (found_directory j.path)
-    ++ (flat_map (λ f. g (found_file j.path f)) (counted_in fates) ++ flat_map (λ x. g (fault_of j.path x)) (failed_in fates))
-went g j fates =
-    ap (λ l. g (found_directory j.path) ++ l)
-    (flat_map-append g (map (found_file j.path) (counted_in fates)) (map (fault_of j.path) (failed_in fates))
-    ∙ ap (λ l. l ++ flat_map g (map (fault_of j.path) (failed_in fates))) (flat_map-map g (found_file j.path) (counted_in fates))
-    ∙ ap (λ l. flat_map (λ f. g (found_file j.path f)) (counted_in fates) ++ l) (flat_map-map g (fault_of j.path) (failed_in fates)))
+-- what is made of all that the entries of a listed directory give, where it is what is made of one part of their fates
+went : {A B : Type 0} (g : Found → List B) (part : List ℕ × Fate → List A) (line : A → B) (d : List ℕ)
+    → ((f : List ℕ × Fate) → flat_map g (found_by d f) ≡ map line (part f)) →
+    (fates : List (List ℕ × Fate)) → flat_map g (flat_map (found_by d) fates) ≡ map line (flat_map part fates)
+went g part line d one [] = refl
+went g part line d one (f ∷ fs) =
+    flat_map-append g (found_by d f) (flat_map (found_by d) fs)
+    ∙ ap (λ l. l ++ flat_map g (flat_map (found_by d) fs)) (one f)
+    ∙ ap (λ l. map line (part f) ++ l) (went g part line d one fs)
+    ∙ sym (map-append line (part f) (flat_map part fs))
+
+tallied_one : (d : List ℕ) (f : List ℕ × Fate) → flat_map tallied_in (found_by d f) ≡ map tallied (counted_of f)
+tallied_one d (name, counted file) = refl
+tallied_one d (name, failed word) = refl
+tallied_one d (name, walked job) = refl
+tallied_one d (name, left kind reason) = refl
 
 -- what a listed directory gives to a tally
 pub tallied_went : (j : JobModel) (fates : List (List ℕ × Fate)) →
     tallied_of (found_of j (listed_level fates)) ≡ map tallied (counted_in fates)
-tallied_went j fates =
-    went tallied_in j fates
-    ∙ ap (λ l. flat_map (λ f. tallied f ∷ []) (counted_in fates) ++ l)
-    (flat_none (λ x. tallied_in (fault_of j.path x)) (failed_in fates) (λ x. refl))
-    ∙ append-nil (flat_map (λ f. tallied f ∷ []) (counted_in fates)) ∙ flat_map_single tallied (counted_in fates)
+tallied_went j fates = went tallied_in counted_of tallied j.path (tallied_one j.path) fates
+
+file_one : (d : List ℕ) (f : List ℕ × Fate) → flat_map file_in (found_by d f) ≡ map (line_of d) (counted_of f)
+file_one d (name, counted file) = refl
+file_one d (name, failed word) = refl
+file_one d (name, walked job) = refl
+file_one d (name, left kind reason) = refl
 
 -- to the lines of files
 pub files_went : (j : JobModel) (fates : List (List ℕ × Fate)) →
     files_of (found_of j (listed_level fates)) ≡ map (line_of j.path) (counted_in fates)
-files_went j fates =
-    went file_in j fates
-    ∙ ap (λ l. flat_map (λ f. line_of j.path f ∷ []) (counted_in fates) ++ l)
-    (flat_none (λ x. file_in (fault_of j.path x)) (failed_in fates) (λ x. refl))
-    ∙ append-nil (flat_map (λ f. line_of j.path f ∷ []) (counted_in fates)) ∙ flat_map_single (line_of j.path) (counted_in fates)
+files_went j fates = went file_in counted_of (line_of j.path) j.path (file_one j.path) fates
+
+fault_one : (d : List ℕ) (f : List ℕ × Fate) → flat_map fault_in (found_by d f) ≡ map (fault_line d) (failed_of f)
+fault_one d (name, counted file) = refl
+fault_one d (name, failed word) = refl
+fault_one d (name, walked job) = refl
+fault_one d (name, left kind reason) = refl
 
 -- to the lines of faults
 pub faults_went : (j : JobModel) (fates : List (List ℕ × Fate)) →
     faults_of (found_of j (listed_level fates)) ≡ map (fault_line j.path) (failed_in fates)
-faults_went j fates =
-    went fault_in j fates
-    ∙ ap (λ l. l ++ flat_map (λ x. fault_line j.path x ∷ []) (failed_in fates))
-    (flat_none (λ f. fault_in (found_file j.path f)) (counted_in fates) (λ f. refl))
-    ∙ flat_map_single (fault_line j.path) (failed_in fates)
+faults_went j fates = went fault_in failed_of (fault_line j.path) j.path (fault_one j.path) fates
+
+left_one : (d : List ℕ) (f : List ℕ × Fate) → flat_map left_out_in (found_by d f) ≡ map (left_line d) (left_of f)
+left_one d (name, counted file) = refl
+left_one d (name, failed word) = refl
+left_one d (name, walked job) = refl
+left_one d (name, left kind reason) = refl
+
+-- to the lines of entries left out
+pub left_went : (j : JobModel) (fates : List (List ℕ × Fate)) →
+    left_out_of (found_of j (listed_level fates)) ≡ map (left_line j.path) (left_in fates)
+left_went j fates = went left_out_in left_of (left_line j.path) j.path (left_one j.path) fates
+
+no_directory : (d : List ℕ) (f : List ℕ × Fate) → flat_map directory_in (found_by d f) ≡ []
+no_directory d (name, counted file) = refl
+no_directory d (name, failed word) = refl
+no_directory d (name, walked job) = refl
+no_directory d (name, left kind reason) = refl
 
 -- to the listed directories
 pub directories_went : (j : JobModel) (fates : List (List ℕ × Fate)) → directories_of (found_of j (listed_level fates)) ≡ j.path ∷ []
 directories_went j fates =
-    went directory_in j fates
-    ∙ ap (λ l. j.path ∷ (l ++ flat_map (λ x. directory_in (fault_of j.path x)) (failed_in fates)))
-    (flat_none (λ f. directory_in (found_file j.path f)) (counted_in fates) (λ f. refl))
-    ∙ ap (λ l. j.path ∷ l) (flat_none (λ x. directory_in (fault_of j.path x)) (failed_in fates) (λ x. refl))
+    ap (λ l. j.path ∷ l) (flat_twice directory_in (found_by j.path) fates
+    ∙ flat_none (λ f. flat_map directory_in (found_by j.path f)) fates (no_directory j.path))
+
+no_entries_by : (d : List ℕ) (f : List ℕ × Fate) → sum_by entries_in (found_by d f) ≡ 0
+no_entries_by d (name, counted file) = refl
+no_entries_by d (name, failed word) = refl
+no_entries_by d (name, walked job) = refl
+no_entries_by d (name, left kind reason) = refl
+
+-- what its entries give has no number of entries of its own
+pub no_entries_within : (d : List ℕ) (fates : List (List ℕ × Fate)) → sum_by entries_in (flat_map (found_by d) fates) ≡ 0
+no_entries_within d [] = refl
+no_entries_within d (f ∷ fs) =
+    omega (arith, sum_by-append entries_in (found_by d f) (flat_map (found_by d) fs), no_entries_by d f, no_entries_within d fs)
+
+-- to the number of entries
+pub entries_went : (j : JobModel) (fates : List (List ℕ × Fate)) → entry_count (found_of j (listed_level fates)) ≡ length fates
+entries_went j fates =
+    omega (
+      arith,
+      sum_by-cons entries_in (found_directory j.path (length fates)) (flat_map (found_by j.path) fates),
+      no_entries_within j.path fates
+    )
 
 -- ---- lists by number
 
@@ -141,3 +186,29 @@ by_number g f xs e =
     (each-map (λ i. i < length xs) (λ i. g i ≡ or_none f (slice_get xs i))
     (λ i b. let r = got_here xs i b in e i r.0 r.1 ∙ ap (or_none f) (sym r.1)) (numbers_below (length xs)) (below_all (length xs)))
     ∙ in_order f xs
+
+-- a sum over numbers, where each gives what its element gives
+pub sums_by_number : {A : Type 0} (g : ℕ → ℕ) (f : A → ℕ) (xs : List A) → ((i : ℕ) (x : A) → slice_get xs i ≡ Some x → g i ≡ f x) →
+    sum_by g (numbers_below (length xs)) ≡ sum_by f xs
+sums_by_number g f xs e =
+    sym (singles g (numbers_below (length xs)))
+    ∙ ap (sum_by (λ n. n)) (by_number (λ i. g i ∷ []) (λ x. f x ∷ []) xs (λ i x is. ap (λ n. n ∷ []) (e i x is)))
+    ∙ singles f xs
+  where
+    singles : {B : Type 0} (h : B → ℕ) (ys : List B) → sum_by (λ n. n) (flat_map (λ y. h y ∷ []) ys) ≡ sum_by h ys
+    singles h [] = refl
+    singles h (y ∷ ys) =
+        sum_by-cons (λ n. n) (h y) (flat_map (λ z. h z ∷ []) ys) ∙ ap (λ n. h y + n) (singles h ys) ∙ sym (sum_by-cons h y ys)
+
+-- a sum over lists of lists
+pub sum_twice : {A B : Type 0} (g : B → ℕ) (f : A → List B) (xs : List A) → sum_by g (flat_map f xs) ≡ sum_by (λ x. sum_by g (f x)) xs
+sum_twice g f [] = refl
+sum_twice g f (x ∷ xs) =
+    sum_by-append g (f x) (flat_map f xs) ∙ ap (λ n. sum_by g (f x) + n) (sum_twice g f xs)
+    ∙ sym (sum_by-cons (λ y. sum_by g (f y)) x xs)
+
+-- lists that are given only where they are asked for
+pub flat_asked : {A B : Type 0} (asked : Bool) (f : A → List B) (xs : List A)
+    → flat_map (λ x. cond asked (f x) []) xs ≡ cond asked (flat_map f xs) []
+flat_asked true f xs = refl
+flat_asked false f xs = flat_none (λ x. []) xs (λ x. refl)

@@ -1,107 +1,181 @@
 -- No path stands twice in the lines of a report.
-use Rattle.std.proofs.Common.{◌≡◌, ◌≢◌, ℕ, false, List, [], ◌∷◌, ◌++◌, map, refl, sym, ◌∙◌, ap, subst, inl, inr, IsPermutation}
+use Rattle.std.proofs.Common.{◌≡◌, ◌≢◌, ℕ, Bool, true, false, cond, List, [], ◌∷◌, ◌++◌, map, refl, sym, ◌∙◌, ap, subst, IsPermutation}
 use Rattle.std.specs.List.{flat_map, IsDistinct, AllByRecursion}
 use Rattle.std.specs.Ordering.{eq_by_cmp}
 use Rattle.std.proofs.lemmas.Cmp.{nat_list_cmp_total, eq_by_cmp_equiv}
+use Rattle.std.proofs.lemmas.List.Sorted.{IsPermutation-append, IsPermutation-map}
 use Rattle.std.proofs.lemmas.Map.Keys.{IsDistinct-IsPermutation}
 use Rattle.std.proofs.lemmas.Map.Text.{is_eq-slice_cmp}
-use Rattle.lc_walk.specs.ReportLines.{FileLineModel, file_paths, fault_paths}
-use Rattle.lc_level.specs.FaultLines.{FaultLineModel}
 use Rattle.lc_tree.specs.ByteOrder.{bytes_cmp, AreApart}
-use Rattle.lc_glob.specs.Path.{path_in}
-use Rattle.lc_level.specs.Level.{CountedModel, FileFaultModel, level_of_items, fates_of}
-use Rattle.lc_level.specs.Selection.{SelectionModel}
-use Rattle.lc_walk.specs.Found.{Found, found_of}
-use Rattle.lc_walk.specs.Walk.{walk_of}
-use Rattle.lc_walk.specs.WalkReport.{line_of, file_in, fault_in, files_of, faults_of}
-use Rattle.lc_walk.specs.Assembled.{fault_line}
+use Rattle.lc_level.specs.FaultLines.{FaultLineModel}
+use Rattle.lc_level.proofs.Tidy.{other_bytes, bytes_other}
+use Rattle.lc_board.proofs.Weights.{each-append}
+use Rattle.lc_walk.specs.Found.{Found, found_file, found_fault, found_directory, found_left, path_of}
 use Rattle.lc_walk.specs.Laws.{PathsOnceLaw}
-use Rattle.lc_walk.proofs.Moves.{lists_moved}
-use Rattle.lc_level.proofs.Fates.{files_by, faults_by, counted_items_are, failed_items_are}
-use Rattle.lc_level.proofs.Tidy.{other_bytes}
-use Rattle.lc_walk.proofs.PathsOnce.{Distinct, Kind, fine, counts_it, fails_it, count_never, fail_never, by_item, counted_name}
-use Rattle.lc_walk.proofs.PathsOnce.{fault_name, map_append}
-use Rattle.lc_walk.proofs.Listings.{files_went, faults_went}
+use Rattle.lc_walk.specs.ReportLines.{FileLineModel, LeftLineModel, file_paths, fault_paths, left_paths}
+use Rattle.lc_walk.specs.Walk.{walk_of}
+use Rattle.lc_walk.specs.WalkReport.{file_in, fault_in, left_out_in, files_of, faults_of, left_out_of, IsReportOf}
+use Rattle.lc_walk.specs.declared.options.Lists.{Lists}
+use Rattle.lc_walk.specs.declared.report.Report.{Report}
+use Rattle.lc_walk.proofs.Distinct.{Distinct, distinct-append, picked, picked_distinct, picked_apart}
+use Rattle.lc_walk.proofs.Listings.{flat_none}
+use Rattle.lc_walk.proofs.PathsOnce.{fine}
 
 apart_all : (x : List ℕ) (ys : List (List ℕ)) → AllByRecursion (λ y. x ≢ y) ys → AllByRecursion (λ y. eq_by_cmp bytes_cmp x y ≡ false) ys
 apart_all x [] a = tt
 apart_all x (y ∷ ys) a = (is_eq-slice_cmp x y ∙ other_bytes x y a.0, apart_all x ys a.1)
 
 -- paths of which no two are equal stand apart
-pub apart_from_distinct : (xs : List (List ℕ)) → Distinct xs → AreApart xs
+apart_from_distinct : (xs : List (List ℕ)) → Distinct xs → AreApart xs
 unfolding IsDistinct
 apart_from_distinct [] d = tt
 apart_from_distinct (x ∷ xs) d = (apart_all x xs d.0, apart_from_distinct xs d.1)
 
+others : (x : List ℕ) (ys : List (List ℕ)) → AllByRecursion (λ y. eq_by_cmp bytes_cmp x y ≡ false) ys → AllByRecursion (λ y. x ≢ y) ys
+others x [] a = tt
+others x (y ∷ ys) a = (bytes_other x y (sym (is_eq-slice_cmp x y) ∙ a.0), others x ys a.1)
+
+-- and of paths that stand apart no two are equal
+distinct_from_apart : (xs : List (List ℕ)) → AreApart xs → Distinct xs
+unfolding IsDistinct
+distinct_from_apart [] a = tt
+distinct_from_apart (x ∷ xs) a = (others x xs a.0, distinct_from_apart xs a.1)
+
 -- in any order
-pub apart_moved : (xs ys : List (List ℕ)) → IsPermutation xs ys → AreApart xs → AreApart ys
+apart_moved : (xs ys : List (List ℕ)) → IsPermutation xs ys → AreApart xs → AreApart ys
 apart_moved xs ys = IsDistinct-IsPermutation _ ((eq_by_cmp_equiv nat_list_cmp_total).symm) xs ys
-
-map_flat : {A B C : Type 0} (f : B → C) (g : A → List B) (xs : List A) → map f (flat_map g xs) ≡ flat_map (λ x. map f (g x)) xs
-map_flat f g [] = refl
-map_flat f g (x ∷ xs) = map_append f (g x) (flat_map g xs) ∙ ap (λ l. map f (g x) ++ l) (map_flat f g xs)
-
-map_map : {A B C : Type 0} (g : B → C) (f : A → B) (xs : List A) → map g (map f xs) ≡ map (λ x. g (f x)) xs
-map_map g f [] = refl
-map_map g f (x ∷ xs) = ap (λ l. g (f x) ∷ l) (map_map g f xs)
-
-abbrev file_path : Found → List (List ℕ)
-file_path x = map (λ (f : FileLineModel). f.path) (file_in x)
-
-abbrev fault_path : Found → List (List ℕ)
-fault_path x = map (λ (f : FaultLineModel). f.path) (fault_in x)
-
--- the paths of the file lines are those of the found files
-pub file_paths_are : (xs : List Found) → file_paths (files_of xs) ≡ flat_map file_path xs
-file_paths_are xs = map_flat (λ (f : FileLineModel). f.path) file_in xs
-
--- and those of the fault lines are those of the faults
-pub fault_paths_are : (xs : List Found) → fault_paths (faults_of xs) ≡ flat_map fault_path xs
-fault_paths_are xs = map_flat (λ (f : FaultLineModel). f.path) fault_in xs
-
-file_kind : (selection : SelectionModel) → Kind selection file_path (counts_it selection)
-file_kind selection = record {
-  own = λ j es.
-      sym (file_paths_are (found_of j (level_of_items selection es j)))
-      ∙ ap file_paths (files_went j (fates_of selection j es) ∙ ap (map (line_of j.path)) (counted_items_are selection j es))
-      ∙ map_map (λ (f : FileLineModel). f.path) (line_of j.path) (flat_map (files_by selection j) es)
-      ∙ sym (map_map (path_in j.path) (λ (f : CountedModel). f.name) (flat_map (files_by selection j) es))
-      ∙ ap (map (path_in j.path)) (by_item (λ (f : CountedModel). f.name) (files_by selection j) (counts_it selection j)
-      (counted_name selection j) es);
-  fault = λ j p w. inl refl;
-  never = count_never selection;
-}
-
-fault_kind : (selection : SelectionModel) → Kind selection fault_path (fails_it selection)
-fault_kind selection = record {
-  own = λ j es.
-      sym (fault_paths_are (found_of j (level_of_items selection es j)))
-      ∙ ap fault_paths (faults_went j (fates_of selection j es) ∙ ap (map (fault_line j.path)) (failed_items_are selection j es))
-      ∙ map_map (λ (f : FaultLineModel). f.path) (fault_line j.path) (flat_map (faults_by selection j) es)
-      ∙ sym (map_map (path_in j.path) (λ (f : FileFaultModel). f.name) (flat_map (faults_by selection j) es))
-      ∙ ap (map (path_in j.path)) (by_item (λ (f : FileFaultModel). f.name) (faults_by selection j) (fails_it selection j)
-      (fault_name selection j) es);
-  fault = λ j p w. inr refl;
-  never = fail_never selection;
-}
 
 -- no path stands twice in a walk
 pub paths_once_law : PathsOnceLaw
-paths_once_law selection depth j t tidy = (
-  subst AreApart (sym (file_paths_are (walk_of selection depth j t)))
-      (apart_from_distinct _ (fine selection file_path (counts_it selection) (file_kind selection) depth j t tidy).1),
-  subst AreApart (sym (fault_paths_are (walk_of selection depth j t)))
-      (apart_from_distinct _ (fine selection fault_path (fails_it selection) (fault_kind selection) depth j t tidy).1),
-)
+paths_once_law selection depth j t tidy = apart_from_distinct (map path_of (walk_of selection depth j t)) (fine selection depth j t tidy).1
 
--- lists of lines that moved
-pub file_lines_apart : (xs ys : List Found) → IsPermutation xs ys → AreApart (file_paths (files_of xs))
-    → AreApart (file_paths (files_of ys))
-file_lines_apart xs ys moved a =
-    subst AreApart (sym (file_paths_are ys)) (apart_moved _ _ (lists_moved file_path xs ys moved) (subst AreApart (file_paths_are xs) a))
+-- nor in what was found in another order
+pub found_apart : (xs ys : List Found) → IsPermutation xs ys → AreApart (map path_of xs) → AreApart (map path_of ys)
+found_apart xs ys moved a = apart_moved (map path_of xs) (map path_of ys) (IsPermutation-map path_of xs ys moved) a
 
--- nor in a report with the same faults in another order
-pub fault_lines_apart : (xs ys : List Found) → IsPermutation xs ys → AreApart (fault_paths (faults_of xs))
-    → AreApart (fault_paths (faults_of ys))
-fault_lines_apart xs ys moved a =
-    subst AreApart (sym (fault_paths_are ys)) (apart_moved _ _ (lists_moved fault_path xs ys moved) (subst AreApart (fault_paths_are xs) a))
+-- ---- the lists of a report
+
+abbrev is_file : Bool → Found → Bool
+is_file asked (found_file directory f) = asked
+is_file asked (found_fault path word) = false
+is_file asked (found_directory path entries) = false
+is_file asked (found_left directory l) = false
+
+abbrev is_fault : Found → Bool
+is_fault (found_file directory f) = false
+is_fault (found_fault path word) = true
+is_fault (found_directory path entries) = false
+is_fault (found_left directory l) = false
+
+abbrev is_left : Bool → Found → Bool
+is_left asked (found_file directory f) = false
+is_left asked (found_fault path word) = false
+is_left asked (found_directory path entries) = false
+is_left asked (found_left directory l) = asked
+
+none_picked : (xs : List Found) (keep : Found → Bool) → ((x : Found) → keep x ≡ false) → picked path_of keep xs ≡ []
+none_picked xs keep none = flat_none (λ x. cond (keep x) (path_of x ∷ []) []) xs (λ x. ap (λ b. cond b (path_of x ∷ []) []) (none x))
+
+no_file : (x : Found) → is_file false x ≡ false
+no_file (found_file directory f) = refl
+no_file (found_fault path word) = refl
+no_file (found_directory path entries) = refl
+no_file (found_left directory l) = refl
+
+no_left : (x : Found) → is_left false x ≡ false
+no_left (found_file directory f) = refl
+no_left (found_fault path word) = refl
+no_left (found_directory path entries) = refl
+no_left (found_left directory l) = refl
+
+-- the paths of a list of lines are those of the things that have a line
+file_paths_are : (asked : Bool) (xs : List Found) → file_paths (cond asked (files_of xs) []) ≡ picked path_of (is_file asked) xs
+file_paths_are false xs = sym (none_picked xs (is_file false) no_file)
+file_paths_are true [] = refl
+file_paths_are true (found_file directory f ∷ xs) = ap (λ l. path_of (found_file directory f) ∷ l) (file_paths_are true xs)
+file_paths_are true (found_fault path word ∷ xs) = file_paths_are true xs
+file_paths_are true (found_directory path entries ∷ xs) = file_paths_are true xs
+file_paths_are true (found_left directory l ∷ xs) = file_paths_are true xs
+
+fault_paths_are : (xs : List Found) → fault_paths (faults_of xs) ≡ picked path_of is_fault xs
+fault_paths_are [] = refl
+fault_paths_are (found_file directory f ∷ xs) = fault_paths_are xs
+fault_paths_are (found_fault path word ∷ xs) = ap (λ l. path ∷ l) (fault_paths_are xs)
+fault_paths_are (found_directory path entries ∷ xs) = fault_paths_are xs
+fault_paths_are (found_left directory l ∷ xs) = fault_paths_are xs
+
+left_paths_are : (asked : Bool) (xs : List Found) → left_paths (cond asked (left_out_of xs) []) ≡ picked path_of (is_left asked) xs
+left_paths_are false xs = sym (none_picked xs (is_left false) no_left)
+left_paths_are true [] = refl
+left_paths_are true (found_file directory f ∷ xs) = left_paths_are true xs
+left_paths_are true (found_fault path word ∷ xs) = left_paths_are true xs
+left_paths_are true (found_directory path entries ∷ xs) = left_paths_are true xs
+left_paths_are true (found_left directory l ∷ xs) = ap (λ ls. path_of (found_left directory l) ∷ ls) (left_paths_are true xs)
+
+file_no_fault : (asked : Bool) (x : Found) → is_file asked x ≡ true → is_fault x ≡ true → ⊥
+file_no_fault asked (found_file directory f) a b = cc
+file_no_fault asked (found_fault path word) a b = cc
+file_no_fault asked (found_directory path entries) a b = cc
+file_no_fault asked (found_left directory l) a b = cc
+
+file_no_left : (asked other : Bool) (x : Found) → is_file asked x ≡ true → is_left other x ≡ true → ⊥
+file_no_left asked other (found_file directory f) a b = cc
+file_no_left asked other (found_fault path word) a b = cc
+file_no_left asked other (found_directory path entries) a b = cc
+file_no_left asked other (found_left directory l) a b = cc
+
+fault_no_left : (asked : Bool) (x : Found) → is_fault x ≡ true → is_left asked x ≡ true → ⊥
+fault_no_left asked (found_file directory f) a b = cc
+fault_no_left asked (found_fault path word) a b = cc
+fault_no_left asked (found_directory path entries) a b = cc
+fault_no_left asked (found_left directory l) a b = cc
+
+module _ (xs : List Found) (once : AreApart (map path_of xs)) where
+  distinct : Distinct (map path_of xs)
+  distinct = distinct_from_apart (map path_of xs) once
+
+  one_list : (keep : Found → Bool) (ps : List (List ℕ)) → ps ≡ picked path_of keep xs → AreApart ps
+  one_list keep ps is = subst AreApart (sym is) (apart_from_distinct _ (picked_distinct path_of keep xs distinct))
+
+  -- no path stands twice among the files
+  pub file_list_apart : (asked : Bool) → AreApart (file_paths (cond asked (files_of xs) []))
+  file_list_apart asked = one_list (is_file asked) _ (file_paths_are asked xs)
+
+  -- nor among the faults
+  pub fault_list_apart : AreApart (fault_paths (faults_of xs))
+  fault_list_apart = one_list is_fault _ (fault_paths_are xs)
+
+  -- nor among the entries left out
+  pub left_list_apart : (asked : Bool) → AreApart (left_paths (cond asked (left_out_of xs) []))
+  left_list_apart asked = one_list (is_left asked) _ (left_paths_are asked xs)
+
+  three_lists : (lists : Lists) → Distinct (picked path_of (is_file lists.files) xs ++ picked path_of is_fault xs
+      ++ picked path_of (is_left lists.left_out) xs)
+  three_lists lists =
+      let files = picked path_of (is_file lists.files) xs in
+      let faults = picked path_of is_fault xs in
+      let out = picked path_of (is_left lists.left_out) xs in
+      distinct-append (files ++ faults) out
+      (distinct-append files faults (picked_distinct path_of (is_file lists.files) xs distinct) (picked_distinct path_of is_fault xs distinct)
+      (picked_apart path_of (is_file lists.files) is_fault (file_no_fault lists.files) xs distinct))
+      (picked_distinct path_of (is_left lists.left_out) xs distinct)
+      (each-append (λ m. AllByRecursion (λ n. m ≢ n) out) files faults
+      (picked_apart path_of (is_file lists.files) (is_left lists.left_out) (file_no_left lists.files lists.left_out) xs distinct)
+      (picked_apart path_of is_fault (is_left lists.left_out) (fault_no_left lists.left_out) xs distinct))
+
+  -- nor in two of these lists of a report
+  pub all_lists_apart : (lists : Lists) (r : Report) → IsReportOf lists xs r
+      → AreApart (file_paths r.files.items ++ fault_paths r.faults.items ++ left_paths r.left.items)
+  all_lists_apart lists r is =
+      apart_moved _ _
+      (IsPermutation-append _ _ _ _
+      (IsPermutation-append _ _ _ _ (IsPermutation-map (λ (f : FileLineModel). f.path) _ _ is.files_are)
+      (IsPermutation-map (λ (f : FaultLineModel). f.path) _ _ is.faults_are))
+      (IsPermutation-map (λ (l : LeftLineModel). l.path) _ _ is.left_are))
+      (subst AreApart
+      (ap (λ l. l ++ picked path_of is_fault xs ++ picked path_of (is_left lists.left_out) xs) (sym (file_paths_are lists.files xs))
+      ∙ ap (λ l. file_paths (cond lists.files (files_of xs) []) ++ l ++ picked path_of (is_left lists.left_out) xs)
+      (sym (fault_paths_are xs))
+      ∙ ap (λ l. file_paths (cond lists.files (files_of xs) []) ++ fault_paths (faults_of xs) ++ l)
+      (sym (left_paths_are lists.left_out xs)))
+      (apart_from_distinct _ (three_lists lists)))

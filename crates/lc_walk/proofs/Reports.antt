@@ -1,9 +1,11 @@
 -- A report tells nothing of the order in which things were found.
 use Rattle.std.proofs.Common.{Bool, true, false, cond, List, [], sym, ◌∙◌, IsPermutation}
 use Rattle.std.proofs.lemmas.List.Sorted.{IsPermutation-sym, IsPermutation-trans, IsPermutation-refl, length_permutation}
+use Rattle.std.proofs.lemmas.List.Sorted.{sum_by-IsPermutation}
 use Rattle.lc_walk.specs.Tally.{TallyModel, StandsFor}
 use Rattle.lc_walk.proofs.Joining.{stands_permuted}
-use Rattle.lc_walk.specs.WalkReport.{tallied_in, file_in, fault_in, directory_in, tallied_of, files_of, directories_of, ReportLaw}
+use Rattle.lc_walk.specs.WalkReport.{tallied_in, file_in, fault_in, directory_in, left_out_in, entries_in, tallied_of, files_of}
+use Rattle.lc_walk.specs.WalkReport.{directories_of, left_out_of, ReportLaw}
 use Rattle.lc_walk.proofs.Moves.{lists_moved}
 
 cond_moved : {A : Type 0} (b : Bool) (xs ys : List A) → IsPermutation xs ys → IsPermutation (cond b xs []) (cond b ys [])
@@ -12,18 +14,23 @@ cond_moved false xs ys m = IsPermutation-refl []
 
 -- reports of what was found in any order are the same
 pub report_law : ReportLaw
-report_law files xs ys r moved is =
+report_law lists xs ys r moved is =
     let held : TallyModel = record { rows = r.rows.items; totals = r.totals } in
     let stood : StandsFor held (tallied_of xs) = record { tally = is.tally; totals = is.totals } in
     let stands = stands_permuted held (tallied_of xs) (tallied_of ys) (lists_moved tallied_in xs ys moved) stood in
     record {
+      lists_are = is.lists_are;
       tally = stands.tally;
       totals = stands.totals;
       directories =
           is.directories ∙ sym (length_permutation (directories_of xs) (directories_of ys) (lists_moved directory_in xs ys moved));
+      entries = is.entries ∙ sym (sum_by-IsPermutation entries_in xs ys moved);
       files_are = IsPermutation-trans _ _ _ (IsPermutation-sym _ _
-          (cond_moved files (files_of xs) (files_of ys) (lists_moved file_in xs ys moved))) is.files_are;
+          (cond_moved lists.files (files_of xs) (files_of ys) (lists_moved file_in xs ys moved))) is.files_are;
       file_order = is.file_order;
       faults_are = IsPermutation-trans _ _ _ (IsPermutation-sym _ _ (lists_moved fault_in xs ys moved)) is.faults_are;
       fault_order = is.fault_order;
+      left_are = IsPermutation-trans _ _ _ (IsPermutation-sym _ _
+          (cond_moved lists.left_out (left_out_of xs) (left_out_of ys) (lists_moved left_out_in xs ys moved))) is.left_are;
+      left_order = is.left_order;
     }

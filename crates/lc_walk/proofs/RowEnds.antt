@@ -15,7 +15,8 @@ use Rattle.lc_level.specs.Answers.{Answers, no_answers}
 use Rattle.lc_level.specs.CountedNames.{IsCounted}
 use Rattle.lc_level.specs.Job.{JobModel}
 use Rattle.lc_level.specs.LeftIn.{bytes_of}
-use Rattle.lc_level.specs.Level.{IsLevelOf, level, walked_in}
+use Rattle.lc_level.specs.Laws.{parts_with}
+use Rattle.lc_level.specs.Level.{LevelParts, IsLevelOf, level, walked_in}
 use Rattle.lc_level.specs.Opens.{IsOpened, OpensLevel}
 use Rattle.lc_level.specs.Tidy.{IsTidy}
 use Rattle.lc_level.specs.TreeAnswers.{MayAnswer}
@@ -64,7 +65,7 @@ module _ (ask : Asked) (lists : List ℕ → Listings) (gives : List ℕ → Con
   serves_unasked p j t h = works_give ask (MayAnswer lists gives) p _ no_answers t None (memory_end p j h) (λ fs s. tt) (λ e. inl refl)
 
   unopened_end : (p : Pass JobModel Row) (j : JobModel) (c : Cause) → HoldsJob j p
-      → OpensLevel lists gives ask.selection j (Err (unlisted.Broken c)) → (a : Answers) × Lawful p j c a
+      → OpensLevel lists gives ask.lists.left_out ask.selection j (Err (unlisted.Broken c)) → (a : Answers) × Lawful p j c a
   unopened_end p j Memory h o = (no_answers, memory_end p j h)
   unopened_end p j TooManyDirs h o = absurd o
   unopened_end p j TooDeep h o = (
@@ -80,14 +81,14 @@ module _ (ask : Asked) (lists : List ℕ → Listings) (gives : List ℕ → Con
   -- a directory that was given up before it was opened
   pub serves_unopened : (p : Pass JobModel Row) (j : JobModel) (c : Cause) (t : TallyModel) (result : Result (Unit {0}) AllocError)
       → HoldsJob j p →
-      OpensLevel lists gives ask.selection j (Err (unlisted.Broken c)) → GivesUp c result →
+      OpensLevel lists gives ask.lists.left_out ask.selection j (Err (unlisted.Broken c)) → GivesUp c result →
       Serves ask (MayAnswer lists gives) p (after_give p (Broken (record { job = j; cause = c }))) t t result
   serves_unopened p j c t result h o g = let e = unopened_end p j c h o in serves_broken ask (MayAnswer lists gives) p j c e.0 t t
       result e.1 g (λ n. refl)
 
   -- a directory at fault
   pub serves_faulted : (p : Pass JobModel Row) (j : JobModel) (place : Place) (word : FaultWord) (t : TallyModel) → HoldsJob j p →
-      OpensLevel lists gives ask.selection j (Err (unlisted.Faulted place word)) →
+      OpensLevel lists gives ask.lists.left_out ask.selection j (Err (unlisted.Faulted place word)) →
       GoesOn ask (MayAnswer lists gives) p (after_fault p (Faulted (record { job = j; place = place; word = word }))) (Some t) (Some t)
   serves_faulted p j place word t h o = works_fault ask (MayAnswer lists gives) p _ o.0 (Some t) (record {
     job_is = h.job_is;
@@ -97,9 +98,10 @@ module _ (ask : Asked) (lists : List ℕ → Listings) (gives : List ℕ → Con
   })
 
   -- a directory was opened, and child directories were posted
-  module _ (p q : Pass JobModel Row) (j : JobModel) (o : Opened) (h : HoldsJob j p) (c : IsOpened lists gives ask.selection j o) where
-    same_children : children_at ask.selection j c.answers ≡ o.children.items
-    same_children = let l = opened_level lists gives ask.selection j o c in ap children_of l.listed ∙ l.walks
+  module _ (p q : Pass JobModel Row) (j : JobModel) (o : Opened) (h : HoldsJob j p)
+      (c : IsOpened lists gives ask.lists.left_out ask.selection j o) where
+    same_children : children_at ask.selection j c.inside.answers ≡ o.children.items
+    same_children = let l = opened_level lists gives ask.lists.left_out ask.selection j o c in ap children_of l.listed ∙ l.walks
 
     job_now : (jobs : List JobModel) → HasPosted p q jobs → job_held q.mine ≡ Some j
     job_now jobs x = ap job_held x.mine ∙ job_stays x.since p.mine x.only ∙ h.job_is
@@ -107,18 +109,18 @@ module _ (ask : Asked) (lists : List ℕ → Listings) (gives : List ℕ → Con
     posts_now : (jobs : List JobModel) (x : HasPosted p q jobs) → posts_held q.mine ≡ posts_held x.since
     posts_now jobs x = ap posts_held x.mine ∙ posts_come x.since p.mine x.only ∙ ap (λ ps. ps ++ posts_held x.since) h.none
 
-    broken_end : (cause : Cause) (n : ℕ) → HasPosted p q (take n (jobs_of o.children.items)) → IsCause ask q.full j c.answers cause
-        → Lawful q j cause c.answers
+    broken_end : (cause : Cause) (n : ℕ) → HasPosted p q (take n (jobs_of o.children.items)) → IsCause ask q.full j c.inside.answers cause
+        → Lawful q j cause c.inside.answers
     broken_end cause n x is = record {
       job_is = job_now _ x;
-      tidy = c.tidy;
+      tidy = c.inside.tidy;
       says = record {
         posted = n;
         posts_are = ap jobs_of (posts_now _ x) ∙ x.jobs_are ∙ ap (λ cs. take n (jobs_of cs))
             (sym same_children);
         cause_is = is;
       };
-      may = inr c.may;
+      may = inr c.inside.may;
     }
 
     -- not all were posted
@@ -127,10 +129,10 @@ module _ (ask : Asked) (lists : List ℕ → Listings) (gives : List ℕ → Con
         Serves ask (MayAnswer lists gives) p (after_give q (Broken (record { job = j; cause = cause }))) t t result
     serves_refused Memory t result x g =
         then_serves ask (MayAnswer lists gives) p q _ t t result (works_posts ask (MayAnswer lists gives) p q _ (Some t) x.1)
-        (serves_broken ask (MayAnswer lists gives) q j Memory c.answers t t result (broken_end Memory x.0 x.1 tt) g (λ n. refl))
+        (serves_broken ask (MayAnswer lists gives) q j Memory c.inside.answers t t result (broken_end Memory x.0 x.1 tt) g (λ n. refl))
     serves_refused TooManyDirs t result x g =
         then_serves ask (MayAnswer lists gives) p q _ t t result (works_posts ask (MayAnswer lists gives) p q _ (Some t) x.1)
-        (serves_broken ask (MayAnswer lists gives) q j TooManyDirs c.answers t t result (broken_end TooManyDirs x.0 x.1 x.2) g (λ n. refl))
+        (serves_broken ask (MayAnswer lists gives) q j TooManyDirs c.inside.answers t t result (broken_end TooManyDirs x.0 x.1 x.2) g (λ n. refl))
     serves_refused TooDeep t result x g = absurd x
 
     -- all were posted, and then memory was refused
@@ -140,26 +142,34 @@ module _ (ask : Asked) (lists : List ℕ → Listings) (gives : List ℕ → Con
     serves_uncounted t u result x g =
         let all = subst (HasPosted p q) (sym (take-length (jobs_of o.children.items))) x in
         then_serves ask (MayAnswer lists gives) p q _ t u result (works_posts ask (MayAnswer lists gives) p q _ (Some t) x)
-        (serves_broken ask (MayAnswer lists gives) q j Memory c.answers t u result (broken_end Memory _ all tt) g (λ n. absurd (n refl)))
+        (serves_broken ask (MayAnswer lists gives) q j Memory c.inside.answers t u result (broken_end Memory _ all tt) g (λ n. absurd (n refl)))
+
+    -- a row that has what was opened, counted and posted
+    pub record IsRowOf (row : ListedRowModel) (found : CountedFiles) (posts : List (ℕ × JobModel)) : Type 0 where
+      pub job : row.job ≡ j
+      pub entries : row.entries ≡ o.entries
+      pub files : row.files ≡ cond ask.lists.files found.files.items []
+      pub faults : row.faults ≡ found.faults.items
+      pub left : row.left ≡ o.left.items
+      pub children : row.children ≡ named o.children.items posts
 
     -- and its files were counted
     pub serves_listed : (found : CountedFiles) (t u : TallyModel) (row : ListedRowModel) (x : HasPosted p q (jobs_of o.children.items))
         → IsCounted gives o.job (bytes_of o.files.items) found →
-        AddsFiles (map tallied found.files.items) t u (Ok tt) →
-        row.job ≡ j → row.files ≡ cond ask.files found.files.items [] → row.faults ≡ found.faults.items
-        → row.children ≡ named o.children.items (posts_held x.since) →
+        AddsFiles (map tallied found.files.items) t u (Ok tt) → IsRowOf row found (posts_held x.since) →
         GoesOn ask (MayAnswer lists gives) p (after_give q (Listed row)) (Some t) (Some u)
-    serves_listed found t u row x f adds job files faults children first w =
+    serves_listed found t u row x f adds is first w =
         works_give ask (MayAnswer lists gives) q (Listed row) counted.0 (Some t) (Some u) lawful gains (λ e. absurd (cc e)) first
         (works_posts ask (MayAnswer lists gives) p q _ (Some t) x first w)
       where
-        counted : (a : Answers) × MayAnswer lists gives j.path a × IsTidy a
-            × IsLevelOf (level ask.selection j a) found.files.items found.faults.items o.children.items
-        counted = counted_level lists gives ask.selection j o c found f
+        abbrev parts : LevelParts
+        parts = parts_with o found.files.items found.faults.items
 
-        here : IsLevelOf (level ask.selection row.job counted.0) found.files.items found.faults.items o.children.items
-        here = subst (λ k. IsLevelOf (level ask.selection k counted.0) found.files.items found.faults.items o.children.items)
-            (sym job) counted.3
+        counted : (a : Answers) × MayAnswer lists gives j.path a × IsTidy a × IsLevelOf (level ask.selection j a) ask.lists.left_out parts
+        counted = counted_level lists gives ask.lists.left_out ask.selection j o c found f
+
+        here : IsLevelOf (level ask.selection row.job counted.0) ask.lists.left_out parts
+        here = subst (λ k. IsLevelOf (level ask.selection k counted.0) ask.lists.left_out parts) (sym is.job) counted.3
 
         own_files : files_at ask.selection row.job counted.0 ≡ found.files.items
         own_files = ap counted_files here.listed ∙ here.counts
@@ -167,18 +177,20 @@ module _ (ask : Asked) (lists : List ℕ → Listings) (gives : List ℕ → Con
         lawful : IsLawfulEnd ask q.full (MayAnswer lists gives) (job_held q.mine) (posts_held q.mine) (ended.Returned (Listed row))
             counted.0
         lawful = record {
-          job_is = job_now _ x ∙ ap Some (sym job);
+          job_is = job_now _ x ∙ ap Some (sym is.job);
           tidy = counted.2;
           says = record {
             fates = here.fates;
             level_is = here.listed;
-            files_are = files ∙ ap (λ fs. cond ask.files fs []) (sym here.counts);
-            faults_are = faults ∙ sym here.fails;
+            entries_are = is.entries ∙ sym here.numbers;
+            files_are = is.files ∙ ap (λ fs. cond ask.lists.files fs []) (sym here.counts);
+            faults_are = is.faults ∙ sym here.fails;
+            left_are = is.left ∙ sym here.leaves;
             posts_are = ap jobs_of (posts_now _ x) ∙ x.jobs_are ∙ ap jobs_of (sym here.walks);
-            children_are = children ∙ ap (λ cs. named cs (posts_held x.since)) (sym here.walks)
+            children_are = is.children ∙ ap (λ cs. named cs (posts_held x.since)) (sym here.walks)
                 ∙ ap (named (walked_in here.fates)) (sym (posts_now _ x));
           };
-          may = inr (subst (λ (k : JobModel). MayAnswer lists gives k.path counted.0) (sym job) counted.1);
+          may = inr (subst (λ (k : JobModel). MayAnswer lists gives k.path counted.0) (sym is.job) counted.1);
         }
 
         gains : (fs : List CountedFile) → StandsFor t fs → StandsFor u (map tallied (files_at ask.selection row.job counted.0) ++ fs)

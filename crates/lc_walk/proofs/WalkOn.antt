@@ -80,11 +80,11 @@ module _ (ask : Asked) (MayAnswer : List ℕ → Answers → Type 0) (capacity w
         lawful i e is).0.says b
 
     pub assembled_walk : (t : TallyModel) → StandsFor t (files_of_passes ask given passes) → (result : Result Report WalkFault)
-        → Assembles ask.files t rows result →
+        → Assembles ask.lists t rows result →
         WalkAnswers MayAnswer ask capacity workers top promises result
     assembled_walk t stood (Ok r) a = λ keeps.
         report_of_walk ask MayAnswer capacity workers top promises passes rows room keeps count settled given lawful a.whole at_top t
-        stood r a.report
+        stood a.found a.told r a.report
     assembled_walk t stood (Err fault.Memory) a = tt
     assembled_walk t stood (Err fault.TooManyDirs) a = λ keeps fills.
         let is_full = cause_here keeps TooManyDirs a.0.0 a.0.1.0 a.0.1.1 a.0.1.2 in

@@ -1,17 +1,19 @@
 -- What is made of the rows of a closed board.
-use Rattle.std.specs.Prelude.{◌≡◌, ℕ, zero, suc, ◌<◌, Bool, cond, List, [], ◌∷◌, length, map, flat_map, slice_get, Some, Result, Ok, Err}
+use Rattle.std.specs.Prelude.{◌≡◌, ℕ, zero, suc, ◌<◌, List, [], ◌∷◌, length, map, flat_map, sum_by, slice_get, Some, Result, Ok, Err}
 use Rattle.lc_board.specs.declared.answers.Ended.{Ended}
 use Rattle.lc_walk.specs.Tally.{TallyModel}
-use Rattle.lc_walk.specs.ReportLines.{FileLineModel}
+use Rattle.lc_walk.specs.ReportLines.{FileLineModel, LeftLineModel}
 use Rattle.lc_level.specs.FaultLines.{FaultLineModel}
 use Rattle.lc_walk.specs.Report.{IsReport}
+use Rattle.lc_walk.specs.declared.options.Lists.{Lists}
 use Rattle.lc_walk.specs.declared.report.Report.{Report}
+use Rattle.lc_walk.specs.declared.report.findings.Findings.{Findings}
 use Rattle.lc_glob.specs.Path.{path_in}
 use Rattle.lc_level.specs.Level.{FileFaultModel}
 use Rattle.lc_walk.specs.RowViews.{ChildModel}
 use Rattle.lc_walk.specs.Rows.{row_of, job_of, children_in}
 use Rattle.lc_level.specs.PlacePaths.{place_path}
-use Rattle.lc_walk.specs.WalkReport.{line_of}
+use Rattle.lc_walk.specs.WalkReport.{line_of, left_line}
 use Rattle.lc_walk.specs.Walked.{AreWhole}
 use Rattle.lc_level.specs.declared.cause.Cause.{Cause}
 use Rattle.lc_level.specs.declared.cause.Cause.TheVariants.{Memory, TooManyDirs, TooDeep}
@@ -40,15 +42,39 @@ faults_by_row (Listed r) = map (fault_line r.job.path) r.faults
 faults_by_row (Faulted r) = record { path = place_path r.job.path r.place; word = r.word } ∷ []
 faults_by_row (Broken r) = []
 
--- the listed directories, the stored lines of files, the lines of faults
+abbrev pub left_by_row : Row → List LeftLineModel
+left_by_row (Listed r) = map (left_line r.job.path) r.left
+left_by_row (Faulted r) = []
+left_by_row (Broken r) = []
+
+abbrev pub entries_by_row : Row → ℕ
+entries_by_row (Listed r) = r.entries
+entries_by_row (Faulted r) = 0
+entries_by_row (Broken r) = 0
+
+-- the listed directories, the number of their entries, the stored lines of files, the lines of faults, those of entries left out
 abbrev pub directories_in_rows : List (Ended Row) → List (List ℕ)
 directories_in_rows rows = flat_map (λ e. directories_by_row (row_of e)) rows
+
+abbrev pub entries_in_rows : List (Ended Row) → ℕ
+entries_in_rows rows = sum_by (λ e. entries_by_row (row_of e)) rows
 
 abbrev pub files_in_rows : List (Ended Row) → List FileLineModel
 files_in_rows rows = flat_map (λ e. files_by_row (row_of e)) rows
 
 abbrev pub faults_in_rows : List (Ended Row) → List FaultLineModel
 faults_in_rows rows = flat_map (λ e. faults_by_row (row_of e)) rows
+
+abbrev pub left_in_rows : List (Ended Row) → List LeftLineModel
+left_in_rows rows = flat_map (λ e. left_by_row (row_of e)) rows
+
+-- findings that are what the rows say
+pub record AreFindings (rows : List (Ended Row)) (found : Findings) : Type 0 where
+  pub directories : found.directories ≡ length (directories_in_rows rows)
+  pub entries : found.entries ≡ entries_in_rows rows
+  pub files : found.files.items ≡ files_in_rows rows
+  pub faults : found.faults.items ≡ faults_in_rows rows
+  pub left : found.left.items ≡ left_in_rows rows
 
 -- ---- whether they make a tree
 
@@ -77,10 +103,12 @@ IsPlaced rows (suc k) = (e : Ended Row) → slice_get rows (suc k) ≡ Some e �
 -- ---- what `assemble` answers
 
 -- the rows make a tree, none is Broken, and the report is that of the tally and of the rows
-pub record IsAssembled (files : Bool) (tally : TallyModel) (rows : List (Ended Row)) (r : Report) : Type 0 where
+pub record IsAssembled (lists : Lists) (tally : TallyModel) (rows : List (Ended Row)) (r : Report) : Type 0 where
   pub whole : AreWhole rows
   pub placed : (k : ℕ) → IsPlaced rows k
-  pub report : IsReport tally (length (directories_in_rows rows)) (cond files (files_in_rows rows) []) (faults_in_rows rows) r
+  pub found : Findings
+  pub told : AreFindings rows found
+  pub report : IsReport tally lists found r
 
 -- some row is Broken with this cause
 abbrev pub IsBrokenBy : Cause → Row → Type 0
@@ -99,6 +127,6 @@ RefusesRows rows fault.TooDeep = SomeBroken TooDeep rows × ¬ SomeBroken Memory
 RefusesRows rows (fault.Torn n) = AreWhole rows × ¬ IsPlaced rows n
 RefusesRows rows (fault.Mismatch w) = ⊥
 
-abbrev pub Assembles : Bool → TallyModel → List (Ended Row) → Result Report WalkFault → Type 0
-Assembles files tally rows (Ok r) = IsAssembled files tally rows r
-Assembles files tally rows (Err f) = RefusesRows rows f
+abbrev pub Assembles : Lists → TallyModel → List (Ended Row) → Result Report WalkFault → Type 0
+Assembles lists tally rows (Ok r) = IsAssembled lists tally rows r
+Assembles lists tally rows (Err f) = RefusesRows rows f

@@ -1,25 +1,39 @@
 -- What a walk finds.
-use Rattle.std.specs.Prelude.{ℕ, List, [], ◌∷◌, ◌++◌, map}
+use Rattle.std.specs.Prelude.{ℕ, List, [], ◌∷◌, length}
+use Rattle.std.specs.List.{flat_map}
 use Rattle.lc_tree.specs.declared.fault_word.FaultWord.{FaultWord}
 use Rattle.lc_glob.specs.Path.{path_in}
 use Rattle.lc_level.specs.Answers.{Answers}
 use Rattle.lc_level.specs.Job.{JobModel}
-use Rattle.lc_level.specs.Level.{CountedModel, FileFaultModel, Level, faulted_level, listed_level, level, counted_in, failed_in, walked_in}
+use Rattle.lc_level.specs.Level.{CountedModel, LeftModel, Fate, counted, failed, walked, left, Level, faulted_level, listed_level, level}
+use Rattle.lc_level.specs.Level.{walked_in}
 use Rattle.lc_level.specs.Selection.{SelectionModel}
 
--- a counted file of the directory at a path, a fault at a path, a listed directory at a path
+-- a counted file of the directory at a path, a fault at a path, a listed directory at a path with the number of its entries, an
+-- entry left out of the directory at a path
 pub data Found : Type 0 where
   found_file : (directory : List ℕ) → CountedModel → Found
   found_fault : (path : List ℕ) → FaultWord → Found
-  found_directory : (path : List ℕ) → Found
+  found_directory : (path : List ℕ) → (entries : ℕ) → Found
+  found_left : (directory : List ℕ) → LeftModel → Found
 
-abbrev pub fault_of : List ℕ → FileFaultModel → Found
-fault_of directory f = found_fault (path_in directory f.name) f.word
+-- by the fate of an entry of the directory at a path; what a child directory gives is found in its own level
+abbrev pub found_by : List ℕ → List ℕ × Fate → List Found
+found_by directory (name, counted file) = found_file directory file ∷ []
+found_by directory (name, failed word) = found_fault (path_in directory name) word ∷ []
+found_by directory (name, walked job) = []
+found_by directory (name, left kind reason) = found_left directory (record { name = name; kind = kind; reason = reason }) ∷ []
+
+-- where it stands
+abbrev pub path_of : Found → List ℕ
+path_of (found_file directory f) = path_in directory f.name
+path_of (found_fault path word) = path
+path_of (found_directory path entries) = path
+path_of (found_left directory l) = path_in directory l.name
 
 abbrev pub found_of : JobModel → Level → List Found
 found_of j (faulted_level path word) = found_fault path word ∷ []
-found_of j (listed_level fates) =
-    found_directory j.path ∷ (map (found_file j.path) (counted_in fates) ++ map (fault_of j.path) (failed_in fates))
+found_of j (listed_level fates) = found_directory j.path (length fates) ∷ flat_map (found_by j.path) fates
 
 abbrev pub children_of : Level → List (List ℕ × JobModel)
 children_of (faulted_level path word) = []

@@ -1,5 +1,5 @@
 -- When a row says the truth of its directory.
-use Rattle.std.specs.Prelude.{◌≡◌, ℕ, Bool, true, cond, List, [], ◌∷◌, map, take, Some}
+use Rattle.std.specs.Prelude.{◌≡◌, ℕ, Bool, true, if◌then◌else◌, List, [], ◌∷◌, length, map, take, Some}
 use Rattle.lc_board.specs.LegalHistory.{posts_under}
 use Rattle.lc_board.specs.RowsInPlace.{job_got}
 use Rattle.lc_board.specs.declared.event.Event.{Event}
@@ -8,7 +8,7 @@ use Rattle.lc_board.specs.declared.answers.Ended.TheVariants as ended
 use Rattle.lc_level.specs.Answers.{Answers}
 use Rattle.lc_level.specs.Tidy.{IsTidy}
 use Rattle.lc_level.specs.Job.{JobModel}
-use Rattle.lc_level.specs.Level.{CountedModel, Fate, Level, faulted_level, listed_level, level, counted_in, failed_in, walked_in}
+use Rattle.lc_level.specs.Level.{CountedModel, Fate, Level, faulted_level, listed_level, level, counted_in, failed_in, walked_in, left_in}
 use Rattle.lc_level.specs.Selection.{SelectionModel}
 use Rattle.lc_walk.specs.Found.{children_at}
 use Rattle.lc_level.specs.Deep.{has_too_deep}
@@ -17,14 +17,15 @@ use Rattle.lc_walk.specs.Rows.{row_of, job_of}
 use Rattle.lc_level.specs.PlacePaths.{place_path}
 use Rattle.lc_level.specs.declared.cause.Cause.{Cause}
 use Rattle.lc_level.specs.declared.cause.Cause.TheVariants.{Memory, TooManyDirs, TooDeep}
+use Rattle.lc_walk.specs.declared.options.Lists.{Lists}
 use Rattle.lc_walk.specs.declared.row.FaultedRow.{FaultedRow}
 use Rattle.lc_walk.specs.declared.row.BrokenRow.{BrokenRow}
 use Rattle.lc_walk.specs.declared.row.Row.{Row}
 use Rattle.lc_walk.specs.declared.row.Row.TheVariants.{Listed, Faulted, Broken}
 
--- what was asked of a walk: the files in its report, and what decides beside the rules which entries are left out
+-- what was asked of a walk: the lists of its report, and what decides beside the rules which entries are left out
 pub record Asked : Type 0 where
-  pub files : Bool
+  pub lists : Lists
   pub selection : SelectionModel
 
 abbrev pub counted_files : Level → List CountedModel
@@ -45,12 +46,14 @@ named [] posts = []
 named (c ∷ cs) [] = []
 named (c ∷ cs) (p ∷ ps) = record { name = c.0; number = p.0 } ∷ named cs ps
 
--- a directory that was listed: its files, faults and children are by the fates of its entries
+-- a directory that was listed: all that its row has is by the fates of its entries
 pub record SaysListed (ask : Asked) (r : ListedRowModel) (a : Answers) (posts : List (ℕ × JobModel)) : Type 0 where
   pub fates : List (List ℕ × Fate)
   pub level_is : level ask.selection r.job a ≡ listed_level fates
-  pub files_are : r.files ≡ cond ask.files (counted_in fates) []
+  pub entries_are : r.entries ≡ length fates
+  pub files_are : r.files ≡ (if ask.lists.files then counted_in fates else [])
   pub faults_are : r.faults ≡ failed_in fates
+  pub left_are : r.left ≡ (if ask.lists.left_out then left_in fates else [])
   pub posts_are : jobs_of posts ≡ jobs_of (walked_in fates)
   pub children_are : r.children ≡ named (walked_in fates) posts
 

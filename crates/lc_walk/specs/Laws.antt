@@ -1,5 +1,5 @@
 -- The laws of the walk.
-use Rattle.std.specs.Prelude.{◌≡◌, ℕ, ◌≤◌, Bool, List, [], ◌∷◌, length, slice_get, Some}
+use Rattle.std.specs.Prelude.{◌≡◌, ℕ, ◌≤◌, Bool, List, [], ◌∷◌, length, map, slice_get, Some}
 use Rattle.std.specs.List.Sorted.{IsPermutation}
 use Rattle.lc_board.specs.LegalHistory.{IsLegal}
 use Rattle.lc_board.specs.Part.{part}
@@ -10,12 +10,10 @@ use Rattle.lc_level.specs.Answers.{Answers, no_answers, Tree}
 use Rattle.lc_level.specs.Job.{JobModel}
 use Rattle.lc_level.specs.Level.{level}
 use Rattle.lc_level.specs.Selection.{SelectionModel}
-use Rattle.lc_walk.specs.Found.{children_at}
+use Rattle.lc_walk.specs.Found.{path_of, children_at}
 use Rattle.lc_walk.specs.Walk.{walk_by, walk_of}
 use Rattle.lc_walk.specs.Rows.{row_of, job_of}
-use Rattle.lc_walk.specs.ReportLines.{file_paths, fault_paths}
 use Rattle.lc_tree.specs.ByteOrder.{AreApart}
-use Rattle.lc_walk.specs.WalkReport.{files_of, faults_of}
 use Rattle.lc_walk.specs.Lawful.{Asked, IsLawful}
 use Rattle.lc_level.specs.Tidy.{IsTidy}
 use Rattle.lc_walk.specs.TreeOfRows.{tree_from, children_by_rows, tree_of_rows, numbers_below}
@@ -63,8 +61,8 @@ PartLaw =
     (ask : Asked) (full : Bool) (capacity workers w i : ℕ) (h : List (Event JobModel Row)) (e : Ended Row) (a : Answers) →
     IsLegal capacity workers h → IsLawful ask full (part w h) i e a → IsLawful ask full h i e a
 
--- no path stands twice among the files, or among the faults, that a walk of a tree with tidy listings finds
+-- no path stands twice in what a walk of a tree with tidy listings finds: files, faults, directories and entries left out
 abbrev pub PathsOnceLaw : Type 0
 PathsOnceLaw =
     (selection : SelectionModel) (depth : ℕ) (j : JobModel) (t : Tree) → ((place : List (List ℕ)) → IsTidy (t place)) →
-    AreApart (file_paths (files_of (walk_of selection depth j t))) × AreApart (fault_paths (faults_of (walk_of selection depth j t)))
+    AreApart (map path_of (walk_of selection depth j t))

@@ -1,9 +1,10 @@
+pub mod Accounts
 pub mod Assembled
 pub mod BoardPasses
-pub mod CountedFiles
 pub mod Examples
 pub mod Extension
 pub mod Found
+pub mod FoundAt
 pub mod Key
 pub mod Lawful
 pub mod Laws

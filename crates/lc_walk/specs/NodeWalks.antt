@@ -25,4 +25,4 @@ abbrev pub NodeReportLaw : Type 0
 NodeReportLaw =
     (top : Node) → IsModest top → (ask : Asked) (capacity workers : ℕ) (job : JobModel) (promises : Promises) (r : Report) →
     WalkAnswers (MayAnswer (mem_lists top) (mem_gives top)) ask capacity workers job promises (Ok r) → promises.keeps ≡ true →
-    (depth : ℕ) → capacity ≤ depth → IsReportOf ask.files (walk_of ask.selection depth job (tree_of_node top)) r
+    (depth : ℕ) → capacity ≤ depth → IsReportOf ask.lists (walk_of ask.selection depth job (tree_of_node top)) r

@@ -1,5 +1,5 @@
 -- What the passes of a board have done by the time that it is closed.
-use Rattle.std.specs.Prelude.{◌≡◌, ℕ, Bool, List, slice_get, Some}
+use Rattle.std.specs.Prelude.{◌≡◌, ℕ, List, slice_get, Some}
 use Rattle.lc_board.specs.Pass.{Pass}
 use Rattle.lc_walk.specs.Tally.{TallyModel, StandsFor}
 use Rattle.lc_level.specs.Answers.{Answers}
@@ -7,6 +7,7 @@ use Rattle.lc_level.specs.Job.{JobModel}
 use Rattle.lc_level.specs.Selection.{SelectionModel}
 use Rattle.lc_walk.specs.Lawful.{Asked}
 use Rattle.lc_walk.specs.Worked.{AreLawful, HasEnded, files_of_passes}
+use Rattle.lc_walk.specs.declared.options.Lists.{Lists}
 use Rattle.lc_walk.specs.declared.row.Row.{Row}
 
 -- each pass gave lawful rows and has found the board over, and the tally is that of the files of all rows returned as Listed
@@ -17,5 +18,5 @@ pub record HaveWorked (ask : Asked) (MayAnswer : List ℕ → Answers → Type 0
   pub ended : (w : ℕ) (p : Pass JobModel Row) → slice_get passes w ≡ Some p → (p.worker ≡ w) × HasEnded p
   pub tallied : StandsFor tally (files_of_passes ask given passes)
 
-abbrev pub asked : Bool → SelectionModel → Asked
-asked files selection = record { files = files; selection = selection }
+abbrev pub asked : Lists → SelectionModel → Asked
+asked lists selection = record { lists = lists; selection = selection }

@@ -1,10 +1,10 @@
 -- What a walk answers, over any shared board.
-use Rattle.std.specs.Prelude.{◌≡◌, ℕ, ◌≤◌, Bool, true, false, List, length, slice_get, Some, Result, Ok, Err}
+use Rattle.std.specs.Prelude.{◌≡◌, ℕ, ◌≤◌, ◌++◌, Bool, true, false, List, length, slice_get, Some, Result, Ok, Err}
 use Rattle.lc_board.specs.ClosedBoard.{Promises}
 use Rattle.lc_board.specs.declared.event.Event.{Event}
 use Rattle.lc_board.specs.declared.answers.Ended.{Ended}
-use Rattle.lc_walk.specs.ReportLines.{file_paths, fault_paths}
-use Rattle.lc_tree.specs.ByteOrder.{AreInOrder}
+use Rattle.lc_walk.specs.ReportLines.{file_paths, fault_paths, left_paths}
+use Rattle.lc_tree.specs.ByteOrder.{AreApart, AreInOrder}
 use Rattle.lc_walk.specs.declared.report.Report.{Report}
 use Rattle.lc_tree.specs.Paths.{names_of_path}
 use Rattle.lc_level.specs.Answers.{Answers, Tree}
@@ -37,17 +37,19 @@ module _ (MayAnswer : List ℕ → Answers → Type 0) (ask : Asked) (capacity w
     pub walked : Walked ask full capacity workers top history rows answers
     pub may : (i : ℕ) (e : Ended Row) → slice_get rows i ≡ Some e → MayAnswer (job_of (row_of e)).path (answers i)
 
-  -- the report is that of the recursive walk of the tree of such rows, none of them Broken; no path stands twice; and where the
-  -- tree is a one-answer tree it is the report of the recursive walk of that tree
+  -- the report is that of the recursive walk of the tree of such rows, none of them Broken; no path stands twice in a list, or in two
+  -- lists; and where the tree is a one-answer tree it is the report of the recursive walk of that tree
   pub record IsWalkReport (r : Report) : Type 0 where
     pub found : SomeRows
     pub whole : AreWhole found.rows
     pub report : (depth : ℕ) → capacity ≤ depth →
-        IsReportOf ask.files (walk_of ask.selection depth top (tree_of_rows found.rows found.answers)) r
+        IsReportOf ask.lists (walk_of ask.selection depth top (tree_of_rows found.rows found.answers)) r
     pub files_once : AreInOrder (file_paths r.files.items)
     pub faults_once : AreInOrder (fault_paths r.faults.items)
+    pub left_once : AreInOrder (left_paths r.left.items)
+    pub apart : AreApart (file_paths r.files.items ++ fault_paths r.faults.items ++ left_paths r.left.items)
     pub one_answer : (t : Tree) → IsOneAnswer ask.selection MayAnswer t →
-        (depth : ℕ) → capacity ≤ depth → IsReportOf ask.files (walk_of ask.selection depth top t) r
+        (depth : ℕ) → capacity ≤ depth → IsReportOf ask.lists (walk_of ask.selection depth top t) r
 
   -- such rows, Broken ones allowed, of which one's listing has an entry that is too deep
   pub record IsTooDeepSomewhere : Type 0 where

@@ -15,9 +15,9 @@ pub record AreWithinLimits (o : Options) : Type 0 where
   pub some_room : 1 ≤ o.max_dirs
   pub few_dirs : o.max_dirs ≤ capacity_limit
 
--- whether the report is to have the files, and what is left out beside what the rules ignore
+-- which lists the report is to have, and what is left out beside what the rules ignore
 abbrev pub asked_by : Options → Asked
-asked_by o = record { files = o.files; selection = selection_of o.archive (map (λ name. name.now) o.without.now) }
+asked_by o = record { lists = o.lists; selection = selection_of o.archive (map (λ name. name.now) o.without.now) }
 
 -- where it begins
 abbrev pub top_of : Options → JobModel

@@ -1,15 +1,16 @@
 -- The report of what a walk found.
-use Rattle.std.specs.Prelude.{◌≡◌, ℕ, Bool, cond, List, [], ◌∷◌, length, flat_map}
+use Rattle.std.specs.Prelude.{◌≡◌, ℕ, if◌then◌else◌, List, [], ◌∷◌, length, flat_map, sum_by}
 use Rattle.std.specs.List.Sorted.{IsPermutation, IsSortedByKey}
 use Rattle.lc_walk.specs.Extension.{extension_of}
 use Rattle.lc_walk.specs.Tally.{CountedFile, counted, sums_of_files, IsTally}
-use Rattle.lc_walk.specs.ReportLines.{FileLineModel}
+use Rattle.lc_walk.specs.ReportLines.{FileLineModel, LeftLineModel}
 use Rattle.lc_level.specs.FaultLines.{FaultLineModel}
 use Rattle.lc_tree.specs.ByteOrder.{bytes_cmp}
+use Rattle.lc_walk.specs.declared.options.Lists.{Lists}
 use Rattle.lc_walk.specs.declared.report.Report.{Report}
 use Rattle.lc_glob.specs.Path.{path_in}
-use Rattle.lc_level.specs.Level.{CountedModel}
-use Rattle.lc_walk.specs.Found.{Found, found_file, found_fault, found_directory}
+use Rattle.lc_level.specs.Level.{CountedModel, LeftModel}
+use Rattle.lc_walk.specs.Found.{Found, found_file, found_fault, found_directory, found_left}
 
 -- what the tally needs of a counted file, and its line
 abbrev pub tallied : CountedModel → CountedFile
@@ -18,27 +19,48 @@ tallied f = counted (extension_of f.name) f.text f.count
 abbrev pub line_of : List ℕ → CountedModel → FileLineModel
 line_of directory f = record { path = path_in directory f.name; text = f.text; count = f.count }
 
+-- the line of an entry left out
+abbrev pub left_line : List ℕ → LeftModel → LeftLineModel
+left_line directory l = record { path = path_in directory l.name; kind = l.kind; reason = l.reason }
+
 abbrev pub tallied_in : Found → List CountedFile
 tallied_in (found_file directory f) = tallied f ∷ []
 tallied_in (found_fault path word) = []
-tallied_in (found_directory path) = []
+tallied_in (found_directory path entries) = []
+tallied_in (found_left directory l) = []
 
 abbrev pub file_in : Found → List FileLineModel
 file_in (found_file directory f) = line_of directory f ∷ []
 file_in (found_fault path word) = []
-file_in (found_directory path) = []
+file_in (found_directory path entries) = []
+file_in (found_left directory l) = []
 
 abbrev pub fault_in : Found → List FaultLineModel
 fault_in (found_file directory f) = []
 fault_in (found_fault path word) = record { path = path; word = word } ∷ []
-fault_in (found_directory path) = []
+fault_in (found_directory path entries) = []
+fault_in (found_left directory l) = []
 
 abbrev pub directory_in : Found → List (List ℕ)
 directory_in (found_file directory f) = []
 directory_in (found_fault path word) = []
-directory_in (found_directory path) = path ∷ []
+directory_in (found_directory path entries) = path ∷ []
+directory_in (found_left directory l) = []
 
--- the files as the tally needs them, the lines of files and faults, the listed directories
+abbrev pub left_out_in : Found → List LeftLineModel
+left_out_in (found_file directory f) = []
+left_out_in (found_fault path word) = []
+left_out_in (found_directory path entries) = []
+left_out_in (found_left directory l) = left_line directory l ∷ []
+
+abbrev pub entries_in : Found → ℕ
+entries_in (found_file directory f) = 0
+entries_in (found_fault path word) = 0
+entries_in (found_directory path entries) = entries
+entries_in (found_left directory l) = 0
+
+-- the files as the tally needs them, the lines of files, faults and entries left out, the listed directories, the number of
+-- their entries
 abbrev pub tallied_of : List Found → List CountedFile
 tallied_of xs = flat_map tallied_in xs
 
@@ -51,16 +73,27 @@ faults_of xs = flat_map fault_in xs
 abbrev pub directories_of : List Found → List (List ℕ)
 directories_of xs = flat_map directory_in xs
 
--- its tally, totals, number of listed directories, files if asked for, and faults, each list in order of paths' bytes
-pub record IsReportOf (files : Bool) (xs : List Found) (r : Report) : Type 0 where
+abbrev pub left_out_of : List Found → List LeftLineModel
+left_out_of xs = flat_map left_out_in xs
+
+abbrev pub entry_count : List Found → ℕ
+entry_count xs = sum_by entries_in xs
+
+-- its tally, totals, number of listed directories and of their entries, files and entries left out if asked for, and faults, each
+-- list in order of paths' bytes
+pub record IsReportOf (lists : Lists) (xs : List Found) (r : Report) : Type 0 where
+  pub lists_are : r.lists ≡ lists
   pub tally : IsTally (tallied_of xs) r.rows.items
   pub totals : r.totals ≡ sums_of_files (tallied_of xs)
   pub directories : r.directories ≡ length (directories_of xs)
-  pub files_are : IsPermutation (cond files (files_of xs) []) r.files.items
+  pub entries : r.entries ≡ entry_count xs
+  pub files_are : IsPermutation (if lists.files then files_of xs else []) r.files.items
   pub file_order : IsSortedByKey (λ (f : FileLineModel). f.path) bytes_cmp r.files.items
   pub faults_are : IsPermutation (faults_of xs) r.faults.items
   pub fault_order : IsSortedByKey (λ (f : FaultLineModel). f.path) bytes_cmp r.faults.items
+  pub left_are : IsPermutation (if lists.left_out then left_out_of xs else []) r.left.items
+  pub left_order : IsSortedByKey (λ (l : LeftLineModel). l.path) bytes_cmp r.left.items
 
 -- it tells nothing of the order in which things were found
 abbrev pub ReportLaw : Type 0
-ReportLaw = (files : Bool) (xs ys : List Found) (r : Report) → IsPermutation xs ys → IsReportOf files xs r → IsReportOf files ys r
+ReportLaw = (lists : Lists) (xs ys : List Found) (r : Report) → IsPermutation xs ys → IsReportOf lists xs r → IsReportOf lists ys r

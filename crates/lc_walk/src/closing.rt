@@ -7,6 +7,7 @@ ghost use Rattle.lc_walk.specs.WalkAnswers.{WalkAnswers};
 ghost use Rattle.lc_walk.specs.WalkOn.{fault_of_close};
 ghost use Rattle.lc_level.specs.Job.{JobModel};
 
+use crate::options::Lists;
 use crate::report::{Report, assemble};
 use crate::row::Row;
 use crate::tally::Tally;
@@ -36,7 +37,7 @@ pub fn finish<B: Shared<Job, Row>, T: Tree>(
     alloc: Global,
     board: B,
     passes: Vec<B::Pass>,
-    files: bool,
+    lists: Lists,
     tally: Tally,
 ) -> Result<Report, WalkFault>
     requires room { (1 ≤ B.capacity_of board) × (B.capacity_of board ≤ 1048576) }
@@ -45,13 +46,13 @@ pub fn finish<B: Shared<Job, Row>, T: Tree>(
     requires all { vec_len passes ≡ B.workers_of board }
     requires each { (w : ℕ) (p : B.Pass) → slice_get passes.items w ≡ Some p → B.owns board p × ((B.Pass.view p).worker ≡ w) }
     ensures { (tree : T) (selection : SelectionModel) →
-        HaveWorked (asked files selection) (MayAnswer (T.lists tree) (T.gives tree)) (map (λ p. B.Pass.view p) passes.items) tally →
+        HaveWorked (asked lists selection) (MayAnswer (T.lists tree) (T.gives tree)) (map (λ p. B.Pass.view p) passes.items) tally →
         (root : JobModel) → B.is_root board root → root.path ≡ [] →
-        WalkAnswers (MayAnswer (T.lists tree) (T.gives tree)) (asked files selection)
+        WalkAnswers (MayAnswer (T.lists tree) (T.gives tree)) (asked lists selection)
         (B.capacity_of board) (B.workers_of board) root B.promises result }
 {
     match board.close(passes) {
-        Ok(closed) => assemble(alloc, closed, files, tally),
+        Ok(closed) => assemble(alloc, closed, lists, tally),
         Err(fault) => Err(WalkFault::from(fault)),
     }
 }

@@ -1,14 +1,17 @@
 //! Laws of the definitions that the contracts cite. The functions do nothing: their contracts are what is proved.
 ghost use Rattle.std.specs.Prelude.{List};
 ghost use Rattle.std.specs.List.Sorted.{IsPermutation};
-ghost use Rattle.lc_walk.specs.CountedFiles.{FilesLaw};
+ghost use Rattle.lc_walk.specs.Accounts.{EntriesLaw, RuleLaw};
 ghost use Rattle.lc_walk.specs.Examples.{ExamplesHold};
+ghost use Rattle.lc_walk.specs.FoundAt.{FoundLaw};
 ghost use Rattle.lc_walk.specs.Laws.{CoreLaw, NumbersLaw, OneAnswerLaw, PartLaw, PathsOnceLaw};
 ghost use Rattle.lc_walk.specs.NodeWalks.{NodeOneAnswerLaw, NodeReportLaw};
 ghost use Rattle.lc_walk.specs.Tally.{TallyModel, CountedFile, StandsFor};
 ghost use Rattle.lc_walk.specs.WalkReport.{ReportLaw};
 
 use lc_level::a_node_is_one_tree;
+use lc_rules::the_last_match_decides;
+use lc_tree::Tree;
 
 /// What a tally stands for has no order, so tallies may be merged in any order.
 pub fn a_tally_has_no_order()
@@ -41,13 +44,28 @@ pub fn lawful_in_part_is_lawful()
     ensures { PartLaw }
 {}
 
-/// Which files the recursive walk of a tree counts: those of directories to which names lead, of which each is listed without a
-/// fault and leaves in the next, where the rules of the last one leave the file in and its reading did not fail.
-pub fn counted_files_are_left_in()
-    ensures { FilesLaw }
+/// What the recursive walk of a tree finds is what directories give to which names lead, of which each is listed without a fault and
+/// leaves in the next: the last one itself, its counted files, the faults, and what is left out of it, by the fate of each entry.
+pub fn all_that_is_found_is_given()
+    ensures { FoundLaw }
 {}
 
-/// No path stands twice among the files, or among the faults, of a walk.
+/// In the report of a walk that was asked for entries left out, all entries of the listed directories are files, faults, directories
+/// or entries left out, and the top alone is no entry.
+pub fn entries_are_accounted_for<T: Tree>(tree: &T)
+    ensures { EntriesLaw (T.lists tree.now) (T.gives tree.now) }
+{
+    let _tree = tree;
+}
+
+/// Of each entry that a report has as left out by a rule, that rule is the last that matches it, and ignores it.
+pub fn the_rule_of_a_line_ignores_it()
+    ensures { RuleLaw }
+{
+    the_last_match_decides();
+}
+
+/// No path stands twice in what a walk finds.
 pub fn paths_stand_once()
     ensures { PathsOnceLaw }
 {}

@@ -7,6 +7,15 @@ use lc_rules::IgnoreFile;
 use std::alloc::Global;
 use std::sync::Arc;
 
+/// Which lists a report is to have, beside its rows and its faults.
+#[derive(Clone, Copy, Debug, Drop, PartialEq, Eq)]
+pub struct Lists {
+    /// A line for each counted file.
+    pub files: bool,
+    /// A line for each entry that was left out. What stands below one is neither read nor listed.
+    pub left_out: bool,
+}
+
 /// What is asked of a walk.
 #[derive(Drop)]
 pub struct Options<'o> {
@@ -14,8 +23,8 @@ pub struct Options<'o> {
     pub threads: u32,
     /// The most directories that are walked, the top included: 1 to 1,048,576.
     pub max_dirs: u32,
-    /// The report has a line for each counted file.
-    pub files: bool,
+    /// The lists of the report.
+    pub lists: Lists,
     /// Rules for the whole tree, which every `.gitignore` overrides, as Git's `core.excludesFile` (gitignore(5)).
     pub exclude: Option<Arc<IgnoreFile, Global>>,
     /// What has the attribute `export-ignore` is left out, as `git archive` does (gitattributes(5)).

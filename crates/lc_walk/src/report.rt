@@ -1,22 +1,26 @@
 //! The report of a walk.
 //!
-//! - `report_lines`: what it says of a file and of a fault
+//! - `report_lines`: what it says of a file, of a fault and of an entry left out
+//! - `findings`: what a walk has found beside the sums
 //! - `assembly`, with `row_lines` and `tree_check`: the report that the rows of a closed board make
 ghost use Rattle.std.specs.Prelude.{◌≡◌, IfOk};
 ghost use Rattle.std.specs.List.Sorted.{IsPermutation, IsSortedByKey};
 ghost use Rattle.lc_walk.specs.Report.{IsReport};
-ghost use Rattle.lc_walk.specs.ReportLines.{FileLineModel, file_paths, fault_paths};
+ghost use Rattle.lc_walk.specs.ReportLines.{FileLineModel, LeftLineModel, file_paths, fault_paths, left_paths};
 ghost use Rattle.lc_level.specs.FaultLines.{FaultLineModel};
 ghost use Rattle.lc_tree.specs.ByteOrder.{bytes_cmp, AreApart, AreInOrder};
 
 mod assembly;
+mod findings;
 mod report_lines;
 mod row_lines;
 mod tree_check;
 
+use crate::options::Lists;
 use crate::tally::{Sums, Tally, TallyRow};
 pub use assembly::assemble;
-pub use report_lines::{FaultLine, FileLine};
+pub use findings::Findings;
+pub use report_lines::{FaultLine, FileLine, LeftLine};
 use std::alloc::AllocError;
 
 /// What a walk found.
@@ -28,38 +32,48 @@ pub struct Report {
     pub totals: Sums,
     /// The number of directories whose listing and rule files were read, the top included.
     pub directories: u64,
+    /// The number of entries in the listings of these directories.
+    pub entries: u64,
+    /// Which lists were asked for.
+    pub lists: Lists,
     /// The counted files in order of their paths' bytes, if they were asked for.
     pub files: Vec<FileLine>,
     /// The faults in order of their paths' bytes.
     pub faults: Vec<FaultLine>,
+    /// The entries that were left out in order of their paths' bytes, if they were asked for.
+    pub left: Vec<LeftLine>,
 }
 
 impl Report {
-    /// Sorts the files and the faults by their paths, in place, and copies the tally's rows. A refusal of memory gives up
-    /// the files and the faults.
+    /// Sorts each list of the findings by its paths, in place, and copies the tally's rows. A refusal of memory gives up the
+    /// findings.
     ///
     /// ```
-    /// let report = Report::new(&tally, 1, files, faults)?;
-    /// assert_eq!(report.totals.files, report.files.len() as u64);
+    /// let report = Report::new(&tally, lists, findings)?;
+    /// assert_eq!(report.lists, lists);
     /// ```
-    pub fn new(
-        tally: &Tally,
-        directories: u64,
-        files: Vec<FileLine>,
-        faults: Vec<FaultLine>,
-    ) -> Result<Report, AllocError>
-        ensures { IfOk result (IsReport tally.now directories files.items faults.items) }
+    pub fn new(tally: &Tally, lists: Lists, findings: Findings) -> Result<Report, AllocError>
+        ensures { IfOk result (IsReport tally.now lists findings) }
     {
-        let mut files = files;
+        let Findings {
+            directories,
+            entries,
+            mut files,
+            mut faults,
+            mut left,
+        } = findings;
         sort_files(&mut files);
-        let mut faults = faults;
         sort_faults(&mut faults);
+        sort_left(&mut left);
         Ok(Report {
             rows: tally.rows()?,
             totals: tally.totals(),
             directories,
+            entries,
+            lists,
             files,
             faults,
+            left,
         })
     }
 }
@@ -78,4 +92,12 @@ fn sort_faults(faults: &mut Vec<FaultLine>)
     ensures strict { AreApart (fault_paths faults.old.items) → AreInOrder (fault_paths faults.new.items) }
 {
     faults.sort_unstable_by(|a, b| a.path.cmp(&b.path));
+}
+
+fn sort_left(left: &mut Vec<LeftLine>)
+    ensures same { IsPermutation left.old.items left.new.items }
+    ensures order { IsSortedByKey (λ (l : LeftLineModel). l.path) bytes_cmp left.new.items }
+    ensures strict { AreApart (left_paths left.old.items) → AreInOrder (left_paths left.new.items) }
+{
+    left.sort_unstable_by(|a, b| a.path.cmp(&b.path));
 }

@@ -1,7 +1,7 @@
 //! What a worker gives for a directory.
 ghost use Rattle.std.specs.Prelude.{◌≡◌, IfOk, IfErr};
 
-use lc_level::{Cause, Counted, FileFault, Job, Place};
+use lc_level::{Cause, Counted, FileFault, Job, LeftOut, Place};
 use lc_tree::FaultWord;
 use std::alloc::Global;
 use std::marker::Model;
@@ -21,12 +21,21 @@ impl Model for Child {
     ghost view = { λ c. record { name = c.name.items; number = c.number } };
 }
 
+/// What the row of a listed directory has.
 #[derive(Drop)]
-struct ListedParts {
-    job: Job,
-    files: Vec<Counted>,
-    faults: Vec<FileFault>,
-    children: Vec<Child>,
+pub struct ListedParts {
+    /// The directory.
+    pub job: Job,
+    /// The number of entries in its listing.
+    pub entries: u32,
+    /// The counted files, in the order of their names, where the report is to have them.
+    pub files: Vec<Counted>,
+    /// The files that were not counted, in the order of their names.
+    pub faults: Vec<FileFault>,
+    /// The entries that were left out, in the order of their names, where the report is to have them.
+    pub left: Vec<LeftOut>,
+    /// The posted child directories, in the order of their names.
+    pub children: Vec<Child>,
 }
 
 impl Model for ListedParts {
@@ -34,7 +43,9 @@ impl Model for ListedParts {
 
     ghost Value = { ListedRowModel };
 
-    ghost view = { λ r. record { job = r.job; files = r.files.items; faults = r.faults.items; children = r.children.items } };
+    ghost view = { λ r. record {
+        job = r.job; entries = r.entries; files = r.files.items; faults = r.faults.items; left = r.left.items; children = r.children.items
+    } };
 }
 
 /// A directory that was listed. It is one word long, so that a board takes little room for a row.
@@ -53,24 +64,11 @@ impl Model for ListedRow {
 }
 
 impl ListedRow {
-    /// The row of a directory, with its counted files where the report is to have them, the files that were not counted,
-    /// and the posted child directories. Where memory is refused the job comes back.
-    pub fn new(
-        alloc: Global,
-        job: Job,
-        files: Vec<Counted>,
-        faults: Vec<FileFault>,
-        children: Vec<Child>,
-    ) -> Result<ListedRow, Job>
-        ensures row { IfOk result (λ r. r ≡ record { job = job; files = files.items; faults = faults.items; children = children.items }) }
-        ensures job { IfErr result (λ j. j ≡ job) }
+    /// The row of these parts. Where memory is refused the job comes back.
+    pub fn new(alloc: Global, parts: ListedParts) -> Result<ListedRow, Job>
+        ensures row { IfOk result (λ r. r ≡ parts) }
+        ensures job { IfErr result (λ j. j ≡ parts.job) }
     {
-        let parts = ListedParts {
-            job,
-            files,
-            faults,
-            children,
-        };
         match Box::new(alloc, parts) {
             Ok(parts) => Ok(ListedRow { parts }),
             Err(refused) => Err(refused.value.job),
@@ -82,6 +80,13 @@ impl ListedRow {
         ensures { result.now ≡ self.now.job }
     {
         &self.parts.job
+    }
+
+    /// The number of entries in its listing.
+    pub fn entries(&self) -> u32
+        ensures { result ≡ self.now.entries }
+    {
+        self.parts.entries
     }
 
     /// The counted files, in the order of their names, where the report is to have them.
@@ -96,6 +101,13 @@ impl ListedRow {
         ensures { result.now ≡ self.now.faults }
     {
         &self.parts.faults
+    }
+
+    /// The entries that were left out, in the order of their names, where the report is to have them.
+    pub fn left(&self) -> &[LeftOut]
+        ensures { result.now ≡ self.now.left }
+    {
+        &self.parts.left
     }
 
     /// The posted child directories, in the order of their names.

@@ -52,7 +52,7 @@ pub fn walk_on<B: Shared<Job, Row>, T: Tree, R: Threads + Wait + Sync>(
         return Err(WalkFault::Memory);
     };
     let Gathered { passes, tally } = gathered;
-    finish::<B, T>(alloc, board, passes, options.files, tally)
+    finish::<B, T>(alloc, board, passes, options.lists, tally)
 }
 
 /// Walks a tree: what it finds is what the recursive walk over the returned listings and censuses finds.

@@ -6,8 +6,9 @@ ghost use Rattle.lc_walk.specs.Marks.{fault_of_tree};
 ghost use Rattle.lc_board.specs.declared.answers.Ended.{Ended};
 ghost use Rattle.lc_walk.specs.declared.row.Row.{Row};
 
+use crate::options::Lists;
 use crate::report::Report;
-use crate::report::row_lines::{Lists, lists_of, row_of};
+use crate::report::row_lines::{findings_of, row_of};
 use crate::report::tree_check::{TreeFault, check_tree};
 use crate::row::Row;
 use crate::tally::Tally;
@@ -54,11 +55,11 @@ fn fault_of_tree(fault: TreeFault) -> WalkFault
 pub fn assemble(
     alloc: Global,
     closed: Closed<Row>,
-    files: bool,
+    lists: Lists,
     tally: Tally,
 ) -> Result<Report, WalkFault>
     requires { vec_len closed.rows ≤ 2 ^ 32 }
-    ensures { Assembles files tally closed.rows.items result }
+    ensures { Assembles lists tally closed.rows.items result }
 {
     let rows = closed.rows.as_slice();
     if some_broken(rows, Cause::Memory) {
@@ -74,15 +75,10 @@ pub fn assemble(
         Ok(()) => {}
         Err(fault) => return Err(fault_of_tree(fault)),
     }
-    let Ok(lists) = lists_of(alloc, rows, files) else {
+    let Ok(findings) = findings_of(alloc, rows) else {
         return Err(WalkFault::Memory);
     };
-    let Lists {
-        directories,
-        files,
-        faults,
-    } = lists;
-    match Report::new(&tally, directories, files, faults) {
+    match Report::new(&tally, lists, findings) {
         Ok(report) => Ok(report),
         Err(_) => Err(WalkFault::Memory),
     }

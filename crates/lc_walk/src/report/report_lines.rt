@@ -1,7 +1,8 @@
-//! What a report says of one file and of one fault.
+//! What a report says of one file, of one fault and of one entry left out.
 use lc_census::Count;
+use lc_level::Reason;
 use lc_rules::TextState;
-use lc_tree::FaultWord;
+use lc_tree::{FaultWord, Kind};
 use std::marker::Model;
 
 /// A counted file.
@@ -38,4 +39,24 @@ impl Model for FaultLine {
     ghost Value = { FaultLineModel };
 
     ghost view = { λ a. record { path = a.path.items; word = a.word } };
+}
+
+/// An entry of a listed directory that was left out, and why.
+#[derive(Debug, Drop)]
+pub struct LeftLine {
+    /// The names from the top down to it, joined by slashes.
+    pub path: Vec<u8>,
+    /// What stands there.
+    pub kind: Kind,
+    /// The first reason that holds for it.
+    pub reason: Reason,
+}
+
+impl Model for LeftLine {
+    ghost use Rattle.lc_level.specs.Reasons.{reason_model};
+    ghost use Rattle.lc_walk.specs.ReportLines.{LeftLineModel};
+
+    ghost Value = { LeftLineModel };
+
+    ghost view = { λ l. record { path = l.path.items; kind = l.kind; reason = reason_model l.reason } };
 }

@@ -1,15 +1,15 @@
 //! The lines of a report, as the rows tell them.
-ghost use Rattle.std.specs.Prelude.{◌≡◌, ℕ, ◌+◌, ◌≤◌, ◌^◌, List, [], ◌++◌, cond, map, length, IfOk, OnOk};
+ghost use Rattle.std.specs.Prelude.{◌≡◌, ℕ, ◌+◌, ◌≤◌, ◌<◌, ◌^◌, List, ◌++◌, map, length, IfOk, OnOk};
 ghost use Rattle.lc_walk.specs.Rows.{row_of};
-ghost use Rattle.lc_walk.specs.WalkReport.{line_of};
-ghost use Rattle.lc_walk.specs.Assembled.{fault_line, directories_by_row, files_by_row, faults_by_row, directories_in_rows};
-ghost use Rattle.lc_walk.specs.Assembled.{files_in_rows, faults_in_rows};
+ghost use Rattle.lc_walk.specs.WalkReport.{left_line, line_of};
+ghost use Rattle.lc_walk.specs.Assembled.{fault_line, directories_by_row, entries_by_row, files_by_row, faults_by_row, left_by_row};
+ghost use Rattle.lc_walk.specs.Assembled.{AreFindings};
 ghost use Rattle.lc_level.specs.PlacePaths.{place_path};
 
-use crate::report::{FaultLine, FileLine};
+use crate::report::{FaultLine, FileLine, Findings, LeftLine};
 use crate::row::{FaultedRow, ListedRow, Row};
 use lc_board::Ended;
-use lc_level::{Counted, FileFault, Place, path_in};
+use lc_level::{Counted, FileFault, LeftOut, Place, path_in};
 use std::alloc::{AllocError, Global};
 
 /// The row by which a number ended.
@@ -63,6 +63,27 @@ pub fn push_faults(
     Ok(())
 }
 
+/// Adds the lines of the entries of a directory that were left out.
+pub fn push_left(
+    alloc: Global,
+    directory: &[u8],
+    left_out: &[LeftOut],
+    lines: &mut Vec<LeftLine>,
+) -> Result<(), AllocError>
+    ensures { OnOk result (lines.new.items ≡ lines.old.items ++ map (left_line directory.now) left_out.now) }
+{
+    let mut left = left_out;
+    'entries: while let Some((entry, others)) = left.split_first() {
+        lines.push(LeftLine {
+            path: path_in(alloc, directory, &entry.name)?,
+            kind: entry.kind,
+            reason: entry.reason.copy(alloc)?,
+        })?;
+        left = others;
+    }
+    Ok(())
+}
+
 /// The path at which a directory is at fault.
 pub fn place_path(alloc: Global, directory: &[u8], place: Place) -> Result<Vec<u8>, AllocError>
     ensures { IfOk result (λ p. p.items ≡ place_path directory.now place) }
@@ -78,31 +99,28 @@ pub fn place_path(alloc: Global, directory: &[u8], place: Place) -> Result<Vec<u
     }
 }
 
-/// What the rows tell a report, beside the tally.
-#[derive(Drop)]
-pub struct Lists {
-    pub directories: u64,
-    pub files: Vec<FileLine>,
-    pub faults: Vec<FaultLine>,
-}
-
 /// Adds what one row tells.
-pub fn push_row(alloc: Global, row: &Row, files: bool, lists: &mut Lists) -> Result<(), AllocError>
-    requires { lists.old.directories ≤ 2 ^ 62 }
-    ensures directories { OnOk result (lists.new.directories ≡ lists.old.directories + length (directories_by_row row.now)) }
-    ensures files { OnOk result (lists.new.files.items ≡ lists.old.files.items ++ cond files (files_by_row row.now) []) }
-    ensures faults { OnOk result (lists.new.faults.items ≡ lists.old.faults.items ++ faults_by_row row.now) }
+pub fn push_row(alloc: Global, row: &Row, found: &mut Findings) -> Result<(), AllocError>
+    requires directories { found.old.directories ≤ 2 ^ 62 }
+    requires entries { found.old.entries + 2 ^ 32 ≤ 2 ^ 64 }
+    ensures directories { OnOk result (found.new.directories ≡ found.old.directories + length (directories_by_row row.now)) }
+    ensures entries { OnOk result (found.new.entries ≡ found.old.entries + entries_by_row row.now) }
+    ensures few { OnOk result (entries_by_row row.now < 2 ^ 32) }
+    ensures files { OnOk result (found.new.files.items ≡ found.old.files.items ++ files_by_row row.now) }
+    ensures faults { OnOk result (found.new.faults.items ≡ found.old.faults.items ++ faults_by_row row.now) }
+    ensures left { OnOk result (found.new.left.items ≡ found.old.left.items ++ left_by_row row.now) }
 {
     match row {
         Row::Listed(row) => {
-            if files {
-                push_files(alloc, row.job().path(), row.files(), &mut lists.files)?;
-            }
-            push_faults(alloc, row.job().path(), row.faults(), &mut lists.faults)?;
-            lists.directories += 1;
+            let directory = row.job().path();
+            push_files(alloc, directory, row.files(), &mut found.files)?;
+            push_faults(alloc, directory, row.faults(), &mut found.faults)?;
+            push_left(alloc, directory, row.left(), &mut found.left)?;
+            found.directories += 1;
+            found.entries += u64::from(row.entries());
         }
         Row::Faulted(row) => {
-            lists.faults.push(FaultLine {
+            found.faults.push(FaultLine {
                 path: place_path(alloc, row.job.path(), row.place)?,
                 word: row.word,
             })?;
@@ -113,21 +131,21 @@ pub fn push_row(alloc: Global, row: &Row, files: bool, lists: &mut Lists) -> Res
 }
 
 /// What all rows tell.
-pub fn lists_of(alloc: Global, rows: &[Ended<Row>], files: bool) -> Result<Lists, AllocError>
+pub fn findings_of(alloc: Global, rows: &[Ended<Row>]) -> Result<Findings, AllocError>
     requires { length rows.now ≤ 2 ^ 32 }
-    ensures directories { IfOk result (λ l. l.directories ≡ length (directories_in_rows rows.now)) }
-    ensures files { IfOk result (λ l. l.files.items ≡ cond files (files_in_rows rows.now) []) }
-    ensures faults { IfOk result (λ l. l.faults.items ≡ faults_in_rows rows.now) }
+    ensures { IfOk result (AreFindings rows.now) }
 {
-    let mut lists = Lists {
+    let mut found = Findings {
         directories: 0,
+        entries: 0,
         files: Vec::new(alloc),
         faults: Vec::new(alloc),
+        left: Vec::new(alloc),
     };
     let mut left = rows;
     'rows: while let Some((row, others)) = left.split_first() {
-        push_row(alloc, row_of(row), files, &mut lists)?;
+        push_row(alloc, row_of(row), &mut found)?;
         left = others;
     }
-    Ok(lists)
+    Ok(found)
 }

@@ -1,5 +1,5 @@
 //! What a worker does with a directory that it has claimed.
-ghost use Rattle.std.specs.Prelude.{◌≡◌, [], cond};
+ghost use Rattle.std.specs.Prelude.{◌≡◌, [], if◌then◌else◌};
 ghost use Rattle.lc_board.specs.Pass.{after_give};
 ghost use Rattle.lc_level.specs.Opens.{IsOpened};
 ghost use Rattle.lc_level.specs.TreeAnswers.{MayAnswer};
@@ -8,12 +8,12 @@ ghost use Rattle.lc_walk.specs.Serving.{HoldsJob, GivesUp, GoesOn, Serves};
 ghost use Rattle.lc_walk.specs.WalkOptions.{asked_by};
 ghost use Rattle.lc_walk.specs.declared.row.Row.TheVariants.{Broken};
 
-use crate::row::{BrokenRow, FaultedRow, ListedRow, Row};
+use crate::row::{BrokenRow, FaultedRow, ListedParts, ListedRow, Row};
 use crate::tally::Tally;
 use crate::worker::Worker;
 use crate::worker::adding::add_files;
 use lc_board::Shared;
-use lc_level::{Cause, Counted, CountedFiles, Job, LevelReader, Opened, Scratch, Unlisted};
+use lc_level::{Cause, Counted, CountedFiles, Job, Kept, LevelReader, Opened, Scratch, Unlisted};
 use lc_tree::Tree;
 use std::alloc::AllocError;
 use std::sync::Wait;
@@ -23,8 +23,13 @@ impl<'w, B: Shared<Job, Row>, T: Tree, W: Wait> Worker<'w, B, T, W> {
     fn levels(&self) -> LevelReader<'w, T>
         ensures tree { result.tree.now ≡ self.now.tree.now }
         ensures selection { result.selection ≡ (asked_by self.now.options.now).selection }
+        ensures kept { result.kept.left_out ≡ self.now.options.now.lists.left_out }
     {
-        LevelReader::new(self.alloc, self.tree, self.options.selection())
+        let kept = Kept {
+            left_out: self.options.lists.left_out,
+            texts: false,
+        };
+        LevelReader::new(self.alloc, self.tree, self.options.selection(), kept)
     }
 
     /// Ends the claim of a directory by giving it up. It answers `Err` where that was for want of memory.
@@ -45,9 +50,9 @@ impl<'w, B: Shared<Job, Row>, T: Tree, W: Wait> Worker<'w, B, T, W> {
 
     /// The counted files of a directory, where the report is to have them.
     fn if_asked(&self, files: Vec<Counted>) -> Vec<Counted>
-        ensures { result.items ≡ cond self.now.options.now.files files.items [] }
+        ensures { result.items ≡ (if self.now.options.now.lists.files then files.items else []) }
     {
-        if self.options.files {
+        if self.options.lists.files {
             return files;
         }
         Vec::new(self.alloc)
@@ -64,7 +69,7 @@ impl<'w, B: Shared<Job, Row>, T: Tree, W: Wait> Worker<'w, B, T, W> {
         tally: &mut Tally,
     ) -> Result<(), AllocError>
         requires pass { IsPassOf B.owns B.Pass.view self.now.board.now (HoldsJob job) pass.old }
-        requires opened { IsOpened (T.lists self.now.tree.now) (T.gives self.now.tree.now)
+        requires opened { IsOpened (T.lists self.now.tree.now) (T.gives self.now.tree.now) self.now.options.now.lists.left_out
             (asked_by self.now.options.now).selection job opened }
         requires scratch { scratch.old.path.directory ≡ opened.job.path }
         ensures pass { IsPassOf B.owns B.Pass.view self.now.board.now IsFree pass.new }
@@ -75,6 +80,8 @@ impl<'w, B: Shared<Job, Row>, T: Tree, W: Wait> Worker<'w, B, T, W> {
             job: inside,
             files,
             children,
+            left,
+            entries,
         } = opened;
         let children = match self.post_children(pass, children) {
             Ok(children) => children,
@@ -87,8 +94,15 @@ impl<'w, B: Shared<Job, Row>, T: Tree, W: Wait> Worker<'w, B, T, W> {
             return self.give_up(pass, job, Cause::Memory);
         };
         let CountedFiles { files, faults } = found;
-        let files = self.if_asked(files);
-        match ListedRow::new(self.alloc, job, files, faults, children) {
+        let parts = ListedParts {
+            job,
+            entries,
+            files: self.if_asked(files),
+            faults,
+            left,
+            children,
+        };
+        match ListedRow::new(self.alloc, parts) {
             Ok(row) => {
                 self.board.give(self.rt, pass, Row::Listed(row));
                 Ok(())

@@ -12,7 +12,7 @@ assemble-requires g c =
 
 pub returns-in-Ok : goal.returns-in-Ok
 returns-in-Ok g c tree selection worked root is at_top =
-    assembled_walk (asked c.args.files selection) (MayAnswer (g.T.Tree.lists tree) (g.T.Tree.gives tree))
+    assembled_walk (asked c.args.lists selection) (MayAnswer (g.T.Tree.lists tree) (g.T.Tree.gives tree))
     (g.B.Shared.capacity_of c.args.board) (g.B.Shared.workers_of c.args.board) root g.B.Shared.promises
     (map (λ p. g.B.Pass.Token.view p) c.args.passes.items) c.requires.room.0
     (mapped (λ p. g.B.Pass.Token.view p) c.args.passes.items ∙ sym c.args.passes.ok.0 ∙ c.requires.all) at_top
@@ -21,10 +21,10 @@ returns-in-Ok g c tree selection worked root is at_top =
 
 pub returns-in-Err : goal.returns-in-Err
 returns-in-Err g c tree selection worked root is at_top =
-    subst (λ f. WalkAnswers (MayAnswer (g.T.Tree.lists tree) (g.T.Tree.gives tree)) (asked c.args.files selection)
+    subst (λ f. WalkAnswers (MayAnswer (g.T.Tree.lists tree) (g.T.Tree.gives tree)) (asked c.args.lists selection)
     (g.B.Shared.capacity_of c.args.board) (g.B.Shared.workers_of c.args.board) root g.B.Shared.promises (Err f))
     (sym c.from.ensures)
-    (refused_walk (asked c.args.files selection) (MayAnswer (g.T.Tree.lists tree) (g.T.Tree.gives tree))
+    (refused_walk (asked c.args.lists selection) (MayAnswer (g.T.Tree.lists tree) (g.T.Tree.gives tree))
     (g.B.Shared.capacity_of c.args.board) (g.B.Shared.workers_of c.args.board) root g.B.Shared.promises
     (map (λ p. g.B.Pass.Token.view p) c.args.passes.items) c.requires.room.0
     (mapped (λ p. g.B.Pass.Token.view p) c.args.passes.items ∙ sym c.args.passes.ok.0 ∙ c.requires.all) at_top

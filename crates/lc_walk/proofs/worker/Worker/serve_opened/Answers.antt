@@ -49,9 +49,14 @@ returns-in-Ok-new-clause-serves g c =
     rw c.give.ensures.mine
     (serves_listed ask lists gives _ _ c.args.job c.args.opened c.requires.pass.1 c.requires.opened
     c.in-Ok-count.found c.args.tally.now c.add_files.new.tally c.in-Ok-new.row c.in-Ok.ensures.posts.0 counted added
-    (ap (λ (r : ListedRowModel). r.job) row) (ap (λ (r : ListedRowModel). r.files) row ∙ c.if_asked-files.ensures)
-    (ap (λ (r : ListedRowModel). r.faults) row)
-    (ap (λ (r : ListedRowModel). r.children) row ∙ c.in-Ok.ensures.posts.1))
+    (record {
+      job = ap (λ (r : ListedRowModel). r.job) row;
+      entries = ap (λ (r : ListedRowModel). r.entries) row;
+      files = ap (λ (r : ListedRowModel). r.files) row ∙ c.if_asked.ensures;
+      faults = ap (λ (r : ListedRowModel). r.faults) row;
+      left = ap (λ (r : ListedRowModel). r.left) row;
+      children = ap (λ (r : ListedRowModel). r.children) row ∙ c.in-Ok.ensures.posts.1;
+    }))
 
 pub returns-clause-serves : goal.returns-clause-serves
 returns-clause-serves g c =

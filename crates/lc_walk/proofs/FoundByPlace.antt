@@ -1,0 +1,311 @@
+-- What a walk finds, by the names that lead to it.
+use Rattle.std.proofs.Common.{◌≡◌, ℕ, zero, suc, ◌<◌, true, false, cond, List, [], ◌∷◌, ◌++◌, length, refl, sym, ◌∙◌, ap, subst, arith, ◌⊎◌}
+use Rattle.std.proofs.Common.{inl, inr, Option, Some, None, Result, Ok, Err}
+use Rattle.std.specs.List.{flat_map}
+use Rattle.std.specs.Option.{option_map_or}
+use Rattle.std.proofs.lemmas.List.{length-map}
+use Rattle.lc_census.specs.declared.totals.Count.{Count}
+use Rattle.lc_tree.specs.declared.entry.Kind.TheVariants.{File, Dir, Other}
+use Rattle.lc_tree.specs.declared.fault_word.FaultWord.{FaultWord}
+use Rattle.lc_glob.specs.Path.{path_in}
+use Rattle.lc_level.specs.Answers.{Item, file_item, directory_item, other_item, name_of, Items, Answers, Tree}
+use Rattle.lc_level.specs.FaultLines.{FaultLineModel}
+use Rattle.lc_level.specs.Job.{JobModel}
+use Rattle.lc_level.specs.Level.{Reason, other_kind, Fate, counted, failed, walked, left, Level, faulted_level, level, level_of, level_after}
+use Rattle.lc_level.specs.Level.{level_of_items, walked_in, fates_of, fate_of, file_fate, reason_of, is_taken, child_job}
+use Rattle.lc_level.specs.RuleFiles.{RuleBytes, rule_bytes, extended}
+use Rattle.lc_level.specs.Selection.{SelectionModel}
+use Rattle.lc_walk.specs.Found.{Found, found_file, found_fault, found_directory, found_left, found_by, found_of, found_at}
+use Rattle.lc_walk.specs.Found.{children_of, children_at}
+use Rattle.lc_walk.specs.FoundAt.{IsListed, HasEntries, LeavesIn, LeadsTo, HasEntry, Gives, IsFoundIn, FoundLaw}
+use Rattle.lc_walk.specs.Walk.{walks_below, walk_of}
+use Rattle.lc_level.proofs.Fates.{children_by, walked_items_are}
+use Rattle.lc_walk.proofs.Elements.{In, is_in, contains, in_left, in_right, in_either, in_lists, of_lists, if_cond, cond_if, in_mapped}
+use Rattle.lc_walk.proofs.Elements.{of_mapped}
+
+-- ---- one directory
+
+-- a level is that of items whose rule files were read, or a fault
+level_cases : (P : Level → Type 0) (selection : SelectionModel) (j : JobModel) (a : Answers) →
+    ((p : List ℕ) (w : FaultWord) → P (faulted_level p w)) →
+    ((items : List Item) → a.here ≡ Ok items → (b : RuleBytes) → rule_bytes j.path items a ≡ Ok b
+    → P (level_of_items selection items (extended j b))) → P (level selection j a)
+level_cases P selection j a faults items_are = at a.here refl
+  where
+    after : (items : List Item) → a.here ≡ Ok items → (r : Result RuleBytes FaultLineModel) → rule_bytes j.path items a ≡ r
+        → P (level_after selection j items r)
+    after items e (Ok b) read = items_are items e b read
+    after items e (Err f) read = faults f.path f.word
+
+    at : (o : Items) → a.here ≡ o → P (level_of selection j a o)
+    at (Ok items) e = after items e (rule_bytes j.path items a) refl
+    at (Err word) e = faults j.path word
+
+-- the level of a directory that is listed without a fault
+listed_is : (selection : SelectionModel) (j : JobModel) (a : Answers) (items : List Item) (inside : JobModel)
+    → IsListed j a items inside → level selection j a ≡ level_of_items selection items inside
+listed_is selection j a items inside l =
+    ap (level_of selection j a) l.here ∙ ap (level_after selection j items) l.read ∙ ap (level_of_items selection items) (sym l.is)
+
+-- the name of a counted file, as its fate has it
+abbrev counted_name : List ℕ → Fate → List ℕ
+counted_name n (counted f) = f.name
+counted_name n (failed word) = n
+counted_name n (walked job) = n
+counted_name n (left kind reason) = n
+
+named_by_reason : (n : List ℕ) (out : Reason → Fate) (own : Fate) (o : Option Reason) → ((reason : Reason) → counted_name n (out reason) ≡ n)
+    → counted_name n own ≡ n → counted_name n (option_map_or out o own) ≡ n
+named_by_reason n out own None outs is = is
+named_by_reason n out own (Some reason) outs is = outs reason
+
+named_by_count : (n : List ℕ) (k : JobModel) (c : Result Count FaultWord) → counted_name n (file_fate k n c) ≡ n
+named_by_count n k (Ok count) = refl
+named_by_count n k (Err word) = refl
+
+-- it is that of its item
+counted_named : (selection : SelectionModel) (k : JobModel) (item : Item) → counted_name (name_of item) (fate_of selection k item) ≡ name_of item
+counted_named selection k (file_item n c rules) =
+    named_by_reason n (left File) (file_fate k n c) (reason_of selection k n false) (λ reason. refl) (named_by_count n k c)
+counted_named selection k (directory_item n) =
+    named_by_reason n (left Dir) (walked (child_job k n)) (reason_of selection k n true) (λ reason. refl) refl
+counted_named selection k (other_item n) =
+    named_by_reason n (left Other) (left Other other_kind) (reason_of selection k n false) (λ reason. refl) refl
+
+module _ (selection : SelectionModel) (j : JobModel) (a : Answers) where
+  abbrev pair_of : JobModel → Item → List ℕ × Fate
+  pair_of inside item = (name_of item, fate_of selection inside item)
+
+  entry_here : (items : List Item) (inside : JobModel) → IsListed j a items inside → (item : Item) → In item items → (fate : Fate)
+      → fate_of selection inside item ≡ fate → (n : List ℕ) → name_of item ≡ n → HasEntry selection j a n fate
+  entry_here items inside listed item here fate is n named = record {
+    items = items;
+    inside = inside;
+    listed = listed;
+    item = item;
+    has = contains item items here;
+    named = named;
+    fate_is = is;
+  }
+
+  -- what an entry's fate gives, the directory gives
+  given_by_entry : (items : List Item) (inside : JobModel) → IsListed j a items inside → (item : Item) → In item items → (x : Found)
+      → In x (found_by j.path (pair_of inside item)) → Gives selection j a x
+  given_by_entry items inside listed item here x = at (fate_of selection inside item) refl
+    where
+      at : (fate : Fate) → fate_of selection inside item ≡ fate → In x (found_by j.path (name_of item, fate)) → Gives selection j a x
+      at (counted f) e (inl is) =
+          let named : name_of item ≡ f.name = sym (counted_named selection inside item) ∙ ap (counted_name (name_of item)) e in
+          subst (Gives selection j a) is (refl, entry_here items inside listed item here (counted f) e f.name named)
+      at (counted f) e (inr i) = absurd i
+      at (failed word) e (inl is) =
+          subst (Gives selection j a) is
+          (inr (name_of item, refl, entry_here items inside listed item here (failed word) e (name_of item) refl))
+      at (failed word) e (inr i) = absurd i
+      at (walked job) e i = absurd i
+      at (left kind reason) e (inl is) =
+          subst (Gives selection j a) is (refl, entry_here items inside listed item here (left kind reason) e (name_of item) refl)
+      at (left kind reason) e (inr i) = absurd i
+
+  -- what is found of a directory it gives
+  pub given_by_found : (x : Found) → In x (found_at selection j a) → Gives selection j a x
+  given_by_found x i =
+      level_cases (λ l. level selection j a ≡ l → In x (found_of j l) → Gives selection j a x) selection j a
+      (λ p w e f. faulted p w e f)
+      (λ items here b read e f.
+      listed items (extended j b) (record { here = here; bytes = b; read = read; is = refl }) f)
+      refl i
+    where
+      faulted : (p : List ℕ) (w : FaultWord) → level selection j a ≡ faulted_level p w → In x (found_fault p w ∷ []) → Gives selection j a x
+      faulted p w e (inl is) = subst (Gives selection j a) is (inl e)
+      faulted p w e (inr f) = absurd f
+
+      listed : (items : List Item) (inside : JobModel) → IsListed j a items inside
+          → In x (found_directory j.path (length (fates_of selection inside items))
+          ∷ flat_map (found_by j.path) (fates_of selection inside items)) → Gives selection j a x
+      listed items inside l (inl is) =
+          subst (Gives selection j a) is
+          (refl, record { items = items; inside = inside; listed = l; many = length-map items (pair_of inside) })
+      listed items inside l (inr f) =
+          let r = in_lists (found_by j.path) x (fates_of selection inside items) f in
+          let m = in_mapped (pair_of inside) r.0 items r.1 in
+          given_by_entry items inside l m.0 m.1 x (subst (λ y. In x (found_by j.path y)) (sym m.2) r.2)
+
+  -- what the fate of an entry gives is found
+  found_by_entry : (n : List ℕ) (fate : Fate) (x : Found) → HasEntry selection j a n fate → In x (found_by j.path (n, fate))
+      → In x (found_at selection j a)
+  found_by_entry n fate x h i =
+      let fates : List (List ℕ × Fate) = fates_of selection h.inside h.items in
+      let own : In x (found_by j.path (pair_of h.inside h.item)) =
+      subst (λ m. In x (found_by j.path (m, fate_of selection h.inside h.item))) (sym h.named)
+      (subst (λ g. In x (found_by j.path (n, g))) (sym h.fate_is) i) in
+      let here : In x (flat_map (found_by j.path) fates) =
+      of_lists (found_by j.path) x (pair_of h.inside h.item) fates
+      (of_mapped (pair_of h.inside) h.item h.items (is_in h.item h.items h.has)) own in
+      subst (λ (l : Level). In x (found_of j l)) (sym (listed_is selection j a h.items h.inside h.listed)) (inr here)
+
+  -- what a directory gives is found of it
+  pub found_by_given : (x : Found) → Gives selection j a x → In x (found_at selection j a)
+  found_by_given (found_directory path entries) (e, h) =
+      let same : found_directory j.path (length (fates_of selection h.inside h.items)) ≡ found_directory path entries =
+      ap (λ p. found_directory p (length (fates_of selection h.inside h.items))) (sym e)
+      ∙ ap (found_directory path) (sym (h.many ∙ sym (length-map h.items (pair_of h.inside)))) in
+      subst (λ (l : Level). In (found_directory path entries) (found_of j l))
+      (sym (listed_is selection j a h.items h.inside h.listed)) (inl same)
+  found_by_given (found_file directory f) (e, h) =
+      subst (λ d. In (found_file d f) (found_at selection j a)) (sym e)
+      (found_by_entry f.name (counted f) (found_file j.path f) h (inl refl))
+  found_by_given (found_fault path word) (inl e) = subst (λ (l : Level). In (found_fault path word) (found_of j l)) (sym e) (inl refl)
+  found_by_given (found_fault path word) (inr h) =
+      subst (λ p. In (found_fault p word) (found_at selection j a)) (sym h.1)
+      (found_by_entry h.0 (failed word) (found_fault (path_in j.path h.0) word) h.2 (inl refl))
+  found_by_given (found_left directory l) (e, h) =
+      subst (λ d. In (found_left d l) (found_at selection j a)) (sym e)
+      (found_by_entry l.name (left l.kind l.reason) (found_left j.path l) h (inl refl))
+
+-- the child directories
+module _ (selection : SelectionModel) (j : JobModel) (a : Answers) where
+  by_child_item : (k : JobModel) (c : List ℕ × JobModel) (item : Item) → In c (children_by selection k item)
+      → (item ≡ directory_item c.0) × (is_taken selection k c.0 true ≡ true) × (c.1 ≡ child_job k c.0)
+  by_child_item k c (file_item n counted rules) i = absurd i
+  by_child_item k c (other_item n) i = absurd i
+  by_child_item k c (directory_item n) i = at (if_cond (is_taken selection k n true) c ((n, child_job k n) ∷ []) i)
+    where
+      at : (is_taken selection k n true ≡ true) × In c ((n, child_job k n) ∷ [])
+          → (directory_item n ≡ directory_item c.0) × (is_taken selection k c.0 true ≡ true) × (c.1 ≡ child_job k c.0)
+      at (taken, inl e) = (
+        ap (λ (x : List ℕ × JobModel). directory_item x.0) e,
+        subst (λ (x : List ℕ × JobModel). is_taken selection k x.0 true ≡ true) e taken,
+        subst (λ (x : List ℕ × JobModel). x.1 ≡ child_job k x.0) e refl,
+      )
+      at (taken, inr i) = absurd i
+
+  child_by_level : (c : List ℕ × JobModel) → In c (children_at selection j a)
+      → (inside : JobModel) × LeavesIn selection j a c.0 inside × (c.1 ≡ child_job inside c.0)
+  child_by_level c =
+      level_cases (λ l. In c (children_of l) → (inside : JobModel) × LeavesIn selection j a c.0 inside × (c.1 ≡ child_job inside c.0))
+      selection j a
+      (λ p w i. absurd i)
+      (λ items here b read i.
+      let r = in_lists (children_by selection (extended j b)) c items (subst (In c) (walked_items_are selection (extended j b) items) i) in
+      let s = by_child_item (extended j b) c r.0 r.2 in (
+        extended j b,
+        record {
+          items = items;
+          listed = record { here = here; bytes = b; read = read; is = refl };
+          has = contains _ items (subst (λ (x : Item). In x items) s.0 r.1);
+          taken = s.1;
+        },
+        s.2,
+      ))
+
+  level_by_child : (name : List ℕ) (inside : JobModel) → LeavesIn selection j a name inside
+      → In (name, child_job inside name) (children_at selection j a)
+  level_by_child name inside l =
+      let i : In (name, child_job inside name) (walked_in (fates_of selection inside l.items)) =
+      subst (In (name, child_job inside name)) (sym (walked_items_are selection inside l.items))
+      (of_lists (children_by selection inside) (name, child_job inside name) (directory_item name) l.items (is_in _ l.items l.has)
+      (cond_if (is_taken selection inside name true) (name, child_job inside name)
+      ((name, child_job inside name) ∷ []) l.taken (inl refl))) in
+      subst (λ (v : Level). In (name, child_job inside name) (children_of v)) (sym (listed_is selection j a l.items inside l.listed)) i
+
+-- ---- the walk
+
+module _ (selection : SelectionModel) where
+  abbrev Walks : Type 0
+  Walks = JobModel → Tree → List Found
+
+  in_below : (walk : Walks) (x : Found) (t : Tree) (cs : List (List ℕ × JobModel))
+      → In x (walks_below (found_at selection) (children_at selection) walk t cs) →
+      (c : List ℕ × JobModel) × In c cs × In x (walk c.1 (λ place. t (c.0 ∷ place)))
+  in_below walk x t [] i = absurd i
+  in_below walk x t (c ∷ cs) i = at (λ b. in_below walk x t cs b)
+      (in_either x (walk c.1 (λ place. t (c.0 ∷ place))) (walks_below (found_at selection) (children_at selection) walk t cs) i)
+    where
+      at : (In x (walks_below (found_at selection) (children_at selection) walk t cs)
+          → (e : List ℕ × JobModel) × In e cs × In x (walk e.1 (λ place. t (e.0 ∷ place))))
+          → In x (walk c.1 (λ place. t (c.0 ∷ place))) ⊎ In x (walks_below (found_at selection) (children_at selection) walk t cs) →
+          (d : List ℕ × JobModel) × In d (c ∷ cs) × In x (walk d.1 (λ place. t (d.0 ∷ place)))
+      at rest (inl a) = (c, inl refl, a)
+      at rest (inr b) = let r = rest b in (r.0, inr r.1, r.2)
+
+  of_below : (walk : Walks) (x : Found) (t : Tree) (c : List ℕ × JobModel) (cs : List (List ℕ × JobModel)) → In c cs
+      → In x (walk c.1 (λ place. t (c.0 ∷ place))) →
+      In x (walks_below (found_at selection) (children_at selection) walk t cs)
+  of_below walk x t c [] i h = absurd i
+  of_below walk x t c (e ∷ cs) (inl s) h =
+      in_left x (walk e.1 (λ place. t (e.0 ∷ place))) (walks_below (found_at selection) (children_at selection) walk t cs)
+      (subst (λ (d : List ℕ × JobModel). In x (walk d.1 (λ place. t (d.0 ∷ place)))) (sym s) h)
+  of_below walk x t c (e ∷ cs) (inr i) h =
+      in_right x (walk e.1 (λ place. t (e.0 ∷ place))) (walks_below (found_at selection) (children_at selection) walk t cs)
+      (of_below walk x t c cs i h)
+
+  deeper : (depth : ℕ) (j : JobModel) (t : Tree) (x : Found) (c : List ℕ × JobModel) (inside : JobModel)
+      → LeavesIn selection j (t []) c.0 inside → c.1 ≡ child_job inside c.0 →
+      IsFoundIn selection depth c.1 (λ place. t (c.0 ∷ place)) x → IsFoundIn selection (suc depth) j t x
+  deeper depth j t x c inside l e r = record {
+    place = c.0 ∷ r.place;
+    shallow = omega (arith, r.shallow);
+    job = r.job;
+    leads = (inside, l, subst (λ (k : JobModel). LeadsTo selection k (λ place. t (c.0 ∷ place)) r.place r.job) e r.leads);
+    gives = r.gives;
+  }
+
+  -- the walks of a directory's children, if what they find is known
+  by_below : (depth : ℕ) (j : JobModel) (t : Tree) (x : Found)
+      → ((k : JobModel) (u : Tree) → In x (walk_of selection depth k u) → IsFoundIn selection depth k u x) →
+      In x (walks_below (found_at selection) (children_at selection) (walk_of selection depth) t
+      (children_at selection j (t []))) → IsFoundIn selection (suc depth) j t x
+  by_below depth j t x known b =
+      let r = in_below (walk_of selection depth) x t (children_at selection j (t [])) b in
+      let s = child_by_level selection j (t []) r.0 r.1 in
+      deeper depth j t x r.0 s.0 s.1 s.2 (known r.0.1 (λ place. t (r.0.0 ∷ place)) r.2)
+
+  by_here : (depth : ℕ) (j : JobModel) (t : Tree) (x : Found) → In x (found_at selection j (t []))
+      → IsFoundIn selection (suc depth) j t x
+  by_here depth j t x a =
+      record { place = []; shallow = omega arith; job = j; leads = refl; gives = given_by_found selection j (t []) x a }
+
+  by_either : (depth : ℕ) (j : JobModel) (t : Tree) (x : Found)
+      → ((k : JobModel) (u : Tree) → In x (walk_of selection depth k u) → IsFoundIn selection depth k u x) →
+      In x (found_at selection j (t []))
+      ⊎ In x (walks_below (found_at selection) (children_at selection) (walk_of selection depth) t
+      (children_at selection j (t []))) → IsFoundIn selection (suc depth) j t x
+  by_either depth j t x known (inl a) = by_here depth j t x a
+  by_either depth j t x known (inr b) = by_below depth j t x known b
+
+  -- what the walk finds a directory gives that names lead to
+  pub place_by_walk : (depth : ℕ) (j : JobModel) (t : Tree) (x : Found)
+      → In x (walk_of selection depth j t) → IsFoundIn selection depth j t x
+  place_by_walk zero j t x i = absurd i
+  place_by_walk (suc depth) j t x i =
+      by_either depth j t x (λ k u h. place_by_walk depth k u x h)
+      (in_either x (found_at selection j (t []))
+      (walks_below (found_at selection) (children_at selection) (walk_of selection depth) t (children_at selection j (t []))) i)
+
+  walk_at : (depth : ℕ) (place : List (List ℕ)) → length place < depth → (j k : JobModel) (t : Tree) (x : Found)
+      → LeadsTo selection j t place k → Gives selection k (t place) x → In x (walk_of selection depth j t)
+  walk_at zero place lt j k t x leads g = absurd (omega (arith, lt))
+  walk_at (suc depth) [] lt j k t x leads g =
+      in_left x (found_at selection j (t []))
+      (walks_below (found_at selection) (children_at selection) (walk_of selection depth) t (children_at selection j (t [])))
+      (found_by_given selection j (t []) x (subst (λ (l : JobModel). Gives selection l (t []) x) (sym leads) g))
+  walk_at (suc depth) (name ∷ place) lt j k t x leads g =
+      let short : length place < depth = omega (arith, lt) in
+      in_right x (found_at selection j (t []))
+      (walks_below (found_at selection) (children_at selection) (walk_of selection depth) t (children_at selection j (t [])))
+      (of_below (walk_of selection depth) x t (name, child_job leads.0 name) (children_at selection j (t []))
+      (level_by_child selection j (t []) name leads.0 leads.1)
+      (walk_at depth place short (child_job leads.0 name) k (λ p. t (name ∷ p)) x leads.2 g))
+
+  -- what such a directory gives is found
+  pub walk_by_place : (depth : ℕ) (j : JobModel) (t : Tree) (x : Found) → IsFoundIn selection depth j t x
+      → In x (walk_of selection depth j t)
+  walk_by_place depth j t x c = walk_at depth c.place c.shallow j c.job t x c.leads c.gives
+
+-- what a walk finds, by the names that lead to it
+pub found_law : FoundLaw
+found_law selection depth top t x = (
+  λ i. place_by_walk selection depth top t x (is_in x (walk_of selection depth top t) i),
+  λ i. contains x (walk_of selection depth top t) (walk_by_place selection depth top t x i),
+)

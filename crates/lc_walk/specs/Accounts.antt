@@ -1,0 +1,56 @@
+-- What becomes of the entries of all listed directories, by the report of a walk.
+use Rattle.std.specs.Prelude.{◌≡◌, ℕ, ◌+◌, true, false, List, length, Ok}
+use Rattle.std.specs.List.{Contains}
+use Rattle.lc_glob.specs.Path.{path_in}
+use Rattle.lc_level.specs.Answers.{Item, entry_of, name_of, Tree}
+use Rattle.lc_level.specs.Job.{JobModel}
+use Rattle.lc_level.specs.Level.{by_rule}
+use Rattle.lc_level.specs.Selection.{SelectionModel}
+use Rattle.lc_rules.specs.IgnoreChains.{rules_in}
+use Rattle.lc_rules.specs.IgnoreLaws.{IsLastMatch}
+use Rattle.lc_rules.specs.IgnoreRules.{RuleModel}
+use Rattle.lc_rules.specs.declared.origin.Origin.{Origin}
+use Rattle.lc_tree.specs.Kinds.{is_dir}
+use Rattle.lc_tree.specs.Trees.{Listings, Contents}
+use Rattle.lc_walk.specs.FoundAt.{IsListed, LeadsTo}
+use Rattle.lc_walk.specs.ReportLines.{LeftLineModel}
+use Rattle.lc_walk.specs.Walk.{walk_of}
+use Rattle.lc_walk.specs.WalkReport.{IsReportOf}
+use Rattle.lc_walk.specs.Walks.{Walks}
+use Rattle.lc_walk.specs.declared.options.Lists.{Lists}
+use Rattle.lc_walk.specs.declared.options.Options.{Options}
+use Rattle.lc_walk.specs.declared.report.Report.{Report}
+
+-- all of them are counted files, faults, listed directories or entries left out; the top alone is no entry. A fault stands for a file
+-- or for a directory, whichever of its files it is at
+abbrev pub IsAccounted : Report → Type 0
+IsAccounted r = r.entries + 1 ≡ r.totals.files + length r.faults.items + r.directories + length r.left.items
+
+-- so is the report of each walk that was asked for entries left out
+abbrev pub EntriesLaw : (List ℕ → Listings) → (List ℕ → Contents) → Type 0
+EntriesLaw lists gives = (o : Options) (r : Report) → Walks lists gives o (Ok r) → o.lists.left_out ≡ true → IsAccounted r
+
+-- an entry at this path stands in a directory to which names lead, and the last rule that matches it among those that hold there
+-- ignores it, and stands in a file of this origin, on the line with this number
+pub record IsIgnoredBy (selection : SelectionModel) (top : JobModel) (t : Tree) (path : List ℕ) (origin : Origin) (line : ℕ) : Type 0 where
+  pub place : List (List ℕ)
+  pub job : JobModel
+  pub leads : LeadsTo selection top t place job
+  pub items : List Item
+  pub inside : JobModel
+  pub listed : IsListed job (t place) items inside
+  pub item : Item
+  pub has : Contains items item
+  pub path_is : path ≡ path_in inside.path (name_of item)
+  pub rule : RuleModel
+  pub on_line : rule.line ≡ line
+  pub ignores : rule.is_negated ≡ false
+  pub decides : IsLastMatch (rules_in inside.ignore) path (is_dir (entry_of item).kind) (origin, rule)
+
+-- so is each entry that a report has as left out by a rule
+abbrev pub RuleLaw : Type 0
+RuleLaw =
+    (lists : Lists) (selection : SelectionModel) (depth : ℕ) (top : JobModel) (t : Tree) (r : Report) →
+    IsReportOf lists (walk_of selection depth top t) r →
+    (entry : LeftLineModel) (origin : Origin) (line : ℕ) → Contains r.left.items entry → entry.reason ≡ by_rule origin line →
+    IsIgnoredBy selection top t entry.path origin line
