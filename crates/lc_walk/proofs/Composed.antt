@@ -349,7 +349,8 @@ module _ (ask : Asked) (MayAnswer : List ℕ → Answers → Type 0) (capacity w
     -- ---- the report of the walk
 
     pub report_of_walk : top.path ≡ [] → (t : TallyModel) → StandsFor t (files_of_passes ask given passes) →
-        (told : Findings) → AreFindings rows told → (r : Report) → IsReport t ask.lists told r → IsWalkReport MayAnswer ask capacity workers top r
+        (told : Findings) → AreFindings rows told → (r : Report) → IsReport t ask.lists told r →
+        IsWalkReport MayAnswer ask capacity workers top r
     report_of_walk at_top t stood told tells r is =
         let ours = report_of_rows t stood told tells r is in
         let fed : NoneFor Memory rows = λ i e here. unbroken (row_of e) Memory (whole i e here) in

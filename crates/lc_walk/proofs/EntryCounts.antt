@@ -4,9 +4,9 @@ use Rattle.std.proofs.Common.{length-append, IsPermutation}
 use Rattle.std.specs.List.{flat_map}
 use Rattle.std.proofs.lemmas.List.Sorted.{length_permutation}
 use Rattle.std.proofs.lemmas.List.Sums.{sum_by-append, sum_by-cons}
-use Rattle.lc_level.specs.Answers.{Answers, Item, Tree}
+use Rattle.lc_level.specs.Answers.{Item, Tree}
 use Rattle.lc_level.specs.Job.{JobModel}
-use Rattle.lc_level.specs.Level.{Fate, counted, failed, walked, left, Level, level_of_items, walked_in, fates_of}
+use Rattle.lc_level.specs.Level.{Fate, counted, failed, walked, left, level_of_items, walked_in, fates_of}
 use Rattle.lc_level.specs.RuleFiles.{extended}
 use Rattle.lc_level.specs.Selection.{SelectionModel}
 use Rattle.lc_tree.specs.Trees.{Listings, Contents}
@@ -16,7 +16,7 @@ use Rattle.lc_walk.specs.Found.{children_at}
 use Rattle.lc_walk.specs.TreeOfRows.{tree_of_rows}
 use Rattle.lc_walk.specs.Walk.{walks_below, walk_of}
 use Rattle.lc_walk.specs.WalkOptions.{asked_by, top_of}
-use Rattle.lc_walk.specs.WalkReport.{entries_in, tallied_of, files_of, faults_of, directories_of, left_out_of, entry_count, IsReportOf}
+use Rattle.lc_walk.specs.WalkReport.{entries_in, tallied_of, faults_of, directories_of, left_out_of, entry_count, IsReportOf}
 use Rattle.lc_walk.specs.declared.options.Lists.{Lists}
 use Rattle.lc_walk.specs.declared.report.Report.{Report}
 use Rattle.lc_walk.proofs.Levels.{level_keeps}
@@ -49,7 +49,7 @@ module _ (selection : SelectionModel) where
         few c.1 (λ place. t (c.0 ∷ place)),
         few_below walk t cs few,
         length-append first (below walk t cs),
-        sum_by-append entries_in first (below walk t cs)
+        sum_by-append entries_in first (below walk t cs),
       )
 
   many_below : (walk next : Walks) (t : Tree) (cs : List (List ℕ × JobModel))
@@ -63,7 +63,7 @@ module _ (selection : SelectionModel) where
         many c.1 (λ place. t (c.0 ∷ place)),
         many_below walk next t cs many,
         length-append (next c.1 (λ place. t (c.0 ∷ place))) (below next t cs),
-        sum_by-append entries_in first (below walk t cs)
+        sum_by-append entries_in first (below walk t cs),
       )
 
   -- the things and the entries of a listed directory, with those below it
@@ -81,7 +81,22 @@ module _ (selection : SelectionModel) where
         arith,
         sum_by-cons entries_in (found_directory j.path (length fates)) (own ++ more),
         sum_by-append entries_in own more,
-        no_entries_within j.path fates
+        no_entries_within j.path fates,
+      )
+
+  abbrev level_and : Walks → JobModel → Tree → List Item → List Found
+  level_and walk k t es = found_of k (level_of_items selection es k) ++ below walk t (walked_in (fates_of selection k es))
+
+  few_in_items : (walk : Walks) (t : Tree) → ((k : JobModel) (u : Tree) → length (walk k u) ≤ 1 + entry_count (walk k u)) →
+      (k : JobModel) (es : List Item) → length (level_and walk k t es) ≤ 1 + entry_count (level_and walk k t es)
+  few_in_items walk t few k es =
+      let more : List Found = below walk t (walked_in (fates_of selection k es)) in
+      omega (
+        arith,
+        long_level k es more,
+        counted_level k es more,
+        each_fate k.path (fates_of selection k es),
+        few_below walk t (walked_in (fates_of selection k es)) few,
       )
 
   -- a walk finds no more things than its top and the entries of the directories that it lists
@@ -93,21 +108,19 @@ module _ (selection : SelectionModel) where
       ≤ 1 + entry_count (found_of j l ++ below (walk_of selection depth) t (children_of l)))
       selection j (t [])
       (λ p w. omega arith)
-      (λ es e b. in_items (extended j b) es)
-    where
-      in_items : (k : JobModel) (es : List Item) →
-          length (found_of k (level_of_items selection es k) ++ below (walk_of selection depth) t (walked_in (fates_of selection k es)))
-          ≤ 1 + entry_count (found_of k (level_of_items selection es k)
-          ++ below (walk_of selection depth) t (walked_in (fates_of selection k es)))
-      in_items k es =
-          let more : List Found = below (walk_of selection depth) t (walked_in (fates_of selection k es)) in
-          omega (
-            arith,
-            long_level k es more,
-            counted_level k es more,
-            each_fate k.path (fates_of selection k es),
-            few_below (walk_of selection depth) t (walked_in (fates_of selection k es)) (few depth)
-          )
+      (λ es e b. few_in_items (walk_of selection depth) t (few depth) (extended j b) es)
+
+  many_in_items : (walk next : Walks) (t : Tree) → ((k : JobModel) (u : Tree) → 1 + entry_count (walk k u) ≤ length (next k u)) →
+      (k : JobModel) (es : List Item) → 1 + entry_count (level_and walk k t es) ≤ length (level_and next k t es)
+  many_in_items walk next t many k es =
+      let cs : List (List ℕ × JobModel) = walked_in (fates_of selection k es) in
+      omega (
+        arith,
+        long_level k es (below next t cs),
+        counted_level k es (below walk t cs),
+        each_fate k.path (fates_of selection k es),
+        many_below walk next t cs many,
+      )
 
   -- and one that goes a level deeper finds all of these
   many : (depth : ℕ) (j : JobModel) (t : Tree)
@@ -115,31 +128,18 @@ module _ (selection : SelectionModel) where
   many zero j t =
       level_keeps (λ l. 1 ≤ length (found_of j l ++ below (walk_of selection zero) t (children_of l))) selection j (t [])
       (λ p w. omega arith)
-      (λ es e b. omega (arith, long_level (extended j b) es
-      (below (walk_of selection zero) t (walked_in (fates_of selection (extended j b) es)))))
+      (λ es e b. omega (
+        arith,
+        long_level (extended j b) es
+            (below (walk_of selection zero) t (walked_in (fates_of selection (extended j b) es))),
+      ))
   many (suc depth) j t =
       level_keeps
       (λ l. 1 + entry_count (found_of j l ++ below (walk_of selection depth) t (children_of l))
       ≤ length (found_of j l ++ below (walk_of selection (suc depth)) t (children_of l)))
       selection j (t [])
       (λ p w. omega arith)
-      (λ es e b. in_items (extended j b) es)
-    where
-      in_items : (k : JobModel) (es : List Item) →
-          1 + entry_count (found_of k (level_of_items selection es k)
-          ++ below (walk_of selection depth) t (walked_in (fates_of selection k es)))
-          ≤ length (found_of k (level_of_items selection es k)
-          ++ below (walk_of selection (suc depth)) t (walked_in (fates_of selection k es)))
-      in_items k es =
-          let cs : List (List ℕ × JobModel) = walked_in (fates_of selection k es) in
-          let more : List Found = below (walk_of selection depth) t cs in
-          omega (
-            arith,
-            long_level k es (below (walk_of selection (suc depth)) t cs),
-            counted_level k es more,
-            each_fate k.path (fates_of selection k es),
-            many_below (walk_of selection depth) (walk_of selection (suc depth)) t cs (many depth)
-          )
+      (λ es e b. many_in_items (walk_of selection depth) (walk_of selection (suc depth)) t (many depth) (extended j b) es)
 
 -- each thing that is found is of one kind
 by_kinds : (xs : List Found)
@@ -160,7 +160,8 @@ told_all lists xs r asked is =
       ap (λ s. s.files) is.totals,
       is.directories,
       length_permutation (faults_of xs) r.faults.items is.faults_are,
-      length_permutation (left_out_of xs) r.left.items (subst (λ b. IsPermutation (cond b (left_out_of xs) []) r.left.items) asked is.left_are)
+      length_permutation (left_out_of xs) r.left.items
+          (subst (λ b. IsPermutation (cond b (left_out_of xs) []) r.left.items) asked is.left_are),
     )
 
 -- a report of walks to two depths accounts for all entries
@@ -174,7 +175,7 @@ accounted lists selection depth top t r asked is deeper =
       few selection depth top t,
       many selection depth top t,
       told_all lists (walk_of selection depth top t) r asked is,
-      told_all lists (walk_of selection (suc depth) top t) r asked deeper
+      told_all lists (walk_of selection (suc depth) top t) r asked deeper,
     )
 
 -- so does the report of a walk

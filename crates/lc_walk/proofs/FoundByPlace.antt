@@ -1,5 +1,5 @@
 -- What a walk finds, by the names that lead to it.
-use Rattle.std.proofs.Common.{◌≡◌, ℕ, zero, suc, ◌<◌, true, false, cond, List, [], ◌∷◌, ◌++◌, length, refl, sym, ◌∙◌, ap, subst, arith, ◌⊎◌}
+use Rattle.std.proofs.Common.{◌≡◌, ℕ, zero, suc, ◌<◌, true, false, List, [], ◌∷◌, length, refl, sym, ◌∙◌, ap, subst, arith, ◌⊎◌}
 use Rattle.std.proofs.Common.{inl, inr, Option, Some, None, Result, Ok, Err}
 use Rattle.std.specs.List.{flat_map}
 use Rattle.std.specs.Option.{option_map_or}
@@ -11,13 +11,13 @@ use Rattle.lc_glob.specs.Path.{path_in}
 use Rattle.lc_level.specs.Answers.{Item, file_item, directory_item, other_item, name_of, Items, Answers, Tree}
 use Rattle.lc_level.specs.FaultLines.{FaultLineModel}
 use Rattle.lc_level.specs.Job.{JobModel}
-use Rattle.lc_level.specs.Level.{Reason, other_kind, Fate, counted, failed, walked, left, Level, faulted_level, level, level_of, level_after}
-use Rattle.lc_level.specs.Level.{level_of_items, walked_in, fates_of, fate_of, file_fate, reason_of, is_taken, child_job}
+use Rattle.lc_level.specs.Level.{Reason, other_kind, Fate, counted, failed, walked, left, Level, faulted_level, level, level_of}
+use Rattle.lc_level.specs.Level.{level_after, level_of_items, walked_in, fates_of, fate_of, file_fate, reason_of, is_taken, child_job}
 use Rattle.lc_level.specs.RuleFiles.{RuleBytes, rule_bytes, extended}
 use Rattle.lc_level.specs.Selection.{SelectionModel}
 use Rattle.lc_walk.specs.Found.{Found, found_file, found_fault, found_directory, found_left, found_by, found_of, found_at}
 use Rattle.lc_walk.specs.Found.{children_of, children_at}
-use Rattle.lc_walk.specs.FoundAt.{IsListed, HasEntries, LeavesIn, LeadsTo, HasEntry, Gives, IsFoundIn, FoundLaw}
+use Rattle.lc_walk.specs.FoundAt.{IsListed, LeavesIn, LeadsTo, HasEntry, Gives, IsFoundIn, FoundLaw}
 use Rattle.lc_walk.specs.Walk.{walks_below, walk_of}
 use Rattle.lc_level.proofs.Fates.{children_by, walked_items_are}
 use Rattle.lc_walk.proofs.Elements.{In, is_in, contains, in_left, in_right, in_either, in_lists, of_lists, if_cond, cond_if, in_mapped}
@@ -54,8 +54,8 @@ counted_name n (failed word) = n
 counted_name n (walked job) = n
 counted_name n (left kind reason) = n
 
-named_by_reason : (n : List ℕ) (out : Reason → Fate) (own : Fate) (o : Option Reason) → ((reason : Reason) → counted_name n (out reason) ≡ n)
-    → counted_name n own ≡ n → counted_name n (option_map_or out o own) ≡ n
+named_by_reason : (n : List ℕ) (out : Reason → Fate) (own : Fate) (o : Option Reason) →
+    ((reason : Reason) → counted_name n (out reason) ≡ n) → counted_name n own ≡ n → counted_name n (option_map_or out o own) ≡ n
 named_by_reason n out own None outs is = is
 named_by_reason n out own (Some reason) outs is = outs reason
 
@@ -64,7 +64,8 @@ named_by_count n k (Ok count) = refl
 named_by_count n k (Err word) = refl
 
 -- it is that of its item
-counted_named : (selection : SelectionModel) (k : JobModel) (item : Item) → counted_name (name_of item) (fate_of selection k item) ≡ name_of item
+counted_named : (selection : SelectionModel) (k : JobModel) (item : Item) →
+    counted_name (name_of item) (fate_of selection k item) ≡ name_of item
 counted_named selection k (file_item n c rules) =
     named_by_reason n (left File) (file_fate k n c) (reason_of selection k n false) (λ reason. refl) (named_by_count n k c)
 counted_named selection k (directory_item n) =
@@ -167,7 +168,7 @@ module _ (selection : SelectionModel) (j : JobModel) (a : Answers) where
 module _ (selection : SelectionModel) (j : JobModel) (a : Answers) where
   by_child_item : (k : JobModel) (c : List ℕ × JobModel) (item : Item) → In c (children_by selection k item)
       → (item ≡ directory_item c.0) × (is_taken selection k c.0 true ≡ true) × (c.1 ≡ child_job k c.0)
-  by_child_item k c (file_item n counted rules) i = absurd i
+  by_child_item k c (file_item n count rules) i = absurd i
   by_child_item k c (other_item n) i = absurd i
   by_child_item k c (directory_item n) i = at (if_cond (is_taken selection k n true) c ((n, child_job k n) ∷ []) i)
     where

@@ -111,7 +111,7 @@ entries_went j fates =
     omega (
       arith,
       sum_by-cons entries_in (found_directory j.path (length fates)) (flat_map (found_by j.path) fates),
-      no_entries_within j.path fates
+      no_entries_within j.path fates,
     )
 
 -- ---- lists by number

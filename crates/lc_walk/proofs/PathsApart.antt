@@ -1,6 +1,6 @@
 -- No path stands twice in the lines of a report.
 use Rattle.std.proofs.Common.{◌≡◌, ◌≢◌, ℕ, Bool, true, false, cond, List, [], ◌∷◌, ◌++◌, map, refl, sym, ◌∙◌, ap, subst, IsPermutation}
-use Rattle.std.specs.List.{flat_map, IsDistinct, AllByRecursion}
+use Rattle.std.specs.List.{IsDistinct, AllByRecursion}
 use Rattle.std.specs.Ordering.{eq_by_cmp}
 use Rattle.std.proofs.lemmas.Cmp.{nat_list_cmp_total, eq_by_cmp_equiv}
 use Rattle.std.proofs.lemmas.List.Sorted.{IsPermutation-append, IsPermutation-map}
@@ -14,7 +14,7 @@ use Rattle.lc_walk.specs.Found.{Found, found_file, found_fault, found_directory,
 use Rattle.lc_walk.specs.Laws.{PathsOnceLaw}
 use Rattle.lc_walk.specs.ReportLines.{FileLineModel, LeftLineModel, file_paths, fault_paths, left_paths}
 use Rattle.lc_walk.specs.Walk.{walk_of}
-use Rattle.lc_walk.specs.WalkReport.{file_in, fault_in, left_out_in, files_of, faults_of, left_out_of, IsReportOf}
+use Rattle.lc_walk.specs.WalkReport.{files_of, faults_of, left_out_of, IsReportOf}
 use Rattle.lc_walk.specs.declared.options.Lists.{Lists}
 use Rattle.lc_walk.specs.declared.report.Report.{Report}
 use Rattle.lc_walk.proofs.Distinct.{Distinct, distinct-append, picked, picked_distinct, picked_apart}
@@ -156,7 +156,8 @@ module _ (xs : List Found) (once : AreApart (map path_of xs)) where
       let faults = picked path_of is_fault xs in
       let out = picked path_of (is_left lists.left_out) xs in
       distinct-append (files ++ faults) out
-      (distinct-append files faults (picked_distinct path_of (is_file lists.files) xs distinct) (picked_distinct path_of is_fault xs distinct)
+      (distinct-append files faults (picked_distinct path_of (is_file lists.files) xs distinct)
+      (picked_distinct path_of is_fault xs distinct)
       (picked_apart path_of (is_file lists.files) is_fault (file_no_fault lists.files) xs distinct))
       (picked_distinct path_of (is_left lists.left_out) xs distinct)
       (each-append (λ m. AllByRecursion (λ n. m ≢ n) out) files faults

@@ -1,5 +1,5 @@
 -- No path stands twice in a walk of a tree whose listings are tidy.
-use Rattle.std.proofs.Common.{◌≡◌, ◌≢◌, ℕ, zero, suc, not, Bool, true, false, cond, List, [], ◌∷◌, ◌++◌, map, length, refl, sym, ◌∙◌, ap}
+use Rattle.std.proofs.Common.{◌≡◌, ◌≢◌, ℕ, zero, suc, not, Bool, true, false, cond, List, [], ◌∷◌, ◌++◌, map, refl, sym, ◌∙◌, ap}
 use Rattle.std.proofs.Common.{subst, inl, inr, Option, Some, None, Result, Ok, Err, append_assoc, append-nil, bytes_eq}
 use Rattle.std.specs.List.{flat_map, AllByRecursion}
 use Rattle.std.specs.Option.{is_none, option_map_or}
@@ -16,7 +16,7 @@ use Rattle.lc_level.specs.RuleFiles.{extended}
 use Rattle.lc_level.specs.Level.{Reason, other_kind, Fate, walked, left, level_of_items, reason_of, is_taken, child_job, file_fate, fate_of}
 use Rattle.lc_level.specs.Level.{walked_in, fates_of}
 use Rattle.lc_level.specs.Selection.{SelectionModel}
-use Rattle.lc_walk.specs.Found.{Found, found_fault, path_of, found_by, found_of, found_at, children_of, children_at}
+use Rattle.lc_walk.specs.Found.{Found, path_of, found_by, found_of, found_at, children_of, children_at}
 use Rattle.lc_walk.specs.Walk.{walks_below, walk_by}
 use Rattle.lc_level.specs.Tidy.{IsTidy}
 use Rattle.lc_board.proofs.Weights.{each-map, each-append}

@@ -16,7 +16,7 @@ use Rattle.lc_level.specs.CountedNames.{IsCounted}
 use Rattle.lc_level.specs.Job.{JobModel}
 use Rattle.lc_level.specs.LeftIn.{bytes_of}
 use Rattle.lc_level.specs.Laws.{parts_with}
-use Rattle.lc_level.specs.Level.{LevelParts, IsLevelOf, level, walked_in}
+use Rattle.lc_level.specs.Level.{IsLevelOf, level, walked_in}
 use Rattle.lc_level.specs.Opens.{IsOpened, OpensLevel}
 use Rattle.lc_level.specs.Tidy.{IsTidy}
 use Rattle.lc_level.specs.TreeAnswers.{MayAnswer}
@@ -132,7 +132,8 @@ module _ (ask : Asked) (lists : List ℕ → Listings) (gives : List ℕ → Con
         (serves_broken ask (MayAnswer lists gives) q j Memory c.inside.answers t t result (broken_end Memory x.0 x.1 tt) g (λ n. refl))
     serves_refused TooManyDirs t result x g =
         then_serves ask (MayAnswer lists gives) p q _ t t result (works_posts ask (MayAnswer lists gives) p q _ (Some t) x.1)
-        (serves_broken ask (MayAnswer lists gives) q j TooManyDirs c.inside.answers t t result (broken_end TooManyDirs x.0 x.1 x.2) g (λ n. refl))
+        (serves_broken ask (MayAnswer lists gives) q j TooManyDirs c.inside.answers t t result (broken_end TooManyDirs x.0 x.1 x.2) g
+        (λ n. refl))
     serves_refused TooDeep t result x g = absurd x
 
     -- all were posted, and then memory was refused
@@ -142,7 +143,8 @@ module _ (ask : Asked) (lists : List ℕ → Listings) (gives : List ℕ → Con
     serves_uncounted t u result x g =
         let all = subst (HasPosted p q) (sym (take-length (jobs_of o.children.items))) x in
         then_serves ask (MayAnswer lists gives) p q _ t u result (works_posts ask (MayAnswer lists gives) p q _ (Some t) x)
-        (serves_broken ask (MayAnswer lists gives) q j Memory c.inside.answers t u result (broken_end Memory _ all tt) g (λ n. absurd (n refl)))
+        (serves_broken ask (MayAnswer lists gives) q j Memory c.inside.answers t u result (broken_end Memory _ all tt) g
+        (λ n. absurd (n refl)))
 
     -- a row that has what was opened, counted and posted
     pub record IsRowOf (row : ListedRowModel) (found : CountedFiles) (posts : List (ℕ × JobModel)) : Type 0 where
@@ -162,14 +164,14 @@ module _ (ask : Asked) (lists : List ℕ → Listings) (gives : List ℕ → Con
         works_give ask (MayAnswer lists gives) q (Listed row) counted.0 (Some t) (Some u) lawful gains (λ e. absurd (cc e)) first
         (works_posts ask (MayAnswer lists gives) p q _ (Some t) x first w)
       where
-        abbrev parts : LevelParts
-        parts = parts_with o found.files.items found.faults.items
-
-        counted : (a : Answers) × MayAnswer lists gives j.path a × IsTidy a × IsLevelOf (level ask.selection j a) ask.lists.left_out parts
+        counted : (a : Answers) × MayAnswer lists gives j.path a × IsTidy a
+            × IsLevelOf (level ask.selection j a) ask.lists.left_out (parts_with o found.files.items found.faults.items)
         counted = counted_level lists gives ask.lists.left_out ask.selection j o c found f
 
-        here : IsLevelOf (level ask.selection row.job counted.0) ask.lists.left_out parts
-        here = subst (λ k. IsLevelOf (level ask.selection k counted.0) ask.lists.left_out parts) (sym is.job) counted.3
+        here : IsLevelOf (level ask.selection row.job counted.0) ask.lists.left_out (parts_with o found.files.items found.faults.items)
+        here =
+            subst (λ k. IsLevelOf (level ask.selection k counted.0) ask.lists.left_out
+            (parts_with o found.files.items found.faults.items)) (sym is.job) counted.3
 
         own_files : files_at ask.selection row.job counted.0 ≡ found.files.items
         own_files = ap counted_files here.listed ∙ here.counts

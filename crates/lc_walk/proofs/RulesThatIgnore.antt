@@ -1,6 +1,6 @@
 -- The rule of an entry that a rule leaves out.
-use Rattle.std.proofs.Common.{◌≡◌, ℕ, Bool, true, false, cond, List, [], ◌∷◌, refl, sym, ◌∙◌, ap, subst, Option, Some, None, option_map, Result}
-use Rattle.std.proofs.Common.{Ok, Err, MatchOption, bytes_eq, codes, IsPermutation, inl, inr}
+use Rattle.std.proofs.Common.{◌≡◌, ℕ, Bool, true, false, cond, List, [], refl, sym, ◌∙◌, ap, subst, Option, Some, None, option_map}
+use Rattle.std.proofs.Common.{Result, Ok, Err, MatchOption, bytes_eq, codes, inl, inr}
 use Rattle.std.specs.List.{find, list_any}
 use Rattle.std.specs.Option.{option_map_or, option_or}
 use Rattle.std.proofs.lemmas.List.Sorted.{Contains-permutation, IsPermutation-sym}
@@ -10,10 +10,10 @@ use Rattle.lc_tree.specs.Kinds.{is_dir}
 use Rattle.lc_tree.specs.declared.entry.Kind.{Kind}
 use Rattle.lc_tree.specs.declared.entry.Kind.TheVariants.{File, Dir, Other}
 use Rattle.lc_tree.specs.declared.fault_word.FaultWord.{FaultWord}
-use Rattle.lc_level.specs.Answers.{Item, file_item, directory_item, other_item, name_of, entry_of, Tree}
+use Rattle.lc_level.specs.Answers.{Item, file_item, directory_item, other_item, name_of, entry_of}
 use Rattle.lc_level.specs.Job.{JobModel}
 use Rattle.lc_level.specs.Level.{LeftModel, Reason, named_git, by_rule, by_attribute, other_kind, Fate, counted, failed, walked, left}
-use Rattle.lc_level.specs.Level.{attribute_reason, rule_reason, reason_at, reason_of, is_set, file_fate, fate_of, child_job}
+use Rattle.lc_level.specs.Level.{attribute_reason, rule_reason, reason_at, reason_of, file_fate, fate_of, child_job}
 use Rattle.lc_level.specs.Selection.{SelectionModel}
 use Rattle.lc_rules.specs.IgnoreChains.{rules_in}
 use Rattle.lc_rules.specs.IgnoreLaws.{IsLastMatch, DecidingLaw}
@@ -25,10 +25,8 @@ use Rattle.lc_walk.specs.FoundAt.{LeadsTo, Gives}
 use Rattle.lc_walk.specs.Found.{Found, found_file, found_fault, found_directory, found_left}
 use Rattle.lc_walk.specs.ReportLines.{LeftLineModel}
 use Rattle.lc_walk.specs.Walk.{walk_of}
-use Rattle.lc_walk.specs.WalkReport.{left_line, left_out_in, left_out_of, IsReportOf}
-use Rattle.lc_walk.specs.declared.options.Lists.{Lists}
-use Rattle.lc_walk.specs.declared.report.Report.{Report}
-use Rattle.lc_walk.proofs.Elements.{In, is_in, contains, in_lists, if_cond}
+use Rattle.lc_walk.specs.WalkReport.{left_line, left_out_in, left_out_of}
+use Rattle.lc_walk.proofs.Elements.{In, is_in, in_lists, if_cond}
 use Rattle.lc_walk.proofs.FoundByPlace.{place_by_walk}
 
 -- ---- the rule that decides

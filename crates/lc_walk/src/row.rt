@@ -44,7 +44,12 @@ impl Model for ListedParts {
     ghost Value = { ListedRowModel };
 
     ghost view = { λ r. record {
-        job = r.job; entries = r.entries; files = r.files.items; faults = r.faults.items; left = r.left.items; children = r.children.items
+      job = r.job;
+      entries = r.entries;
+      files = r.files.items;
+      faults = r.faults.items;
+      left = r.left.items;
+      children = r.children.items;
     } };
 }
 

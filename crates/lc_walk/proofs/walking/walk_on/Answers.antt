@@ -13,15 +13,14 @@ run_all-requires-clause-each g c κs within = λ i p low at.
     let first = c.in-Ok-start.ensures.passes i p (slice_get-get_or c.in-Ok-start.passes.items i p inside ∙ ap Some (sym at)) in
     (first.0, rw first.1 refl)
 
-same_count : (g : _) (c : goal.In-Some g) → length c.in-Ok-run_all.workers.items ≡ length c.in-Ok-start.passes.items
-same_count g c = sym c.in-Ok-run_all.workers.ok.0 ∙ c.in-Ok-run_all.ensures.all ∙ c.in-Ok-start.passes.ok.0
-
 pub finish-requires-clause-each : goal.finish-requires-clause-each
 finish-requires-clause-each g c κs within =
     let view = g.B.Pass.Token.view in
     let owns = g.B.Shared.owns c.in-Ok-start.board in
+    let same : length c.in-Ok-run_all.workers.items ≡ length c.in-Ok-start.passes.items =
+    sym c.in-Ok-run_all.workers.ok.0 ∙ c.in-Ok-run_all.ensures.all ∙ c.in-Ok-start.passes.ok.0 in
     λ w p at. taken_in_order view owns (λ x. x.pass) c.in-Ok-run_all.workers.items
-    (still_in_order view owns (λ x. x.pass) c.in-Ok-start.passes.items c.in-Ok-run_all.workers.items (same_count g c)
+    (still_in_order view owns (λ x. x.pass) c.in-Ok-start.passes.items c.in-Ok-run_all.workers.items same
     c.in-Ok-start.ensures.passes
     (λ i q x low. let r = c.in-Ok-run_all.ensures.each i q x (subst (λ n. i < n) (sym c.in-Ok-start.passes.ok.0) low) in
     (r.0, r.1.worked.worker)))

@@ -1,6 +1,6 @@
 use Rattle.std.proofs.Common.{sym, subst}
-use Rattle.lc_walk.specs.Assembled.{RefusesRows}
-use Rattle.lc_walk.proofs.Broken.{refused_rows}
+use Rattle.lc_walk.specs.Assembled.{RefusesRows, IsAssembled}
+use Rattle.lc_walk.proofs.Broken.{refused_rows, whole_rows}
 use Rattle.lc_walk.proofs.report.assembly.assemble.Goals as goal
 
 pub returns-in-Err : goal.returns-in-Err
@@ -10,3 +10,14 @@ returns-in-Err c =
     (refused_rows c.as_slice-rows.result.now c.in-Err.fault (c.some_broken.ensures.none c.if-some_broken.false)
     (c.some_broken-2.ensures.none c.if-some_broken-2.false) (c.some_broken-3.ensures.none c.if-some_broken-3.false)
     c.in-Err.ensures.torn))
+
+pub returns-in-Ok-new : goal.returns-in-Ok-new
+returns-in-Ok-new c =
+    subst (λ l. IsAssembled c.args.lists c.args.tally l c.in-Ok-new.report) c.as_slice-rows.ensures.value (record {
+      whole = whole_rows c.as_slice-rows.result.now (c.some_broken.ensures.none c.if-some_broken.false)
+          (c.some_broken-2.ensures.none c.if-some_broken-2.false) (c.some_broken-3.ensures.none c.if-some_broken-3.false);
+      placed = c.in-Ok.ensures.placed;
+      found = c.in-Ok-findings_of.findings;
+      told = c.in-Ok-findings_of.ensures;
+      report = c.in-Ok-new.ensures;
+    })

@@ -14,9 +14,11 @@ returns-in-Err-Faulted-clause-serves g c =
     let at_fault = Err (unlisted.Faulted c.in-Err-Faulted.place c.in-Err-Faulted.word) in
     rw (c.fault.ensures.mine, c.in-Err-Faulted.place-is, c.in-Err-Faulted.word-is)
     (serves_faulted ask (lists tree) (gives tree) _ c.args.job c.in-Err-Faulted.place c.in-Err-Faulted.word c.args.tally.now c.requires.1
-    (subst (λ s. OpensLevel (lists tree) (gives tree) s c.args.job at_fault) c.levels.ensures.selection
-    (subst (λ t. OpensLevel (lists t) (gives t) c.levels.result.selection c.args.job at_fault) c.levels.ensures.tree
-    (rw c.in-Err-Faulted.field-0-is at c.in-Err-Faulted.ensures.opens))))
+    (subst (λ s. OpensLevel (lists tree) (gives tree) ask.lists.left_out s c.args.job at_fault) c.levels.ensures.selection
+    (subst (λ k. OpensLevel (lists tree) (gives tree) k c.levels.result.selection c.args.job at_fault) c.levels.ensures.kept
+    (subst (λ t. OpensLevel (lists t) (gives t) c.levels.result.kept.left_out c.levels.result.selection c.args.job at_fault)
+    c.levels.ensures.tree
+    (rw c.in-Err-Faulted.field-0-is at c.in-Err-Faulted.ensures.opens)))))
 
 pub returns-in-Err-Broken-clause-serves : goal.returns-in-Err-Broken-clause-serves
 returns-in-Err-Broken-clause-serves g c =
@@ -27,7 +29,9 @@ returns-in-Err-Broken-clause-serves g c =
     let broken = Err (unlisted.Broken c.in-Err-Broken.cause) in
     rw (c.give_up.ensures.mine, c.in-Err-Broken.cause-is)
     (serves_unopened ask (lists tree) (gives tree) _ c.args.job c.in-Err-Broken.cause c.args.tally.now c.give_up.result c.requires.1
-    (subst (λ s. OpensLevel (lists tree) (gives tree) s c.args.job broken) c.levels.ensures.selection
-    (subst (λ t. OpensLevel (lists t) (gives t) c.levels.result.selection c.args.job broken) c.levels.ensures.tree
-    (rw c.in-Err-Broken.field-0-is at c.in-Err-Broken.ensures.opens)))
+    (subst (λ s. OpensLevel (lists tree) (gives tree) ask.lists.left_out s c.args.job broken) c.levels.ensures.selection
+    (subst (λ k. OpensLevel (lists tree) (gives tree) k c.levels.result.selection c.args.job broken) c.levels.ensures.kept
+    (subst (λ t. OpensLevel (lists t) (gives t) c.levels.result.kept.left_out c.levels.result.selection c.args.job broken)
+    c.levels.ensures.tree
+    (rw c.in-Err-Broken.field-0-is at c.in-Err-Broken.ensures.opens))))
     (rw c.in-Err-Broken.cause-is at c.give_up.ensures.memory))
