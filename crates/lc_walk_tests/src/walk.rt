@@ -5,6 +5,7 @@ mod drawn;
 mod failures;
 mod gate;
 mod keys;
+mod left_lines;
 mod left_out;
 mod limits;
 mod names;

@@ -165,7 +165,7 @@ pub(super) fn walk_drawn<B: Shared<Job, Row>, R: Threads + Wait + Sync + Abort>(
     let max_dirs = drawn.directories;
     assert!(rt; 1 <= max_dirs && max_dirs <= 1_048_576);
     let mut options = walk_options(threads, max_dirs);
-    options.files = true;
+    options.lists.files = true;
     let answer = walk_on::<B, MemTree, R>(rt, alloc, &MemTree::new(&drawn.top), &options);
     let report = report_of(rt, answer)?;
     assert!(rt;

@@ -64,7 +64,7 @@ fn walk_failing<B: Shared<Job, Row>, R: Threads + Wait + Sync + Abort>(
     requires { (1 ≤ threads) × (threads ≤ workers_limit) }
 {
     let mut options = walk_options(threads, 3);
-    options.files = true;
+    options.lists.files = true;
     let tree = FailingTree { tree, call };
     let answer = walk_on::<B, FailingTree<MemTree>, R>(rt, alloc, &tree, &options);
     report_of(rt, answer)

@@ -3,9 +3,10 @@
 use super::tallies::put;
 use super::walked::has_faults;
 use lc_census::{Count, Eol};
+use lc_level::Reason;
 use lc_rules::TextState;
-use lc_tree::FaultWord;
-use lc_walk::{FaultLine, FileLine, Report, Tally};
+use lc_tree::{FaultWord, Kind};
+use lc_walk::{FaultLine, FileLine, Findings, LeftLine, Lists, Report, Tally};
 use std::alloc::{AllocError, Global};
 use std::process::Abort;
 use std::test::Fail;
@@ -31,6 +32,14 @@ fn fault(alloc: Global, path: &[u8], word: FaultWord) -> Result<FaultLine, Alloc
     })
 }
 
+fn left(alloc: Global, path: &[u8]) -> Result<LeftLine, AllocError> {
+    Ok(LeftLine {
+        path: path.to_vec(alloc)?,
+        kind: Kind::Other,
+        reason: Reason::OtherKind,
+    })
+}
+
 fn has_paths(files: &[FileLine], wanted: &[&[u8]]) -> bool {
     for (file, path) in files.iter().zip(wanted) {
         if file.path.as_slice() != *path {
@@ -40,17 +49,35 @@ fn has_paths(files: &[FileLine], wanted: &[&[u8]]) -> bool {
     files.len() == wanted.len()
 }
 
-/// The report of a tally of one file, and of three directories, has these lists in this order.
+fn has_left(lines: &[LeftLine], wanted: &[&[u8]]) -> bool {
+    for (line, path) in lines.iter().zip(wanted) {
+        if line.path.as_slice() != *path {
+            return false;
+        }
+    }
+    lines.len() == wanted.len()
+}
+
+/// The report of a tally of one file, and of three directories, has these lists in this order; of what was left out those of the
+/// files.
 fn check(rt: &impl Abort, report: &Report, files: &[&[u8]], faults: &[(&[u8], FaultWord)]) {
     assert!(rt;
         report.rows.len() == 1
             && report.totals.files == 1
             && report.directories == 3
+            && report.entries == 9
+            && report.lists == LISTS
+            && has_left(&report.left, files)
             && has_paths(&report.files, files)
             && has_faults(&report.faults, faults),
         "{report:?}"
     );
 }
+
+const LISTS: Lists = Lists {
+    files: true,
+    left_out: true,
+};
 
 const PATHS: &[&[u8]] = &[b"d/a.c", b"d.c", b"a.c"];
 
@@ -64,14 +91,23 @@ fn lists_by_paths_bytes(rt: HostRuntime) -> Result<(), Fail> {
     let mut tally = Tally::new(alloc);
     put(&rt, &mut tally, Some(b"c"), TextState::Set, Eol::Lf)?;
     let mut files = Vec::new(alloc);
+    let mut out = Vec::new(alloc);
     for path in PATHS {
         files.push(file(alloc, path)?)?;
+        out.push(left(alloc, path)?)?;
     }
     let mut faults = Vec::new(alloc);
     for (path, word) in FAULTS_IN_ORDER.iter().rev() {
         faults.push(fault(alloc, path, *word)?)?;
     }
-    let report = Report::new(&tally, 3, files, faults)?;
+    let findings = Findings {
+        directories: 3,
+        entries: 9,
+        files,
+        faults,
+        left: out,
+    };
+    let report = Report::new(&tally, LISTS, findings)?;
     check(&rt, &report, IN_ORDER, FAULTS_IN_ORDER);
     Ok(())
 }

@@ -4,9 +4,9 @@ ghost use Rattle.lc_board.specs.Pass.{holding, new_pass};
 
 use crate::walk::walked::walk_options;
 use lc_board::{Claim, CloseFault, Closed, Ended, Locked, Shared, Words};
-use lc_level::{Cause, Job, LevelReader, Place, Scratch, Selection};
+use lc_level::{Cause, Job, Kept, LevelReader, Place, Scratch, Selection};
 use lc_tree::{FaultWord, MemTree, Sketch, Tree};
-use lc_walk::{BrokenRow, End, Row, Tally, WalkFault, Worked, Worker, assemble};
+use lc_walk::{BrokenRow, End, Lists, Row, Tally, WalkFault, Worked, Worker, assemble};
 use std::alloc::{AllocError, Global};
 use std::process::Abort;
 use std::sync::Wait;
@@ -116,7 +116,7 @@ fn check_each_kind<B: Shared<Job, Row>, R: Wait + Abort>(
     let (board, pass) = start_one::<B>(alloc)?;
     let tree = MemTree::new(&node);
     let mut options = walk_options(1, 4);
-    options.files = true;
+    options.lists.files = true;
     let worker = Worker {
         rt,
         alloc,
@@ -149,7 +149,11 @@ const ONE_IN_THE_OTHER: Sketch = Sketch::Dir(&[(b"d", Sketch::Dir(&[(b"e", Sketc
 
 /// The last child directory of a job's.
 fn last_child<T: Tree>(alloc: Global, tree: &T, job: &Job) -> Result<Job, AllocError> {
-    let levels = LevelReader::new(alloc, tree, Selection::new(false, &[]));
+    let kept = Kept {
+        left_out: false,
+        texts: false,
+    };
+    let levels = LevelReader::new(alloc, tree, Selection::new(false, &[]), kept);
     let mut scratch = Scratch::new(alloc)?;
     let Ok(mut opened) = levels.open(job, &mut scratch) else {
         return Err(AllocError);
@@ -215,7 +219,7 @@ fn check_broken_top<B: Shared<Job, Row>, R: Wait + Abort>(
     let Some(tally) = tally else {
         return Err(AllocError);
     };
-    match assemble(alloc, closed, true, tally) {
+    match assemble(alloc, closed, options.lists, tally) {
         Ok(report) => assert!(rt; false, "{report:?}"),
         Err(fault) => assert!(rt; fault == WalkFault::Memory),
     }
@@ -232,7 +236,7 @@ fn a_row_that_was_refused_memory_after_a_post(rt: HostRuntime) -> Result<(), Fai
 const TWO_BELOW: Sketch = Sketch::Dir(&[
     (b"a", LINE),
     (b"d", Sketch::Dir(&[(b"b", LINE)])),
-    (b"e", Sketch::Dir(&[(b"c", LINE)])),
+    (b"e", Sketch::Dir(&[(b"c", LINE), (b"l", Sketch::Other)])),
 ]);
 
 /// Its rows where there is memory.
@@ -261,7 +265,10 @@ fn check_refused<B: Shared<Job, Row>, R: Wait + Abort>(
     let (board, pass) = start_one::<B>(alloc)?;
     let tree = MemTree::new(&node);
     let mut options = walk_options(1, 4);
-    options.files = true;
+    options.lists = Lists {
+        files: true,
+        left_out: true,
+    };
     let worker = Worker {
         rt,
         alloc,
@@ -281,8 +288,14 @@ fn check_refused<B: Shared<Job, Row>, R: Wait + Abort>(
         Some(tally) => tally,
         None => Tally::new(alloc),
     };
-    match assemble(alloc, closed, true, tally) {
-        Ok(report) => assert!(rt; !refused && report.totals.files == 3, "{report:?}"),
+    match assemble(alloc, closed, options.lists, tally) {
+        Ok(report) => {
+            let accounted = report.entries == 6 && report.left.len() == 1;
+            assert!(rt;
+                !refused && report.totals.files == 3 && accounted,
+                "{report:?}"
+            );
+        }
         Err(fault) => {
             assert!(rt; fault == WalkFault::Memory);
             return Err(AllocError);

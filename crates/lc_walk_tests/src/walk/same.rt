@@ -47,6 +47,7 @@ fn has_same_faults(report: &Report, other: &Report) -> bool {
 pub(super) fn is_same(report: &Report, other: &Report) -> bool {
     report.totals == other.totals
         && report.directories == other.directories
+        && report.entries == other.entries
         && has_same_rows(report, other)
         && has_same_files(report, other)
         && has_same_faults(report, other)

@@ -8,13 +8,19 @@ use lc_census::Eol;
 use lc_level::Job;
 use lc_rules::{IgnoreFile, RuleFault, TextState};
 use lc_tree::{FaultWord, MemTree, Sketch, Tree};
-use lc_walk::{FaultLine, Options, Report, Row, TallyRow, WalkFault, walk_on};
+use lc_walk::{FaultLine, Lists, Options, Report, Row, TallyRow, WalkFault, walk_on};
 use std::alloc::{AllocError, Global};
 use std::process::Abort;
 use std::sync::{Arc, Wait};
 use std::thread::Threads;
 
 pub(super) const NONE: TextState = TextState::Unspecified;
+
+/// Neither list.
+pub(super) const NO_LISTS: Lists = Lists {
+    files: false,
+    left_out: false,
+};
 
 /// What is asked of a walk, but for the number of its workers.
 #[derive(Clone, Copy)]
@@ -67,7 +73,7 @@ pub(super) fn walk_options(threads: u32, max_dirs: u32) -> Options<'static>
     Options {
         threads,
         max_dirs,
-        files: false,
+        lists: NO_LISTS,
         exclude: None,
         archive: false,
         without: &[],
@@ -147,7 +153,7 @@ pub(super) fn check_on<B: Shared<Job, Row>, T: Tree, R: Threads + Wait + Sync + 
     Ok(())
 }
 
-fn exclude_file(
+pub(super) fn exclude_file(
     alloc: Global,
     bytes: Option<&[u8]>,
 ) -> Result<Option<Arc<IgnoreFile, Global>>, AllocError> {
@@ -177,7 +183,7 @@ fn check_case<R: Threads + Wait + Sync + Abort>(
         let options = Options {
             threads,
             max_dirs,
-            files: false,
+            lists: NO_LISTS,
             exclude: exclude_file(alloc, asked.exclude)?,
             archive: asked.archive,
             without: asked.without,

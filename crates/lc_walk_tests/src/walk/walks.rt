@@ -4,7 +4,7 @@ use crate::walk::walked::{ASKED, Asked, Case, FOUND, Found, NONE, check, report_
 use lc_census::Eol;
 use lc_rules::TextState;
 use lc_tree::{FaultWord, MemTree, Sketch};
-use lc_walk::{Options, Report, walk};
+use lc_walk::{Lists, Options, Report, walk};
 use std::alloc::{AllocError, Global};
 use std::process::Abort;
 use std::sync::Wait;
@@ -321,7 +321,10 @@ fn check_files<R: Threads + Wait + Sync + Abort>(
     let options = Options {
         threads: 2,
         max_dirs: 1,
-        files: true,
+        lists: Lists {
+            files: true,
+            left_out: false,
+        },
         exclude: None,
         archive: false,
         without: &[],
