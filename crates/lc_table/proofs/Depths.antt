@@ -14,13 +14,15 @@ use Rattle.json.proofs.Printed.Trees.{value-json_tokens}
 use Rattle.lc_rules.specs.declared.states.TextState.{TextState}
 use Rattle.lc_rules.specs.declared.states.TextState.TheVariants as text
 use Rattle.lc_level.specs.FaultLines.{FaultLineModel}
+use Rattle.lc_level.specs.Level.{Reason, named_git, by_rule, by_attribute, other_kind}
+use Rattle.lc_text.specs.RulePlaces.{rule_file}
 use Rattle.lc_text.specs.declared.shape.Columns.{Columns}
-use Rattle.lc_walk.specs.ReportLines.{FileLineModel}
+use Rattle.lc_walk.specs.ReportLines.{FileLineModel, LeftLineModel}
 use Rattle.lc_walk.specs.TallyRows.{TallyRowModel}
 use Rattle.lc_walk.specs.declared.report.Report.{Report}
 use Rattle.lc_table.specs.JsonText.{Member, items_with, members_with, array_with, integer, bytes_member, extension_member}
 use Rattle.lc_table.specs.JsonText.{text_value, if_kept, key_members, sums_members, row_value, file_value, fault_value}
-use Rattle.lc_table.specs.JsonText.{files_member, report_value, IsDocument}
+use Rattle.lc_table.specs.JsonText.{entries_member, files_member, left_member, left_value, reason_members, report_value, IsDocument}
 use Rattle.lc_table.specs.TsvText.{eol_word}
 
 -- an array is as deep as its values
@@ -54,9 +56,9 @@ text_within text.Auto = omega arith
 text_within text.Other = omega arith
 text_within text.Unspecified = omega arith
 
-kept_within : (kept : Bool) (m : Member) → depth m.1 ≤ 1 → members_depth (members_with (if_kept kept m)) ≤ 1
-kept_within true m h = omega arith
-kept_within false m h = omega arith
+kept_within : (n : ℕ) (kept : Bool) (m : Member) → depth m.1 ≤ n → members_depth (members_with (if_kept kept m)) ≤ n
+kept_within n true m h = omega arith
+kept_within n false m h = omega arith
 
 row_within : (by : Columns) (r : TallyRowModel) → depth (row_value by r) ≤ 2
 row_within by r =
@@ -64,9 +66,9 @@ row_within by r =
     let eol : Member = (codes "eol", string (eol_word r.key.eol)) in
     let key : members_depth (members_with (key_members by r.key)) ≤ 1 =
     both_within 1 (if_kept by.ext (extension_member r.key.extension)) (if_kept by.text text ++ if_kept by.eol eol)
-    (kept_within by.ext _ (extension_within r.key.extension))
-    (both_within 1 (if_kept by.text text) (if_kept by.eol eol) (kept_within by.text text (text_within r.key.text))
-    (kept_within by.eol eol (omega arith))) in
+    (kept_within 1 by.ext _ (extension_within r.key.extension))
+    (both_within 1 (if_kept by.text text) (if_kept by.eol eol) (kept_within 1 by.text text (text_within r.key.text))
+    (kept_within 1 by.eol eol (omega arith))) in
     let all : members_depth (members_with (key_members by r.key ++ sums_members r.sums)) ≤ 1 =
     both_within 1 (key_members by r.key) (sums_members r.sums) key (omega arith) in
     omega arith
@@ -80,17 +82,35 @@ file_within f =
 fault_within : (f : FaultLineModel) → depth (fault_value f) ≤ 2
 fault_within f = let path = bytes_within (codes "path") (codes "path_bytes") f.path in omega arith
 
-files_within : (fs : List FileLineModel) → members_depth (members_with (files_member fs)) ≤ 3
-files_within [] = omega arith
-files_within (f ∷ fs) = let all = items_within file_value 2 file_within (f ∷ fs) in omega arith
+reason_within : (path : List ℕ) (reason : Reason) → members_depth (members_with (reason_members path reason)) ≤ 1
+reason_within path named_git = omega arith
+reason_within path (by_rule origin line) =
+    let file = bytes_within (codes "file") (codes "file_bytes") (rule_file (λ directory. directory) path origin) in omega arith
+reason_within path (by_attribute name) =
+    let attribute = bytes_within (codes "attribute") (codes "attribute_bytes") name in omega arith
+reason_within path other_kind = omega arith
+
+left_within : (l : LeftLineModel) → depth (left_value l) ≤ 2
+left_within l =
+    let path = bytes_within (codes "path") (codes "path_bytes") l.path in
+    let reason = reason_within l.path l.reason in
+    omega arith
 
 report_within : (by : Columns) (r : Report) (rows : List TallyRowModel) → depth (report_value by r rows) ≤ 4
 report_within by r rows =
     let faults : Member = (codes "faults", array_with (map fault_value r.faults.items)) in
+    let entries = if_kept r.lists.left_out (entries_member r) in
+    let files = if_kept r.lists.files (files_member r) in
+    let left = if_kept r.lists.left_out (left_member r) in
     let each_row = items_within (row_value by) 2 (row_within by) rows in
+    let each_file = items_within file_value 2 file_within r.files.items in
+    let each_left = items_within left_value 2 left_within r.left.items in
     let each_fault = items_within fault_value 2 fault_within r.faults.items in
     let last : members_depth (members_with (faults ∷ [])) ≤ 3 = omega arith in
-    let both = both_within 3 (files_member r.files.items) (faults ∷ []) (files_within r.files.items) last in
+    let with_left = both_within 3 left (faults ∷ []) (kept_within 3 r.lists.left_out (left_member r) (omega arith)) last in
+    let with_files = both_within 3 files (left ++ faults ∷ []) (kept_within 3 r.lists.files (files_member r) (omega arith)) with_left in
+    let all =
+    both_within 3 entries (files ++ (left ++ faults ∷ [])) (kept_within 3 r.lists.left_out (entries_member r) (omega arith)) with_files in
     omega arith
 
 read_back : (j : Json) → depth j ≤ max_depth → (ts : List Token) → ts ≡ json_tokens j

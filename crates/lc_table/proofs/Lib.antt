@@ -8,3 +8,4 @@ pub mod Tokens
 pub mod Totals
 pub mod Widened
 pub mod Commas
+pub mod Counted

@@ -1,6 +1,6 @@
 -- The tokens of arrays and objects by their parts.
 use Rattle.std.proofs.Common.{◌≡◌, ℕ, ◌==◌, Bool, true, false, if◌then◌else◌, List, [], ◌∷◌, ◌++◌, length, map, codes}
-use Rattle.std.proofs.Common.{refl, ◌∙◌, ap, append_assoc, append-nil}
+use Rattle.std.proofs.Common.{refl, sym, ◌∙◌, ap, append_assoc, append-nil}
 use Rattle.std.specs.List.{flat_map}
 use Rattle.std.proofs.lemmas.List.Concat.{flat_map-append}
 use Rattle.std.specs.Str.{IsUtf8, is_utf8}
@@ -9,8 +9,6 @@ use Rattle.json.specs.Json.{Json, string}
 use Rattle.json.specs.Token.{Token, key, begin_object, end_object, begin_array, end_array}
 use Rattle.json.specs.Tree.{json_tokens, items_tokens, members_tokens}
 use Rattle.lc_table.specs.JsonText.{Member, items_with, members_with, array_with, object_with, integer, bytes_member}
-use Rattle.lc_table.specs.JsonText.{file_value, files_member}
-use Rattle.lc_walk.specs.ReportLines.{FileLineModel}
 use Rattle.lc_table.specs.JsonTokens.{member_tokens, members_tokens_of}
 
 -- an array has the tokens of its values, and a bracket
@@ -49,31 +47,41 @@ listed_tokens name other bytes none =
     ap (λ b. member_tokens (if b then (name, string bytes) else (other, array_with (map integer bytes))))
     (false_if (is_utf8 bytes) (λ e. none (IsUtf8-from_is_utf8 bytes e)))
 
-parts : {X A : Type 0} (f : X → List A) (a b c e : X) (ms : List X) (z : List A)
-    → flat_map f (a ∷ b ∷ c ∷ (ms ++ e ∷ [])) ++ z ≡ f a ++ (f b ++ (f c ++ (flat_map f ms ++ (f e ++ z))))
-parts f a b c e ms z = rw (flat_map-append f ms (e ∷ [])) (simp (append_assoc, append-nil))
+in_turn_6 : {A : Type 0} (t b x y z m e : List A)
+    → (((((t ++ b) ++ x) ++ y) ++ z) ++ m) ++ e ≡ t ++ (b ++ ((x ++ (y ++ (z ++ m))) ++ e))
+in_turn_6 t b x y z m e = simp append_assoc
 
--- an object of three members, some more and a last one
-pub object_of_parts : (a b c e : Member) (ms : List Member)
-    → members_tokens (members_with (a ∷ b ∷ c ∷ (ms ++ e ∷ [])))
-    ≡ member_tokens a ++ (member_tokens b ++ (member_tokens c ++ (members_tokens_of ms ++ (member_tokens e ++ end_object ∷ []))))
-object_of_parts a b c e ms = object_tokens (a ∷ b ∷ c ∷ (ms ++ e ∷ [])) ∙ parts member_tokens a b c e ms (end_object ∷ [])
+-- an object of three members and some more, appended in turn
+pub left_tokens : (text : List Token) (a b c : Member) (ms : List Member)
+    → (((((text ++ begin_object ∷ []) ++ member_tokens a) ++ member_tokens b) ++ member_tokens c) ++ members_tokens_of ms) ++ end_object ∷ []
+    ≡ text ++ json_tokens (object_with (a ∷ b ∷ c ∷ ms))
+left_tokens text a b c ms =
+    in_turn_6 text (begin_object ∷ []) (member_tokens a) (member_tokens b) (member_tokens c) (members_tokens_of ms) (end_object ∷ [])
+    ∙ ap (λ (ts : List Token). text ++ begin_object ∷ ts) (sym (object_tokens (a ∷ b ∷ c ∷ ms)))
+
+parts : {X A : Type 0} (f : X → List A) (a b c e : X) (ks ls ms : List X) (z : List A)
+    → flat_map f (a ∷ b ∷ c ∷ (ks ++ (ls ++ (ms ++ e ∷ [])))) ++ z
+    ≡ f a ++ (f b ++ (f c ++ (flat_map f ks ++ (flat_map f ls ++ (flat_map f ms ++ (f e ++ z))))))
+parts f a b c e ks ls ms z =
+    rw (flat_map-append f ks (ls ++ (ms ++ e ∷ [])), flat_map-append f ls (ms ++ e ∷ []), flat_map-append f ms (e ∷ []))
+    (simp (append_assoc, append-nil))
+
+-- an object of three members, three lists of some and a last one
+pub object_of_parts : (a b c e : Member) (ks ls ms : List Member)
+    → members_tokens (members_with (a ∷ b ∷ c ∷ (ks ++ (ls ++ (ms ++ e ∷ [])))))
+    ≡ member_tokens a ++ (member_tokens b ++ (member_tokens c ++ (members_tokens_of ks ++ (members_tokens_of ls
+    ++ (members_tokens_of ms ++ (member_tokens e ++ end_object ∷ []))))))
+object_of_parts a b c e ks ls ms =
+    object_tokens (a ∷ b ∷ c ∷ (ks ++ (ls ++ (ms ++ e ∷ [])))) ∙ parts member_tokens a b c e ks ls ms (end_object ∷ [])
 
 -- lists that were appended in turn
 pub in_turn_4 : {A : Type 0} (a b c d e : List A) → (((a ++ b) ++ c) ++ d) ++ e ≡ a ++ (b ++ (c ++ (d ++ e)))
 in_turn_4 a b c d e = simp append_assoc
 
-pub in_turn_5 : {A : Type 0} (a b c d e f : List A) → ((((a ++ b) ++ c) ++ d) ++ e) ++ f ≡ a ++ (b ++ (c ++ (d ++ (e ++ f))))
-in_turn_5 a b c d e f = simp append_assoc
+pub in_turn_7 : {A : Type 0} (a b c d e f g h : List A)
+    → ((((((a ++ b) ++ c) ++ d) ++ e) ++ f) ++ g) ++ h ≡ a ++ (b ++ (c ++ (d ++ (e ++ (f ++ (g ++ h))))))
+in_turn_7 a b c d e f g h = simp append_assoc
 
 pub in_turn_8 : {A : Type 0} (a b c d e f g h i : List A)
     → (((((((a ++ b) ++ c) ++ d) ++ e) ++ f) ++ g) ++ h) ++ i ≡ a ++ (b ++ (c ++ (d ++ (e ++ (f ++ (g ++ (h ++ i)))))))
 in_turn_8 a b c d e f g h i = simp append_assoc
-
--- the member of some files
-pub files_tokens : (fs : List FileLineModel) → (length fs == 0) ≡ false → members_tokens_of (files_member fs)
-    ≡ key (codes "files") ∷ begin_array ∷ (flat_map (λ f. json_tokens (file_value f)) fs ++ end_array ∷ [])
-files_tokens [] some = absurd (cc)
-files_tokens (f ∷ fs) some =
-    append-nil (key (codes "files") ∷ begin_array ∷ items_tokens (items_with (map file_value (f ∷ fs))))
-    ∙ ap (λ (ts : List Token). key (codes "files") ∷ begin_array ∷ ts) (array_tokens file_value (f ∷ fs))

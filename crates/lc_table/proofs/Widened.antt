@@ -93,11 +93,19 @@ line_fitted {A} cells xs i x start now next h is so_far step =
     ∙ ap (widened start) (sym (ap (map cells) more ∙ map-append cells (take i xs) (x ∷ [])))
 
 -- one line alone
-pub line_alone : (ws : List ℕ) (shown line : List CellModel) → shown ≡ line → ws ≡ wider [] (cell_widths shown)
-    → line_in ws shown ≡ lines_in (widths_of (line ∷ [])) (line ∷ [])
-line_alone ws shown line is fitted =
-    ap (λ (l : List ℕ). line_in l shown) fitted ∙ ap (λ (cs : List CellModel). line_in (wider [] (cell_widths cs)) cs) is
-    ∙ sym (append-nil (line_in (wider [] (cell_widths line)) line))
+pub line_alone : (ws : List ℕ) (line : List CellModel) → ws ≡ wider [] (cell_widths line)
+    → line_in ws line ≡ lines_in (widths_of (line ∷ [])) (line ∷ [])
+line_alone ws line fitted =
+    ap (λ (l : List ℕ). line_in l line) fitted ∙ sym (append-nil (line_in (wider [] (cell_widths line)) line))
+
+-- two lines
+pub two_lines : (initial t1 t2 first ws : List ℕ) (a b : List CellModel) → first ≡ wider [] (cell_widths a)
+    → ws ≡ wider first (cell_widths b) → t1 ≡ initial ++ line_in ws a → t2 ≡ t1 ++ line_in ws b
+    → t2 ≡ initial ++ lines_in (widths_of (a ∷ b ∷ [])) (a ∷ b ∷ [])
+two_lines initial t1 t2 first ws a b one two e1 e2 =
+    let all : ws ≡ widths_of (a ∷ b ∷ []) = two ∙ ap (λ (l : List ℕ). wider l (cell_widths b)) one in
+    let joined : t2 ≡ initial ++ lines_in ws (a ∷ b ∷ []) = rw (e2, e1) (simp (append_assoc, append-nil)) in
+    joined ∙ ap (λ (l : List ℕ). initial ++ lines_in l (a ∷ b ∷ [])) all
 
 -- headings, rows and sums in columns that fit them all
 pub rows_written : (initial t1 t2 t3 t4 t5 first second ws : List ℕ) (headings : List CellModel) (rows sums : List (List CellModel))

@@ -1,4 +1,4 @@
--- The text of a table with tabs: a header, a line for each key, the totals, the directories, the files, the faults.
+-- The text of a table with tabs: a header, a line for each key, the totals, the directories, the files, what was left out, the faults.
 use Rattle.std.specs.Prelude.{ℕ, Bool, if◌then◌else◌, List, [], ◌∷◌, ◌++◌, codes, decimal, Option, Some, None}
 use Rattle.std.specs.List.{flat_map}
 use Rattle.lc_census.specs.declared.totals.Eol.{Eol}
@@ -6,14 +6,14 @@ use Rattle.lc_census.specs.declared.totals.Eol.TheVariants.{NoEnd, Lf, CrLf, Cr,
 use Rattle.lc_rules.specs.declared.states.TextState.{TextState}
 use Rattle.lc_rules.specs.declared.states.TextState.TheVariants as text
 use Rattle.lc_walk.specs.TallyRows.{TallyRowModel}
-use Rattle.lc_walk.specs.ReportLines.{FileLineModel}
+use Rattle.lc_walk.specs.ReportLines.{FileLineModel, LeftLineModel}
 use Rattle.lc_level.specs.FaultLines.{FaultLineModel}
 use Rattle.lc_walk.specs.declared.tally.sums.Sums.{Sums}
-use Rattle.lc_tree.specs.declared.fault_word.FaultWord.{FaultWord}
-use Rattle.lc_tree.specs.declared.fault_word.FaultWord.TheVariants as fault
+use Rattle.lc_tree.specs.FaultWords.{fault_word}
 use Rattle.lc_walk.specs.declared.report.Report.{Report}
 use Rattle.lc_text.specs.Escape.{escape_bytes, escape_path}
 use Rattle.lc_text.specs.declared.shape.Columns.{Columns}
+use Rattle.lc_table.specs.LeftWords.{reason_word, reason_place, left_path}
 
 -- the class of line ends
 abbrev pub eol_word : Eol → List ℕ
@@ -31,14 +31,6 @@ text_word text.Unset = codes "unset"
 text_word text.Auto = codes "auto"
 text_word text.Other = codes "other"
 text_word text.Unspecified = codes "-"
-
-abbrev pub fault_word : FaultWord → List ℕ
-fault_word fault.Read = codes "read"
-fault_word fault.Name = codes "name"
-fault_word fault.Twice = codes "twice"
-fault_word fault.Many = codes "many"
-fault_word fault.Long = codes "long"
-fault_word fault.Endless = codes "endless"
 
 -- a dot and the escaped bytes, or `-` for none
 abbrev pub extension_word : Option (List ℕ) → List ℕ
@@ -72,10 +64,18 @@ totals_line s = line_with (codes "total" ∷ codes "*" ∷ codes "*" ∷ sums_fi
 abbrev pub directories_line : ℕ → List ℕ
 directories_line n = line_with (codes "directories" ∷ decimal n ∷ [])
 
+-- where entries left out are asked for
+abbrev pub entries_line : Report → List ℕ
+entries_line r = if r.lists.left_out then line_with (codes "entries" ∷ decimal r.entries ∷ []) else []
+
 abbrev pub file_line : FileLineModel → List ℕ
 file_line f =
     line_with (codes "file" ∷ text_word f.text ∷ eol_word f.count.eol
     ∷ decimal f.count.lines ∷ decimal f.count.blank ∷ decimal f.count.bytes ∷ escape_path f.path ∷ [])
+
+abbrev pub left_line : LeftLineModel → List ℕ
+left_line l =
+    line_with (codes "left" ∷ reason_word l.reason ∷ reason_place escape_bytes l.path l.reason ∷ left_path escape_bytes l ∷ [])
 
 abbrev pub fault_line : FaultLineModel → List ℕ
 fault_line f = line_with (codes "fault" ∷ fault_word f.word ∷ escape_path f.path ∷ [])
@@ -83,5 +83,5 @@ fault_line f = line_with (codes "fault" ∷ fault_word f.word ∷ escape_path f.
 -- the table of a report, with these rows
 abbrev pub tsv_text_of : Columns → Report → List TallyRowModel → List ℕ
 tsv_text_of by r rows =
-    header_line ++ flat_map (row_line by) rows ++ totals_line r.totals ++ directories_line r.directories
-    ++ flat_map file_line r.files.items ++ flat_map fault_line r.faults.items
+    header_line ++ flat_map (row_line by) rows ++ totals_line r.totals ++ directories_line r.directories ++ entries_line r
+    ++ flat_map file_line r.files.items ++ flat_map left_line r.left.items ++ flat_map fault_line r.faults.items

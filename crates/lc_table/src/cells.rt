@@ -4,9 +4,15 @@ ghost use Rattle.std.specs.Prelude.{◌≡◌, ◌<◌, ◌++◌, IsAscii, IfOk,
 ghost use Rattle.lc_table.specs.CellWords.{comma, visible_extension, with_commas};
 ghost use Rattle.lc_table.specs.Columns.{ending, number, text_at, width_at, width_of, word};
 ghost use Rattle.lc_table.specs.CellTexts.{cell_model, shown_text};
-ghost use Rattle.lc_text.specs.Visible.{visible_path};
+ghost use Rattle.lc_table.specs.LeftWords.{left_path, reason_place};
+ghost use Rattle.lc_text.specs.RulePlaces.{rule_file, rule_place};
+ghost use Rattle.lc_text.specs.Visible.{visible_bytes, visible_path};
 
-use lc_text::{push_visible, push_visible_path};
+use crate::words::left_end;
+use lc_level::Reason;
+use lc_rules::Origin;
+use lc_text::{above, push_visible, push_visible_path};
+use lc_walk::LeftLine;
 use std::alloc::AllocError;
 use unicode_width::UnicodeWidthStr;
 
@@ -27,6 +33,10 @@ pub(crate) enum Shown<'a> {
     /// The extension of a name.
     Extension(Option<&'a [u8]>),
     Path(&'a [u8]),
+    /// Where the rule stands by which an entry is left out, or the attribute's name.
+    LeftPlace(&'a LeftLine),
+    /// The path of an entry left out.
+    LeftPath(&'a LeftLine),
 }
 
 #[derive(Clone, Copy)]
@@ -78,6 +88,51 @@ fn push_extension(text: &mut String, extension: Option<&[u8]>) -> Result<(), All
     }
 }
 
+fn push_rule_file(text: &mut String, path: &[u8], origin: Origin) -> Result<(), AllocError>
+    ensures { OnOk result (string_bytes text.new ≡ string_bytes text.old ++ rule_file visible_bytes path.now origin) }
+{
+    match origin {
+        Origin::ExcludeFile => text.push_str("--exclude-from"),
+        Origin::GitInfo => text.push_str(".git/info/exclude"),
+        Origin::Directory(depth) => {
+            push_visible(text, above(path, depth))?;
+            text.push_str(".gitignore")
+        }
+    }
+}
+
+fn push_rule_place(
+    text: &mut String,
+    path: &[u8],
+    origin: Origin,
+    line: u32,
+) -> Result<(), AllocError>
+    ensures { OnOk result (string_bytes text.new ≡ string_bytes text.old ++ rule_place visible_bytes path.now origin line) }
+{
+    push_rule_file(text, path, origin)?;
+    text.push_str(":")?;
+    let mut buffer = itoa::Buffer::new();
+    text.push_str(buffer.format(line))
+}
+
+fn push_left_place(text: &mut String, left: &LeftLine) -> Result<(), AllocError>
+    ensures { OnOk result (string_bytes text.new ≡ string_bytes text.old
+        ++ reason_place visible_bytes left.now.path left.now.reason) }
+{
+    match &left.reason {
+        Reason::Rule { origin, line } => push_rule_place(text, &left.path, *origin, *line),
+        Reason::Attribute(name) => push_visible(text, name),
+        Reason::Git | Reason::OtherKind => text.push_str("-"),
+    }
+}
+
+fn push_left_path(text: &mut String, left: &LeftLine) -> Result<(), AllocError>
+    ensures { OnOk result (string_bytes text.new ≡ string_bytes text.old ++ left_path visible_bytes left.now) }
+{
+    push_visible(text, &left.path)?;
+    text.push_str(left_end(left))
+}
+
 pub(crate) fn push_copies(text: &mut String, c: char, count: usize) -> Result<(), AllocError>
     requires { c < 128 }
     ensures { OnOk result (string_bytes text.new ≡ string_bytes text.old ++ replicate count c) }
@@ -99,6 +154,8 @@ impl Shown<'_> {
             Shown::Number(n) => push_number(text, n),
             Shown::Extension(extension) => push_extension(text, extension),
             Shown::Path(path) => push_visible_path(text, path),
+            Shown::LeftPlace(left) => push_left_place(text, left),
+            Shown::LeftPath(left) => push_left_path(text, left),
         }
     }
 
@@ -167,6 +224,24 @@ impl<'a> Cell<'a> {
         Cell {
             side: Side::End,
             shown: Shown::Path(path),
+        }
+    }
+
+    pub(crate) fn left_place(left: &'a LeftLine) -> Cell<'a>
+        ensures { cell_model result ≡ word (reason_place visible_bytes left.entry.now.path left.entry.now.reason) }
+    {
+        Cell {
+            side: Side::Left,
+            shown: Shown::LeftPlace(left),
+        }
+    }
+
+    pub(crate) fn left_path(left: &'a LeftLine) -> Cell<'a>
+        ensures { cell_model result ≡ ending (left_path visible_bytes left.entry.now) }
+    {
+        Cell {
+            side: Side::End,
+            shown: Shown::LeftPath(left),
         }
     }
 

@@ -5,11 +5,13 @@ ghost use Rattle.json.specs.Json.{string};
 ghost use Rattle.json.specs.Tree.{json_tokens};
 ghost use Rattle.lc_table.specs.TsvText.{eol_word};
 ghost use Rattle.lc_table.specs.JsonText.{array_with, object_with, extension_member, if_kept, text_value, sums_members, key_members};
-ghost use Rattle.lc_table.specs.JsonText.{row_value, file_value, fault_value, files_member, json_text_of, report_value, IsDocument};
+ghost use Rattle.lc_table.specs.JsonText.{row_value, file_value, fault_value, entries_member, files_member, left_member};
+ghost use Rattle.lc_table.specs.JsonText.{json_text_of, report_value, IsDocument};
 ghost use Rattle.lc_table.specs.JsonTokens.{member_tokens, members_tokens_of};
 
+use crate::json_left::write_left_list;
 use crate::json_text::JsonText;
-use crate::words::{eol_word, fault_word, text_word};
+use crate::words::{eol_word, text_word};
 use lc_census::Eol;
 use lc_rules::TextState;
 use lc_text::Columns;
@@ -144,7 +146,7 @@ fn write_fault(text: &mut JsonText, fault: &FaultLine) -> Result<(), AllocError>
     ensures { OnOk result (text.new ≡ text.old ++ json_tokens (fault_value fault.now)) }
 {
     text.begin_object()?;
-    text.string_member("word", fault_word(fault.word))?;
+    text.string_member("word", fault.word.as_str())?;
     text.bytes_member("path", "path_bytes", &fault.path)?;
     text.end_object()?;
     Ok(())
@@ -168,18 +170,42 @@ fn write_rows(
     Ok(())
 }
 
-fn write_files(text: &mut JsonText, files: &[FileLine]) -> Result<(), AllocError>
-    ensures { OnOk result (text.new ≡ text.old ++ members_tokens_of (files_member files.now)) }
+fn write_file_list(text: &mut JsonText, files: &[FileLine]) -> Result<(), AllocError>
+    ensures { OnOk result (text.new ≡ text.old ++ member_tokens (codes "files", array_with (map file_value files.now))) }
 {
-    if files.is_empty() {
-        return Ok(());
-    }
     text.key("files")?;
     text.begin_array()?;
     for file in files {
         write_file(text, file)?;
     }
     text.end_array()?;
+    Ok(())
+}
+
+fn write_files(text: &mut JsonText, report: &Report) -> Result<(), AllocError>
+    ensures { OnOk result (text.new ≡ text.old ++ members_tokens_of (if_kept report.now.lists.files (files_member report.now))) }
+{
+    if report.lists.files {
+        write_file_list(text, &report.files)?;
+    }
+    Ok(())
+}
+
+fn write_entries(text: &mut JsonText, report: &Report) -> Result<(), AllocError>
+    ensures { OnOk result (text.new ≡ text.old ++ members_tokens_of (if_kept report.now.lists.left_out (entries_member report.now))) }
+{
+    if report.lists.left_out {
+        text.integer_member("entries", u128::from(report.entries))?;
+    }
+    Ok(())
+}
+
+fn write_left(text: &mut JsonText, report: &Report, alloc: Global) -> Result<(), AllocError>
+    ensures { OnOk result (text.new ≡ text.old ++ members_tokens_of (if_kept report.now.lists.left_out (left_member report.now))) }
+{
+    if report.lists.left_out {
+        write_left_list(text, alloc, &report.left)?;
+    }
     Ok(())
 }
 
@@ -220,7 +246,9 @@ pub(crate) fn json_line(
     write_rows(&mut text, alloc, by, rows)?;
     write_total(&mut text, &report.totals)?;
     text.integer_member("directories", u128::from(report.directories))?;
-    write_files(&mut text, &report.files)?;
+    write_entries(&mut text, report)?;
+    write_files(&mut text, report)?;
+    write_left(&mut text, report, alloc)?;
     write_faults(&mut text, &report.faults)?;
     text.end_object()?;
     text.into_line()

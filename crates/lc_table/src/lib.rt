@@ -12,6 +12,7 @@
 mod cells;
 mod classes;
 mod columns;
+mod json_left;
 mod json_report;
 mod json_text;
 mod laws;

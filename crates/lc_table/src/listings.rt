@@ -1,14 +1,15 @@
-//! What a table in columns lists: files and faults, a line for each.
+//! What a table in columns lists: files, entries left out and faults, a line for each.
 
 ghost use Rattle.std.specs.Prelude.{◌≡◌, ◌++◌, map, OnOk, string_bytes};
 ghost use Rattle.lc_table.specs.CellTexts.{cells_of};
 ghost use Rattle.lc_table.specs.Columns.{lines_in, widened};
-ghost use Rattle.lc_table.specs.ScreenText.{fault_cells, fault_headings, file_cells, file_headings, listing};
+ghost use Rattle.lc_table.specs.ScreenText.{fault_cells, fault_headings, file_cells, file_headings, left_cells};
+ghost use Rattle.lc_table.specs.ScreenText.{left_headings, listing};
 
 use crate::cells::Cell;
 use crate::columns::Widths;
-use crate::words::{eol_word, fault_word, text_word};
-use lc_walk::{FaultLine, FileLine};
+use crate::words::{eol_word, reason_word, text_word};
+use lc_walk::{FaultLine, FileLine, LeftLine};
 use std::alloc::{AllocError, Global};
 
 fn file_headings() -> [Cell<'static>; 6]
@@ -80,6 +81,69 @@ pub(crate) fn push_files(
     text.push_str("\n")
 }
 
+fn left_headings() -> [Cell<'static>; 3]
+    ensures { cells_of result ≡ left_headings }
+{
+    [
+        Cell::word("left out"),
+        Cell::word("by"),
+        Cell::last_heading("path"),
+    ]
+}
+
+fn left_cells(left: &LeftLine) -> [Cell<'_>; 3]
+    ensures { cells_of result ≡ left_cells left.now }
+{
+    [
+        Cell::word(reason_word(left)),
+        Cell::left_place(left),
+        Cell::left_path(left),
+    ]
+}
+
+fn fit_left(widths: &mut Widths, lines: &[LeftLine], made: &mut String) -> Result<(), AllocError>
+    ensures { OnOk result (widths.new ≡ widened widths.old (map left_cells lines.now)) }
+{
+    for left in lines {
+        widths.fit(&left_cells(left), made)?;
+    }
+    Ok(())
+}
+
+fn push_left_lines(
+    widths: &Widths,
+    lines: &[LeftLine],
+    text: &mut String,
+    made: &mut String,
+) -> Result<(), AllocError>
+    ensures { OnOk result (string_bytes text.new ≡ string_bytes text.old ++ lines_in widths.now (map left_cells lines.now)) }
+{
+    for left in lines {
+        widths.push_line(&left_cells(left), text, made)?;
+    }
+    Ok(())
+}
+
+/// Appends a line for each entry left out below their headings, and an empty line.
+pub(crate) fn push_left(
+    alloc: Global,
+    lines: &[LeftLine],
+    text: &mut String,
+    made: &mut String,
+) -> Result<(), AllocError>
+    ensures { OnOk result (string_bytes text.new ≡ string_bytes text.old ++ listing left_headings (map left_cells lines.now)) }
+{
+    if lines.is_empty() {
+        return Ok(());
+    }
+    let mut widths = Widths::new(alloc);
+    widths.fit(&left_headings(), made)?;
+    fit_left(&mut widths, lines, made)?;
+    widths.push_line(&left_headings(), text, made)?;
+    push_left_lines(&widths, lines, text, made)?;
+    text.push_str("\n")
+}
+
 fn fault_headings() -> [Cell<'static>; 2]
     ensures { cells_of result ≡ fault_headings }
 {
@@ -89,7 +153,7 @@ fn fault_headings() -> [Cell<'static>; 2]
 fn fault_cells(fault: &FaultLine) -> [Cell<'_>; 2]
     ensures { cells_of result ≡ fault_cells fault.now }
 {
-    [Cell::word(fault_word(fault.word)), Cell::path(&fault.path)]
+    [Cell::word(fault.word.as_str()), Cell::path(&fault.path)]
 }
 
 fn fit_faults(

@@ -1,16 +1,56 @@
 //! The text of a table for a person, in columns.
 
-ghost use Rattle.std.specs.Prelude.{◌≡◌, ◌++◌, IfOk, OnOk, string_bytes};
+ghost use Rattle.std.specs.Prelude.{◌≡◌, ◌++◌, [], ◌∷◌, IfOk, OnOk, string_bytes};
 ghost use Rattle.lc_table.specs.CellTexts.{cells_of};
-ghost use Rattle.lc_table.specs.ScreenText.{counts, screen_text_of};
+ghost use Rattle.lc_table.specs.Columns.{lines_in, widths_of};
+ghost use Rattle.lc_table.specs.ScreenText.{count_cells, counts, screen_text_of};
 
 use crate::cells::Cell;
 use crate::columns::Widths;
-use crate::listings::{push_faults, push_files};
+use crate::listings::{push_faults, push_files, push_left};
 use crate::summary::push_summary;
 use lc_text::Columns;
 use lc_walk::{Report, TallyRow};
 use std::alloc::{AllocError, Global};
+
+fn count_cells(name: &'static str, count: u64) -> [Cell<'static>; 2]
+    ensures { cells_of result ≡ count_cells name.now count }
+{
+    [Cell::word(name), Cell::number(u128::from(count))]
+}
+
+fn push_directories(
+    alloc: Global,
+    directories: &[Cell<'_>],
+    text: &mut String,
+    made: &mut String,
+) -> Result<(), AllocError>
+    ensures { OnOk result (string_bytes text.new ≡ string_bytes text.old
+        ++ lines_in (widths_of (cells_of directories.now ∷ [])) (cells_of directories.now ∷ [])) }
+{
+    let mut widths = Widths::new(alloc);
+    widths.fit(directories, made)?;
+    widths.push_line(directories, text, made)?;
+    Ok(())
+}
+
+fn push_both(
+    alloc: Global,
+    directories: &[Cell<'_>],
+    entries: &[Cell<'_>],
+    text: &mut String,
+    made: &mut String,
+) -> Result<(), AllocError>
+    ensures { OnOk result (string_bytes text.new ≡ string_bytes text.old
+        ++ lines_in (widths_of (cells_of directories.now ∷ cells_of entries.now ∷ [])) (cells_of directories.now ∷ cells_of entries.now ∷ [])) }
+{
+    let mut widths = Widths::new(alloc);
+    widths.fit(directories, made)?;
+    widths.fit(entries, made)?;
+    widths.push_line(directories, text, made)?;
+    widths.push_line(entries, text, made)?;
+    Ok(())
+}
 
 fn push_counts(
     alloc: Global,
@@ -20,13 +60,13 @@ fn push_counts(
 ) -> Result<(), AllocError>
     ensures { OnOk result (string_bytes text.new ≡ string_bytes text.old ++ counts report.now) }
 {
-    let directories = [
-        Cell::word("directories"),
-        Cell::number(u128::from(report.directories)),
-    ];
-    let mut widths = Widths::new(alloc);
-    widths.fit(&directories, made)?;
-    widths.push_line(&directories, text, made)?;
+    let directories = count_cells("directories", report.directories);
+    if report.lists.left_out {
+        let entries = count_cells("entries", report.entries);
+        push_both(alloc, &directories, &entries, text, made)?;
+        return Ok(());
+    }
+    push_directories(alloc, &directories, text, made)?;
     Ok(())
 }
 
@@ -43,6 +83,7 @@ pub(crate) fn screen_text(
     let mut text = String::new(alloc);
     let mut made = String::new(alloc);
     push_files(alloc, &report.files, &mut text, &mut made)?;
+    push_left(alloc, &report.left, &mut text, &mut made)?;
     push_faults(alloc, &report.faults, &mut text, &mut made)?;
     push_summary(alloc, report, by, rows, &mut text, &mut made)?;
     text.push_str("\n")?;

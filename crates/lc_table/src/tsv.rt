@@ -2,12 +2,16 @@
 
 ghost use Rattle.std.specs.Prelude.{◌≡◌, ◌++◌, OnOk, IfOk, option_map};
 ghost use Rattle.std.specs.List.{flat_map};
-ghost use Rattle.lc_table.specs.TsvText.{column, extension_word, row_line, totals_line, directories_line, file_line, fault_line};
+ghost use Rattle.lc_table.specs.TsvText.{column, extension_word, row_line, totals_line, directories_line, entries_line};
+ghost use Rattle.lc_table.specs.TsvText.{file_line, left_line, fault_line};
+ghost use Rattle.lc_table.specs.LeftWords.{reason_place};
+ghost use Rattle.lc_text.specs.Escape.{escape_bytes};
 ghost use Rattle.lc_table.specs.TsvText.{tsv_text_of};
 
-use crate::words::{eol_word, fault_word, text_word};
-use lc_text::{Columns, push_escaped, push_path};
-use lc_walk::{FaultLine, FileLine, Report, Sums, TallyRow};
+use crate::words::{eol_word, left_end, reason_word, text_word};
+use lc_level::Reason;
+use lc_text::{Columns, push_escaped, push_origin, push_path};
+use lc_walk::{FaultLine, FileLine, LeftLine, Report, Sums, TallyRow};
 use std::alloc::{AllocError, Global};
 use std::io::Write;
 
@@ -73,6 +77,17 @@ fn push_directories(text: &mut Vec<u8>, directories: u64) -> Result<(), AllocErr
     writeln!(text, "directories\t{directories}").map_err(|_| AllocError)
 }
 
+fn push_entries(text: &mut Vec<u8>, report: &Report) -> Result<(), AllocError>
+    ensures { OnOk result (text.new.items ≡ text.old.items ++ entries_line report.now) }
+{
+    if report.lists.left_out {
+        let entries = report.entries;
+        writeln!(text, "entries\t{entries}").map_err(|_| AllocError)
+    } else {
+        Ok(())
+    }
+}
+
 fn push_file(text: &mut Vec<u8>, file: &FileLine) -> Result<(), AllocError>
     ensures { OnOk result (text.new.items ≡ text.old.items ++ file_line file.now) }
 {
@@ -86,10 +101,34 @@ fn push_file(text: &mut Vec<u8>, file: &FileLine) -> Result<(), AllocError>
     text.extend_from_slice(b"\n")
 }
 
+fn push_reason_place(text: &mut Vec<u8>, left: &LeftLine) -> Result<(), AllocError>
+    ensures { OnOk result (text.new.items ≡ text.old.items ++ reason_place escape_bytes left.now.path left.now.reason) }
+{
+    match &left.reason {
+        Reason::Rule { origin, line } => push_origin(text, &left.path, *origin, *line),
+        Reason::Attribute(name) => push_escaped(text, name),
+        Reason::Git | Reason::OtherKind => text.extend_from_slice(b"-"),
+    }
+}
+
+fn push_left(text: &mut Vec<u8>, left: &LeftLine) -> Result<(), AllocError>
+    ensures { OnOk result (text.new.items ≡ text.old.items ++ left_line left.now) }
+{
+    text.extend_from_slice(b"left\t")?;
+    text.extend_from_slice(reason_word(left).as_bytes())?;
+    text.extend_from_slice(b"\t")?;
+    push_reason_place(text, left)?;
+    text.extend_from_slice(b"\t")?;
+    push_escaped(text, &left.path)?;
+    text.extend_from_slice(left_end(left).as_bytes())?;
+    text.extend_from_slice(b"\n")?;
+    Ok(())
+}
+
 fn push_fault(text: &mut Vec<u8>, fault: &FaultLine) -> Result<(), AllocError>
     ensures { OnOk result (text.new.items ≡ text.old.items ++ fault_line fault.now) }
 {
-    let word = fault_word(fault.word);
+    let word = fault.word.as_str();
     write!(text, "fault\t{word}\t").map_err(|_| AllocError)?;
     push_path(text, &fault.path)?;
     text.extend_from_slice(b"\n")
@@ -113,6 +152,15 @@ fn push_files(text: &mut Vec<u8>, files: &[FileLine]) -> Result<(), AllocError>
     Ok(())
 }
 
+fn push_left_lines(text: &mut Vec<u8>, lines: &[LeftLine]) -> Result<(), AllocError>
+    ensures { OnOk result (text.new.items ≡ text.old.items ++ flat_map left_line lines.now) }
+{
+    for left in lines {
+        push_left(text, left)?;
+    }
+    Ok(())
+}
+
 fn push_faults(text: &mut Vec<u8>, faults: &[FaultLine]) -> Result<(), AllocError>
     ensures { OnOk result (text.new.items ≡ text.old.items ++ flat_map fault_line faults.now) }
 {
@@ -123,7 +171,7 @@ fn push_faults(text: &mut Vec<u8>, faults: &[FaultLine]) -> Result<(), AllocErro
 }
 
 /// Fields are separated by one tab. After a header there is a line for each row, one for the totals, one with the number of
-/// directories, and one for each file, if files were asked for, and for each fault, with their paths escaped as
+/// directories, and one for each file, each entry left out, if these were asked for, and each fault, with their paths escaped as
 /// [`escape`](lc_text::escape) has it.
 pub(crate) fn tsv_text(
     alloc: Global,
@@ -138,7 +186,9 @@ pub(crate) fn tsv_text(
     push_rows(&mut text, by, rows)?;
     push_totals(&mut text, &report.totals)?;
     push_directories(&mut text, report.directories)?;
+    push_entries(&mut text, report)?;
     push_files(&mut text, &report.files)?;
+    push_left_lines(&mut text, &report.left)?;
     push_faults(&mut text, &report.faults)?;
     Ok(text)
 }

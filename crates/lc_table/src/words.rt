@@ -1,11 +1,14 @@
 //! The words in the columns of a table.
 
 ghost use Rattle.std.specs.Prelude.{◌≡◌};
-ghost use Rattle.lc_table.specs.TsvText.{eol_word, text_word, fault_word};
+ghost use Rattle.lc_table.specs.TsvText.{eol_word, text_word};
+ghost use Rattle.lc_table.specs.LeftWords.{kind_word, left_end, reason_word};
 
 use lc_census::Eol;
+use lc_level::Reason;
 use lc_rules::TextState;
-use lc_tree::FaultWord;
+use lc_tree::Kind;
+use lc_walk::LeftLine;
 
 pub(crate) fn eol_word(eol: Eol) -> &'static str
     ensures { result.now ≡ eol_word eol }
@@ -32,15 +35,34 @@ pub(crate) fn text_word(text: TextState) -> &'static str
     }
 }
 
-pub(crate) fn fault_word(word: FaultWord) -> &'static str
-    ensures { result.now ≡ fault_word word }
+pub(crate) fn reason_word(left: &LeftLine) -> &'static str
+    ensures { result.now ≡ reason_word left.now.reason }
 {
-    match word {
-        FaultWord::Read => "read",
-        FaultWord::Name => "name",
-        FaultWord::Twice => "twice",
-        FaultWord::Many => "many",
-        FaultWord::Long => "long",
-        FaultWord::Endless => "endless",
+    match left.reason {
+        Reason::Git => "git",
+        Reason::Rule { .. } => "rule",
+        Reason::Attribute(_) => "attribute",
+        Reason::OtherKind => "other",
+    }
+}
+
+pub(crate) fn kind_word(kind: Kind) -> &'static str
+    ensures { result.now ≡ kind_word kind }
+{
+    match kind {
+        Kind::File => "file",
+        Kind::Dir => "dir",
+        Kind::Other => "other",
+    }
+}
+
+/// What follows the path of an entry left out.
+pub(crate) fn left_end(left: &LeftLine) -> &'static str
+    ensures { result.now ≡ left_end left.now.kind left.now.reason }
+{
+    match (left.kind, &left.reason) {
+        (Kind::Dir, Reason::Git) => "",
+        (Kind::Dir, _) => "/",
+        (Kind::File | Kind::Other, _) => "",
     }
 }

@@ -4,6 +4,7 @@ mod asking;
 mod failing_calls;
 mod failing_trees;
 mod json;
+mod left;
 mod runs;
 mod screens;
 mod shapes;

@@ -11,29 +11,43 @@ use lc_text::trials::Narrow;
 use lc_text::{Columns, Format, Outcome, Shape, Sink};
 use lc_tree::trials::BytewiseTree;
 use lc_tree::{MemTree, Sketch, Tree};
-use lc_walk::{Options, Row, WalkFault, walk_on};
+use lc_walk::{Lists, Options, Row, WalkFault, walk_on};
 use std::alloc::{AllocError, Global};
 use std::process::Abort;
 use std::sync::{Arc, Wait};
 use std::test::Fail;
 use std::thread::Threads;
 
-/// The rules that exclude, whether files are asked for, and whether the view is an archive's.
+/// The rules that exclude, the lists that are asked for, and whether the view is an archive's.
 #[derive(Clone, Copy)]
 pub(super) struct Asked<'a> {
     pub(super) exclude: &'a [u8],
-    pub(super) files: bool,
+    pub(super) lists: Lists,
     pub(super) archive: bool,
 }
 
 pub(super) const PLAIN: Asked<'static> = Asked {
     exclude: b"",
-    files: false,
+    lists: Lists {
+        files: false,
+        left_out: false,
+    },
     archive: false,
 };
 
 pub(super) const WITH_FILES: Asked<'static> = Asked {
-    files: true,
+    lists: Lists {
+        files: true,
+        left_out: false,
+    },
+    ..PLAIN
+};
+
+pub(super) const WITH_LEFT_OUT: Asked<'static> = Asked {
+    lists: Lists {
+        files: false,
+        left_out: true,
+    },
     ..PLAIN
 };
 
@@ -83,7 +97,7 @@ fn options_of(
     Ok(Options {
         threads,
         max_dirs,
-        files: asked.files,
+        lists: asked.lists,
         exclude: excluding(alloc, asked.exclude)?,
         archive: asked.archive,
         without: &[],

@@ -1,7 +1,7 @@
 //! Runs over trees of memory: their tables, by any number of workers, and where they stop.
 
 use crate::table::asking::{
-    Asked, Case, HEADER, PLAIN, WITH_FILES, answer_of, compare_all, compare_by,
+    Asked, Case, HEADER, PLAIN, WITH_FILES, WITH_LEFT_OUT, answer_of, compare_all, compare_by,
 };
 use lc_table::RunFault;
 use lc_text::Outcome;
@@ -90,8 +90,16 @@ const EXCLUDING: Case<'static> = Case {
     lines: b"-\t-\tlf\t1\t1\t0\t5\n.c\t-\tlf\t1\t1\t0\t2\ntotal\t*\t*\t2\t2\t0\t7\ndirectories\t1\n",
 };
 
+const LEFT_OUT: Case<'static> = Case {
+    name: "what_was_left_out",
+    asked: WITH_LEFT_OUT,
+    lines: b"-\t-\tlf\t1\t3\t0\t24\n.c\t-\tcrlf\t1\t1\t0\t8\n.log\t-\tlf\t1\t1\t0\t2\ntotal\t*\t*\t3\t5\t0\t34\ndirectories\t3\nentries\t7\nleft\trule\t.gitignore:1\ta.log\nleft\trule\t.gitignore:3\tbuild/\n",
+    ..FIRST_CASE
+};
+
 const CASES: &[Case<'static>] = &[
     FIRST_CASE,
+    LEFT_OUT,
     TEXT_STATES,
     Case {
         name: "a_top_that_is_not_listed",

@@ -9,7 +9,7 @@ use lc_tree::FaultWord;
 use std::process::Abort;
 use std::test::Fail;
 
-const EMPTY: Case = Case {
+pub(super) const EMPTY: Case = Case {
     name: "no_files",
     rows: &[],
     totals: [0, 0, 0, 0],
@@ -175,7 +175,7 @@ const CASES: &[ScreenCase] = &[
 ];
 
 /// A text is these lines.
-fn has_lines(text: &[u8], lines: &[&str]) -> bool {
+pub(super) fn has_lines(text: &[u8], lines: &[&str]) -> bool {
     let mut left = text;
     for line in lines {
         let Some(rest) = left.strip_prefix(line.as_bytes()) else {

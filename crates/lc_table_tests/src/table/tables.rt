@@ -7,7 +7,7 @@ use lc_table::{table, table_text};
 use lc_text::PrintFault;
 use lc_text::trials::{Narrow, WRITERS, WhenFull};
 use lc_tree::FaultWord;
-use lc_walk::{FaultLine, FileLine, Report, Sums, TallyRow};
+use lc_walk::{FaultLine, FileLine, Lists, Report, Sums, TallyRow};
 use std::alloc::{AllocError, Global};
 use std::process::Abort;
 use std::test::Fail;
@@ -175,8 +175,14 @@ pub(super) fn report_of(alloc: Global, case: &Case) -> Result<Report, AllocError
         rows: rows_of(alloc, case)?,
         totals,
         directories: case.directories,
+        entries: 0,
+        lists: Lists {
+            files: !case.files.is_empty(),
+            left_out: false,
+        },
         files: files_of(alloc, case)?,
         faults: faults_of(alloc, case)?,
+        left: Vec::new(alloc),
     })
 }
 

@@ -9,7 +9,7 @@ returns c =
       c.in_ok-string_member.ensures,
       c.in_ok-begin_object.ensures,
       c.deref.ensures.value,
-      c.fault_word.ensures,
+      c.as_str.ensures,
       ← c.fault.view_is,
     )
     (simp append_assoc)

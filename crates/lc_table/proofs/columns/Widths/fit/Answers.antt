@@ -1,4 +1,7 @@
-use Rattle.std.proofs.Common.{length, sym, ap, arith}
+use Rattle.std.proofs.Common.{◌≤◌, ◌∙◌, length, sym, ap, arith}
+use Rattle.lc_table.specs.CellTexts.{cell_model}
+use Rattle.lc_table.specs.Columns.{width_at}
+use Rattle.lc_table.specs.declared.cells.Cell.{Cell}
 use Rattle.lc_table.proofs.Widened.{wider-nil, length-fitted, cell_fitted}
 use Rattle.lc_table.proofs.columns.Widths.fit.Goals as goal
 
@@ -15,5 +18,7 @@ widen-requires c =
 
 pub loop-column-preserved : goal.loop-column-preserved
 loop-column-preserved c =
-    cell_fitted c.args.self.now c.loop-column.self c.widen.new.self c.args.cells.now c.loop-column.column c.in_ok-width.width _
-    c.loop-column-test.true c.loop-column.invariant c.in_ok-width.ensures c.in_ok-widen.ensures
+    cell_fitted c.args.self.now c.loop-column.self c.widen.new.self c.args.cells.now c.loop-column.column c.in_ok-width.width
+    c.index-cells-column.result c.loop-column-test.true c.loop-column.invariant
+    (c.in_ok-width.ensures ∙ ap (λ (cell : Cell). width_at (cell_model cell).side (cell_model cell).text) c.index-cells-column.is)
+    c.in_ok-widen.ensures

@@ -1,6 +1,7 @@
-use Rattle.std.proofs.Common.{append_assoc, take_all, sym, ◌∙◌}
-use Rattle.lc_table.proofs.Tokens.{files_tokens}
-use Rattle.lc_table.proofs.json_report.write_files.Goals as goal
+use Rattle.std.proofs.Common.{append_assoc, take_all}
+use Rattle.lc_table.specs.JsonText.{file_value}
+use Rattle.lc_table.proofs.Tokens.{array_tokens}
+use Rattle.lc_table.proofs.json_report.write_file_list.Goals as goal
 
 pub returns : goal.returns
 returns c =
@@ -10,6 +11,6 @@ returns c =
       c.in_ok-begin_array.ensures,
       c.in_ok-key.ensures,
       take_all c.loop-file.file-index c.args.files.now c.loop-file-test.false,
-      files_tokens c.args.files.now (sym c.is_empty.ensures ∙ c.if-is_empty.false),
+      array_tokens (file_value) c.args.files.now,
     )
     (simp append_assoc)

@@ -1,0 +1,114 @@
+//! What was left out, in each format.
+
+use crate::table::asking::{HEADER, TSV};
+use crate::table::screens::{EMPTY, has_lines};
+use crate::table::tables::report_of;
+use lc_level::Reason;
+use lc_rules::Origin;
+use lc_table::table_text;
+use lc_text::{Format, Shape};
+use lc_tree::Kind;
+use lc_walk::{LeftLine, Lists, Report};
+use std::alloc::{AllocError, Global};
+use std::process::Abort;
+use std::test::Fail;
+
+/// Why an entry was left out.
+#[derive(Clone, Copy)]
+enum Why {
+    Git,
+    Rule(Origin, u32),
+    Attribute(&'static [u8]),
+    Other,
+}
+
+const LEFT: &[(&[u8], Kind, Why)] = &[
+    (b".git", Kind::Dir, Why::Git),
+    (b"a\n.log", Kind::File, Why::Rule(Origin::Directory(0), 1)),
+    (b"docs", Kind::Dir, Why::Attribute(b"export-ignore")),
+    (b"link.c", Kind::Other, Why::Other),
+    (b"notes.txt", Kind::File, Why::Rule(Origin::GitInfo, 2)),
+    (b"src/gen", Kind::Dir, Why::Rule(Origin::Directory(1), 3)),
+    (b"x.bak", Kind::File, Why::Rule(Origin::ExcludeFile, 7)),
+];
+
+fn reason_of(alloc: Global, why: Why) -> Result<Reason, AllocError> {
+    match why {
+        Why::Git => Ok(Reason::Git),
+        Why::Rule(origin, line) => Ok(Reason::Rule { origin, line }),
+        Why::Attribute(name) => Ok(Reason::Attribute(name.to_vec(alloc)?)),
+        Why::Other => Ok(Reason::OtherKind),
+    }
+}
+
+fn report_with(alloc: Global, lines: &[(&[u8], Kind, Why)]) -> Result<Report, AllocError> {
+    let mut report = report_of(alloc, &EMPTY)?;
+    report.lists = Lists {
+        files: true,
+        left_out: true,
+    };
+    report.entries = 1_008;
+    for (path, kind, why) in lines {
+        let path = path.to_vec(alloc)?;
+        let reason = reason_of(alloc, *why)?;
+        report.left.push(LeftLine {
+            path,
+            kind: *kind,
+            reason,
+        })?;
+    }
+    Ok(report)
+}
+
+const TABS: &[u8] =
+    b"total\t*\t*\t0\t0\t0\t0\ndirectories\t1\nentries\t1008\nleft\tgit\t-\t.git\nleft\trule\t.gitignore:1\ta\\x0a.log\nleft\tattribute\texport-ignore\tdocs/\nleft\tother\t-\tlink.c\nleft\trule\t.git/info/exclude:2\tnotes.txt\nleft\trule\tsrc/.gitignore:3\tsrc/gen/\nleft\trule\t--exclude-from:7\tx.bak\n";
+
+const JSON: &[u8] =
+    b"{\"rows\":[],\"total\":{\"files\":0,\"lines\":0,\"blank\":0,\"bytes\":0},\"directories\":1,\"entries\":1008,\"files\":[],\"left\":[{\"path\":\".git\",\"kind\":\"dir\",\"reason\":\"git\"},{\"path\":\"a\\n.log\",\"kind\":\"file\",\"reason\":\"rule\",\"file\":\".gitignore\",\"line\":1},{\"path\":\"docs\",\"kind\":\"dir\",\"reason\":\"attribute\",\"attribute\":\"export-ignore\"},{\"path\":\"link.c\",\"kind\":\"other\",\"reason\":\"other\"},{\"path\":\"notes.txt\",\"kind\":\"file\",\"reason\":\"rule\",\"file\":\".git/info/exclude\",\"line\":2},{\"path\":\"src/gen\",\"kind\":\"dir\",\"reason\":\"rule\",\"file\":\"src/.gitignore\",\"line\":3},{\"path\":\"x.bak\",\"kind\":\"file\",\"reason\":\"rule\",\"file\":\"--exclude-from\",\"line\":7}],\"faults\":[]}\n";
+
+const LINES: &[&str] = &[
+    "left out   by                   path",
+    "git        -                    .git",
+    "rule       .gitignore:1         a\\x0a.log",
+    "attribute  export-ignore        docs/",
+    "other      -                    link.c",
+    "rule       .git/info/exclude:2  notes.txt",
+    "rule       src/.gitignore:3     src/gen/",
+    "rule       --exclude-from:7     x.bak",
+    "",
+    "ext    text  eol  files  lines  blank  bytes",
+    "--------------------------------------------",
+    "--------------------------------------------",
+    "total                 0      0      0      0",
+    "",
+    "directories      1",
+    "entries      1,008",
+];
+
+fn shaped(format: Format) -> Shape {
+    Shape { format, ..TSV }
+}
+
+#[test]
+fn left_out_with_tabs(rt: HostRuntime) -> Result<(), Fail> {
+    let report = report_with(rt.alloc(), LEFT)?;
+    let text = table_text(rt.alloc(), &report, TSV)?;
+    assert!(rt; text.as_slice().strip_prefix(HEADER) == Some(TABS));
+    Ok(())
+}
+
+#[test]
+fn left_out_as_json(rt: HostRuntime) -> Result<(), Fail> {
+    let report = report_with(rt.alloc(), LEFT)?;
+    let text = table_text(rt.alloc(), &report, shaped(Format::Json))?;
+    assert!(rt; text.as_slice() == JSON);
+    Ok(())
+}
+
+#[test]
+fn left_out_in_columns(rt: HostRuntime) -> Result<(), Fail> {
+    let report = report_with(rt.alloc(), LEFT)?;
+    let text = table_text(rt.alloc(), &report, shaped(Format::Table))?;
+    assert!(rt; has_lines(&text, LINES));
+    Ok(())
+}
