@@ -13,7 +13,8 @@ use Rattle.lc_explain.specs.Explained.{is_directory, IsExplained}
 use Rattle.lc_explain.specs.Waypoints.{WaypointModel, Way, kind_in}
 use Rattle.lc_explain.specs.Ways.{StandsBelow, Reaches, IsWay}
 use Rattle.lc_explain.proofs.PathSegments.{IsCutAt, has_first, name_first, some_name, good_path, stands_below}
-use Rattle.lc_explain.proofs.Reaching.{last_said, left_said, beside_said, into_said, reached, top_reaches, child_reached, way_longer, way_end}
+use Rattle.lc_explain.proofs.Reaching.{last_said, left_said, beside_said, into_said, reached, top_reaches, child_reached, way_longer}
+use Rattle.lc_explain.proofs.Reaching.{way_end}
 use Rattle.lc_explain.proofs.WayEnds.{last_is}
 
 -- ---- below what is no directory
@@ -25,7 +26,8 @@ module _ (s : SelectionModel) (exclude : List ℕ) (way : Way) (j : JobModel) (r
   beside_step =
       let h = has_first others in
       ap (λ (l : List (List ℕ)). said_beside s exclude way j l as_dir) (at.cut ∙ ap (λ (l : List (List ℕ)). name ∷ l) h.are)
-      ∙ ap (λ (l : List (List ℕ)). said_above (cited exclude way) (reason_for s j name Dir) (said_beside s exclude way (child_job j name) l as_dir))
+      ∙ ap (λ (l : List (List ℕ)). said_above (cited exclude way) (reason_for s j name Dir) (said_beside s exclude way
+      (child_job j name) l as_dir))
       (sym h.are)
 
   -- a name there is left out
@@ -33,14 +35,16 @@ module _ (s : SelectionModel) (exclude : List ℕ) (way : Way) (j : JobModel) (r
       → said_beside s exclude way j (segments_of rest) as_dir ≡ said_for (cited exclude way) below r
   beside_left r is =
       beside_step
-      ∙ ap (λ (o : Option Reason). said_above (cited exclude way) o (said_beside s exclude way (child_job j name) (segments_of others) as_dir)) is
+      ∙ ap (λ (o : Option Reason). said_above (cited exclude way) o (said_beside s exclude way (child_job j name)
+      (segments_of others) as_dir)) is
 
   -- or it is not
   pub beside_on : reason_for s j name Dir ≡ None
       → said_beside s exclude way j (segments_of rest) as_dir ≡ said_beside s exclude way (child_job j name) (segments_of others) as_dir
   beside_on is =
       beside_step
-      ∙ ap (λ (o : Option Reason). said_above (cited exclude way) o (said_beside s exclude way (child_job j name) (segments_of others) as_dir)) is
+      ∙ ap (λ (o : Option Reason). said_above (cited exclude way) o (said_beside s exclude way (child_job j name)
+      (segments_of others) as_dir)) is
 
 pub beside_last : (s : SelectionModel) (exclude : List ℕ) (way : Way) (j : JobModel) (rest name : List ℕ) (as_dir : Bool)
     → segments_of rest ≡ name ∷ []
@@ -74,7 +78,8 @@ module _ (Enters : JobModel → Result WaypointModel FaultLineModel → Type 0) 
   module _ (way : Way) (path rest : List ℕ) (here : WaypointModel) (last : IsLast way path rest here) (good : is_bad_path path ≡ false)
       (name : List ℕ) where
     pub last_explained : (as_dir : Bool) (x : Explanation) → segments_of rest ≡ name ∷ []
-        → x ≡ said_of s exclude way here.job name (kind_asked as_dir (kind_in here.entries name)) → IsExplained Enters s exclude top path as_dir x
+        → x ≡ said_of s exclude way here.job name (kind_asked as_dir (kind_in here.entries name))
+        → IsExplained Enters s exclude top path as_dir x
     last_explained as_dir x cut is =
         reached Enters s exclude top way here path rest as_dir x last.reaches last.left good
         (last_said Enters s exclude way here rest name as_dir x cut is)
@@ -88,14 +93,17 @@ module _ (Enters : JobModel → Result WaypointModel FaultLineModel → Type 0) 
           (left_said Enters s exclude way here rest name others as_dir x at.cut r is said)
 
       pub beside_explained : (as_dir : Bool) (x : Explanation)
-          → reason_for s here.job name (kind_asked true (kind_in here.entries name)) ≡ None → is_directory (kind_in here.entries name) ≡ false
-          → x ≡ said_beside s exclude way (child_job here.job name) (segments_of others) as_dir → IsExplained Enters s exclude top path as_dir x
+          → reason_for s here.job name (kind_asked true (kind_in here.entries name)) ≡ None
+          → is_directory (kind_in here.entries name) ≡ false
+          → x ≡ said_beside s exclude way (child_job here.job name) (segments_of others) as_dir
+          → IsExplained Enters s exclude top path as_dir x
       beside_explained as_dir x is other said =
           reached Enters s exclude top way here path rest as_dir x last.reaches last.left good
           (beside_said Enters s exclude way here rest name others as_dir x at.cut is other said)
 
       pub fault_explained : (as_dir : Bool) (x : Explanation) (fault : FaultLineModel)
-          → reason_for s here.job name (kind_asked true (kind_in here.entries name)) ≡ None → is_directory (kind_in here.entries name) ≡ true
+          → reason_for s here.job name (kind_asked true (kind_in here.entries name)) ≡ None
+          → is_directory (kind_in here.entries name) ≡ true
           → Enters (child_job here.job name) (Err fault) → x ≡ faulted fault → IsExplained Enters s exclude top path as_dir x
       fault_explained as_dir x fault is dir entered said =
           reached Enters s exclude top way here path rest as_dir x last.reaches last.left good
@@ -103,13 +111,15 @@ module _ (Enters : JobModel → Result WaypointModel FaultLineModel → Type 0) 
 
       -- a directory more on the way
       pub way_on : (child : WaypointModel) → IsWay Enters s exclude top way
-          → reason_for s here.job name (kind_asked true (kind_in here.entries name)) ≡ None → is_directory (kind_in here.entries name) ≡ true
+          → reason_for s here.job name (kind_asked true (kind_in here.entries name)) ≡ None
+          → is_directory (kind_in here.entries name) ≡ true
           → child.job.path ≡ path_in here.job.path name → Enters (child_job here.job name) (Ok child)
           → IsWay Enters s exclude top (way ++ child ∷ []) × StandsBelow (way ++ child ∷ []) path others
       way_on child is none dir child_path entered = (
         way_longer Enters s exclude top [] way child is
             (child_reached Enters s exclude top way here child name last.reaches (name_first here.job.path rest name others at)
-            (some_name here.job.path rest name others at (sym (ap is_good_path last.left) ∙ good_path path good)) none dir child_path entered),
+            (some_name here.job.path rest name others at (sym (ap is_good_path last.left)
+            ∙ good_path path good)) none dir child_path entered),
         record {
           above = way;
           here = child;

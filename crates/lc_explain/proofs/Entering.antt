@@ -24,7 +24,8 @@ fault_is p q w v e =
     let b : w ≡ v = cc e in
     ap₂ as_fault a b
 
-after_fault : (s : SelectionModel) (j : JobModel) (path : List ℕ) (word : FaultWord) (items : List Item) (r : Result RuleBytes FaultLineModel)
+after_fault : (s : SelectionModel) (j : JobModel) (path : List ℕ) (word : FaultWord) (items : List Item)
+    (r : Result RuleBytes FaultLineModel)
     → level_after s j items r ≡ faulted_level path word → waypoint_after j items r ≡ as_fault path word
 after_fault s j path word items (Ok files) e = absurd (cc e)
 after_fault s j path word items (Err f) e = fault_is f.path path f.word word e
@@ -50,7 +51,8 @@ fault_entered lists gives j texts place word directory at (a, may, tidy, is) = r
 }
 
 -- a directory that was entered has the path of its job
-path_after : (j : JobModel) (items : List Item) (r : Result RuleBytes FaultLineModel) → IfOk (waypoint_after j items r) (λ here. here.job.path ≡ j.path)
+path_after : (j : JobModel) (items : List Item) (r : Result RuleBytes FaultLineModel)
+    → IfOk (waypoint_after j items r) (λ here. here.job.path ≡ j.path)
 path_after j items (Ok files) = refl
 path_after j items (Err f) = tt
 

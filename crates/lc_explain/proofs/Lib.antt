@@ -5,3 +5,5 @@ pub mod Entering
 pub mod Descending
 pub mod Tellings
 pub mod Answering
+pub mod Agreeing
+pub mod Searching

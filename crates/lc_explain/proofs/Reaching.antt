@@ -84,8 +84,12 @@ module _ (Enters : JobModel → Result WaypointModel FaultLineModel → Type 0) 
   module _ (top : JobModel) where
     -- the top reaches itself
     pub top_reaches : (here : WaypointModel) → here.job.path ≡ [] → Enters top (Ok here) → Reaches Enters s exclude top (here ∷ []) here
-    top_reaches here at entered rest as_dir x said =
-        (Ok here, entered, subst (λ (p : List ℕ). IsSaid Enters s exclude (here ∷ []) here (segments_of (path_in p rest)) as_dir x) (sym at) said)
+    top_reaches here at entered rest as_dir x said = (
+      Ok here,
+      entered,
+      subst (λ (p : List ℕ). IsSaid Enters s exclude (here ∷ []) here (segments_of (path_in p rest)) as_dir x)
+          (sym at) said,
+    )
 
     -- what is said below a directory that is reached is said of the path
     pub reached : (way : Way) (here : WaypointModel) (path rest : List ℕ) (as_dir : Bool) (x : Explanation)
@@ -100,7 +104,8 @@ module _ (Enters : JobModel → Result WaypointModel FaultLineModel → Type 0) 
     pub child_reached : (way : Way) (here child : WaypointModel) (name : List ℕ) → Reaches Enters s exclude top way here
         → ((left : List ℕ) → segments_of (name ++ slash ∷ left) ≡ name ∷ segments_of left) → (name ≡ [] → ⊥)
         → reason_for s here.job name (kind_asked true (kind_in here.entries name)) ≡ None
-        → is_directory (kind_in here.entries name) ≡ true → child.job.path ≡ path_in here.job.path name → Enters (child_job here.job name) (Ok child)
+        → is_directory (kind_in here.entries name) ≡ true → child.job.path ≡ path_in here.job.path name
+        → Enters (child_job here.job name) (Ok child)
         → Reaches Enters s exclude top (way ++ child ∷ []) child
     child_reached way here child name reaches cuts some is at path entered rest as_dir x said =
         let OnPath : List ℕ → Type 0 =

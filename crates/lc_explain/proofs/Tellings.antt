@@ -18,7 +18,8 @@ all_more : {A : Type 0} (P : A → Type 0) (xs : List A) (x : A) → AllByRecurs
 all_more P [] x all here = (here, tt)
 all_more P (y ∷ ys) x all here = (all.0, all_more P ys x all.1 here)
 
-fault_more : (before here : Bool) → cond (before || (here || false)) SomeFaults Clean ≡ (if here then SomeFaults else cond before SomeFaults Clean)
+fault_more : (before here : Bool) → cond (before || (here || false)) SomeFaults Clean ≡
+    (if here then SomeFaults else cond before SomeFaults Clean)
 fault_more true true = refl
 fault_more true false = refl
 fault_more false true = refl
@@ -32,7 +33,8 @@ told_none Says text outcome is clean = record { told = []; lines_are = refl; sai
 -- a line more
 pub told_more : (Says : List ℕ → Bool → Explanation → Type 0) (lines : List (List ℕ)) (text more : List ℕ) (before after : Outcome)
     (line : List ℕ) (x : Explanation) → Explains Says lines text before → Says (path_of line) (is_dir_line line) x
-    → more ≡ text ++ explained_line line x → after ≡ (if is_fault x then SomeFaults else before) → Explains Says (lines ++ line ∷ []) more after
+    → more ≡ text ++ explained_line line x → after ≡ (if is_fault x then SomeFaults else before)
+    → Explains Says (lines ++ line ∷ []) more after
 told_more Says lines text more before after line x told said is outcome =
     let here : Told = (line, x) in
     let one : told_text (told.told ++ here ∷ []) ≡ told_text told.told ++ explained_line line x =
@@ -54,7 +56,8 @@ pub eight_pieces : (old a b c d e f g h : List ℕ)
 eight_pieces old a b c d e f g h = simp append_assoc
 
 -- the lines of an input, one by one
-pub line_done : (done all : List (List ℕ)) (rest line others : List ℕ) → done ++ lines_of rest ≡ all → lines_of rest ≡ line ∷ lines_of others
+pub line_done : (done all : List (List ℕ)) (rest line others : List ℕ) → done ++ lines_of rest ≡ all
+    → lines_of rest ≡ line ∷ lines_of others
     → (done ++ line ∷ []) ++ lines_of others ≡ all
 line_done done all rest line others is split =
     append_assoc done (line ∷ []) (lines_of others) ∙ ap (λ (l : List (List ℕ)). done ++ l) (sym split) ∙ is

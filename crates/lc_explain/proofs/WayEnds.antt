@@ -51,13 +51,15 @@ left_below d s r x e is strips None none = tt
 left_below d s r x e is strips (Some n) at = subst (Strips s d) is strips ∙ ap (λ l. d ++ l) at ∙ sym (below_is d n.now e)
 
 -- a way that is cut to a directory above a path
-pub cut_to : (old new gone : Way) (here : WaypointModel) (path rest : List ℕ) → old ≡ new ++ gone → slice_get new (length new - 1) ≡ Some here
+pub cut_to : (old new gone : Way) (here : WaypointModel) (path rest : List ℕ) → old ≡ new ++ gone
+    → slice_get new (length new - 1) ≡ Some here
     → path ≡ path_in here.job.path rest → IsCut old new path (Some rest)
 cut_to old new gone here path rest was last left =
     let end = last_splits new here last in
     record { gone = gone; was = was; stands = record { above = end.front; here = here; is = end.is; left = left } }
 
 -- one directory more is gone
-pub gone_more : (old before after gone : Way) (popped : Option WaypointModel) → old ≡ before ++ gone → before ≡ after ++ option_to_list popped
+pub gone_more : (old before after gone : Way) (popped : Option WaypointModel) → old ≡ before ++ gone
+    → before ≡ after ++ option_to_list popped
     → old ≡ after ++ (option_to_list popped ++ gone)
 gone_more old before after gone popped was is = was ∙ ap (λ (l : Way). l ++ gone) is ∙ append_assoc after (option_to_list popped) gone

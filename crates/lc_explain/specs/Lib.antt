@@ -4,3 +4,4 @@ pub mod Findings
 pub mod ExplainText
 pub mod Explain
 pub mod Ways
+pub mod Laws

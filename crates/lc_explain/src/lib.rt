@@ -5,15 +5,18 @@
 //! - `finding`: what is found of a path; `explainer`: finding it, from the top of the tree down
 //! - `telling`: the text of what is found, a line for each path
 //! - `explaining`: the lines of an input, or words, explained and written
+//! - `laws`: that an entry is explained as its level decides it
 #![tactic(auto)]
 
 mod explainer;
 mod explaining;
 mod finding;
+mod laws;
 mod question;
 mod telling;
 mod way;
 mod waypoint;
 
 pub use explaining::{ExplainFault, explain, explain_words};
+pub use laws::entries_are_explained_as_decided;
 pub use question::Question;

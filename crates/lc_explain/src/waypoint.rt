@@ -1,11 +1,13 @@
 //! A directory on the way to a path.
 
 ghost use Rattle.std.specs.Prelude.{◌≡◌, ℕ, List, IfSome};
+ghost use Rattle.lc_tree.specs.ByteOrder.{bytes_cmp};
 ghost use Rattle.lc_explain.specs.Waypoints.{kind_in};
 ghost use Rattle.lc_explain.specs.Ways.{IsLeftBelow};
 
 use lc_level::Job;
 use lc_tree::{Entry, Kind};
+use std::cmp::Ordering;
 use std::marker::Model;
 
 /// A directory that was entered: with its own rule files in both chains, its entries, and the texts of its files of rules.
@@ -34,11 +36,13 @@ impl Waypoint {
     pub(crate) fn kind(&self, name: &[u8]) -> Option<Kind>
         ensures { result ≡ kind_in self.now.entries name.now }
     {
-        let entry = self
-            .entries
-            .iter()
-            .find(|entry| entry.name.as_slice() == name)?;
-        Some(entry.kind)
+        let order = |entry: &Entry| -> Ordering
+            ensures { result ≡ bytes_cmp entry.now.name name.entry.now }
+        { entry.name.as_slice().cmp(name) };
+        match self.entries.binary_search_by(order) {
+            Ok(at) => Some(self.entries[at].kind),
+            Err(_) => None,
+        }
     }
 
     /// What is left of a path below this directory, where it stands below it.

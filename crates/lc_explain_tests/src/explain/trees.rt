@@ -116,7 +116,7 @@ static BESIDE_THE_TREE: Case = (
     "rules and attributes beside those of the tree's directories",
     REPOSITORY,
     b"a.o\nb.o\nc.t\nv.c\nx.bak\ndocs/a\ns/.git\n",
-    b"ignored\t.git/info/exclude:2\t*.o\ta.o\nincluded\t.gitignore:1\t!b.o\tb.o\nignored\t.git/info/exclude:3\t*.t\tc.t\nleft\tattribute:export-ignore\t-\tv.c\nignored\t--exclude-from:2\t*.bak\tx.bak\nleft\tattribute:vendored\t-\tdocs/a\nleft\tgit\t-\ts/.git\n",
+    b"ignored\t.git/info/exclude:2\t*.o\ta.o\nleft\tattribute:vendored\t-\tb.o\nignored\t.git/info/exclude:3\t*.t\tc.t\nleft\tattribute:export-ignore\t-\tv.c\nignored\t--exclude-from:2\t*.bak\tx.bak\nleft\tattribute:vendored\t-\tdocs/a\nleft\tgit\t-\ts/.git\n",
 );
 
 #[test]

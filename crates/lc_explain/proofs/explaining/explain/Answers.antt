@@ -13,9 +13,10 @@ returns-in_err-print g c =
     let is = c.in_ok-explainer.ensures in
     let telling = c.in_ok-telling.telling in
     let bytes = c.read_whole.new.bytes.items in
-    let told = as_asked g.T.Tree.lists g.T.Tree.gives (lines_of c.deref.result.now) telling.text.items telling.outcome explainer.levels.tree.now
-    c.args.tree.now c.args.question.now explainer.levels.selection explainer.exclude.now explainer.top is.tree is.selection is.top is.exclude
-    c.in_ok-telling.ensures in
+    let told = as_asked g.T.Tree.lists g.T.Tree.gives
+    (lines_of c.deref.result.now) telling.text.items telling.outcome explainer.levels.tree.now
+    c.args.tree.now c.args.question.now explainer.levels.selection explainer.exclude.now explainer.top is.tree is.selection is.top
+    is.exclude c.in_ok-telling.ensures in
     let lines = subst (λ (b : List ℕ). Explains says (lines_of b) telling.text.items telling.outcome) c.deref.ensures.value told in
     let stopped = subst (λ (t : List ℕ). AnswersPrint g.O.Sink.may_take c.args.out.now t (Err c.in_err-print.field-0.0) c.print.new.out)
     c.deref-2.ensures.value c.in_err-print.ensures.answers in
@@ -32,9 +33,10 @@ returns g c =
     let is = c.in_ok-explainer.ensures in
     let telling = c.in_ok-telling.telling in
     let bytes = c.read_whole.new.bytes.items in
-    let told = as_asked g.T.Tree.lists g.T.Tree.gives (lines_of c.deref.result.now) telling.text.items telling.outcome explainer.levels.tree.now
-    c.args.tree.now c.args.question.now explainer.levels.selection explainer.exclude.now explainer.top is.tree is.selection is.top is.exclude
-    c.in_ok-telling.ensures in
+    let told = as_asked g.T.Tree.lists g.T.Tree.gives
+    (lines_of c.deref.result.now) telling.text.items telling.outcome explainer.levels.tree.now
+    c.args.tree.now c.args.question.now explainer.levels.selection explainer.exclude.now explainer.top is.tree is.selection is.top
+    is.exclude c.in_ok-telling.ensures in
     let lines = subst (λ (b : List ℕ). Explains says (lines_of b) telling.text.items telling.outcome) c.deref.ensures.value told in
     let wrote = subst (λ (t : List ℕ). Writes g.O.Sink.may_take c.args.out.now t c.print.new.out) c.deref-2.ensures.value
     c.in_ok-print.ensures.answers in

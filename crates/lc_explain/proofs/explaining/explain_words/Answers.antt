@@ -13,8 +13,8 @@ returns-in_err-print g c =
     let telling = c.in_ok-telling.telling in
     let words : List (List ℕ) = map (λ word. word.now) c.args.words.now in
     let told = as_asked g.T.Tree.lists g.T.Tree.gives words telling.text.items telling.outcome explainer.levels.tree.now
-    c.args.tree.now c.args.question.now explainer.levels.selection explainer.exclude.now explainer.top is.tree is.selection is.top is.exclude
-    c.in_ok-telling.ensures in
+    c.args.tree.now c.args.question.now explainer.levels.selection explainer.exclude.now explainer.top is.tree is.selection is.top
+    is.exclude c.in_ok-telling.ensures in
     let stopped = subst (λ (t : List ℕ). AnswersPrint g.O.Sink.may_take c.args.out.now t (Err c.in_err-print.field-0.0) c.print.new.out)
     c.deref.ensures.value c.in_err-print.ensures.answers in
     passed_on (λ answer. AnswersLines g.O.Sink.may_take says words c.args.out.now answer c.print.new.out)
@@ -29,8 +29,8 @@ returns g c =
     let telling = c.in_ok-telling.telling in
     let words : List (List ℕ) = map (λ word. word.now) c.args.words.now in
     let told = as_asked g.T.Tree.lists g.T.Tree.gives words telling.text.items telling.outcome explainer.levels.tree.now
-    c.args.tree.now c.args.question.now explainer.levels.selection explainer.exclude.now explainer.top is.tree is.selection is.top is.exclude
-    c.in_ok-telling.ensures in
+    c.args.tree.now c.args.question.now explainer.levels.selection explainer.exclude.now explainer.top is.tree is.selection is.top
+    is.exclude c.in_ok-telling.ensures in
     let wrote = subst (λ (t : List ℕ). Writes g.O.Sink.may_take c.args.out.now t c.print.new.out) c.deref.ensures.value
     c.in_ok-print.ensures.answers in
     (telling.text.items, told, wrote)

@@ -15,7 +15,8 @@ returns c =
     let pattern = escape_bytes rule.text.now in
     let line = escape_bytes c.args.line.now in
     let pushed = c.in_ok-push_escaped-2.ensures ∙ ap (λ (t : List ℕ). t ++ line) (c.in_ok-extend_from_slice-4.ensures.items
-    ∙ ap (λ (t : List ℕ). t ++ 9 ∷ []) (c.in_ok-push_escaped.ensures ∙ ap (λ (t : List ℕ). t ++ pattern) (c.in_ok-extend_from_slice-3.ensures.items
+    ∙ ap (λ (t : List ℕ). t ++ 9 ∷ []) (c.in_ok-push_escaped.ensures
+    ∙ ap (λ (t : List ℕ). t ++ pattern) (c.in_ok-extend_from_slice-3.ensures.items
     ∙ ap (λ (t : List ℕ). t ++ 9 ∷ []) (c.in_ok-push_origin.ensures ∙ ap (λ (t : List ℕ). t ++ place c.split_slash.result.0.now)
     (c.in_ok-extend_from_slice-2.ensures.items ∙ ap (λ (t : List ℕ). t ++ 9 ∷ []) c.in_ok-extend_from_slice.ensures.items))))) in
     last_piece c.extend_from_slice-5.result c.extend_from_slice-5.new.self.items c.push_escaped-2.new.text.items (10 ∷ []) _
@@ -23,4 +24,5 @@ returns c =
     (ap (λ (t : List ℕ). t ++ 10 ∷ []) pushed
     ∙ eight_pieces old word (9 ∷ []) (place c.split_slash.result.0.now) (9 ∷ []) pattern (9 ∷ []) line (10 ∷ [])
     ∙ ap (λ (p : List ℕ). old ++ (word ++ 9 ∷ [] ++ place p ++ 9 ∷ [] ++ pattern ++ 9 ∷ [] ++ line ++ 10 ∷ [])) c.split_slash.ensures.path
-    ∙ ap (λ (w : List ℕ). old ++ (w ++ 9 ∷ [] ++ place (path_of c.args.line.now) ++ 9 ∷ [] ++ pattern ++ 9 ∷ [] ++ line ++ 10 ∷ [])) c.as_bytes.ensures.value)
+    ∙ ap (λ (w : List ℕ). old ++ (w ++ 9 ∷ [] ++ place
+    (path_of c.args.line.now) ++ 9 ∷ [] ++ pattern ++ 9 ∷ [] ++ line ++ 10 ∷ [])) c.as_bytes.ensures.value)

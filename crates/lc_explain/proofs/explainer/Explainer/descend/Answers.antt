@@ -164,7 +164,8 @@ returns-then-not-is_directory-clause-found g c =
     let none = sym asked ∙ sym c.in_ok-reason.ensures ∙ ap (option_map reason_model) found in
     let child : c.in_ok-job.job ≡ child_job here.job name =
     c.in_ok-job.ensures ∙ ap₂ job_at job (path_of_name path here.job.path rest name others last.left at) in
-    let outside : is_directory (kind_in here.entries name) ≡ false = ap is_directory (sym there) ∙ sym c.is_directory.ensures ∙ c.if-not-is_directory.true in
+    let outside : is_directory (kind_in here.entries name) ≡ false = ap is_directory (sym there) ∙ sym c.is_directory.ensures
+    ∙ c.if-not-is_directory.true in
     beside_explained enters s exclude top c.names.way path rest here last c.requires.good name others at c.args.as_dir _ none outside
     (c.in_ok-found-2.ensures exclude c.names.way
     ∙ ap (λ (j : JobModel). said_beside s exclude c.names.way j (segments_of others) c.args.as_dir) child)
@@ -193,7 +194,8 @@ returns-in-Some-3-clause-found g c =
     let none = sym asked ∙ sym c.in_ok-reason.ensures ∙ ap (option_map reason_model) found in
     let child : c.in_ok-job.job ≡ child_job here.job name =
     c.in_ok-job.ensures ∙ ap₂ job_at job (path_of_name path here.job.path rest name others last.left at) in
-    let inside : is_directory (kind_in here.entries name) ≡ true = ap is_directory (sym there) ∙ sym c.is_directory.ensures ∙ c.if-not-is_directory.false in
+    let inside : is_directory (kind_in here.entries name) ≡ true = ap is_directory (sym there) ∙ sym c.is_directory.ensures
+    ∙ c.if-not-is_directory.false in
     let entered = subst (λ o. Goes enters c.in_ok-job.job c.names.way c.enter.new.way (Ok o)) c.in-Some-3.is c.in_ok-fault.ensures in
     fault_explained enters s exclude top c.names.way path rest here last c.requires.good name others at c.args.as_dir _
     (fault_line_of c.in-Some-3.fault) none inside (subst (λ j. enters j (Err (fault_line_of c.in-Some-3.fault))) child entered.0) refl
@@ -222,12 +224,14 @@ names-preserved g c =
     let none = sym asked ∙ sym c.in_ok-reason.ensures ∙ ap (option_map reason_model) found in
     let child : c.in_ok-job.job ≡ child_job here.job name =
     c.in_ok-job.ensures ∙ ap₂ job_at job (path_of_name path here.job.path rest name others last.left at) in
-    let inside : is_directory (kind_in here.entries name) ≡ true = ap is_directory (sym there) ∙ sym c.is_directory.ensures ∙ c.if-not-is_directory.false in
+    let inside : is_directory (kind_in here.entries name) ≡ true = ap is_directory (sym there) ∙ sym c.is_directory.ensures
+    ∙ c.if-not-is_directory.false in
     let fine : c.in_ok-fault.field-0 ≡ None = search rules in
     let entered = subst (λ o. Goes enters c.in_ok-job.job c.names.way c.enter.new.way (Ok o)) fine c.in_ok-fault.ensures in
     let on = way_on enters s exclude top c.names.way path rest here last c.requires.good name others at entered.0 c.names.invariant.way none
     inside
-    (entered_path (g.T.Tree.lists c.args.self.now.levels.tree.now) (g.T.Tree.gives c.args.self.now.levels.tree.now) c.in_ok-job.job entered.0
+    (entered_path (g.T.Tree.lists c.args.self.now.levels.tree.now)
+    (g.T.Tree.gives c.args.self.now.levels.tree.now) c.in_ok-job.job entered.0
     entered.1 ∙ ap (λ (j : JobModel). j.path) child)
     (subst (λ j. enters j (Ok entered.0)) child entered.1) in
     record {

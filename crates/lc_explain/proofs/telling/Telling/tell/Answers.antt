@@ -16,5 +16,6 @@ returns-clause-told g c = λ lines told.
     let here = subst (λ (d : Bool). Says c.split_slash-as_dir.result.0.now d x) c.split_slash-as_dir.ensures.dir
     c.in_ok-finding.ensures.found in
     told_more Says lines c.args.self.now.text.items c.push.new.self.text.items c.args.self.now.outcome c.push.new.self.outcome
-    c.args.line.now x told (subst (λ (p : List ℕ). Says p (is_dir_line c.args.line.now) x) c.split_slash-as_dir.ensures.path here) c.in_ok-push.ensures.text
+    c.args.line.now x told (subst (λ (p : List ℕ). Says p
+    (is_dir_line c.args.line.now) x) c.split_slash-as_dir.ensures.path here) c.in_ok-push.ensures.text
     c.in_ok-push.ensures.outcome
