@@ -33,8 +33,8 @@ fn check_plainly<R: Files + AllocGlobal, S: Source, O: Sink>(
     ensures { AnswersFile S.may_give (LoadsFile ⟦<StdSource<R::File> as Source>⟧.may_give) O.may_take text_by_bytes
         input.old out.old result input.new out.new }
 {
-    let rules = rule_text_of_file(rt, file)?;
-    check(rt.alloc(), rules.rules(), input, out)?;
+    let text = rule_text_of_file(rt, file)?;
+    check(rt.alloc(), text.rules(), input, out)?;
     Ok(Outcome::Clean)
 }
 
@@ -48,8 +48,8 @@ fn check_explaining<R: Files + AllocGlobal, S: Source, O: Sink>(
     ensures { AnswersFile S.may_give (LoadsFile ⟦<StdSource<R::File> as Source>⟧.may_give) O.may_take (explained_text_of file.entry.now)
         input.old out.old result input.new out.new }
 {
-    let rules = rule_text_of_file(rt, file)?;
-    check_explained(rt.alloc(), file.as_bytes(), &rules, input, out)?;
+    let text = rule_text_of_file(rt, file)?;
+    check_explained(rt.alloc(), file.as_bytes(), &text, input, out)?;
     Ok(Outcome::Clean)
 }
 
@@ -82,17 +82,14 @@ fn check_input<S: Source, O: Sink>(
 }
 
 /// The file that the words name for the whole tree, if they name one.
-fn excluded<R: Files + AllocGlobal>(
-    rt: &R,
-    file: Option<&str>,
-) -> Result<Option<RuleText>, Cause>
+fn excluded<R: Files + AllocGlobal>(rt: &R, file: Option<&str>) -> Result<Option<RuleText>, Cause>
     ensures { AnswersExcluded (LoadsFile ⟦<StdSource<R::File> as Source>⟧.may_give) file.entry result }
 {
     let Some(file) = file else {
         return Ok(None);
     };
-    let rules = rule_text_of_file(rt, file)?;
-    Ok(Some(rules))
+    let text = rule_text_of_file(rt, file)?;
+    Ok(Some(text))
 }
 
 /// Its rules.
