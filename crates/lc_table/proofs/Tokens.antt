@@ -1,12 +1,12 @@
 -- The tokens of arrays and objects by their parts.
-use Rattle.std.proofs.Common.{◌≡◌, ℕ, ◌==◌, Bool, true, false, if◌then◌else◌, List, [], ◌∷◌, ◌++◌, length, map, codes}
+use Rattle.std.proofs.Common.{◌≡◌, ℕ, Bool, true, false, if◌then◌else◌, List, [], ◌∷◌, ◌++◌, map}
 use Rattle.std.proofs.Common.{refl, sym, ◌∙◌, ap, append_assoc, append-nil}
 use Rattle.std.specs.List.{flat_map}
 use Rattle.std.proofs.lemmas.List.Concat.{flat_map-append}
 use Rattle.std.specs.Str.{IsUtf8, is_utf8}
 use Rattle.std.proofs.lemmas.Str.{IsUtf8-from_is_utf8, is_utf8-from_IsUtf8}
 use Rattle.json.specs.Json.{Json, string}
-use Rattle.json.specs.Token.{Token, key, begin_object, end_object, begin_array, end_array}
+use Rattle.json.specs.Token.{Token, begin_object, end_object, end_array}
 use Rattle.json.specs.Tree.{json_tokens, items_tokens, members_tokens}
 use Rattle.lc_table.specs.JsonText.{Member, items_with, members_with, array_with, object_with, integer, bytes_member}
 use Rattle.lc_table.specs.JsonTokens.{member_tokens, members_tokens_of}
@@ -53,8 +53,8 @@ in_turn_6 t b x y z m e = simp append_assoc
 
 -- an object of three members and some more, appended in turn
 pub left_tokens : (text : List Token) (a b c : Member) (ms : List Member)
-    → (((((text ++ begin_object ∷ []) ++ member_tokens a) ++ member_tokens b) ++ member_tokens c) ++ members_tokens_of ms) ++ end_object ∷ []
-    ≡ text ++ json_tokens (object_with (a ∷ b ∷ c ∷ ms))
+    → (((((text ++ begin_object ∷ []) ++ member_tokens a) ++ member_tokens b) ++ member_tokens c) ++ members_tokens_of ms)
+    ++ end_object ∷ [] ≡ text ++ json_tokens (object_with (a ∷ b ∷ c ∷ ms))
 left_tokens text a b c ms =
     in_turn_6 text (begin_object ∷ []) (member_tokens a) (member_tokens b) (member_tokens c) (members_tokens_of ms) (end_object ∷ [])
     ∙ ap (λ (ts : List Token). text ++ begin_object ∷ ts) (sym (object_tokens (a ∷ b ∷ c ∷ ms)))

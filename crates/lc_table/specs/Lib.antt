@@ -12,3 +12,4 @@ pub mod JsonTokens
 pub mod TableText
 pub mod Runs
 pub mod Laws
+pub mod ScreenLaws

@@ -1,5 +1,6 @@
 -- The text of a table for a person: parts of lines in columns, with an empty line between.
-use Rattle.std.specs.Prelude.{ℕ, Bool, true, false, not, ◌||◌, if◌then◌else◌, List, [], ◌∷◌, ◌++◌, map, filter, codes, decimal, Option, Some, None}
+use Rattle.std.specs.Prelude.{ℕ, Bool, true, false, not, ◌||◌, if◌then◌else◌, List, [], ◌∷◌, ◌++◌, map, filter, codes, decimal, Option}
+use Rattle.std.specs.Prelude.{Some, None}
 use Rattle.std.specs.List.{list_any}
 use Rattle.lc_census.specs.declared.totals.Eol.{Eol}
 use Rattle.lc_census.specs.declared.totals.Eol.TheVariants.{Nul}

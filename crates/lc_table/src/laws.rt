@@ -1,6 +1,7 @@
 //! Laws of the definitions that the contracts cite. The functions do nothing: their contracts are what is proved.
 
 ghost use Rattle.lc_table.specs.Laws.{PermutationLaw, TotalsLaw, WholeLaw};
+ghost use Rattle.lc_table.specs.ScreenLaws.{ClassesLaw, CommasLaw};
 
 /// The rows of a table are the summed ones, each once.
 pub fn shown_rows_are_the_summed_ones()
@@ -15,4 +16,14 @@ pub fn shown_rows_keep_the_totals()
 /// Rows in order of their keys add up to themselves where no column is left out.
 pub fn whole_keys_add_up_to_themselves()
     ensures { WholeLaw }
+{}
+
+/// In a table for a person a number without its commas reads back as that number.
+pub fn numbers_with_commas_read_back()
+    ensures { CommasLaw }
+{}
+
+/// In a table for a person the sums of `text` and of `binary` add up to those of all rows.
+pub fn classes_add_up_to_all_rows()
+    ensures { ClassesLaw }
 {}

@@ -42,7 +42,8 @@ fn push_both(
     made: &mut String,
 ) -> Result<(), AllocError>
     ensures { OnOk result (string_bytes text.new ≡ string_bytes text.old
-        ++ lines_in (widths_of (cells_of directories.now ∷ cells_of entries.now ∷ [])) (cells_of directories.now ∷ cells_of entries.now ∷ [])) }
+        ++ lines_in (widths_of (cells_of directories.now ∷ cells_of entries.now ∷ []))
+        (cells_of directories.now ∷ cells_of entries.now ∷ [])) }
 {
     let mut widths = Widths::new(alloc);
     widths.fit(directories, made)?;

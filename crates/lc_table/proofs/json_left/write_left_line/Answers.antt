@@ -23,5 +23,5 @@ returns c =
       kind,
       c.reason_word.ensures,
     )
-    (left_tokens c.args.text.now (path_member l.path) (codes "kind", string (kind_word l.kind)) (codes "reason", string (reason_word l.reason))
-    (reason_members l.path l.reason))
+    (left_tokens c.args.text.now (path_member l.path) (codes "kind", string (kind_word l.kind))
+    (codes "reason", string (reason_word l.reason)) (reason_members l.path l.reason))

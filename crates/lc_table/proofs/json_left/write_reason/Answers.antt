@@ -1,6 +1,5 @@
-use Rattle.std.proofs.Common.{◌≡◌, ℕ, List, [], ◌∷◌, ◌++◌, codes, decimal, append_assoc, append-nil, sym, ap, ap₂, ◌∙◌}
+use Rattle.std.proofs.Common.{ℕ, List, [], ◌∷◌, ◌++◌, codes, decimal, append_assoc, append-nil, sym, ap, ap₂, ◌∙◌}
 use Rattle.json.specs.Token.{Token, key, number}
-use Rattle.lc_level.specs.Level.{Reason}
 use Rattle.lc_level.specs.Reasons.{reason_model}
 use Rattle.lc_text.specs.RulePlaces.{rule_file}
 use Rattle.lc_walk.specs.ReportLines.{LeftLineModel}

@@ -1,4 +1,4 @@
-use Rattle.std.proofs.Common.{◌++◌, List, ℕ, refl, ap, ◌∙◌, string_bytes}
+use Rattle.std.proofs.Common.{◌++◌, List, ℕ, ap, ◌∙◌, string_bytes}
 use Rattle.lc_table.specs.CellTexts.{cells_of}
 use Rattle.lc_table.specs.Columns.{cell_widths, wider}
 use Rattle.lc_table.proofs.Widened.{line_alone}

@@ -22,4 +22,5 @@ returns c =
     (c.in_ok-push_line.ensures ∙ ap (λ (cs : List CellModel). initial ++ line_in c.fit_sums.new.widths cs) second)
     c.in_ok-push_rule.ensures c.in_ok-push_rows.ensures c.in_ok-push_rule-2.ensures c.in_ok-push_sums_lines.ensures
     ∙ ap (λ (s : AllSums). initial
-    ++ rows_in_columns (widths_of (headings ∷ (rows ++ sums_lines c.args.by s))) headings rows (sums_lines c.args.by s)) c.in_ok-sums.ensures
+    ++ rows_in_columns (widths_of (headings ∷ (rows ++ sums_lines c.args.by s))) headings rows (sums_lines c.args.by s))
+    c.in_ok-sums.ensures

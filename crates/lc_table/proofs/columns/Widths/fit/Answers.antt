@@ -1,4 +1,4 @@
-use Rattle.std.proofs.Common.{◌≤◌, ◌∙◌, length, sym, ap, arith}
+use Rattle.std.proofs.Common.{◌∙◌, length, sym, ap, arith}
 use Rattle.lc_table.specs.CellTexts.{cell_model}
 use Rattle.lc_table.specs.Columns.{width_at}
 use Rattle.lc_table.specs.declared.cells.Cell.{Cell}
