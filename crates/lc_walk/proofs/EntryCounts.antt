@@ -180,7 +180,6 @@ accounted lists selection depth top t r asked is deeper =
 
 -- so does the report of a walk
 pub entries_law : (lists : List ℕ → Listings) (gives : List ℕ → Contents) → EntriesLaw lists gives
-entries_law lists gives o r walks asked =
-    let w = walks refl in
+entries_law lists gives o r w asked =
     accounted o.lists (asked_by o).selection o.max_dirs (top_of o) (tree_of_rows w.found.rows w.found.answers) r asked
     (w.report o.max_dirs (omega arith)) (w.report (suc o.max_dirs) (omega arith))

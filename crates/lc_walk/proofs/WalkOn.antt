@@ -23,6 +23,12 @@ use Rattle.lc_walk.specs.Assembled.{IsBrokenBy, SomeBroken, Assembles}
 use Rattle.lc_walk.specs.Worked.{AreLawful, files_of_passes, HasEnded}
 use Rattle.lc_walk.specs.WalkAnswers.{SomeRows, WalkAnswers}
 use Rattle.lc_walk.specs.WalkOn.{fault_of_close}
+use Rattle.lc_board.specs.WordClose.{words_promises}
+use Rattle.lc_level.specs.TreeAnswers.{MayAnswer}
+use Rattle.lc_tree.specs.Trees.{Listings, Contents}
+use Rattle.lc_walk.specs.WalkOptions.{asked_by, top_of}
+use Rattle.lc_walk.specs.Walks.{Walks}
+use Rattle.lc_walk.specs.declared.options.Options.{Options}
 use Rattle.lc_level.specs.declared.cause.Cause.{Cause}
 use Rattle.lc_level.specs.declared.cause.Cause.TheVariants.{Memory, TooManyDirs, TooDeep}
 use Rattle.lc_walk.specs.declared.row.Row.{Row}
@@ -140,3 +146,13 @@ few_rows capacity workers top promises passes rows room settled = at (cases_lt c
 pub mapped : {A B : Type 0} (f : A → B) (xs : List A) → length (map f xs) ≡ length xs
 mapped f [] = refl
 mapped f (x ∷ xs) = ap suc (mapped f xs)
+
+-- what a walk over words answers, by what closing these promises
+pub by_words : (lists : List ℕ → Listings) (gives : List ℕ → Contents) (o : Options) (answer : Result Report WalkFault) →
+    WalkAnswers (MayAnswer lists gives) (asked_by o) o.max_dirs o.threads (top_of o) words_promises answer → Walks lists gives o answer
+by_words lists gives o (Ok r) a = a refl
+by_words lists gives o (Err fault.Memory) a = tt
+by_words lists gives o (Err fault.TooManyDirs) a = a refl refl
+by_words lists gives o (Err fault.TooDeep) a = a refl
+by_words lists gives o (Err (fault.Torn n)) a = a refl refl
+by_words lists gives o (Err (fault.Mismatch w)) a = a refl
