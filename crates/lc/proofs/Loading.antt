@@ -1,4 +1,4 @@
--- A file of rules that was opened, and a check by it.
+-- A file of rules that was opened; faults that are passed on as replies.
 use Rattle.std.proofs.Common.{◌≡◌, ◌∙◌, ℕ, List, Result, Ok, Err, ap, sym}
 use Rattle.std.specs.Result.{IsErrAnd}
 use Rattle.lc_census.specs.Reads.{Answer}
@@ -6,8 +6,10 @@ use Rattle.lc_text.specs.RuleReads.{ReadsRuleText}
 use Rattle.lc_text.specs.declared.rules.RulesFileFault.{RulesFileFault}
 use Rattle.lc_text.specs.declared.rules.RulesFileFault.TheVariants as fault
 use Rattle.lc_text.specs.declared.checking.CheckFault.{CheckFault}
-use Rattle.lc.specs.Causes.{check_cause}
-use Rattle.lc.specs.Requests.{LoadsFile, Reply, checked}
+use Rattle.lc_table.specs.declared.running.RunFault.{RunFault}
+use Rattle.lc_text.specs.declared.outcome.Outcome.{Outcome}
+use Rattle.lc.specs.Causes.{check_cause, run_cause}
+use Rattle.lc.specs.Requests.{LoadsFile, Reply, checked, ran}
 
 -- what reading the opened file answered is what loading answers
 pub loads_file : {F : Type 0} (may_give : F → ℕ → Answer → F → Type 0) (answer : Result (List ℕ) RulesFileFault) (file read : F)
@@ -22,3 +24,9 @@ pub fault_replied : (reply : Reply) (answer : Result (Unit {0}) CheckFault) (fau
     → IsErrAnd reply (λ cause. cause ≡ check_cause fault) → answer ≡ Err fault → reply ≡ checked answer
 fault_replied (Ok outcome) answer fault is was = absurd is
 fault_replied (Err cause) answer fault is was = ap Err is ∙ sym (ap checked was)
+
+-- and so is that of a run
+pub run_replied : (reply : Reply) (answer : Result Outcome RunFault) (fault : RunFault)
+    → IsErrAnd reply (λ cause. cause ≡ run_cause fault) → answer ≡ Err fault → reply ≡ ran answer
+run_replied (Ok outcome) answer fault is was = absurd is
+run_replied (Err cause) answer fault is was = ap Err is ∙ sym (ap ran was)

@@ -9,5 +9,5 @@ returns g c =
       c.in_ok-text.ensures,
       c.check_explained.result,
       sym (ap checked c.in_ok-check_explained.was),
-      c.check_explained.ensures,
+      rw c.as_bytes.ensures.value at c.check_explained.ensures,
     )
