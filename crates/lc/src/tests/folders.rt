@@ -27,6 +27,9 @@ const WITHOUT_MADE: &[u8] =
 const NOTHING: &[u8] =
     b"ext\ttext\teol\tfiles\tlines\tblank\tbytes\ntotal\t*\t*\t0\t0\t0\t0\ndirectories\t0\nfault\tread\t.\n";
 
+const LEFT_OUT: &[u8] =
+    b"ext\ttext\teol\tfiles\tlines\tblank\tbytes\n-\t-\tlf\t2\t4\t0\t36\n.c\t-\tcrlf\t1\t1\t0\t8\n.log\t-\tlf\t1\t1\t0\t2\ntotal\t*\t*\t4\t6\t0\t46\ndirectories\t3\nentries\t8\nleft\trule\t.gitignore:1\ta.log\nleft\trule\t.gitignore:3\tbuild/\n";
+
 /// What is shown, the words, and the status, output and errors that are wanted.
 type Case = (
     &'static str,
@@ -39,6 +42,13 @@ type Case = (
 const CASES: &[Case] = &[
     ("a_folder", &["count", "lc_counts"], 0, TABLE, b""),
     (
+        "a_rule_is_explained",
+        &["explain", "lc_counts", "build/x.c", "src/build/"],
+        0,
+        b"below\t.gitignore:3\t/build/\tbuild/x.c\nnone\t-\t-\tsrc/build/\n",
+        b"",
+    ),
+    (
         "a_folder_by_16_workers",
         &["count", "--threads", "16", "lc_counts"],
         0,
@@ -50,6 +60,13 @@ const CASES: &[Case] = &[
         &["count", "--max-dirs", "1048576", "lc_counts"],
         0,
         TABLE,
+        b"",
+    ),
+    (
+        "what_is_left_out",
+        &["count", "--left-out", "lc_counts"],
+        0,
+        LEFT_OUT,
         b"",
     ),
     (
