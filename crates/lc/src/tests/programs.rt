@@ -171,7 +171,7 @@ const TEXTS: &[(&[&str], u8, &str)] = &[
     (
         &["count", "--format", "xml", "."],
         2,
-        "[possible values: tsv, json]",
+        "[possible values: tsv, table, json]",
     ),
     (
         &["count", "--sort", "names", "."],

@@ -80,12 +80,24 @@ const LISTED: Case = Case {
 };
 
 /// A report, the columns that are kept, the number that sorts, and the lines.
-type ScreenCase = (Case, [bool; 3], Option<SortBy>, &'static [&'static str]);
+type ScreenCase = (Case, Columns, Option<SortBy>, &'static [&'static str]);
+
+const BY_TEXT: Columns = Columns {
+    ext: false,
+    text: true,
+    eol: false,
+};
+
+const BY_EOL: Columns = Columns {
+    ext: false,
+    text: false,
+    eol: true,
+};
 
 const CASES: &[ScreenCase] = &[
     (
         EMPTY,
-        [true, true, true],
+        Columns::ALL,
         None,
         &[
             "ext    text  eol  files  lines  blank  bytes",
@@ -98,7 +110,7 @@ const CASES: &[ScreenCase] = &[
     ),
     (
         CLASSES,
-        [true, true, true],
+        Columns::ALL,
         None,
         &[
             "ext     text   eol  files      lines  blank              bytes",
@@ -116,7 +128,7 @@ const CASES: &[ScreenCase] = &[
     ),
     (
         CLASSES,
-        [false, true, false],
+        BY_TEXT,
         Some(SortBy::Lines),
         &[
             "text    files      lines  blank              bytes",
@@ -134,7 +146,7 @@ const CASES: &[ScreenCase] = &[
     ),
     (
         WIDE,
-        [true, true, true],
+        Columns::ALL,
         None,
         &[
             "ext             text   eol    files  lines  blank  bytes",
@@ -150,7 +162,7 @@ const CASES: &[ScreenCase] = &[
     ),
     (
         LISTED,
-        [false, false, true],
+        BY_EOL,
         None,
         &[
             "text   eol   lines  blank  bytes  file",
@@ -191,16 +203,11 @@ pub(super) fn has_lines(text: &[u8], lines: &[&str]) -> bool {
 
 #[test]
 fn tables_in_columns(rt: HostRuntime) -> Result<(), Fail> {
-    for (found, [ext, text, eol], sort, lines) in CASES {
+    for (found, by, sort, lines) in CASES {
         let report = report_of(rt.alloc(), found)?;
-        let by = Columns {
-            ext: *ext,
-            text: *text,
-            eol: *eol,
-        };
         let shape = Shape {
             format: Format::Table,
-            by,
+            by: *by,
             sort: *sort,
         };
         let text = table_text(rt.alloc(), &report, shape)?;
