@@ -66,7 +66,7 @@ const REPOSITORY: Sketch = Sketch::Dir(&[
 
 static CASES: [Case; 7] = [
     (
-        "the worked row",
+        "each word but one, by rules of the top",
         WORKED,
         b"a.log\nbuild/x.c\nsrc/m.c\nkeep.log\n",
         b"ignored\t.gitignore:1\t*.log\ta.log\nbelow\t.gitignore:3\t/build/\tbuild/x.c\nnone\t-\t-\tsrc/m.c\nincluded\t.gitignore:2\t!keep.log\tkeep.log\n",
