@@ -10,3 +10,9 @@ pub mod Totals
 pub mod Widened
 pub mod Commas
 pub mod Counted
+pub mod EvenLines
+pub mod EvenParts
+pub mod LinesApart
+pub mod OneLine
+pub mod Spacing
+pub mod WidthLawProofs

@@ -13,3 +13,4 @@ pub mod TableText
 pub mod Runs
 pub mod Laws
 pub mod ScreenLaws
+pub mod WidthLaws

@@ -2,6 +2,7 @@
 
 ghost use Rattle.lc_table.specs.Laws.{PermutationLaw, TotalsLaw, WholeLaw};
 ghost use Rattle.lc_table.specs.ScreenLaws.{ClassesLaw, CommasLaw};
+ghost use Rattle.lc_table.specs.WidthLaws.{CountsWidthLaw, FaultsWidthLaw, FilesWidthLaw, LeftWidthLaw, SummaryWidthLaw};
 
 /// The rows of a table are the summed ones, each once.
 pub fn shown_rows_are_the_summed_ones()
@@ -26,4 +27,13 @@ pub fn numbers_with_commas_read_back()
 /// In a table for a person the sums of `text` and of `binary` add up to those of all rows.
 pub fn classes_add_up_to_all_rows()
     ensures { ClassesLaw }
+{}
+
+/// In a table for a person the lines of a part are equally wide; where a path comes last, what stands before it is.
+pub fn lines_of_a_part_are_as_wide()
+    ensures summary { SummaryWidthLaw }
+    ensures counts { CountsWidthLaw }
+    ensures files { FilesWidthLaw }
+    ensures left { LeftWidthLaw }
+    ensures faults { FaultsWidthLaw }
 {}

@@ -27,8 +27,8 @@ mod words;
 mod writing;
 
 pub use laws::{
-    classes_add_up_to_all_rows, numbers_with_commas_read_back, shown_rows_are_the_summed_ones,
-    shown_rows_keep_the_totals, whole_keys_add_up_to_themselves,
+    classes_add_up_to_all_rows, lines_of_a_part_are_as_wide, numbers_with_commas_read_back,
+    shown_rows_are_the_summed_ones, shown_rows_keep_the_totals, whole_keys_add_up_to_themselves,
 };
 pub use running::{RunFault, run};
 pub use text::table_text;

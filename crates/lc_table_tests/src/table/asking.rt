@@ -101,6 +101,7 @@ fn options_of(
         exclude: excluding(alloc, asked.exclude)?,
         archive: asked.archive,
         without: &[],
+        only: &[],
     })
 }
 

@@ -1,0 +1,66 @@
+-- How wide the lines of a table for a person are, part by part.
+use Rattle.std.specs.Prelude.{◌≡◌, ◌<◌, ℕ, List, [], ◌∷◌, ◌++◌, map, codes, IfSome, ⊤}
+use Rattle.std.specs.List.{All, AllZip}
+use Rattle.lc_level.specs.FaultLines.{FaultLineModel}
+use Rattle.lc_level.specs.Level.{Reason, named_git, by_rule, by_attribute, other_kind}
+use Rattle.lc_text.specs.Lines.{lines_of}
+use Rattle.lc_text.specs.Visible.{visible_bytes, visible_path}
+use Rattle.lc_text.specs.declared.shape.Columns.{Columns}
+use Rattle.lc_walk.specs.ReportLines.{FileLineModel, LeftLineModel}
+use Rattle.lc_walk.specs.TallyRows.{TallyRowModel}
+use Rattle.lc_walk.specs.declared.report.Report.{Report}
+use Rattle.lc_table.specs.Columns.{width_of}
+use Rattle.lc_table.specs.LeftWords.{left_path}
+use Rattle.lc_table.specs.ScreenText.{summary, counts, listing, file_headings, file_cells}
+use Rattle.lc_table.specs.ScreenText.{left_headings, left_cells, fault_headings, fault_cells}
+
+-- the lines have one width
+abbrev pub AreAsWide : List (List ℕ) → Type 0
+AreAsWide lines = (width : ℕ) × All (λ line. width_of line ≡ width) lines
+
+-- the lines end with these texts, and what stands before these has one width
+abbrev pub AreAligned : List (List ℕ) → List (List ℕ) → Type 0
+AreAligned lines ends =
+    (width : ℕ) × AllZip (λ line end. (front : List ℕ) × (line ≡ front ++ end) × (width_of front ≡ width)) lines ends
+
+-- nothing where nothing is listed, and else lines that end with the heading and with these texts, and an empty line
+abbrev pub IsAlignedListing : List ℕ → List (List ℕ) → List ℕ → Type 0
+IsAlignedListing heading [] text = text ≡ []
+IsAlignedListing heading (end ∷ ends) text =
+    (lines : List (List ℕ)) × (lines_of text ≡ lines ++ [] ∷ []) × AreAligned lines (heading ∷ end ∷ ends)
+
+-- numbers that are bytes, as those of each path and name are
+abbrev pub AreBytes : List ℕ → Type 0
+AreBytes bs = All (λ b. b < 256) bs
+
+abbrev pub HasByteName : Reason → Type 0
+HasByteName named_git = ⊤
+HasByteName (by_rule origin line) = ⊤
+HasByteName (by_attribute name) = AreBytes name
+HasByteName other_kind = ⊤
+
+-- the rows between their headings and their sums, the lines of hyphens too
+abbrev pub SummaryWidthLaw : Type 0
+SummaryWidthLaw =
+    (by : Columns) (r : Report) (rows : List TallyRowModel) → All (λ row. IfSome row.key.extension AreBytes) rows
+    → AreAsWide (lines_of (summary by r rows))
+
+-- the numbers of directories and of entries
+abbrev pub CountsWidthLaw : Type 0
+CountsWidthLaw = (r : Report) → AreAsWide (lines_of (counts r))
+
+-- what is listed, whose last column is one of paths
+abbrev pub FilesWidthLaw : Type 0
+FilesWidthLaw =
+    (fs : List FileLineModel)
+    → IsAlignedListing (codes "file") (map (λ f. visible_path f.path) fs) (listing file_headings (map file_cells fs))
+
+abbrev pub LeftWidthLaw : Type 0
+LeftWidthLaw =
+    (ls : List LeftLineModel) → All (λ l. AreBytes l.path × HasByteName l.reason) ls
+    → IsAlignedListing (codes "path") (map (left_path visible_bytes) ls) (listing left_headings (map left_cells ls))
+
+abbrev pub FaultsWidthLaw : Type 0
+FaultsWidthLaw =
+    (fs : List FaultLineModel)
+    → IsAlignedListing (codes "path") (map (λ f. visible_path f.path) fs) (listing fault_headings (map fault_cells fs))
