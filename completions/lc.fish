@@ -14,6 +14,7 @@ complete -c lc -n '__fish_seen_subcommand_from count' -l left-out -d 'Also what 
 complete -c lc -n '__fish_seen_subcommand_from count explain' -l archive -d 'Leave out what has the attribute export-ignore'
 complete -c lc -n '__fish_seen_subcommand_from count explain' -l without -x -a 'linguist-vendored linguist-generated linguist-documentation' -d 'Leave out what has this attribute'
 complete -c lc -n '__fish_seen_subcommand_from count explain' -l exclude-from -r -F -d 'An ignore file for the whole directory'
+complete -c lc -n '__fish_seen_subcommand_from count' -l only -r -F -d 'Count only what stands at or below this path'
 complete -c lc -n '__fish_seen_subcommand_from count' -l format -x -a 'tsv table json' -d 'What the table is written as'
 complete -c lc -n '__fish_seen_subcommand_from count' -l by -x -a 'ext text eol ext,text ext,eol text,eol' -d 'Sum rows by these columns alone'
 complete -c lc -n '__fish_seen_subcommand_from count' -l sort -x -a 'files lines blank bytes' -d 'The largest first'

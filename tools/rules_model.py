@@ -416,11 +416,12 @@ class Explained(Tree):
 
 
 class Walk(Tree):
-    """The recursive walk of a tree."""
+    """The recursive walk of a tree, or where `only` has paths of what stands at or below one of them."""
 
-    def __init__(self, tree, without=(), exclude=b"", failing=()):
+    def __init__(self, tree, without=(), exclude=b"", failing=(), only=()):
         super().__init__(tree, without, exclude, failing)
-        self.files, self.faults, self.left, self.directories, self.entries = [], [], [], 0, 0
+        self.only = set(only)
+        self.files, self.faults, self.absent, self.left, self.directories, self.entries = [], [], [], [], 0, 0
         try:
             here = self.top()
         except Fault as fault:
@@ -436,11 +437,22 @@ class Walk(Tree):
             return
         self.level(entries, above, here)
 
+    def leads(self, path, is_dir, asked):
+        """Whether an entry stands at a path that is asked for, or is a directory above it."""
+        return path == asked or is_dir and asked.startswith(path + b"/")
+
+    def takes_part(self, path, is_dir):
+        return not self.only or any(self.leads(path, is_dir, it) or path.startswith(it + b"/") for it in self.only)
+
     def level(self, entries, above, here):
         self.directories += 1
-        self.entries += len(entries)
+        kinds = [(above + name, isinstance(entry, dict)) for name, entry in entries.items()]
+        self.absent += [it for it in self.only if it.startswith(above) and not any(self.leads(*one, it) for one in kinds)]
         for name, entry in entries.items():
             path, is_dir = above + name, isinstance(entry, dict)
+            if not self.takes_part(path, is_dir):
+                continue
+            self.entries += 1
             reason, _ = self.reason(here, path, is_dir, entry is None)
             if reason:
                 self.left.append((path, path + b"/" if is_dir and name != b".git" else path, *reason))
@@ -473,5 +485,6 @@ class Walk(Tree):
             out.append(b"\t".join([b"file", text.encode(), eol.encode(), *(b"%d" % it for it in (lines, blank, size)), escaped(path)]))
         if left_out:
             out += [b"\t".join([b"left", why, where, escaped(printed)]) for _, printed, why, where in sorted(self.left)]
-        out += [b"fault\tread\t" + escaped(path) for path in sorted(self.faults)]
+        faults = [(path, b"read") for path in self.faults] + [(path, b"absent") for path in self.absent]
+        out += [b"fault\t" + word + b"\t" + escaped(path) for path, word in sorted(faults)]
         return b"\n".join(out) + b"\n"

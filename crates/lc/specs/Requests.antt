@@ -89,6 +89,7 @@ pub record IsAskedBy (loads : Loaded) (c : CountRequest) (o : Options) : Type 0 
   pub left_out : o.lists.left_out ≡ c.left_out
   pub archive : o.archive ≡ c.exclusions.archive
   pub without : o.without.now ≡ c.exclusions.without.items
+  pub only : o.only.now ≡ c.only.items
   pub text : Option (List ℕ)
   pub is_text : Excludes loads c.exclusions.from text
   pub exclude : shared o.exclude ≡ option_map rules_of text

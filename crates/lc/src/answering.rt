@@ -117,6 +117,8 @@ where
     let text = excluded(rt, asked.exclusions.from)?;
     let exclude = rules_in(&text)?;
     let tree = SysTree::new(rt, rt.alloc(), asked.directory)?;
+    let without = asked.exclusions.without.as_slice();
+    let only = asked.only.as_slice();
     let options = Options {
         threads: asked.threads,
         max_dirs: asked.max_dirs,
@@ -126,7 +128,8 @@ where
         },
         exclude,
         archive: asked.exclusions.archive,
-        without: asked.exclusions.without.as_slice(),
+        without,
+        only,
     };
     let outcome = run(rt, rt.alloc(), &tree, &options, asked.shape, out)?;
     Ok(outcome)

@@ -2,12 +2,13 @@
 //! rules of a directory, or of an ignore file, leave out.
 //!
 //! - `program`: the program but for its streams; `answering`: what each request is answered
-//! - `cause`: why it gives up; `rules_file`: the rules of a file that the command line names
+//! - `cause`: why it gives up; `rules_file`: the rules of a file that the command line names; `repository`: whether a directory lies in one
 #![tactic(auto)]
 
 mod answering;
 mod cause;
 mod program;
+mod repository;
 mod rules_file;
 #[cfg(test)]
 mod tests;
@@ -39,5 +40,7 @@ fn main(rt: HostRuntime) -> ExitCode {
     program::introduce(&words, rt.stdin().is_terminal(), &mut err);
     let mut input = StdSource(rt.stdin());
     let mut out = StdSink(rt.stdout());
-    ExitCode::from(program::program(&rt, &words, &mut input, &mut out, &mut err))
+    let is_seen = rt.stderr().is_terminal();
+    let status = program::program(&rt, &words, is_seen, &mut input, &mut out, &mut err);
+    ExitCode::from(status)
 }

@@ -1,13 +1,14 @@
 //! The program but for its streams.
 
 ghost use Rattle.std.specs.Prelude.{◌≡◌, map};
-ghost use Rattle.lc.specs.Program.{Tells, TellsCause, Introduces, EndsShown, Ends, status_of};
+ghost use Rattle.lc.specs.Program.{Tells, TellsCause, Introduces, Hints, EndsShown, Ends, status_of};
 ghost use Rattle.lc.specs.Requests.{LoadsFile};
 ghost use Rattle.lc.specs.declared.program.Ending.{Ending};
 ghost use Rattle.lc.specs.declared.program.Ending.TheVariants as ending;
 
 use crate::answering::answer;
 use crate::cause::Cause;
+use crate::repository::lies_in_repository;
 use lc_arguments::{NoRequest, Request};
 use lc_census::{Source, StdSource};
 use lc_text::{Outcome, Sink, print};
@@ -79,6 +80,22 @@ pub(crate) fn give_up<E: Sink>(alloc: Global, cause: Cause, err: &mut E) -> Endi
     Ending::GaveUp(cause)
 }
 
+/// Says of a count whose answer was written that rules above its directory were not read, where that lies in a repository and
+/// standard error is a terminal.
+fn hint<R: Files + AllocGlobal, E: Sink>(rt: &R, request: &Request<'_>, is_seen: bool, err: &mut E)
+    ensures { Hints E.may_take is_seen request.now err.old err.new }
+{
+    let Request::Count(asked) = request else {
+        return;
+    };
+    if is_seen && lies_in_repository(rt, asked.directory) {
+        let _ = print(
+            err,
+            b"lc: rules above this directory were not read; lc count --only PATH TOP counts PATH of the repository TOP by all of them\n",
+        );
+    }
+}
+
 /// Writes help or the version.
 fn show<O: Sink, E: Sink>(alloc: Global, text: &str, out: &mut O, err: &mut E) -> Ending
     ensures { EndsShown O.may_take E.may_take text.now out.old err.old result out.new err.new }
@@ -93,6 +110,7 @@ fn show<O: Sink, E: Sink>(alloc: Global, text: &str, out: &mut O, err: &mut E) -
 fn end_of<R: Files + Threads + Wait + Sync + AllocGlobal, W: AsStr, S: Source, O: Sink, E: Sink>(
     rt: &R,
     words: &[W],
+    is_seen: bool,
     input: &mut S,
     out: &mut O,
     err: &mut E,
@@ -101,7 +119,7 @@ where
     R::File: Send,
     R::Dir: Send,
     ensures { Ends S.may_give (LoadsFile ⟦<StdSource<R::File> as Source>⟧.may_give)
-        O.may_take E.may_take (map W.text words.now) input.old out.old err.old result input.new out.new err.new }
+        O.may_take E.may_take (map W.text words.now) is_seen input.old out.old err.old result input.new out.new err.new }
 {
     let request = match Request::read(rt.alloc(), words) {
         Ok(request) => request,
@@ -109,10 +127,14 @@ where
         Err(NoRequest::Refused(why)) => return misuse(&why, err),
         Err(NoRequest::Memory) => return give_up(rt.alloc(), Cause::Memory, err),
     };
-    match answer(rt, &request, input, out) {
-        Ok(Outcome::Clean) => Ending::Done,
-        Ok(Outcome::SomeFaults) => Ending::SomeFaults,
-        Err(cause) => give_up(rt.alloc(), cause, err),
+    let outcome = match answer(rt, &request, input, out) {
+        Ok(outcome) => outcome,
+        Err(cause) => return give_up(rt.alloc(), cause, err),
+    };
+    hint(rt, &request, is_seen, err);
+    match outcome {
+        Outcome::Clean => Ending::Done,
+        Outcome::SomeFaults => Ending::SomeFaults,
     }
 }
 
@@ -125,19 +147,21 @@ where
 /// - `count DIR`: the table of a directory of the system ([`run`](lc_table::run)); a file of `--exclude-from` is read before the walk;
 /// - `explain DIR`: what the rules of a directory of the system say of the paths of `input` ([`explain`](lc_explain::explain)), or of
 ///   those among the words.
+///
+/// Where standard error is a terminal (`is_seen`), `err` may have a hint after the table of a count.
 pub fn program<
     R: Files + Threads + Wait + Sync + AllocGlobal,
     W: AsStr,
     S: Source,
     O: Sink,
     E: Sink,
->(rt: &R, words: &[W], input: &mut S, out: &mut O, err: &mut E) -> u8
+>(rt: &R, words: &[W], is_seen: bool, input: &mut S, out: &mut O, err: &mut E) -> u8
 where
     R::File: Send,
     R::Dir: Send,
     ensures { (ending : Ending) × (result ≡ status_of ending)
         × Ends S.may_give (LoadsFile ⟦<StdSource<R::File> as Source>⟧.may_give)
-        O.may_take E.may_take (map W.text words.now) input.old out.old err.old ending input.new out.new err.new }
+        O.may_take E.may_take (map W.text words.now) is_seen input.old out.old err.old ending input.new out.new err.new }
 {
-    end_of(rt, words, input, out, err).status()
+    end_of(rt, words, is_seen, input, out, err).status()
 }

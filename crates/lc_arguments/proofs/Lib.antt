@@ -1,3 +1,4 @@
+mod AskedPaths
 mod Misnaming
 mod CommandRules
 mod ReadValues

@@ -1,17 +1,17 @@
 -- Words that ask for what there is not: names of attributes, shapes of a table.
 use Rattle.std.proofs.Common.{◌≡◌, ◌∙◌, ◌<◌, ◌&&◌, ℕ, zero, suc, Bool, true, false, List, [], ◌∷◌, length, map, refl, ap, inl, inr, sym}
-use Rattle.std.proofs.Common.{subst, Err, Option, arith, unwrap_or}
+use Rattle.std.proofs.Common.{subst, Result, Err, Option, arith}
 use Rattle.std.specs.Borrow.{Bor}
 use Rattle.std.specs.List.{list_all, slice_index_or}
 use Rattle.clap.specs.Faults.{fault_of}
 use Rattle.clap.specs.Simple.{matches_of}
 use Rattle.std.specs.Prelude.{codes}
-use Rattle.clap.specs.Walk.{Row, first_of}
+use Rattle.clap.specs.Walk.{Row}
 use Rattle.lc_rules.specs.AttrWords.{is_name}
 use Rattle.lc_text.specs.declared.shape.Shape.{Shape}
 use Rattle.lc_arguments.specs.CommandLine.{count_app, explain_app}
-use Rattle.lc_arguments.specs.Explained.{AnswersCountWords, AnswersExclusions, AnswersExplainWords, AnswersNames, AnswersShape, IsRefusal}
-use Rattle.lc_arguments.specs.ShapeWords.{IsColumnsText, IsShapeBy}
+use Rattle.lc_arguments.specs.Explained.{AnswersCountWords, AnswersExclusions, AnswersExplainWords, AnswersNames, AnswersShape, AnswersShapeIn}
+use Rattle.lc_arguments.specs.Explained.{AnswersPathsIn, IsRefusal}
 use Rattle.lc_arguments.specs.Words.{AskNothing, texts_read}
 use Rattle.lc_arguments.specs.declared.request.NoRequest.{NoRequest}
 use Rattle.lc_arguments.specs.declared.request.NoRequest.TheVariants.{Shown, Refused, Memory}
@@ -28,14 +28,13 @@ one_misnamed (name ∷ names) zero d low bad = ap (λ b. b && list_all is_name (
 one_misnamed (name ∷ names) (suc k) d low bad =
     ap (λ b. is_name name.now && b) (one_misnamed names k d (omega arith) bad) ∙ and_false (is_name name.now)
 
--- a shape that is asked for by the same texts
-pub shape_as : (format by sort format' by' sort' : Option (List ℕ)) (s : Shape) → format' ≡ format → by' ≡ by → sort' ≡ sort
-    → IsShapeBy format' by' sort' s → IsShapeBy format by sort s
-shape_as format by sort format' by' sort' s f b o is = record {
-  format_is = is.format_is ∙ ap (λ (t : Option (List ℕ)). unwrap_or t (codes "tsv")) f;
-  by_is = subst (λ (t : Option (List ℕ)). IsColumnsText (unwrap_or t (codes "ext,text,eol")) s.by) b is.by_is;
-  sort_is = is.sort_is ∙ o;
-}
+-- what is answered to the same texts of a shape
+pub answers_shape_as : (format by sort format' by' sort' : Option (List ℕ)) (answer : Result Shape NoRequest) → format' ≡ format
+    → by' ≡ by → sort' ≡ sort → AnswersShape format' by' sort' answer → AnswersShape format by sort answer
+answers_shape_as format by sort format' by' sort' answer f b o is =
+    subst (λ (t : Option (List ℕ)). AnswersShape t by sort answer) f
+    (subst (λ (t : Option (List ℕ)). AnswersShape format' t sort answer) b
+    (subst (λ (t : Option (List ℕ)). AnswersShape format' by' t answer) o is))
 
 -- they are refused for that
 pub refused_for : (names : List (List ℕ)) (why : NoRequest) → IsRefusal why → list_all is_name names ≡ false → AnswersNames names (Err why)
@@ -64,15 +63,19 @@ explain_refused_for words (Shown text) fine bad = absurd bad
 explain_refused_for words (Refused text) fine bad = inr (fine, bad)
 explain_refused_for words Memory fine bad = tt
 
--- so are those that ask for no shape
-pub shape_refused_for : (words : List (List ℕ)) (format by sort : Option (List ℕ)) (why : NoRequest) → fault_of count_app words ≡ []
-    → format ≡ first_of (codes "format") (matches_of count_app words) → by ≡ first_of (codes "by") (matches_of count_app words)
-    → sort ≡ first_of (codes "sort") (matches_of count_app words) → AnswersShape format by sort (Err why)
-    → AnswersCountWords words (Err why)
-shape_refused_for words format by sort (Shown text) fine f b s bad = absurd bad
-shape_refused_for words format by sort (Refused text) fine f b s bad =
-    inr (fine, inr (λ shape is. bad shape (shape_as format by sort _ _ _ shape (sym f) (sym b) (sym s) is)))
-shape_refused_for words format by sort Memory fine f b s bad = tt
+-- so are those that ask for what can be no path
+pub paths_refused_for : (words : List (List ℕ)) (why : NoRequest) → fault_of count_app words ≡ []
+    → AnswersPathsIn (matches_of count_app words) (Err why) → AnswersCountWords words (Err why)
+paths_refused_for words (Shown text) fine bad = absurd bad
+paths_refused_for words (Refused text) fine bad = inr (fine, inr (inl bad))
+paths_refused_for words Memory fine bad = tt
+
+-- and those that ask for no shape
+pub shape_refused_for : (words : List (List ℕ)) (why : NoRequest) → fault_of count_app words ≡ []
+    → AnswersShapeIn (matches_of count_app words) (Err why) → AnswersCountWords words (Err why)
+shape_refused_for words (Shown text) fine bad = absurd bad
+shape_refused_for words (Refused text) fine bad = inr (fine, inr (inr bad))
+shape_refused_for words Memory fine bad = tt
 
 -- words that begin with `explain` ask for nothing where those after it do not
 pub no_explanation_of : (words more : List (List ℕ)) (why : NoRequest) → words ≡ codes "explain" ∷ more

@@ -53,7 +53,7 @@ abbrev pub limit_rules : List Rule
 limit_rules = number_rule (codes "threads") 16 (codes "4") ∷ number_rule (codes "max-dirs") 1048576 (codes "65536") ∷ []
 
 abbrev pub count_rules : List Rule
-count_rules = exclusion_rules ++ table_rules ++ limit_rules ++ word_rule (codes "DIR") ∷ []
+count_rules = exclusion_rules ++ texts_rule (codes "only") ∷ table_rules ++ limit_rules ++ word_rule (codes "DIR") ∷ []
 
 abbrev pub check_rules : List Rule
 check_rules = flag_rule (codes "explain") ∷ word_rule (codes "FILE") ∷ []

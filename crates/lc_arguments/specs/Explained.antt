@@ -1,7 +1,7 @@
 -- What an error of clap becomes.
-use Rattle.std.specs.Prelude.{◌≡◌, ◌≢◌, ◌⊎◌, ℕ, true, false, List, [], map, Result, Ok, Err, Option}
+use Rattle.std.specs.Prelude.{◌≡◌, ◌≢◌, ◌⊎◌, ℕ, true, false, List, [], map, codes, Result, Ok, Err, Option}
 use Rattle.std.specs.Global.{Vec}
-use Rattle.std.specs.List.{list_all}
+use Rattle.std.specs.List.{list_all, list_any}
 use Rattle.clap.specs.Faults.{fault_of}
 use Rattle.clap.specs.Simple.{matches_of}
 use Rattle.clap.specs.Values.{kind_of}
@@ -11,8 +11,9 @@ use Rattle.std.specs.Borrow.{Bor}
 use Rattle.lc_rules.specs.AttrWords.{is_name}
 use Rattle.lc_arguments.specs.CommandLine.{count_app, check_app, explain_app, lc_app}
 use Rattle.lc_arguments.specs.Words.{IsText, IsNoRequestBy, IsCheckOf, IsCountOf, IsExplainOf, MayRefuse, MayShow}
-use Rattle.lc_arguments.specs.Words.{AskForNoCount, AskForNoExplanation, AreExclusionsOf, Misname}
-use Rattle.clap.specs.Walk.{Row}
+use Rattle.lc_arguments.specs.Words.{AskForNoCount, AskForNoExplanation, AreExclusionsOf, Misname, texts_read}
+use Rattle.clap.specs.Walk.{Row, first_of}
+use Rattle.lc_text.specs.PathLines.{is_bad_path, path_of}
 use Rattle.lc_text.specs.declared.shape.Shape.{Shape}
 use Rattle.lc_arguments.specs.ShapeWords.{IsShapeBy}
 use Rattle.lc_arguments.specs.declared.request.NoRequest.{NoRequest}
@@ -64,12 +65,29 @@ AnswersNames names (Err (Shown _)) = ⊥
 AnswersNames names (Err (Refused _)) = list_all is_name names ≡ false
 AnswersNames names (Err Memory) = Unit {0}
 
+-- the paths of these words, in their order; or one is no path of an entry
+abbrev pub AnswersPaths : List (List ℕ) → Result (Vec (Bor (List ℕ))) NoRequest → Type 0
+AnswersPaths words (Ok paths) =
+    (map (λ path. path.now) paths.items ≡ map path_of words) × (list_any is_bad_path (map path_of words) ≡ false)
+AnswersPaths words (Err (Shown _)) = ⊥
+AnswersPaths words (Err (Refused _)) = list_any is_bad_path (map path_of words) ≡ true
+AnswersPaths words (Err Memory) = Unit {0}
+
+-- those that were read
+abbrev pub AnswersPathsIn : List Row → Result (Vec (Bor (List ℕ))) NoRequest → Type 0
+AnswersPathsIn rows result = AnswersPaths (texts_read (codes "only") rows) result
+
 -- that shape; or one of the texts says nothing of a table, or there was no memory to say so
 abbrev pub AnswersShape : Option (List ℕ) → Option (List ℕ) → Option (List ℕ) → Result Shape NoRequest → Type 0
 AnswersShape format by sort (Ok shape) = IsShapeBy format by sort shape
 AnswersShape format by sort (Err (Shown _)) = ⊥
 AnswersShape format by sort (Err (Refused _)) = (shape : Shape) → ¬ IsShapeBy format by sort shape
 AnswersShape format by sort (Err Memory) = Unit {0}
+
+-- the shape that was read
+abbrev pub AnswersShapeIn : List Row → Result Shape NoRequest → Type 0
+AnswersShapeIn rows result =
+    AnswersShape (first_of (codes "format") rows) (first_of (codes "by") rows) (first_of (codes "sort") rows) result
 
 -- the words after `check`
 abbrev pub AnswersCheckWords : List (List ℕ) → Result CheckRequest NoRequest → Type 0

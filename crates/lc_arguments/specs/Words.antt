@@ -1,7 +1,8 @@
 -- What the words of a command line ask for.
 use Rattle.std.specs.Prelude.{◌≡◌, ◌≢◌, ◌⊎◌, ◌≤◌, ℕ, Bool, true, false, cond, List, [], ◌∷◌, pos, Some, Result, Ok, Err, unwrap_or}
 use Rattle.std.specs.Prelude.{option_map, map, codes}
-use Rattle.std.specs.List.{list_all}
+use Rattle.std.specs.Borrow.{Bor}
+use Rattle.std.specs.List.{list_all, list_any}
 use Rattle.std.specs.Str.{bytes_eq}
 use Rattle.std.specs.Str.Parse.{digits_value, without_leading_plus}
 use Rattle.clap.specs.Built.{IsParsedFrom}
@@ -23,6 +24,7 @@ use Rattle.lc_arguments.specs.declared.request.NoRequest.{NoRequest}
 use Rattle.lc_arguments.specs.declared.request.NoRequest.TheVariants.{Shown, Refused, Memory}
 use Rattle.lc_arguments.specs.declared.request.Request.{Request}
 use Rattle.lc_arguments.specs.declared.request.Request.TheVariants.{CheckJoined, Check, Count, Explain}
+use Rattle.lc_text.specs.PathLines.{is_bad_path, path_of}
 use Rattle.lc_text.specs.declared.shape.Shape.{Shape}
 use Rattle.lc_arguments.specs.ShapeWords.{IsShapeBy}
 use Rattle.lc_arguments.specs.declared.check.CheckRequest.{CheckRequest}
@@ -67,6 +69,18 @@ texts_read id rows = unwrap_or (all_of id rows) []
 abbrev pub Misname : List Row → Type 0
 Misname rows = list_all is_name (texts_read (codes "without") rows) ≡ false
 
+-- the paths that were asked for, each without one slash at its end
+abbrev pub paths_read : List Row → List (List ℕ)
+paths_read rows = map path_of (texts_read (codes "only") rows)
+
+-- what no entry can have as its path was asked for
+abbrev pub Misplace : List Row → Type 0
+Misplace rows = list_any is_bad_path (paths_read rows) ≡ true
+
+-- the paths that were asked for, in their order, each one that an entry can have
+abbrev pub ArePathsOf : List Row → List (Bor (List ℕ)) → Type 0
+ArePathsOf rows paths = (map (λ path. path.now) paths ≡ paths_read rows) × (list_any is_bad_path (paths_read rows) ≡ false)
+
 -- what leaves entries out, by what was read
 pub record AreExclusionsOf (rows : List Row) (e : Exclusions) : Type 0 where
   pub from : option_map (λ s. s.now) e.from ≡ first_of (codes "exclude-from") rows
@@ -86,6 +100,7 @@ pub record IsCountOf (rows : List Row) (c : CountRequest) : Type 0 where
   pub files : IsFlag (codes "files") rows c.files
   pub left_out : IsFlag (codes "left-out") rows c.left_out
   pub exclusions : AreExclusionsOf rows c.exclusions
+  pub only : ArePathsOf rows c.only.items
   pub shape : IsShapeIn rows c.shape
   pub directory : c.directory.now ≡ unwrap_or (first_of (codes "DIR") rows) []
 
@@ -137,11 +152,12 @@ Asks words (Check c) = (more : List (List ℕ)) × (words ≡ codes "check" ∷ 
 Asks words (Count c) = (more : List (List ℕ)) × (words ≡ codes "count" ∷ more) × IsCountOf (matches_of count_app more) c
 Asks words (Explain c) = (more : List (List ℕ)) × (words ≡ codes "explain" ∷ more) × IsExplainOf (matches_of explain_app more) c
 
--- the words after `count` fail in no way, but name what is no attribute, or no shape of a table
+-- the words after `count` fail in no way, but name what is no attribute, no path of an entry, or no shape of a table
 abbrev pub AskForNoCount : List (List ℕ) → Type 0
 AskForNoCount words =
     (fault_of count_app words ≡ [])
-    × (Misname (matches_of count_app words) ⊎ ((s : Shape) → ¬ IsShapeIn (matches_of count_app words) s))
+    × (Misname (matches_of count_app words)
+    ⊎ (Misplace (matches_of count_app words) ⊎ ((s : Shape) → ¬ IsShapeIn (matches_of count_app words) s)))
 
 -- and those after `explain`, but name what is no attribute
 abbrev pub AskForNoExplanation : List (List ℕ) → Type 0

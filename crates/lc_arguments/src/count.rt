@@ -9,8 +9,9 @@ ghost use Rattle.lc_arguments.specs.Explained.{AnswersCountWords};
 use crate::arguments::{flag, with_arg, word};
 use crate::exclusions::{Exclusions, with_exclusions};
 use crate::help;
+use crate::paths::{only, paths_in};
 use crate::request::{NoRequest, explained};
-use crate::shape::shape_of;
+use crate::shape::shape_in;
 use clap::{Arg, ArgAction, Command, value_parser};
 use lc_text::Shape;
 use std::alloc::{AllocError, Global};
@@ -29,6 +30,8 @@ pub struct CountRequest<'w> {
     pub left_out: bool,
     /// What leaves entries out beside the rules of the directory.
     pub exclusions: Exclusions<'w>,
+    /// The paths that alone are counted, relative to the directory and without a slash at their end; where there are none, all of it is.
+    pub only: Vec<&'w [u8]>,
     /// What the table is to look like: as `Tsv`, by all columns and in the order of keys where no word says it.
     pub shape: Shape,
     /// The directory, as its path was given: `.` is the one that the program runs in.
@@ -138,6 +141,7 @@ pub(crate) fn command<'a>(alloc: Global) -> Result<Command<'a>, AllocError>
 {
     let command = bare(alloc)?;
     let command = with_exclusions(alloc, command)?;
+    let command = with_arg(command, only(alloc))?;
     let command = with_table(alloc, command)?;
     let command = with_limits(alloc, command)?;
     let command = with_arg(command, word(alloc, "DIR", "The directory to count"))?;
@@ -166,10 +170,11 @@ impl<'w> CountRequest<'w> {
             Ok(exclusions) => exclusions,
             Err(no) => return Err(no),
         };
-        let format = matches.get_str("format");
-        let by = matches.get_str("by");
-        let sort = matches.get_str("sort");
-        let shape = match shape_of(alloc, format, by, sort) {
+        let only = match paths_in(alloc, &matches) {
+            Ok(only) => only,
+            Err(no) => return Err(no),
+        };
+        let shape = match shape_in(alloc, &matches) {
             Ok(shape) => shape,
             Err(no) => return Err(no),
         };
@@ -179,6 +184,7 @@ impl<'w> CountRequest<'w> {
             files: matches.get_flag("files"),
             left_out: matches.get_flag("left-out"),
             exclusions,
+            only,
             shape,
             directory: matches.get_str("DIR").unwrap_or(""),
         })

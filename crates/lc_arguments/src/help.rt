@@ -9,10 +9,8 @@ macro_rules! version {
 
 pub(crate) const VERSION: &str = version!("");
 
-/// With the kit and its logic, as `rt version` says.
-pub(crate) const LONG_VERSION: &str = version!(
-    "\nproved by rattle-kit-13f in its logic dac8208d650f15bf"
-);
+/// With the logic in which it was proved, as `rt version` says.
+pub(crate) const LONG_VERSION: &str = version!("\nproved in Rattle's logic dac8208d650f15bf");
 
 /// What stands before the directory in an example.
 pub(crate) const COUNT: &str = "lc count";
@@ -60,6 +58,9 @@ directory, as symbolic links, are left out too. Ignore files above DIR, Git's
 index and its configuration are not read. With --without ATTR files and
 directories are left out that have the attribute ATTR, by .gitattributes.
 
+With --only PATH only what stands at or below PATH in DIR is counted, by all rules
+of DIR: lc count --only src . counts a part of a repository by its rules.
+
 The table has a tab between fields; --format table aligns it for the eye, and
 --format json writes it as JSON. Below its header each line has the number of
 files of one kind, and the sums of their lines, blank lines and bytes. A kind is
@@ -87,6 +88,7 @@ The lines after these begin with
   many     the directory has over 1,048,576 entries
   long     the ignore or attribute file has over 1,048,576 bytes
   endless  the file did not end within 4,294,967,296 reads
+  absent   a PATH of --only is not there, or below what is no directory
 
 Limits: a path below DIR has at most 4,096 bytes, and directories are at most
 256 levels deep; past these there is no table.
@@ -102,6 +104,7 @@ Examples:
   lc count --format table --by ext --sort lines .
   lc count --left-out .
   lc count --files --threads 8 src
+  lc count --only src --only doc .
   lc count --archive --exclude-from rules .
   lc count --without linguist-vendored --without linguist-generated .";
 

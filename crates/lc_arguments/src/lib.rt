@@ -1,7 +1,8 @@
 //! What the words of a command line ask for, as `clap` reads them.
 //!
 //! - `request`: what is asked for, or why nothing is; the words that name no command
-//! - `count`, `check`, `explain`: the words of each command; `shape`: what a count's words say of its table
+//! - `count`, `check`, `explain`: the words of each command; `shape`: what a count's words say of its table, `paths`: which paths they
+//!   ask for
 //! - `exclusions`: what leaves entries out, for counts and explanations; `arguments`: what several commands have
 //! - `help`: the texts of help and of the version
 #![tactic(auto)]
@@ -12,6 +13,7 @@ mod count;
 mod exclusions;
 mod explain;
 mod help;
+mod paths;
 mod request;
 mod shape;
 

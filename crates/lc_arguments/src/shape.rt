@@ -1,13 +1,16 @@
 //! What the words ask a table to look like.
 
 ghost use Rattle.std.specs.Prelude.{◌≡◌, ◌≢◌, MatchOption, option_map};
+ghost use Rattle.clap.specs.Matches.{found_of};
+ghost use Rattle.clap.specs.Walk.{rows_of};
 ghost use Rattle.lc_text.specs.declared.shape.Columns.{Columns as ColumnsModel};
 ghost use Rattle.lc_text.specs.declared.shape.Format.{Format as FormatModel};
 ghost use Rattle.lc_text.specs.declared.shape.SortBy.{SortBy as SortModel};
-ghost use Rattle.lc_arguments.specs.Explained.{AnswersShape};
+ghost use Rattle.lc_arguments.specs.Explained.{AnswersShape, AnswersShapeIn};
 ghost use Rattle.lc_arguments.specs.ShapeWords.{IsColumnsText, format_word, sort_word};
 
 use crate::request::{NoRequest, refused};
+use clap::ArgMatches;
 use lc_glob::cut_at_first;
 use lc_text::{Columns, Format, Shape, SortBy};
 use std::alloc::Global;
@@ -64,7 +67,7 @@ fn columns_named(names: &str) -> Option<Columns>
 }
 
 /// The shape that the values of the three options ask for.
-pub(crate) fn shape_of(
+fn shape_of(
     alloc: Global,
     format: Option<&str>,
     by: Option<&str>,
@@ -106,4 +109,14 @@ pub(crate) fn shape_of(
         },
     };
     Ok(Shape { format, by, sort })
+}
+
+/// The shape that was read.
+pub(crate) fn shape_in(alloc: Global, matches: &ArgMatches<'_>) -> Result<Shape, NoRequest>
+    ensures { AnswersShapeIn (rows_of (found_of matches.now)) result }
+{
+    let format = matches.get_str("format");
+    let by = matches.get_str("by");
+    let sort = matches.get_str("sort");
+    shape_of(alloc, format, by, sort)
 }

@@ -36,7 +36,7 @@ fault_of s j path word a (Ok items) e = after_fault s j path word items (rule_by
 fault_of s j path word a (Err w) e = fault_is j.path path w word e
 
 no_attributes : SelectionModel
-no_attributes = record { without = [] }
+no_attributes = record { without = []; only = [] }
 
 -- a directory at fault can't be entered
 pub fault_entered : (lists : List ℕ → Listings) (gives : List ℕ → Contents) (j : JobModel) (texts : Bool) (place : Place) (word : FaultWord)

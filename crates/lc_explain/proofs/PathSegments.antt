@@ -133,7 +133,7 @@ below_child [] [] left some = absurd (some refl)
 below_child [] (n ∷ ns) left some = refl
 below_child (b ∷ bs) name left some = sym (append_assoc (b ∷ bs) (slash ∷ name) (slash ∷ left))
 
-joined_end : (d name left : List ℕ) → path_in d (name ++ slash ∷ left) ≡ path_in d name ++ slash ∷ left
+pub joined_end : (d name left : List ℕ) → path_in d (name ++ slash ∷ left) ≡ path_in d name ++ slash ∷ left
 joined_end [] name left = refl
 joined_end (b ∷ bs) name left = sym (append_assoc (b ∷ bs) (slash ∷ name) (slash ∷ left))
 

@@ -1,5 +1,5 @@
 -- Counting goes on, name by name.
-use Rattle.std.proofs.Common.{◌≡◌, ℕ, List, [], ◌∷◌, ◌++◌, refl, sym, ◌∙◌, ap, subst, Result, Ok, Err, Vec, append-nil}
+use Rattle.std.proofs.Common.{◌≡◌, ℕ, List, [], ◌∷◌, ◌++◌, refl, sym, ◌∙◌, ap, subst, Result, Ok, Err, Vec, append-nil, append_assoc}
 use Rattle.std.specs.Global.{Global}
 use Rattle.std.specs.List.{flat_map}
 use Rattle.std.proofs.lemmas.Grind.{flat_map-append}
@@ -10,7 +10,7 @@ use Rattle.lc_level.specs.CountedNames.{AreCounted, file_fates, AddsResult, Adds
 use Rattle.lc_level.specs.FileReads.{IsAnswer}
 use Rattle.lc_level.specs.Job.{JobModel}
 use Rattle.lc_level.specs.LeftIn.{bytes_of}
-use Rattle.lc_level.specs.Level.{Fate, file_fate, counted_of, failed_of}
+use Rattle.lc_level.specs.Level.{Fate, FileFaultModel, file_fate, counted_of, failed_of, failed_in}
 use Rattle.lc_tree.specs.Trees.{Contents, MayCount}
 use Rattle.lc_level.specs.declared.counting.CountedFiles.{CountedFiles}
 use Rattle.lc_level.specs.declared.unread.Unread.{Unread}
@@ -41,15 +41,17 @@ module _ (gives : List ℕ → Contents) (j : JobModel) (n : List ℕ) (r : Resu
       ∙ ap (λ l. flat_map f (file_fates j ns rs) ++ l) (append-nil (f (n, file_fate j n r)))
 
   -- the files so far, and that of one name more
-  pub counted_more : (ns : List (List ℕ)) (old new : CountedFiles) → IsCounted gives j ns old →
+  pub counted_more : (ns : List (List ℕ)) (absent : List FileFaultModel) (old new : CountedFiles) → IsCounted gives j ns absent old →
       new.files.items ≡ old.files.items ++ counted_of (n, file_fate j n r)
       → new.faults.items ≡ old.faults.items ++ failed_of (n, file_fate j n r) →
-      IsCounted gives j (ns ++ n ∷ []) new
-  counted_more ns old new c files faults = record {
+      IsCounted gives j (ns ++ n ∷ []) absent new
+  counted_more ns absent old new c files faults = record {
     results = c.results ++ r ∷ [];
     may = are_more ns c.results c.may;
     files = files ∙ ap (λ l. l ++ counted_of (n, file_fate j n r)) c.files ∙ sym (more counted_of ns c.results c.may);
-    faults = faults ∙ ap (λ l. l ++ failed_of (n, file_fate j n r)) c.faults ∙ sym (more failed_of ns c.results c.may);
+    faults = faults ∙ ap (λ l. l ++ failed_of (n, file_fate j n r)) c.faults
+        ∙ append_assoc absent (failed_in (file_fates j ns c.results)) (failed_of (n, file_fate j n r))
+        ∙ ap (λ l. absent ++ l) (sym (more failed_of ns c.results c.may));
   }
 
 module _ (gives : List ℕ → Contents) (j : JobModel) (name : List ℕ) (old new : CountedFiles) where
@@ -83,11 +85,13 @@ bytes_more [] n = refl
 bytes_more (m ∷ ns) n = ap (λ (l : List (List ℕ)). m.items ∷ l) (bytes_more ns n)
 
 -- the files so far, and one more
-pub counted_next : (gives : List ℕ → Contents) (j : JobModel) (ns : List (Vec ℕ Global)) (n : Vec ℕ Global) (old new : CountedFiles)
+pub counted_next : (gives : List ℕ → Contents) (j : JobModel) (ns : List (Vec ℕ Global)) (n : Vec ℕ Global)
+    (absent : List FileFaultModel) (old new : CountedFiles)
     (result : Result (Unit {0}) AllocError) (u : Unit {0}) → result ≡ Ok u →
-    IsCounted gives j (bytes_of ns) old → AddsCounted gives j n.items old new result → IsCounted gives j (bytes_of (ns ++ n ∷ [])) new
-counted_next gives j ns n old new result u is c added =
+    IsCounted gives j (bytes_of ns) absent old → AddsCounted gives j n.items old new result
+    → IsCounted gives j (bytes_of (ns ++ n ∷ [])) absent new
+counted_next gives j ns n absent old new result u is c added =
     let a : AddsCounted gives j n.items old new (Ok u) = subst
     (λ (x : Result (Unit {0}) AllocError). AddsCounted gives j n.items old new x) is added in
-    subst (λ (l : List (List ℕ)). IsCounted gives j l new) (sym (bytes_more ns n))
-    (counted_more gives j n.items a.0 a.1 (bytes_of ns) old new c a.2 a.3)
+    subst (λ (l : List (List ℕ)). IsCounted gives j l absent new) (sym (bytes_more ns n))
+    (counted_more gives j n.items a.0 a.1 (bytes_of ns) absent old new c a.2 a.3)

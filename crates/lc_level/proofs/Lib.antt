@@ -1,3 +1,5 @@
+pub mod AskedPaths
+pub mod CountedItems
 pub mod CountedLevels
 pub mod CountedMore
 pub mod Depths

@@ -78,7 +78,7 @@ module _ (lists : List ℕ → Listings) (gives : List ℕ → Contents) (one : 
 
   module _ (s : SelectionModel) (j : JobModel) (a b : Answers) (may : MayAnswer lists gives j.path a)
       (also : MayAnswer lists gives j.path b) where
-    here : a.here ≡ b.here
+    pub here : a.here ≡ b.here
     here = same_list j.path a.here b.here may.here also.here
 
     -- what stands in `.git/info`, where `.git` has it
@@ -104,7 +104,7 @@ module _ (lists : List ℕ → Listings) (gives : List ℕ → Contents) (one : 
         ∙ ap (λ (g : Items). and_then (listing true (codes ".git") g)
         (λ in_git. listing (has_directory (codes "info") in_git) (codes ".git/info") b.info)) git
 
-    same_rules : (items : List Item) → a.here ≡ Ok items → rule_bytes j.path items a ≡ rule_bytes j.path items b
+    pub same_rules : (items : List Item) → a.here ≡ Ok items → rule_bytes j.path items a ≡ rule_bytes j.path items b
     same_rules items e =
         ap (λ r. and_then (and_then r info_bytes) (λ i. and_then (own_bytes j.path items) (λ o. Ok (record { info = i; own = o }))))
         (same_info (has_git j.path items) (λ t. ap (λ (l : Items). has_git j.path (items_of l)) e ∙ t))

@@ -1,14 +1,21 @@
 -- The answers of a tree for a directory, by what opening it answered after it was entered.
-use Rattle.std.proofs.Common.{◌≡◌, ℕ, suc, Bool, true, ◌||◌, List, [], ◌∷◌, length, refl, sym, ◌∙◌, ap, Ok, Err}
-use Rattle.std.specs.List.{list_any, flat_map}
-use Rattle.lc_level.specs.Answers.{Item, entry_of, entries_of}
+use Rattle.std.proofs.Common.{◌≡◌, ◌<◌, ◌^◌, ℕ, suc, Bool, true, ◌||◌, List, [], ◌∷◌, length, refl, sym, ◌∙◌, ap, subst, arith}
+use Rattle.std.proofs.Common.{Ok, Err, Vec}
+use Rattle.std.proofs.lemmas.List.Sums.{count_by-le-length, length-filter}
+use Rattle.std.specs.Global.{Global}
+use Rattle.std.specs.List.{filter, list_any, flat_map}
+use Rattle.lc_level.specs.Answers.{Item, Items, entry_of, entries_of}
 use Rattle.lc_level.specs.Deep.{is_too_deep, some_too_deep, too_deep_among}
 use Rattle.lc_level.specs.Enters.{IsEntered, EntersLevel}
 use Rattle.lc_level.specs.Job.{JobModel}
 use Rattle.lc_level.specs.LeftIn.{kept_file, kept_directory, left_entry, LeavesIn}
+use Rattle.lc_level.specs.Level.{FileFaultModel, absent_faults}
+use Rattle.lc_level.specs.Narrowing.{rests, takes_part, part_of}
 use Rattle.lc_level.specs.Opens.{IsOpened, OpensLevel}
+use Rattle.lc_level.specs.PathSteps.{unled}
 use Rattle.lc_level.specs.Selection.{SelectionModel}
-use Rattle.lc_tree.specs.Listing.{EntryModel}
+use Rattle.lc_level.specs.Tidy.{listed_in}
+use Rattle.lc_tree.specs.Listing.{EntryModel, IsListing}
 use Rattle.lc_tree.specs.Trees.{Listings, Contents}
 use Rattle.lc_level.specs.declared.entering.Entered.{Entered}
 use Rattle.lc_level.specs.declared.left_in.LeftIn.{LeftIn}
@@ -16,6 +23,7 @@ use Rattle.lc_level.specs.declared.unlisted.Unlisted.{Unlisted}
 use Rattle.lc_level.specs.declared.unlisted.Unlisted.TheVariants.{Faulted, Broken}
 use Rattle.lc_level.specs.declared.cause.Cause.{Cause}
 use Rattle.lc_level.specs.declared.cause.Cause.TheVariants.{Memory, TooManyDirs, TooDeep}
+use Rattle.lc_level.proofs.AskedPaths.{absent_is, entries_of_part}
 
 any_of_map : (p : EntryModel → Bool) (items : List Item) → list_any (λ i. p (entry_of i)) items ≡ list_any p (entries_of items)
 any_of_map p [] = refl
@@ -25,6 +33,24 @@ length_entries : (items : List Item) → length (entries_of items) ≡ length it
 length_entries [] = refl
 length_entries (i ∷ is) = ap suc (length_entries is)
 
+module _ (s : SelectionModel) (e : Entered) (only : List (List ℕ)) (directory : List ℕ) (same : only ≡ s.only)
+    (at : directory ≡ e.job.path) where
+  -- the entries that take part, by the selection's paths and the directory that was entered
+  pub part_by : (part : List EntryModel) → part ≡ filter (takes_part only directory) e.entries.items
+      → part ≡ filter (takes_part s.only e.job.path) e.entries.items
+  part_by part is =
+      is ∙ ap (λ o. filter (takes_part o directory) e.entries.items) same
+      ∙ ap (λ d. filter (takes_part s.only d) e.entries.items) at
+
+  -- and so the paths that are absent
+  pub absent_by : (absent : List FileFaultModel) (entries : List EntryModel) → entries ≡ e.entries.items
+      → absent ≡ absent_faults (unled entries (rests only directory))
+      → absent ≡ absent_faults (unled e.entries.items (rests s.only e.job.path))
+  absent_by absent entries are is =
+      is ∙ ap (λ es. absent_faults (unled es (rests only directory))) are
+      ∙ ap (λ o. absent_faults (unled e.entries.items (rests o directory))) same
+      ∙ ap (λ d. absent_faults (unled e.entries.items (rests s.only d))) at
+
 module _ (lists : List ℕ → Listings) (gives : List ℕ → Contents) (left_out : Bool) (s : SelectionModel) (j : JobModel) where
   -- what stops entering a directory stops opening it
   pub enter_refused : (texts : Bool) (u : Unlisted) → EntersLevel lists gives j texts (Err u) → OpensLevel lists gives left_out s j (Err u)
@@ -33,41 +59,72 @@ module _ (lists : List ℕ → Listings) (gives : List ℕ → Contents) (left_o
   enter_refused texts (Broken TooManyDirs) e = absurd e
   enter_refused texts (Broken TooDeep) e = absurd e
 
-  module _ (texts : Bool) (e : Entered) (c : IsEntered lists gives j texts e) where
-    -- one of its entries is too deep
-    deep_opens : list_any (is_too_deep s e.job) e.entries.items ≡ true → OpensLevel lists gives left_out s j (Err (Broken TooDeep))
+  -- the entries that take part are these
+  module _ (texts : Bool) (e : Entered) (c : IsEntered lists gives j texts e) (part : List EntryModel)
+      (is : part ≡ filter (takes_part s.only e.job.path) e.entries.items) where
+    same_path : e.job.path ≡ j.path
+    same_path = ap (λ (k : JobModel). k.path) c.inside.extends
+
+    abbrev items : List Item
+    items = part_of s.only j.path c.inside.items
+
+    part_is : part ≡ entries_of items
+    part_is =
+        is ∙ ap (λ d. filter (takes_part s.only d) e.entries.items) same_path
+        ∙ ap (filter (takes_part s.only j.path)) c.entries ∙ sym (entries_of_part (takes_part s.only j.path) c.inside.items)
+
+    -- they are few
+    pub few : length part < 2 ^ 32
+    few =
+        let listing : IsListing (entries_of c.inside.items) = subst (λ (l : Items). IsListing (listed_in l)) c.inside.here c.inside.tidy in
+        omega (
+          arith,
+          listing.few,
+          length_entries c.inside.items,
+          ap length part_is,
+          length_entries items,
+          length-filter (λ i. takes_part s.only j.path (entry_of i)) c.inside.items,
+          count_by-le-length (λ i. takes_part s.only j.path (entry_of i)) c.inside.items,
+        )
+
+    -- one of them is too deep
+    deep_opens : list_any (is_too_deep s e.job) part ≡ true → OpensLevel lists gives left_out s j (Err (Broken TooDeep))
     deep_opens deep =
-        let here : list_any (is_too_deep s e.job) (entries_of c.inside.items) ≡ true =
-        ap (list_any (is_too_deep s e.job)) (sym c.entries) ∙ deep in (
+        let here : list_any (is_too_deep s e.job) (entries_of items) ≡ true = ap (list_any (is_too_deep s e.job)) (sym part_is) ∙ deep in (
           c.inside.answers,
           c.inside.may,
           c.inside.tidy,
           ap (too_deep_among s j c.inside.answers) c.inside.here ∙ ap (some_too_deep s j c.inside.items) c.inside.read
-              ∙ ap (λ (k : JobModel). list_any (λ i. is_too_deep s k (entry_of i)) c.inside.items) (sym c.inside.extends)
-              ∙ any_of_map (is_too_deep s e.job) c.inside.items ∙ here,
+              ∙ ap (λ (k : JobModel). list_any (λ i. is_too_deep s k (entry_of i)) items) (sym c.inside.extends)
+              ∙ any_of_map (is_too_deep s e.job) items ∙ here,
         )
 
     -- its entries were not taken
-    pub take_refused : (cause : Cause) → LeavesIn left_out s e.job e.entries.items (Err cause)
+    pub take_refused : (cause : Cause) → LeavesIn left_out s e.job part (Err cause)
         → OpensLevel lists gives left_out s j (Err (Broken cause))
     take_refused Memory l = tt
     take_refused TooManyDirs l = absurd l
     take_refused TooDeep l = deep_opens l
 
     -- they were taken
-    pub opened : (found : LeftIn) (number : ℕ) → number ≡ length e.entries.items
-        → LeavesIn left_out s e.job e.entries.items (Ok found)
+    pub opened : (found : LeftIn) (absent : Vec FileFaultModel Global) (number : ℕ)
+        → absent.items ≡ absent_faults (unled e.entries.items (rests s.only e.job.path)) → number ≡ length part
+        → LeavesIn left_out s e.job part (Ok found)
         → IsOpened lists gives left_out s j (record {
           job = e.job;
           files = found.files;
           children = found.children;
           left = found.left;
+          absent = absent;
           entries = number;
         })
-    opened found number counted (files, children, left) = record {
+    opened found absent number are counted (files, children, left) = record {
       inside = c.inside;
-      files = files ∙ ap (flat_map (kept_file s e.job)) c.entries;
-      children = children ∙ ap (flat_map (kept_directory s e.job)) c.entries;
-      left = left ∙ ap (flat_map (left_entry left_out s e.job)) c.entries;
-      entries = counted ∙ ap length c.entries ∙ length_entries c.inside.items;
+      files = files ∙ ap (flat_map (kept_file s e.job)) part_is;
+      children = children ∙ ap (flat_map (kept_directory s e.job)) part_is;
+      left = left ∙ ap (flat_map (left_entry left_out s e.job)) part_is;
+      absent = are ∙ ap (λ d. absent_faults (unled e.entries.items (rests s.only d))) same_path
+          ∙ ap (λ es. absent_faults (unled es (rests s.only j.path))) c.entries
+          ∙ ap absent_faults (absent_is s.only j.path c.inside.items);
+      entries = counted ∙ ap length part_is ∙ length_entries items;
     }

@@ -7,7 +7,7 @@ use Rattle.std.specs.Prelude.{option_map}
 use Rattle.lc_rules.specs.AttrStates.{state_of}
 use Rattle.lc_level.specs.Job.{JobModel}
 use Rattle.lc_level.specs.Level.{Reason, attribute_reason, by_attribute, is_set}
-use Rattle.lc_level.specs.Selection.{SelectionModel, selection_of}
+use Rattle.lc_level.specs.Selection.{SelectionModel, narrowed, selection_of}
 
 -- where none passes, none is found
 find_none : {X : Type 0} (p : X → Bool) (xs : List X) → list_any p xs ≡ false → find p xs ≡ None
@@ -63,8 +63,8 @@ module _ (j : JobModel) (path : List ℕ) (is_dir : Bool) where
       ap (λ o. option_map by_attribute (cond (is_set_at (codes "export-ignore")) (Some (codes "export-ignore")) o)) (find_lent names)
   by_words false names = ap (option_map by_attribute) (find_lent names)
 
-  module _ (s : SelectionModel) (archive : Bool) (names : List (Bor (List ℕ)))
-      (is : selection_of archive (map (λ name. name.now) names) ≡ s) where
+  module _ (s : SelectionModel) (archive : Bool) (names : List (Bor (List ℕ))) (only : List (List ℕ))
+      (is : narrowed (selection_of archive (map (λ name. name.now) names)) only ≡ s) where
     reason_is : attribute_reason s j path is_dir ≡ reason_by archive (find is_set_by names)
     reason_is = ap (λ (t : SelectionModel). attribute_reason t j path is_dir) (sym is) ∙ by_words archive names
 

@@ -4,7 +4,7 @@ use Rattle.std.specs.declared.alloc.AllocError.{AllocError}
 use Rattle.lc_census.specs.declared.totals.Count.{Count}
 use Rattle.lc_glob.specs.Path.{path_in}
 use Rattle.lc_level.specs.Job.{JobModel}
-use Rattle.lc_level.specs.Level.{Fate, file_fate, counted_of, failed_of, counted_in, failed_in}
+use Rattle.lc_level.specs.Level.{Fate, FileFaultModel, file_fate, counted_of, failed_of, counted_in, failed_in}
 use Rattle.lc_tree.specs.Trees.{Contents, MayCount}
 use Rattle.lc_level.specs.declared.counting.CountedFiles.{CountedFiles}
 use Rattle.lc_tree.specs.declared.fault_word.FaultWord.{FaultWord}
@@ -22,12 +22,13 @@ file_fates j [] rs = []
 file_fates j (n ∷ ns) [] = []
 file_fates j (n ∷ ns) (r ∷ rs) = (n, file_fate j n r) ∷ file_fates j ns rs
 
--- these are the files of these names
-pub record IsCounted (gives : List ℕ → Contents) (j : JobModel) (names : List (List ℕ)) (found : CountedFiles) : Type 0 where
+-- these are the files of these names, and their faults behind those of absent paths
+pub record IsCounted (gives : List ℕ → Contents) (j : JobModel) (names : List (List ℕ)) (absent : List FileFaultModel)
+    (found : CountedFiles) : Type 0 where
   pub results : List (Result Count FaultWord)
   pub may : AreCounted gives j names results
   pub files : found.files.items ≡ counted_in (file_fates j names results)
-  pub faults : found.faults.items ≡ failed_in (file_fates j names results)
+  pub faults : found.faults.items ≡ absent ++ failed_in (file_fates j names results)
 
 -- what adding what one file gave answers
 abbrev pub AddsResult : JobModel → List ℕ → Result Count FaultWord → CountedFiles → CountedFiles → Result (Unit {0}) AllocError → Type 0

@@ -8,6 +8,7 @@ use Rattle.lc_level.specs.Answers.{Item, entry_of, Items, Answers}
 use Rattle.lc_level.specs.Job.{JobModel}
 use Rattle.lc_level.specs.Level.{is_kept}
 use Rattle.lc_level.specs.FaultLines.{FaultLineModel}
+use Rattle.lc_level.specs.Narrowing.{part_of}
 use Rattle.lc_level.specs.RuleFiles.{RuleBytes, rule_bytes, extended}
 use Rattle.lc_level.specs.Selection.{SelectionModel}
 
@@ -18,9 +19,10 @@ is_too_deep s j e =
     && (nat_lt max_path (length (path_in j.path e.name))
     || (is_dir e.kind && is_kept s j (path_in j.path e.name) true && nat_lt max_depth (depth_of (path_in j.path e.name))))
 
--- some of these items is, by both chains with the rule files
+-- some of these items that take part is, by both chains with the rule files
 abbrev pub some_too_deep : SelectionModel → JobModel → List Item → Result RuleBytes FaultLineModel → Bool
-some_too_deep s j items (Ok files) = list_any (λ item. is_too_deep s (extended j files) (entry_of item)) items
+some_too_deep s j items (Ok files) =
+    list_any (λ item. is_too_deep s (extended j files) (entry_of item)) (part_of s.only j.path items)
 some_too_deep s j items (Err fault) = false
 
 abbrev pub too_deep_among : SelectionModel → JobModel → Answers → Items → Bool

@@ -95,7 +95,7 @@ pub record Names : Type 0 where
 
 abbrev pub names_in : Level → Names
 names_in (faulted_level path word) = record { files = []; faults = []; children = []; outside = [] }
-names_in (listed_level fates) = record {
+names_in (listed_level fates absent) = record {
   files = map (λ f. f.name) (counted_in fates);
   faults = map (λ f. f.name) (failed_in fates);
   children = map (λ c. c.0) (walked_in fates);

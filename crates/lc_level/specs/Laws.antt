@@ -32,7 +32,7 @@ module _ (lists : List ℕ → Listings) (gives : List ℕ → Contents) where
   abbrev pub CountedLaw : Type 0
   CountedLaw =
       (left_out : Bool) (s : SelectionModel) (j : JobModel) (o : Opened) (found : CountedFiles) →
-      IsOpened lists gives left_out s j o → IsCounted gives o.job (bytes_of o.files.items) found →
+      IsOpened lists gives left_out s j o → IsCounted gives o.job (bytes_of o.files.items) o.absent.items found →
       (a : Answers) × MayAnswer lists gives j.path a × IsTidy a
       × IsLevelOf (level s j a) left_out (parts_with o found.files.items found.faults.items)
 

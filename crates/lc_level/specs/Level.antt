@@ -1,5 +1,5 @@
 -- One level of the walk: what becomes of each entry of one directory.
-use Rattle.std.specs.Prelude.{ℕ, ◌≡◌, Bool, true, false, cond, List, [], ◌∷◌, length, flat_map, map, bytes_eq, codes}
+use Rattle.std.specs.Prelude.{ℕ, ◌≡◌, Bool, true, false, cond, List, [], ◌∷◌, ◌++◌, length, flat_map, map, bytes_eq, codes}
 use Rattle.std.specs.Prelude.{if◌then◌else◌, Option, None, Some, option_map, Result, Ok, Err}
 use Rattle.std.specs.List.{find}
 use Rattle.std.specs.Option.{is_none, option_map_or, option_or}
@@ -13,11 +13,13 @@ use Rattle.lc_census.specs.declared.totals.Count.{Count}
 use Rattle.lc_tree.specs.declared.entry.Kind.{Kind}
 use Rattle.lc_tree.specs.declared.entry.Kind.TheVariants.{File, Dir, Other}
 use Rattle.lc_tree.specs.declared.fault_word.FaultWord.{FaultWord}
+use Rattle.lc_tree.specs.declared.fault_word.FaultWord.TheVariants.{Absent}
 use Rattle.lc_glob.specs.Path.{path_in}
 use Rattle.lc_rules.specs.AttrStates.{state_of, as_text}
 use Rattle.lc_level.specs.Answers.{Item, file_item, directory_item, other_item, name_of, Items, Answers}
 use Rattle.lc_level.specs.Job.{JobModel}
 use Rattle.lc_level.specs.FaultLines.{FaultLineModel}
+use Rattle.lc_level.specs.Narrowing.{part_of, absent_from}
 use Rattle.lc_level.specs.RuleFiles.{RuleBytes, rule_bytes, extended}
 use Rattle.lc_level.specs.Selection.{SelectionModel}
 
@@ -54,10 +56,11 @@ pub data Fate : Type 0 where
   walked : JobModel → Fate
   left : Kind → Reason → Fate
 
--- a directory gives a fault at some path and nothing else, or its entries' names with their fates, in the order of its listing
+-- a directory gives a fault at some path and nothing else, or the names with their fates of the entries that take part, in the order of
+-- its listing, and the paths that are asked for and absent, seen from it
 pub data Level : Type 0 where
   faulted_level : (path : List ℕ) → FaultWord → Level
-  listed_level : List (List ℕ × Fate) → Level
+  listed_level : List (List ℕ × Fate) → (absent : List (List ℕ)) → Level
 
 abbrev pub is_set : StateModel → Bool
 is_set set = true
@@ -154,8 +157,12 @@ walked_in fates = flat_map walked_of fates
 abbrev pub left_in : List (List ℕ × Fate) → List LeftModel
 left_in fates = flat_map left_of fates
 
--- what is told of a directory that was listed: its counted files, the faults of files, its child directories, entries left out, and
--- the number of all its entries
+-- the faults of paths that are absent
+abbrev pub absent_faults : List (List ℕ) → List FileFaultModel
+absent_faults absent = map (λ rest. record { name = rest; word = Absent }) absent
+
+-- what is told of a directory that was listed: its counted files, the faults of absent paths and of files, its child directories, entries
+-- left out, and the number of its entries that take part
 pub record LevelParts : Type 0 where
   pub files : List CountedModel
   pub faults : List FileFaultModel
@@ -166,9 +173,10 @@ pub record LevelParts : Type 0 where
 -- a level that was listed has these parts; the entries left out where they are asked for
 pub record IsLevelOf (l : Level) (left_out : Bool) (parts : LevelParts) : Type 0 where
   pub fates : List (List ℕ × Fate)
-  pub listed : l ≡ listed_level fates
+  pub absent : List (List ℕ)
+  pub listed : l ≡ listed_level fates absent
   pub counts : counted_in fates ≡ parts.files
-  pub fails : failed_in fates ≡ parts.faults
+  pub fails : absent_faults absent ++ failed_in fates ≡ parts.faults
   pub walks : walked_in fates ≡ parts.children
   pub leaves : (if left_out then left_in fates else []) ≡ parts.left
   pub numbers : length fates ≡ parts.entries
@@ -176,7 +184,8 @@ pub record IsLevelOf (l : Level) (left_out : Bool) (parts : LevelParts) : Type 0
 -- ---- the whole
 
 abbrev pub level_of_items : SelectionModel → List Item → JobModel → Level
-level_of_items s items j = listed_level (fates_of s j items)
+level_of_items s items j =
+    listed_level (fates_of s j (part_of s.only j.path items)) (absent_from s.only j.path items)
 
 -- the level of these items, by what reading the rule files gave
 abbrev pub level_after : SelectionModel → JobModel → List Item → Result RuleBytes FaultLineModel → Level

@@ -11,10 +11,12 @@ pub mod Job
 pub mod Laws
 pub mod LeftIn
 pub mod Level
+pub mod Narrowing
 pub mod NodeTrees
 pub mod OneAnswer
 pub mod Opens
 pub mod PathBuffers
+pub mod PathSteps
 pub mod PlacePaths
 pub mod Reasons
 pub mod RuleFiles

@@ -7,7 +7,8 @@ use Rattle.lc_level.specs.Enters.{IsInside}
 use Rattle.lc_level.specs.Job.{JobModel}
 use Rattle.lc_level.specs.Tidy.{IsTidy}
 use Rattle.lc_level.specs.LeftIn.{kept_file, kept_directory, left_entry, bytes_of}
-use Rattle.lc_level.specs.Level.{faulted_level, level}
+use Rattle.lc_level.specs.Level.{absent_faults, faulted_level, level}
+use Rattle.lc_level.specs.Narrowing.{part_of, absent_from}
 use Rattle.lc_level.specs.PlacePaths.{place_path}
 use Rattle.lc_level.specs.Selection.{SelectionModel}
 use Rattle.lc_level.specs.TreeAnswers.{MayAnswer}
@@ -18,14 +19,15 @@ use Rattle.lc_level.specs.declared.unlisted.Unlisted.TheVariants.{Faulted, Broke
 use Rattle.lc_level.specs.declared.cause.Cause.TheVariants.{Memory, TooManyDirs, TooDeep}
 
 module _ (lists : List ℕ → Listings) (gives : List ℕ → Contents) (left_out : Bool) (s : SelectionModel) (j : JobModel) where
-  -- by answers that the tree may give: the directory with its rule files, what of its entries these leave in and out, and how many
-  -- entries it has
+  -- by answers that the tree may give: the directory with its rule files, what of its entries that take part these leave in and out,
+  -- the paths that are asked for and absent, and how many entries take part
   pub record IsOpened (o : Opened) : Type 0 where
     pub inside : IsInside lists gives j o.job
-    pub files : bytes_of o.files.items ≡ flat_map (kept_file s o.job) (entries_of inside.items)
-    pub children : o.children.items ≡ flat_map (kept_directory s o.job) (entries_of inside.items)
-    pub left : o.left.items ≡ flat_map (left_entry left_out s o.job) (entries_of inside.items)
-    pub entries : o.entries ≡ length inside.items
+    pub files : bytes_of o.files.items ≡ flat_map (kept_file s o.job) (entries_of (part_of s.only j.path inside.items))
+    pub children : o.children.items ≡ flat_map (kept_directory s o.job) (entries_of (part_of s.only j.path inside.items))
+    pub left : o.left.items ≡ flat_map (left_entry left_out s o.job) (entries_of (part_of s.only j.path inside.items))
+    pub absent : o.absent.items ≡ absent_faults (absent_from s.only j.path inside.items)
+    pub entries : o.entries ≡ length (part_of s.only j.path inside.items)
 
   -- a directory that is opened, at fault, too deep for a walk, or given up for want of memory
   abbrev pub OpensLevel : Result Opened Unlisted → Type 0

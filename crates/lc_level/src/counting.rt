@@ -75,19 +75,21 @@ impl<T: Tree> LevelReader<'_, T> {
         }
     }
 
-    /// Counts the files of these names, in order. The scratch paths are those of their directory.
+    /// Counts the files of these names, in order; the faults of absent paths stay before theirs. The scratch paths are those of
+    /// their directory.
     pub fn count(
         &self,
         job: &Job,
         names: Vec<Vec<u8>>,
+        absent: Vec<FileFault>,
         scratch: &mut Scratch,
     ) -> Result<CountedFiles, AllocError>
         requires { scratch.old.path.directory ≡ job.now.path }
-        ensures { IfOk result (IsCounted (T.gives self.now.tree.now) job.now (bytes_of names.items)) }
+        ensures { IfOk result (IsCounted (T.gives self.now.tree.now) job.now (bytes_of names.items) absent.items) }
     {
         let mut found = CountedFiles {
             files: Vec::new(self.alloc),
-            faults: Vec::new(self.alloc),
+            faults: absent,
         };
         for name in names {
             self.count_one(job, name, scratch, &mut found)?;

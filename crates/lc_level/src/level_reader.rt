@@ -21,7 +21,7 @@ pub struct Kept {
 /// let mut scratch = Scratch::new(alloc)?;
 /// let top = Job::top(alloc, None)?;
 /// let opened = levels.open(&top, &mut scratch)?; // `opened.children` has the directories to be walked
-/// let counted = levels.count(&opened.job, opened.files, &mut scratch)?;
+/// let counted = levels.count(&opened.job, opened.files, opened.absent, &mut scratch)?;
 /// ```
 #[derive(Drop)]
 pub struct LevelReader<'t, T> {

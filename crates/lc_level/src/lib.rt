@@ -4,7 +4,7 @@
 //! - `entering`: a directory's listing and its rule files, read whole; `opening`: which of its entries these leave in
 //! - `git_info`, `rule_files`, `rule_pair`: its rule files; `chains`: both chains by them
 //! - `entry_looks`, `left_in`: what is looked for among its entries, and which of them stay; `deciding`, `reason`: why the others don't
-//! - `selection`: what decides beside the rules
+//! - `selection`: what decides beside the rules; `narrowing`: which entries take part, where some paths alone are asked for
 //! - `counted`, `counting`: what became of its files, and counting them
 //! - `files`, `unread`: opening one file, to count it or to read it as rules, and why that was not possible
 //! - `paths`: the path of a name in a directory
@@ -26,6 +26,7 @@ mod job;
 mod laws;
 mod left_in;
 mod level_reader;
+mod narrowing;
 mod opening;
 mod path_buffer;
 mod paths;

@@ -1,11 +1,14 @@
-//! Opening a directory: which of its entries its rule files leave in.
+//! Opening a directory: which of its entries take part, and which its rule files leave in.
 ghost use Rattle.std.specs.Prelude.{◌≡◌, IfOk};
 ghost use Rattle.lc_level.specs.Opens.{OpensLevel};
 
+use crate::cause::Cause;
+use crate::counted::FileFault;
 use crate::entering::Entered;
 use crate::job::Job;
 use crate::left_in::ChildDirectory;
 use crate::level_reader::LevelReader;
+use crate::narrowing::{absent_paths, part_of};
 use crate::reason::LeftOut;
 use crate::scratch::Scratch;
 use crate::unlisted::Unlisted;
@@ -22,7 +25,9 @@ pub struct Opened {
     pub children: Vec<ChildDirectory>,
     /// The entries that are left out, in the order of the listing; none unless they are kept.
     pub left: Vec<LeftOut>,
-    /// The number of all entries.
+    /// The paths that are asked for and absent, seen from the directory.
+    pub absent: Vec<FileFault>,
+    /// The number of the entries that take part.
     pub entries: u32,
 }
 
@@ -35,6 +40,13 @@ impl<T: Tree> LevelReader<'_, T> {
             self.now.selection job.now result }
     {
         let Entered { job, entries, .. } = self.enter(job, scratch)?;
+        let Ok(absent) = absent_paths(self.alloc, self.selection.only(), job.path(), &entries)
+        else {
+            return Err(Unlisted::Broken(Cause::Memory));
+        };
+        let Ok(entries) = part_of(self.alloc, self.selection.only(), job.path(), entries) else {
+            return Err(Unlisted::Broken(Cause::Memory));
+        };
         let number = entries.len() as u32;
         match self.left_in(&job, entries, &mut scratch.path) {
             Ok(found) => Ok(Opened {
@@ -42,6 +54,7 @@ impl<T: Tree> LevelReader<'_, T> {
                 files: found.files,
                 children: found.children,
                 left: found.left,
+                absent,
                 entries: number,
             }),
             Err(cause) => Err(Unlisted::Broken(cause)),

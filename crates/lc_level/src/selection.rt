@@ -1,7 +1,7 @@
-//! What decides, beside the rules of a tree, which of its entries are left out.
+//! What decides, beside the rules of a tree, which of its entries take part, and which of these are left out.
 ghost use Rattle.std.specs.Prelude.{◌≡◌, IfOk, option_map, map};
 ghost use Rattle.lc_level.specs.Level.{attribute_reason, by_attribute, is_set};
-ghost use Rattle.lc_level.specs.Selection.{selection_of};
+ghost use Rattle.lc_level.specs.Selection.{narrowed, selection_of};
 ghost use Rattle.lc_rules.specs.AttrStates.{state_of};
 
 use crate::job::Job;
@@ -9,26 +9,28 @@ use lc_rules::State;
 use std::alloc::{AllocError, Global};
 use std::marker::Model;
 
-/// What decides, beside the rules of a tree, which of its entries are left out.
+/// What decides, beside the rules of a tree, which of its entries take part, and which of these are left out.
 ///
 /// ```
 /// let as_it_is = Selection::new(false, &[]);
 /// let exported = Selection::new(true, &[]); // leaves out what `docs/ export-ignore` of a `.gitattributes` names
 /// let own_work = Selection::new(false, &["linguist-vendored"]); // leaves out what `lib/ linguist-vendored` names
+/// let sources = Selection::new(false, &[]).narrowed(&[b"src"]); // of the tree what stands at or below `src`
 /// ```
 #[derive(Drop)]
 pub struct Selection<'o> {
     archive: bool,
     without: &'o [&'o str],
+    only: &'o [&'o [u8]],
 }
 
 impl<'o> Model for Selection<'o> {
     ghost use Rattle.std.specs.Prelude.{map};
-    ghost use Rattle.lc_level.specs.Selection.{SelectionModel, selection_of};
+    ghost use Rattle.lc_level.specs.Selection.{SelectionModel, narrowed, selection_of};
 
     ghost Value = { SelectionModel };
 
-    ghost view = { λ s. selection_of s.archive (map (λ name. name.now) s.without.now) };
+    ghost view = { λ s. narrowed (selection_of s.archive (map (λ name. name.now) s.without.now)) (map (λ path. path.now) s.only.now) };
 }
 
 /// Whether an attribute is Set at a path. Memory is taken for the attribute's macros alone.
@@ -54,7 +56,30 @@ impl<'o> Selection<'o> {
     pub fn new(archive: bool, without: &'o [&'o str]) -> Selection<'o>
         ensures { result ≡ selection_of archive (map (λ name. name.now) without.entry.now) }
     {
-        Selection { archive, without }
+        Selection {
+            archive,
+            without,
+            only: &[],
+        }
+    }
+
+    /// The same of these paths alone, where there are some: what stands at or below one of them takes part. They are relative to the
+    /// top, with no slash at the end.
+    pub fn narrowed(self, only: &'o [&'o [u8]]) -> Selection<'o>
+        ensures { result ≡ narrowed self.entry (map (λ path. path.now) only.entry.now) }
+    {
+        Selection {
+            archive: self.archive,
+            without: self.without,
+            only,
+        }
+    }
+
+    /// The paths alone that are asked for, if there are some.
+    pub(crate) fn only(&self) -> &'o [&'o [u8]]
+        ensures { map (λ path. path.now) result.now ≡ self.now.only }
+    {
+        self.only
     }
 
     /// The first attribute that leaves out what stands at a path. Memory is taken for the attributes' macros alone.

@@ -5,4 +5,5 @@ mod entering;
 mod faults;
 mod left_out;
 mod levels;
+mod narrowed;
 mod work;

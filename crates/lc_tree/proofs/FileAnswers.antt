@@ -10,7 +10,7 @@ use Rattle.lc_tree.specs.MemTrees.{Content, AreSome, GivesContent}
 use Rattle.lc_tree.specs.SomeAnswers.{some_rules}
 use Rattle.lc_tree.specs.Trees.{MayCount, MayReadRules}
 use Rattle.lc_tree.specs.declared.fault_word.FaultWord.{FaultWord}
-use Rattle.lc_tree.specs.declared.fault_word.FaultWord.TheVariants.{Read, Name, Twice, Many, Long, Endless}
+use Rattle.lc_tree.specs.declared.fault_word.FaultWord.TheVariants.{Read, Name, Twice, Many, Long, Endless, Absent}
 
 -- the bytes in pieces of one byte each
 abbrev one_by_one : List ℕ → List (List ℕ)
@@ -53,6 +53,7 @@ rules_are c (Err Long) m =
     let more : 1048576 < length c.bytes = omega (arith, m.2, length-append (concat m.0) m.1.1.0, ap length m.1.1.1) in
     sym (ap (λ b. cond b (Err Long) (cond c.fails (Err Read) (Ok c.bytes))) (lt-ltb 1048576 (length c.bytes) more))
 rules_are c (Err Endless) m = absurd m
+rules_are c (Err Absent) m = absurd m
 rules_are c (Err Name) m = absurd m
 rules_are c (Err Twice) m = absurd m
 rules_are c (Err Many) m = absurd m

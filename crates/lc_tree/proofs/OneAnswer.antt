@@ -10,7 +10,7 @@ use Rattle.lc_tree.specs.Listing.{EntryModel, IsListingOf, have_good_names}
 use Rattle.lc_tree.specs.MemTrees.{Content, AreSome, GivesContent, IsAnswerFor, ListsWithin, ListsNode}
 use Rattle.lc_tree.specs.Trees.{MayCount, MayReadRules}
 use Rattle.lc_tree.specs.declared.fault_word.FaultWord.{FaultWord}
-use Rattle.lc_tree.specs.declared.fault_word.FaultWord.TheVariants.{Read, Name, Twice, Many, Long, Endless}
+use Rattle.lc_tree.specs.declared.fault_word.FaultWord.TheVariants.{Read, Name, Twice, Many, Long, Endless, Absent}
 use Rattle.lc_tree.specs.declared.node.Node.{Node, out-Node}
 use Rattle.lc_tree.specs.declared.node.Node.TheOpen.{Node-F}
 use Rattle.lc_tree.proofs.Entries.{good_names_moved, distinct_from_sorted}
@@ -35,9 +35,11 @@ one_answer : (es : List EntryModel) (a b : Result (List EntryModel) FaultWord) �
 one_answer es (Err Read) b p q = absurd p
 one_answer es (Err Long) b p q = absurd p
 one_answer es (Err Endless) b p q = absurd p
+one_answer es (Err Absent) b p q = absurd p
 one_answer es a (Err Read) p q = absurd q
 one_answer es a (Err Long) p q = absurd q
 one_answer es a (Err Endless) p q = absurd q
+one_answer es a (Err Absent) p q = absurd q
 one_answer es (Ok a) (Ok b) p q = ap Ok (one_listing es a b p q)
 one_answer es (Ok a) (Err Name) p q = absurd (both (have_good_names es) (good es a p) q)
 one_answer es (Ok a) (Err Twice) p q = absurd (q.1 (distinct_from_sorted es a p.entries p.listing.order))
@@ -94,11 +96,13 @@ counts_once c (Err Twice) b short one p q = absurd p
 counts_once c (Err Many) b short one p q = absurd p
 counts_once c (Err Long) b short one p q = absurd p
 counts_once c (Err Endless) b short one p q = absurd (not_endless c short p)
+counts_once c (Err Absent) b short one p q = absurd p
 counts_once c a (Err Name) short one p q = absurd q
 counts_once c a (Err Twice) short one p q = absurd q
 counts_once c a (Err Many) short one p q = absurd q
 counts_once c a (Err Long) short one p q = absurd q
 counts_once c a (Err Endless) short one p q = absurd (not_endless c short q)
+counts_once c a (Err Absent) short one p q = absurd q
 counts_once c (Ok a) (Ok b) short one p q =
     ap Ok (one_count c.bytes a b (one c.bytes) (census_of c p.0 a p.1.1 p.2) (census_of c q.0 b q.1.1 q.2))
 counts_once c (Ok a) (Err Read) short one p q = absurd (both c.fails q.1.2 p.1.2)
@@ -122,10 +126,12 @@ reads_rules_once c (Err Name) b p q = absurd p
 reads_rules_once c (Err Twice) b p q = absurd p
 reads_rules_once c (Err Many) b p q = absurd p
 reads_rules_once c (Err Endless) b p q = absurd p
+reads_rules_once c (Err Absent) b p q = absurd p
 reads_rules_once c a (Err Name) p q = absurd q
 reads_rules_once c a (Err Twice) p q = absurd q
 reads_rules_once c a (Err Many) p q = absurd q
 reads_rules_once c a (Err Endless) p q = absurd q
+reads_rules_once c a (Err Absent) p q = absurd q
 reads_rules_once c (Ok a) (Ok b) p q = ap Ok (sym p.2 ∙ (p.1.1 ∙ (sym q.1.1 ∙ q.2)))
 reads_rules_once c (Ok a) (Err Read) p q = absurd (both c.fails q.1.2 p.1.2)
 reads_rules_once c (Ok a) (Err Long) p q = absurd (omega (arith, is_short c a p, is_long c q))

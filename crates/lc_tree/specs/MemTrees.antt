@@ -7,7 +7,7 @@ use Rattle.lc_tree.specs.Listing.{EntryModel, IsListingOf, IsRefusedBy}
 use Rattle.lc_tree.specs.Nodes.{entry_of, node_at}
 use Rattle.lc_tree.specs.Trees.{Listings, Contents}
 use Rattle.lc_tree.specs.declared.fault_word.FaultWord.{FaultWord}
-use Rattle.lc_tree.specs.declared.fault_word.FaultWord.TheVariants.{Read, Name, Twice, Many, Long, Endless}
+use Rattle.lc_tree.specs.declared.fault_word.FaultWord.TheVariants.{Read, Name, Twice, Many, Long, Endless, Absent}
 use Rattle.lc_tree.specs.declared.listing.ListingFault.TheVariants.{BadName, TooMany}
 use Rattle.lc_tree.specs.declared.listing.ListingFault.TheVariants as listing
 use Rattle.lc_tree.specs.declared.node.Node.{Node, out-Node}
@@ -22,6 +22,7 @@ IsAnswerFor entries (Err Many) = IsRefusedBy entries TooMany
 IsAnswerFor entries (Err Read) = ⊥
 IsAnswerFor entries (Err Long) = ⊥
 IsAnswerFor entries (Err Endless) = ⊥
+IsAnswerFor entries (Err Absent) = ⊥
 
 -- what listing a node answers: a directory's entries listed, and for any other node that it can't be read
 abbrev pub ListsWithin : Node-F Node → Listings

@@ -58,6 +58,7 @@ MayCount gives (Err word.Name) = ⊥
 MayCount gives (Err word.Twice) = ⊥
 MayCount gives (Err word.Many) = ⊥
 MayCount gives (Err word.Long) = ⊥
+MayCount gives (Err word.Absent) = ⊥
 
 -- what reading it as rules may give: its bytes, a failed read before they are too many, or one byte more than a rule file may have
 abbrev pub MayReadRules : Contents → Result (List ℕ) FaultWord → Type 0
@@ -68,3 +69,4 @@ MayReadRules gives (Err word.Endless) = ⊥
 MayReadRules gives (Err word.Name) = ⊥
 MayReadRules gives (Err word.Twice) = ⊥
 MayReadRules gives (Err word.Many) = ⊥
+MayReadRules gives (Err word.Absent) = ⊥

@@ -18,6 +18,8 @@ pub enum FaultWord {
     Long,
     /// A file's reads did not come to an end.
     Endless,
+    /// A path that was asked for isn't there, or stands below what is no directory.
+    Absent,
 }
 
 impl FaultWord {
@@ -32,6 +34,7 @@ impl FaultWord {
             FaultWord::Many => "many",
             FaultWord::Long => "long",
             FaultWord::Endless => "endless",
+            FaultWord::Absent => "absent",
         }
     }
 }

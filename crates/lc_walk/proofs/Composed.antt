@@ -213,17 +213,18 @@ module _ (ask : Asked) (MayAnswer : List ℕ → Answers → Type 0) (capacity w
     row_finds (ended.Returned (Listed r)) a posts s w =
         let l = s.level_is in
         let f = found_of r.job in record {
-          tally = ap (λ x. map tallied (counted_files x)) l ∙ sym (ap (λ x. tallied_of (f x)) l ∙ tallied_went r.job s.fates);
-          files = ap (λ x. cond ask.lists.files (files_of (f x)) []) l ∙ ap (λ xs. cond ask.lists.files xs []) (files_went r.job s.fates)
+          tally = ap (λ x. map tallied (counted_files x)) l ∙ sym (ap (λ x. tallied_of (f x)) l ∙ tallied_went r.job s.fates s.absent);
+          files = ap (λ x. cond ask.lists.files (files_of (f x)) []) l
+              ∙ ap (λ xs. cond ask.lists.files xs []) (files_went r.job s.fates s.absent)
               ∙ sym (mapped_asked (line_of r.job.path) ask.lists.files (counted_in s.fates))
               ∙ ap (map (line_of r.job.path)) (sym s.files_are);
-          faults = ap (λ x. faults_of (f x)) l ∙ faults_went r.job s.fates ∙ ap (map (fault_line r.job.path)) (sym s.faults_are);
+          faults = ap (λ x. faults_of (f x)) l ∙ faults_went r.job s.fates s.absent ∙ ap (map (fault_line r.job.path)) (sym s.faults_are);
           left = ap (λ x. cond ask.lists.left_out (left_out_of (f x)) []) l
-              ∙ ap (λ xs. cond ask.lists.left_out xs []) (left_went r.job s.fates)
+              ∙ ap (λ xs. cond ask.lists.left_out xs []) (left_went r.job s.fates s.absent)
               ∙ sym (mapped_asked (left_line r.job.path) ask.lists.left_out (left_in s.fates))
               ∙ ap (map (left_line r.job.path)) (sym s.left_are);
-          directories = ap (λ x. directories_of (f x)) l ∙ directories_went r.job s.fates;
-          entries = ap (λ x. entry_count (f x)) l ∙ entries_went r.job s.fates ∙ sym s.entries_are;
+          directories = ap (λ x. directories_of (f x)) l ∙ directories_went r.job s.fates s.absent;
+          entries = ap (λ x. entry_count (f x)) l ∙ entries_went r.job s.fates s.absent ∙ sym s.entries_are;
         }
     row_finds (ended.Returned (Faulted r)) a posts s w = absurd s
     row_finds (ended.Returned (Broken r)) a posts s w = absurd w

@@ -1,26 +1,35 @@
 -- The entries of listed directories are what a walk finds.
-use Rattle.std.proofs.Common.{◌≡◌, ℕ, zero, suc, ◌+◌, ◌≤◌, List, [], ◌∷◌, ◌++◌, length, true, cond, ap, subst, arith, refl}
+use Rattle.std.proofs.Common.{◌≡◌, ◌≢◌, ℕ, zero, suc, ◌+◌, ◌≤◌, List, [], ◌∷◌, ◌++◌, length, map, true, cond, ap, ◌∙◌, subst, arith, refl}
 use Rattle.std.proofs.Common.{length-append, IsPermutation}
-use Rattle.std.specs.List.{flat_map}
+use Rattle.std.specs.List.{flat_map, Contains, AllByRecursion}
+use Rattle.std.proofs.lemmas.List.{length-map}
 use Rattle.std.proofs.lemmas.List.Sorted.{length_permutation}
 use Rattle.std.proofs.lemmas.List.Sums.{sum_by-append, sum_by-cons}
-use Rattle.lc_level.specs.Answers.{Item, Tree}
+use Rattle.lc_glob.specs.Path.{path_in}
+use Rattle.lc_level.specs.Answers.{Item, Answers, Tree}
 use Rattle.lc_level.specs.Job.{JobModel}
-use Rattle.lc_level.specs.Level.{Fate, counted, failed, walked, left, level_of_items, walked_in, fates_of}
+use Rattle.lc_level.specs.Level.{Fate, counted, failed, walked, left, Level, faulted_level, listed_level, level, walked_in, fates_of}
+use Rattle.lc_level.specs.Narrowing.{part_of, absent_from}
 use Rattle.lc_level.specs.RuleFiles.{extended}
 use Rattle.lc_level.specs.Selection.{SelectionModel}
 use Rattle.lc_tree.specs.Trees.{Listings, Contents}
-use Rattle.lc_walk.specs.Accounts.{IsAccounted, EntriesLaw}
-use Rattle.lc_walk.specs.Found.{Found, found_file, found_fault, found_directory, found_left, found_by, found_of, found_at, children_of}
+use Rattle.lc_tree.specs.declared.fault_word.FaultWord.TheVariants.{Absent}
+use Rattle.lc_walk.specs.Accounts.{absent_line, IsAccounted, EntriesLaw}
+use Rattle.lc_walk.specs.Found.{Found, found_file, found_fault, found_directory, found_left, found_absent, found_by, found_of, found_at}
+use Rattle.lc_walk.specs.Found.{children_of}
 use Rattle.lc_walk.specs.Found.{children_at}
 use Rattle.lc_walk.specs.TreeOfRows.{tree_of_rows}
-use Rattle.lc_walk.specs.Walk.{walks_below, walk_of}
+use Rattle.lc_walk.specs.Walk.{walks_below, walk_by, walk_of}
 use Rattle.lc_walk.specs.WalkOptions.{asked_by, top_of}
 use Rattle.lc_walk.specs.WalkReport.{entries_in, tallied_of, faults_of, directories_of, left_out_of, entry_count, IsReportOf}
 use Rattle.lc_walk.specs.declared.options.Lists.{Lists}
 use Rattle.lc_walk.specs.declared.report.Report.{Report}
 use Rattle.lc_walk.proofs.Levels.{level_keeps}
+use Rattle.lc_walk.proofs.AbsentPaths.{absent_asked}
+use Rattle.lc_walk.proofs.Elements.{In, contains}
 use Rattle.lc_walk.proofs.Listings.{no_entries_within}
+use Rattle.lc_walk.proofs.Reports.{report_law}
+use Rattle.lc_walk.proofs.WalkParts.{walk_splits, walk_maps, walk_grows, walk_each}
 
 -- each entry is found, or is a child directory
 each_fate : (d : List ℕ) (fates : List (List ℕ × Fate)) → length (flat_map (found_by d) fates) + length (walked_in fates) ≡ length fates
@@ -30,12 +39,64 @@ each_fate d ((name, failed word) ∷ fates) = omega (arith, each_fate d fates)
 each_fate d ((name, walked job) ∷ fates) = omega (arith, each_fate d fates)
 each_fate d ((name, left kind reason) ∷ fates) = omega (arith, each_fate d fates)
 
+-- the paths that are absent of a directory
+abbrev absent_of : JobModel → Level → List (List ℕ)
+absent_of j (faulted_level path word) = []
+absent_of j (listed_level fates absent) = map (path_in j.path) absent
+
+-- what is found of it beside them
+abbrev own_of : JobModel → Level → List Found
+own_of j (faulted_level path word) = found_fault path word ∷ []
+own_of j (listed_level fates absent) = found_directory j.path (length fates) ∷ flat_map (found_by j.path) fates
+
+abbrev absent_fault : List ℕ → Found
+absent_fault path = found_fault path Absent
+
+absent_mapped : (d : List ℕ) (absent : List (List ℕ)) → map (found_absent d) absent ≡ map absent_fault (map (path_in d) absent)
+absent_mapped d [] = refl
+absent_mapped d (rest ∷ absent) = ap (λ l. found_absent d rest ∷ l) (absent_mapped d absent)
+
+both_found : (j : JobModel) (l : Level) → found_of j l ≡ map absent_fault (absent_of j l) ++ own_of j l
+both_found j (faulted_level path word) = refl
+both_found j (listed_level fates absent) = ap (λ l. l ++ own_of j (listed_level fates absent)) (absent_mapped j.path absent)
+
 module _ (selection : SelectionModel) where
+  abbrev own_at : JobModel → Answers → List Found
+  own_at j a = own_of j (level selection j a)
+
+  abbrev absent_at : JobModel → Answers → List (List ℕ)
+  absent_at j a = absent_of j (level selection j a)
+
+  -- what a walk finds, but for the paths that are absent; and these
+  abbrev own_walk : ℕ → JobModel → Tree → List Found
+  own_walk depth j t = walk_by own_at (children_at selection) depth j t
+
+  abbrev absent_walk : ℕ → JobModel → Tree → List (List ℕ)
+  absent_walk depth j t = walk_by absent_at (children_at selection) depth j t
+
+  two_walks : (depth : ℕ) (j : JobModel) (t : Tree) →
+      IsPermutation (walk_of selection depth j t) (map absent_fault (absent_walk depth j t) ++ own_walk depth j t)
+  two_walks depth j t =
+      subst (λ l. IsPermutation (walk_of selection depth j t) (l ++ own_walk depth j t))
+      (walk_maps (children_at selection) absent_fault absent_at depth j t)
+      (walk_splits (children_at selection) (found_at selection) (λ k a. map absent_fault (absent_at k a)) own_at
+      (λ k a. both_found k (level selection k a)) depth j t)
+
+  absent_here : (j : JobModel) (a : Answers) → AllByRecursion (Contains selection.only) (absent_at j a)
+  absent_here j a =
+      level_keeps (λ l. AllByRecursion (Contains selection.only) (absent_of j l)) selection j a (λ p w. tt)
+      (λ es e b. asked_paths (absent_from selection.only j.path es) (absent_asked selection.only j.path es))
+    where
+      asked_paths : (rests : List (List ℕ)) → AllByRecursion (λ r. In (path_in j.path r) selection.only × (j.path ≡ [] → r ≢ [])) rests
+          → AllByRecursion (Contains selection.only) (map (path_in j.path) rests)
+      asked_paths [] all = tt
+      asked_paths (r ∷ rs) all = (contains (path_in j.path r) selection.only all.0.0, asked_paths rs all.1)
+
   abbrev Walks : Type 0
   Walks = JobModel → Tree → List Found
 
   abbrev below : Walks → Tree → List (List ℕ × JobModel) → List Found
-  below walk t cs = walks_below (found_at selection) (children_at selection) walk t cs
+  below walk t cs = walks_below own_at (children_at selection) walk t cs
 
   -- what is found in child directories of whose walks this is so
   few_below : (walk : Walks) (t : Tree) (cs : List (List ℕ × JobModel))
@@ -68,12 +129,13 @@ module _ (selection : SelectionModel) where
 
   -- the things and the entries of a listed directory, with those below it
   long_level : (j : JobModel) (es : List Item) (more : List Found)
-      → length (found_of j (level_of_items selection es j) ++ more)
+      → length ((found_directory j.path (length (fates_of selection j es)) ∷ flat_map (found_by j.path) (fates_of selection j es)) ++ more)
       ≡ 1 + length (flat_map (found_by j.path) (fates_of selection j es)) + length more
   long_level j es more = omega (arith, length-append (flat_map (found_by j.path) (fates_of selection j es)) more)
 
   counted_level : (j : JobModel) (es : List Item) (more : List Found)
-      → entry_count (found_of j (level_of_items selection es j) ++ more) ≡ length (fates_of selection j es) + entry_count more
+      → entry_count ((found_directory j.path (length (fates_of selection j es)) ∷ flat_map (found_by j.path) (fates_of selection j es))
+      ++ more) ≡ length (fates_of selection j es) + entry_count more
   counted_level j es more =
       let fates : List (List ℕ × Fate) = fates_of selection j es in
       let own : List Found = flat_map (found_by j.path) fates in
@@ -85,7 +147,9 @@ module _ (selection : SelectionModel) where
       )
 
   abbrev level_and : Walks → JobModel → Tree → List Item → List Found
-  level_and walk k t es = found_of k (level_of_items selection es k) ++ below walk t (walked_in (fates_of selection k es))
+  level_and walk k t es =
+      (found_directory k.path (length (fates_of selection k es)) ∷ flat_map (found_by k.path) (fates_of selection k es))
+      ++ below walk t (walked_in (fates_of selection k es))
 
   few_in_items : (walk : Walks) (t : Tree) → ((k : JobModel) (u : Tree) → length (walk k u) ≤ 1 + entry_count (walk k u)) →
       (k : JobModel) (es : List Item) → length (level_and walk k t es) ≤ 1 + entry_count (level_and walk k t es)
@@ -100,15 +164,15 @@ module _ (selection : SelectionModel) where
       )
 
   -- a walk finds no more things than its top and the entries of the directories that it lists
-  few : (depth : ℕ) (j : JobModel) (t : Tree) → length (walk_of selection depth j t) ≤ 1 + entry_count (walk_of selection depth j t)
+  few : (depth : ℕ) (j : JobModel) (t : Tree) → length (own_walk depth j t) ≤ 1 + entry_count (own_walk depth j t)
   few zero j t = omega arith
   few (suc depth) j t =
       level_keeps
-      (λ l. length (found_of j l ++ below (walk_of selection depth) t (children_of l))
-      ≤ 1 + entry_count (found_of j l ++ below (walk_of selection depth) t (children_of l)))
+      (λ l. length (own_of j l ++ below (own_walk depth) t (children_of l))
+      ≤ 1 + entry_count (own_of j l ++ below (own_walk depth) t (children_of l)))
       selection j (t [])
       (λ p w. omega arith)
-      (λ es e b. few_in_items (walk_of selection depth) t (few depth) (extended j b) es)
+      (λ es e b. few_in_items (own_walk depth) t (few depth) (extended j b) (part_of selection.only j.path es))
 
   many_in_items : (walk next : Walks) (t : Tree) → ((k : JobModel) (u : Tree) → 1 + entry_count (walk k u) ≤ length (next k u)) →
       (k : JobModel) (es : List Item) → 1 + entry_count (level_and walk k t es) ≤ length (level_and next k t es)
@@ -124,22 +188,22 @@ module _ (selection : SelectionModel) where
 
   -- and one that goes a level deeper finds all of these
   many : (depth : ℕ) (j : JobModel) (t : Tree)
-      → 1 + entry_count (walk_of selection depth j t) ≤ length (walk_of selection (suc depth) j t)
+      → 1 + entry_count (own_walk depth j t) ≤ length (own_walk (suc depth) j t)
   many zero j t =
-      level_keeps (λ l. 1 ≤ length (found_of j l ++ below (walk_of selection zero) t (children_of l))) selection j (t [])
+      level_keeps (λ l. 1 ≤ length (own_of j l ++ below (own_walk zero) t (children_of l))) selection j (t [])
       (λ p w. omega arith)
       (λ es e b. omega (
         arith,
-        long_level (extended j b) es
-            (below (walk_of selection zero) t (walked_in (fates_of selection (extended j b) es))),
+        long_level (extended j b) (part_of selection.only j.path es)
+            (below (own_walk zero) t (walked_in (fates_of selection (extended j b) (part_of selection.only j.path es)))),
       ))
   many (suc depth) j t =
       level_keeps
-      (λ l. 1 + entry_count (found_of j l ++ below (walk_of selection depth) t (children_of l))
-      ≤ length (found_of j l ++ below (walk_of selection (suc depth)) t (children_of l)))
+      (λ l. 1 + entry_count (own_of j l ++ below (own_walk depth) t (children_of l))
+      ≤ length (own_of j l ++ below (own_walk (suc depth)) t (children_of l)))
       selection j (t [])
       (λ p w. omega arith)
-      (λ es e b. many_in_items (walk_of selection depth) (walk_of selection (suc depth)) t (many depth) (extended j b) es)
+      (λ es e b. many_in_items (own_walk depth) (own_walk (suc depth)) t (many depth) (extended j b) (part_of selection.only j.path es))
 
 -- each thing that is found is of one kind
 by_kinds : (xs : List Found)
@@ -150,33 +214,89 @@ by_kinds (found_fault path word ∷ xs) = omega (arith, by_kinds xs)
 by_kinds (found_directory path entries ∷ xs) = omega (arith, by_kinds xs)
 by_kinds (found_left directory l ∷ xs) = omega (arith, by_kinds xs)
 
--- as many as a report tells of
-told_all : (lists : Lists) (xs : List Found) (r : Report) → lists.left_out ≡ true → IsReportOf lists xs r
-    → length xs ≡ r.totals.files + length r.faults.items + r.directories + length r.left.items
-told_all lists xs r asked is =
-    omega (
-      arith,
-      by_kinds xs,
-      ap (λ s. s.files) is.totals,
-      is.directories,
-      length_permutation (faults_of xs) r.faults.items is.faults_are,
-      length_permutation (left_out_of xs) r.left.items
-          (subst (λ b. IsPermutation (cond b (left_out_of xs) []) r.left.items) asked is.left_are),
-    )
+-- what is absent gives faults alone
+tallied_beside : (ps : List (List ℕ)) (xs : List Found) → tallied_of (map absent_fault ps ++ xs) ≡ tallied_of xs
+tallied_beside [] xs = refl
+tallied_beside (p ∷ ps) xs = tallied_beside ps xs
+
+directories_beside : (ps : List (List ℕ)) (xs : List Found) → directories_of (map absent_fault ps ++ xs) ≡ directories_of xs
+directories_beside [] xs = refl
+directories_beside (p ∷ ps) xs = directories_beside ps xs
+
+left_beside : (ps : List (List ℕ)) (xs : List Found) → left_out_of (map absent_fault ps ++ xs) ≡ left_out_of xs
+left_beside [] xs = refl
+left_beside (p ∷ ps) xs = left_beside ps xs
+
+entries_beside : (ps : List (List ℕ)) (xs : List Found) → entry_count (map absent_fault ps ++ xs) ≡ entry_count xs
+entries_beside [] xs = refl
+entries_beside (p ∷ ps) xs =
+    omega (arith, sum_by-cons entries_in (absent_fault p) (map absent_fault ps ++ xs), entries_beside ps xs)
+
+faults_beside : (ps : List (List ℕ)) (xs : List Found) → faults_of (map absent_fault ps ++ xs) ≡ map absent_line ps ++ faults_of xs
+faults_beside [] xs = refl
+faults_beside (p ∷ ps) xs = ap (λ l. absent_line p ∷ l) (faults_beside ps xs)
+
+-- what a report tells of such paths and of other things
+record Tells (ps : List (List ℕ)) (xs : List Found) (r : Report) : Type 0 where
+  faults : IsPermutation (map absent_line ps ++ faults_of xs) r.faults.items
+  -- as many faults, of either kind
+  many : length ps + length (faults_of xs) ≡ length r.faults.items
+  -- as many other things
+  all : length xs ≡ r.totals.files + length (faults_of xs) + r.directories + length r.left.items
+  entries : r.entries ≡ entry_count xs
+
+tells : (lists : Lists) (ps : List (List ℕ)) (xs : List Found) (r : Report) → lists.left_out ≡ true →
+    IsReportOf lists (map absent_fault ps ++ xs) r → Tells ps xs r
+tells lists ps xs r asked is =
+    let faults : IsPermutation (map absent_line ps ++ faults_of xs) r.faults.items =
+    subst (λ l. IsPermutation l r.faults.items) (faults_beside ps xs) is.faults_are in
+    let left : IsPermutation (left_out_of xs) r.left.items =
+    subst (λ l. IsPermutation l r.left.items) (left_beside ps xs)
+    (subst (λ b. IsPermutation (cond b (left_out_of (map absent_fault ps ++ xs)) []) r.left.items) asked is.left_are) in record {
+      faults = faults;
+      many = omega (
+        arith,
+        length_permutation (map absent_line ps ++ faults_of xs) r.faults.items faults,
+        length-append (map absent_line ps) (faults_of xs),
+        length-map ps absent_line,
+      );
+      all = omega (
+        arith,
+        by_kinds xs,
+        ap (λ s. s.files) is.totals,
+        ap length (tallied_beside ps xs),
+        is.directories,
+        ap length (directories_beside ps xs),
+        length_permutation (left_out_of xs) r.left.items left,
+      );
+      entries = is.entries ∙ entries_beside ps xs;
+    }
 
 -- a report of walks to two depths accounts for all entries
 pub accounted : (lists : Lists) (selection : SelectionModel) (depth : ℕ) (top : JobModel) (t : Tree) (r : Report) →
     lists.left_out ≡ true → IsReportOf lists (walk_of selection depth top t) r → IsReportOf lists (walk_of selection (suc depth) top t) r →
-    IsAccounted r
+    IsAccounted selection.only r
 accounted lists selection depth top t r asked is deeper =
-    omega (
-      arith,
-      is.entries,
-      few selection depth top t,
-      many selection depth top t,
-      told_all lists (walk_of selection depth top t) r asked is,
-      told_all lists (walk_of selection (suc depth) top t) r asked deeper,
-    )
+    let here = tells lists (absent_walk selection depth top t) (own_walk selection depth top t) r asked
+    (report_law lists _ _ r (two_walks selection depth top t) is) in
+    let below = tells lists (absent_walk selection (suc depth) top t) (own_walk selection (suc depth) top t) r asked
+    (report_law lists _ _ r (two_walks selection (suc depth) top t) deeper) in record {
+      absent = absent_walk selection depth top t;
+      asked = walk_each (children_at selection) (absent_at selection) (Contains selection.only) (absent_here selection) depth top t;
+      others = faults_of (own_walk selection depth top t);
+      faults = here.faults;
+      all = omega (
+        arith,
+        here.entries,
+        few selection depth top t,
+        many selection depth top t,
+        walk_grows (children_at selection) (absent_at selection) depth top t,
+        here.many,
+        below.many,
+        here.all,
+        below.all,
+      );
+    }
 
 -- so does the report of a walk
 pub entries_law : (lists : List ℕ → Listings) (gives : List ℕ → Contents) → EntriesLaw lists gives

@@ -1,6 +1,6 @@
 -- What a walk finds, by the names that lead to it.
 use Rattle.std.proofs.Common.{◌≡◌, ℕ, zero, suc, ◌<◌, true, false, List, [], ◌∷◌, length, refl, sym, ◌∙◌, ap, subst, arith, ◌⊎◌}
-use Rattle.std.proofs.Common.{inl, inr, Option, Some, None, Result, Ok, Err}
+use Rattle.std.proofs.Common.{inl, inr, map, Option, Some, None, Result, Ok, Err}
 use Rattle.std.specs.List.{flat_map}
 use Rattle.std.specs.Option.{option_map_or}
 use Rattle.std.proofs.lemmas.List.{length-map}
@@ -11,11 +11,14 @@ use Rattle.lc_glob.specs.Path.{path_in}
 use Rattle.lc_level.specs.Answers.{Item, file_item, directory_item, other_item, name_of, Items, Answers, Tree}
 use Rattle.lc_level.specs.FaultLines.{FaultLineModel}
 use Rattle.lc_level.specs.Job.{JobModel}
-use Rattle.lc_level.specs.Level.{Reason, other_kind, Fate, counted, failed, walked, left, Level, faulted_level, level, level_of}
+use Rattle.lc_level.specs.Level.{Reason, other_kind, Fate, counted, failed, walked, left, Level, faulted_level, listed_level, level}
+use Rattle.lc_level.specs.Level.{level_of}
 use Rattle.lc_level.specs.Level.{level_after, level_of_items, walked_in, fates_of, fate_of, file_fate, reason_of, is_taken, child_job}
+use Rattle.lc_level.specs.Narrowing.{part_of, absent_from}
 use Rattle.lc_level.specs.RuleFiles.{RuleBytes, rule_bytes, extended}
 use Rattle.lc_level.specs.Selection.{SelectionModel}
-use Rattle.lc_walk.specs.Found.{Found, found_file, found_fault, found_directory, found_left, found_by, found_of, found_at}
+use Rattle.lc_tree.specs.declared.fault_word.FaultWord.TheVariants.{Absent}
+use Rattle.lc_walk.specs.Found.{Found, found_file, found_fault, found_directory, found_left, found_absent, found_by, found_of, found_at}
 use Rattle.lc_walk.specs.Found.{children_of, children_at}
 use Rattle.lc_walk.specs.FoundAt.{IsListed, LeavesIn, LeadsTo, HasEntry, Gives, IsFoundIn, FoundLaw}
 use Rattle.lc_walk.specs.Walk.{walks_below, walk_of}
@@ -43,9 +46,12 @@ level_cases P selection j a faults items_are = at a.here refl
 
 -- the level of a directory that is listed without a fault
 listed_is : (selection : SelectionModel) (j : JobModel) (a : Answers) (items : List Item) (inside : JobModel)
-    → IsListed j a items inside → level selection j a ≡ level_of_items selection items inside
+    → IsListed j a items inside → level selection j a
+    ≡ listed_level (fates_of selection inside (part_of selection.only j.path items)) (absent_from selection.only j.path items)
 listed_is selection j a items inside l =
-    ap (level_of selection j a) l.here ∙ ap (level_after selection j items) l.read ∙ ap (level_of_items selection items) (sym l.is)
+    ap (level_of selection j a) l.here ∙ ap (level_after selection j items) l.read
+    ∙ ap (λ k. listed_level (fates_of selection k (part_of selection.only j.path items)) (absent_from selection.only j.path items))
+    (sym l.is)
 
 -- the name of a counted file, as its fate has it
 abbrev counted_name : List ℕ → Fate → List ℕ
@@ -77,21 +83,24 @@ module _ (selection : SelectionModel) (j : JobModel) (a : Answers) where
   abbrev pair_of : JobModel → Item → List ℕ × Fate
   pair_of inside item = (name_of item, fate_of selection inside item)
 
-  entry_here : (items : List Item) (inside : JobModel) → IsListed j a items inside → (item : Item) → In item items → (fate : Fate)
-      → fate_of selection inside item ≡ fate → (n : List ℕ) → name_of item ≡ n → HasEntry selection j a n fate
+  abbrev taking_part : List Item → List Item
+  taking_part items = part_of selection.only j.path items
+
+  entry_here : (items : List Item) (inside : JobModel) → IsListed j a items inside → (item : Item) → In item (taking_part items)
+      → (fate : Fate) → fate_of selection inside item ≡ fate → (n : List ℕ) → name_of item ≡ n → HasEntry selection j a n fate
   entry_here items inside listed item here fate is n named = record {
     items = items;
     inside = inside;
     listed = listed;
     item = item;
-    has = contains item items here;
+    has = contains item (taking_part items) here;
     named = named;
     fate_is = is;
   }
 
   -- what an entry's fate gives, the directory gives
-  given_by_entry : (items : List Item) (inside : JobModel) → IsListed j a items inside → (item : Item) → In item items → (x : Found)
-      → In x (found_by j.path (pair_of inside item)) → Gives selection j a x
+  given_by_entry : (items : List Item) (inside : JobModel) → IsListed j a items inside → (item : Item) → In item (taking_part items)
+      → (x : Found) → In x (found_by j.path (pair_of inside item)) → Gives selection j a x
   given_by_entry items inside listed item here x = at (fate_of selection inside item) refl
     where
       at : (fate : Fate) → fate_of selection inside item ≡ fate → In x (found_by j.path (name_of item, fate)) → Gives selection j a x
@@ -101,7 +110,7 @@ module _ (selection : SelectionModel) (j : JobModel) (a : Answers) where
       at (counted f) e (inr i) = absurd i
       at (failed word) e (inl is) =
           subst (Gives selection j a) is
-          (inr (name_of item, refl, entry_here items inside listed item here (failed word) e (name_of item) refl))
+          (inr (inl (name_of item, refl, entry_here items inside listed item here (failed word) e (name_of item) refl)))
       at (failed word) e (inr i) = absurd i
       at (walked job) e i = absurd i
       at (left kind reason) e (inl is) =
@@ -114,7 +123,8 @@ module _ (selection : SelectionModel) (j : JobModel) (a : Answers) where
       level_cases (λ l. level selection j a ≡ l → In x (found_of j l) → Gives selection j a x) selection j a
       (λ p w e f. faulted p w e f)
       (λ items here b read e f.
-      listed items (extended j b) (record { here = here; bytes = b; read = read; is = refl }) f)
+      either items (extended j b) (record { here = here; bytes = b; read = read; is = refl })
+      (in_either x (map (found_absent j.path) (absent_from selection.only j.path items)) _ f))
       refl i
     where
       faulted : (p : List ℕ) (w : FaultWord) → level selection j a ≡ faulted_level p w → In x (found_fault p w ∷ []) → Gives selection j a x
@@ -122,42 +132,77 @@ module _ (selection : SelectionModel) (j : JobModel) (a : Answers) where
       faulted p w e (inr f) = absurd f
 
       listed : (items : List Item) (inside : JobModel) → IsListed j a items inside
-          → In x (found_directory j.path (length (fates_of selection inside items))
-          ∷ flat_map (found_by j.path) (fates_of selection inside items)) → Gives selection j a x
+          → In x (found_directory j.path (length (fates_of selection inside (taking_part items)))
+          ∷ flat_map (found_by j.path) (fates_of selection inside (taking_part items))) → Gives selection j a x
       listed items inside l (inl is) =
           subst (Gives selection j a) is
-          (refl, record { items = items; inside = inside; listed = l; many = length-map items (pair_of inside) })
+          (refl, record { items = items; inside = inside; listed = l; many = length-map (taking_part items) (pair_of inside) })
       listed items inside l (inr f) =
-          let r = in_lists (found_by j.path) x (fates_of selection inside items) f in
-          let m = in_mapped (pair_of inside) r.0 items r.1 in
+          let r = in_lists (found_by j.path) x (fates_of selection inside (taking_part items)) f in
+          let m = in_mapped (pair_of inside) r.0 (taking_part items) r.1 in
           given_by_entry items inside l m.0 m.1 x (subst (λ y. In x (found_by j.path y)) (sym m.2) r.2)
+
+      absent : (items : List Item) (inside : JobModel) → IsListed j a items inside
+          → In x (map (found_absent j.path) (absent_from selection.only j.path items)) → Gives selection j a x
+      absent items inside l i =
+          let m = in_mapped (found_absent j.path) x (absent_from selection.only j.path items) i in
+          subst (Gives selection j a) m.2
+          (inr (inr (
+            m.0,
+            refl,
+            refl,
+            record { items = items; inside = inside; listed = l; absent = contains m.0 (absent_from selection.only j.path items) m.1 },
+          )))
+
+      either : (items : List Item) (inside : JobModel) → IsListed j a items inside
+          → In x (map (found_absent j.path) (absent_from selection.only j.path items))
+          ⊎ In x (found_directory j.path (length (fates_of selection inside (taking_part items)))
+          ∷ flat_map (found_by j.path) (fates_of selection inside (taking_part items))) → Gives selection j a x
+      either items inside l (inl i) = absent items inside l i
+      either items inside l (inr i) = listed items inside l i
+
+  -- what is found of a listed directory beside what is absent
+  beside_absent : (items : List Item) (inside : JobModel) → IsListed j a items inside → (x : Found)
+      → In x (found_directory j.path (length (fates_of selection inside (taking_part items)))
+      ∷ flat_map (found_by j.path) (fates_of selection inside (taking_part items))) → In x (found_at selection j a)
+  beside_absent items inside l x i =
+      subst (λ (v : Level). In x (found_of j v)) (sym (listed_is selection j a items inside l))
+      (in_right x (map (found_absent j.path) (absent_from selection.only j.path items)) _ i)
 
   -- what the fate of an entry gives is found
   found_by_entry : (n : List ℕ) (fate : Fate) (x : Found) → HasEntry selection j a n fate → In x (found_by j.path (n, fate))
       → In x (found_at selection j a)
   found_by_entry n fate x h i =
-      let fates : List (List ℕ × Fate) = fates_of selection h.inside h.items in
+      let fates : List (List ℕ × Fate) = fates_of selection h.inside (taking_part h.items) in
       let own : In x (found_by j.path (pair_of h.inside h.item)) =
       subst (λ m. In x (found_by j.path (m, fate_of selection h.inside h.item))) (sym h.named)
       (subst (λ g. In x (found_by j.path (n, g))) (sym h.fate_is) i) in
       let here : In x (flat_map (found_by j.path) fates) =
       of_lists (found_by j.path) x (pair_of h.inside h.item) fates
-      (of_mapped (pair_of h.inside) h.item h.items (is_in h.item h.items h.has)) own in
-      subst (λ (l : Level). In x (found_of j l)) (sym (listed_is selection j a h.items h.inside h.listed)) (inr here)
+      (of_mapped (pair_of h.inside) h.item (taking_part h.items) (is_in h.item (taking_part h.items) h.has)) own in
+      beside_absent h.items h.inside h.listed x (inr here)
 
   -- what a directory gives is found of it
   pub found_by_given : (x : Found) → Gives selection j a x → In x (found_at selection j a)
   found_by_given (found_directory path entries) (e, h) =
-      let same : found_directory j.path (length (fates_of selection h.inside h.items)) ≡ found_directory path entries =
-      ap (λ p. found_directory p (length (fates_of selection h.inside h.items))) (sym e)
-      ∙ ap (found_directory path) (sym (h.many ∙ sym (length-map h.items (pair_of h.inside)))) in
-      subst (λ (l : Level). In (found_directory path entries) (found_of j l))
-      (sym (listed_is selection j a h.items h.inside h.listed)) (inl same)
+      let many = length (fates_of selection h.inside (taking_part h.items)) in
+      let same : found_directory j.path many ≡ found_directory path entries =
+      ap (λ p. found_directory p many) (sym e)
+      ∙ ap (found_directory path) (sym (h.many ∙ sym (length-map (taking_part h.items) (pair_of h.inside)))) in
+      beside_absent h.items h.inside h.listed (found_directory path entries) (inl same)
   found_by_given (found_file directory f) (e, h) =
       subst (λ d. In (found_file d f) (found_at selection j a)) (sym e)
       (found_by_entry f.name (counted f) (found_file j.path f) h (inl refl))
   found_by_given (found_fault path word) (inl e) = subst (λ (l : Level). In (found_fault path word) (found_of j l)) (sym e) (inl refl)
-  found_by_given (found_fault path word) (inr h) =
+  found_by_given (found_fault path word) (inr (inr h)) =
+      let absent = absent_from selection.only j.path h.3.items in
+      let same : found_absent j.path h.0 ≡ found_fault path word =
+      ap (λ p. found_fault p Absent) (sym h.1) ∙ ap (found_fault path) (sym h.2) in
+      subst (λ (v : Level). In (found_fault path word) (found_of j v)) (sym (listed_is selection j a h.3.items h.3.inside h.3.listed))
+      (in_left (found_fault path word) (map (found_absent j.path) absent) _
+      (subst (λ y. In y (map (found_absent j.path) absent)) same
+      (of_mapped (found_absent j.path) h.0 absent (is_in h.0 absent h.3.absent))))
+  found_by_given (found_fault path word) (inr (inl h)) =
       subst (λ p. In (found_fault p word) (found_at selection j a)) (sym h.1)
       (found_by_entry h.0 (failed word) (found_fault (path_in j.path h.0) word) h.2 (inl refl))
   found_by_given (found_left directory l) (e, h) =
@@ -188,24 +233,26 @@ module _ (selection : SelectionModel) (j : JobModel) (a : Answers) where
       selection j a
       (λ p w i. absurd i)
       (λ items here b read i.
-      let r = in_lists (children_by selection (extended j b)) c items (subst (In c) (walked_items_are selection (extended j b) items) i) in
+      let part = part_of selection.only j.path items in
+      let r = in_lists (children_by selection (extended j b)) c part (subst (In c) (walked_items_are selection (extended j b) part) i) in
       let s = by_child_item (extended j b) c r.0 r.2 in (
         extended j b,
         record {
           items = items;
           listed = record { here = here; bytes = b; read = read; is = refl };
-          has = contains _ items (subst (λ (x : Item). In x items) s.0 r.1);
+          has = contains _ part (subst (λ (x : Item). In x part) s.0 r.1);
           taken = s.1;
         },
         s.2,
       ))
 
-  level_by_child : (name : List ℕ) (inside : JobModel) → LeavesIn selection j a name inside
+  pub level_by_child : (name : List ℕ) (inside : JobModel) → LeavesIn selection j a name inside
       → In (name, child_job inside name) (children_at selection j a)
   level_by_child name inside l =
-      let i : In (name, child_job inside name) (walked_in (fates_of selection inside l.items)) =
-      subst (In (name, child_job inside name)) (sym (walked_items_are selection inside l.items))
-      (of_lists (children_by selection inside) (name, child_job inside name) (directory_item name) l.items (is_in _ l.items l.has)
+      let part = part_of selection.only j.path l.items in
+      let i : In (name, child_job inside name) (walked_in (fates_of selection inside part)) =
+      subst (In (name, child_job inside name)) (sym (walked_items_are selection inside part))
+      (of_lists (children_by selection inside) (name, child_job inside name) (directory_item name) part (is_in _ part l.has)
       (cond_if (is_taken selection inside name true) (name, child_job inside name)
       ((name, child_job inside name) ∷ []) l.taken (inl refl))) in
       subst (λ (v : Level). In (name, child_job inside name) (children_of v)) (sym (listed_is selection j a l.items inside l.listed)) i

@@ -12,11 +12,13 @@ use Rattle.lc_level.specs.RuleFiles.{Pair, RuleBytes, extended, file_named, has_
 use Rattle.lc_level.specs.RuleFiles.{both_read, info_items, info_bytes, own_bytes, rule_bytes}
 use Rattle.lc_level.specs.Level.{Level, faulted_level, level, level_of, level_after, level_of_items, is_taken, child_job}
 use Rattle.lc_level.specs.Level.{walked_in, fates_of}
+use Rattle.lc_level.specs.Narrowing.{part_of}
 use Rattle.lc_level.specs.Selection.{SelectionModel}
 use Rattle.lc_walk.specs.Found.{children_of, children_at}
 use Rattle.lc_level.specs.Tidy.{IsTidy, listed_in}
 use Rattle.lc_level.proofs.Tidy.{IsGoodName, good_one, Spread, spread}
 use Rattle.lc_level.proofs.Fates.{children_by, walked_items_are}
+use Rattle.lc_walk.proofs.TakingPart.{spread_part}
 
 -- what holds of each fault, and of the level of the items with any chains, holds of the level
 pub level_keeps : (P : Level → Type 0) (selection : SelectionModel) (j : JobModel) (a : Answers)
@@ -165,16 +167,24 @@ good_names (e ∷ es) t = (t.1, good_names es t.2)
 pub tidy_items : (a : Answers) → IsTidy a → (es : List Item) → a.here ≡ Ok es → Spread es
 tidy_items a t es e = spread es (subst (λ (o : Items). IsListing (listed_in o)) e t)
 
--- so have the child directories of a level
+-- so have those that take part
+pub tidy_part : (only : List (List ℕ)) (d : List ℕ) (a : Answers) → IsTidy a → (es : List Item) → a.here ≡ Ok es
+    → Spread (part_of only d es)
+tidy_part only d a t es e = spread_part only d es (tidy_items a t es e)
+
+-- and the child directories of a level
 pub apart_level : (selection : SelectionModel) (j : JobModel) (a : Answers) → IsTidy a → IsApart (children_at selection j a)
 apart_level selection j a t =
     level_keeps (λ l. IsApart (children_of l)) selection j a (λ p w. tt)
-    (λ es e b. subst IsApart (sym (walked_items_are selection (extended j b) es))
-    (apart_children selection (extended j b) es (tidy_items a t es e)))
+    (λ es e b. subst IsApart (sym (walked_items_are selection (extended j b) (part_of selection.only j.path es)))
+    (apart_children selection (extended j b) (part_of selection.only j.path es) (tidy_part selection.only j.path a t es e)))
 
 -- and each is a child of the directory, by its name
 pub good_level : (selection : SelectionModel) (j : JobModel) (a : Answers) → IsTidy a →
     AllByRecursion (IsChild j.path) (children_at selection j a)
 good_level selection j a t =
     level_keeps (λ l. AllByRecursion (IsChild j.path) (children_of l)) selection j a (λ p w. tt)
-    (λ es e b. each_child selection (extended j b) (IsChild j.path) IsGoodName (λ n g. (g, refl)) es (good_names es (tidy_items a t es e)))
+    (λ es e b.
+    let part = part_of selection.only j.path es in
+    each_child selection (extended j b) (IsChild j.path) IsGoodName (λ n g. (g, refl)) part
+    (good_names part (tidy_part selection.only j.path a t es e)))

@@ -1,3 +1,4 @@
+pub mod AbsentPaths
 pub mod AllWorked
 pub mod Broken
 pub mod ChildPlaces
@@ -18,9 +19,14 @@ pub mod Levels
 pub mod Listings
 pub mod Marking
 pub mod Moves
+pub mod PartFates
+pub mod PartOfWalk
+pub mod PartsOfTrees
+pub mod PathGroups
 pub mod PathNames
 pub mod PathsApart
 pub mod PathsOnce
+pub mod PathsWithin
 pub mod Places
 pub mod Placing
 pub mod Posted
@@ -28,5 +34,7 @@ pub mod Reach
 pub mod Reports
 pub mod RowEnds
 pub mod RulesThatIgnore
+pub mod TakingPart
 pub mod WalkOn
+pub mod WalkParts
 pub mod Working

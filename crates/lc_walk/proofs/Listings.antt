@@ -7,8 +7,9 @@ use Rattle.std.proofs.lemmas.List.{map-append}
 use Rattle.std.proofs.lemmas.List.Sums.{sum_by-append, sum_by-cons}
 use Rattle.lc_level.specs.Job.{JobModel}
 use Rattle.lc_level.specs.Level.{Fate, counted, failed, walked, left, listed_level, counted_of, failed_of, left_of, counted_in, failed_in}
-use Rattle.lc_level.specs.Level.{left_in}
-use Rattle.lc_walk.specs.Found.{Found, found_directory, found_by, found_of}
+use Rattle.lc_level.specs.Level.{FileFaultModel, left_in, absent_faults}
+use Rattle.lc_tree.specs.declared.fault_word.FaultWord.TheVariants.{Absent}
+use Rattle.lc_walk.specs.Found.{Found, found_directory, found_absent, found_by, found_of}
 use Rattle.lc_walk.specs.WalkReport.{tallied, line_of, left_line, tallied_in, file_in, fault_in, directory_in, left_out_in, entries_in}
 use Rattle.lc_walk.specs.WalkReport.{tallied_of, files_of, faults_of, directories_of, left_out_of, entry_count}
 use Rattle.lc_walk.specs.Assembled.{fault_line}
@@ -37,6 +38,13 @@ went g part line d one (f ∷ fs) =
     ∙ ap (λ l. map line (part f) ++ l) (went g part line d one fs)
     ∙ sym (map-append line (part f) (flat_map part fs))
 
+-- what is made of nothing that is absent is made of what comes after it
+pub after_absent : {B : Type 0} (g : Found → List B) (d : List ℕ) → ((rest : List ℕ) → g (found_absent d rest) ≡ [])
+    → (absent : List (List ℕ)) (xs : List Found) → flat_map g (map (found_absent d) absent ++ xs) ≡ flat_map g xs
+after_absent g d none [] xs = refl
+after_absent g d none (rest ∷ absent) xs =
+    ap (λ l. l ++ flat_map g (map (found_absent d) absent ++ xs)) (none rest) ∙ after_absent g d none absent xs
+
 tallied_one : (d : List ℕ) (f : List ℕ × Fate) → flat_map tallied_in (found_by d f) ≡ map tallied (counted_of f)
 tallied_one d (name, counted file) = refl
 tallied_one d (name, failed word) = refl
@@ -44,9 +52,11 @@ tallied_one d (name, walked job) = refl
 tallied_one d (name, left kind reason) = refl
 
 -- what a listed directory gives to a tally
-pub tallied_went : (j : JobModel) (fates : List (List ℕ × Fate)) →
-    tallied_of (found_of j (listed_level fates)) ≡ map tallied (counted_in fates)
-tallied_went j fates = went tallied_in counted_of tallied j.path (tallied_one j.path) fates
+pub tallied_went : (j : JobModel) (fates : List (List ℕ × Fate)) (absent : List (List ℕ)) →
+    tallied_of (found_of j (listed_level fates absent)) ≡ map tallied (counted_in fates)
+tallied_went j fates absent =
+    after_absent tallied_in j.path (λ rest. refl) absent _
+    ∙ went tallied_in counted_of tallied j.path (tallied_one j.path) fates
 
 file_one : (d : List ℕ) (f : List ℕ × Fate) → flat_map file_in (found_by d f) ≡ map (line_of d) (counted_of f)
 file_one d (name, counted file) = refl
@@ -55,9 +65,11 @@ file_one d (name, walked job) = refl
 file_one d (name, left kind reason) = refl
 
 -- to the lines of files
-pub files_went : (j : JobModel) (fates : List (List ℕ × Fate)) →
-    files_of (found_of j (listed_level fates)) ≡ map (line_of j.path) (counted_in fates)
-files_went j fates = went file_in counted_of (line_of j.path) j.path (file_one j.path) fates
+pub files_went : (j : JobModel) (fates : List (List ℕ × Fate)) (absent : List (List ℕ)) →
+    files_of (found_of j (listed_level fates absent)) ≡ map (line_of j.path) (counted_in fates)
+files_went j fates absent =
+    after_absent file_in j.path (λ rest. refl) absent _
+    ∙ went file_in counted_of (line_of j.path) j.path (file_one j.path) fates
 
 fault_one : (d : List ℕ) (f : List ℕ × Fate) → flat_map fault_in (found_by d f) ≡ map (fault_line d) (failed_of f)
 fault_one d (name, counted file) = refl
@@ -65,10 +77,24 @@ fault_one d (name, failed word) = refl
 fault_one d (name, walked job) = refl
 fault_one d (name, left kind reason) = refl
 
+faults_within : (j : JobModel) (fates : List (List ℕ × Fate))
+    → faults_of (found_directory j.path (length fates) ∷ flat_map (found_by j.path) fates) ≡ map (fault_line j.path) (failed_in fates)
+faults_within j fates = went fault_in failed_of (fault_line j.path) j.path (fault_one j.path) fates
+
+-- the faults of what is absent come first
+absent_first : (d : List ℕ) (absent : List (List ℕ)) (xs : List Found) (more : List FileFaultModel)
+    → faults_of xs ≡ map (fault_line d) more
+    → faults_of (map (found_absent d) absent ++ xs) ≡ map (fault_line d) (absent_faults absent ++ more)
+absent_first d [] xs more e = e
+absent_first d (rest ∷ absent) xs more e =
+    ap (λ l. fault_line d (record { name = rest; word = Absent }) ∷ l) (absent_first d absent xs more e)
+
 -- to the lines of faults
-pub faults_went : (j : JobModel) (fates : List (List ℕ × Fate)) →
-    faults_of (found_of j (listed_level fates)) ≡ map (fault_line j.path) (failed_in fates)
-faults_went j fates = went fault_in failed_of (fault_line j.path) j.path (fault_one j.path) fates
+pub faults_went : (j : JobModel) (fates : List (List ℕ × Fate)) (absent : List (List ℕ)) →
+    faults_of (found_of j (listed_level fates absent)) ≡ map (fault_line j.path) (absent_faults absent ++ failed_in fates)
+faults_went j fates absent =
+    absent_first j.path absent (found_directory j.path (length fates) ∷ flat_map (found_by j.path) fates) (failed_in fates)
+    (faults_within j fates)
 
 left_one : (d : List ℕ) (f : List ℕ × Fate) → flat_map left_out_in (found_by d f) ≡ map (left_line d) (left_of f)
 left_one d (name, counted file) = refl
@@ -77,9 +103,11 @@ left_one d (name, walked job) = refl
 left_one d (name, left kind reason) = refl
 
 -- to the lines of entries left out
-pub left_went : (j : JobModel) (fates : List (List ℕ × Fate)) →
-    left_out_of (found_of j (listed_level fates)) ≡ map (left_line j.path) (left_in fates)
-left_went j fates = went left_out_in left_of (left_line j.path) j.path (left_one j.path) fates
+pub left_went : (j : JobModel) (fates : List (List ℕ × Fate)) (absent : List (List ℕ)) →
+    left_out_of (found_of j (listed_level fates absent)) ≡ map (left_line j.path) (left_in fates)
+left_went j fates absent =
+    after_absent left_out_in j.path (λ rest. refl) absent _
+    ∙ went left_out_in left_of (left_line j.path) j.path (left_one j.path) fates
 
 no_directory : (d : List ℕ) (f : List ℕ × Fate) → flat_map directory_in (found_by d f) ≡ []
 no_directory d (name, counted file) = refl
@@ -88,9 +116,11 @@ no_directory d (name, walked job) = refl
 no_directory d (name, left kind reason) = refl
 
 -- to the listed directories
-pub directories_went : (j : JobModel) (fates : List (List ℕ × Fate)) → directories_of (found_of j (listed_level fates)) ≡ j.path ∷ []
-directories_went j fates =
-    ap (λ l. j.path ∷ l) (flat_twice directory_in (found_by j.path) fates
+pub directories_went : (j : JobModel) (fates : List (List ℕ × Fate)) (absent : List (List ℕ)) →
+    directories_of (found_of j (listed_level fates absent)) ≡ j.path ∷ []
+directories_went j fates absent =
+    after_absent directory_in j.path (λ rest. refl) absent _
+    ∙ ap (λ l. j.path ∷ l) (flat_twice directory_in (found_by j.path) fates
     ∙ flat_none (λ f. flat_map directory_in (found_by j.path f)) fates (no_directory j.path))
 
 no_entries_by : (d : List ℕ) (f : List ℕ × Fate) → sum_by entries_in (found_by d f) ≡ 0
@@ -105,11 +135,20 @@ no_entries_within d [] = refl
 no_entries_within d (f ∷ fs) =
     omega (arith, sum_by-append entries_in (found_by d f) (flat_map (found_by d) fs), no_entries_by d f, no_entries_within d fs)
 
+-- nor has what is absent
+pub no_entries_absent : (d : List ℕ) (absent : List (List ℕ)) (xs : List Found)
+    → entry_count (map (found_absent d) absent ++ xs) ≡ entry_count xs
+no_entries_absent d [] xs = refl
+no_entries_absent d (rest ∷ absent) xs =
+    omega (arith, sum_by-cons entries_in (found_absent d rest) (map (found_absent d) absent ++ xs), no_entries_absent d absent xs)
+
 -- to the number of entries
-pub entries_went : (j : JobModel) (fates : List (List ℕ × Fate)) → entry_count (found_of j (listed_level fates)) ≡ length fates
-entries_went j fates =
+pub entries_went : (j : JobModel) (fates : List (List ℕ × Fate)) (absent : List (List ℕ)) →
+    entry_count (found_of j (listed_level fates absent)) ≡ length fates
+entries_went j fates absent =
     omega (
       arith,
+      no_entries_absent j.path absent (found_directory j.path (length fates) ∷ flat_map (found_by j.path) fates),
       sum_by-cons entries_in (found_directory j.path (length fates)) (flat_map (found_by j.path) fates),
       no_entries_within j.path fates,
     )

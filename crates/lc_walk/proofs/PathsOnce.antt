@@ -1,85 +1,37 @@
 -- No path stands twice in a walk of a tree whose listings are tidy.
 use Rattle.std.proofs.Common.{◌≡◌, ◌≢◌, ℕ, zero, suc, not, Bool, true, false, cond, List, [], ◌∷◌, ◌++◌, map, refl, sym, ◌∙◌, ap}
-use Rattle.std.proofs.Common.{subst, inl, inr, Option, Some, None, Result, Ok, Err, append_assoc, append-nil, bytes_eq}
+use Rattle.std.proofs.Common.{◌&&◌, length, subst, inl, inr, Option, Some, None, Result, Ok, Err, append_assoc, append-nil, bytes_eq}
 use Rattle.std.specs.List.{flat_map, AllByRecursion}
 use Rattle.std.specs.Option.{is_none, option_map_or}
 use Rattle.std.proofs.lemmas.Grind.{flat_map-append}
-use Rattle.std.proofs.lemmas.List.{append_cancel_left, map-append}
+use Rattle.std.proofs.lemmas.List.{map-append}
 use Rattle.lc_census.specs.declared.totals.Count.{Count}
 use Rattle.lc_tree.specs.declared.entry.Kind.TheVariants.{File, Dir, Other}
 use Rattle.lc_tree.specs.declared.fault_word.FaultWord.{FaultWord}
-use Rattle.lc_glob.specs.Path.{path_in}
+use Rattle.lc_glob.specs.Path.{path_in, segments_of}
+use Rattle.lc_tree.specs.Kinds.{is_dir}
 use Rattle.lc_tree.specs.Paths.{names_of_path}
-use Rattle.lc_level.specs.Answers.{Item, file_item, directory_item, other_item, Tree, name_of}
+use Rattle.lc_level.specs.Answers.{Item, file_item, directory_item, other_item, Tree, entry_of, name_of}
 use Rattle.lc_level.specs.Job.{JobModel}
 use Rattle.lc_level.specs.RuleFiles.{extended}
 use Rattle.lc_level.specs.Level.{Reason, other_kind, Fate, walked, left, level_of_items, reason_of, is_taken, child_job, file_fate, fate_of}
-use Rattle.lc_level.specs.Level.{walked_in, fates_of}
+use Rattle.lc_level.specs.Level.{listed_level, walked_in, fates_of}
+use Rattle.lc_level.specs.Narrowing.{stands_below, leads_to, part_of, absent_from}
 use Rattle.lc_level.specs.Selection.{SelectionModel}
-use Rattle.lc_walk.specs.Found.{Found, path_of, found_by, found_of, found_at, children_of, children_at}
+use Rattle.lc_walk.specs.Found.{Found, found_directory, found_absent, path_of, found_by, found_of, found_at, children_of, children_at}
 use Rattle.lc_walk.specs.Walk.{walks_below, walk_by}
 use Rattle.lc_level.specs.Tidy.{IsTidy}
 use Rattle.lc_board.proofs.Weights.{each-map, each-append}
 use Rattle.lc_level.proofs.Tidy.{IsGoodName, Spread, bytes_other}
+use Rattle.lc_walk.proofs.AbsentPaths.{names_of_rest, not_below, not_above, rests_apart, neither, NoneLeads}
+use Rattle.lc_walk.proofs.AbsentPaths.{absent_distinct, absent_asked, absent_leads}
 use Rattle.lc_walk.proofs.Distinct.{Distinct, distinct-append, picked, each_picked, picked_distinct, picked_apart}
 use Rattle.lc_walk.proofs.Levels.{IsOwnPlace, own_level_keeps, tidy_items, IsChild, each_child}
+use Rattle.lc_walk.proofs.PathGroups.{Below, Under, Group, IsGroup, groups_distinct, groups_below, groups_above}
+use Rattle.lc_walk.proofs.PathNames.{one_name}
 use Rattle.lc_walk.proofs.Places.{names_of_path-path_in}
+use Rattle.lc_walk.proofs.TakingPart.{each_filter, spread_part}
 use Rattle.lc_level.proofs.Fates.{children_by, walked_items_are}
-
--- a path at or below a directory, and at or below a name in it
-abbrev pub Below : List ℕ → List ℕ → Type 0
-Below d x = (rest : List (List ℕ)) × (names_of_path x ≡ names_of_path d ++ rest)
-
-abbrev pub Under : List ℕ → List ℕ → List ℕ → Type 0
-Under d n x = (rest : List (List ℕ)) × (names_of_path x ≡ names_of_path d ++ n ∷ rest)
-
-head_is : (m n : List ℕ) (xs ys : List (List ℕ)) → m ∷ xs ≡ n ∷ ys → m ≡ n
-head_is m n xs ys e = cc
-
-apart_under : (d m n x y : List ℕ) → Under d m x → Under d n y → m ≢ n → x ≢ y
-apart_under d m n x y u v a e =
-    a (head_is m n u.0 v.0 (append_cancel_left (names_of_path d) (m ∷ u.0) (n ∷ v.0) (sym u.1 ∙ ap names_of_path e ∙ v.1)))
-
--- what stands below a directory is not the directory
-apart_above : (d n x : List ℕ) → Under d n x → d ≢ x
-apart_above d n x u e =
-    let nothing : [] ≡ n ∷ u.0 =
-    append_cancel_left (names_of_path d) [] (n ∷ u.0) (append-nil (names_of_path d) ∙ ap names_of_path e ∙ u.1) in
-    absurd (cc nothing)
-
--- ---- groups of paths, each below its own name
-
-abbrev Group : Type 0
-Group = List ℕ × List (List ℕ)
-
-abbrev IsGroup : List ℕ → Group → Type 0
-IsGroup d g = AllByRecursion (Under d g.0) g.1 × Distinct g.1
-
-far : (d n x : List ℕ) → Under d n x → (gs : List Group) → AllByRecursion (IsGroup d) gs
-    → AllByRecursion (λ m. n ≢ m) (map (λ g. g.0) gs) → AllByRecursion (λ y. x ≢ y) (flat_map (λ g. g.1) gs)
-far d n x u [] a b = tt
-far d n x u (g ∷ gs) a b =
-    each-append (λ y. x ≢ y) g.1 (flat_map (λ h. h.1) gs)
-    (each-map (Under d g.0) (λ y. x ≢ y) (λ y v. apart_under d n g.0 x y u v b.0) g.1 a.0.0) (far d n x u gs a.1 b.1)
-
-groups_distinct : (d : List ℕ) (gs : List Group) → AllByRecursion (IsGroup d) gs → Distinct (map (λ g. g.0) gs)
-    → Distinct (flat_map (λ g. g.1) gs)
-groups_distinct d [] a b = tt
-groups_distinct d (g ∷ gs) a b =
-    distinct-append g.1 (flat_map (λ h. h.1) gs) a.0.1 (groups_distinct d gs a.1 b.1)
-    (each-map (Under d g.0) (λ x. AllByRecursion (λ y. x ≢ y) (flat_map (λ h. h.1) gs)) (λ x u. far d g.0 x u gs a.1 b.0) g.1 a.0.0)
-
-groups_below : (d : List ℕ) (gs : List Group) → AllByRecursion (IsGroup d) gs → AllByRecursion (Below d) (flat_map (λ g. g.1) gs)
-groups_below d [] a = tt
-groups_below d (g ∷ gs) a =
-    each-append (Below d) g.1 (flat_map (λ h. h.1) gs) (each-map (Under d g.0) (Below d) (λ x u. (g.0 ∷ u.0, u.1)) g.1 a.0.0)
-    (groups_below d gs a.1)
-
-groups_above : (d : List ℕ) (gs : List Group) → AllByRecursion (IsGroup d) gs → AllByRecursion (λ x. d ≢ x) (flat_map (λ g. g.1) gs)
-groups_above d [] a = tt
-groups_above d (g ∷ gs) a =
-    each-append (λ x. d ≢ x) g.1 (flat_map (λ h. h.1) gs) (each-map (Under d g.0) (λ x. d ≢ x) (apart_above d g.0) g.1 a.0.0)
-    (groups_above d gs a.1)
 
 -- ---- which items are walked
 
@@ -231,28 +183,106 @@ module _ (selection : SelectionModel) where
       others [] a = tt
       others (d ∷ ds) a = ((λ s. bytes_other (name_of d) (name_of e) a.0 (sym s)), others ds a.1)
 
-  -- a level of items, with the walks of its children
-  of_items : (k : ℕ) (j : JobModel) (t : Tree) (es : List Item) → Spread es →
+  -- each entry that isn't walked is a group of one path, and each child directory that of its walk
+  abbrev own_groups_of : JobModel → List Item → List Group
+  own_groups_of j es = map (λ n. (n, path_in j.path n ∷ [])) (picked name_of (stays selection j) es)
+
+  abbrev child_groups_of : ℕ → Tree → List (List ℕ × JobModel) → List Group
+  child_groups_of k t cs = map (λ c. (c.0, paths (walk k c.1 (λ p. t (c.0 ∷ p))))) cs
+
+  abbrev groups_of : ℕ → JobModel → Tree → List Item → List Group
+  groups_of k j t es = own_groups_of j es ++ child_groups_of k t (walked_in (fates_of selection j es))
+
+  -- ---- what is absent
+
+  absent_paths : (d : List ℕ) (absent : List (List ℕ)) → map path_of (map (found_absent d) absent) ≡ map (path_in d) absent
+  absent_paths d [] = refl
+  absent_paths d (r ∷ rs) = ap (λ l. path_in d r ∷ l) (absent_paths d rs)
+
+  absent_below : (d : List ℕ) (absent : List (List ℕ)) → AllByRecursion (λ r. d ≡ [] → r ≢ []) absent
+      → AllByRecursion (Below d) (map (path_in d) absent)
+  absent_below d [] a = tt
+  absent_below d (r ∷ rs) a = ((segments_of r, names_of_rest d r a.0), absent_below d rs a.1)
+
+  -- no group of a level has a path to which no item leads
+  absent_no_own : (d r : List ℕ) (ns : List (List ℕ)) → AllByRecursion (λ n. bytes_eq n r ≡ false) ns
+      → AllByRecursion (λ x. path_in d r ≢ x) (flat_map (λ (g : Group). g.1) (map (λ n. (n, path_in d n ∷ [])) ns))
+  absent_no_own d r [] a = tt
+  absent_no_own d r (n ∷ ns) a = ((λ e. bytes_other n r a.0 (sym (one_name d r n e))), absent_no_own d r ns a.1)
+
+  -- a child directory stands neither at nor above a path
+  abbrev IsApartFrom : List ℕ → List ℕ × JobModel → Type 0
+  IsApartFrom r c = (bytes_eq c.0 r ≡ false) × (stands_below r c.0 ≡ false)
+
+  absent_no_child : (k : ℕ) (d r : List ℕ) (t : Tree) (cs : List (List ℕ × JobModel)) → (d ≡ [] → r ≢ []) →
+      AllByRecursion (IsApartFrom r) cs →
+      AllByRecursion (IsGroup d) (child_groups_of k t cs) →
+      AllByRecursion (λ x. path_in d r ≢ x) (flat_map (λ (g : Group). g.1) (child_groups_of k t cs))
+  absent_no_child k d r t [] some a groups = tt
+  absent_no_child k d r t (c ∷ cs) some a groups =
+      each-append (λ x. path_in d r ≢ x) (paths (walk k c.1 (λ p. t (c.0 ∷ p)))) _
+      (each-map (Under d c.0) (λ x. path_in d r ≢ x) (λ x u e. not_below d r c.0 x u.0 some a.0.0 a.0.1 u.1 e)
+      (paths (walk k c.1 (λ p. t (c.0 ∷ p)))) groups.0.0)
+      (absent_no_child k d r t cs some a.1 groups.1)
+
+  no_child_led : (j : JobModel) (r : List ℕ) (es : List Item) → NoneLeads selection.only j.path es r →
+      AllByRecursion (IsApartFrom r) (flat_map (children_by selection j) es)
+  no_child_led j r [] a = tt
+  no_child_led j r (file_item n c rules ∷ es) a = no_child_led j r es a.1
+  no_child_led j r (other_item n ∷ es) a = no_child_led j r es a.1
+  no_child_led j r (directory_item n ∷ es) a = at (is_taken selection j n true) (no_child_led j r es a.1)
+    where
+      apart : (bytes_eq n r ≡ false) × (stands_below r n ≡ false)
+      apart = neither (bytes_eq n r) (stands_below r n) a.0
+
+      at : (b : Bool) → AllByRecursion (IsApartFrom r) (flat_map (children_by selection j) es)
+          → AllByRecursion (IsApartFrom r)
+          (cond b ((n, child_job j n) ∷ []) [] ++ flat_map (children_by selection j) es)
+      at true rest = (apart, rest)
+      at false rest = rest
+
+  children_good : (k : ℕ) (j : JobModel) (t : Tree) (es : List Item) → Spread es →
       ((i : JobModel) (u : List ℕ) → IsFine i.path (paths (walk k i (λ p. t (u ∷ p))))) →
-      IsFine j.path (paths (found_of j (level_of_items selection es j)
-      ++ walks_below (found_at selection) (children_at selection) (walk k) t (walked_in (fates_of selection j es))))
-  of_items k j t es s rec =
+      AllByRecursion (IsGroup j.path) (child_groups_of k t (walked_in (fates_of selection j es)))
+  children_good k j t es s rec =
+      children_are k j.path t (walked_in (fates_of selection j es))
+      (each_child selection j (IsChild j.path) IsGoodName (λ n g. (g, refl)) es (good_names es s)) rec
+
+  absent_elsewhere : (k : ℕ) (j : JobModel) (t : Tree) (es : List Item) (absent : List (List ℕ)) →
+      AllByRecursion (λ r. j.path ≡ [] → r ≢ []) absent → AllByRecursion (NoneLeads selection.only j.path es) absent →
+      AllByRecursion (IsGroup j.path) (child_groups_of k t (walked_in (fates_of selection j es))) →
+      AllByRecursion (λ x. AllByRecursion (λ y. x ≢ y) (j.path ∷ flat_map (λ (g : Group). g.1) (groups_of k j t es)))
+      (map (path_in j.path) absent)
+  absent_elsewhere k j t es [] asked leads groups = tt
+  absent_elsewhere k j t es (r ∷ rs) asked leads groups = (
+    (
+      not_above j.path r asked.0,
+      subst (AllByRecursion (λ y. path_in j.path r ≢ y))
+          (sym (flat_map-append (λ (g : Group). g.1) (own_groups_of j es) (child_groups_of k t (walked_in (fates_of selection j es)))))
+          (each-append (λ y. path_in j.path r ≢ y) _ _
+          (absent_no_own j.path r (picked name_of (stays selection j) es)
+          (each_picked name_of (stays selection j) (λ n. bytes_eq n r ≡ false) es
+          (each-map (λ item. leads_to (entry_of item) r ≡ false) (λ item. bytes_eq (name_of item) r ≡ false)
+          (λ item e. (neither (bytes_eq (name_of item) r) (is_dir (entry_of item).kind && stands_below r (name_of item)) e).0) es leads.0)))
+          (absent_no_child k j.path r t (walked_in (fates_of selection j es)) asked.0
+          (subst (AllByRecursion (IsApartFrom r)) (sym (walked_items_are selection j es))
+          (no_child_led j r es leads.0)) groups)),
+    ),
+    absent_elsewhere k j t es rs asked.1 leads.1 groups,
+  )
+
+  -- what is found of the items that take part, with the walks of their children
+  of_part : (k : ℕ) (j : JobModel) (t : Tree) (es : List Item) → Spread es →
+      ((i : JobModel) (u : List ℕ) → IsFine i.path (paths (walk k i (λ p. t (u ∷ p))))) →
+      IsFine j.path (j.path ∷ flat_map (λ (g : Group). g.1) (groups_of k j t es))
+  of_part k j t es s rec =
       let cs : List (List ℕ × JobModel) = walked_in (fates_of selection j es) in
       let ns : List (List ℕ) = picked name_of (stays selection j) es in
-      let owns : List Group = map (λ n. (n, path_in j.path n ∷ [])) ns in
-      let kids : List Group = map (λ c. (c.0, paths (walk k c.1 (λ p. t (c.0 ∷ p))))) cs in
-      let below : List Found = walks_below (found_at selection) (children_at selection) (walk k) t cs in
-      let whole : paths (found_of j (level_of_items selection es j) ++ below) ≡ j.path ∷ flat_map (λ (g : Group). g.1) (owns ++ kids) =
-      ap (λ l. j.path ∷ l)
-      (map-append path_of (flat_map (found_by j.path) (fates_of selection j es)) below
-      ∙ ap (λ l. l ++ paths below) (paths_by_items selection j es ∙ own_groups j.path ns)
-      ∙ ap (λ l. flat_map (λ (g : Group). g.1) owns ++ l) (below_groups k t cs)
-      ∙ sym (flat_map-append (λ (g : Group). g.1) owns kids)) in
-      let is_child : AllByRecursion (IsChild j.path) cs = each_child selection j (IsChild j.path) IsGoodName (λ n g. (g, refl)) es
-      (good_names es s) in
+      let owns : List Group = own_groups_of j es in
+      let kids : List Group = child_groups_of k t cs in
       let groups : AllByRecursion (IsGroup j.path) (owns ++ kids) =
       each-append (IsGroup j.path) owns kids (own_are j.path ns (each_picked name_of (stays selection j) IsGoodName es (good_names es s)))
-      (children_are k j.path t cs is_child rec) in
+      (children_good k j t es s rec) in
       let all_names : map (λ (g : Group). g.0) (owns ++ kids) ≡ ns ++ picked name_of (enters_it selection j) es =
       map-append (λ (g : Group). g.0) owns kids ∙ ap (λ l. l ++ map (λ (g : Group). g.0) kids) (names_first ns j.path)
       ∙ ap (λ l. ns ++ l) (names_after k t cs ∙ ap (map (λ (c : List ℕ × JobModel). c.0)) (walked_items_are selection j es)
@@ -262,10 +292,52 @@ module _ (selection : SelectionModel) where
       subst Distinct (sym all_names) (distinct-append ns (picked name_of (enters_it selection j) es)
       (picked_distinct name_of (stays selection j) es apart) (picked_distinct name_of (enters_it selection j) es apart)
       (picked_apart name_of (stays selection j) (enters_it selection j) (λ e. not_both (enters_it selection j e)) es apart)) in
-      let own_path : Below j.path j.path = ([], sym (append-nil (names_of_path j.path))) in
-      subst (IsFine j.path) (sym whole) (
+      let own_path : Below j.path j.path = ([], sym (append-nil (names_of_path j.path))) in (
         (own_path, groups_below j.path (owns ++ kids) groups),
         (groups_above j.path (owns ++ kids) groups, groups_distinct j.path (owns ++ kids) groups distinct),
+      )
+
+  -- the paths of all that is found of a level: what is absent, the directory, and what stands below it
+  level_paths : (k : ℕ) (j : JobModel) (t : Tree) (es : List Item) (absent : List (List ℕ)) →
+      paths (found_of j (listed_level (fates_of selection j es) absent)
+      ++ walks_below (found_at selection) (children_at selection) (walk k) t (walked_in (fates_of selection j es)))
+      ≡ map (path_in j.path) absent ++ j.path ∷ flat_map (λ (g : Group). g.1) (groups_of k j t es)
+  level_paths k j t es absent =
+      let cs : List (List ℕ × JobModel) = walked_in (fates_of selection j es) in
+      let below : List Found = walks_below (found_at selection) (children_at selection) (walk k) t cs in
+      let own : List Found = flat_map (found_by j.path) (fates_of selection j es) in
+      let here : List Found = found_directory j.path (length (fates_of selection j es)) ∷ own in
+      let rest : paths (here ++ below) ≡ j.path ∷ flat_map (λ (g : Group). g.1) (groups_of k j t es) =
+      ap (λ l. j.path ∷ l)
+      (map-append path_of own below
+      ∙ ap (λ l. l ++ paths below)
+      (paths_by_items selection j es ∙ own_groups j.path (picked name_of (stays selection j) es))
+      ∙ ap (λ l. flat_map (λ (g : Group). g.1) (own_groups_of j es) ++ l) (below_groups k t cs)
+      ∙ sym (flat_map-append (λ (g : Group). g.1) (own_groups_of j es) (child_groups_of k t cs))) in
+      ap paths (append_assoc (map (found_absent j.path) absent) here below)
+      ∙ map-append path_of (map (found_absent j.path) absent) (here ++ below)
+      ∙ ap (λ l. l ++ paths (here ++ below)) (absent_paths j.path absent)
+      ∙ ap (λ l. map (path_in j.path) absent ++ l) rest
+
+  -- a level of items, with the walks of its children
+  of_items : (k : ℕ) (j : JobModel) (t : Tree) (es : List Item) → Spread es →
+      ((i : JobModel) (u : List ℕ) → IsFine i.path (paths (walk k i (λ p. t (u ∷ p))))) →
+      IsFine j.path (paths (found_of j (level_of_items selection es j)
+      ++ walks_below (found_at selection) (children_at selection) (walk k) t (children_of (level_of_items selection es j))))
+  of_items k j t es s rec =
+      let part : List Item = part_of selection.only j.path es in
+      let absent : List (List ℕ) = absent_from selection.only j.path es in
+      let within : IsFine j.path (j.path ∷ flat_map (λ (g : Group). g.1) (groups_of k j t part)) =
+      of_part k j t part (spread_part selection.only j.path es s) rec in
+      let asked : AllByRecursion (λ r. j.path ≡ [] → r ≢ []) absent =
+      each-map _ (λ r. j.path ≡ [] → r ≢ []) (λ r h. h.1) absent (absent_asked selection.only j.path es) in
+      subst (IsFine j.path) (sym (level_paths k j t part absent)) (
+        each-append (Below j.path) (map (path_in j.path) absent) _ (absent_below j.path absent asked) within.0,
+        distinct-append (map (path_in j.path) absent) _ (rests_apart j.path absent (absent_distinct selection.only j.path es)) within.1
+            (absent_elsewhere k j t part absent asked
+            (each-map (NoneLeads selection.only j.path es) (NoneLeads selection.only j.path part)
+            (λ r a. each_filter _ _ es a) absent (absent_leads selection.only j.path es))
+            (children_good k j t part (spread_part selection.only j.path es s) rec)),
       )
 
   own_below : (d p : List ℕ) → IsOwnPlace d p → Below d p

@@ -157,7 +157,7 @@ module _ (ask : Asked) (lists : List ℕ → Listings) (gives : List ℕ → Con
 
     -- and its files were counted
     pub serves_listed : (found : CountedFiles) (t u : TallyModel) (row : ListedRowModel) (x : HasPosted p q (jobs_of o.children.items))
-        → IsCounted gives o.job (bytes_of o.files.items) found →
+        → IsCounted gives o.job (bytes_of o.files.items) o.absent.items found →
         AddsFiles (map tallied found.files.items) t u (Ok tt) → IsRowOf row found (posts_held x.since) →
         GoesOn ask (MayAnswer lists gives) p (after_give q (Listed row)) (Some t) (Some u)
     serves_listed found t u row x f adds is first w =
@@ -183,6 +183,7 @@ module _ (ask : Asked) (lists : List ℕ → Listings) (gives : List ℕ → Con
           tidy = counted.2;
           says = record {
             fates = here.fates;
+            absent = here.absent;
             level_is = here.listed;
             entries_are = is.entries ∙ sym here.numbers;
             files_are = is.files ∙ ap (λ fs. cond ask.lists.files fs []) (sym here.counts);

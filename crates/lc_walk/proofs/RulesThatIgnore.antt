@@ -26,8 +26,9 @@ use Rattle.lc_walk.specs.Found.{Found, found_file, found_fault, found_directory,
 use Rattle.lc_walk.specs.ReportLines.{LeftLineModel}
 use Rattle.lc_walk.specs.Walk.{walk_of}
 use Rattle.lc_walk.specs.WalkReport.{left_line, left_out_in, left_out_of}
-use Rattle.lc_walk.proofs.Elements.{In, is_in, in_lists, if_cond}
+use Rattle.lc_walk.proofs.Elements.{In, is_in, contains, in_lists, if_cond}
 use Rattle.lc_walk.proofs.FoundByPlace.{place_by_walk}
+use Rattle.lc_walk.proofs.TakingPart.{in_filter}
 
 -- ---- the rule that decides
 
@@ -170,7 +171,7 @@ rule_law law lists selection depth top t r is entry origin line has by =
           inside = h.inside;
           listed = h.listed;
           item = h.item;
-          has = h.has;
+          has = contains h.item h.items (in_filter _ h.item h.items (is_in h.item _ h.has)).0;
           path_is = path;
           rule = decided.rule;
           on_line = decided.on_line;

@@ -1,8 +1,10 @@
 -- What becomes of the entries of all listed directories, by the report of a walk.
-use Rattle.std.specs.Prelude.{◌≡◌, ℕ, ◌+◌, true, false, List, length, Ok}
-use Rattle.std.specs.List.{Contains}
+use Rattle.std.specs.Prelude.{◌≡◌, ℕ, ◌+◌, true, false, List, ◌++◌, length, map, Ok}
+use Rattle.std.specs.List.{Contains, AllByRecursion}
+use Rattle.std.specs.List.Sorted.{IsPermutation}
 use Rattle.lc_glob.specs.Path.{path_in}
 use Rattle.lc_level.specs.Answers.{Item, entry_of, name_of, Tree}
+use Rattle.lc_level.specs.FaultLines.{FaultLineModel}
 use Rattle.lc_level.specs.Job.{JobModel}
 use Rattle.lc_level.specs.Level.{by_rule}
 use Rattle.lc_level.specs.Selection.{SelectionModel}
@@ -12,23 +14,35 @@ use Rattle.lc_rules.specs.IgnoreRules.{RuleModel}
 use Rattle.lc_rules.specs.declared.origin.Origin.{Origin}
 use Rattle.lc_tree.specs.Kinds.{is_dir}
 use Rattle.lc_tree.specs.Trees.{Listings, Contents}
+use Rattle.lc_tree.specs.declared.fault_word.FaultWord.TheVariants.{Absent}
 use Rattle.lc_walk.specs.FoundAt.{IsListed, LeadsTo}
 use Rattle.lc_walk.specs.ReportLines.{LeftLineModel}
 use Rattle.lc_walk.specs.Walk.{walk_of}
+use Rattle.lc_walk.specs.WalkOptions.{asked_by}
 use Rattle.lc_walk.specs.WalkReport.{IsReportOf}
 use Rattle.lc_walk.specs.Walks.{Walks}
 use Rattle.lc_walk.specs.declared.options.Lists.{Lists}
 use Rattle.lc_walk.specs.declared.options.Options.{Options}
 use Rattle.lc_walk.specs.declared.report.Report.{Report}
 
--- all of them are counted files, faults, listed directories or entries left out; the top alone is no entry. A fault stands for a file
--- or for a directory, whichever of its files it is at
-abbrev pub IsAccounted : Report → Type 0
-IsAccounted r = r.entries + 1 ≡ r.totals.files + length r.faults.items + r.directories + length r.left.items
+-- the fault of a path that is asked for and absent
+abbrev pub absent_line : List ℕ → FaultLineModel
+absent_line path = record { path = path; word = Absent }
+
+-- the faults are those of paths that were asked for and are absent, and others; all entries that take part are counted files, such other
+-- faults, listed directories or entries left out; the top alone is no entry. An other fault stands for a file or for a directory,
+-- whichever of its files it is at
+pub record IsAccounted (only : List (List ℕ)) (r : Report) : Type 0 where
+  pub absent : List (List ℕ)
+  pub asked : AllByRecursion (Contains only) absent
+  pub others : List FaultLineModel
+  pub faults : IsPermutation (map absent_line absent ++ others) r.faults.items
+  pub all : r.entries + 1 ≡ r.totals.files + length others + r.directories + length r.left.items
 
 -- so is the report of each walk that was asked for entries left out
 abbrev pub EntriesLaw : (List ℕ → Listings) → (List ℕ → Contents) → Type 0
-EntriesLaw lists gives = (o : Options) (r : Report) → Walks lists gives o (Ok r) → o.lists.left_out ≡ true → IsAccounted r
+EntriesLaw lists gives =
+    (o : Options) (r : Report) → Walks lists gives o (Ok r) → o.lists.left_out ≡ true → IsAccounted (asked_by o).selection.only r
 
 -- an entry at this path stands in a directory to which names lead, and the last rule that matches it among those that hold there
 -- ignores it, and stands in a file of this origin, on the line with this number

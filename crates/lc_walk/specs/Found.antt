@@ -1,7 +1,8 @@
 -- What a walk finds.
-use Rattle.std.specs.Prelude.{ℕ, List, [], ◌∷◌, length}
+use Rattle.std.specs.Prelude.{ℕ, List, [], ◌∷◌, ◌++◌, length, map}
 use Rattle.std.specs.List.{flat_map}
 use Rattle.lc_tree.specs.declared.fault_word.FaultWord.{FaultWord}
+use Rattle.lc_tree.specs.declared.fault_word.FaultWord.TheVariants.{Absent}
 use Rattle.lc_glob.specs.Path.{path_in}
 use Rattle.lc_level.specs.Answers.{Answers}
 use Rattle.lc_level.specs.Job.{JobModel}
@@ -9,8 +10,8 @@ use Rattle.lc_level.specs.Level.{CountedModel, LeftModel, Fate, counted, failed,
 use Rattle.lc_level.specs.Level.{walked_in}
 use Rattle.lc_level.specs.Selection.{SelectionModel}
 
--- a counted file of the directory at a path, a fault at a path, a listed directory at a path with the number of its entries, an
--- entry left out of the directory at a path
+-- a counted file of the directory at a path, a fault at a path, a listed directory at a path with the number of its entries that take
+-- part, an entry left out of the directory at a path
 pub data Found : Type 0 where
   found_file : (directory : List ℕ) → CountedModel → Found
   found_fault : (path : List ℕ) → FaultWord → Found
@@ -31,13 +32,18 @@ path_of (found_fault path word) = path
 path_of (found_directory path entries) = path
 path_of (found_left directory l) = path_in directory l.name
 
+-- a path that is asked for and absent, seen from the directory at a path
+abbrev pub found_absent : List ℕ → List ℕ → Found
+found_absent directory rest = found_fault (path_in directory rest) Absent
+
 abbrev pub found_of : JobModel → Level → List Found
 found_of j (faulted_level path word) = found_fault path word ∷ []
-found_of j (listed_level fates) = found_directory j.path (length fates) ∷ flat_map (found_by j.path) fates
+found_of j (listed_level fates absent) =
+    map (found_absent j.path) absent ++ found_directory j.path (length fates) ∷ flat_map (found_by j.path) fates
 
 abbrev pub children_of : Level → List (List ℕ × JobModel)
 children_of (faulted_level path word) = []
-children_of (listed_level fates) = walked_in fates
+children_of (listed_level fates absent) = walked_in fates
 
 -- what a directory of these answers gives
 abbrev pub found_at : SelectionModel → JobModel → Answers → List Found

@@ -5,8 +5,10 @@ use Rattle.lc_glob.specs.Path.{path_in}
 use Rattle.lc_level.specs.Answers.{Item, directory_item, name_of, Answers, Tree}
 use Rattle.lc_level.specs.Job.{JobModel}
 use Rattle.lc_level.specs.Level.{Fate, counted, failed, left, faulted_level, level, fate_of, is_taken, child_job}
+use Rattle.lc_level.specs.Narrowing.{part_of, absent_from}
 use Rattle.lc_level.specs.RuleFiles.{RuleBytes, rule_bytes, extended}
 use Rattle.lc_level.specs.Selection.{SelectionModel}
+use Rattle.lc_tree.specs.declared.fault_word.FaultWord.TheVariants.{Absent}
 use Rattle.lc_walk.specs.Found.{Found, found_file, found_fault, found_directory, found_left}
 use Rattle.lc_walk.specs.Walk.{walk_of}
 
@@ -17,20 +19,20 @@ pub record IsListed (j : JobModel) (a : Answers) (items : List Item) (inside : J
   pub read : rule_bytes j.path items a ≡ Ok bytes
   pub is : inside ≡ extended j bytes
 
--- it has so many entries
-pub record HasEntries (j : JobModel) (a : Answers) (entries : ℕ) : Type 0 where
-  pub items : List Item
-  pub inside : JobModel
-  pub listed : IsListed j a items inside
-  pub many : entries ≡ length items
-
 module _ (selection : SelectionModel) where
-  -- it has a directory of this name, which is not `.git`, which the last rule that matches it does not ignore, and which the
-  -- selection does not leave out
+  -- so many of its entries take part
+  pub record HasEntries (j : JobModel) (a : Answers) (entries : ℕ) : Type 0 where
+    pub items : List Item
+    pub inside : JobModel
+    pub listed : IsListed j a items inside
+    pub many : entries ≡ length (part_of selection.only j.path items)
+
+  -- it has a directory of this name that takes part, which is not `.git`, which the last rule that matches it does not ignore, and
+  -- which the selection does not leave out
   pub record LeavesIn (j : JobModel) (a : Answers) (name : List ℕ) (inside : JobModel) : Type 0 where
     pub items : List Item
     pub listed : IsListed j a items inside
-    pub has : Contains items (directory_item name)
+    pub has : Contains (part_of selection.only j.path items) (directory_item name)
     pub taken : is_taken selection inside name true ≡ true
 
   -- each directory down these names leaves in the next; the job of the last
@@ -39,24 +41,32 @@ module _ (selection : SelectionModel) where
   LeadsTo j t (name ∷ place) k =
       (inside : JobModel) × LeavesIn j (t []) name inside × LeadsTo (child_job inside name) (λ p. t (name ∷ p)) place k
 
-  -- it has an entry of this name, whose fate is this under its rule files and the selection
+  -- it has an entry of this name that takes part, whose fate is this under its rule files and the selection
   pub record HasEntry (j : JobModel) (a : Answers) (name : List ℕ) (fate : Fate) : Type 0 where
     pub items : List Item
     pub inside : JobModel
     pub listed : IsListed j a items inside
     pub item : Item
-    pub has : Contains items item
+    pub has : Contains (part_of selection.only j.path items) item
     pub named : name_of item ≡ name
     pub fate_is : fate_of selection inside item ≡ fate
 
-  -- what a directory gives: itself with the number of its entries; its counted files; the faults of its files, or of itself; what is
-  -- left out of it
+  -- a path is asked for that stands below it, seen from it, and none of its entries leads there
+  pub record HasAbsent (j : JobModel) (a : Answers) (rest : List ℕ) : Type 0 where
+    pub items : List Item
+    pub inside : JobModel
+    pub listed : IsListed j a items inside
+    pub absent : Contains (absent_from selection.only j.path items) rest
+
+  -- what a directory gives: itself with the number of its entries that take part; its counted files; the faults of its files, of itself,
+  -- or of what is absent; what is left out of it
   abbrev pub Gives : JobModel → Answers → Found → Type 0
   Gives j a (found_directory path entries) = (path ≡ j.path) × HasEntries j a entries
   Gives j a (found_file directory f) = (directory ≡ j.path) × HasEntry j a f.name (counted f)
   Gives j a (found_fault path word) =
       (level selection j a ≡ faulted_level path word)
       ⊎ ((name : List ℕ) × (path ≡ path_in j.path name) × HasEntry j a name (failed word))
+      ⊎ ((rest : List ℕ) × (path ≡ path_in j.path rest) × (word ≡ Absent) × HasAbsent j a rest)
   Gives j a (found_left directory l) = (directory ≡ j.path) × HasEntry j a l.name (left l.kind l.reason)
 
   -- a directory that such names lead to gives it

@@ -1,5 +1,5 @@
 -- When a row says the truth of its directory.
-use Rattle.std.specs.Prelude.{◌≡◌, ℕ, Bool, true, if◌then◌else◌, List, [], ◌∷◌, length, map, take, Some}
+use Rattle.std.specs.Prelude.{◌≡◌, ℕ, Bool, true, if◌then◌else◌, List, [], ◌∷◌, ◌++◌, length, map, take, Some}
 use Rattle.lc_board.specs.LegalHistory.{posts_under}
 use Rattle.lc_board.specs.RowsInPlace.{job_got}
 use Rattle.lc_board.specs.declared.event.Event.{Event}
@@ -8,7 +8,8 @@ use Rattle.lc_board.specs.declared.answers.Ended.TheVariants as ended
 use Rattle.lc_level.specs.Answers.{Answers}
 use Rattle.lc_level.specs.Tidy.{IsTidy}
 use Rattle.lc_level.specs.Job.{JobModel}
-use Rattle.lc_level.specs.Level.{CountedModel, Fate, Level, faulted_level, listed_level, level, counted_in, failed_in, walked_in, left_in}
+use Rattle.lc_level.specs.Level.{CountedModel, Fate, Level, faulted_level, listed_level, level, absent_faults, counted_in, failed_in}
+use Rattle.lc_level.specs.Level.{walked_in, left_in}
 use Rattle.lc_level.specs.Selection.{SelectionModel}
 use Rattle.lc_walk.specs.Found.{children_at}
 use Rattle.lc_level.specs.Deep.{has_too_deep}
@@ -30,7 +31,7 @@ pub record Asked : Type 0 where
 
 abbrev pub counted_files : Level → List CountedModel
 counted_files (faulted_level path word) = []
-counted_files (listed_level fates) = counted_in fates
+counted_files (listed_level fates absent) = counted_in fates
 
 -- the counted files of a directory of these answers
 abbrev pub files_at : SelectionModel → JobModel → Answers → List CountedModel
@@ -46,13 +47,14 @@ named [] posts = []
 named (c ∷ cs) [] = []
 named (c ∷ cs) (p ∷ ps) = record { name = c.0; number = p.0 } ∷ named cs ps
 
--- a directory that was listed: all that its row has is by the fates of its entries
+-- a directory that was listed: all that its row has is by the fates of its entries that take part, and by what is absent
 pub record SaysListed (ask : Asked) (r : ListedRowModel) (a : Answers) (posts : List (ℕ × JobModel)) : Type 0 where
   pub fates : List (List ℕ × Fate)
-  pub level_is : level ask.selection r.job a ≡ listed_level fates
+  pub absent : List (List ℕ)
+  pub level_is : level ask.selection r.job a ≡ listed_level fates absent
   pub entries_are : r.entries ≡ length fates
   pub files_are : r.files ≡ (if ask.lists.files then counted_in fates else [])
-  pub faults_are : r.faults ≡ failed_in fates
+  pub faults_are : r.faults ≡ absent_faults absent ++ failed_in fates
   pub left_are : r.left ≡ (if ask.lists.left_out then left_in fates else [])
   pub posts_are : jobs_of posts ≡ jobs_of (walked_in fates)
   pub children_are : r.children ≡ named (walked_in fates) posts

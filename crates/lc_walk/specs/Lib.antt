@@ -10,6 +10,7 @@ pub mod Lawful
 pub mod Laws
 pub mod Marks
 pub mod NodeWalks
+pub mod PartOfWalk
 pub mod Passes
 pub mod Posting
 pub mod Report

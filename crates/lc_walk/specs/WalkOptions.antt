@@ -3,7 +3,7 @@ use Rattle.std.specs.Prelude.{◌≤◌, map}
 use Rattle.lc_board.specs.Limits.{capacity_limit, workers_limit}
 use Rattle.lc_level.specs.Job.{JobModel}
 use Rattle.lc_level.specs.RuleReads.{shared}
-use Rattle.lc_level.specs.Selection.{selection_of}
+use Rattle.lc_level.specs.Selection.{selection_of, narrowed}
 use Rattle.lc_level.specs.TopJob.{top_job}
 use Rattle.lc_walk.specs.Lawful.{Asked}
 use Rattle.lc_walk.specs.declared.options.Options.{Options}
@@ -15,9 +15,12 @@ pub record AreWithinLimits (o : Options) : Type 0 where
   pub some_room : 1 ≤ o.max_dirs
   pub few_dirs : o.max_dirs ≤ capacity_limit
 
--- which lists the report is to have, and what is left out beside what the rules ignore
+-- which lists the report is to have, what is left out beside what the rules ignore, and which paths alone are asked for
 abbrev pub asked_by : Options → Asked
-asked_by o = record { lists = o.lists; selection = selection_of o.archive (map (λ name. name.now) o.without.now) }
+asked_by o = record {
+  lists = o.lists;
+  selection = narrowed (selection_of o.archive (map (λ name. name.now) o.without.now)) (map (λ path. path.now) o.only.now);
+}
 
 -- where it begins
 abbrev pub top_of : Options → JobModel

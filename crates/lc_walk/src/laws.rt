@@ -6,6 +6,7 @@ ghost use Rattle.lc_walk.specs.Examples.{ExamplesHold};
 ghost use Rattle.lc_walk.specs.FoundAt.{FoundLaw};
 ghost use Rattle.lc_walk.specs.Laws.{CoreLaw, NumbersLaw, OneAnswerLaw, PartLaw, PathsOnceLaw};
 ghost use Rattle.lc_walk.specs.NodeWalks.{NodeOneAnswerLaw, NodeReportLaw};
+ghost use Rattle.lc_walk.specs.PartOfWalk.{PartOfWalkLaw};
 ghost use Rattle.lc_walk.specs.Tally.{TallyModel, CountedFile, StandsFor};
 ghost use Rattle.lc_walk.specs.WalkReport.{ReportLaw};
 
@@ -50,13 +51,19 @@ pub fn all_that_is_found_is_given()
     ensures { FoundLaw }
 {}
 
-/// In the report of a walk that was asked for entries left out, all entries of the listed directories are files, faults, directories
-/// or entries left out, and the top alone is no entry.
+/// In the report of a walk that was asked for entries left out, all entries of the listed directories that take part are files, faults,
+/// directories or entries left out, and the top alone is no entry; each other fault is a path that was asked for and is absent.
 pub fn entries_are_accounted_for<T: Tree>(tree: &T)
     ensures { EntriesLaw (T.lists tree.now) (T.gives tree.now) }
 {
     let _tree = tree;
 }
+
+/// A walk of some paths finds, of what the walk of the whole tree finds, what stands at or below one of them, the directories above, and
+/// the faults on the way; and beside that the paths that are absent.
+pub fn a_part_is_the_whole_filtered()
+    ensures { PartOfWalkLaw }
+{}
 
 /// Of each entry that a report has as left out by a rule, that rule is the last that matches it, and ignores it.
 pub fn the_rule_of_a_line_ignores_it()

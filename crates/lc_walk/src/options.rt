@@ -31,13 +31,15 @@ pub struct Options<'o> {
     pub archive: bool,
     /// What has one of these attributes Set is left out, files and directories, as `linguist-vendored` (gitattributes(5)).
     pub without: &'o [&'o str],
+    /// Paths relative to the top, without a slash at the end: where there are some, only what stands at or below one takes part.
+    pub only: &'o [&'o [u8]],
 }
 
 impl<'o> Options<'o> {
-    /// What decides, beside the rules of the tree, which entries are left out.
+    /// What decides, beside the rules of the tree, which entries take part and which are left out.
     pub fn selection(&self) -> Selection<'o>
         ensures { result ≡ (asked_by self.now).selection }
     {
-        Selection::new(self.archive, self.without)
+        Selection::new(self.archive, self.without).narrowed(self.only)
     }
 }

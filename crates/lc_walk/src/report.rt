@@ -32,7 +32,7 @@ pub struct Report {
     pub totals: Sums,
     /// The number of directories whose listing and rule files were read, the top included.
     pub directories: u64,
-    /// The number of entries in the listings of these directories.
+    /// The number of their entries that take part.
     pub entries: u64,
     /// Which lists were asked for.
     pub lists: Lists,

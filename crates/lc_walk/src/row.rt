@@ -26,11 +26,11 @@ impl Model for Child {
 pub struct ListedParts {
     /// The directory.
     pub job: Job,
-    /// The number of entries in its listing.
+    /// The number of its entries that take part.
     pub entries: u32,
     /// The counted files, in the order of their names, where the report is to have them.
     pub files: Vec<Counted>,
-    /// The files that were not counted, in the order of their names.
+    /// The paths that are asked for and absent, then the files that were not counted, in the order of their names.
     pub faults: Vec<FileFault>,
     /// The entries that were left out, in the order of their names, where the report is to have them.
     pub left: Vec<LeftOut>,
@@ -87,7 +87,7 @@ impl ListedRow {
         &self.parts.job
     }
 
-    /// The number of entries in its listing.
+    /// The number of its entries that take part.
     pub fn entries(&self) -> u32
         ensures { result ≡ self.now.entries }
     {
@@ -101,7 +101,7 @@ impl ListedRow {
         &self.parts.files
     }
 
-    /// The files that were not counted, in the order of their names.
+    /// The paths that are asked for and absent, then the files that were not counted, in the order of their names.
     pub fn faults(&self) -> &[FileFault]
         ensures { result.now ≡ self.now.faults }
     {

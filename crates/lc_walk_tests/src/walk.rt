@@ -9,6 +9,7 @@ mod left_lines;
 mod left_out;
 mod limits;
 mod names;
+mod narrowed;
 mod other_boards;
 mod reports;
 mod rows;

@@ -76,7 +76,7 @@ where
     let mut input: &[u8] = b"a\n--\na\n";
     let mut out = Vec::with_capacity(rt.alloc(), text.len())?;
     let mut err = Vec::with_capacity(rt.alloc(), 64)?;
-    let found = program(rt, words, &mut input, &mut out, &mut err);
+    let found = program(rt, words, false, &mut input, &mut out, &mut err);
     if found == 3 && out.is_empty() && is_refused(&err) {
         return Err(AllocError.into());
     }
@@ -116,7 +116,7 @@ where
     let mut input: &[u8] = b"a\n--\na\n";
     let mut out = Narrow::new(rt.alloc(), 5, room, WhenFull::Fails)?;
     let mut err = Narrow::new(rt.alloc(), 64, told, WhenFull::TakesNothing)?;
-    let found = program(rt, words, &mut input, &mut out, &mut err);
+    let found = program(rt, words, false, &mut input, &mut out, &mut err);
     if found == 3 && (is_refused(&err.taken) || (out.taken.is_empty() && room > 0)) {
         return Err(AllocError.into());
     }
@@ -147,7 +147,7 @@ const TEXTS: &[(&[&str], u8, &str)] = &[
     (&["count", "--help"], 0, "Usage: lc count [OPTIONS] <DIR>"),
     (&["help", "count"], 0, "Usage: lc count [OPTIONS] <DIR>"),
     (&["-V"], 0, "lc 0.1.0"),
-    (&["--version"], 0, "lc 0.1.0\nproved by "),
+    (&["--version"], 0, "lc 0.1.0\nproved in Rattle's logic "),
     (&["check"], 2, "<FILE>"),
     (&["check", "/dev/null", "b"], 2, "unexpected argument 'b'"),
     (&["count"], 2, "<DIR>"),
@@ -216,7 +216,7 @@ where
     let mut input: &[u8] = b"a\n";
     let mut out = Vec::with_capacity(rt.alloc(), 8_192)?;
     let mut err = Vec::with_capacity(rt.alloc(), 8_192)?;
-    let found = program(rt, words, &mut input, &mut out, &mut err);
+    let found = program(rt, words, false, &mut input, &mut out, &mut err);
     if found == 3 && out.is_empty() && is_refused(&err) {
         return Err(AllocError.into());
     }

@@ -93,14 +93,14 @@ pub(crate) fn job_of(
 
 /// What the work on a directory found.
 #[derive(Drop)]
-struct Found {
-    counted: CountedFiles,
+pub(crate) struct Found {
+    pub(crate) counted: CountedFiles,
     children: Vec<Vec<u8>>,
     left_out: usize,
 }
 
 /// Opens the directory of the job and counts its files.
-fn work(
+pub(crate) fn work(
     alloc: Global,
     levels: &LevelReader<MemTree>,
     job: &Job,
@@ -116,13 +116,14 @@ fn work(
         files,
         children,
         left,
+        absent,
         ..
     } = opened;
     let mut names = Vec::new(alloc);
     for child in children {
         names.push(child.name)?;
     }
-    let counted = levels.count(&job, files, scratch)?;
+    let counted = levels.count(&job, files, absent, scratch)?;
     Ok(Ok(Found {
         counted,
         children: names,
@@ -136,14 +137,16 @@ fn are_files(found: &CountedFiles, wanted: &[(&[u8], TextState)]) -> bool {
             && file.text == *text)
 }
 
-fn are_faults(found: &CountedFiles, wanted: &[(&[u8], FaultWord)]) -> bool {
+/// The files that were not counted have these names and faults, in order.
+pub(crate) fn are_faults(found: &CountedFiles, wanted: &[(&[u8], FaultWord)]) -> bool {
     found.faults.len() == wanted.len()
         && found.faults.iter().zip(wanted).all(|(fault, (name, word))| fault.name.as_slice()
             == *name
             && fault.word == *word)
 }
 
-fn are_children(found: &[Vec<u8>], wanted: &[&[u8]]) -> bool {
+/// These are the names, in order.
+pub(crate) fn are_names(found: &[Vec<u8>], wanted: &[&[u8]]) -> bool {
     found.len() == wanted.len()
         && found
             .iter()
@@ -156,7 +159,7 @@ fn is_wanted(found: &Result<Found, Unlisted>, wanted: &Result<Level, Unlisted>) 
         (Ok(found), Ok(level)) => {
             are_files(&found.counted, level.files)
                 && are_faults(&found.counted, level.faults)
-                && are_children(&found.children, level.children)
+                && are_names(&found.children, level.children)
                 && found.left_out == 0
         }
         (Err(unlisted), Err(wanted)) => unlisted == wanted,

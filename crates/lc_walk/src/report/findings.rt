@@ -7,7 +7,7 @@ use crate::report::{FaultLine, FileLine, LeftLine};
 pub struct Findings {
     /// The number of directories that were listed.
     pub directories: u64,
-    /// The number of entries in their listings.
+    /// The number of their entries that take part.
     pub entries: u64,
     /// The counted files, if they were asked for.
     pub files: Vec<FileLine>,

@@ -81,13 +81,14 @@ impl<'w, B: Shared<Job, Row>, T: Tree, W: Wait> Worker<'w, B, T, W> {
             files,
             children,
             left,
+            absent,
             entries,
         } = opened;
         let children = match self.post_children(pass, children) {
             Ok(children) => children,
             Err(cause) => return self.give_up(pass, job, cause),
         };
-        let Ok(found) = self.levels().count(&inside, files, scratch) else {
+        let Ok(found) = self.levels().count(&inside, files, absent, scratch) else {
             return self.give_up(pass, job, Cause::Memory);
         };
         let Ok(()) = add_files(tally, &found.files) else {

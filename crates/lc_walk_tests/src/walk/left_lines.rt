@@ -45,7 +45,7 @@ const TREE: Sketch = Sketch::Dir(&[
 
 /// Why an entry is left out.
 #[derive(Clone, Copy)]
-enum Why<'a> {
+pub(super) enum Why<'a> {
     Git,
     Rule(Origin, u32),
     Attribute(&'a [u8]),
@@ -63,9 +63,10 @@ fn is_reason(reason: &Reason, why: Why) -> bool {
     }
 }
 
-type Line<'a> = (&'a [u8], Kind, Why<'a>);
+/// The path of an entry left out, its kind and why it is.
+pub(super) type Line<'a> = (&'a [u8], Kind, Why<'a>);
 
-fn has_lines(lines: &[LeftLine], wanted: &[Line]) -> bool {
+pub(super) fn has_lines(lines: &[LeftLine], wanted: &[Line]) -> bool {
     for (line, (path, kind, why)) in lines.iter().zip(wanted) {
         if line.path.as_slice() != *path || line.kind != *kind || !is_reason(&line.reason, *why) {
             return false;
@@ -159,6 +160,7 @@ fn check_on<B: Shared<Job, Row>, R: Threads + Wait + Sync + Abort>(
             exclude: exclude_file(alloc, Some(EXCLUDE))?,
             archive: case.archive,
             without: &[],
+            only: &[],
         };
         let report = report_of(rt, walk_on::<B, MemTree, R>(rt, alloc, &tree, &options))?;
         assert!(rt; has_told(&report, case), "{report:?}");

@@ -77,6 +77,7 @@ pub(super) fn walk_options(threads: u32, max_dirs: u32) -> Options<'static>
         exclude: None,
         archive: false,
         without: &[],
+        only: &[],
     }
 }
 
@@ -187,6 +188,7 @@ fn check_case<R: Threads + Wait + Sync + Abort>(
             exclude: exclude_file(alloc, asked.exclude)?,
             archive: asked.archive,
             without: asked.without,
+            only: &[],
         };
         check_on::<Words<Job, Row>, MemTree, R>(rt, alloc, &tree, &options, name, wanted)?;
         check_on::<Locked<Job, Row>, MemTree, R>(rt, alloc, &tree, &options, name, wanted)?;

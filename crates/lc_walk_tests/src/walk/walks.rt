@@ -328,6 +328,7 @@ fn check_files<R: Threads + Wait + Sync + Abort>(
         exclude: None,
         archive: false,
         without: &[],
+        only: &[],
     };
     let report = report_of(rt, walk(rt, alloc, &MemTree::new(&node), &options))?;
     assert!(rt; has_files(&report, wanted), "{report:?}");

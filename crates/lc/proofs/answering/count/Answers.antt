@@ -13,7 +13,8 @@ returns-in_err-outcome g c =
         lists = record { files = asked.files; left_out = asked.left_out };
         exclude = c.in_ok-exclude.exclude;
         archive = asked.exclusions.archive;
-        without = c.as_slice.result;
+        without = c.as_slice-without.result;
+        only = c.as_slice-only.result;
       },
       record {
         threads = refl;
@@ -21,7 +22,8 @@ returns-in_err-outcome g c =
         files = refl;
         left_out = refl;
         archive = refl;
-        without = c.as_slice.ensures.value;
+        without = c.as_slice-without.ensures.value;
+        only = c.as_slice-only.ensures.value;
         text = c.in_ok-text.text;
         is_text = c.in_ok-text.ensures;
         exclude = c.in_ok-exclude.ensures;
@@ -42,7 +44,8 @@ returns g c =
         lists = record { files = asked.files; left_out = asked.left_out };
         exclude = c.in_ok-exclude.exclude;
         archive = asked.exclusions.archive;
-        without = c.as_slice.result;
+        without = c.as_slice-without.result;
+        only = c.as_slice-only.result;
       },
       record {
         threads = refl;
@@ -50,7 +53,8 @@ returns g c =
         files = refl;
         left_out = refl;
         archive = refl;
-        without = c.as_slice.ensures.value;
+        without = c.as_slice-without.ensures.value;
+        only = c.as_slice-only.ensures.value;
         text = c.in_ok-text.text;
         is_text = c.in_ok-text.ensures;
         exclude = c.in_ok-exclude.ensures;

@@ -8,6 +8,6 @@ loop-name-preserved g c = (
   tt,
   search rules,
   counted_next (g.T.Tree.gives c.args.self.now.tree.now) c.args.job.now c.loop-name.yielded c.in-Some.name
-      c.loop-name.found c.count_one.new.found c.count_one.result c.in_ok-count_one.field-0 c.in_ok-count_one.was (search rules)
+      _ c.loop-name.found c.count_one.new.found c.count_one.result c.in_ok-count_one.field-0 c.in_ok-count_one.was (search rules)
       c.count_one.ensures.counted,
 )

@@ -1,0 +1,65 @@
+//! The paths that a count is asked for, as by `--only src --only doc`.
+
+ghost use Rattle.std.specs.Prelude.{◌≡◌, map, codes};
+ghost use Rattle.clap.specs.Matches.{found_of};
+ghost use Rattle.clap.specs.Walk.{rows_of};
+ghost use Rattle.lc_arguments.specs.CommandLine.{texts_rule};
+ghost use Rattle.lc_arguments.specs.CountArgs.{IsArgOf};
+ghost use Rattle.lc_arguments.specs.Explained.{AnswersPaths, AnswersPathsIn, IsRefusal};
+
+use crate::request::{NoRequest, refused};
+use clap::{Arg, ArgAction, ArgMatches};
+use lc_text::{is_bad_path, split_slash};
+use std::alloc::Global;
+
+pub(crate) fn only<'a>(alloc: Global) -> Arg<'a>
+    ensures { IsArgOf (texts_rule (codes "only")) result }
+{
+    Arg::new(alloc, "only")
+        .long("only")
+        .value_name("PATH")
+        .action(ArgAction::Append)
+        .help(
+            "Counts only what stands at or below PATH in DIR, by all rules of DIR; may be repeated",
+        )
+}
+
+/// Why words are refused that ask for what can't be a path.
+fn misplaced(alloc: Global, word: &str) -> NoRequest
+    ensures { IsRefusal result }
+{
+    refused(
+        alloc,
+        "--only <PATH>",
+        word,
+        ": a path from DIR on is wanted, as src/lib: no '.' and no '..' in it, and at most 4096 bytes",
+    )
+}
+
+/// The paths of these words, each without a slash at its end.
+fn paths_of<'w>(alloc: Global, words: &[&'w str]) -> Result<Vec<&'w [u8]>, NoRequest>
+    ensures { AnswersPaths (map (λ word. word.now) words.now) result }
+{
+    let mut paths = Vec::new(alloc);
+    for word in words {
+        let (path, _) = split_slash(word.as_bytes());
+        if is_bad_path(path) {
+            return Err(misplaced(alloc, word));
+        }
+        let Ok(()) = paths.push(path) else {
+            return Err(NoRequest::Memory);
+        };
+    }
+    Ok(paths)
+}
+
+/// The paths that were read, in their order.
+pub(crate) fn paths_in<'w>(
+    alloc: Global,
+    matches: &ArgMatches<'w>,
+) -> Result<Vec<&'w [u8]>, NoRequest>
+    ensures { AnswersPathsIn (rows_of (found_of matches.now)) result }
+{
+    let words = matches.get_strs("only").unwrap_or(&[]);
+    paths_of(alloc, words)
+}

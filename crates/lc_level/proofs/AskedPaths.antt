@@ -1,0 +1,277 @@
+-- Paths that are asked for, seen from directories.
+use Rattle.std.proofs.Common.{◌≡◌, ◌≢◌, ℕ, ◌==◌, Bool, true, false, not, ◌||◌, cond, List, [], ◌∷◌, ◌++◌, map, refl, sym, ◌∙◌, ap}
+use Rattle.std.proofs.Common.{Option, Some, None, nat_eq, length, append_assoc, bytes_eq, drop, take, ◌-◌, arith, eq-eqb, MatchOption}
+use Rattle.std.specs.Borrow.{Bor}
+use Rattle.std.specs.List.{filter, filter_map, cons_option, list_any}
+use Rattle.std.specs.Option.{is_some}
+use Rattle.std.specs.Prelude.{option_map}
+use Rattle.std.proofs.lemmas.Bool.{eqb-true}
+use Rattle.std.proofs.lemmas.List.{length-drop, map-append, take_all}
+use Rattle.lc_glob.specs.Bytes.{slash}
+use Rattle.lc_glob.specs.Lists.{is_empty}
+use Rattle.lc_glob.specs.Path.{path_in}
+use Rattle.lc_level.specs.Answers.{Item, entry_of, entries_of}
+use Rattle.lc_level.specs.Level.{FileFaultModel, absent_faults}
+use Rattle.lc_level.specs.Narrowing.{after, stands_below, rest_from, each_once, leads_to, is_whole, rests, takes_part, part_of, absent_from}
+use Rattle.lc_level.specs.PathSteps.{leads_on, is_led_to, unled, if_seen}
+use Rattle.lc_level.proofs.Tidy.{same_bytes}
+use Rattle.lc_rules.proofs.ReadingOrder.{list_any-map}
+use Rattle.lc_tree.specs.Listing.{EntryModel}
+
+-- ---- what follows the first bytes of a text
+
+-- a text that begins with these bytes is these and what follows
+pub after_is : (front text rest : List ℕ) → after front text ≡ Some rest → text ≡ front ++ rest
+after_is [] text rest e = let h : Some text ≡ Some rest = e in cc h
+after_is (b ∷ bs) [] rest e = let h : None ≡ Some rest = e in absurd (cc h)
+after_is (b ∷ bs) (c ∷ cs) rest e = at (b == c) refl e (after_is bs cs rest)
+  where
+    at : (t : Bool) → (b == c) ≡ t → cond t (after bs cs) None ≡ Some rest → (after bs cs ≡ Some rest → cs ≡ bs ++ rest)
+        → c ∷ cs ≡ b ∷ bs ++ rest
+    at true same h more = ap (λ x. x ∷ cs) (sym (eqb-true b c same)) ∙ ap (λ l. b ∷ l) (more h)
+    at false other h more = let none : None ≡ Some rest = h in absurd (cc none)
+
+-- and the other way round
+pub after_front : (front rest : List ℕ) → after front (front ++ rest) ≡ Some rest
+after_front [] rest = refl
+after_front (b ∷ bs) rest = ap (λ t. cond t (after bs (bs ++ rest)) None) (eq-eqb b b refl) ∙ after_front bs rest
+
+-- what is left of a text whose first bytes were cut off is what follows these
+pub after_cut : (front text : List ℕ) (r : Option (Bor (List ℕ)))
+    → MatchOption r ((rest : List ℕ) → text ≢ front ++ rest) (λ x. text ≡ front ++ x.now) → option_map (λ x. x.now) r ≡ after front text
+after_cut front text (Some x) is = sym (ap (after front) is ∙ after_front front x.now)
+after_cut front text None none = at (after front text) refl
+  where
+    at : (o : Option (List ℕ)) → after front text ≡ o → None ≡ o
+    at None e = refl
+    at (Some rest) e = absurd (none rest (after_is front text rest e))
+
+-- what doesn't begin with some bytes doesn't with more
+pub after_none : (a b text : List ℕ) → after a text ≡ None → after (a ++ b) text ≡ None
+after_none [] b text e = let h : Some text ≡ None = e in absurd (cc h)
+after_none (x ∷ xs) b [] e = refl
+after_none (x ∷ xs) b (c ∷ cs) e = at (x == c) e (after_none xs b cs)
+  where
+    at : (t : Bool) → cond t (after xs cs) None ≡ None → (after xs cs ≡ None → after (xs ++ b) cs ≡ None)
+        → cond t (after (xs ++ b) cs) None ≡ None
+    at true h more = more h
+    at false h more = refl
+
+-- and of what does, more is looked for in what follows
+pub after_some : (a b text rest : List ℕ) → after a text ≡ Some rest → after (a ++ b) text ≡ after b rest
+after_some a b text rest e = ap (after (a ++ b)) (after_is a text rest e) ∙ front a
+  where
+    front : (xs : List ℕ) → after (xs ++ b) (xs ++ rest) ≡ after b rest
+    front [] = refl
+    front (x ∷ xs) = ap (λ t. cond t (after (xs ++ b) (xs ++ rest)) None) (eq-eqb x x refl) ∙ front xs
+
+-- a map of what is there
+pub is_some-map : {X Y : Type 0} (f : X → Y) (o : Option X) → is_some (option_map f o) ≡ is_some o
+is_some-map f None = refl
+is_some-map f (Some x) = refl
+
+-- a path that is seen from a directory stands there
+pub rest_is : (d path rest : List ℕ) → rest_from d path ≡ Some rest → path ≡ path_in d rest
+rest_is [] [] rest e = let h : None ≡ Some rest = e in absurd (cc h)
+rest_is [] (b ∷ bs) rest e = let h : Some (b ∷ bs) ≡ Some rest = e in cc h
+rest_is (b ∷ bs) path rest e =
+    after_is (b ∷ bs ++ slash ∷ []) path rest e ∙ ap (λ l. b ∷ l) (append_assoc bs (slash ∷ []) rest)
+
+-- below another directory than the top
+pub rest_below : (d path : List ℕ) → nat_eq (length d) 0 ≡ false → rest_from d path ≡ after (d ++ slash ∷ []) path
+rest_below [] path e = let h : true ≡ false = e in absurd (cc h)
+rest_below (b ∷ bs) path e = refl
+
+-- ---- tests of paths
+
+abbrev pub passes : {X : Type 0} → (X → Bool) → Option X → Bool
+passes q None = false
+passes q (Some x) = q x
+
+-- a test of all that is seen
+pub any_seen : {X Y : Type 0} (q : Y → Bool) (f : X → Option Y) (xs : List X)
+    → list_any q (filter_map f xs) ≡ list_any (λ x. passes q (f x)) xs
+any_seen q f [] = refl
+any_seen {X} {Y} q f (x ∷ xs) = at (f x) (any_seen q f xs)
+  where
+    at : (o : Option Y) → list_any q (filter_map f xs) ≡ list_any (λ y. passes q (f y)) xs
+        → list_any q (cons_option o (filter_map f xs)) ≡ (passes q o || list_any (λ y. passes q (f y)) xs)
+    at None rest = rest
+    at (Some y) rest = ap (λ b. q y || b) rest
+
+or_true : (a : Bool) → (a || true) ≡ true
+or_true true = refl
+or_true false = refl
+
+among_passes : (q : List ℕ → Bool) (path : List ℕ) (paths : List (List ℕ)) → list_any (bytes_eq path) paths ≡ true → q path ≡ true
+    → list_any q paths ≡ true
+among_passes q path [] among e = absurd (cc among)
+among_passes q path (p ∷ ps) among e = at (bytes_eq path p) refl among (λ h. among_passes q path ps h e)
+  where
+    at : (b : Bool) → bytes_eq path p ≡ b → (b || list_any (bytes_eq path) ps) ≡ true
+        → (list_any (bytes_eq path) ps ≡ true → list_any q ps ≡ true) → (q p || list_any q ps) ≡ true
+    at true same h more = ap (λ t. t || list_any q ps) (sym (ap q (same_bytes path p same)) ∙ e)
+    at false other h more = ap (λ t. q p || t) (more h) ∙ or_true (q p)
+
+-- each path once passes a test where one of them does
+pub any_once : (q : List ℕ → Bool) (paths : List (List ℕ)) → list_any q (each_once paths) ≡ list_any q paths
+any_once q [] = refl
+any_once q (p ∷ ps) = at (list_any (bytes_eq p) ps) refl (any_once q ps)
+  where
+    again : (b : Bool) → q p ≡ b → list_any (bytes_eq p) ps ≡ true → list_any q ps ≡ (b || list_any q ps)
+    again true e among = among_passes q p ps among e
+    again false e among = refl
+
+    at : (b : Bool) → list_any (bytes_eq p) ps ≡ b → list_any q (each_once ps) ≡ list_any q ps
+        → list_any q (cond b (each_once ps) (p ∷ each_once ps)) ≡ (q p || list_any q ps)
+    at true among rest = rest ∙ again (q p) refl among
+    at false other rest = ap (λ t. q p || t) rest
+
+-- an entry leads to one of the paths, each once, where it leads to one of them
+pub leads_once : (only : List (List ℕ)) (d : List ℕ) (e : EntryModel) → list_any (leads_to e) (rests only d) ≡ leads_on only d e
+leads_once only d e =
+    any_seen (leads_to e) (rest_from d) (each_once only) ∙ any_once (λ path. passes (leads_to e) (rest_from d path)) only
+    ∙ sym (any_seen (leads_to e) (rest_from d) only)
+
+-- the same of lent paths
+pub leads_lent : (paths : List (Bor (List ℕ))) (d : List ℕ) (e : EntryModel)
+    → leads_on (map (λ (p : Bor (List ℕ)). p.now) paths) d e
+    ≡ list_any (λ (p : Bor (List ℕ)). passes (leads_to e) (rest_from d p.now)) paths
+leads_lent paths d e =
+    any_seen (leads_to e) (rest_from d) (map (λ (p : Bor (List ℕ)). p.now) paths)
+    ∙ list_any-map (λ path. passes (leads_to e) (rest_from d path)) (λ (p : Bor (List ℕ)). p.now) paths
+
+-- whether one of lent paths has a directory in it
+abbrev pub has_whole : List ℕ → Bor (List ℕ) → Bool
+has_whole d p = bytes_eq p.now d || stands_below d p.now
+
+-- a directory is whole where one has
+pub whole_by : (paths : List (Bor (List ℕ))) (d : List ℕ) → list_any (has_whole d) paths ≡ true
+    → is_whole (map (λ (p : Bor (List ℕ)). p.now) paths) d ≡ true
+whole_by paths d e =
+    let all : List (List ℕ) = map (λ (p : Bor (List ℕ)). p.now) paths in
+    ap (λ b. is_empty all || b) (list_any-map (λ path. bytes_eq path d || stands_below d path) (λ (p : Bor (List ℕ)). p.now) paths ∙ e)
+    ∙ or_true (is_empty all)
+
+-- and else where there is none
+pub whole_else : (paths : List (Bor (List ℕ))) (d : List ℕ) → list_any (has_whole d) paths ≡ false
+    → is_whole (map (λ (p : Bor (List ℕ)). p.now) paths) d ≡ nat_eq (length paths) 0
+whole_else [] d e = refl
+whole_else (p ∷ ps) d e =
+    list_any-map (λ path. bytes_eq path d || stands_below d path) (λ (q : Bor (List ℕ)). q.now) (p ∷ ps) ∙ e
+    ∙ at (nat_eq (length (p ∷ ps)) 0) refl
+  where
+    at : (b : Bool) → nat_eq (length (p ∷ ps)) 0 ≡ b → false ≡ b
+    at true none = absurd (omega (arith, eqb-true (length (p ∷ ps)) 0 none))
+    at false some = refl
+
+-- ---- entries that take part
+
+pub filter_as : {X : Type 0} (p q : X → Bool) → ((x : X) → p x ≡ q x) → (xs : List X) → filter p xs ≡ filter q xs
+filter_as p q same [] = refl
+filter_as p q same (x ∷ xs) =
+    ap (λ b. cond b (x ∷ filter p xs) (filter p xs)) (same x) ∙ ap (λ l. cond (q x) (x ∷ l) l) (filter_as p q same xs)
+
+-- all pass a test that passes all
+pub filter_all : {X : Type 0} (p : X → Bool) → ((x : X) → p x ≡ true) → (xs : List X) → filter p xs ≡ xs
+filter_all p all [] = refl
+filter_all p all (x ∷ xs) = ap (λ b. cond b (x ∷ filter p xs) (filter p xs)) (all x) ∙ ap (λ l. x ∷ l) (filter_all p all xs)
+
+-- of a directory that is asked for as a whole all entries take part
+pub whole_part : (only : List (List ℕ)) (d : List ℕ) (es : List EntryModel) → is_whole only d ≡ true
+    → es ≡ filter (takes_part only d) es
+whole_part only d es e = sym (filter_all (takes_part only d) (λ x. ap (λ b. b || list_any (leads_to x) (rests only d)) e) es)
+
+-- and of another those that lead to a path
+pub led_part : (only : List (List ℕ)) (d : List ℕ) (es : List EntryModel) → is_whole only d ≡ false
+    → filter (leads_on only d) es ≡ filter (takes_part only d) es
+led_part only d es e =
+    filter_as (leads_on only d) (takes_part only d)
+    (λ x. sym (ap (λ b. b || list_any (leads_to x) (rests only d)) e ∙ leads_once only d x)) es
+
+-- the entries of the items that take part
+pub entries_of_part : (p : EntryModel → Bool) (items : List Item)
+    → entries_of (filter (λ item. p (entry_of item)) items) ≡ filter p (entries_of items)
+entries_of_part p [] = refl
+entries_of_part p (item ∷ items) = at (p (entry_of item)) (entries_of_part p items)
+  where
+    at : (b : Bool) → entries_of (filter (λ i. p (entry_of i)) items) ≡ filter p (entries_of items)
+        → entries_of (cond b (item ∷ filter (λ i. p (entry_of i)) items) (filter (λ i. p (entry_of i)) items))
+        ≡ cond b (entry_of item ∷ filter p (entries_of items)) (filter p (entries_of items))
+    at true rest = ap (λ l. entry_of item ∷ l) rest
+    at false rest = rest
+
+-- where no path is asked for all items take part
+pub all_take_part : (d : List ℕ) (items : List Item) → part_of [] d items ≡ items
+all_take_part d items = filter_all (λ item. takes_part [] d (entry_of item)) (λ item. refl) items
+
+-- and none is absent
+pub none_absent : (d : List ℕ) (items : List Item) → absent_from [] d items ≡ []
+none_absent d items = refl
+
+-- ---- paths that no entry leads to
+
+led_by_items : (items : List Item) (rest : List ℕ)
+    → list_any (λ item. leads_to (entry_of item) rest) items ≡ is_led_to (entries_of items) rest
+led_by_items [] rest = refl
+led_by_items (item ∷ items) rest = ap (λ b. leads_to (entry_of item) rest || b) (led_by_items items rest)
+
+-- what is absent of the items of a directory is told by its entries
+pub absent_is : (only : List (List ℕ)) (d : List ℕ) (items : List Item) → unled (entries_of items) (rests only d) ≡ absent_from only d items
+absent_is only d items = filter_as _ _ (λ rest. ap not (sym (led_by_items items rest))) (rests only d)
+
+filter-append : {X : Type 0} (p : X → Bool) (xs ys : List X) → filter p (xs ++ ys) ≡ filter p xs ++ filter p ys
+filter-append p [] ys = refl
+filter-append {X} p (x ∷ xs) ys = at (p x) (filter-append p xs ys)
+  where
+    at : (b : Bool) → filter p (xs ++ ys) ≡ filter p xs ++ filter p ys
+        → cond b (x ∷ filter p (xs ++ ys)) (filter p (xs ++ ys)) ≡ cond b (x ∷ filter p xs) (filter p xs) ++ filter p ys
+    at true rest = ap (λ l. x ∷ l) rest
+    at false rest = rest
+
+-- the faults of some paths
+abbrev pub faults_from : List EntryModel → List ℕ → List (List ℕ) → List FileFaultModel
+faults_from es d paths = absent_faults (unled es (filter_map (rest_from d) (each_once paths)))
+
+-- that of the first and those of the others
+pub faults_first : (es : List EntryModel) (d path : List ℕ) (paths : List (List ℕ))
+    → faults_from es d (path ∷ paths)
+    ≡ absent_faults (unled es (if_seen (cond (list_any (bytes_eq path) paths) None (rest_from d path)))) ++ faults_from es d paths
+faults_first es d path paths =
+    ap (λ l. absent_faults (unled es l)) (at (list_any (bytes_eq path) paths))
+    ∙ ap absent_faults (filter-append _ (if_seen (cond (list_any (bytes_eq path) paths) None (rest_from d path))) _)
+    ∙ map-append _ (unled es (if_seen (cond (list_any (bytes_eq path) paths) None (rest_from d path)))) _
+  where
+    seen : (o : Option (List ℕ)) (rs : List (List ℕ)) → cons_option o rs ≡ if_seen o ++ rs
+    seen None rs = refl
+    seen (Some r) rs = refl
+
+    at : (b : Bool) → filter_map (rest_from d) (cond b (each_once paths) (path ∷ each_once paths))
+        ≡ if_seen (cond b None (rest_from d path)) ++ filter_map (rest_from d) (each_once paths)
+    at true = refl
+    at false = seen (rest_from d path) (filter_map (rest_from d) (each_once paths))
+
+-- the faults found so far, and those of the paths that are left, one path on
+pub faults_step : (es : List EntryModel) (d : List ℕ) (only : List (Bor (List ℕ))) (i : ℕ) (path : Bor (List ℕ))
+    (others : List (Bor (List ℕ)))
+    (old new all : List FileFaultModel) (rest : Option (List ℕ)) → drop i only ≡ path ∷ others
+    → rest ≡ cond (list_any (bytes_eq path.now) (map (λ (p : Bor (List ℕ)). p.now) others)) None (rest_from d path.now)
+    → new ≡ old ++ absent_faults (unled es (if_seen rest))
+    → old ++ faults_from es d (map (λ (p : Bor (List ℕ)). p.now) (drop i only)) ≡ all
+    → new ++ faults_from es d (map (λ (p : Bor (List ℕ)). p.now) others) ≡ all
+faults_step es d only i path others old new all rest left seen gains before =
+    let others' : List (List ℕ) = map (λ (p : Bor (List ℕ)). p.now) others in
+    ap (λ l. l ++ faults_from es d others') gains
+    ∙ append_assoc old (absent_faults (unled es (if_seen rest))) (faults_from es d others')
+    ∙ ap (λ (r : Option (List ℕ)). old ++ (absent_faults (unled es (if_seen r)) ++ faults_from es d others')) seen
+    ∙ ap (λ l. old ++ l) (sym (faults_first es d path.now others'))
+    ∙ ap (λ (ps : List (Bor (List ℕ))). old ++ faults_from es d (map (λ (p : Bor (List ℕ)). p.now) ps)) (sym left) ∙ before
+
+-- what is seen of a path beside the others, where these are what follows it
+pub once_of_others : (only : List (Bor (List ℕ))) (k : ℕ) (path d : List ℕ) (seen : Option (List ℕ))
+    → seen
+    ≡ cond (list_any (bytes_eq path) (map (λ (p : Bor (List ℕ)). p.now) (take (length only - k) (drop k only)))) None (rest_from d path)
+    → seen ≡ cond (list_any (bytes_eq path) (map (λ (p : Bor (List ℕ)). p.now) (drop k only))) None (rest_from d path)
+once_of_others only k path d seen is =
+    is ∙ ap (λ (ps : List (Bor (List ℕ))). cond (list_any (bytes_eq path) (map (λ (p : Bor (List ℕ)). p.now) ps)) None (rest_from d path))
+    (take_all (length only - k) (drop k only) (omega (arith, length-drop k only)))

@@ -1,0 +1,53 @@
+-- Which entries of a directory take part in a walk, where some paths alone are asked for.
+use Rattle.std.specs.Prelude.{ℕ, ◌==◌, Bool, ◌&&◌, ◌||◌, not, cond, List, [], ◌∷◌, ◌++◌, Option, Some, None, bytes_eq}
+use Rattle.std.specs.List.{filter, filter_map, list_any}
+use Rattle.std.specs.Option.{is_some}
+use Rattle.lc_glob.specs.Bytes.{slash}
+use Rattle.lc_glob.specs.Lists.{is_empty}
+use Rattle.lc_level.specs.Answers.{Item, entry_of}
+use Rattle.lc_tree.specs.Kinds.{is_dir}
+use Rattle.lc_tree.specs.Listing.{EntryModel}
+
+-- what follows the first bytes, where a text begins with these
+abbrev pub after : List ℕ → List ℕ → Option (List ℕ)
+after [] text = Some text
+after (b ∷ bs) [] = None
+after (b ∷ bs) (c ∷ cs) = cond (b == c) (after bs cs) None
+
+-- whether a path stands below another
+abbrev pub stands_below : List ℕ → List ℕ → Bool
+stands_below path other = is_some (after (other ++ slash ∷ []) path)
+
+-- the same path seen from a directory, where it stands below it: from the top every path does
+abbrev pub rest_from : List ℕ → List ℕ → Option (List ℕ)
+rest_from [] path = cond (is_empty path) None (Some path)
+rest_from (b ∷ bs) path = after (b ∷ bs ++ slash ∷ []) path
+
+-- each path once
+abbrev pub each_once : List (List ℕ) → List (List ℕ)
+each_once [] = []
+each_once (path ∷ paths) = cond (list_any (bytes_eq path) paths) (each_once paths) (path ∷ each_once paths)
+
+-- whether an entry of a directory leads to a path seen from it: it stands there, or is a directory above it
+abbrev pub leads_to : EntryModel → List ℕ → Bool
+leads_to e rest = bytes_eq e.name rest || (is_dir e.kind && stands_below rest e.name)
+
+module _ (only : List (List ℕ)) (directory : List ℕ) where
+  -- all of a directory is asked for where no path is, and where it is one of them or stands below one
+  abbrev pub is_whole : Bool
+  is_whole = is_empty only || list_any (λ path. bytes_eq path directory || stands_below directory path) only
+
+  -- the paths that stand below it, seen from it
+  abbrev pub rests : List (List ℕ)
+  rests = filter_map (rest_from directory) (each_once only)
+
+  -- the entries that take part
+  abbrev pub takes_part : EntryModel → Bool
+  takes_part e = is_whole || list_any (leads_to e) rests
+
+  abbrev pub part_of : List Item → List Item
+  part_of items = filter (λ item. takes_part (entry_of item)) items
+
+  -- the paths that no entry leads to, seen from the directory
+  abbrev pub absent_from : List Item → List (List ℕ)
+  absent_from items = filter (λ rest. not (list_any (λ item. leads_to (entry_of item) rest) items)) rests

@@ -1,0 +1,355 @@
+-- What a walk of some paths finds is the part of the whole walk at, below and above them.
+use Rattle.std.proofs.Common.{◌≡◌, ◌≢◌, ℕ, true, List, [], ◌∷◌, length, refl, sym, ◌∙◌, ap, subst, inl, inr, ◌⊎◌}
+use Rattle.std.specs.List.{Contains, AllByRecursion}
+use Rattle.lc_glob.specs.Path.{path_in, is_good_path}
+use Rattle.lc_level.specs.Answers.{Item, directory_item, entry_of, Answers, Tree}
+use Rattle.lc_level.specs.Job.{JobModel}
+use Rattle.lc_level.specs.Level.{CountedModel, LeftModel, Fate, counted, failed, left}
+use Rattle.lc_level.specs.Level.{fate_of, child_job}
+use Rattle.lc_level.specs.Narrowing.{part_of, takes_part}
+use Rattle.lc_level.specs.Selection.{SelectionModel, narrowed}
+use Rattle.lc_level.specs.Tidy.{IsTidy}
+use Rattle.lc_level.proofs.AskedPaths.{all_take_part}
+use Rattle.lc_level.proofs.Tidy.{IsGoodName}
+use Rattle.lc_tree.specs.declared.entry.Kind.{Kind}
+use Rattle.lc_tree.specs.declared.entry.Kind.TheVariants.{File, Dir}
+use Rattle.lc_tree.specs.declared.fault_word.FaultWord.{FaultWord}
+use Rattle.lc_tree.specs.declared.fault_word.FaultWord.TheVariants.{Absent}
+use Rattle.lc_walk.specs.Found.{Found, found_file, found_fault, found_directory, found_left}
+use Rattle.lc_walk.specs.FoundAt.{IsListed, LeavesIn, LeadsTo, HasEntry, Gives, IsFoundIn}
+use Rattle.lc_walk.specs.PartOfWalk.{IsWithin, EntryTakesPart, IsOnWay, IsFaultOnWay, Lists, PartOfWalkLaw}
+use Rattle.lc_walk.specs.PartOfWalk.{whole_walk, part_walk}
+use Rattle.lc_walk.proofs.AbsentPaths.{absent_asked}
+use Rattle.lc_walk.proofs.Elements.{In, is_in, contains}
+use Rattle.lc_walk.proofs.FoundByPlace.{found_law}
+use Rattle.lc_walk.proofs.Levels.{IsOwnPlace, tidy_items}
+use Rattle.lc_walk.proofs.PartFates.{Fits, fits, same_fate, same_fault, fault_at, spread_good}
+use Rattle.lc_walk.proofs.PartsOfTrees.{by_part, of_part}
+use Rattle.lc_walk.proofs.PathsWithin.{IsAtOrBelow, name_below, name_some, path_some, below_at, on_way_of_child, on_way_up}
+use Rattle.lc_walk.proofs.PathsWithin.{within_file, directory_takes, takes_on_way}
+use Rattle.lc_walk.proofs.TakingPart.{in_filter, of_filter}
+
+inside_path : (j inside : JobModel) (a : Answers) (items : List Item) → IsListed j a items inside → inside.path ≡ j.path
+inside_path j inside a items l = ap (λ (k : JobModel). k.path) l.is
+
+module _ (s : SelectionModel) (only : List (List ℕ)) where
+  abbrev part : SelectionModel
+  part = narrowed s only
+
+  abbrev whole : SelectionModel
+  whole = narrowed s []
+
+  -- ---- the entries of a directory
+
+  in_whole : (d : List ℕ) (items : List Item) (item : Item) → Contains (part_of [] d items) item → In item items
+  in_whole d items item c = subst (λ l. In item l) (all_take_part d items) (is_in item (part_of [] d items) c)
+
+  of_whole : (d : List ℕ) (items : List Item) (item : Item) → In item items → Contains (part_of [] d items) item
+  of_whole d items item i = contains item (part_of [] d items) (subst (λ l. In item l) (sym (all_take_part d items)) i)
+
+  in_part : (d : List ℕ) (items : List Item) (item : Item) → Contains (part_of only d items) item
+      → In item items × (takes_part only d (entry_of item) ≡ true)
+  in_part d items item c = in_filter (λ i. takes_part only d (entry_of i)) item items (is_in item (part_of only d items) c)
+
+  in_part_of : (d : List ℕ) (items : List Item) (item : Item) → In item items → takes_part only d (entry_of item) ≡ true
+      → Contains (part_of only d items) item
+  in_part_of d items item i e = contains item (part_of only d items) (of_filter (λ x. takes_part only d (entry_of x)) item items i e)
+
+  entry_good : (j : JobModel) (a : Answers) (n : List ℕ) (fate : Fate) → IsTidy a → HasEntry whole j a n fate → IsGoodName n
+  entry_good j a n fate tidy h =
+      subst IsGoodName h.named
+      (spread_good h.item h.items (tidy_items a tidy h.items h.listed.here) (in_whole j.path h.items h.item h.has))
+
+  part_entry : (j : JobModel) (a : Answers) (n : List ℕ) (fate : Fate) → IsTidy a → HasEntry whole j a n fate
+      → ((kind : Kind) → Fits fate kind → EntryTakesPart only kind (path_in j.path n)) → HasEntry part j a n fate
+  part_entry j a n fate tidy h takes = record {
+    items = h.items;
+    inside = h.inside;
+    listed = h.listed;
+    item = h.item;
+    has = in_part_of j.path h.items h.item here
+        (of_part only j.path (entry_of h.item) (spread_good h.item h.items (tidy_items a tidy h.items h.listed.here) here)
+        (subst (λ m. EntryTakesPart only (entry_of h.item).kind (path_in j.path m)) (sym h.named)
+        (takes (entry_of h.item).kind (subst (λ f. Fits f (entry_of h.item).kind) h.fate_is (fits whole h.inside h.item)))));
+    named = h.named;
+    fate_is = same_fate s only [] h.inside h.item ∙ h.fate_is;
+  }
+    where
+      here : In h.item h.items
+      here = in_whole j.path h.items h.item h.has
+
+  leaves_part : (j : JobModel) (a : Answers) (n : List ℕ) (inside : JobModel) → IsTidy a → LeavesIn whole j a n inside
+      → EntryTakesPart only Dir (path_in j.path n) → LeavesIn part j a n inside
+  leaves_part j a n inside tidy l takes = record {
+    items = l.items;
+    listed = l.listed;
+    has = in_part_of j.path l.items (directory_item n) here
+        (of_part only j.path (entry_of (directory_item n))
+        (spread_good (directory_item n) l.items (tidy_items a tidy l.items l.listed.here) here) takes);
+    taken = l.taken;
+  }
+    where
+      here : In (directory_item n) l.items
+      here = in_whole j.path l.items (directory_item n) l.has
+
+  child_good : (j : JobModel) (a : Answers) (n : List ℕ) (inside : JobModel) → IsTidy a → LeavesIn whole j a n inside → IsGoodName n
+  child_good j a n inside tidy l =
+      spread_good (directory_item n) l.items (tidy_items a tidy l.items l.listed.here) (in_whole j.path l.items (directory_item n) l.has)
+
+  -- ---- the directories on the way
+
+  -- the directory that names lead to stands at or below the first
+  reach : (place : List (List ℕ)) (j k : JobModel) (t : Tree) → LeadsTo whole j t place k → j.path ≢ [] → IsAtOrBelow k.path j.path
+  reach [] j k t e some = inl (ap (λ (x : JobModel). x.path) (sym e))
+  reach (n ∷ place) j k t (inside, l, more) some =
+      let same : inside.path ≡ j.path = inside_path j inside (t []) l.items l.listed in
+      let there : inside.path ≢ [] = λ e. some (sym same ∙ e) in
+      subst (IsAtOrBelow k.path) same
+      (inr (below_at k.path (path_in inside.path n) inside.path
+      (reach place (child_job inside n) k (λ p. t (n ∷ p)) more (path_some inside.path n there)) (name_below inside.path n there)))
+
+  leads_part : (place : List (List ℕ)) (j k : JobModel) (t : Tree) → ((p : List (List ℕ)) → IsTidy (t p)) → LeadsTo whole j t place k
+      → IsOnWay only k.path → LeadsTo part j t place k
+  leads_part [] j k t tidy e on = e
+  leads_part (n ∷ place) j k t tidy (inside, l, more) on =
+      let same : inside.path ≡ j.path = inside_path j inside (t []) l.items l.listed in
+      let there : path_in inside.path n ≢ [] = name_some inside.path n (child_good j (t []) n inside (tidy []) l) in
+      let takes : EntryTakesPart only Dir (path_in inside.path n) =
+      directory_takes only (path_in inside.path n)
+      (on_way_up only k.path (path_in inside.path n) there (reach place (child_job inside n) k (λ p. t (n ∷ p)) more there) on) in (
+        inside,
+        leaves_part j (t []) n inside (tidy []) l (subst (λ p. EntryTakesPart only Dir (path_in p n)) same takes),
+        leads_part place (child_job inside n) k (λ p. t (n ∷ p)) (λ p. tidy (n ∷ p)) more on,
+      )
+
+  module _ (some : only ≢ []) (good : AllByRecursion (λ path. is_good_path path ≡ true) only) where
+    whole_entry : (j : JobModel) (a : Answers) (n : List ℕ) (fate : Fate) → HasEntry part j a n fate
+        → HasEntry whole j a n fate × (kind : Kind) × Fits fate kind × EntryTakesPart only kind (path_in j.path n)
+    whole_entry j a n fate h =
+        let i = in_part j.path h.items h.item h.has in
+        let is : fate_of whole h.inside h.item ≡ fate = same_fate s [] only h.inside h.item ∙ h.fate_is in (
+          record {
+            items = h.items;
+            inside = h.inside;
+            listed = h.listed;
+            item = h.item;
+            has = of_whole j.path h.items h.item i.0;
+            named = h.named;
+            fate_is = is;
+          },
+          (entry_of h.item).kind,
+          subst (λ f. Fits f (entry_of h.item).kind) is (fits whole h.inside h.item),
+          subst (λ m. EntryTakesPart only (entry_of h.item).kind (path_in j.path m)) h.named
+              (by_part only j.path (entry_of h.item) some good i.1),
+        )
+
+    leads_whole : (place : List (List ℕ)) (j k : JobModel) (t : Tree) → LeadsTo part j t place k → IsOnWay only j.path
+        → LeadsTo whole j t place k × IsOnWay only k.path
+    leads_whole [] j k t e on = (e, subst (λ (x : JobModel). IsOnWay only x.path) e on)
+    leads_whole (n ∷ place) j k t (inside, l, more) on =
+        let same : inside.path ≡ j.path = inside_path j inside (t []) l.items l.listed in
+        let i = in_part j.path l.items (directory_item n) l.has in
+        let takes : EntryTakesPart only Dir (path_in j.path n) = by_part only j.path (entry_of (directory_item n)) some good i.1 in
+        let child : IsOnWay only (path_in inside.path n) =
+        subst (λ p. IsOnWay only (path_in p n)) (sym same) (takes_on_way only Dir (path_in j.path n) takes) in
+        let rest = leads_whole place (child_job inside n) k (λ p. t (n ∷ p)) more child in (
+          (
+            inside,
+            record {
+              items = l.items;
+              listed = l.listed;
+              has = of_whole j.path l.items (directory_item n) i.0;
+              taken = l.taken;
+            },
+            rest.0,
+          ),
+          rest.1,
+        )
+
+    -- ---- the walk
+
+    module _ (depth : ℕ) (top : JobModel) (t : Tree) (at_top : top.path ≡ []) (tidy : (place : List (List ℕ)) → IsTidy (t place)) where
+      in_whole_walk : (x : Found) → IsFoundIn whole depth top t x → Contains (whole_walk s only depth top t) x
+      in_whole_walk x r = (found_law whole depth top t x).1 r
+
+      in_part_walk : (x : Found) → IsFoundIn part depth top t x → Contains (part_walk s only depth top t) x
+      in_part_walk x r = (found_law part depth top t x).1 r
+
+      file : (directory : List ℕ) (f : CountedModel) → IsFoundIn part depth top t (found_file directory f) →
+          Contains (whole_walk s only depth top t) (found_file directory f) × IsWithin only (path_in directory f.name)
+      file directory f r =
+          let l = leads_whole r.place top r.job t r.leads (inl at_top) in
+          let w = whole_entry r.job (t r.place) f.name (counted f) r.gives.1 in (
+            in_whole_walk _ (record { place = r.place; shallow = r.shallow; job = r.job; leads = l.0; gives = (r.gives.0, w.0) }),
+            within_file only w.1 (path_in directory f.name) w.2
+                (subst (λ d. EntryTakesPart only w.1 (path_in d f.name)) (sym r.gives.0) w.3),
+          )
+
+      has_file : (directory : List ℕ) (f : CountedModel) → IsFoundIn whole depth top t (found_file directory f) →
+          IsWithin only (path_in directory f.name) → Contains (part_walk s only depth top t) (found_file directory f)
+      has_file directory f r within =
+          let here : IsWithin only (path_in r.job.path f.name) = subst (λ d. IsWithin only (path_in d f.name)) r.gives.0 within in
+          let name = entry_good r.job (t r.place) f.name (counted f) (tidy r.place) r.gives.1 in
+          in_part_walk _ (record {
+            place = r.place;
+            shallow = r.shallow;
+            job = r.job;
+            leads = leads_part r.place top r.job t tidy r.leads (on_way_of_child only r.job.path f.name File name (inl here));
+            gives = (
+              r.gives.0,
+              part_entry r.job (t r.place) f.name (counted f) (tidy r.place) r.gives.1 (λ kind is. inl here),
+            );
+          })
+
+      left_out : (directory : List ℕ) (l : LeftModel) → IsFoundIn part depth top t (found_left directory l) →
+          Contains (whole_walk s only depth top t) (found_left directory l) × EntryTakesPart only l.kind (path_in directory l.name)
+      left_out directory l r =
+          let leads = leads_whole r.place top r.job t r.leads (inl at_top) in
+          let w = whole_entry r.job (t r.place) l.name (left l.kind l.reason) r.gives.1 in (
+            in_whole_walk _ (record { place = r.place; shallow = r.shallow; job = r.job; leads = leads.0; gives = (r.gives.0, w.0) }),
+            subst (λ d. EntryTakesPart only l.kind (path_in d l.name)) (sym r.gives.0)
+                (subst (λ k. EntryTakesPart only k (path_in r.job.path l.name)) w.2 w.3),
+          )
+
+      has_left_out : (directory : List ℕ) (l : LeftModel) → IsFoundIn whole depth top t (found_left directory l) →
+          EntryTakesPart only l.kind (path_in directory l.name) → Contains (part_walk s only depth top t) (found_left directory l)
+      has_left_out directory l r takes =
+          let here : EntryTakesPart only l.kind (path_in r.job.path l.name) =
+          subst (λ d. EntryTakesPart only l.kind (path_in d l.name)) r.gives.0 takes in
+          let name = entry_good r.job (t r.place) l.name (left l.kind l.reason) (tidy r.place) r.gives.1 in
+          in_part_walk _ (record {
+            place = r.place;
+            shallow = r.shallow;
+            job = r.job;
+            leads = leads_part r.place top r.job t tidy r.leads (on_way_of_child only r.job.path l.name l.kind name here);
+            gives = (
+              r.gives.0,
+              part_entry r.job (t r.place) l.name (left l.kind l.reason) (tidy r.place) r.gives.1
+                  (λ kind is. subst (λ k. EntryTakesPart only k (path_in r.job.path l.name)) (sym is) here),
+            );
+          })
+
+      directory : (path : List ℕ) (entries : ℕ) → IsFoundIn part depth top t (found_directory path entries) →
+          Lists (whole_walk s only depth top t) path × IsOnWay only path
+      directory path entries r =
+          let l = leads_whole r.place top r.job t r.leads (inl at_top) in
+          let h = r.gives.1 in (
+            (
+              length (part_of [] r.job.path h.items),
+              in_whole_walk _ (record {
+                place = r.place;
+                shallow = r.shallow;
+                job = r.job;
+                leads = l.0;
+                gives = (r.gives.0, record { items = h.items; inside = h.inside; listed = h.listed; many = refl });
+              }),
+            ),
+            subst (IsOnWay only) (sym r.gives.0) l.1,
+          )
+
+      has_directory : (path : List ℕ) (entries : ℕ) → IsFoundIn whole depth top t (found_directory path entries) → IsOnWay only path →
+          Lists (part_walk s only depth top t) path
+      has_directory path entries r on =
+          let h = r.gives.1 in (
+            length (part_of only r.job.path h.items),
+            in_part_walk _ (record {
+              place = r.place;
+              shallow = r.shallow;
+              job = r.job;
+              leads = leads_part r.place top r.job t tidy r.leads (subst (IsOnWay only) r.gives.0 on);
+              gives = (r.gives.0, record { items = h.items; inside = h.inside; listed = h.listed; many = refl });
+            }),
+          )
+
+      abbrev Faults : List ℕ → FaultWord → Type 0
+      Faults path word = IsWithin only path ⊎ IsFaultOnWay s only depth top t path word
+
+      fault : (path : List ℕ) (word : FaultWord) (r : IsFoundIn part depth top t (found_fault path word)) →
+          Gives part r.job (t r.place) (found_fault path word) →
+          (Contains (whole_walk s only depth top t) (found_fault path word) × Faults path word) ⊎ ((word ≡ Absent) × Contains only path)
+      fault path word r (inl e) =
+          let l = leads_whole r.place top r.job t r.leads (inl at_top) in
+          let is = same_fault s only [] r.job (t r.place) path word e in
+          inl (
+            in_whole_walk _ (record { place = r.place; shallow = r.shallow; job = r.job; leads = l.0; gives = inl is }),
+            inr (record { place = r.place; shallow = r.shallow; job = r.job; leads = l.0; on_way = l.1; fault = is }),
+          )
+      fault path word r (inr (inl (n, e, h))) =
+          let l = leads_whole r.place top r.job t r.leads (inl at_top) in
+          let w = whole_entry r.job (t r.place) n (failed word) h in
+          inl (
+            in_whole_walk _
+                (record { place = r.place; shallow = r.shallow; job = r.job; leads = l.0; gives = inr (inl (n, e, w.0)) }),
+            inl (within_file only w.1 path w.2 (subst (EntryTakesPart only w.1) (sym e) w.3)),
+          )
+      fault path word r (inr (inr (rest, e, is, h))) =
+          inr (
+            is,
+            contains path only
+                (subst (λ p. In p only) (sym e) (asked _ (absent_asked only r.job.path h.items) (is_in rest _ h.absent))),
+          )
+        where
+          asked : (rs : List (List ℕ)) → AllByRecursion (λ x. In (path_in r.job.path x) only × (r.job.path ≡ [] → x ≢ [])) rs
+              → In rest rs → In (path_in r.job.path rest) only
+          asked [] a i = absurd i
+          asked (x ∷ xs) a (inl same) = subst (λ y. In (path_in r.job.path y) only) same a.0.0
+          asked (x ∷ xs) a (inr i) = asked xs a.1 i
+
+      fault_on_way : (path : List ℕ) (word : FaultWord) → IsFaultOnWay s only depth top t path word →
+          Contains (part_walk s only depth top t) (found_fault path word)
+      fault_on_way path word f =
+          in_part_walk _ (record {
+            place = f.place;
+            shallow = f.shallow;
+            job = f.job;
+            leads = leads_part f.place top f.job t tidy f.leads f.on_way;
+            gives = inl (same_fault s [] only f.job (t f.place) path word f.fault);
+          })
+
+      place_on_way : (d path : List ℕ) → IsOwnPlace d path → IsWithin only path → IsOnWay only d
+      place_on_way d path (inl e) within = inr (inl (subst (IsWithin only) e within))
+      place_on_way d path (inr (inl (n, name, e))) within = on_way_of_child only d n File name (inl (subst (IsWithin only) e within))
+      place_on_way d path (inr (inr e)) within = inl e
+
+      has_fault : (path : List ℕ) (word : FaultWord) (r : IsFoundIn whole depth top t (found_fault path word)) →
+          Gives whole r.job (t r.place) (found_fault path word) → Faults path word →
+          Contains (part_walk s only depth top t) (found_fault path word)
+      has_fault path word r g (inr f) = fault_on_way path word f
+      has_fault path word r (inl e) (inl within) =
+          fault_on_way path word (record {
+            place = r.place;
+            shallow = r.shallow;
+            job = r.job;
+            leads = r.leads;
+            on_way = place_on_way r.job.path path (fault_at whole r.job (t r.place) path word e) within;
+            fault = e;
+          })
+      has_fault path word r (inr (inl (n, e, h))) (inl within) =
+          let here : IsWithin only (path_in r.job.path n) = subst (IsWithin only) e within in
+          let name = entry_good r.job (t r.place) n (failed word) (tidy r.place) h in
+          in_part_walk _ (record {
+            place = r.place;
+            shallow = r.shallow;
+            job = r.job;
+            leads = leads_part r.place top r.job t tidy r.leads (on_way_of_child only r.job.path n File name (inl here));
+            gives = inr (inl (n, e, part_entry r.job (t r.place) n (failed word) (tidy r.place) h (λ kind is. inl here)));
+          })
+      has_fault path word r (inr (inr (rest, e, is, h))) (inl within) = absurd (is_in rest [] h.absent)
+
+-- so a walk of some paths finds of the whole
+pub part_law : PartOfWalkLaw
+part_law s only some good depth top t at_top tidy =
+    record {
+      file = λ d f c. file s only some good depth top t at_top tidy d f ((found_law (narrowed s only) depth top t _).0 c);
+      has_file = λ d f c. has_file s only some good depth top t at_top tidy d f ((found_law (narrowed s []) depth top t _).0 c);
+      left = λ d l c. left_out s only some good depth top t at_top tidy d l ((found_law (narrowed s only) depth top t _).0 c);
+      has_left = λ d l c. has_left_out s only some good depth top t at_top tidy d l ((found_law (narrowed s []) depth top t _).0 c);
+      directory = λ p c. directory s only some good depth top t at_top tidy p c.0 ((found_law (narrowed s only) depth top t _).0 c.1);
+      has_directory = λ p c. has_directory s only some good depth top t at_top tidy p c.0 ((found_law (narrowed s []) depth top t _).0 c.1);
+      fault = λ p w c.
+          let r = (found_law (narrowed s only) depth top t (found_fault p w)).0 c in
+          fault s only some good depth top t at_top tidy p w r r.gives;
+      has_fault = λ p w c.
+          let r = (found_law (narrowed s []) depth top t (found_fault p w)).0 c in
+          has_fault s only some good depth top t at_top tidy p w r r.gives;
+    }

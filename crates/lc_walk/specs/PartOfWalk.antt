@@ -1,0 +1,85 @@
+-- What a walk of some paths finds, by what the walk of the whole tree finds.
+use Rattle.std.specs.Prelude.{◌≡◌, ◌≢◌, ◌⊎◌, ℕ, ◌<◌, true, List, [], ◌∷◌, ◌++◌, length}
+use Rattle.std.specs.List.{Contains, AllByRecursion}
+use Rattle.lc_glob.specs.Bytes.{slash}
+use Rattle.lc_glob.specs.Path.{path_in, is_good_path}
+use Rattle.lc_level.specs.Answers.{Tree}
+use Rattle.lc_level.specs.Job.{JobModel}
+use Rattle.lc_level.specs.Level.{CountedModel, LeftModel, faulted_level, level}
+use Rattle.lc_level.specs.Selection.{SelectionModel, narrowed}
+use Rattle.lc_level.specs.Tidy.{IsTidy}
+use Rattle.lc_tree.specs.Kinds.{is_dir}
+use Rattle.lc_tree.specs.declared.entry.Kind.{Kind}
+use Rattle.lc_tree.specs.declared.fault_word.FaultWord.{FaultWord}
+use Rattle.lc_tree.specs.declared.fault_word.FaultWord.TheVariants.{Absent}
+use Rattle.lc_walk.specs.Found.{Found, found_file, found_fault, found_directory, found_left}
+use Rattle.lc_walk.specs.FoundAt.{LeadsTo}
+use Rattle.lc_walk.specs.Walk.{walk_of}
+
+-- a path stands below another
+abbrev pub IsBelow : List ℕ → List ℕ → Type 0
+IsBelow path other = (rest : List ℕ) × (path ≡ other ++ slash ∷ rest)
+
+module _ (only : List (List ℕ)) where
+  -- it stands at or below one of those that are asked for
+  abbrev pub IsWithin : List ℕ → Type 0
+  IsWithin path = (asked : List ℕ) × Contains only asked × ((path ≡ asked) ⊎ IsBelow path asked)
+
+  -- one of them stands below it
+  abbrev pub IsAbove : List ℕ → Type 0
+  IsAbove path = (asked : List ℕ) × Contains only asked × IsBelow asked path
+
+  -- what of all entries takes part: those within, and the directories above
+  abbrev pub EntryTakesPart : Kind → List ℕ → Type 0
+  EntryTakesPart kind path = IsWithin path ⊎ ((is_dir kind ≡ true) × IsAbove path)
+
+  -- what of all directories is listed: the top, those within, and those above
+  abbrev pub IsOnWay : List ℕ → Type 0
+  IsOnWay path = (path ≡ []) ⊎ (IsWithin path ⊎ IsAbove path)
+
+-- a directory at a path is listed
+abbrev pub Lists : List Found → List ℕ → Type 0
+Lists xs path = (entries : ℕ) × Contains xs (found_directory path entries)
+
+module _ (selection : SelectionModel) (only : List (List ℕ)) (depth : ℕ) (top : JobModel) (t : Tree) where
+  -- what is found in the whole tree, and of these paths
+  abbrev pub whole_walk : List Found
+  whole_walk = walk_of (narrowed selection []) depth top t
+
+  abbrev pub part_walk : List Found
+  part_walk = walk_of (narrowed selection only) depth top t
+
+  -- a directory that is on the way is at fault, or one of its rule files is
+  pub record IsFaultOnWay (path : List ℕ) (word : FaultWord) : Type 0 where
+    pub place : List (List ℕ)
+    pub shallow : length place < depth
+    pub job : JobModel
+    pub leads : LeadsTo (narrowed selection []) top t place job
+    pub on_way : IsOnWay only job.path
+    pub fault : level (narrowed selection []) job (t place) ≡ faulted_level path word
+
+  -- of the whole the part has the counted files that stand within, the entries left out that take part, the directories on the way, and
+  -- the faults within or of directories on the way, and all of these; each other fault is of a path that is asked for and absent
+  pub record IsPartOfWalk : Type 0 where
+    pub file : (directory : List ℕ) (f : CountedModel) → Contains part_walk (found_file directory f) →
+        Contains whole_walk (found_file directory f) × IsWithin only (path_in directory f.name)
+    pub has_file : (directory : List ℕ) (f : CountedModel) → Contains whole_walk (found_file directory f) →
+        IsWithin only (path_in directory f.name) → Contains part_walk (found_file directory f)
+    pub left : (directory : List ℕ) (l : LeftModel) → Contains part_walk (found_left directory l) →
+        Contains whole_walk (found_left directory l) × EntryTakesPart only l.kind (path_in directory l.name)
+    pub has_left : (directory : List ℕ) (l : LeftModel) → Contains whole_walk (found_left directory l) →
+        EntryTakesPart only l.kind (path_in directory l.name) → Contains part_walk (found_left directory l)
+    pub directory : (path : List ℕ) → Lists part_walk path → Lists whole_walk path × IsOnWay only path
+    pub has_directory : (path : List ℕ) → Lists whole_walk path → IsOnWay only path → Lists part_walk path
+    pub fault : (path : List ℕ) (word : FaultWord) → Contains part_walk (found_fault path word) →
+        (Contains whole_walk (found_fault path word) × (IsWithin only path ⊎ IsFaultOnWay path word))
+        ⊎ ((word ≡ Absent) × Contains only path)
+    pub has_fault : (path : List ℕ) (word : FaultWord) → Contains whole_walk (found_fault path word) →
+        IsWithin only path ⊎ IsFaultOnWay path word → Contains part_walk (found_fault path word)
+
+-- so it is of each tree with tidy listings, for some paths that entries can have
+abbrev pub PartOfWalkLaw : Type 0
+PartOfWalkLaw =
+    (selection : SelectionModel) (only : List (List ℕ)) → only ≢ [] → AllByRecursion (λ path. is_good_path path ≡ true) only →
+    (depth : ℕ) (top : JobModel) (t : Tree) → top.path ≡ [] → ((place : List (List ℕ)) → IsTidy (t place)) →
+    IsPartOfWalk selection only depth top t
