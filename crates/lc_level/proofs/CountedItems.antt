@@ -15,7 +15,8 @@ use Rattle.lc_tree.specs.Listing.{EntryModel}
 use Rattle.lc_tree.specs.declared.entry.Kind.TheVariants.{File, Dir, Other}
 use Rattle.lc_level.specs.RuleFiles.{file_named, has_directory}
 use Rattle.lc_level.specs.TreeAnswers.{MayHave}
-use Rattle.lc_tree.specs.Trees.{Listings, Contents, MayCount}
+use Rattle.lc_tree.specs.Trees.{Listings, Contents}
+use Rattle.lc_level.specs.FileReads.{MayCount}
 use Rattle.lc_level.proofs.Fates.{counted_by, fault_by, files_by, faults_by, children_by, left_by_item}
 use Rattle.lc_tree.specs.declared.fault_word.FaultWord.{FaultWord}
 

@@ -11,7 +11,8 @@ use Rattle.lc_level.specs.FileReads.{IsAnswer}
 use Rattle.lc_level.specs.Job.{JobModel}
 use Rattle.lc_level.specs.LeftIn.{bytes_of}
 use Rattle.lc_level.specs.Level.{Fate, FileFaultModel, file_fate, counted_of, failed_of, failed_in}
-use Rattle.lc_tree.specs.Trees.{Contents, MayCount}
+use Rattle.lc_tree.specs.Trees.{Contents}
+use Rattle.lc_level.specs.FileReads.{MayCount}
 use Rattle.lc_level.specs.declared.counting.CountedFiles.{CountedFiles}
 use Rattle.lc_level.specs.declared.unread.Unread.{Unread}
 use Rattle.lc_level.specs.declared.unread.Unread.TheVariants as unread

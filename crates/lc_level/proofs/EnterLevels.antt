@@ -19,7 +19,8 @@ use Rattle.lc_level.specs.RulePairs.{AreFilesOf, IsReadOf, ReadsBoth}
 use Rattle.lc_level.specs.PlacePaths.{place_path}
 use Rattle.lc_level.specs.RuleReads.{text_items}
 use Rattle.lc_level.specs.TreeAnswers.{MayAnswer}
-use Rattle.lc_tree.specs.Trees.{Listings, Contents, MayCount, MayReadRules}
+use Rattle.lc_tree.specs.Trees.{Listings, Content, Contents, MayHold}
+use Rattle.lc_level.specs.FileReads.{MayCount, MayReadRules}
 use Rattle.lc_level.specs.declared.entering.Entered.{Entered}
 use Rattle.lc_level.specs.declared.rule_pair.PairRead.{PairRead}
 use Rattle.lc_level.specs.declared.unlisted.Unlisted.{Unlisted}
@@ -28,7 +29,7 @@ use Rattle.lc_tree.specs.declared.fault_word.FaultWord.{FaultWord}
 use Rattle.lc_level.specs.declared.cause.Cause.TheVariants.{Memory, TooManyDirs, TooDeep}
 use Rattle.lc_level.specs.declared.place.Place.{Place}
 use Rattle.lc_level.specs.declared.place.Place.TheVariants.{Directory, IgnoreFile, AttributeFile}
-use Rattle.lc_level.proofs.GitReads.{any_count, any_rules, listed}
+use Rattle.lc_level.proofs.GitReads.{any_count, any_rules, may_rules, listed}
 use Rattle.lc_level.proofs.GivenItems.{AsRules, items_at, entries_items, directory_items}
 use Rattle.lc_level.proofs.GivenPairs.{PairGiven, pair_given}
 
@@ -64,14 +65,13 @@ list_refused lists gives j texts (Broken TooManyDirs) l = absurd l
 list_refused lists gives j texts (Broken TooDeep) l = absurd l
 
 module _ (lists : List ℕ → Listings) (gives : List ℕ → Contents)
-    (some_count : (path : List ℕ) → (r : Result Count FaultWord) × MayCount (gives path) r)
-    (some_rules : (path : List ℕ) → (r : Result (List ℕ) FaultWord) × MayReadRules (gives path) r)
+    (some_content : (path : List ℕ) → (c : Content) × MayHold (gives path) c)
     (j : JobModel) (texts : Bool) (es : List EntryModel) (may_list : lists j.path (Ok es)) (is_listing : IsListing es) where
   abbrev own_items : AsRules → List Item
-  own_items given = items_at (any_count lists gives some_count some_rules j.path) given es
+  own_items given = items_at (any_count lists gives some_content j.path) given es
 
   abbrev own_rules : AsRules
-  own_rules = any_rules lists gives some_count some_rules j.path
+  own_rules = any_rules lists gives some_content j.path
 
   abbrev there : Bool
   there = is_top j.path && has_dir (codes ".git") es
@@ -82,21 +82,21 @@ module _ (lists : List ℕ → Listings) (gives : List ℕ → Contents)
 
   git_there : (given : AsRules) → has_git j.path (own_items given) ≡ there
   git_there given =
-      ap (λ b. is_top j.path && b) (directory_items (any_count lists gives some_count some_rules j.path) given (codes ".git") es)
+      ap (λ b. is_top j.path && b) (directory_items (any_count lists gives some_content j.path) given (codes ".git") es)
 
   -- the answers that were put together may be given
   pub may_answer : (given : AsRules) → ((n : List ℕ) → MayReadRules (gives (path_in j.path n)) (given n)) → (a : Answers)
       → MayAnswerGit lists gives there a →
       MayAnswer lists gives j.path (answers given a)
   may_answer given may a git = record {
-    here = listed lists gives some_count some_rules j.path es given may may_list;
+    here = listed lists gives some_content j.path es given may may_list;
     git = λ t. git.git (sym (git_there given) ∙ t);
     info = λ t h. git.info (sym (git_there given) ∙ t) h;
   }
 
   -- and are tidy
   pub is_tidy : (given : AsRules) (a : Answers) → IsTidy (answers given a)
-  is_tidy given a = subst IsListing (sym (entries_items (any_count lists gives some_count some_rules j.path) given es)) is_listing
+  is_tidy given a = subst IsListing (sym (entries_items (any_count lists gives some_content j.path) given es)) is_listing
 
   -- what reading the rule files gives, by the two parts of it
   bytes_by : (given : AsRules) (a : Answers) (r : Result Pair FaultLineModel) → and_then (info_items there a) info_bytes ≡ r →
@@ -117,7 +117,7 @@ module _ (lists : List ℕ → Listings) (gives : List ℕ → Contents)
   pub info_refused : (u : Unlisted) → ReadsGit lists gives texts there (Err u) → EntersLevel lists gives j texts (Err u)
   info_refused (Faulted place word) (a, git, is) = (
     answers own_rules a,
-    may_answer own_rules (λ n. (some_rules (path_in j.path n)).1) a git,
+    may_answer own_rules (may_rules lists gives some_content j.path) a git,
     is_tidy own_rules a,
     fault_level own_rules a (place_path j.path place) word
         (bytes_by own_rules a (Err (record { path = place_path j.path place; word = word })) (is j.path)),
@@ -138,11 +138,11 @@ module _ (lists : List ℕ → Listings) (gives : List ℕ → Contents)
 
   abbrev OwnGiven : Result PairRead Unlisted → Type 0
   OwnGiven r = PairGiven in_directory (codes ".gitignore") (codes ".gitattributes") refl es own_rules
-      (λ n. (some_rules (path_in j.path n)).1) texts (is_top j.path) IgnoreFile AttributeFile r
+      (may_rules lists gives some_content j.path) texts (is_top j.path) IgnoreFile AttributeFile r
 
   own_given : (r : Result PairRead Unlisted) → ReadsOwn r → OwnGiven r
   own_given r reads = pair_given in_directory (codes ".gitignore") (codes ".gitattributes") refl es own_rules
-      (λ n. (some_rules (path_in j.path n)).1) texts (is_top j.path) IgnoreFile AttributeFile r reads
+      (may_rules lists gives some_content j.path) texts (is_top j.path) IgnoreFile AttributeFile r reads
 
   -- so is one of its own rule files
   pub own_refused : (info : PairRead) → ReadsGit lists gives texts there (Ok info) → (u : Unlisted) → ReadsOwn (Err u)
@@ -158,7 +158,7 @@ module _ (lists : List ℕ → Listings) (gives : List ℕ → Contents)
             (bytes_by given a (Ok i) is
             ∙ and_then_err (own_bytes j.path (own_items given)) (record { path = place_path j.path place; word = word })
             (λ o. Ok (record { info = i; own = o }))
-            (e (place_path j.path) (any_count lists gives some_count some_rules j.path))),
+            (e (place_path j.path) (any_count lists gives some_content j.path))),
       )
       at (Broken Memory) r = tt
       at (Broken TooManyDirs) r = absurd r
@@ -192,7 +192,7 @@ module _ (lists : List ℕ → Listings) (gives : List ℕ → Contents)
         read = bytes_by g.0 a (Ok i) is
             ∙ and_then_ok (own_bytes j.path (own_items g.0)) g.2.0 (λ o. Ok (record { info = i; own = o }))
             (g.2.2 (path_in j.path (codes ".gitignore")) (path_in j.path (codes ".gitattributes"))
-            (any_count lists gives some_count some_rules j.path));
+            (any_count lists gives some_content j.path));
       }
 
   -- the directory with these files, its entries and the texts of its rules
@@ -211,7 +211,7 @@ module _ (lists : List ℕ → Listings) (gives : List ℕ → Contents)
       read = r.read;
       extends = inside r.info_bytes r.own_bytes r.info_are.files r.own_are.files;
     };
-    entries = entries ∙ sym (entries_items (any_count lists gives some_count some_rules j.path) r.given es);
+    entries = entries ∙ sym (entries_items (any_count lists gives some_content j.path) r.given es);
     info_text = ap text_items info_text ∙ r.info_are.text;
     own_text = ap text_items own_text ∙ r.own_are.text;
   }

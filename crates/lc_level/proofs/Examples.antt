@@ -14,7 +14,7 @@ use Rattle.lc_rules.specs.Decision as Decision
 use Rattle.lc_level.specs.Level.{by_attribute, level_of}
 use Rattle.lc_level.specs.Selection.{selection_of_archive}
 use Rattle.lc_level.specs.TopJob.{top_job}
-use Rattle.lc_tree.specs.FileAnswers.{census}
+use Rattle.lc_level.specs.FileAnswers.{census}
 use Rattle.lc_level.specs.NodeTrees.{item_by, item_of, items_within, items_at, tree_of_node}
 use Rattle.lc_tree.specs.Listed.{listed}
 use Rattle.lc_tree.specs.MemTrees.{content_within}

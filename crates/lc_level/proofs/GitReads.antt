@@ -11,7 +11,8 @@ use Rattle.lc_level.specs.RulePairs.{IsReadOf, ReadsBoth}
 use Rattle.lc_level.specs.PlacePaths.{place_path}
 use Rattle.lc_level.specs.RuleReads.{text_if}
 use Rattle.lc_level.specs.TreeAnswers.{MayList}
-use Rattle.lc_tree.specs.Trees.{Listings, Contents, MayCount, MayReadRules}
+use Rattle.lc_tree.specs.Trees.{Listings, Content, Contents, MayHold}
+use Rattle.lc_level.specs.FileReads.{MayCount, MayReadRules}
 use Rattle.lc_level.specs.declared.rule_pair.PairRead.{PairRead}
 use Rattle.lc_level.specs.declared.unlisted.Unlisted.{Unlisted}
 use Rattle.lc_level.specs.declared.unlisted.Unlisted.TheVariants.{Faulted, Broken}
@@ -21,6 +22,7 @@ use Rattle.lc_level.specs.declared.place.Place.{Place}
 use Rattle.lc_level.specs.declared.place.Place.TheVariants.{Git, GitInfo, ExcludeFile, InfoAttributes}
 use Rattle.lc_level.proofs.GivenItems.{Counted, AsRules, items_at, entries_items, directory_items, may_items}
 use Rattle.lc_level.proofs.GivenPairs.{PairGiven, pair_given}
+use Rattle.lc_level.proofs.SomeReads.{some_count, some_rules}
 use Rattle.lc_level.proofs.Tidy.{clash}
 
 abbrev asked : Items → Items → Answers
@@ -40,13 +42,19 @@ no_files texts read e =
 
 -- what each file of the tree may give
 module _ (lists : List ℕ → Listings) (gives : List ℕ → Contents)
-    (some_count : (path : List ℕ) → (r : Result Count FaultWord) × MayCount (gives path) r)
-    (some_rules : (path : List ℕ) → (r : Result (List ℕ) FaultWord) × MayReadRules (gives path) r) where
+    (some_content : (path : List ℕ) → (c : Content) × MayHold (gives path) c) where
   abbrev pub any_count : List ℕ → Counted
-  any_count path n = (some_count (path_in path n)).0
+  any_count path n = (some_count (gives (path_in path n)) (some_content (path_in path n))).0
 
   abbrev pub any_rules : List ℕ → AsRules
-  any_rules path n = (some_rules (path_in path n)).0
+  any_rules path n = (some_rules (gives (path_in path n)) (some_content (path_in path n))).0
+
+  -- each may be counted, and read as rules, so
+  may_counts : (path n : List ℕ) → MayCount (gives (path_in path n)) (any_count path n)
+  may_counts path n = (some_count (gives (path_in path n)) (some_content (path_in path n))).1
+
+  pub may_rules : (path n : List ℕ) → MayReadRules (gives (path_in path n)) (any_rules path n)
+  may_rules path n = (some_rules (gives (path_in path n)) (some_content (path_in path n))).1
 
   -- a listing with some items
   pub listed : (path : List ℕ) (es : List EntryModel) (given : AsRules)
@@ -54,14 +62,14 @@ module _ (lists : List ℕ → Listings) (gives : List ℕ → Contents)
       MayList lists gives path (Ok (items_at (any_count path) given es))
   listed path es given may l = (
     subst (λ (ds : List EntryModel). lists path (Ok ds)) (sym (entries_items (any_count path) given es)) l,
-    may_items lists gives path (any_count path) given (λ n. (some_count (path_in path n)).1) may es,
+    may_items lists gives path (any_count path) given (may_counts path) may es,
   )
 
   abbrev git_items : List EntryModel → List Item
   git_items es = items_at (any_count (codes ".git")) (any_rules (codes ".git")) es
 
   may_git : (es : List EntryModel) → lists (codes ".git") (Ok es) → MayList lists gives (codes ".git") (Ok (git_items es))
-  may_git es l = listed (codes ".git") es (any_rules (codes ".git")) (λ n. (some_rules (path_in (codes ".git") n)).1) l
+  may_git es l = listed (codes ".git") es (any_rules (codes ".git")) (may_rules (codes ".git")) l
 
   has_info : (es : List EntryModel) → has_directory (codes "info") (git_items es) ≡ has_dir (codes "info") es
   has_info es = directory_items (any_count (codes ".git")) (any_rules (codes ".git")) (codes "info") es
@@ -144,7 +152,7 @@ module _ (lists : List ℕ → Listings) (gives : List ℕ → Contents)
 
     abbrev InfoGiven : List EntryModel → Result PairRead Unlisted → Type 0
     InfoGiven fs r = PairGiven in_info (codes "exclude") (codes "attributes") refl fs (any_rules (codes ".git/info"))
-        (λ n. (some_rules (path_in (codes ".git/info") n)).1) texts true ExcludeFile InfoAttributes r
+        (may_rules (codes ".git/info")) texts true ExcludeFile InfoAttributes r
 
     -- what its two files answered
     pub both_files : (there : Bool) (es fs : List EntryModel) (r : Result PairRead Unlisted) → there ≡ true
@@ -155,7 +163,7 @@ module _ (lists : List ℕ → Listings) (gives : List ℕ → Contents)
         ReadsGit lists gives texts there r
     both_files there es fs r e l present m reads =
         at_true there r e (at r (pair_given in_info (codes "exclude") (codes "attributes") refl fs (any_rules (codes ".git/info"))
-        (λ n. (some_rules (path_in (codes ".git/info") n)).1) texts true ExcludeFile InfoAttributes r reads))
+        (may_rules (codes ".git/info")) texts true ExcludeFile InfoAttributes r reads))
       where
         may : (given : AsRules) → ((n : List ℕ) → MayReadRules (in_info n) (given n))
             → MayAnswerGit lists gives true (asked (Ok (git_items es)) (info_of fs given))

@@ -7,7 +7,8 @@ use Rattle.lc_level.specs.FaultLines.{FaultLineModel}
 use Rattle.lc_level.specs.RuleFiles.{Pair, file_named, both_read}
 use Rattle.lc_level.specs.RulePairs.{IsReadOf, ReadsBoth}
 use Rattle.lc_level.specs.RuleReads.{MayGive}
-use Rattle.lc_tree.specs.Trees.{Contents, MayReadRules}
+use Rattle.lc_tree.specs.Trees.{Contents}
+use Rattle.lc_level.specs.FileReads.{MayReadRules}
 use Rattle.lc_level.specs.declared.rule_pair.PairRead.{PairRead}
 use Rattle.lc_level.specs.declared.unlisted.Unlisted.{Unlisted}
 use Rattle.lc_level.specs.declared.unlisted.Unlisted.TheVariants.{Faulted, Broken}

@@ -6,6 +6,7 @@ pub mod Depths
 pub mod EnterLevels
 pub mod Examples
 pub mod Fates
+pub mod FileAnswers
 pub mod GitReads
 pub mod GivenItems
 pub mod GivenPairs
@@ -13,7 +14,9 @@ pub mod NodeTrees
 pub mod OneLevel
 pub mod OpenLevels
 pub mod PassedOn
+pub mod ReadOnce
 pub mod Rooms
 pub mod RuleParsing
 pub mod Selecting
+pub mod SomeReads
 pub mod Tidy

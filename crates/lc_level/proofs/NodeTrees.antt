@@ -12,20 +12,21 @@ use Rattle.lc_level.specs.Answers.{Item, entry_of, entries_of, Items}
 use Rattle.lc_level.specs.NodeTrees.{item_by, item_of, items_within, items_at, tree_of_node}
 use Rattle.lc_level.specs.RuleFiles.{has_git}
 use Rattle.lc_level.specs.TreeAnswers.{MayHave, MayList, MayAnswer, items_of}
-use Rattle.lc_tree.specs.FileAnswers.{counted, read_as_rules}
+use Rattle.lc_level.specs.FileAnswers.{counted, read_as_rules}
 use Rattle.lc_tree.specs.Listed.{listed}
 use Rattle.lc_tree.specs.Listing.{EntryModel, have_good_names, HaveDistinctNames, IsListing}
-use Rattle.lc_tree.specs.MemTrees.{Content, GivesContent, content_of, IsAnswerFor, ListsWithin, ListsNode, mem_lists, mem_gives}
+use Rattle.lc_tree.specs.MemTrees.{content_of, IsAnswerFor, ListsWithin, ListsNode, mem_lists, mem_gives}
+use Rattle.lc_tree.specs.Trees.{Content, GivesContent}
 use Rattle.lc_tree.specs.Nodes.{Child, child_among, child_of, child_within, kind_of, node_below, node_at}
 use Rattle.lc_tree.specs.Paths.{names_of_path}
 use Rattle.lc_tree.specs.Nodes as nodes
-use Rattle.lc_tree.specs.Trees.{MayCount, MayReadRules}
+use Rattle.lc_level.specs.FileReads.{MayCount, MayReadRules}
 use Rattle.lc_tree.specs.declared.entry.Kind.{Kind}
 use Rattle.lc_tree.specs.declared.entry.Kind.TheVariants.{File, Dir, Other}
 use Rattle.lc_tree.specs.declared.fault_word.FaultWord.{FaultWord}
 use Rattle.lc_tree.specs.declared.node.Node.{Node, out-Node}
 use Rattle.lc_tree.specs.declared.node.Node.TheOpen.{Node-F}
-use Rattle.lc_tree.proofs.FileAnswers.{may_count, may_read_rules}
+use Rattle.lc_level.proofs.FileAnswers.{may_count, may_read_rules}
 use Rattle.lc_tree.proofs.Listed.{ItemsFor, listed_is, all_listed}
 use Rattle.lc_tree.proofs.NodesIn.{node_in, each_found}
 

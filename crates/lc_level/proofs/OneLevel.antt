@@ -3,7 +3,8 @@ use Rattle.std.proofs.Common.{◌≡◌, ℕ, Bool, true, false, List, [], ◌�
 use Rattle.std.specs.List.{AllByRecursion}
 use Rattle.lc_glob.specs.Path.{path_in}
 use Rattle.lc_tree.specs.Listing.{EntryModel}
-use Rattle.lc_tree.specs.Trees.{Listings, Contents, MayCount, MayReadRules}
+use Rattle.lc_tree.specs.Trees.{Listings, Contents}
+use Rattle.lc_level.specs.FileReads.{MayCount, MayReadRules}
 use Rattle.lc_tree.specs.declared.entry.Kind.{Kind}
 use Rattle.lc_tree.specs.declared.entry.Kind.TheVariants.{File, Dir, Other}
 use Rattle.lc_tree.specs.declared.fault_word.FaultWord.{FaultWord}

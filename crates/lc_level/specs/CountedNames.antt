@@ -5,7 +5,8 @@ use Rattle.lc_census.specs.declared.totals.Count.{Count}
 use Rattle.lc_glob.specs.Path.{path_in}
 use Rattle.lc_level.specs.Job.{JobModel}
 use Rattle.lc_level.specs.Level.{Fate, FileFaultModel, file_fate, counted_of, failed_of, counted_in, failed_in}
-use Rattle.lc_tree.specs.Trees.{Contents, MayCount}
+use Rattle.lc_tree.specs.Trees.{Contents}
+use Rattle.lc_level.specs.FileReads.{MayCount}
 use Rattle.lc_level.specs.declared.counting.CountedFiles.{CountedFiles}
 use Rattle.lc_tree.specs.declared.fault_word.FaultWord.{FaultWord}
 

@@ -12,7 +12,7 @@ use Rattle.lc_level.specs.Level.{counted_in, failed_in, walked_in, left_in}
 use Rattle.lc_level.specs.NodeTrees.{tree_of_node}
 use Rattle.lc_level.specs.Selection.{selection_of_archive}
 use Rattle.lc_level.specs.TopJob.{top_job}
-use Rattle.lc_tree.specs.FileAnswers.{census}
+use Rattle.lc_level.specs.FileAnswers.{census}
 use Rattle.lc_tree.specs.Nodes.{Child}
 use Rattle.lc_tree.specs.declared.entry.Kind.TheVariants.{File, Other}
 use Rattle.lc_tree.specs.declared.fault_word.FaultWord.TheVariants.{Read, Name}

@@ -1,6 +1,15 @@
 -- What an open and a reading of one file answers.
-use Rattle.std.specs.Prelude.{Result, Ok, Err}
+use Rattle.std.specs.Prelude.{◌≡◌, ℕ, ◌≤◌, ◌<◌, ◌^◌, List, length, Result, Ok, Err}
+use Rattle.std.specs.List.{concat}
+use Rattle.lc_census.specs.Census.{IsCensus}
+use Rattle.lc_census.specs.Reads.{at_end, at_failure, at_neither}
+use Rattle.lc_census.specs.declared.totals.Count.{Count}
+use Rattle.lc_tree.specs.MemTrees.{mem_gives}
+use Rattle.lc_tree.specs.OneAnswer.{content_at}
+use Rattle.lc_tree.specs.Trees.{Contents}
 use Rattle.lc_tree.specs.declared.fault_word.FaultWord.{FaultWord}
+use Rattle.lc_tree.specs.declared.fault_word.FaultWord.TheVariants as word
+use Rattle.lc_tree.specs.declared.node.Node.{Node}
 use Rattle.lc_level.specs.declared.unread.Unread.{Unread}
 use Rattle.lc_level.specs.declared.unread.Unread.TheVariants as unread
 
@@ -9,3 +18,36 @@ abbrev pub IsAnswer : {A B : Type 0} → (Result A FaultWord → Type 0) → (B 
 IsAnswer may view (Ok x) = may (Ok (view x))
 IsAnswer may view (Err (unread.Fault word)) = may (Err word)
 IsAnswer may view (Err unread.Memory) = Unit {0}
+
+-- what counting a file of these contents may give: its census, a failed read, or no end within 2^32 reads
+abbrev pub MayCount : Contents → Result Count FaultWord → Type 0
+MayCount gives (Ok count) = (pieces : List (List ℕ)) × gives pieces at_end × IsCensus (concat pieces) count
+MayCount gives (Err word.Read) = (pieces : List (List ℕ)) × gives pieces at_failure
+MayCount gives (Err word.Endless) = (pieces : List (List ℕ)) × gives pieces at_neither × (length pieces ≡ 2 ^ 32)
+MayCount gives (Err word.Name) = ⊥
+MayCount gives (Err word.Twice) = ⊥
+MayCount gives (Err word.Many) = ⊥
+MayCount gives (Err word.Long) = ⊥
+MayCount gives (Err word.Absent) = ⊥
+
+-- what reading it as rules may give: its bytes, a failed read before they are too many, or one byte more than a rule file may have
+abbrev pub MayReadRules : Contents → Result (List ℕ) FaultWord → Type 0
+MayReadRules gives (Ok bytes) = (pieces : List (List ℕ)) × gives pieces at_end × (concat pieces ≡ bytes) × (length bytes ≤ 1048576)
+MayReadRules gives (Err word.Read) = (pieces : List (List ℕ)) × gives pieces at_failure × (length (concat pieces) ≤ 1048576)
+MayReadRules gives (Err word.Long) = (pieces : List (List ℕ)) × gives pieces at_neither × (length (concat pieces) ≡ 1048577)
+MayReadRules gives (Err word.Endless) = ⊥
+MayReadRules gives (Err word.Name) = ⊥
+MayReadRules gives (Err word.Twice) = ⊥
+MayReadRules gives (Err word.Many) = ⊥
+MayReadRules gives (Err word.Absent) = ⊥
+
+-- a file of memory of under 2^32 bytes, which as many reads can't leave unfinished, is counted in one way
+abbrev pub CountsOnce : Type 0
+CountsOnce =
+    (top : Node) (path : List ℕ) (a b : Result Count FaultWord) → length (content_at top path).bytes < 2 ^ 32
+    → MayCount (mem_gives top path) a → MayCount (mem_gives top path) b → a ≡ b
+
+-- a file of memory is read as rules in one way
+abbrev pub ReadsRulesOnce : Type 0
+ReadsRulesOnce = (top : Node) (path : List ℕ) (a b : Result (List ℕ) FaultWord) → MayReadRules (mem_gives top path) a
+    → MayReadRules (mem_gives top path) b → a ≡ b

@@ -1,9 +1,10 @@
 -- The tree that a node of memory stands for: its answers at each place, as values.
 use Rattle.std.specs.Prelude.{ℕ, List, [], ◌∷◌, ◌++◌, map, Option, Some, None, Err, codes}
 use Rattle.lc_level.specs.Answers.{Item, file_item, directory_item, other_item, entry_of, Items, Tree}
-use Rattle.lc_tree.specs.FileAnswers.{counted, read_as_rules}
+use Rattle.lc_level.specs.FileAnswers.{counted, read_as_rules}
 use Rattle.lc_tree.specs.Listed.{listed}
-use Rattle.lc_tree.specs.MemTrees.{Content, content_of}
+use Rattle.lc_tree.specs.MemTrees.{content_of}
+use Rattle.lc_tree.specs.Trees.{Content}
 use Rattle.lc_tree.specs.Nodes.{Child, kind_of, node_below}
 use Rattle.lc_tree.specs.declared.entry.Kind.{Kind}
 use Rattle.lc_tree.specs.declared.entry.Kind.TheVariants.{File, Dir, Other}

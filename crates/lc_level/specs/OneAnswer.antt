@@ -5,7 +5,8 @@ use Rattle.lc_tree.specs.Listing.{EntryModel}
 use Rattle.lc_tree.specs.MemTrees.{mem_lists, mem_gives}
 use Rattle.lc_tree.specs.Paths.{names_of_path}
 use Rattle.lc_tree.specs.OneAnswer.{content_at}
-use Rattle.lc_tree.specs.Trees.{Listings, Contents, MayCount, MayReadRules}
+use Rattle.lc_tree.specs.Trees.{Listings, Contents}
+use Rattle.lc_level.specs.FileReads.{MayCount, MayReadRules}
 use Rattle.lc_tree.specs.declared.fault_word.FaultWord.{FaultWord}
 use Rattle.lc_tree.specs.declared.node.Node.{Node}
 use Rattle.lc_level.specs.Answers.{Answers}

@@ -4,7 +4,8 @@ use Rattle.std.specs.List.{AllByRecursion}
 use Rattle.lc_level.specs.Answers.{Item, file_item, directory_item, other_item, Items, Answers, entries_of}
 use Rattle.lc_glob.specs.Path.{path_in}
 use Rattle.lc_level.specs.RuleFiles.{has_directory, has_git}
-use Rattle.lc_tree.specs.Trees.{Listings, Contents, MayCount, MayReadRules}
+use Rattle.lc_tree.specs.Trees.{Listings, Contents}
+use Rattle.lc_level.specs.FileReads.{MayCount, MayReadRules}
 
 -- the items, if there are any
 abbrev pub items_of : Items → List Item

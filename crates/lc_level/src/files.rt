@@ -1,8 +1,7 @@
 //! Opening one file, to count it or to read it as rules.
 ghost use Rattle.std.specs.Prelude.{◌≡◌, ◌<◌, ◌≤◌, ℕ, List, Ok, length};
 ghost use Rattle.lc_census.specs.Limits.{buffer_len};
-ghost use Rattle.lc_level.specs.FileReads.{IsAnswer};
-ghost use Rattle.lc_tree.specs.Trees.{MayCount, MayReadRules};
+ghost use Rattle.lc_level.specs.FileReads.{IsAnswer, MayCount, MayReadRules};
 
 use crate::level_reader::LevelReader;
 use crate::unread::Unread;

@@ -1,10 +1,11 @@
 //! Laws of one directory's work. The functions do nothing: their contracts are what is proved.
 ghost use Rattle.lc_level.specs.Examples.{ExamplesHold};
+ghost use Rattle.lc_level.specs.FileReads.{CountsOnce, ReadsRulesOnce};
 ghost use Rattle.lc_level.specs.Laws.{ArchiveLaw, CountedLaw, OpenedLaw};
 ghost use Rattle.lc_level.specs.OneAnswer.{MemoryLaw, NodeAnswersLaw, NodeLevelsLaw, NodeTidyLaw, OneLevelLaw};
 
 use lc_census::bytes_have_one_cutting;
-use lc_tree::{Tree, trees_of_memory_answer_once};
+use lc_tree::{Tree, trees_of_memory_list_once};
 use std::alloc::Global;
 
 /// What opening a directory and counting its files answer is its level.
@@ -27,11 +28,20 @@ pub fn one_answer_is_one_level<T: Tree>(tree: &T)
     let _tree = tree;
 }
 
+/// A file of a tree of memory is read as rules in one way, and counted in one way where it has under 2^32 bytes.
+pub fn files_of_memory_are_read_once()
+    ensures counts { CountsOnce }
+    ensures rules { ReadsRulesOnce }
+{
+    bytes_have_one_cutting();
+}
+
 /// A tree of memory answers each question in one way, where each of its files has under 4 GiB.
 pub fn trees_of_memory_give_one()
     ensures { MemoryLaw }
 {
-    trees_of_memory_answer_once();
+    trees_of_memory_list_once();
+    files_of_memory_are_read_once();
 }
 
 /// A node of memory stands for one tree, given as a value: its answers are some that a tree of memory may give, and where each

@@ -46,7 +46,8 @@ pub use entering::{Entered, RuleTexts};
 pub use job::Job;
 pub use laws::{
     a_node_is_one_tree, an_archive_is_without_export_ignore, examples_hold,
-    one_answer_is_one_level, trees_of_memory_give_one, work_is_a_level,
+    files_of_memory_are_read_once, one_answer_is_one_level, trees_of_memory_give_one,
+    work_is_a_level,
 };
 pub use left_in::ChildDirectory;
 pub use level_reader::{Kept, LevelReader};

@@ -3,7 +3,8 @@ use Rattle.std.proofs.Common.{◌≡◌, ◌≢◌, ℕ, zero, suc, ◌<◌, Lis
 use Rattle.std.specs.List.{concat}
 use Rattle.std.proofs.lemmas.List.{take-append-drop}
 use Rattle.lc_census.specs.Reads.{AnyRoom, Reads, Stop, at_end, at_failure, at_neither}
-use Rattle.lc_tree.specs.MemTrees.{Content, GivesContent, ReadsContent}
+use Rattle.lc_tree.specs.MemTrees.{ReadsContent}
+use Rattle.lc_tree.specs.Trees.{Content, GivesContent}
 
 -- where no byte is given into some room, none is left
 none_left : (room : ℕ) (bytes : List ℕ) → 0 < room → [] ≡ take room bytes → bytes ≡ []

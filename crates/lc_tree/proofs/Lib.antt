@@ -1,6 +1,5 @@
 pub mod Contents
 pub mod Entries
-pub mod FileAnswers
 pub mod Listed
 pub mod NodesIn
 pub mod OneAnswer

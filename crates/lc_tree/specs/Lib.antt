@@ -1,7 +1,7 @@
 pub mod ByteOrder
+pub mod FailingContents
 pub mod FailingTrees
 pub mod FaultWords
-pub mod FileAnswers
 pub mod Kinds
 pub mod Listed
 pub mod Listing
@@ -9,7 +9,6 @@ pub mod MemTrees
 pub mod Nodes
 pub mod OneAnswer
 pub mod Paths
-pub mod SomeAnswers
 pub mod SysTrees
 pub mod TreeFaults
 pub mod Trees

@@ -1,11 +1,9 @@
 -- The answers of a tree of memory: one listing and one content for each path.
-use Rattle.std.specs.Prelude.{◌≡◌, ◌≢◌, ℕ, Bool, true, false, List, [], ◌++◌, take, drop, map, Option, Some, None, Result, Ok, Err}
-use Rattle.std.specs.Prelude.{IsTrue, IsFalse}
-use Rattle.std.specs.List.{concat, AllByRecursion}
-use Rattle.lc_census.specs.Reads.{Answer, gave, failed, at_end, at_failure, at_neither}
+use Rattle.std.specs.Prelude.{◌≡◌, ℕ, true, false, List, [], take, drop, map, Option, Some, None, Result, Ok, Err, IsTrue, IsFalse}
+use Rattle.lc_census.specs.Reads.{Answer, gave, failed}
 use Rattle.lc_tree.specs.Listing.{EntryModel, IsListingOf, IsRefusedBy}
 use Rattle.lc_tree.specs.Nodes.{entry_of, node_at}
-use Rattle.lc_tree.specs.Trees.{Listings, Contents}
+use Rattle.lc_tree.specs.Trees.{Listings, Contents, Content, GivesContent}
 use Rattle.lc_tree.specs.declared.fault_word.FaultWord.{FaultWord}
 use Rattle.lc_tree.specs.declared.fault_word.FaultWord.TheVariants.{Read, Name, Twice, Many, Long, Endless, Absent}
 use Rattle.lc_tree.specs.declared.listing.ListingFault.TheVariants.{BadName, TooMany}
@@ -36,11 +34,6 @@ abbrev pub ListsNode : Option Node → Listings
 ListsNode None answer = answer ≡ Err Read
 ListsNode (Some node) answer = ListsWithin (out-Node node) answer
 
--- the bytes of a file, and whether it fails in place of its end
-pub record Content : Type 0 where
-  pub bytes : List ℕ
-  pub fails : Bool
-
 -- what can't be opened is a file that fails at once
 abbrev pub nothing : Content
 nothing = record { bytes = []; fails = true }
@@ -55,16 +48,6 @@ content_within Node-F.Other = nothing
 abbrev pub content_of : Option Node → Content
 content_of None = nothing
 content_of (Some node) = content_within (out-Node node)
-
--- none of the pieces is empty
-abbrev pub AreSome : List (List ℕ) → Type 0
-AreSome pieces = AllByRecursion (λ piece. piece ≢ []) pieces
-
--- what reads give of these bytes: all of them in pieces, none empty, and then how they stop; or a part
-abbrev pub GivesContent : Content → Contents
-GivesContent content pieces at_end = AreSome pieces × (concat pieces ≡ content.bytes) × IsFalse content.fails
-GivesContent content pieces at_failure = AreSome pieces × (concat pieces ≡ content.bytes) × IsTrue content.fails
-GivesContent content pieces at_neither = AreSome pieces × ((rest : List ℕ) × (concat pieces ++ rest ≡ content.bytes))
 
 -- what one read may give of what is left: its first bytes, as many as the buffer holds, or a failure where none is left
 abbrev pub ReadsContent : Content → ℕ → Answer → Content → Type 0

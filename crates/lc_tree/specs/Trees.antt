@@ -1,9 +1,7 @@
 -- What the calls of a tree answer.
-use Rattle.std.specs.Prelude.{◌≡◌, ℕ, ◌≤◌, ◌^◌, List, [], length, Option, Some, None, Result, Ok, Err, IfSome, MatchResult}
-use Rattle.std.specs.List.{concat}
-use Rattle.lc_census.specs.Census.{IsCensus}
+use Rattle.std.specs.Prelude.{◌≡◌, ◌≢◌, ℕ, Bool, List, [], ◌++◌, Option, Some, None, Result, Ok, Err, IfSome, MatchResult, IsTrue, IsFalse}
+use Rattle.std.specs.List.{concat, AllByRecursion}
 use Rattle.lc_census.specs.Reads.{Answer, AnyRoom, Stop, at_end, at_failure, at_neither, Reads}
-use Rattle.lc_census.specs.declared.totals.Count.{Count}
 use Rattle.lc_tree.specs.Listing.{EntryModel}
 use Rattle.lc_tree.specs.declared.fault_word.FaultWord.{FaultWord}
 use Rattle.lc_tree.specs.declared.fault_word.FaultWord.TheVariants as word
@@ -49,24 +47,21 @@ IsOpenFault gives fault.Memory = Unit {0}
 abbrev pub Opens : {F : Type 0} → (F → ℕ → Answer → F → Type 0) → Contents → Result F ReadFault → Type 0
 Opens may_give gives answer = MatchResult answer (GivesOnly may_give gives) (IsOpenFault gives)
 
--- what counting a file of these contents may give: its census, a failed read, or no end within 2^32 reads
-abbrev pub MayCount : Contents → Result Count FaultWord → Type 0
-MayCount gives (Ok count) = (pieces : List (List ℕ)) × gives pieces at_end × IsCensus (concat pieces) count
-MayCount gives (Err word.Read) = (pieces : List (List ℕ)) × gives pieces at_failure
-MayCount gives (Err word.Endless) = (pieces : List (List ℕ)) × gives pieces at_neither × (length pieces ≡ 2 ^ 32)
-MayCount gives (Err word.Name) = ⊥
-MayCount gives (Err word.Twice) = ⊥
-MayCount gives (Err word.Many) = ⊥
-MayCount gives (Err word.Long) = ⊥
-MayCount gives (Err word.Absent) = ⊥
+-- the bytes of a file, and whether it fails in place of its end
+pub record Content : Type 0 where
+  pub bytes : List ℕ
+  pub fails : Bool
 
--- what reading it as rules may give: its bytes, a failed read before they are too many, or one byte more than a rule file may have
-abbrev pub MayReadRules : Contents → Result (List ℕ) FaultWord → Type 0
-MayReadRules gives (Ok bytes) = (pieces : List (List ℕ)) × gives pieces at_end × (concat pieces ≡ bytes) × (length bytes ≤ 1048576)
-MayReadRules gives (Err word.Read) = (pieces : List (List ℕ)) × gives pieces at_failure × (length (concat pieces) ≤ 1048576)
-MayReadRules gives (Err word.Long) = (pieces : List (List ℕ)) × gives pieces at_neither × (length (concat pieces) ≡ 1048577)
-MayReadRules gives (Err word.Endless) = ⊥
-MayReadRules gives (Err word.Name) = ⊥
-MayReadRules gives (Err word.Twice) = ⊥
-MayReadRules gives (Err word.Many) = ⊥
-MayReadRules gives (Err word.Absent) = ⊥
+-- none of the pieces is empty
+abbrev pub AreSome : List (List ℕ) → Type 0
+AreSome pieces = AllByRecursion (λ piece. piece ≢ []) pieces
+
+-- what reads give of these bytes: all of them in pieces, none empty, and then how they stop; or a part
+abbrev pub GivesContent : Content → Contents
+GivesContent content pieces at_end = AreSome pieces × (concat pieces ≡ content.bytes) × IsFalse content.fails
+GivesContent content pieces at_failure = AreSome pieces × (concat pieces ≡ content.bytes) × IsTrue content.fails
+GivesContent content pieces at_neither = AreSome pieces × ((rest : List ℕ) × (concat pieces ++ rest ≡ content.bytes))
+
+-- a file may have this content: its reads may give what is given of it
+abbrev pub MayHold : Contents → Content → Type 0
+MayHold gives content = (pieces : List (List ℕ)) (stop : Stop) → GivesContent content pieces stop → gives pieces stop

@@ -26,7 +26,7 @@ pub mod trials;
 
 pub use entry::{Entry, Kind};
 pub use fault_word::FaultWord;
-pub use laws::{the_limit_is_this_number, trees_of_memory_answer_once};
+pub use laws::{the_limit_is_this_number, trees_of_memory_list_once};
 pub use listing::{Listing, ListingFault, MAX_ENTRIES};
 pub use mem_file::MemFile;
 pub use mem_tree::MemTree;

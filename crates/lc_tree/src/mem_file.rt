@@ -16,7 +16,7 @@ pub struct MemFile<'a> {
 }
 
 impl<'a> Model for MemFile<'a> {
-    ghost use Rattle.lc_tree.specs.MemTrees.{Content};
+    ghost use Rattle.lc_tree.specs.Trees.{Content};
 
     ghost Value = { Content };
 

@@ -62,7 +62,6 @@ impl<'a> Tree for MemTree<'a> {
 
     ghost use Rattle.lc_tree.specs.MemTrees.{content_of, mem_lists, mem_gives};
     ghost use Rattle.lc_tree.specs.Nodes.{node_at};
-    ghost use Rattle.lc_tree.specs.SomeAnswers.{some_count, some_rules};
 
     ghost lists = { mem_lists };
 
@@ -90,7 +89,5 @@ impl<'a> Tree for MemTree<'a> {
         }
     }
 
-    ghost some_count = { λ t path. some_count (content_of (node_at t path)) };
-
-    ghost some_rules = { λ t path. some_rules (content_of (node_at t path)) };
+    ghost some_content = { λ t path. (content_of (node_at t path), λ pieces stop given. given) };
 }

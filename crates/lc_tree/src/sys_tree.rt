@@ -86,10 +86,8 @@ where
 {
     type File = StdSource<R::File>;
 
-    ghost use Rattle.std.specs.Prelude.{[], Err, refl};
-    ghost use Rattle.std.proofs.Common.{lit≤};
+    ghost use Rattle.lc_tree.specs.MemTrees.{nothing};
     ghost use Rattle.lc_tree.specs.SysTrees.{AnyListing, AnyContents};
-    ghost use Rattle.lc_tree.specs.declared.fault_word.FaultWord.TheVariants.{Read};
 
     ghost lists = { λ t path. AnyListing };
 
@@ -114,7 +112,5 @@ where
         }
     }
 
-    ghost some_count = { λ t path. (Err Read, ([], tt)) };
-
-    ghost some_rules = { λ t path. (Err Read, ([], tt, lit≤ tt)) };
+    ghost some_content = { λ t path. (nothing, λ pieces stop given. tt) };
 }

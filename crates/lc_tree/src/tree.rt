@@ -1,8 +1,6 @@
 //! The trait of trees of directories and files.
-ghost use Rattle.std.specs.Prelude.{ℕ, List, Result};
-ghost use Rattle.lc_census.specs.declared.totals.Count.{Count};
-ghost use Rattle.lc_tree.specs.Trees.{Listings, Contents, Lists, Opens, MayCount, MayReadRules};
-ghost use Rattle.lc_tree.specs.declared.fault_word.FaultWord.{FaultWord};
+ghost use Rattle.std.specs.Prelude.{ℕ, List};
+ghost use Rattle.lc_tree.specs.Trees.{Content, Contents, Listings, Lists, MayHold, Opens};
 
 use crate::{Listing, ReadFault};
 use lc_census::Source;
@@ -30,8 +28,6 @@ pub trait Tree: Sync {
     fn open_file(&self, alloc: Global, path: &[u8]) -> Result<Self::File, ReadFault>
         ensures { Opens Self.File.may_give (gives self.now path.now) result };
 
-    // Each file may be counted, and read as rules, in some way.
-    ghost some_count: { (t : Self) (path : List ℕ) → (r : Result Count FaultWord) × MayCount (gives t path) r };
-
-    ghost some_rules: { (t : Self) (path : List ℕ) → (r : Result (List ℕ) FaultWord) × MayReadRules (gives t path) r };
+    // Each file may be read in some way.
+    ghost some_content: { (t : Self) (path : List ℕ) → (c : Content) × MayHold (gives t path) c };
 }

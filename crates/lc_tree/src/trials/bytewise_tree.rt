@@ -32,7 +32,5 @@ impl<T: Tree> Tree for BytewiseTree<T> {
         }
     }
 
-    ghost some_count = { λ t path. T.some_count t.0 path };
-
-    ghost some_rules = { λ t path. T.some_rules t.0 path };
+    ghost some_content = { λ t path. T.some_content t.0 path };
 }

@@ -24,10 +24,8 @@ pub struct FailingTree<'a, T> {
 impl<'a, T: Tree> Tree for FailingTree<'a, T> {
     type File = FailingFile<'a, T::File>;
 
-    ghost use Rattle.std.specs.Prelude.{[], Err};
-    ghost use Rattle.std.proofs.Common.{lit≤};
     ghost use Rattle.lc_tree.specs.FailingTrees.{ListsOrFails, GivesOrFails};
-    ghost use Rattle.lc_tree.specs.declared.fault_word.FaultWord.TheVariants.{Read};
+    ghost use Rattle.lc_tree.specs.FailingContents.{held_or_fails};
 
     ghost lists = { λ t path. ListsOrFails (T.lists t.tree.now path) };
 
@@ -53,7 +51,5 @@ impl<'a, T: Tree> Tree for FailingTree<'a, T> {
         }
     }
 
-    ghost some_count = { λ t path. (Err Read, ([], tt)) };
-
-    ghost some_rules = { λ t path. (Err Read, ([], tt, lit≤ tt)) };
+    ghost some_content = { λ t path. held_or_fails (T.gives t.tree.now path) (T.some_content t.tree.now path) };
 }

@@ -41,7 +41,6 @@ impl<'a> Tree for Gate<'a> {
 
     ghost use Rattle.lc_tree.specs.MemTrees.{content_of, mem_gives};
     ghost use Rattle.lc_tree.specs.Nodes.{node_at};
-    ghost use Rattle.lc_tree.specs.SomeAnswers.{some_count, some_rules};
     ghost use Rattle.lc_tree.specs.SysTrees.{AnyListing};
 
     ghost lists = { λ t path. AnyListing };
@@ -59,9 +58,7 @@ impl<'a> Tree for Gate<'a> {
         self.tree.open_file(alloc, path)
     }
 
-    ghost some_count = { λ t path. some_count (content_of (node_at t.tree path)) };
-
-    ghost some_rules = { λ t path. some_rules (content_of (node_at t.tree path)) };
+    ghost some_content = { λ t path. (content_of (node_at t.tree path), λ pieces stop given. given) };
 }
 
 const ONE: Sketch = Sketch::Dir(&[(b"f", Sketch::File(b"1\n"))]);

@@ -53,7 +53,7 @@ returns-in_err-info-clause-enters g c =
     let is : IsListing c.in_ok-listing.listing = subst IsListing same c.entries.ensures.listing in
     passed_on (EntersLevel lists gives c.args.job.now texts) c.from_residual-in_err-info.result c.in_err-info.field-0.0
     c.from_residual-in_err-info.ensures.1
-    (info_refused lists gives (law.some_count c.args.self.now.tree.now) (law.some_rules c.args.self.now.tree.now) c.args.job.now texts
+    (info_refused lists gives (law.some_content c.args.self.now.tree.now) c.args.job.now texts
     c.in_ok-listing.listing
     (subst (λ (p : List ℕ). lists p (Ok c.in_ok-listing.listing)) c.path-path.ensures c.in_ok-listing.ensures) is c.in_err-info.field-0.0
     (git_of lists gives texts c.path-path.result.now c.args.job.now.path c.entries.result.now c.in_ok-listing.listing
@@ -70,7 +70,7 @@ returns-in_err-own-clause-enters g c =
     let is : IsListing c.in_ok-listing.listing = subst IsListing same c.entries.ensures.listing in
     passed_on (EntersLevel lists gives c.args.job.now texts) c.from_residual-in_err-own.result c.in_err-own.field-0.0
     c.from_residual-in_err-own.ensures.1
-    (own_refused lists gives (law.some_count c.args.self.now.tree.now) (law.some_rules c.args.self.now.tree.now) c.args.job.now texts
+    (own_refused lists gives (law.some_content c.args.self.now.tree.now) c.args.job.now texts
     c.in_ok-listing.listing
     (subst (λ (p : List ℕ). lists p (Ok c.in_ok-listing.listing)) c.path-path.ensures c.in_ok-listing.ensures) is c.in_ok-info.info
     (git_of lists gives texts c.path-path.result.now c.args.job.now.path c.entries.result.now c.in_ok-listing.listing
@@ -96,7 +96,7 @@ returns-clause-enters g c =
     c.in_ok-info.ensures in
     let own = own_of gives texts c.path-path.result.now j.path c.entries-2.result.now es (Ok c.in_ok-own.own) c.path-path.ensures again
     c.in_ok-own.ensures.read in
-    let read = has_read lists gives (law.some_count c.args.self.now.tree.now) (law.some_rules c.args.self.now.tree.now) j texts es here is
+    let read = has_read lists gives (law.some_content c.args.self.now.tree.now) j texts es here is
     c.in_ok-info.info c.in_ok-own.own git own in
-    entered lists gives (law.some_count c.args.self.now.tree.now) (law.some_rules c.args.self.now.tree.now) j texts es here is
+    entered lists gives (law.some_content c.args.self.now.tree.now) j texts es here is
     c.in_ok-info.info c.in_ok-own.own read _ c.in-Ok.ensures.files moved refl refl

@@ -14,8 +14,7 @@ returns-then-not-has_dir g c =
     let texts = c.args.self.now.kept.texts in
     let law = g.met.T.Tree g.world.𝓛 g.world.𝓜 g.world.𝓡 ((λ s x. x), (λ x. x), (λ x. x), λ x. x) in
     let absent : has_dir (codes ".git") c.args.entries.now ≡ false = cc in
-    no_git (g.T.Tree.lists c.args.self.now.tree.now) (g.T.Tree.gives c.args.self.now.tree.now) (law.some_count c.args.self.now.tree.now)
-    (law.some_rules c.args.self.now.tree.now)
+    no_git (g.T.Tree.lists c.args.self.now.tree.now) (g.T.Tree.gives c.args.self.now.tree.now) (law.some_content c.args.self.now.tree.now)
     texts (has_dir (codes ".git") c.args.entries.now) c.none.result absent c.none.ensures
 
 pub returns-in_err-git : goal.returns-in_err-git
@@ -27,7 +26,7 @@ returns-in_err-git g c =
     let git = has_dir (codes ".git") c.args.entries.now in
     let there : git ≡ true = cc in
     passed_on (ReadsGit lists gives texts git) c.from_residual.result c.in_err-git.field-0.0 c.from_residual.ensures.1
-    (git_refused lists gives (law.some_count c.args.self.now.tree.now) (law.some_rules c.args.self.now.tree.now) texts git
+    (git_refused lists gives (law.some_content c.args.self.now.tree.now) texts git
     c.in_err-git.field-0.0 there
     c.in_err-git.ensures)
 
@@ -37,8 +36,7 @@ returns-then-not-has_dir-2 g c =
     let law = g.met.T.Tree g.world.𝓛 g.world.𝓜 g.world.𝓡 ((λ s x. x), (λ x. x), (λ x. x), λ x. x) in
     let there : has_dir (codes ".git") c.args.entries.now ≡ true = cc in
     let absent : has_dir (codes "info") c.in_ok-git.git ≡ false = cc in
-    no_info (g.T.Tree.lists c.args.self.now.tree.now) (g.T.Tree.gives c.args.self.now.tree.now) (law.some_count c.args.self.now.tree.now)
-    (law.some_rules c.args.self.now.tree.now)
+    no_info (g.T.Tree.lists c.args.self.now.tree.now) (g.T.Tree.gives c.args.self.now.tree.now) (law.some_content c.args.self.now.tree.now)
     texts (has_dir (codes ".git") c.args.entries.now) c.in_ok-git.git c.none-then-not-has_dir-2.result there c.in_ok-git.ensures absent
     c.none-then-not-has_dir-2.ensures
 
@@ -53,7 +51,7 @@ returns-in_err-info g c =
     let present : has_dir (codes "info") c.in_ok-git.git ≡ true = cc in
     passed_on (ReadsGit lists gives texts git) c.from_residual-in_err-info.result c.in_err-info.field-0.0
     c.from_residual-in_err-info.ensures.1
-    (info_refused lists gives (law.some_count c.args.self.now.tree.now) (law.some_rules c.args.self.now.tree.now) texts git c.in_ok-git.git
+    (info_refused lists gives (law.some_content c.args.self.now.tree.now) texts git c.in_ok-git.git
     c.in_err-info.field-0.0
     there c.in_ok-git.ensures present c.in_err-info.ensures)
 
@@ -72,8 +70,7 @@ returns g c =
     (has_file (codes "exclude") c.entries-2.result.now) (has_file (codes "attributes") c.entries-2.result.now) true ExcludeFile
     InfoAttributes c.read_pair.result)
     c.in-Ok.ensures c.read_pair.ensures.read in
-    both_files (g.T.Tree.lists c.args.self.now.tree.now) gives (law.some_count c.args.self.now.tree.now)
-    (law.some_rules c.args.self.now.tree.now)
+    both_files (g.T.Tree.lists c.args.self.now.tree.now) gives (law.some_content c.args.self.now.tree.now)
     texts (has_dir (codes ".git") c.args.entries.now) c.in_ok-git.git c.in_ok-info.info c.read_pair.result there c.in_ok-git.ensures present
     c.in_ok-info.ensures
     (subst (λ (l : List EntryModel). ReadsBoth texts (gives (codes ".git/info/exclude")) (gives (codes ".git/info/attributes"))

@@ -5,10 +5,10 @@ use Rattle.std.specs.List.{concat}
 use Rattle.std.proofs.lemmas.Bool.{lt-ltb, le-ltb}
 use Rattle.lc_census.specs.Census.{IsCensus}
 use Rattle.lc_census.proofs.OneCutting.{cut, cut_is}
-use Rattle.lc_tree.specs.FileAnswers.{census, counted, read_as_rules}
-use Rattle.lc_tree.specs.MemTrees.{Content, AreSome, GivesContent}
-use Rattle.lc_tree.specs.SomeAnswers.{some_rules}
-use Rattle.lc_tree.specs.Trees.{MayCount, MayReadRules}
+use Rattle.lc_level.specs.FileAnswers.{census, counted, read_as_rules}
+use Rattle.lc_level.specs.FileReads.{MayCount, MayReadRules}
+use Rattle.lc_level.proofs.SomeReads.{held_rules}
+use Rattle.lc_tree.specs.Trees.{Content, AreSome, GivesContent}
 use Rattle.lc_tree.specs.declared.fault_word.FaultWord.{FaultWord}
 use Rattle.lc_tree.specs.declared.fault_word.FaultWord.TheVariants.{Read, Name, Twice, Many, Long, Endless, Absent}
 
@@ -60,4 +60,4 @@ rules_are c (Err Many) m = absurd m
 
 -- it may be read so as rules
 pub may_read_rules : (c : Content) → MayReadRules (GivesContent c) (read_as_rules c)
-may_read_rules c = subst (MayReadRules (GivesContent c)) (rules_are c (some_rules c).0 (some_rules c).1) (some_rules c).1
+may_read_rules c = subst (MayReadRules (GivesContent c)) (rules_are c (held_rules c).0 (held_rules c).1) (held_rules c).1

@@ -1,4 +1,4 @@
--- A file of memory may be counted, and read as rules, in some way: the proofs of two laws of a tree, which are read from here.
+-- A file that may be read may be counted, and read as rules, in some way.
 use Rattle.std.proofs.Common.{◌≡◌, ℕ, ◌≤◌, ◌<◌, ◌⊎◌, inl, inr, Bool, true, false, List, [], ◌∷◌, ◌++◌, length, take, drop, Result, Ok}
 use Rattle.std.proofs.Common.{Err, refl, ◌∙◌, ap, subst, sym}
 use Rattle.std.specs.List.{concat}
@@ -7,12 +7,12 @@ use Rattle.std.proofs.lemmas.Bool.{cases_lt}
 use Rattle.std.proofs.lemmas.List.{append-nil, take-append-drop, length-take-le}
 use Rattle.lc_census.proofs.OneCutting.{cut, cut_is}
 use Rattle.lc_census.specs.Census.{IsCensus, count_of}
-use Rattle.lc_census.specs.Reads.{at_neither}
+use Rattle.lc_census.specs.Reads.{Stop, at_end, at_failure, at_neither}
 use Rattle.lc_census.specs.declared.totals.Count.{Count}
-use Rattle.lc_tree.specs.MemTrees.{Content, AreSome, GivesContent}
-use Rattle.lc_tree.specs.Trees.{MayCount, MayReadRules}
+use Rattle.lc_level.specs.FileReads.{MayCount, MayReadRules}
+use Rattle.lc_tree.specs.Trees.{Content, Contents, AreSome, GivesContent, MayHold}
 use Rattle.lc_tree.specs.declared.fault_word.FaultWord.{FaultWord}
-use Rattle.lc_tree.specs.declared.fault_word.FaultWord.TheVariants.{Read, Long}
+use Rattle.lc_tree.specs.declared.fault_word.FaultWord.TheVariants.{Read, Name, Twice, Many, Long, Endless, Absent}
 
 -- the bytes as one piece, or as none
 abbrev one_piece : List ℕ → List (List ℕ)
@@ -35,8 +35,9 @@ joined (b ∷ bytes) = append-nil (b ∷ bytes)
 abbrev content : List ℕ → Bool → Content
 content bytes fails = record { bytes = bytes; fails = fails }
 
-pub some_count : (c : Content) → (r : Result Count FaultWord) × MayCount (GivesContent c) r
-some_count c = by_end c.bytes c.fails
+-- that of these bytes may be counted
+held_count : (c : Content) → (r : Result Count FaultWord) × MayCount (GivesContent c) r
+held_count c = by_end c.bytes c.fails
   where
     by_end : (bytes : List ℕ) (fails : Bool) → (r : Result Count FaultWord) × MayCount (GivesContent (content bytes fails)) r
     by_end bytes true = (Err Read, (one_piece bytes, (is_some bytes, joined bytes, refl)))
@@ -62,8 +63,9 @@ first_bytes bytes fails n fits =
       ap length (joined first) ∙ length-take-le n bytes fits,
     )
 
-pub some_rules : (c : Content) → (r : Result (List ℕ) FaultWord) × MayReadRules (GivesContent c) r
-some_rules c = by_length c.bytes c.fails (cases_lt (length c.bytes) 1048577)
+-- and be read as rules
+pub held_rules : (c : Content) → (r : Result (List ℕ) FaultWord) × MayReadRules (GivesContent c) r
+held_rules c = by_length c.bytes c.fails (cases_lt (length c.bytes) 1048577)
   where
     by_length : (bytes : List ℕ) (fails : Bool) → (length bytes < 1048577) ⊎ (1048577 ≤ length bytes)
         → (r : Result (List ℕ) FaultWord) × MayReadRules (GivesContent (content bytes fails)) r
@@ -73,3 +75,34 @@ some_rules c = by_length c.bytes c.fails (cases_lt (length c.bytes) 1048577)
     by_length bytes false (inl short) =
         (Ok bytes, (one_piece bytes, (is_some bytes, joined bytes, refl), joined bytes, le-pred_of_lt short))
     by_length bytes fails (inr long) = (Err Long, first_bytes bytes fails 1048577 long)
+
+-- what may be counted of a content may be counted of a file that may have it
+count_held : (gives : Contents) (c : Content) → MayHold gives c → (r : Result Count FaultWord) → MayCount (GivesContent c) r → MayCount gives r
+count_held gives c holds (Ok count) m = (m.0, holds m.0 at_end m.1, m.2)
+count_held gives c holds (Err Read) m = (m.0, holds m.0 at_failure m.1)
+count_held gives c holds (Err Endless) m = (m.0, holds m.0 at_neither m.1, m.2)
+count_held gives c holds (Err Name) m = m
+count_held gives c holds (Err Twice) m = m
+count_held gives c holds (Err Many) m = m
+count_held gives c holds (Err Long) m = m
+count_held gives c holds (Err Absent) m = m
+
+-- the same of reading it as rules
+rules_held : (gives : Contents) (c : Content) → MayHold gives c → (r : Result (List ℕ) FaultWord) → MayReadRules (GivesContent c) r
+    → MayReadRules gives r
+rules_held gives c holds (Ok bytes) m = (m.0, holds m.0 at_end m.1, m.2)
+rules_held gives c holds (Err Read) m = (m.0, holds m.0 at_failure m.1, m.2)
+rules_held gives c holds (Err Long) m = (m.0, holds m.0 at_neither m.1, m.2)
+rules_held gives c holds (Err Endless) m = m
+rules_held gives c holds (Err Name) m = m
+rules_held gives c holds (Err Twice) m = m
+rules_held gives c holds (Err Many) m = m
+rules_held gives c holds (Err Absent) m = m
+
+-- a file that may have some content may be counted
+pub some_count : (gives : Contents) → (c : Content) × MayHold gives c → (r : Result Count FaultWord) × MayCount gives r
+some_count gives (c, holds) = ((held_count c).0, count_held gives c holds (held_count c).0 (held_count c).1)
+
+-- and be read as rules
+pub some_rules : (gives : Contents) → (c : Content) × MayHold gives c → (r : Result (List ℕ) FaultWord) × MayReadRules gives r
+some_rules gives (c, holds) = ((held_rules c).0, rules_held gives c holds (held_rules c).0 (held_rules c).1)

@@ -3,7 +3,7 @@ use Rattle.std.specs.Prelude.{ℕ, cond, nat_lt, List, length, Result, Ok, Err}
 use Rattle.lc_census.specs.Census.{count_of}
 use Rattle.lc_census.proofs.OneCutting.{cut}
 use Rattle.lc_census.specs.declared.totals.Count.{Count}
-use Rattle.lc_tree.specs.MemTrees.{Content}
+use Rattle.lc_tree.specs.Trees.{Content}
 use Rattle.lc_tree.specs.declared.fault_word.FaultWord.{FaultWord}
 use Rattle.lc_tree.specs.declared.fault_word.FaultWord.TheVariants.{Read, Long}
 

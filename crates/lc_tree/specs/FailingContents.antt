@@ -1,0 +1,16 @@
+-- The contents of files of a tree of which one call may fail: the proof of the law of a tree, which is read from here.
+use Rattle.std.proofs.Common.{ℕ, List, [], ◌∷◌, inl}
+use Rattle.lc_census.specs.Reads.{Stop, at_end, at_failure, at_neither}
+use Rattle.lc_tree.specs.FailingTrees.{GivesOrFails}
+use Rattle.lc_tree.specs.Trees.{Contents, Content, MayHold}
+
+-- what reads of a file give may be given where one of them may fail
+or_fails : (gives : Contents) (pieces : List (List ℕ)) (stop : Stop) → gives pieces stop → GivesOrFails gives pieces stop
+or_fails gives pieces at_end given = given
+or_fails gives pieces at_neither given = given
+or_fails gives [] at_failure given = tt
+or_fails gives (piece ∷ pieces) at_failure given = inl given
+
+-- so such a file may have the content that it has
+pub held_or_fails : (gives : Contents) → (c : Content) × MayHold gives c → (c : Content) × MayHold (GivesOrFails gives) c
+held_or_fails gives (c, holds) = (c, λ pieces stop given. or_fails gives pieces stop (holds pieces stop given))
