@@ -11,7 +11,7 @@ use Rattle.lc_level.specs.Selection.{SelectionModel}
 use Rattle.lc_level.specs.declared.place.Place.{Place}
 use Rattle.lc_level.specs.declared.unlisted.Unlisted.TheVariants.{Faulted}
 use Rattle.lc_tree.specs.Trees.{Listings, Contents}
-use Rattle.lc_tree.specs.declared.fault_word.FaultWord.{FaultWord}
+use Rattle.lc_level.specs.declared.fault_word.FaultWord.{FaultWord}
 use Rattle.lc_explain.specs.Waypoints.{WaypointModel, waypoint_of, waypoint_after, MayEnter}
 
 -- a fault in place of a directory

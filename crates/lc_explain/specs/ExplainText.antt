@@ -6,7 +6,7 @@ use Rattle.lc_level.specs.Level.{Reason, named_git, by_rule, by_attribute, other
 use Rattle.lc_text.specs.Escape.{escape_bytes, escape_path}
 use Rattle.lc_text.specs.PathLines.{path_of}
 use Rattle.lc_text.specs.RulePlaces.{rule_place}
-use Rattle.lc_tree.specs.FaultWords.{fault_word}
+use Rattle.lc_level.specs.FaultWords.{fault_word}
 use Rattle.lc_explain.specs.Explained.{CitedRule, Explanation, bad, faulted, below, ignored, included, unruled, left_out}
 
 -- why the walk leaves out what no rule leaves out

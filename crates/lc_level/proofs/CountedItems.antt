@@ -18,7 +18,7 @@ use Rattle.lc_level.specs.TreeAnswers.{MayHave}
 use Rattle.lc_tree.specs.Trees.{Listings, Contents}
 use Rattle.lc_level.specs.FileReads.{MayCount}
 use Rattle.lc_level.proofs.Fates.{counted_by, fault_by, files_by, faults_by, children_by, left_by_item}
-use Rattle.lc_tree.specs.declared.fault_word.FaultWord.{FaultWord}
+use Rattle.lc_level.specs.declared.fault_word.FaultWord.{FaultWord}
 
 abbrev pub Results : Type 0
 Results = List (Result Count FaultWord)

@@ -16,7 +16,7 @@ use Rattle.lc_level.specs.FileReads.{MayCount}
 use Rattle.lc_level.specs.declared.counting.CountedFiles.{CountedFiles}
 use Rattle.lc_level.specs.declared.unread.Unread.{Unread}
 use Rattle.lc_level.specs.declared.unread.Unread.TheVariants as unread
-use Rattle.lc_tree.specs.declared.fault_word.FaultWord.{FaultWord}
+use Rattle.lc_level.specs.declared.fault_word.FaultWord.{FaultWord}
 
 module _ (gives : List ℕ → Contents) (j : JobModel) (n : List ℕ) (r : Result Count FaultWord)
     (may : MayCount (gives (path_in j.path n)) r) where

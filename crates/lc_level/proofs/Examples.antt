@@ -15,11 +15,11 @@ use Rattle.lc_level.specs.Level.{by_attribute, level_of}
 use Rattle.lc_level.specs.Selection.{selection_of_archive}
 use Rattle.lc_level.specs.TopJob.{top_job}
 use Rattle.lc_level.specs.FileAnswers.{census}
-use Rattle.lc_level.specs.NodeTrees.{item_by, item_of, items_within, items_at, tree_of_node}
+use Rattle.lc_level.specs.NodeTrees.{item_by, item_of, listing_within, told_items, items_at, tree_of_node}
 use Rattle.lc_tree.specs.Listed.{listed}
 use Rattle.lc_tree.specs.MemTrees.{content_within}
 use Rattle.lc_tree.specs.declared.entry.Kind.TheVariants.{File}
-use Rattle.lc_tree.specs.declared.fault_word.FaultWord.TheVariants.{Read, Name}
+use Rattle.lc_level.specs.declared.fault_word.FaultWord.TheVariants.{Read, Name}
 use Rattle.lc_tree.specs.Nodes.{child_within, kind_within, node_below}
 use Rattle.lc_tree.specs.declared.node.Node.{Node, roll-Node, out-roll-Node}
 use Rattle.lc_tree.specs.declared.node.Node.TheOpen.{Node-F}
@@ -28,8 +28,8 @@ use Rattle.lc_tree.specs.declared.node.Node.TheOpen.{Node-F}
 item_is : (name : Vec ℕ Global) (n : Node-F Node) → item_of (name, roll-Node n) ≡ item_by name.items (content_within n) (kind_within n)
 item_is name n = ap (λ m. item_by name.items (content_within m) (kind_within m)) (out-roll-Node n)
 
-items_are : (n : Node-F Node) → items_at (Some (roll-Node n)) ≡ items_within n
-items_are n = ap items_within (out-roll-Node n)
+items_are : (n : Node-F Node) → items_at (Some (roll-Node n)) ≡ told_items (listing_within n)
+items_are n = ap (λ m. told_items (listing_within m)) (out-roll-Node n)
 
 below_is : (name : List ℕ) (n : Node-F Node)
     → items_at (node_below (name ∷ []) (roll-Node n)) ≡ items_at (option_and_then (λ (child : Node). Some child) (child_within name n))
@@ -63,7 +63,7 @@ module _ (alloc : Global) where
 
   -- the items of the top
   pub top_is : (tree_of_node (small_node alloc) []).here ≡ Ok small_items
-  top_is = items_are (Node-F.Dir (vec alloc (entries alloc) refl)) ∙ ap (listed entry_of) each_is
+  top_is = items_are (Node-F.Dir (vec alloc (entries alloc) refl)) ∙ ap (λ l. told_items (listed entry_of l)) each_is
 
   -- what the directory's entries become, by its listing
   abbrev names_of_listing : Bool → Items → Names
@@ -89,7 +89,7 @@ module _ (alloc : Global) where
   pub bad_name_is : (tree_of_node (small_node alloc) (codes "d" ∷ [])).here ≡ Err Name
   bad_name_is =
       below_is (codes "d") (Node-F.Dir (vec alloc (entries alloc) refl)) ∙ items_are (Node-F.Dir (vec alloc (bad_name alloc ∷ []) refl))
-      ∙ ap (λ item. listed entry_of (item ∷ [])) (item_is (vec alloc (codes "x/y") refl) Node-F.Other)
+      ∙ ap (λ item. told_items (listed entry_of (item ∷ []))) (item_is (vec alloc (codes "x/y") refl) Node-F.Other)
 
   -- and what is not there
   pub none_is : (tree_of_node (small_node alloc) (codes "f" ∷ [])).here ≡ Err Read

@@ -12,7 +12,7 @@ use Rattle.lc_level.specs.LeftIn.{left_by, left_entry}
 use Rattle.lc_level.specs.Selection.{SelectionModel}
 use Rattle.lc_tree.specs.declared.entry.Kind.{Kind}
 use Rattle.lc_tree.specs.declared.entry.Kind.TheVariants.{File, Dir, Other}
-use Rattle.lc_tree.specs.declared.fault_word.FaultWord.{FaultWord}
+use Rattle.lc_level.specs.declared.fault_word.FaultWord.{FaultWord}
 
 -- what a file that is not left out gives
 abbrev pub counted_by : JobModel → List ℕ → Result Count FaultWord → List CountedModel

@@ -9,8 +9,8 @@ use Rattle.lc_level.specs.FileAnswers.{census, counted, read_as_rules}
 use Rattle.lc_level.specs.FileReads.{MayCount, MayReadRules}
 use Rattle.lc_level.proofs.SomeReads.{held_rules}
 use Rattle.lc_tree.specs.Trees.{Content, AreSome, GivesContent}
-use Rattle.lc_tree.specs.declared.fault_word.FaultWord.{FaultWord}
-use Rattle.lc_tree.specs.declared.fault_word.FaultWord.TheVariants.{Read, Name, Twice, Many, Long, Endless, Absent}
+use Rattle.lc_level.specs.declared.fault_word.FaultWord.{FaultWord}
+use Rattle.lc_level.specs.declared.fault_word.FaultWord.TheVariants.{Read, Name, Twice, Many, Long, Endless, Absent}
 
 -- the bytes in pieces of one byte each
 abbrev one_by_one : List ℕ → List (List ℕ)

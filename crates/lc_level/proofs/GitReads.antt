@@ -10,13 +10,13 @@ use Rattle.lc_level.specs.RuleFiles.{has_directory, and_then, listing, info_item
 use Rattle.lc_level.specs.RulePairs.{IsReadOf, ReadsBoth}
 use Rattle.lc_level.specs.PlacePaths.{place_path}
 use Rattle.lc_level.specs.RuleReads.{text_if}
-use Rattle.lc_level.specs.TreeAnswers.{MayList}
+use Rattle.lc_level.specs.TreeAnswers.{FailsBy, MayList}
 use Rattle.lc_tree.specs.Trees.{Listings, Content, Contents, MayHold}
 use Rattle.lc_level.specs.FileReads.{MayCount, MayReadRules}
 use Rattle.lc_level.specs.declared.rule_pair.PairRead.{PairRead}
 use Rattle.lc_level.specs.declared.unlisted.Unlisted.{Unlisted}
 use Rattle.lc_level.specs.declared.unlisted.Unlisted.TheVariants.{Faulted, Broken}
-use Rattle.lc_tree.specs.declared.fault_word.FaultWord.{FaultWord}
+use Rattle.lc_level.specs.declared.fault_word.FaultWord.{FaultWord}
 use Rattle.lc_level.specs.declared.cause.Cause.TheVariants.{Memory, TooManyDirs, TooDeep}
 use Rattle.lc_level.specs.declared.place.Place.{Place}
 use Rattle.lc_level.specs.declared.place.Place.TheVariants.{Git, GitInfo, ExcludeFile, InfoAttributes}
@@ -95,7 +95,7 @@ module _ (lists : List ℕ → Listings) (gives : List ℕ → Contents)
         )
 
     -- a fault of `.git`
-    pub git_fault : (there : Bool) (place : Place) (word : FaultWord) → there ≡ true → place ≡ Git → lists (codes ".git") (Err word)
+    pub git_fault : (there : Bool) (place : Place) (word : FaultWord) → there ≡ true → place ≡ Git → FailsBy (lists (codes ".git")) word
         → ReadsGit lists gives texts there (Err (Faulted place word))
     git_fault there place word e is l =
         at_true there (Err (Faulted place word)) e (
@@ -126,7 +126,7 @@ module _ (lists : List ℕ → Listings) (gives : List ℕ → Contents)
     -- a fault of `.git/info`
     pub info_fault : (there : Bool) (es : List EntryModel) (place : Place) (word : FaultWord) → there ≡ true
         → lists (codes ".git") (Ok es) → has_dir (codes "info") es ≡ true →
-        place ≡ GitInfo → lists (codes ".git/info") (Err word) → ReadsGit lists gives texts there (Err (Faulted place word))
+        place ≡ GitInfo → FailsBy (lists (codes ".git/info")) word → ReadsGit lists gives texts there (Err (Faulted place word))
     info_fault there es place word e l present is m =
         at_true there (Err (Faulted place word)) e (
           asked (Ok (git_items es)) (Err word),

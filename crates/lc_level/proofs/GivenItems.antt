@@ -13,7 +13,7 @@ use Rattle.lc_level.specs.RuleReads.{MayGive}
 use Rattle.lc_level.specs.TreeAnswers.{MayHave}
 use Rattle.lc_tree.specs.Trees.{Listings, Contents}
 use Rattle.lc_level.specs.FileReads.{MayCount, MayReadRules}
-use Rattle.lc_tree.specs.declared.fault_word.FaultWord.{FaultWord}
+use Rattle.lc_level.specs.declared.fault_word.FaultWord.{FaultWord}
 use Rattle.lc_tree.specs.declared.entry.Kind.{Kind}
 use Rattle.lc_tree.specs.declared.entry.Kind.TheVariants.{File, Dir, Other}
 use Rattle.lc_level.proofs.Tidy.{same_bytes, bytes_same}

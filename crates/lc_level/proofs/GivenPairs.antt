@@ -12,7 +12,7 @@ use Rattle.lc_level.specs.FileReads.{MayReadRules}
 use Rattle.lc_level.specs.declared.rule_pair.PairRead.{PairRead}
 use Rattle.lc_level.specs.declared.unlisted.Unlisted.{Unlisted}
 use Rattle.lc_level.specs.declared.unlisted.Unlisted.TheVariants.{Faulted, Broken}
-use Rattle.lc_tree.specs.declared.fault_word.FaultWord.{FaultWord}
+use Rattle.lc_level.specs.declared.fault_word.FaultWord.{FaultWord}
 use Rattle.lc_level.specs.declared.cause.Cause.TheVariants.{Memory, TooManyDirs, TooDeep}
 use Rattle.lc_level.specs.declared.place.Place.{Place}
 use Rattle.lc_level.proofs.GivenItems.{Counted, AsRules, items_at, but, at_name, at_other, may_but, given_items}

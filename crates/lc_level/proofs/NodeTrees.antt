@@ -8,8 +8,8 @@ use Rattle.std.proofs.lemmas.Map.Keys.{sorted_from_all_adjacent}
 use Rattle.lc_level.specs.Tidy.{listed_in}
 use Rattle.std.specs.List.{AllByRecursion}
 use Rattle.lc_glob.specs.Path.{is_good_name, path_in}
-use Rattle.lc_level.specs.Answers.{Item, entry_of, entries_of, Items}
-use Rattle.lc_level.specs.NodeTrees.{item_by, item_of, items_within, items_at, tree_of_node}
+use Rattle.lc_level.specs.Answers.{Item, entry_of, entries_of}
+use Rattle.lc_level.specs.NodeTrees.{item_by, item_of, listing_within, listing_at, told_items, items_at, tree_of_node}
 use Rattle.lc_level.specs.RuleFiles.{has_git}
 use Rattle.lc_level.specs.TreeAnswers.{MayHave, MayList, MayAnswer, items_of}
 use Rattle.lc_level.specs.FileAnswers.{counted, read_as_rules}
@@ -23,9 +23,10 @@ use Rattle.lc_tree.specs.Nodes as nodes
 use Rattle.lc_level.specs.FileReads.{MayCount, MayReadRules}
 use Rattle.lc_tree.specs.declared.entry.Kind.{Kind}
 use Rattle.lc_tree.specs.declared.entry.Kind.TheVariants.{File, Dir, Other}
-use Rattle.lc_tree.specs.declared.fault_word.FaultWord.{FaultWord}
 use Rattle.lc_tree.specs.declared.node.Node.{Node, out-Node}
 use Rattle.lc_tree.specs.declared.node.Node.TheOpen.{Node-F}
+use Rattle.lc_tree.specs.declared.read_fault.ReadFault.{ReadFault}
+use Rattle.lc_tree.specs.declared.read_fault.ReadFault.TheVariants.{Failed, Unnamed, BadName, Twice, TooMany, Memory}
 use Rattle.lc_level.proofs.FileAnswers.{may_count, may_read_rules}
 use Rattle.lc_tree.proofs.Listed.{ItemsFor, listed_is, all_listed}
 use Rattle.lc_tree.proofs.NodesIn.{node_in, each_found}
@@ -48,17 +49,17 @@ both true b e = (refl, e)
 both false b e = cc
 
 -- the answer that has these items
-abbrev answer_of : Items → Result (List EntryModel) FaultWord
+abbrev answer_of : Result (List Item) ReadFault → Result (List EntryModel) ReadFault
 answer_of (Ok items) = Ok (entries_of items)
-answer_of (Err word) = Err word
+answer_of (Err fault) = Err fault
 
-answer_for : (children : List Child) (items : Items) → ItemsFor entry_of (map item_of children) items
+answer_for : (children : List Child) (items : Result (List Item) ReadFault) → ItemsFor entry_of (map item_of children) items
     → IsAnswerFor (map nodes.entry_of children) (answer_of items)
 answer_for children (Ok items) is = subst (λ (l : List EntryModel). IsAnswerFor l (Ok (entries_of items))) (entries_are children) is
-answer_for children (Err word) is = subst (λ (l : List EntryModel). IsAnswerFor l (Err word)) (entries_are children) is
+answer_for children (Err fault) is = subst (λ (l : List EntryModel). IsAnswerFor l (Err fault)) (entries_are children) is
 
 -- a node's listing is that of its items
-lists_within : (node : Node-F Node) → ListsWithin node (answer_of (items_within node))
+lists_within : (node : Node-F Node) → ListsWithin node (answer_of (listing_within node))
 lists_within (Node-F.Dir entries) =
     answer_for entries.items (listed entry_of (map item_of entries.items)) (listed_is entry_of (map item_of entries.items))
 lists_within Node-F.Closed = refl
@@ -66,9 +67,21 @@ lists_within (Node-F.File bytes) = refl
 lists_within (Node-F.Failing bytes) = refl
 lists_within Node-F.Other = refl
 
-lists_node : (o : Option Node) → ListsNode o (answer_of (items_at o))
+lists_node : (o : Option Node) → ListsNode o (answer_of (listing_at o))
 lists_node None = refl
 lists_node (Some node) = lists_within (out-Node node)
+
+-- no node wants memory
+no_memory_within : (node : Node-F Node) → ListsWithin node (Err Memory) → ⊥
+no_memory_within (Node-F.Dir entries) l = l
+no_memory_within Node-F.Closed l = absurd (cc l)
+no_memory_within (Node-F.File bytes) l = absurd (cc l)
+no_memory_within (Node-F.Failing bytes) l = absurd (cc l)
+no_memory_within Node-F.Other l = absurd (cc l)
+
+no_memory : (o : Option Node) → ListsNode o (Err Memory) → ⊥
+no_memory None l = absurd (cc l)
+no_memory (Some node) l = no_memory_within (out-Node node) l
 
 module _ (top : Node) (path : List ℕ) where
   -- ---- what a tree of memory may answer there
@@ -104,7 +117,7 @@ module _ (top : Node) (path : List ℕ) where
       (each_found children.items distinct))
 
   have_within : (node : Node) (n : Node-F Node) → node_at top path ≡ Some node → out-Node node ≡ n
-      → IfOk (items_within n) (AllByRecursion (MayHave (mem_lists top) (mem_gives top) path))
+      → IfOk (listing_within n) (AllByRecursion (MayHave (mem_lists top) (mem_gives top) path))
   have_within node (Node-F.Dir children) e is =
       all_listed entry_of (MayHave (mem_lists top) (mem_gives top) path) (map item_of children.items)
       (λ good distinct. all_have children.items (subst (λ l. have_good_names l ≡ true) (entries_are children.items) good)
@@ -114,18 +127,24 @@ module _ (top : Node) (path : List ℕ) where
   have_within node (Node-F.Failing bytes) e is = tt
   have_within node Node-F.Other e is = tt
 
-  have_at : (o : Option Node) → node_at top path ≡ o → IfOk (items_at o) (AllByRecursion (MayHave (mem_lists top) (mem_gives top) path))
+  have_at : (o : Option Node) → node_at top path ≡ o → IfOk (listing_at o) (AllByRecursion (MayHave (mem_lists top) (mem_gives top) path))
   have_at None e = tt
   have_at (Some node) e = have_within node (out-Node node) e refl
 
   -- of the directory itself
-  with_items : (items : Items) → mem_lists top path (answer_of items)
-      → IfOk items (AllByRecursion (MayHave (mem_lists top) (mem_gives top) path)) → MayList (mem_lists top) (mem_gives top) path items
+  with_items : (items : Result (List Item) ReadFault) → mem_lists top path (answer_of items)
+      → IfOk items (AllByRecursion (MayHave (mem_lists top) (mem_gives top) path))
+      → MayList (mem_lists top) (mem_gives top) path (told_items items)
   with_items (Ok items) lists all = (lists, all)
-  with_items (Err word) lists all = lists
+  with_items (Err Failed) lists all = (Failed, refl, lists)
+  with_items (Err Unnamed) lists all = (Unnamed, refl, lists)
+  with_items (Err BadName) lists all = (BadName, refl, lists)
+  with_items (Err Twice) lists all = (Twice, refl, lists)
+  with_items (Err TooMany) lists all = (TooMany, refl, lists)
+  with_items (Err Memory) lists all = absurd (no_memory (node_at top path) lists)
 
   may_list : MayList (mem_lists top) (mem_gives top) path (items_at (node_at top path))
-  may_list = with_items (items_at (node_at top path)) (lists_node (node_at top path)) (have_at (node_at top path) refl)
+  may_list = with_items (listing_at (node_at top path)) (lists_node (node_at top path)) (have_at (node_at top path) refl)
 
 -- `.git` and `.git/info` are read in the top alone
 git_there : (top : Node) (path : List ℕ) (items : List Item) → has_git path items ≡ true
@@ -155,13 +174,14 @@ no_entries = record {
   few = omega arith;
 }
 
-tidy_by : (es : List EntryModel) (items : Items) → IsAnswerFor es (answer_of items) → IsListing (listed_in items)
+tidy_by : (es : List EntryModel) (items : Result (List Item) ReadFault) → IsAnswerFor es (answer_of items)
+    → IsListing (listed_in (told_items items))
 tidy_by es (Ok items) is = is.listing
-tidy_by es (Err word) is = no_entries
+tidy_by es (Err fault) is = no_entries
 
-tidy_within : (node : Node-F Node) → IsListing (listed_in (items_within node))
+tidy_within : (node : Node-F Node) → IsListing (listed_in (told_items (listing_within node)))
 tidy_within (Node-F.Dir entries) =
-    tidy_by (map nodes.entry_of entries.items) (items_within (Node-F.Dir entries)) (lists_within (Node-F.Dir entries))
+    tidy_by (map nodes.entry_of entries.items) (listing_within (Node-F.Dir entries)) (lists_within (Node-F.Dir entries))
 tidy_within Node-F.Closed = no_entries
 tidy_within (Node-F.File bytes) = no_entries
 tidy_within (Node-F.Failing bytes) = no_entries

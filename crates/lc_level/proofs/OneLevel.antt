@@ -1,5 +1,5 @@
 -- Where each question has one answer, each directory has one level.
-use Rattle.std.proofs.Common.{◌≡◌, ℕ, Bool, true, false, List, [], ◌∷◌, refl, sym, ◌∙◌, ap, subst, Result, Ok, Err, codes}
+use Rattle.std.proofs.Common.{◌≡◌, ℕ, Bool, true, false, List, [], ◌∷◌, refl, sym, ◌∙◌, ap, subst, Option, Some, None, Result, Ok, Err, codes}
 use Rattle.std.specs.List.{AllByRecursion}
 use Rattle.lc_glob.specs.Path.{path_in}
 use Rattle.lc_tree.specs.Listing.{EntryModel}
@@ -7,7 +7,9 @@ use Rattle.lc_tree.specs.Trees.{Listings, Contents}
 use Rattle.lc_level.specs.FileReads.{MayCount, MayReadRules}
 use Rattle.lc_tree.specs.declared.entry.Kind.{Kind}
 use Rattle.lc_tree.specs.declared.entry.Kind.TheVariants.{File, Dir, Other}
-use Rattle.lc_tree.specs.declared.fault_word.FaultWord.{FaultWord}
+use Rattle.lc_level.specs.declared.fault_word.FaultWord.{FaultWord}
+use Rattle.lc_tree.specs.declared.read_fault.ReadFault.{ReadFault}
+use Rattle.lc_level.specs.FaultWords.{word_of}
 use Rattle.lc_level.specs.Answers.{Item, file_item, directory_item, other_item, entry_of, entries_of, Items, Answers}
 use Rattle.lc_level.specs.Job.{JobModel}
 use Rattle.lc_level.specs.Level.{level, level_of, level_after}
@@ -16,15 +18,15 @@ use Rattle.lc_level.specs.Selection.{SelectionModel}
 use Rattle.lc_level.specs.RuleFiles.{has_directory, has_git, and_then, listing, info_items, info_bytes, own_bytes, rule_bytes}
 use Rattle.lc_level.specs.TreeAnswers.{MayHave, MayList, MayAnswer, items_of}
 
-abbrev entries_or : List EntryModel → Result (List EntryModel) FaultWord → List EntryModel
+abbrev entries_or : List EntryModel → Result (List EntryModel) ReadFault → List EntryModel
 entries_or d (Ok es) = es
 entries_or d (Err word) = d
 
-abbrev word_or : FaultWord → Result (List EntryModel) FaultWord → FaultWord
+abbrev word_or : Option FaultWord → Result (List EntryModel) ReadFault → Option FaultWord
 word_or d (Ok es) = d
-word_or d (Err word) = word
+word_or d (Err fault) = word_of fault
 
-abbrev is_listed : Result (List EntryModel) FaultWord → Bool
+abbrev is_listed : Result (List EntryModel) ReadFault → Bool
 is_listed (Ok es) = true
 is_listed (Err word) = false
 
@@ -73,9 +75,11 @@ module _ (lists : List ℕ → Listings) (gives : List ℕ → Contents) (one : 
   pub same_list : (path : List ℕ) (x y : Items) → MayList lists gives path x → MayList lists gives path y → x ≡ y
   same_list path (Ok xs) (Ok ys) a b =
       ap Ok (same_items path xs ys a.1 b.1 (ap (entries_or []) (one.listing path (Ok (entries_of xs)) (Ok (entries_of ys)) a.0 b.0)))
-  same_list path (Ok xs) (Err v) a b = absurd (differ (ap is_listed (one.listing path (Ok (entries_of xs)) (Err v) a.0 b)))
-  same_list path (Err w) (Ok ys) a b = absurd (differ (sym (ap is_listed (one.listing path (Err w) (Ok (entries_of ys)) a b.0))))
-  same_list path (Err w) (Err v) a b = ap Err (ap (word_or w) (one.listing path (Err w) (Err v) a b))
+  same_list path (Ok xs) (Err v) a b = absurd (differ (ap is_listed (one.listing path (Ok (entries_of xs)) (Err b.0) a.0 b.2)))
+  same_list path (Err w) (Ok ys) a b = absurd (differ (sym (ap is_listed (one.listing path (Err a.0) (Ok (entries_of ys)) a.2 b.0))))
+  same_list path (Err w) (Err v) a b =
+      let same : Some w ≡ Some v = sym a.1 ∙ ap (word_or None) (one.listing path (Err a.0) (Err b.0) a.2 b.2) ∙ b.1 in
+      let word : w ≡ v = cc same in ap Err word
 
   module _ (s : SelectionModel) (j : JobModel) (a b : Answers) (may : MayAnswer lists gives j.path a)
       (also : MayAnswer lists gives j.path b) where

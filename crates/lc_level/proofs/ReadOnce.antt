@@ -7,8 +7,8 @@ use Rattle.lc_census.specs.Cutting.{HasOneCutting}
 use Rattle.lc_census.specs.declared.totals.Count.{Count}
 use Rattle.lc_level.specs.FileReads.{MayCount, MayReadRules}
 use Rattle.lc_tree.specs.Trees.{Content, AreSome, GivesContent}
-use Rattle.lc_tree.specs.declared.fault_word.FaultWord.{FaultWord}
-use Rattle.lc_tree.specs.declared.fault_word.FaultWord.TheVariants.{Read, Name, Twice, Many, Long, Endless, Absent}
+use Rattle.lc_level.specs.declared.fault_word.FaultWord.{FaultWord}
+use Rattle.lc_level.specs.declared.fault_word.FaultWord.TheVariants.{Read, Name, Twice, Many, Long, Endless, Absent}
 use Rattle.lc_tree.proofs.OneAnswer.{both}
 
 -- pieces with some byte each are no more than their bytes

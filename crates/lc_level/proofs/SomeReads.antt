@@ -11,8 +11,8 @@ use Rattle.lc_census.specs.Reads.{Stop, at_end, at_failure, at_neither}
 use Rattle.lc_census.specs.declared.totals.Count.{Count}
 use Rattle.lc_level.specs.FileReads.{MayCount, MayReadRules}
 use Rattle.lc_tree.specs.Trees.{Content, Contents, AreSome, GivesContent, MayHold}
-use Rattle.lc_tree.specs.declared.fault_word.FaultWord.{FaultWord}
-use Rattle.lc_tree.specs.declared.fault_word.FaultWord.TheVariants.{Read, Name, Twice, Many, Long, Endless, Absent}
+use Rattle.lc_level.specs.declared.fault_word.FaultWord.{FaultWord}
+use Rattle.lc_level.specs.declared.fault_word.FaultWord.TheVariants.{Read, Name, Twice, Many, Long, Endless, Absent}
 
 -- the bytes as one piece, or as none
 abbrev one_piece : List ℕ → List (List ℕ)
@@ -90,7 +90,7 @@ count_held gives c holds (Err Absent) m = m
 -- the same of reading it as rules
 rules_held : (gives : Contents) (c : Content) → MayHold gives c → (r : Result (List ℕ) FaultWord) → MayReadRules (GivesContent c) r
     → MayReadRules gives r
-rules_held gives c holds (Ok bytes) m = (m.0, holds m.0 at_end m.1, m.2)
+rules_held gives c holds (Ok bytes) m = (m.0, holds m.0 at_end m.1, m.2, m.3)
 rules_held gives c holds (Err Read) m = (m.0, holds m.0 at_failure m.1, m.2)
 rules_held gives c holds (Err Long) m = (m.0, holds m.0 at_neither m.1, m.2)
 rules_held gives c holds (Err Endless) m = m

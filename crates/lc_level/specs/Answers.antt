@@ -3,7 +3,7 @@ use Rattle.std.specs.Prelude.{ℕ, List, [], map, Result, Ok}
 use Rattle.lc_census.specs.declared.totals.Count.{Count}
 use Rattle.lc_tree.specs.Listing.{EntryModel}
 use Rattle.lc_tree.specs.declared.entry.Kind.TheVariants.{File, Dir, Other}
-use Rattle.lc_tree.specs.declared.fault_word.FaultWord.{FaultWord}
+use Rattle.lc_level.specs.declared.fault_word.FaultWord.{FaultWord}
 
 -- an entry: of a file what counting it gave, its census or a fault, and what reading it whole as rules gave, its bytes or a fault
 pub data Item : Type 0 where

@@ -8,7 +8,7 @@ use Rattle.lc_level.specs.Level.{Fate, FileFaultModel, file_fate, counted_of, fa
 use Rattle.lc_tree.specs.Trees.{Contents}
 use Rattle.lc_level.specs.FileReads.{MayCount}
 use Rattle.lc_level.specs.declared.counting.CountedFiles.{CountedFiles}
-use Rattle.lc_tree.specs.declared.fault_word.FaultWord.{FaultWord}
+use Rattle.lc_level.specs.declared.fault_word.FaultWord.{FaultWord}
 
 -- the file of each name may have given its result, in order
 abbrev pub AreCounted : (List ℕ → Contents) → JobModel → List (List ℕ) → List (Result Count FaultWord) → Type 0

@@ -15,7 +15,7 @@ use Rattle.lc_level.specs.TopJob.{top_job}
 use Rattle.lc_level.specs.FileAnswers.{census}
 use Rattle.lc_tree.specs.Nodes.{Child}
 use Rattle.lc_tree.specs.declared.entry.Kind.TheVariants.{File, Other}
-use Rattle.lc_tree.specs.declared.fault_word.FaultWord.TheVariants.{Read, Name}
+use Rattle.lc_level.specs.declared.fault_word.FaultWord.TheVariants.{Read, Name}
 use Rattle.lc_tree.specs.declared.node.Node.{Node, roll-Node}
 use Rattle.lc_tree.specs.declared.node.Node.TheOpen.{Node-F}
 

@@ -4,8 +4,8 @@ use Rattle.lc_census.specs.Census.{count_of}
 use Rattle.lc_census.proofs.OneCutting.{cut}
 use Rattle.lc_census.specs.declared.totals.Count.{Count}
 use Rattle.lc_tree.specs.Trees.{Content}
-use Rattle.lc_tree.specs.declared.fault_word.FaultWord.{FaultWord}
-use Rattle.lc_tree.specs.declared.fault_word.FaultWord.TheVariants.{Read, Long}
+use Rattle.lc_level.specs.declared.fault_word.FaultWord.{FaultWord}
+use Rattle.lc_level.specs.declared.fault_word.FaultWord.TheVariants.{Read, Long}
 
 -- the census of bytes, by the one cutting that they have
 abbrev pub census : List ℕ → Count

@@ -7,8 +7,8 @@ use Rattle.lc_census.specs.declared.totals.Count.{Count}
 use Rattle.lc_tree.specs.MemTrees.{mem_gives}
 use Rattle.lc_tree.specs.OneAnswer.{content_at}
 use Rattle.lc_tree.specs.Trees.{Contents}
-use Rattle.lc_tree.specs.declared.fault_word.FaultWord.{FaultWord}
-use Rattle.lc_tree.specs.declared.fault_word.FaultWord.TheVariants as word
+use Rattle.lc_level.specs.declared.fault_word.FaultWord.{FaultWord}
+use Rattle.lc_level.specs.declared.fault_word.FaultWord.TheVariants as word
 use Rattle.lc_tree.specs.declared.node.Node.{Node}
 use Rattle.lc_level.specs.declared.unread.Unread.{Unread}
 use Rattle.lc_level.specs.declared.unread.Unread.TheVariants as unread

@@ -5,7 +5,7 @@ use Rattle.lc_tree.specs.Listing.{EntryModel}
 use Rattle.lc_level.specs.RuleFiles.{Pair, has_directory, and_then, info_items, info_bytes}
 use Rattle.lc_level.specs.RulePairs.{IsReadOf}
 use Rattle.lc_level.specs.PlacePaths.{place_path}
-use Rattle.lc_level.specs.TreeAnswers.{MayList, items_of}
+use Rattle.lc_level.specs.TreeAnswers.{FailsBy, MayList, items_of}
 use Rattle.lc_tree.specs.Trees.{Listings, Contents}
 use Rattle.lc_level.specs.declared.rule_pair.PairRead.{PairRead}
 use Rattle.lc_level.specs.declared.unlisted.Unlisted.{Unlisted}
@@ -16,7 +16,7 @@ use Rattle.lc_level.specs.declared.place.Place.{Place}
 -- the answer to listing a directory for the sake of its rule files: a fault is one of this place
 abbrev pub ListsFor : Listings → Place → Result (List EntryModel) Unlisted → Type 0
 ListsFor may place (Ok entries) = may (Ok entries)
-ListsFor may place (Err (Faulted at word)) = (at ≡ place) × may (Err word)
+ListsFor may place (Err (Faulted at word)) = (at ≡ place) × FailsBy may word
 ListsFor may place (Err (Broken Memory)) = Unit {0}
 ListsFor may place (Err (Broken TooManyDirs)) = ⊥
 ListsFor may place (Err (Broken TooDeep)) = ⊥

@@ -5,6 +5,7 @@ pub mod Enters
 pub mod EntryLooks
 pub mod Examples
 pub mod FaultLines
+pub mod FaultWords
 pub mod FileAnswers
 pub mod FileReads
 pub mod GitInfo

@@ -1,5 +1,5 @@
 -- The tree that a node of memory stands for: its answers at each place, as values.
-use Rattle.std.specs.Prelude.{ℕ, List, [], ◌∷◌, ◌++◌, map, Option, Some, None, Err, codes}
+use Rattle.std.specs.Prelude.{ℕ, List, [], ◌∷◌, ◌++◌, map, Option, Some, None, Result, Ok, Err, unwrap_or, codes}
 use Rattle.lc_level.specs.Answers.{Item, file_item, directory_item, other_item, entry_of, Items, Tree}
 use Rattle.lc_level.specs.FileAnswers.{counted, read_as_rules}
 use Rattle.lc_tree.specs.Listed.{listed}
@@ -8,9 +8,12 @@ use Rattle.lc_tree.specs.Trees.{Content}
 use Rattle.lc_tree.specs.Nodes.{Child, kind_of, node_below}
 use Rattle.lc_tree.specs.declared.entry.Kind.{Kind}
 use Rattle.lc_tree.specs.declared.entry.Kind.TheVariants.{File, Dir, Other}
-use Rattle.lc_tree.specs.declared.fault_word.FaultWord.TheVariants.{Read}
+use Rattle.lc_level.specs.FaultWords.{word_of}
+use Rattle.lc_level.specs.declared.fault_word.FaultWord.TheVariants.{Read}
 use Rattle.lc_tree.specs.declared.node.Node.{Node, out-Node}
 use Rattle.lc_tree.specs.declared.node.Node.TheOpen.{Node-F}
+use Rattle.lc_tree.specs.declared.read_fault.ReadFault.{ReadFault}
+use Rattle.lc_tree.specs.declared.read_fault.ReadFault.TheVariants.{Failed}
 
 -- an entry, with what its file gives
 abbrev pub item_by : List ℕ → Content → Kind → Item
@@ -22,16 +25,24 @@ abbrev pub item_of : Child → Item
 item_of child = item_by child.0.items (content_of (Some child.1)) (kind_of child.1)
 
 -- a directory's entries in order of their names, or why they make no listing; any other node can't be listed
-abbrev pub items_within : Node-F Node → Items
-items_within (Node-F.Dir entries) = listed entry_of (map item_of entries.items)
-items_within Node-F.Closed = Err Read
-items_within (Node-F.File bytes) = Err Read
-items_within (Node-F.Failing bytes) = Err Read
-items_within Node-F.Other = Err Read
+abbrev pub listing_within : Node-F Node → Result (List Item) ReadFault
+listing_within (Node-F.Dir entries) = listed entry_of (map item_of entries.items)
+listing_within Node-F.Closed = Err Failed
+listing_within (Node-F.File bytes) = Err Failed
+listing_within (Node-F.Failing bytes) = Err Failed
+listing_within Node-F.Other = Err Failed
+
+abbrev pub listing_at : Option Node → Result (List Item) ReadFault
+listing_at None = Err Failed
+listing_at (Some node) = listing_within (out-Node node)
+
+-- the items, or the word of the fault, which is never want of memory
+abbrev pub told_items : Result (List Item) ReadFault → Items
+told_items (Ok items) = Ok items
+told_items (Err fault) = Err (unwrap_or (word_of fault) Read)
 
 abbrev pub items_at : Option Node → Items
-items_at None = Err Read
-items_at (Some node) = items_within (out-Node node)
+items_at node = told_items (listing_at node)
 
 -- the tree below a node
 abbrev pub tree_of_node : Node → Tree

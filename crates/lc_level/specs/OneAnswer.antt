@@ -7,8 +7,9 @@ use Rattle.lc_tree.specs.Paths.{names_of_path}
 use Rattle.lc_tree.specs.OneAnswer.{content_at}
 use Rattle.lc_tree.specs.Trees.{Listings, Contents}
 use Rattle.lc_level.specs.FileReads.{MayCount, MayReadRules}
-use Rattle.lc_tree.specs.declared.fault_word.FaultWord.{FaultWord}
+use Rattle.lc_level.specs.declared.fault_word.FaultWord.{FaultWord}
 use Rattle.lc_tree.specs.declared.node.Node.{Node}
+use Rattle.lc_tree.specs.declared.read_fault.ReadFault.{ReadFault}
 use Rattle.lc_level.specs.Answers.{Answers}
 use Rattle.lc_level.specs.Job.{JobModel}
 use Rattle.lc_level.specs.Level.{level}
@@ -20,7 +21,7 @@ use Rattle.lc_level.specs.TreeAnswers.{MayAnswer}
 module _ (lists : List ℕ → Listings) (gives : List ℕ → Contents) where
   -- each path has one listing, and each file one count and one text as rules
   pub record GivesOne : Type 0 where
-    pub listing : (path : List ℕ) (x y : Result (List EntryModel) FaultWord) → lists path x → lists path y → x ≡ y
+    pub listing : (path : List ℕ) (x y : Result (List EntryModel) ReadFault) → lists path x → lists path y → x ≡ y
     pub count : (path : List ℕ) (x y : Result Count FaultWord) → MayCount (gives path) x → MayCount (gives path) y → x ≡ y
     pub rules : (path : List ℕ) (x y : Result (List ℕ) FaultWord) → MayReadRules (gives path) x → MayReadRules (gives path) y → x ≡ y
 

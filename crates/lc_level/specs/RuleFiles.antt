@@ -4,7 +4,7 @@ use Rattle.std.specs.Prelude.{bytes_eq, option_map, codes}
 use Rattle.lc_glob.specs.Path.{path_in, depth_of}
 use Rattle.lc_rules.specs.IgnoreRules.{rules_of}
 use Rattle.lc_rules.specs.AttrLines.{attribute_file_of}
-use Rattle.lc_tree.specs.declared.fault_word.FaultWord.{FaultWord}
+use Rattle.lc_level.specs.declared.fault_word.FaultWord.{FaultWord}
 use Rattle.lc_level.specs.Answers.{Item, file_item, directory_item, other_item, Items, Answers}
 use Rattle.lc_level.specs.Job.{JobModel}
 use Rattle.lc_level.specs.FaultLines.{FaultLineModel}

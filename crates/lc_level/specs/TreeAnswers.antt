@@ -1,16 +1,23 @@
 -- Which answers for a directory a tree may give, by what its calls may answer.
-use Rattle.std.specs.Prelude.{◌≡◌, ℕ, true, List, [], Ok, Err, codes}
+use Rattle.std.specs.Prelude.{◌≡◌, ℕ, true, List, [], Some, Ok, Err, codes}
 use Rattle.std.specs.List.{AllByRecursion}
 use Rattle.lc_level.specs.Answers.{Item, file_item, directory_item, other_item, Items, Answers, entries_of}
 use Rattle.lc_glob.specs.Path.{path_in}
 use Rattle.lc_level.specs.RuleFiles.{has_directory, has_git}
 use Rattle.lc_tree.specs.Trees.{Listings, Contents}
+use Rattle.lc_level.specs.FaultWords.{word_of}
 use Rattle.lc_level.specs.FileReads.{MayCount, MayReadRules}
+use Rattle.lc_level.specs.declared.fault_word.FaultWord.{FaultWord}
+use Rattle.lc_tree.specs.declared.read_fault.ReadFault.{ReadFault}
 
 -- the items, if there are any
 abbrev pub items_of : Items → List Item
 items_of (Ok items) = items
 items_of (Err word) = []
+
+-- a listing may answer a fault that this word tells of
+abbrev pub FailsBy : Listings → FaultWord → Type 0
+FailsBy may word = (fault : ReadFault) × (word_of fault ≡ Some word) × may (Err fault)
 
 -- `lists` and `gives` say what the listings and the files of a tree may answer at each path
 module _ (lists : List ℕ → Listings) (gives : List ℕ → Contents) where
@@ -23,7 +30,7 @@ module _ (lists : List ℕ → Listings) (gives : List ℕ → Contents) where
 
   abbrev pub MayList : List ℕ → Items → Type 0
   MayList path (Ok items) = lists path (Ok (entries_of items)) × AllByRecursion (MayHave path) items
-  MayList path (Err word) = lists path (Err word)
+  MayList path (Err word) = FailsBy (lists path) word
 
   -- `.git` and `.git/info` are asked about only where the top has them
   pub record MayAnswer (path : List ℕ) (a : Answers) : Type 0 where

@@ -1,8 +1,8 @@
 //! What became of the files of a directory.
 
+use crate::FaultWord;
 use lc_census::Count;
 use lc_rules::TextState;
-use lc_tree::FaultWord;
 use std::marker::Model;
 
 /// A counted file of a directory.

@@ -8,9 +8,9 @@ use crate::job::Job;
 use crate::level_reader::LevelReader;
 use crate::scratch::Scratch;
 use crate::unread::Unread;
-use crate::{Counted, FileFault};
+use crate::{Counted, FaultWord, FileFault};
 use lc_census::Count;
-use lc_tree::{FaultWord, Tree};
+use lc_tree::Tree;
 use std::alloc::{AllocError, Global};
 
 /// The counted files of a directory, and those that could not be counted, each in the order of their names.

@@ -3,11 +3,12 @@ ghost use Rattle.std.specs.Prelude.{◌≡◌, ◌<◌, ◌≤◌, ℕ, List, Ok
 ghost use Rattle.lc_census.specs.Limits.{buffer_len};
 ghost use Rattle.lc_level.specs.FileReads.{IsAnswer, MayCount, MayReadRules};
 
+use crate::FaultWord;
 use crate::level_reader::LevelReader;
 use crate::unread::Unread;
 use lc_census::{CensusFault, Count, MAX_TURNS, WholeFault, count_in, read_whole};
 use lc_rules::MAX_RULE_BYTES;
-use lc_tree::{FaultWord, ReadFault, Tree};
+use lc_tree::{ReadFault, Tree};
 
 impl<T: Tree> LevelReader<'_, T> {
     /// Counts the file at a path by reads into the lent buffer.

@@ -8,7 +8,7 @@ use crate::level_reader::LevelReader;
 use crate::rule_pair::{PairNames, PairRead, RuleName};
 use crate::scratch::Scratch;
 use crate::unlisted::Unlisted;
-use crate::{Cause, Place};
+use crate::{Cause, FaultWord, Place};
 use lc_tree::{Entry, Listing, Tree};
 
 impl<T: Tree> LevelReader<'_, T> {
@@ -18,7 +18,7 @@ impl<T: Tree> LevelReader<'_, T> {
     {
         match self.tree.list(self.alloc, path) {
             Ok(listing) => Ok(listing),
-            Err(fault) => match fault.word() {
+            Err(fault) => match FaultWord::of(fault) {
                 Some(word) => Err(Unlisted::Faulted(place, word)),
                 None => Err(Unlisted::Broken(Cause::Memory)),
             },

@@ -9,7 +9,7 @@
 //! - `files`, `unread`: opening one file, to count it or to read it as rules, and why that was not possible
 //! - `paths`: the path of a name in a directory
 //! - `level_reader`: what is lent for all of this; `scratch`, `path_buffer`: its buffers, and the paths of entries one after another
-//! - `unlisted`: why a directory gives nothing of its entries
+//! - `unlisted`: why a directory gives nothing of its entries; `fault_word`: the words by which a report tells of faults
 //! - `laws`: that this work makes the level of the definitions
 #![tactic(auto)]
 
@@ -20,6 +20,7 @@ mod counting;
 mod deciding;
 mod entering;
 mod entry_looks;
+mod fault_word;
 mod files;
 mod git_info;
 mod job;
@@ -43,6 +44,7 @@ pub use cause::Cause;
 pub use counted::{Counted, FileFault};
 pub use counting::CountedFiles;
 pub use entering::{Entered, RuleTexts};
+pub use fault_word::FaultWord;
 pub use job::Job;
 pub use laws::{
     a_node_is_one_tree, an_archive_is_without_export_ignore, examples_hold,

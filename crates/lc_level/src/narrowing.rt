@@ -6,8 +6,9 @@ ghost use Rattle.lc_level.specs.Narrowing.{after, is_whole, leads_to, rest_from,
 ghost use Rattle.lc_level.specs.PathSteps.{if_seen, is_led_to, leads_on, unled};
 ghost use Rattle.std.specs.Str.{bytes_eq};
 
+use crate::FaultWord;
 use crate::counted::FileFault;
-use lc_tree::{Entry, FaultWord, Kind};
+use lc_tree::{Entry, Kind};
 use std::alloc::{AllocError, Global};
 
 /// What follows the first bytes, where a text begins with these.

@@ -5,12 +5,13 @@ ghost use Rattle.lc_rules.specs.AttrLines.{attribute_file_of};
 ghost use Rattle.lc_level.specs.EntryLooks.{has_file};
 ghost use Rattle.lc_level.specs.RuleReads.{text_items, text_if, IsRead, IsParsed, IsIgnoreRead};
 
+use crate::FaultWord;
 use crate::entry_looks::has_file;
 use crate::level_reader::LevelReader;
 use crate::scratch::Scratch;
 use crate::unread::Unread;
 use lc_rules::{AttrFile, IgnoreFile, RuleFault};
-use lc_tree::{Entry, FaultWord, Tree};
+use lc_tree::{Entry, Tree};
 use std::alloc::{AllocError, Global};
 use std::sync::Arc;
 

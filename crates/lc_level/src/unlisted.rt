@@ -4,8 +4,7 @@ ghost use Rattle.std.specs.Prelude.{◌≡◌};
 ghost use Rattle.lc_level.specs.RulePairs.{unlisted_by};
 
 use crate::unread::Unread;
-use crate::{Cause, Place};
-use lc_tree::FaultWord;
+use crate::{Cause, FaultWord, Place};
 
 /// Why a directory gives nothing of its entries.
 #[derive(Clone, Copy, Debug, Drop, PartialEq, Eq)]

@@ -1,6 +1,6 @@
 //! Why a file was not read.
 
-use lc_tree::FaultWord;
+use crate::FaultWord;
 
 /// Why a file was not read or not counted.
 #[derive(Clone, Copy, Debug, Drop, PartialEq, Eq)]

@@ -9,7 +9,7 @@ use Rattle.lc_rules.specs.declared.states.TextState.TheVariants as text
 use Rattle.lc_level.specs.FaultLines.{FaultLineModel}
 use Rattle.lc_level.specs.Level.{Reason, named_git, by_rule, by_attribute, other_kind}
 use Rattle.lc_text.specs.RulePlaces.{rule_file}
-use Rattle.lc_tree.specs.FaultWords.{fault_word}
+use Rattle.lc_level.specs.FaultWords.{fault_word}
 use Rattle.lc_text.specs.declared.shape.Columns.{Columns}
 use Rattle.lc_walk.specs.Key.{Key}
 use Rattle.lc_walk.specs.ReportLines.{FileLineModel, LeftLineModel}

@@ -5,7 +5,7 @@ use Rattle.std.specs.List.{list_any}
 use Rattle.lc_census.specs.declared.totals.Eol.{Eol}
 use Rattle.lc_census.specs.declared.totals.Eol.TheVariants.{Nul}
 use Rattle.lc_level.specs.FaultLines.{FaultLineModel}
-use Rattle.lc_tree.specs.FaultWords.{fault_word}
+use Rattle.lc_level.specs.FaultWords.{fault_word}
 use Rattle.lc_text.specs.Visible.{visible_bytes, visible_path}
 use Rattle.lc_text.specs.declared.shape.Columns.{Columns}
 use Rattle.lc_walk.specs.ReportLines.{FileLineModel, LeftLineModel}

@@ -9,7 +9,7 @@ use Rattle.lc_walk.specs.TallyRows.{TallyRowModel}
 use Rattle.lc_walk.specs.ReportLines.{FileLineModel, LeftLineModel}
 use Rattle.lc_level.specs.FaultLines.{FaultLineModel}
 use Rattle.lc_walk.specs.declared.tally.sums.Sums.{Sums}
-use Rattle.lc_tree.specs.FaultWords.{fault_word}
+use Rattle.lc_level.specs.FaultWords.{fault_word}
 use Rattle.lc_walk.specs.declared.report.Report.{Report}
 use Rattle.lc_text.specs.Escape.{escape_bytes, escape_path}
 use Rattle.lc_text.specs.declared.shape.Columns.{Columns}

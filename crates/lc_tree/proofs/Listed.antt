@@ -17,8 +17,8 @@ use Rattle.lc_tree.specs.ByteOrder.{bytes_cmp, AreApart, AreInOrder}
 use Rattle.lc_tree.specs.Listed.{has_twice, insert, sorted, listed}
 use Rattle.lc_tree.specs.Listing.{EntryModel, names, have_good_names, max_entries, HaveDistinctNames}
 use Rattle.lc_tree.specs.MemTrees.{IsAnswerFor}
-use Rattle.lc_tree.specs.declared.fault_word.FaultWord.{FaultWord}
-use Rattle.lc_tree.specs.declared.fault_word.FaultWord.TheVariants.{Name, Twice, Many}
+use Rattle.lc_tree.specs.declared.read_fault.ReadFault.{ReadFault}
+use Rattle.lc_tree.specs.declared.read_fault.ReadFault.TheVariants.{BadName, Twice, TooMany}
 use Rattle.lc_tree.proofs.Entries.{good_names_moved}
 
 module _ {X : Type 0} (name : X → List ℕ) where
@@ -131,9 +131,9 @@ not_apart_if_twice (n ∷ ns) e apart =
 
 -- ---- the answer
 
-abbrev pub ItemsFor : {X : Type 0} → (X → EntryModel) → List X → Result (List X) FaultWord → Type 0
+abbrev pub ItemsFor : {X : Type 0} → (X → EntryModel) → List X → Result (List X) ReadFault → Type 0
 ItemsFor entry xs (Ok ys) = IsAnswerFor (map entry xs) (Ok (map entry ys))
-ItemsFor entry xs (Err word) = IsAnswerFor (map entry xs) (Err word)
+ItemsFor entry xs (Err fault) = IsAnswerFor (map entry xs) (Err fault)
 
 names_there : {X : Type 0} (entry : X → EntryModel) (xs : List X) → names (map entry xs) ≡ map (λ x. (entry x).name) xs
 names_there entry [] = refl
@@ -144,7 +144,7 @@ pub listed_is : {X : Type 0} (entry : X → EntryModel) (xs : List X) → ItemsF
 listed_is {X} entry xs = at (have_good_names (map entry xs)) refl
   where
     few : (b : Bool) → have_good_names (map entry xs) ≡ true → AreApart (names (map entry xs)) → nat_lt max_entries (length xs) ≡ b →
-        ItemsFor entry xs (cond b (Err Many) (Ok (sorted (λ x. (entry x).name) xs)))
+        ItemsFor entry xs (cond b (Err TooMany) (Ok (sorted (λ x. (entry x).name) xs)))
     few true good apart e = (good, apart, rw (length-map xs entry) (ltb-true max_entries (length xs) e))
     few false good apart e =
         let moved : IsPermutation (map entry xs) (map entry (sorted (λ x. (entry x).name) xs)) =
@@ -164,13 +164,13 @@ listed_is {X} entry xs = at (have_good_names (map entry xs)) refl
         }
 
     once : (b : Bool) → have_good_names (map entry xs) ≡ true → has_twice (names (map entry xs)) ≡ b →
-        ItemsFor entry xs (cond b (Err Twice) (cond (nat_lt max_entries (length xs)) (Err Many) (Ok (sorted (λ x. (entry x).name) xs))))
+        ItemsFor entry xs (cond b (Err Twice) (cond (nat_lt max_entries (length xs)) (Err TooMany) (Ok (sorted (λ x. (entry x).name) xs))))
     once true good e = (good, not_apart_if_twice (names (map entry xs)) e)
     once false good e = few (nat_lt max_entries (length xs)) good (apart_if_once (names (map entry xs)) e) refl
 
     at : (b : Bool) → have_good_names (map entry xs) ≡ b →
-        ItemsFor entry xs (cond (not b) (Err Name) (cond (has_twice (names (map entry xs))) (Err Twice)
-        (cond (nat_lt max_entries (length xs)) (Err Many) (Ok (sorted (λ x. (entry x).name) xs)))))
+        ItemsFor entry xs (cond (not b) (Err BadName) (cond (has_twice (names (map entry xs))) (Err Twice)
+        (cond (nat_lt max_entries (length xs)) (Err TooMany) (Ok (sorted (λ x. (entry x).name) xs)))))
     at true e = once (has_twice (names (map entry xs))) e refl
     at false e = e
 
@@ -182,7 +182,7 @@ all_listed {X} entry P xs all =
     at (have_good_names (map entry xs)) refl (has_twice (names (map entry xs))) refl (nat_lt max_entries (length xs))
   where
     at : (good : Bool) → have_good_names (map entry xs) ≡ good → (twice : Bool) → has_twice (names (map entry xs)) ≡ twice → (many : Bool) →
-        IfOk (cond (not good) (Err Name) (cond twice (Err Twice) (cond many (Err Many) (Ok (sorted (λ x. (entry x).name) xs)))))
+        IfOk (cond (not good) (Err BadName) (cond twice (Err Twice) (cond many (Err TooMany) (Ok (sorted (λ x. (entry x).name) xs)))))
         (AllByRecursion P)
     at false g twice t many = tt
     at true g true t many = tt

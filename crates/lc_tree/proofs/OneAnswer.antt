@@ -3,8 +3,8 @@ use Rattle.std.proofs.Common.{◌≡◌, Bool, List, Result, Ok, Err, Option, So
 use Rattle.std.proofs.lemmas.List.Sorted.{IsPermutation-sym, Contains-permutation, length_permutation}
 use Rattle.lc_tree.specs.Listing.{EntryModel, IsListingOf, have_good_names}
 use Rattle.lc_tree.specs.MemTrees.{IsAnswerFor, ListsWithin, ListsNode}
-use Rattle.lc_tree.specs.declared.fault_word.FaultWord.{FaultWord}
-use Rattle.lc_tree.specs.declared.fault_word.FaultWord.TheVariants.{Read, Name, Twice, Many, Long, Endless, Absent}
+use Rattle.lc_tree.specs.declared.read_fault.ReadFault.{ReadFault}
+use Rattle.lc_tree.specs.declared.read_fault.ReadFault.TheVariants.{Failed, Unnamed, BadName, Twice, TooMany, Memory}
 use Rattle.lc_tree.specs.declared.node.Node.{Node, out-Node}
 use Rattle.lc_tree.specs.declared.node.Node.TheOpen.{Node-F}
 use Rattle.lc_tree.proofs.Entries.{good_names_moved, distinct_from_sorted}
@@ -26,33 +26,31 @@ both b is not = let e = sym is ∙ not in cc
 good : (es a : List EntryModel) → IsListingOf es a → IsTrue (have_good_names es)
 good es a is = good_names_moved a es (IsPermutation-sym es a is.entries) is.listing.good
 
-one_answer : (es : List EntryModel) (a b : Result (List EntryModel) FaultWord) → IsAnswerFor es a → IsAnswerFor es b → a ≡ b
-one_answer es (Err Read) b p q = absurd p
-one_answer es (Err Long) b p q = absurd p
-one_answer es (Err Endless) b p q = absurd p
-one_answer es (Err Absent) b p q = absurd p
-one_answer es a (Err Read) p q = absurd q
-one_answer es a (Err Long) p q = absurd q
-one_answer es a (Err Endless) p q = absurd q
-one_answer es a (Err Absent) p q = absurd q
+one_answer : (es : List EntryModel) (a b : Result (List EntryModel) ReadFault) → IsAnswerFor es a → IsAnswerFor es b → a ≡ b
+one_answer es (Err Failed) b p q = absurd p
+one_answer es (Err Unnamed) b p q = absurd p
+one_answer es (Err Memory) b p q = absurd p
+one_answer es a (Err Failed) p q = absurd q
+one_answer es a (Err Unnamed) p q = absurd q
+one_answer es a (Err Memory) p q = absurd q
 one_answer es (Ok a) (Ok b) p q = ap Ok (one_listing es a b p q)
-one_answer es (Ok a) (Err Name) p q = absurd (both (have_good_names es) (good es a p) q)
+one_answer es (Ok a) (Err BadName) p q = absurd (both (have_good_names es) (good es a p) q)
 one_answer es (Ok a) (Err Twice) p q = absurd (q.1 (distinct_from_sorted es a p.entries p.listing.order))
-one_answer es (Ok a) (Err Many) p q = absurd (omega (arith, p.listing.few, q.2, length_permutation es a p.entries))
-one_answer es (Err Name) (Ok b) p q = absurd (both (have_good_names es) (good es b q) p)
-one_answer es (Err Name) (Err Name) p q = refl
-one_answer es (Err Name) (Err Twice) p q = absurd (both (have_good_names es) q.0 p)
-one_answer es (Err Name) (Err Many) p q = absurd (both (have_good_names es) q.0 p)
+one_answer es (Ok a) (Err TooMany) p q = absurd (omega (arith, p.listing.few, q.2, length_permutation es a p.entries))
+one_answer es (Err BadName) (Ok b) p q = absurd (both (have_good_names es) (good es b q) p)
+one_answer es (Err BadName) (Err BadName) p q = refl
+one_answer es (Err BadName) (Err Twice) p q = absurd (both (have_good_names es) q.0 p)
+one_answer es (Err BadName) (Err TooMany) p q = absurd (both (have_good_names es) q.0 p)
 one_answer es (Err Twice) (Ok b) p q = absurd (p.1 (distinct_from_sorted es b q.entries q.listing.order))
-one_answer es (Err Twice) (Err Name) p q = absurd (both (have_good_names es) p.0 q)
+one_answer es (Err Twice) (Err BadName) p q = absurd (both (have_good_names es) p.0 q)
 one_answer es (Err Twice) (Err Twice) p q = refl
-one_answer es (Err Twice) (Err Many) p q = absurd (p.1 q.1)
-one_answer es (Err Many) (Ok b) p q = absurd (omega (arith, q.listing.few, p.2, length_permutation es b q.entries))
-one_answer es (Err Many) (Err Name) p q = absurd (both (have_good_names es) p.0 q)
-one_answer es (Err Many) (Err Twice) p q = absurd (q.1 p.1)
-one_answer es (Err Many) (Err Many) p q = refl
+one_answer es (Err Twice) (Err TooMany) p q = absurd (p.1 q.1)
+one_answer es (Err TooMany) (Ok b) p q = absurd (omega (arith, q.listing.few, p.2, length_permutation es b q.entries))
+one_answer es (Err TooMany) (Err BadName) p q = absurd (both (have_good_names es) p.0 q)
+one_answer es (Err TooMany) (Err Twice) p q = absurd (q.1 p.1)
+one_answer es (Err TooMany) (Err TooMany) p q = refl
 
-once_within : (node : Node-F Node) (a b : Result (List EntryModel) FaultWord) → ListsWithin node a → ListsWithin node b → a ≡ b
+once_within : (node : Node-F Node) (a b : Result (List EntryModel) ReadFault) → ListsWithin node a → ListsWithin node b → a ≡ b
 once_within (Node-F.Dir entries) a b p q = one_answer _ a b p q
 once_within Node-F.Closed a b p q = p ∙ sym q
 once_within (Node-F.File bytes) a b p q = p ∙ sym q
@@ -60,6 +58,6 @@ once_within (Node-F.Failing bytes) a b p q = p ∙ sym q
 once_within Node-F.Other a b p q = p ∙ sym q
 
 -- a node is listed in one way
-pub lists_once : (node : Option Node) (a b : Result (List EntryModel) FaultWord) → ListsNode node a → ListsNode node b → a ≡ b
+pub lists_once : (node : Option Node) (a b : Result (List EntryModel) ReadFault) → ListsNode node a → ListsNode node b → a ≡ b
 lists_once None a b p q = p ∙ sym q
 lists_once (Some node) a b p q = once_within (out-Node node) a b p q

@@ -2,7 +2,7 @@
 use Rattle.std.specs.Prelude.{◌≡◌, ℕ, ◌⊎◌, [], ◌∷◌, Err}
 use Rattle.lc_census.specs.Reads.{Answer, gave, failed, at_end, at_failure, at_neither}
 use Rattle.lc_tree.specs.Trees.{Listings, Contents}
-use Rattle.lc_tree.specs.declared.fault_word.FaultWord.TheVariants.{Read}
+use Rattle.lc_tree.specs.declared.read_fault.ReadFault.TheVariants.{Failed}
 
 -- a read answers as the file does, or fails and leaves it as it was
 abbrev pub MayFail : {F : Type 0} → (F → ℕ → Answer → F → Type 0) → F → ℕ → Answer → F → Type 0
@@ -11,7 +11,7 @@ MayFail may_give old room failed new = may_give old room failed new ⊎ (new ≡
 
 -- a listing is the tree's, or can't be read
 abbrev pub ListsOrFails : Listings → Listings
-ListsOrFails lists answer = lists answer ⊎ (answer ≡ Err Read)
+ListsOrFails lists answer = lists answer ⊎ (answer ≡ Err Failed)
 
 -- the reads of a file give what the tree's do, or fail at once or after some of its pieces
 abbrev pub GivesOrFails : Contents → Contents

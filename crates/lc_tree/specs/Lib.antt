@@ -1,7 +1,6 @@
 pub mod ByteOrder
 pub mod FailingContents
 pub mod FailingTrees
-pub mod FaultWords
 pub mod Kinds
 pub mod Listed
 pub mod Listing

@@ -4,8 +4,8 @@ use Rattle.std.specs.List.{list_any}
 use Rattle.std.specs.Ordering.{is_lt}
 use Rattle.lc_tree.specs.ByteOrder.{bytes_cmp}
 use Rattle.lc_tree.specs.Listing.{EntryModel, names, have_good_names, max_entries}
-use Rattle.lc_tree.specs.declared.fault_word.FaultWord.{FaultWord}
-use Rattle.lc_tree.specs.declared.fault_word.FaultWord.TheVariants.{Name, Twice, Many}
+use Rattle.lc_tree.specs.declared.read_fault.ReadFault.{ReadFault}
+use Rattle.lc_tree.specs.declared.read_fault.ReadFault.TheVariants.{BadName, Twice, TooMany}
 
 -- whether some name stands twice
 abbrev pub has_twice : List (List ℕ) → Bool
@@ -21,10 +21,10 @@ abbrev pub sorted : {X : Type 0} → (X → List ℕ) → List X → List X
 sorted name [] = []
 sorted name (x ∷ xs) = insert name x (sorted name xs)
 
--- the listing of these entries, or the word for why they make none
-abbrev pub listed : {X : Type 0} → (X → EntryModel) → List X → Result (List X) FaultWord
+-- the listing of these entries, or why they make none
+abbrev pub listed : {X : Type 0} → (X → EntryModel) → List X → Result (List X) ReadFault
 listed entry xs =
-    cond (not (have_good_names (map entry xs))) (Err Name)
+    cond (not (have_good_names (map entry xs))) (Err BadName)
     (cond (has_twice (names (map entry xs))) (Err Twice)
-    (cond (nat_lt max_entries (length xs)) (Err Many)
+    (cond (nat_lt max_entries (length xs)) (Err TooMany)
     (Ok (sorted (λ x. (entry x).name) xs))))

@@ -4,34 +4,33 @@ use Rattle.lc_census.specs.Reads.{Answer, gave, failed}
 use Rattle.lc_tree.specs.Listing.{EntryModel, IsListingOf, IsRefusedBy}
 use Rattle.lc_tree.specs.Nodes.{entry_of, node_at}
 use Rattle.lc_tree.specs.Trees.{Listings, Contents, Content, GivesContent}
-use Rattle.lc_tree.specs.declared.fault_word.FaultWord.{FaultWord}
-use Rattle.lc_tree.specs.declared.fault_word.FaultWord.TheVariants.{Read, Name, Twice, Many, Long, Endless, Absent}
 use Rattle.lc_tree.specs.declared.listing.ListingFault.TheVariants.{BadName, TooMany}
 use Rattle.lc_tree.specs.declared.listing.ListingFault.TheVariants as listing
 use Rattle.lc_tree.specs.declared.node.Node.{Node, out-Node}
 use Rattle.lc_tree.specs.declared.node.Node.TheOpen.{Node-F}
+use Rattle.lc_tree.specs.declared.read_fault.ReadFault.{ReadFault}
+use Rattle.lc_tree.specs.declared.read_fault.ReadFault.TheVariants as fault
 
--- the listing of these entries, or the word for why they make none
-abbrev pub IsAnswerFor : List EntryModel → Result (List EntryModel) FaultWord → Type 0
+-- the listing of these entries, or why they make none
+abbrev pub IsAnswerFor : List EntryModel → Result (List EntryModel) ReadFault → Type 0
 IsAnswerFor entries (Ok listed) = IsListingOf entries listed
-IsAnswerFor entries (Err Name) = IsRefusedBy entries BadName
-IsAnswerFor entries (Err Twice) = IsRefusedBy entries listing.Twice
-IsAnswerFor entries (Err Many) = IsRefusedBy entries TooMany
-IsAnswerFor entries (Err Read) = ⊥
-IsAnswerFor entries (Err Long) = ⊥
-IsAnswerFor entries (Err Endless) = ⊥
-IsAnswerFor entries (Err Absent) = ⊥
+IsAnswerFor entries (Err fault.BadName) = IsRefusedBy entries BadName
+IsAnswerFor entries (Err fault.Twice) = IsRefusedBy entries listing.Twice
+IsAnswerFor entries (Err fault.TooMany) = IsRefusedBy entries TooMany
+IsAnswerFor entries (Err fault.Failed) = ⊥
+IsAnswerFor entries (Err fault.Unnamed) = ⊥
+IsAnswerFor entries (Err fault.Memory) = ⊥
 
 -- what listing a node answers: a directory's entries listed, and for any other node that it can't be read
 abbrev pub ListsWithin : Node-F Node → Listings
 ListsWithin (Node-F.Dir entries) answer = IsAnswerFor (map entry_of entries.items) answer
-ListsWithin Node-F.Closed answer = answer ≡ Err Read
-ListsWithin (Node-F.File bytes) answer = answer ≡ Err Read
-ListsWithin (Node-F.Failing bytes) answer = answer ≡ Err Read
-ListsWithin Node-F.Other answer = answer ≡ Err Read
+ListsWithin Node-F.Closed answer = answer ≡ Err fault.Failed
+ListsWithin (Node-F.File bytes) answer = answer ≡ Err fault.Failed
+ListsWithin (Node-F.Failing bytes) answer = answer ≡ Err fault.Failed
+ListsWithin Node-F.Other answer = answer ≡ Err fault.Failed
 
 abbrev pub ListsNode : Option Node → Listings
-ListsNode None answer = answer ≡ Err Read
+ListsNode None answer = answer ≡ Err fault.Failed
 ListsNode (Some node) answer = ListsWithin (out-Node node) answer
 
 -- what can't be opened is a file that fails at once

@@ -4,8 +4,8 @@ use Rattle.lc_tree.specs.Listing.{EntryModel}
 use Rattle.lc_tree.specs.MemTrees.{content_of, mem_lists}
 use Rattle.lc_tree.specs.Nodes.{node_at}
 use Rattle.lc_tree.specs.Trees.{Content}
-use Rattle.lc_tree.specs.declared.fault_word.FaultWord.{FaultWord}
 use Rattle.lc_tree.specs.declared.node.Node.{Node}
+use Rattle.lc_tree.specs.declared.read_fault.ReadFault.{ReadFault}
 
 -- what a tree of memory holds at a path
 abbrev pub content_at : Node → List ℕ → Content
@@ -13,4 +13,4 @@ content_at top path = content_of (node_at top path)
 
 -- each path has one listing, or one fault
 abbrev pub ListsOnce : Type 0
-ListsOnce = (top : Node) (path : List ℕ) (a b : Result (List EntryModel) FaultWord) → mem_lists top path a → mem_lists top path b → a ≡ b
+ListsOnce = (top : Node) (path : List ℕ) (a b : Result (List EntryModel) ReadFault) → mem_lists top path a → mem_lists top path b → a ≡ b

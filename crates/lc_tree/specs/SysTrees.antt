@@ -8,7 +8,7 @@ use Rattle.lc_tree.specs.declared.read_fault.ReadFault.{ReadFault}
 -- a directory may have any listing, or any fault
 abbrev pub AnyListing : Listings
 AnyListing (Ok entries) = IsListing entries
-AnyListing (Err word) = Unit {0}
+AnyListing (Err fault) = Unit {0}
 
 -- the reads of a file may give anything
 abbrev pub AnyContents : Contents

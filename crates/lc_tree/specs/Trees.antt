@@ -1,25 +1,14 @@
 -- What the calls of a tree answer.
-use Rattle.std.specs.Prelude.{◌≡◌, ◌≢◌, ℕ, Bool, List, [], ◌++◌, Option, Some, None, Result, Ok, Err, IfSome, MatchResult, IsTrue, IsFalse}
+use Rattle.std.specs.Prelude.{◌≡◌, ◌≢◌, ℕ, Bool, List, [], ◌++◌, Result, Ok, Err, MatchResult, IsTrue, IsFalse}
 use Rattle.std.specs.List.{concat, AllByRecursion}
 use Rattle.lc_census.specs.Reads.{Answer, AnyRoom, Stop, at_end, at_failure, at_neither, Reads}
 use Rattle.lc_tree.specs.Listing.{EntryModel}
-use Rattle.lc_tree.specs.declared.fault_word.FaultWord.{FaultWord}
-use Rattle.lc_tree.specs.declared.fault_word.FaultWord.TheVariants as word
 use Rattle.lc_tree.specs.declared.read_fault.ReadFault.{ReadFault}
 use Rattle.lc_tree.specs.declared.read_fault.ReadFault.TheVariants as fault
 
--- the word of a fault; want of memory has none
-abbrev pub word_of : ReadFault → Option FaultWord
-word_of fault.Failed = Some word.Read
-word_of fault.Unnamed = Some word.Name
-word_of fault.BadName = Some word.Name
-word_of fault.Twice = Some word.Twice
-word_of fault.TooMany = Some word.Many
-word_of fault.Memory = None
-
 -- what listing a path may answer, but for want of memory: entries, or a fault
 abbrev pub Listings : Type 1
-Listings = Result (List EntryModel) FaultWord → Type 0
+Listings = Result (List EntryModel) ReadFault → Type 0
 
 -- what the reads of an opened file may give: pieces in turn, and how they stop
 abbrev pub Contents : Type 1
@@ -27,7 +16,13 @@ Contents = List (List ℕ) → Stop → Type 0
 
 -- the answer to a listing is one of these, or memory was refused
 abbrev pub Lists : Listings → Result (List EntryModel) ReadFault → Type 0
-Lists may answer = MatchResult answer (λ entries. may (Ok entries)) (λ f. IfSome (word_of f) (λ w. may (Err w)))
+Lists may (Ok entries) = may (Ok entries)
+Lists may (Err fault.Failed) = may (Err fault.Failed)
+Lists may (Err fault.Unnamed) = may (Err fault.Unnamed)
+Lists may (Err fault.BadName) = may (Err fault.BadName)
+Lists may (Err fault.Twice) = may (Err fault.Twice)
+Lists may (Err fault.TooMany) = may (Err fault.TooMany)
+Lists may (Err fault.Memory) = Unit {0}
 
 -- whatever reads of a file give is one of these
 abbrev pub GivesOnly : {F : Type 0} → (F → ℕ → Answer → F → Type 0) → Contents → F → Type 0

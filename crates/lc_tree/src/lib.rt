@@ -2,7 +2,7 @@
 //!
 //! - `tree`: the trait `Tree`
 //! - `entry`, `listing`: the entries of one directory, in the order of their names
-//! - `read_fault`: why a tree did not answer; `fault_word`: how a report tells of it
+//! - `read_fault`: why a tree did not answer
 //! - `sys_tree`, `sys_entries`: a directory of the system as a tree; `system_call`: calls that signals interrupt
 //! - `node`, `mem_tree`, `mem_file`: a tree of memory
 //! - `sketch`, `trials`: trees for tests of any crate
@@ -10,7 +10,6 @@
 #![tactic(auto)]
 
 mod entry;
-mod fault_word;
 mod laws;
 mod listing;
 mod mem_file;
@@ -25,7 +24,6 @@ mod tree;
 pub mod trials;
 
 pub use entry::{Entry, Kind};
-pub use fault_word::FaultWord;
 pub use laws::{the_limit_is_this_number, trees_of_memory_list_once};
 pub use listing::{Listing, ListingFault, MAX_ENTRIES};
 pub use mem_file::MemFile;

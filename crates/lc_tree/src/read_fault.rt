@@ -1,8 +1,5 @@
 //! Why a tree did not answer.
-ghost use Rattle.std.specs.Prelude.{◌≡◌};
-ghost use Rattle.lc_tree.specs.Trees.{word_of};
-
-use crate::{FaultWord, ListingFault};
+use crate::ListingFault;
 use std::alloc::{AllocError, AllocFailed};
 use thiserror::Error;
 
@@ -27,22 +24,6 @@ pub enum ReadFault {
     /// Memory was refused.
     #[error("out of memory")]
     Memory,
-}
-
-impl ReadFault {
-    /// The word by which a report tells of it. Want of memory has none, since there is no report then.
-    pub fn word(self) -> Option<FaultWord>
-        ensures { result ≡ word_of self }
-    {
-        match self {
-            ReadFault::Failed => Some(FaultWord::Read),
-            ReadFault::Unnamed => Some(FaultWord::Name),
-            ReadFault::BadName => Some(FaultWord::Name),
-            ReadFault::Twice => Some(FaultWord::Twice),
-            ReadFault::TooMany => Some(FaultWord::Many),
-            ReadFault::Memory => None,
-        }
-    }
 }
 
 impl From<ListingFault> for ReadFault {

@@ -3,7 +3,7 @@ use Rattle.std.proofs.Common.{◌≡◌, ℕ, cond, ◌&&◌, Bool, true, false,
 use Rattle.std.proofs.Common.{None, Result, Ok, Err, codes, bytes_eq}
 use Rattle.std.specs.List.{flat_map, AllByRecursion}
 use Rattle.lc_tree.specs.Listing.{IsListing}
-use Rattle.lc_tree.specs.declared.fault_word.FaultWord.{FaultWord}
+use Rattle.lc_level.specs.declared.fault_word.FaultWord.{FaultWord}
 use Rattle.lc_glob.specs.Path.{path_in}
 use Rattle.lc_level.specs.Answers.{Item, file_item, directory_item, other_item, Items, Answers, name_of}
 use Rattle.lc_level.specs.Job.{JobModel}

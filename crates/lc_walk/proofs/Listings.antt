@@ -8,7 +8,7 @@ use Rattle.std.proofs.lemmas.List.Sums.{sum_by-append, sum_by-cons}
 use Rattle.lc_level.specs.Job.{JobModel}
 use Rattle.lc_level.specs.Level.{Fate, counted, failed, walked, left, listed_level, counted_of, failed_of, left_of, counted_in, failed_in}
 use Rattle.lc_level.specs.Level.{FileFaultModel, left_in, absent_faults}
-use Rattle.lc_tree.specs.declared.fault_word.FaultWord.TheVariants.{Absent}
+use Rattle.lc_level.specs.declared.fault_word.FaultWord.TheVariants.{Absent}
 use Rattle.lc_walk.specs.Found.{Found, found_directory, found_absent, found_by, found_of}
 use Rattle.lc_walk.specs.WalkReport.{tallied, line_of, left_line, tallied_in, file_in, fault_in, directory_in, left_out_in, entries_in}
 use Rattle.lc_walk.specs.WalkReport.{tallied_of, files_of, faults_of, directories_of, left_out_of, entry_count}

@@ -12,7 +12,7 @@ use Rattle.lc_level.specs.Selection.{SelectionModel, narrowed}
 use Rattle.lc_level.proofs.Tidy.{IsGoodName, Spread}
 use Rattle.lc_tree.specs.declared.entry.Kind.{Kind}
 use Rattle.lc_tree.specs.declared.entry.Kind.TheVariants.{File, Dir, Other}
-use Rattle.lc_tree.specs.declared.fault_word.FaultWord.{FaultWord}
+use Rattle.lc_level.specs.declared.fault_word.FaultWord.{FaultWord}
 use Rattle.lc_walk.proofs.Elements.{In}
 use Rattle.lc_walk.proofs.Levels.{IsOwnPlace, own_level_keeps}
 

@@ -13,8 +13,8 @@ use Rattle.lc_level.proofs.AskedPaths.{all_take_part}
 use Rattle.lc_level.proofs.Tidy.{IsGoodName}
 use Rattle.lc_tree.specs.declared.entry.Kind.{Kind}
 use Rattle.lc_tree.specs.declared.entry.Kind.TheVariants.{File, Dir}
-use Rattle.lc_tree.specs.declared.fault_word.FaultWord.{FaultWord}
-use Rattle.lc_tree.specs.declared.fault_word.FaultWord.TheVariants.{Absent}
+use Rattle.lc_level.specs.declared.fault_word.FaultWord.{FaultWord}
+use Rattle.lc_level.specs.declared.fault_word.FaultWord.TheVariants.{Absent}
 use Rattle.lc_walk.specs.Found.{Found, found_file, found_fault, found_directory, found_left}
 use Rattle.lc_walk.specs.FoundAt.{IsListed, LeavesIn, LeadsTo, HasEntry, Gives, IsFoundIn}
 use Rattle.lc_walk.specs.PartOfWalk.{IsWithin, EntryTakesPart, IsOnWay, IsFaultOnWay, Lists, PartOfWalkLaw}

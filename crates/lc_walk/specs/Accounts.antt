@@ -14,7 +14,7 @@ use Rattle.lc_rules.specs.IgnoreRules.{RuleModel}
 use Rattle.lc_rules.specs.declared.origin.Origin.{Origin}
 use Rattle.lc_tree.specs.Kinds.{is_dir}
 use Rattle.lc_tree.specs.Trees.{Listings, Contents}
-use Rattle.lc_tree.specs.declared.fault_word.FaultWord.TheVariants.{Absent}
+use Rattle.lc_level.specs.declared.fault_word.FaultWord.TheVariants.{Absent}
 use Rattle.lc_walk.specs.FoundAt.{IsListed, LeadsTo}
 use Rattle.lc_walk.specs.ReportLines.{LeftLineModel}
 use Rattle.lc_walk.specs.Walk.{walk_of}

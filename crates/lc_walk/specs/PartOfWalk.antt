@@ -10,8 +10,8 @@ use Rattle.lc_level.specs.Selection.{SelectionModel, narrowed}
 use Rattle.lc_level.specs.Tidy.{IsTidy}
 use Rattle.lc_tree.specs.Kinds.{is_dir}
 use Rattle.lc_tree.specs.declared.entry.Kind.{Kind}
-use Rattle.lc_tree.specs.declared.fault_word.FaultWord.{FaultWord}
-use Rattle.lc_tree.specs.declared.fault_word.FaultWord.TheVariants.{Absent}
+use Rattle.lc_level.specs.declared.fault_word.FaultWord.{FaultWord}
+use Rattle.lc_level.specs.declared.fault_word.FaultWord.TheVariants.{Absent}
 use Rattle.lc_walk.specs.Found.{Found, found_file, found_fault, found_directory, found_left}
 use Rattle.lc_walk.specs.FoundAt.{LeadsTo}
 use Rattle.lc_walk.specs.Walk.{walk_of}

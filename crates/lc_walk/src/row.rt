@@ -2,7 +2,7 @@
 ghost use Rattle.std.specs.Prelude.{◌≡◌, IfOk, IfErr};
 
 use lc_level::{Cause, Counted, FileFault, Job, LeftOut, Place};
-use lc_tree::FaultWord;
+use lc_level::FaultWord;
 use std::alloc::Global;
 use std::marker::Model;
 

@@ -6,7 +6,8 @@ use lc_level::{
     Cause, Entered, Job, Kept, LevelReader, Place, Scratch, Selection, Unlisted, path_in,
 };
 use lc_rules::{Origin, Verdict};
-use lc_tree::{Entry, FaultWord, Kind, MemTree, Sketch};
+use lc_level::FaultWord;
+use lc_tree::{Entry, Kind, MemTree, Sketch};
 use std::alloc::{AllocError, Global};
 use std::process::Abort;
 use std::test::Fail;

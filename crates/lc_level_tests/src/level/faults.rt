@@ -2,7 +2,8 @@
 
 use crate::level::work::{Asked, check, top};
 use lc_level::{Place, Unlisted};
-use lc_tree::{FaultWord, Sketch};
+use lc_level::FaultWord;
+use lc_tree::Sketch;
 use std::alloc::{AllocError, Global};
 use std::process::Abort;
 use std::test::Fail;

@@ -2,7 +2,8 @@
 
 use crate::level::work::{Asked, are_faults, are_names, job_of, open, top, work};
 use lc_level::{FileFault, Job, Kept, LeftOut, LevelReader, Opened, Scratch, Selection};
-use lc_tree::{FaultWord, MemTree, Sketch};
+use lc_level::FaultWord;
+use lc_tree::{MemTree, Sketch};
 use std::alloc::{AllocError, Global};
 use std::process::Abort;
 use std::test::Fail;

@@ -2,7 +2,8 @@
 
 use lc_level::{Cause, CountedFiles, Job, Kept, LevelReader, Opened, Scratch, Selection, Unlisted};
 use lc_rules::{IgnoreFile, RuleFault, TextState};
-use lc_tree::{FaultWord, MemTree, Sketch};
+use lc_level::FaultWord;
+use lc_tree::{MemTree, Sketch};
 use std::alloc::{AllocError, Global};
 use std::process::Abort;
 use std::sync::Arc;

@@ -5,7 +5,7 @@ use lc_census::Eol;
 use lc_rules::TextState;
 use lc_table::table_text;
 use lc_text::{Columns, Format, Shape, SortBy};
-use lc_tree::FaultWord;
+use lc_level::FaultWord;
 use std::process::Abort;
 use std::test::Fail;
 

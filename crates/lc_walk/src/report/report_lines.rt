@@ -2,7 +2,8 @@
 use lc_census::Count;
 use lc_level::Reason;
 use lc_rules::TextState;
-use lc_tree::{FaultWord, Kind};
+use lc_level::FaultWord;
+use lc_tree::Kind;
 use std::marker::Model;
 
 /// A counted file.

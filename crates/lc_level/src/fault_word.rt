@@ -1,7 +1,9 @@
 //! Why a part of a tree was not counted.
 
 ghost use Rattle.std.specs.Prelude.{◌≡◌};
-ghost use Rattle.lc_tree.specs.FaultWords.{fault_word};
+ghost use Rattle.lc_level.specs.FaultWords.{fault_word, word_of};
+
+use lc_tree::ReadFault;
 
 /// Why a listing or a file was not read.
 #[derive(Clone, Copy, Debug, Drop, PartialEq, Eq)]
@@ -23,6 +25,20 @@ pub enum FaultWord {
 }
 
 impl FaultWord {
+    /// That of a directory that a tree didn't list. Want of memory has none, since there is no report then.
+    pub fn of(fault: ReadFault) -> Option<FaultWord>
+        ensures { result ≡ word_of fault }
+    {
+        match fault {
+            ReadFault::Failed => Some(FaultWord::Read),
+            ReadFault::Unnamed => Some(FaultWord::Name),
+            ReadFault::BadName => Some(FaultWord::Name),
+            ReadFault::Twice => Some(FaultWord::Twice),
+            ReadFault::TooMany => Some(FaultWord::Many),
+            ReadFault::Memory => None,
+        }
+    }
+
     /// The word that is printed, as `read`.
     pub fn as_str(self) -> &'static str
         ensures { result.now ≡ fault_word self }
