@@ -1,10 +1,11 @@
 -- The level of a directory, by what opening it and counting its files answered.
-use Rattle.std.proofs.Common.{◌≡◌, ℕ, Bool, true, ◌&&◌, List, [], ◌++◌, length, refl, sym, ◌∙◌, ap, subst}
+use Rattle.std.proofs.Common.{◌≡◌, ℕ, Bool, true, false, ◌&&◌, List, [], ◌++◌, length, refl, sym, ◌∙◌, ap, subst}
 use Rattle.std.proofs.Common.{Ok, if◌then◌else◌, codes}
-use Rattle.std.specs.List.{flat_map, AllByRecursion}
+use Rattle.std.specs.List.{filter, flat_map, list_any, AllByRecursion}
 use Rattle.lc_glob.specs.Path.{path_in}
 use Rattle.lc_level.specs.Answers.{Item, Items, Answers, entries_of}
 use Rattle.lc_level.specs.CountedNames.{AreCounted, file_fates, IsCounted}
+use Rattle.lc_level.specs.Deep.{is_too_deep, has_too_deep}
 use Rattle.lc_level.specs.Job.{JobModel}
 use Rattle.lc_level.specs.Laws.{parts_with}
 use Rattle.lc_level.specs.LeftIn.{kept_file, bytes_of}
@@ -24,6 +25,7 @@ use Rattle.lc_level.specs.declared.counting.CountedFiles.{CountedFiles}
 use Rattle.lc_level.specs.declared.opening.Opened.{Opened}
 use Rattle.lc_level.proofs.Fates.{counted_items_are, failed_items_are, walked_items_are, left_items_are}
 use Rattle.lc_level.proofs.AskedPaths.{absent_is}
+use Rattle.lc_level.proofs.DeepEntries.{deep_by_entries}
 use Rattle.lc_level.proofs.CountedItems.{counted_items, counted_all, part_counted, same_entries, same_file, same_directory, may_counted}
 use Rattle.lc_level.proofs.CountedItems.{same_children, same_left, same_number, number_of_fates, files_of_items, faults_of_items}
 use Rattle.lc_level.proofs.CountedItems.{children_of_items, left_of_items}
@@ -157,7 +159,13 @@ module _ (lists : List ℕ → Listings) (gives : List ℕ → Contents) (left_o
           ∙ same_number s o.job part f.results ∙ sym c.entries;
     }
 
+    shallow : has_too_deep s j answers ≡ false
+    shallow =
+        deep_by_entries s j o.job answers items c.inside.bytes refl same_rules c.inside.extends
+        ∙ ap (λ es. list_any (is_too_deep s o.job) (filter in_part es)) (same_entries s o.job in_part found f.results)
+        ∙ sym (deep_by_entries s j o.job c.inside.answers found c.inside.bytes c.inside.here c.inside.read c.inside.extends) ∙ c.shallow
+
     -- once its files are counted, by answers that the tree may give
     pub counted_level : (a : Answers) × MayAnswer lists gives j.path a × IsTidy a
-        × IsLevelOf (level s j a) left_out (parts_with o counts.files.items counts.faults.items)
-    counted_level = (answers, may_answer, is_tidy, level_is)
+        × IsLevelOf (level s j a) left_out (parts_with o counts.files.items counts.faults.items) × (has_too_deep s j a ≡ false)
+    counted_level = (answers, may_answer, is_tidy, level_is, shallow)

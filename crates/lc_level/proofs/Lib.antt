@@ -2,6 +2,7 @@ pub mod AskedPaths
 pub mod CountedItems
 pub mod CountedLevels
 pub mod CountedMore
+pub mod DeepEntries
 pub mod Depths
 pub mod EnterLevels
 pub mod Examples

@@ -1,11 +1,11 @@
 -- The answers of a tree for a directory, by what opening it answered after it was entered.
-use Rattle.std.proofs.Common.{◌≡◌, ◌<◌, ◌^◌, ℕ, suc, Bool, true, ◌||◌, List, [], ◌∷◌, length, refl, sym, ◌∙◌, ap, subst, arith}
+use Rattle.std.proofs.Common.{◌≡◌, ◌<◌, ◌^◌, ℕ, suc, Bool, true, false, List, [], ◌∷◌, length, refl, sym, ◌∙◌, ap, subst, arith}
 use Rattle.std.proofs.Common.{Ok, Err, Vec}
 use Rattle.std.proofs.lemmas.List.Sums.{count_by-le-length, length-filter}
 use Rattle.std.specs.Global.{Global}
 use Rattle.std.specs.List.{filter, list_any, flat_map}
 use Rattle.lc_level.specs.Answers.{Item, Items, entry_of, entries_of}
-use Rattle.lc_level.specs.Deep.{is_too_deep, some_too_deep, too_deep_among}
+use Rattle.lc_level.specs.Deep.{is_too_deep, has_too_deep}
 use Rattle.lc_level.specs.Enters.{IsEntered, EntersLevel}
 use Rattle.lc_level.specs.Job.{JobModel}
 use Rattle.lc_level.specs.LeftIn.{kept_file, kept_directory, left_entry, LeavesIn}
@@ -24,10 +24,7 @@ use Rattle.lc_level.specs.declared.unlisted.Unlisted.TheVariants.{Faulted, Broke
 use Rattle.lc_level.specs.declared.cause.Cause.{Cause}
 use Rattle.lc_level.specs.declared.cause.Cause.TheVariants.{Memory, TooManyDirs, TooDeep}
 use Rattle.lc_level.proofs.AskedPaths.{absent_is, entries_of_part}
-
-any_of_map : (p : EntryModel → Bool) (items : List Item) → list_any (λ i. p (entry_of i)) items ≡ list_any p (entries_of items)
-any_of_map p [] = refl
-any_of_map p (i ∷ is) = ap (λ b. p (entry_of i) || b) (any_of_map p is)
+use Rattle.lc_level.proofs.DeepEntries.{deep_by_entries}
 
 length_entries : (items : List Item) → length (entries_of items) ≡ length items
 length_entries [] = refl
@@ -68,10 +65,12 @@ module _ (lists : List ℕ → Listings) (gives : List ℕ → Contents) (left_o
     abbrev items : List Item
     items = part_of s.only j.path c.inside.items
 
+    listed_part : part ≡ filter (takes_part s.only j.path) (entries_of c.inside.items)
+    listed_part =
+        is ∙ ap (λ d. filter (takes_part s.only d) e.entries.items) same_path ∙ ap (filter (takes_part s.only j.path)) c.entries
+
     part_is : part ≡ entries_of items
-    part_is =
-        is ∙ ap (λ d. filter (takes_part s.only d) e.entries.items) same_path
-        ∙ ap (filter (takes_part s.only j.path)) c.entries ∙ sym (entries_of_part (takes_part s.only j.path) c.inside.items)
+    part_is = listed_part ∙ sym (entries_of_part (takes_part s.only j.path) c.inside.items)
 
     -- they are few
     pub few : length part < 2 ^ 32
@@ -87,24 +86,18 @@ module _ (lists : List ℕ → Listings) (gives : List ℕ → Contents) (left_o
           count_by-le-length (λ i. takes_part s.only j.path (entry_of i)) c.inside.items,
         )
 
-    -- one of them is too deep
-    deep_opens : list_any (is_too_deep s e.job) part ≡ true → OpensLevel lists gives left_out s j (Err (Broken TooDeep))
-    deep_opens deep =
-        let here : list_any (is_too_deep s e.job) (entries_of items) ≡ true = ap (list_any (is_too_deep s e.job)) (sym part_is) ∙ deep in (
-          c.inside.answers,
-          c.inside.may,
-          c.inside.tidy,
-          ap (too_deep_among s j c.inside.answers) c.inside.here ∙ ap (some_too_deep s j c.inside.items) c.inside.read
-              ∙ ap (λ (k : JobModel). list_any (λ i. is_too_deep s k (entry_of i)) items) (sym c.inside.extends)
-              ∙ any_of_map (is_too_deep s e.job) items ∙ here,
-        )
+    -- whether one of them is too deep
+    deep_is : (b : Bool) → list_any (is_too_deep s e.job) part ≡ b → has_too_deep s j c.inside.answers ≡ b
+    deep_is b is_so =
+        deep_by_entries s j e.job c.inside.answers c.inside.items c.inside.bytes c.inside.here c.inside.read c.inside.extends
+        ∙ ap (list_any (is_too_deep s e.job)) (sym listed_part) ∙ is_so
 
     -- its entries were not taken
     pub take_refused : (cause : Cause) → LeavesIn left_out s e.job part (Err cause)
         → OpensLevel lists gives left_out s j (Err (Broken cause))
     take_refused Memory l = tt
     take_refused TooManyDirs l = absurd l
-    take_refused TooDeep l = deep_opens l
+    take_refused TooDeep l = (c.inside.answers, c.inside.may, c.inside.tidy, deep_is true l)
 
     -- they were taken
     pub opened : (found : LeftIn) (absent : Vec FileFaultModel Global) (number : ℕ)
@@ -118,7 +111,7 @@ module _ (lists : List ℕ → Listings) (gives : List ℕ → Contents) (left_o
           absent = absent;
           entries = number;
         })
-    opened found absent number are counted (files, children, left) = record {
+    opened found absent number are counted (files, children, left, shallow) = record {
       inside = c.inside;
       files = files ∙ ap (flat_map (kept_file s e.job)) part_is;
       children = children ∙ ap (flat_map (kept_directory s e.job)) part_is;
@@ -127,4 +120,5 @@ module _ (lists : List ℕ → Listings) (gives : List ℕ → Contents) (left_o
           ∙ ap (λ es. absent_faults (unled es (rests s.only j.path))) c.entries
           ∙ ap absent_faults (absent_is s.only j.path c.inside.items);
       entries = counted ∙ ap length part_is ∙ length_entries items;
+      shallow = deep_is false shallow;
     }

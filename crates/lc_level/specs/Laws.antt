@@ -3,6 +3,7 @@ use Rattle.std.specs.Prelude.{◌≡◌, ℕ, Bool, true, false, List, ◌∷◌
 use Rattle.lc_tree.specs.Trees.{Listings, Contents}
 use Rattle.lc_level.specs.Answers.{Answers}
 use Rattle.lc_level.specs.CountedNames.{IsCounted}
+use Rattle.lc_level.specs.Deep.{has_too_deep}
 use Rattle.lc_level.specs.Job.{JobModel}
 use Rattle.lc_level.specs.LeftIn.{bytes_of}
 use Rattle.lc_level.specs.Level.{CountedModel, FileFaultModel, LevelParts, IsLevelOf, level}
@@ -28,13 +29,14 @@ parts_with o files faults = record {
 }
 
 module _ (lists : List ℕ → Listings) (gives : List ℕ → Contents) where
-  -- a directory that was opened and whose files were counted: by answers that the tree may give, these are its level
+  -- a directory that was opened and whose files were counted: by answers that the tree may give, these are its level, and none of its
+  -- entries is too deep
   abbrev pub CountedLaw : Type 0
   CountedLaw =
       (left_out : Bool) (s : SelectionModel) (j : JobModel) (o : Opened) (found : CountedFiles) →
       IsOpened lists gives left_out s j o → IsCounted gives o.job (bytes_of o.files.items) o.absent.items found →
       (a : Answers) × MayAnswer lists gives j.path a × IsTidy a
-      × IsLevelOf (level s j a) left_out (parts_with o found.files.items found.faults.items)
+      × IsLevelOf (level s j a) left_out (parts_with o found.files.items found.faults.items) × (has_too_deep s j a ≡ false)
 
   -- all but the files of one that was opened is that of its level, whatever its files give
   abbrev pub OpenedLaw : Type 0

@@ -53,10 +53,11 @@ TakesFile left_out reason name old new (Err Memory) = Unit {0}
 TakesFile left_out reason name old new (Err TooManyDirs) = ⊥
 TakesFile left_out reason name old new (Err TooDeep) = ⊥
 
--- what taking a child directory answers, which may have too many segments
+-- what taking a child directory answers, which may have too many segments: one that is left in has not
 abbrev pub TakesDirectory : Bool → Option Reason → Bool → List ℕ × JobModel → LeftIn → LeftIn → Result (Unit {0}) Cause → Type 0
 TakesDirectory left_out reason deep child old new (Ok _) =
     Gains old new [] (cond (is_none reason) (child ∷ []) []) (kept_left left_out child.0 Dir reason)
+    × ((is_none reason && deep) ≡ false)
 TakesDirectory left_out reason deep child old new (Err Memory) = Unit {0}
 TakesDirectory left_out reason deep child old new (Err TooManyDirs) = ⊥
 TakesDirectory left_out reason deep child old new (Err TooDeep) = (is_none reason ≡ true) × (deep ≡ true)
@@ -73,18 +74,19 @@ abbrev pub TakesOther : Bool → Option Reason → List ℕ → LeftIn → LeftI
 TakesOther left_out reason name old new result =
     LeavesOut left_out (unwrap_or reason other_kind) name Other old new result
 
--- what taking one entry more answers
+-- what taking one entry more answers: none that is too deep is taken
 abbrev pub Takes : Bool → SelectionModel → JobModel → EntryModel → LeftIn → LeftIn → Result (Unit {0}) Cause → Type 0
-Takes left_out s j e old new (Ok _) = Gains old new (kept_file s j e) (kept_directory s j e) (left_entry left_out s j e)
+Takes left_out s j e old new (Ok _) =
+    Gains old new (kept_file s j e) (kept_directory s j e) (left_entry left_out s j e) × (is_too_deep s j e ≡ false)
 Takes left_out s j e old new (Err Memory) = Unit {0}
 Takes left_out s j e old new (Err TooManyDirs) = ⊥
 Takes left_out s j e old new (Err TooDeep) = is_too_deep s j e ≡ true
 
--- what taking all entries answers: those left in and out, in order; or one of them is too deep; or memory was refused
+-- what taking all entries answers: those left in and out, in order, where none is too deep; or one of them is; or memory was refused
 abbrev pub LeavesIn : Bool → SelectionModel → JobModel → List EntryModel → Result LeftIn Cause → Type 0
 LeavesIn left_out s j es (Ok found) =
     (bytes_of found.files.items ≡ flat_map (kept_file s j) es) × (found.children.items ≡ flat_map (kept_directory s j) es)
-    × (found.left.items ≡ flat_map (left_entry left_out s j) es)
+    × (found.left.items ≡ flat_map (left_entry left_out s j) es) × (list_any (is_too_deep s j) es ≡ false)
 LeavesIn left_out s j es (Err Memory) = Unit {0}
 LeavesIn left_out s j es (Err TooManyDirs) = ⊥
 LeavesIn left_out s j es (Err TooDeep) = list_any (is_too_deep s j) es ≡ true

@@ -1,5 +1,5 @@
 -- What opening a directory answers: what becomes of its entries, before its files are counted.
-use Rattle.std.specs.Prelude.{◌≡◌, ℕ, Bool, true, List, length, Result, Ok, Err}
+use Rattle.std.specs.Prelude.{◌≡◌, ℕ, Bool, true, false, List, length, Result, Ok, Err}
 use Rattle.std.specs.List.{flat_map}
 use Rattle.lc_level.specs.Answers.{Answers, entries_of}
 use Rattle.lc_level.specs.Deep.{has_too_deep}
@@ -20,7 +20,7 @@ use Rattle.lc_level.specs.declared.cause.Cause.TheVariants.{Memory, TooManyDirs,
 
 module _ (lists : List ℕ → Listings) (gives : List ℕ → Contents) (left_out : Bool) (s : SelectionModel) (j : JobModel) where
   -- by answers that the tree may give: the directory with its rule files, what of its entries that take part these leave in and out,
-  -- the paths that are asked for and absent, and how many entries take part
+  -- the paths that are asked for and absent, and how many entries take part, of which none is too deep
   pub record IsOpened (o : Opened) : Type 0 where
     pub inside : IsInside lists gives j o.job
     pub files : bytes_of o.files.items ≡ flat_map (kept_file s o.job) (entries_of (part_of s.only j.path inside.items))
@@ -28,6 +28,7 @@ module _ (lists : List ℕ → Listings) (gives : List ℕ → Contents) (left_o
     pub left : o.left.items ≡ flat_map (left_entry left_out s o.job) (entries_of (part_of s.only j.path inside.items))
     pub absent : o.absent.items ≡ absent_faults (absent_from s.only j.path inside.items)
     pub entries : o.entries ≡ length (part_of s.only j.path inside.items)
+    pub shallow : has_too_deep s j inside.answers ≡ false
 
   -- a directory that is opened, at fault, too deep for a walk, or given up for want of memory
   abbrev pub OpensLevel : Result Opened Unlisted → Type 0

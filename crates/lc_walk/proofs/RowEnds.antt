@@ -1,5 +1,5 @@
 -- The rows by which a worker ends its claims are lawful.
-use Rattle.std.proofs.Common.{◌≡◌, ℕ, List, [], ◌++◌, map, take, cond, refl, sym, ◌∙◌, ap, subst, Option, Some, None, Result, Ok}
+use Rattle.std.proofs.Common.{◌≡◌, ℕ, false, List, [], ◌++◌, map, take, cond, refl, sym, ◌∙◌, ap, subst, Option, Some, None, Result, Ok}
 use Rattle.std.proofs.Common.{Err, inl, inr, arith}
 use Rattle.std.proofs.Math.Seq.{take-length}
 use Rattle.std.proofs.lemmas.List.Sorted.{IsPermutation-append_comm}
@@ -13,6 +13,7 @@ use Rattle.lc_tree.specs.Trees.{Listings, Contents}
 use Rattle.lc_level.specs.declared.fault_word.FaultWord.{FaultWord}
 use Rattle.lc_level.specs.Answers.{Answers, no_answers}
 use Rattle.lc_level.specs.CountedNames.{IsCounted}
+use Rattle.lc_level.specs.Deep.{has_too_deep}
 use Rattle.lc_level.specs.Job.{JobModel}
 use Rattle.lc_level.specs.LeftIn.{bytes_of}
 use Rattle.lc_level.specs.Laws.{parts_with}
@@ -166,6 +167,7 @@ module _ (ask : Asked) (lists : List ℕ → Listings) (gives : List ℕ → Con
       where
         counted : (a : Answers) × MayAnswer lists gives j.path a × IsTidy a
             × IsLevelOf (level ask.selection j a) ask.lists.left_out (parts_with o found.files.items found.faults.items)
+            × (has_too_deep ask.selection j a ≡ false)
         counted = counted_level lists gives ask.lists.left_out ask.selection j o c found f
 
         here : IsLevelOf (level ask.selection row.job counted.0) ask.lists.left_out (parts_with o found.files.items found.faults.items)
@@ -192,6 +194,7 @@ module _ (ask : Asked) (lists : List ℕ → Listings) (gives : List ℕ → Con
             posts_are = ap jobs_of (posts_now _ x) ∙ x.jobs_are ∙ ap jobs_of (sym here.walks);
             children_are = is.children ∙ ap (λ cs. named cs (posts_held x.since)) (sym here.walks)
                 ∙ ap (named (walked_in here.fates)) (sym (posts_now _ x));
+            shallow = ap (λ k. has_too_deep ask.selection k counted.0) is.job ∙ counted.4;
           };
           may = inr (subst (λ (k : JobModel). MayAnswer lists gives k.path counted.0) (sym is.job) counted.1);
         }

@@ -1,5 +1,5 @@
 -- When a row says the truth of its directory.
-use Rattle.std.specs.Prelude.{◌≡◌, ℕ, Bool, true, if◌then◌else◌, List, [], ◌∷◌, ◌++◌, length, map, take, Some}
+use Rattle.std.specs.Prelude.{◌≡◌, ℕ, Bool, true, false, if◌then◌else◌, List, [], ◌∷◌, ◌++◌, length, map, take, Some}
 use Rattle.lc_board.specs.LegalHistory.{posts_under}
 use Rattle.lc_board.specs.RowsInPlace.{job_got}
 use Rattle.lc_board.specs.declared.event.Event.{Event}
@@ -47,7 +47,8 @@ named [] posts = []
 named (c ∷ cs) [] = []
 named (c ∷ cs) (p ∷ ps) = record { name = c.0; number = p.0 } ∷ named cs ps
 
--- a directory that was listed: all that its row has is by the fates of its entries that take part, and by what is absent
+-- a directory that was listed: all that its row has is by the fates of its entries that take part, of which none is too deep, and by
+-- what is absent
 pub record SaysListed (ask : Asked) (r : ListedRowModel) (a : Answers) (posts : List (ℕ × JobModel)) : Type 0 where
   pub fates : List (List ℕ × Fate)
   pub absent : List (List ℕ)
@@ -58,6 +59,7 @@ pub record SaysListed (ask : Asked) (r : ListedRowModel) (a : Answers) (posts : 
   pub left_are : r.left ≡ (if ask.lists.left_out then left_in fates else [])
   pub posts_are : jobs_of posts ≡ jobs_of (walked_in fates)
   pub children_are : r.children ≡ named (walked_in fates) posts
+  pub shallow : has_too_deep ask.selection r.job a ≡ false
 
 -- a directory at fault: nothing was posted
 pub record SaysFaulted (ask : Asked) (r : FaultedRow) (a : Answers) (posts : List (ℕ × JobModel)) : Type 0 where

@@ -1,5 +1,6 @@
-use Rattle.std.proofs.Common.{◌≡◌}
-use Rattle.std.specs.List.{flat_map}
+use Rattle.std.proofs.Common.{◌≡◌, false}
+use Rattle.std.specs.List.{flat_map, list_any}
+use Rattle.lc_level.specs.Deep.{is_too_deep}
 use Rattle.lc_level.specs.LeftIn.{kept_file, kept_directory, left_entry, bytes_of}
 use Rattle.lc_level.proofs.level_reader.LevelReader.left_in.Given as goal
 
@@ -11,3 +12,4 @@ invariant-loop-entry g l =
     × (bytes_of l.found.files.items ≡ flat_map (kept_file l.self.selection l.job) l.yielded)
     × (l.found.children.items ≡ flat_map (kept_directory l.self.selection l.job) l.yielded)
     × (l.found.left.items ≡ flat_map (left_entry l.self.kept.left_out l.self.selection l.job) l.yielded)
+    × (list_any (is_too_deep l.self.selection l.job) l.yielded ≡ false)
