@@ -35,7 +35,7 @@ use Rattle.lc_walk.specs.Assembled.{fault_line, directories_by_row, files_by_row
 use Rattle.lc_walk.specs.Assembled.{directories_in_rows, files_in_rows, faults_in_rows, left_in_rows, entries_in_rows, AreFindings}
 use Rattle.lc_walk.specs.Worked.{MayStand, IsLawfulEnd, AreLawful, returned_files, files_given, files_of_pass, files_of_passes}
 use Rattle.lc_walk.proofs.Broken.{NoneFor, unbroken}
-use Rattle.lc_walk.proofs.Fuller.{fuller_says}
+use Rattle.lc_walk.proofs.Fuller.{fuller_says, full_pass}
 use Rattle.lc_walk.specs.WalkAnswers.{SomeRows, IsWalkReport}
 use Rattle.std.specs.List.Sorted.{IsStrictlySortedBy}
 use Rattle.lc_tree.specs.Listing.{IsListing}
@@ -163,12 +163,17 @@ module _ (ask : Asked) (MayAnswer : List ℕ → Answers → Type 0) (capacity w
       at (inl broken) = absurd (fed i e is broken.0)
       at (inr may) = may
 
-  abbrev pub some_rows : NoneFor Memory rows → SomeRows MayAnswer ask capacity workers top
+  -- a post was answered Full only where all numbers are used
+  pub full_rows : promises.fills ≡ true → full ≡ true → length rows ≡ capacity
+  full_rows fills is_full = let p = full_pass passes is_full in settled.all_used fills p.worker p.pass p.is p.was
+
+  abbrev pub some_rows : NoneFor Memory rows → SomeRows MayAnswer ask capacity workers top promises
   some_rows fed = record {
     full = full;
     history = history;
     rows = rows;
     answers = answers;
+    filled = full_rows;
     walked = walked;
     may = may_here fed;
   }
@@ -351,7 +356,7 @@ module _ (ask : Asked) (MayAnswer : List ℕ → Answers → Type 0) (capacity w
 
     pub report_of_walk : top.path ≡ [] → (t : TallyModel) → StandsFor t (files_of_passes ask given passes) →
         (told : Findings) → AreFindings rows told → (r : Report) → IsReport t ask.lists told r →
-        IsWalkReport MayAnswer ask capacity workers top r
+        IsWalkReport MayAnswer ask capacity workers top promises r
     report_of_walk at_top t stood told tells r is =
         let ours = report_of_rows t stood told tells r is in
         let fed : NoneFor Memory rows = λ i e here. unbroken (row_of e) Memory (whole i e here) in

@@ -1,6 +1,8 @@
 -- What is lawful where posts may have been refused is so wherever they may have been.
-use Rattle.std.proofs.Common.{◌≡◌, ℕ, Bool, true, List, [], ◌∷◌, ◌++◌, Option}
+use Rattle.std.proofs.Common.{◌≡◌, ℕ, suc, Bool, true, false, ◌||◌, List, [], ◌∷◌, ◌++◌, refl, slice_get, Option, Some}
+use Rattle.std.specs.List.{list_any}
 use Rattle.lc_board.specs.Holding.{job_held, posts_held}
+use Rattle.lc_board.specs.Pass.{Pass}
 use Rattle.lc_board.specs.declared.event.Event.{Event}
 use Rattle.lc_board.specs.declared.event.Event.TheVariants.{Post, Claim, Return, Fault, Over}
 use Rattle.lc_board.specs.declared.answers.Ended.{Ended}
@@ -14,11 +16,28 @@ use Rattle.lc_level.specs.declared.cause.Cause.TheVariants.{Memory, TooManyDirs,
 use Rattle.lc_walk.specs.declared.row.Row.{Row}
 use Rattle.lc_walk.specs.declared.row.Row.TheVariants.{Listed, Faulted, Broken}
 
-fuller_cause : (ask : Asked) (full fuller : Bool) (j : JobModel) (a : Answers) (c : Cause) → (full ≡ true → fuller ≡ true)
-    → IsCause ask full j a c → IsCause ask fuller j a c
-fuller_cause ask full fuller j a Memory f c = tt
-fuller_cause ask full fuller j a TooManyDirs f c = f c
-fuller_cause ask full fuller j a TooDeep f c = c
+-- some pass was answered Full
+pub record SomeFull (passes : List (Pass JobModel Row)) : Type 0 where
+  pub worker : ℕ
+  pub pass : Pass JobModel Row
+  pub is : slice_get passes worker ≡ Some pass
+  pub was : pass.full ≡ true
+
+-- where one of all was
+pub full_pass : (passes : List (Pass JobModel Row)) → list_any (λ (p : Pass JobModel Row). p.full) passes ≡ true → SomeFull passes
+full_pass [] e = cc
+full_pass (p ∷ ps) e = at p.full refl e (full_pass ps)
+  where
+    at : (b : Bool) → p.full ≡ b → (b || list_any (λ (q : Pass JobModel Row). q.full) ps) ≡ true
+        → (list_any (λ (q : Pass JobModel Row). q.full) ps ≡ true → SomeFull ps) → SomeFull (p ∷ ps)
+    at true f e rec = record { worker = 0; pass = p; is = refl; was = f }
+    at false f e rec = let r = rec e in record { worker = suc r.worker; pass = r.pass; is = r.is; was = r.was }
+
+fuller_cause : (ask : Asked) (full fuller : Bool) (j : JobModel) (a : Answers) (posts : List (ℕ × JobModel)) (c : Cause)
+    → (full ≡ true → fuller ≡ true) → IsCause ask full j a posts c → IsCause ask fuller j a posts c
+fuller_cause ask full fuller j a posts Memory f c = tt
+fuller_cause ask full fuller j a posts TooManyDirs f c = (f c.0, c.1)
+fuller_cause ask full fuller j a posts TooDeep f c = c
 
 -- of one row
 pub fuller_says : (ask : Asked) (full fuller : Bool) (e : Ended Row) (a : Answers) (posts : List (ℕ × JobModel))
@@ -26,7 +45,7 @@ pub fuller_says : (ask : Asked) (full fuller : Bool) (e : Ended Row) (a : Answer
 fuller_says ask full fuller (ended.Returned (Listed r)) a posts f s = s
 fuller_says ask full fuller (ended.Returned (Faulted r)) a posts f s = s
 fuller_says ask full fuller (ended.Returned (Broken r)) a posts f
-    s = record { posted = s.posted; posts_are = s.posts_are; cause_is = fuller_cause ask full fuller r.job a r.cause f s.cause_is }
+    s = record { posted = s.posted; posts_are = s.posts_are; cause_is = fuller_cause ask full fuller r.job a posts r.cause f s.cause_is }
 fuller_says ask full fuller (ended.Faulted (Listed r)) a posts f s = s
 fuller_says ask full fuller (ended.Faulted (Faulted r)) a posts f s = s
 fuller_says ask full fuller (ended.Faulted (Broken r)) a posts f s = s

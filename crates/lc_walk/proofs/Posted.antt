@@ -1,8 +1,8 @@
 -- What posts leave of a pass.
-use Rattle.std.proofs.Common.{◌≡◌, ℕ, zero, suc, List, [], ◌∷◌, ◌++◌, length, take, refl, sym, ◌∙◌, ap, subst, Ok, Err}
-use Rattle.std.proofs.Common.{append_assoc, append-nil}
+use Rattle.std.proofs.Common.{◌≡◌, ℕ, zero, suc, ◌<◌, List, [], ◌∷◌, ◌++◌, length, take, refl, sym, ◌∙◌, ap, subst, Ok, Err}
+use Rattle.std.proofs.Common.{append_assoc, append-nil, arith}
 use Rattle.std.specs.List.{AllByRecursion}
-use Rattle.std.proofs.lemmas.List.{map-append}
+use Rattle.std.proofs.lemmas.List.{length-append, length-map, map-append}
 use Rattle.std.proofs.Math.Seq.{take-append_seam}
 use Rattle.lc_board.specs.Holding as events
 use Rattle.lc_board.specs.Pass.{Pass, held_number, adding, filled}
@@ -141,15 +141,17 @@ firsts : (done rest all : List (List ℕ × JobModel)) → done ++ rest ≡ all 
 firsts done rest all e = sym (take-append_seam (jobs_of done) (jobs_of rest)) ∙ ap (take (length (jobs_of done)))
     (sym (map-append (λ (x : List ℕ × JobModel). x.1) done rest) ∙ ap jobs_of e)
 
--- of all child directories these were posted, and of the next some
+-- of all child directories these were posted, and of the next none
+posted_before : (p q r : Pass JobModel Row) (done rest all : List (List ℕ × JobModel)) (c : List ℕ × JobModel) → done ++ c ∷ rest ≡ all →
+    HasPosted p q (jobs_of done) → HasPosted q r [] → HasPosted p r (take (length (jobs_of done)) (jobs_of all))
+posted_before p q r done rest all c e a b =
+    subst (HasPosted p r) (append-nil (jobs_of done) ∙ firsts done (c ∷ rest) all e) (posted_then p q r (jobs_of done) [] a b)
+
+-- or some
 pub posted_first : (p q r : Pass JobModel Row) (done rest all : List (List ℕ × JobModel)) (c : List ℕ × JobModel) (n : ℕ)
     → done ++ c ∷ rest ≡ all →
     HasPosted p q (jobs_of done) → HasPosted q r (take n (c.1 ∷ [])) → (k : ℕ) × HasPosted p r (take k (jobs_of all))
-posted_first p q r done rest all c zero e a b = (
-  length (jobs_of done),
-  subst (HasPosted p r)
-      (append-nil (jobs_of done) ∙ firsts done (c ∷ rest) all e) (posted_then p q r (jobs_of done) [] a b),
-)
+posted_first p q r done rest all c zero e a b = (length (jobs_of done), posted_before p q r done rest all c e a b)
 posted_first p q r done rest all c (suc n) e a b = (
   length (jobs_of (done ++ c ∷ [])),
   subst (HasPosted p r)
@@ -166,5 +168,18 @@ pub refused_first : (p q r : Pass JobModel Row) (done rest all : List (List ℕ 
     → done ++ c ∷ rest ≡ all →
     HasPosted p q (jobs_of done) → RefusesPost (c.1 ∷ []) q r cause → RefusesPost (jobs_of all) p r cause
 refused_first p q r done rest all c Memory e a b = posted_first p q r done rest all c b.0 e a b.1
-refused_first p q r done rest all c TooManyDirs e a b = let h = posted_first p q r done rest all c b.0 e a b.1 in (h.0, h.1, b.2)
+refused_first p q r done rest all c TooManyDirs e a (n, posted, full, few) = at n posted few
+  where
+    fewer : length (jobs_of done) < length (jobs_of all)
+    fewer = omega (
+      arith,
+      ap length e,
+      length-append done (c ∷ rest),
+      length-map done (λ (x : List ℕ × JobModel). x.1),
+      length-map all (λ (x : List ℕ × JobModel). x.1),
+    )
+
+    at : (n : ℕ) → HasPosted q r (take n (c.1 ∷ [])) → n < 1 → RefusesPost (jobs_of all) p r TooManyDirs
+    at zero posted few = (length (jobs_of done), posted_before p q r done rest all c e a posted, full, fewer)
+    at (suc n) posted few = absurd (omega (arith, few))
 refused_first p q r done rest all c TooDeep e a b = b

@@ -1,7 +1,8 @@
 -- The rows by which a worker ends its claims are lawful.
-use Rattle.std.proofs.Common.{◌≡◌, ℕ, false, List, [], ◌++◌, map, take, cond, refl, sym, ◌∙◌, ap, subst, Option, Some, None, Result, Ok}
+use Rattle.std.proofs.Common.{◌≡◌, ℕ, ◌<◌, false, List, [], ◌++◌, length, map, take, cond, refl, sym, ◌∙◌, ap, subst, Option, Some, None, Result, Ok}
 use Rattle.std.proofs.Common.{Err, inl, inr, arith}
 use Rattle.std.proofs.Math.Seq.{take-length}
+use Rattle.std.proofs.lemmas.List.{length-map, length-take-le}
 use Rattle.std.proofs.lemmas.List.Sorted.{IsPermutation-append_comm}
 use Rattle.std.specs.List.Sorted.{IsStrictlySortedBy}
 use Rattle.std.specs.declared.alloc.AllocError.{AllocError}
@@ -110,8 +111,8 @@ module _ (ask : Asked) (lists : List ℕ → Listings) (gives : List ℕ → Con
     posts_now : (jobs : List JobModel) (x : HasPosted p q jobs) → posts_held q.mine ≡ posts_held x.since
     posts_now jobs x = ap posts_held x.mine ∙ posts_come x.since p.mine x.only ∙ ap (λ ps. ps ++ posts_held x.since) h.none
 
-    broken_end : (cause : Cause) (n : ℕ) → HasPosted p q (take n (jobs_of o.children.items)) → IsCause ask q.full j c.inside.answers cause
-        → Lawful q j cause c.inside.answers
+    broken_end : (cause : Cause) (n : ℕ) → HasPosted p q (take n (jobs_of o.children.items))
+        → IsCause ask q.full j c.inside.answers (posts_held q.mine) cause → Lawful q j cause c.inside.answers
     broken_end cause n x is = record {
       job_is = job_now _ x;
       tidy = c.inside.tidy;
@@ -124,6 +125,20 @@ module _ (ask : Asked) (lists : List ℕ → Listings) (gives : List ℕ → Con
       may = inr c.inside.may;
     }
 
+    -- fewer than all were posted
+    fewer : (n : ℕ) → HasPosted p q (take n (jobs_of o.children.items)) → n < length (jobs_of o.children.items)
+        → length (posts_held q.mine) < length (children_at ask.selection j c.inside.answers)
+    fewer n x few = omega (
+      arith,
+      few,
+      ap length (posts_now _ x),
+      length-map (posts_held x.since) (λ (y : ℕ × JobModel). y.1),
+      ap length x.jobs_are,
+      length-take-le n (jobs_of o.children.items) (omega (arith, few)),
+      length-map o.children.items (λ (y : List ℕ × JobModel). y.1),
+      ap length same_children,
+    )
+
     -- not all were posted
     pub serves_refused : (cause : Cause) (t : TallyModel) (result : Result (Unit {0}) AllocError)
         → RefusesPost (jobs_of o.children.items) p q cause → GivesUp cause result →
@@ -133,7 +148,7 @@ module _ (ask : Asked) (lists : List ℕ → Listings) (gives : List ℕ → Con
         (serves_broken ask (MayAnswer lists gives) q j Memory c.inside.answers t t result (broken_end Memory x.0 x.1 tt) g (λ n. refl))
     serves_refused TooManyDirs t result x g =
         then_serves ask (MayAnswer lists gives) p q _ t t result (works_posts ask (MayAnswer lists gives) p q _ (Some t) x.1)
-        (serves_broken ask (MayAnswer lists gives) q j TooManyDirs c.inside.answers t t result (broken_end TooManyDirs x.0 x.1 x.2) g
+        (serves_broken ask (MayAnswer lists gives) q j TooManyDirs c.inside.answers t t result (broken_end TooManyDirs x.0 x.1 (x.2, fewer x.0 x.1 x.3)) g
         (λ n. refl))
     serves_refused TooDeep t result x g = absurd x
 

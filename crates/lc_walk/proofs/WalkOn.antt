@@ -1,10 +1,10 @@
 -- From what the board's close, the workers and `assemble` ensure to what a walk answers.
-use Rattle.std.proofs.Common.{◌≡◌, ◌≢◌, ℕ, suc, ◌≤◌, ◌||◌, Bool, true, false, List, [], ◌∷◌, length, slice_get, refl, sym, ◌∙◌, ap}
+use Rattle.std.proofs.Common.{◌≡◌, ◌≢◌, ℕ, suc, ◌≤◌, Bool, true, false, List, [], ◌∷◌, length, slice_get, refl, sym, ◌∙◌, ap}
 use Rattle.std.proofs.Common.{arith, subst, Some, Result, Ok, Err, map, ◌⊎◌, inl, inr, ◌<◌}
 use Rattle.std.specs.List.{list_any}
 use Rattle.lc_board.specs.State.{Status, Absent, Open, Claimed, Returned, Faulted, status}
 use Rattle.lc_board.specs.Part.{part}
-use Rattle.lc_board.specs.LegalHistory.{IsOver}
+use Rattle.lc_board.specs.LegalHistory.{IsOver, posts_under}
 use Rattle.lc_board.specs.Pass.{Pass}
 use Rattle.lc_board.specs.ClosedBoard.{Promises, Settled, IsUnended, RefusesClose}
 use Rattle.lc_board.specs.declared.event.Event.TheVariants.{Over}
@@ -43,29 +43,13 @@ use Rattle.lc_walk.proofs.Listings.{got_here}
 
 -- what a Broken row says of its cause
 cause_said : (ask : Asked) (f : Bool) (c : Cause) (e : Ended Row) (a : Answers) (posts : List (ℕ × JobModel)) → Says ask f e a posts
-    → IsBrokenBy c (row_of e) → IsCause ask f (job_of (row_of e)) a c
+    → IsBrokenBy c (row_of e) → IsCause ask f (job_of (row_of e)) a posts c
 cause_said ask f c (ended.Returned (Listed r)) a posts s b = absurd b
 cause_said ask f c (ended.Returned (Faulted r)) a posts s b = absurd b
-cause_said ask f c (ended.Returned (Broken r)) a posts s b = subst (IsCause ask f r.job a) b s.cause_is
+cause_said ask f c (ended.Returned (Broken r)) a posts s b = subst (IsCause ask f r.job a posts) b s.cause_is
 cause_said ask f c (ended.Faulted (Listed r)) a posts s b = absurd b
 cause_said ask f c (ended.Faulted (Faulted r)) a posts s b = absurd b
 cause_said ask f c (ended.Faulted (Broken r)) a posts s b = absurd s
-
--- some pass was answered Full
-record SomeFull (passes : List (Pass JobModel Row)) : Type 0 where
-  worker : ℕ
-  pass : Pass JobModel Row
-  is : slice_get passes worker ≡ Some pass
-  was : pass.full ≡ true
-
-full_pass : (passes : List (Pass JobModel Row)) → list_any (λ (p : Pass JobModel Row). p.full) passes ≡ true → SomeFull passes
-full_pass [] e = cc
-full_pass (p ∷ ps) e = at p.full refl e (full_pass ps)
-  where
-    at : (b : Bool) → p.full ≡ b → (b || list_any (λ (q : Pass JobModel Row). q.full) ps) ≡ true
-        → (list_any (λ (q : Pass JobModel Row). q.full) ps ≡ true → SomeFull ps) → SomeFull (p ∷ ps)
-    at true f e rec = record { worker = 0; pass = p; is = refl; was = f }
-    at false f e rec = let r = rec e in record { worker = suc r.worker; pass = r.pass; is = r.is; was = r.was }
 
 module _ (ask : Asked) (MayAnswer : List ℕ → Answers → Type 0) (capacity workers : ℕ) (top : JobModel) (promises : Promises)
     (passes : List (Pass JobModel Row))
@@ -74,13 +58,14 @@ module _ (ask : Asked) (MayAnswer : List ℕ → Answers → Type 0) (capacity w
   module _ (given : ℕ → List Answers) (lawful : (w : ℕ) (p : Pass JobModel Row) → slice_get passes w ≡ Some p
       → AreLawful ask p.full MayAnswer p.mine (given w))
       (rows : List (Ended Row)) (settled : Settled capacity workers top promises passes rows) where
-    abbrev rows_so : promises.keeps ≡ true → ¬ SomeBroken Memory rows → SomeRows MayAnswer ask capacity workers top
+    abbrev rows_so : promises.keeps ≡ true → ¬ SomeBroken Memory rows → SomeRows MayAnswer ask capacity workers top promises
     rows_so keeps fed = some_rows ask MayAnswer capacity workers top promises passes rows room keeps count settled given lawful
         (λ i e is b. fed (i, (e, is, b)))
 
     cause_here : (keeps : promises.keeps ≡ true) (c : Cause) (i : ℕ) (e : Ended Row) → slice_get rows i ≡ Some e → IsBrokenBy c (row_of e) →
         IsCause ask (list_any (λ (p : Pass JobModel Row). p.full) passes) (job_of (row_of e))
-        (answers ask MayAnswer capacity workers top promises passes rows room keeps count settled given lawful i) c
+        (answers ask MayAnswer capacity workers top promises passes rows room keeps count settled given lawful i)
+        (posts_under i settled.history) c
     cause_here keeps c i e is b =
         cause_said ask _ c e _ _ (lawful_here ask MayAnswer capacity workers top promises passes rows room keeps count settled given
         lawful i e is).0.says b
@@ -93,9 +78,16 @@ module _ (ask : Asked) (MayAnswer : List ℕ → Answers → Type 0) (capacity w
         stood a.found a.told r a.report
     assembled_walk t stood (Err fault.Memory) a = tt
     assembled_walk t stood (Err fault.TooManyDirs) a = λ keeps fills.
-        let is_full = cause_here keeps TooManyDirs a.0.0 a.0.1.0 a.0.1.1 a.0.1.2 in
-        let f = full_pass passes is_full in
-        record { found = rows_so keeps a.1; filled = settled.all_used fills f.worker f.pass f.is f.was }
+        let found = rows_so keeps a.1 in
+        let cause = cause_here keeps TooManyDirs a.0.0 a.0.1.0 a.0.1.1 a.0.1.2 in
+        record {
+          found = found;
+          filled = found.filled fills cause.0;
+          number = a.0.0;
+          row = a.0.1.0;
+          is = a.0.1.1;
+          more = cause.1;
+        }
     assembled_walk t stood (Err fault.TooDeep) a = λ keeps.
         record {
           found = rows_so keeps a.1;

@@ -1,5 +1,5 @@
 -- When a row says the truth of its directory.
-use Rattle.std.specs.Prelude.{◌≡◌, ℕ, Bool, true, false, if◌then◌else◌, List, [], ◌∷◌, ◌++◌, length, map, take, Some}
+use Rattle.std.specs.Prelude.{◌≡◌, ℕ, ◌<◌, Bool, true, false, if◌then◌else◌, List, [], ◌∷◌, ◌++◌, length, map, take, Some}
 use Rattle.lc_board.specs.LegalHistory.{posts_under}
 use Rattle.lc_board.specs.RowsInPlace.{job_got}
 use Rattle.lc_board.specs.declared.event.Event.{Event}
@@ -66,17 +66,17 @@ pub record SaysFaulted (ask : Asked) (r : FaultedRow) (a : Answers) (posts : Lis
   pub level_is : level ask.selection r.job a ≡ faulted_level (place_path r.job.path r.place) r.word
   pub posts_are : posts ≡ []
 
--- why a directory was given up; `full` says whether a post of the row's pass was answered Full
-abbrev pub IsCause : Asked → Bool → JobModel → Answers → Cause → Type 0
-IsCause ask full j a Memory = Unit {0}
-IsCause ask full j a TooManyDirs = full ≡ true
-IsCause ask full j a TooDeep = has_too_deep ask.selection j a ≡ true
+-- why a directory was given up, by what was posted; `full` says whether a post of the row's pass was answered Full
+abbrev pub IsCause : Asked → Bool → JobModel → Answers → List (ℕ × JobModel) → Cause → Type 0
+IsCause ask full j a posts Memory = Unit {0}
+IsCause ask full j a posts TooManyDirs = (full ≡ true) × (length posts < length (children_at ask.selection j a))
+IsCause ask full j a posts TooDeep = has_too_deep ask.selection j a ≡ true
 
 -- a directory that was given up: the first of its children were posted
 pub record SaysBroken (ask : Asked) (full : Bool) (r : BrokenRow) (a : Answers) (posts : List (ℕ × JobModel)) : Type 0 where
   pub posted : ℕ
   pub posts_are : jobs_of posts ≡ take posted (jobs_of (children_at ask.selection r.job a))
-  pub cause_is : IsCause ask full r.job a r.cause
+  pub cause_is : IsCause ask full r.job a posts r.cause
 
 -- a Faulted row is given by Fault, the others by Return
 abbrev pub Says : Asked → Bool → Ended Row → Answers → List (ℕ × JobModel) → Type 0

@@ -1,5 +1,5 @@
 -- What posting child directories leaves of a pass.
-use Rattle.std.specs.Prelude.{◌≡◌, ℕ, true, List, ◌++◌, take, Vec, Result, Ok, Err}
+use Rattle.std.specs.Prelude.{◌≡◌, ℕ, ◌<◌, true, List, ◌++◌, length, take, Vec, Result, Ok, Err}
 use Rattle.std.specs.Global.{Global}
 use Rattle.std.specs.List.{AllByRecursion}
 use Rattle.lc_board.specs.Holding.{posts_held}
@@ -29,10 +29,10 @@ pub record HasPosted (old new : Pass JobModel Row) (jobs : List JobModel) : Type
   pub only : AllByRecursion IsPost since
   pub jobs_are : jobs_of (posts_held since) ≡ jobs
 
--- why not all were posted, but the first of them
+-- why not all were posted, but the first of them: fewer than all, where a post was refused
 abbrev pub RefusesPost : List JobModel → Pass JobModel Row → Pass JobModel Row → Cause → Type 0
 RefusesPost jobs old new Memory = (n : ℕ) × HasPosted old new (take n jobs)
-RefusesPost jobs old new TooManyDirs = (n : ℕ) × HasPosted old new (take n jobs) × (new.full ≡ true)
+RefusesPost jobs old new TooManyDirs = (n : ℕ) × HasPosted old new (take n jobs) × (new.full ≡ true) × (n < length jobs)
 RefusesPost jobs old new TooDeep = ⊥
 
 -- what posting child directories after others answers: their names with the numbers of the posts come to those of the others

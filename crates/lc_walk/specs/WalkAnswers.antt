@@ -1,6 +1,7 @@
 -- What a walk answers, over any shared board.
-use Rattle.std.specs.Prelude.{◌≡◌, ℕ, ◌≤◌, ◌++◌, Bool, true, false, List, length, slice_get, Some, Result, Ok, Err}
+use Rattle.std.specs.Prelude.{◌≡◌, ℕ, ◌<◌, ◌≤◌, ◌++◌, Bool, true, false, List, length, slice_get, Some, Result, Ok, Err}
 use Rattle.lc_board.specs.ClosedBoard.{Promises}
+use Rattle.lc_board.specs.LegalHistory.{posts_under}
 use Rattle.lc_board.specs.declared.event.Event.{Event}
 use Rattle.lc_board.specs.declared.answers.Ended.{Ended}
 use Rattle.lc_walk.specs.ReportLines.{file_paths, fault_paths, left_paths}
@@ -11,6 +12,7 @@ use Rattle.lc_level.specs.Answers.{Answers, Tree}
 use Rattle.lc_level.specs.Job.{JobModel}
 use Rattle.lc_level.specs.Level.{level}
 use Rattle.lc_level.specs.Selection.{SelectionModel}
+use Rattle.lc_walk.specs.Found.{children_at}
 use Rattle.lc_walk.specs.Walk.{walk_of}
 use Rattle.lc_level.specs.Deep.{has_too_deep}
 use Rattle.lc_walk.specs.Rows.{row_of, job_of}
@@ -27,13 +29,16 @@ abbrev pub IsOneAnswer : SelectionModel → (List ℕ → Answers → Type 0) �
 IsOneAnswer selection MayAnswer t =
     (j : JobModel) (a : Answers) → MayAnswer j.path a → level selection j a ≡ level selection j (t (names_of_path j.path))
 
-module _ (MayAnswer : List ℕ → Answers → Type 0) (ask : Asked) (capacity workers : ℕ) (top : JobModel) where
-  -- lawful rows in place for a legal history that is over, with the top job at 0, whose answers the tree may give
+-- over a board of these promises
+module _ (MayAnswer : List ℕ → Answers → Type 0) (ask : Asked) (capacity workers : ℕ) (top : JobModel) (promises : Promises) where
+  -- lawful rows in place for a legal history that is over, with the top job at 0, whose answers the tree may give; a post was answered
+  -- Full only where they fill all numbers, if the board promises that
   pub record SomeRows : Type 0 where
     pub full : Bool
     pub history : List (Event JobModel Row)
     pub rows : List (Ended Row)
     pub answers : ℕ → Answers
+    pub filled : promises.fills ≡ true → full ≡ true → length rows ≡ capacity
     pub walked : Walked ask full capacity workers top history rows answers
     pub may : (i : ℕ) (e : Ended Row) → slice_get rows i ≡ Some e → MayAnswer (job_of (row_of e)).path (answers i)
 
@@ -59,16 +64,21 @@ module _ (MayAnswer : List ℕ → Answers → Type 0) (ask : Asked) (capacity w
     pub is : slice_get found.rows number ≡ Some row
     pub deep : has_too_deep ask.selection (job_of (row_of row)) (found.answers number) ≡ true
 
-  -- such rows, Broken ones allowed, that fill all numbers
+  -- such rows, Broken ones allowed, that fill all numbers, and of which one's directory has more child directories than were posted
   pub record FillsAll : Type 0 where
     pub found : SomeRows
     pub filled : length found.rows ≡ capacity
+    pub number : ℕ
+    pub row : Ended Row
+    pub is : slice_get found.rows number ≡ Some row
+    pub more : length (posts_under number found.history)
+        < length (children_at ask.selection (job_of (row_of row)) (found.answers number))
 
-  -- what a walk over a board of these promises answers
-  abbrev pub WalkAnswers : Promises → Result Report WalkFault → Type 0
-  WalkAnswers promises (Ok r) = promises.keeps ≡ true → IsWalkReport r
-  WalkAnswers promises (Err Memory) = Unit {0}
-  WalkAnswers promises (Err TooManyDirs) = promises.keeps ≡ true → promises.fills ≡ true → FillsAll
-  WalkAnswers promises (Err TooDeep) = promises.keeps ≡ true → IsTooDeepSomewhere
-  WalkAnswers promises (Err (Torn n)) = promises.keeps ≡ true → promises.compares ≡ false → ⊥
-  WalkAnswers promises (Err (Mismatch w)) = promises.compares ≡ false → ⊥
+  -- what a walk answers
+  abbrev pub WalkAnswers : Result Report WalkFault → Type 0
+  WalkAnswers (Ok r) = promises.keeps ≡ true → IsWalkReport r
+  WalkAnswers (Err Memory) = Unit {0}
+  WalkAnswers (Err TooManyDirs) = promises.keeps ≡ true → promises.fills ≡ true → FillsAll
+  WalkAnswers (Err TooDeep) = promises.keeps ≡ true → IsTooDeepSomewhere
+  WalkAnswers (Err (Torn n)) = promises.keeps ≡ true → promises.compares ≡ false → ⊥
+  WalkAnswers (Err (Mismatch w)) = promises.compares ≡ false → ⊥

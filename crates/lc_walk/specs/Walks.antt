@@ -1,5 +1,6 @@
 -- What a walk answers.
 use Rattle.std.specs.Prelude.{ℕ, List, Result, Ok, Err}
+use Rattle.lc_board.specs.WordClose.{words_promises}
 use Rattle.lc_level.specs.TreeAnswers.{MayAnswer}
 use Rattle.lc_tree.specs.Trees.{Listings, Contents}
 use Rattle.lc_walk.specs.WalkAnswers.{IsWalkReport, IsTooDeepSomewhere, FillsAll}
@@ -9,12 +10,12 @@ use Rattle.lc_walk.specs.declared.report.Report.{Report}
 use Rattle.lc_walk.specs.declared.walk_fault.WalkFault.{WalkFault}
 use Rattle.lc_walk.specs.declared.walk_fault.WalkFault.TheVariants.{Memory, TooManyDirs, TooDeep, Torn, Mismatch}
 
--- what a walk by these options answers of a tree whose listings and files may be these: its report, or why there is none. No number
+-- what a walk by these options, over words, answers of a tree whose listings and files may be these: its report, or why there is none. No number
 -- is ever torn, and no worker's pass mismatches
 abbrev pub Walks : (List ℕ → Listings) → (List ℕ → Contents) → Options → Result Report WalkFault → Type 0
-Walks lists gives o (Ok r) = IsWalkReport (MayAnswer lists gives) (asked_by o) o.max_dirs o.threads (top_of o) r
+Walks lists gives o (Ok r) = IsWalkReport (MayAnswer lists gives) (asked_by o) o.max_dirs o.threads (top_of o) words_promises r
 Walks lists gives o (Err Memory) = Unit {0}
-Walks lists gives o (Err TooManyDirs) = FillsAll (MayAnswer lists gives) (asked_by o) o.max_dirs o.threads (top_of o)
-Walks lists gives o (Err TooDeep) = IsTooDeepSomewhere (MayAnswer lists gives) (asked_by o) o.max_dirs o.threads (top_of o)
+Walks lists gives o (Err TooManyDirs) = FillsAll (MayAnswer lists gives) (asked_by o) o.max_dirs o.threads (top_of o) words_promises
+Walks lists gives o (Err TooDeep) = IsTooDeepSomewhere (MayAnswer lists gives) (asked_by o) o.max_dirs o.threads (top_of o) words_promises
 Walks lists gives o (Err (Torn n)) = ⊥
 Walks lists gives o (Err (Mismatch w)) = ⊥

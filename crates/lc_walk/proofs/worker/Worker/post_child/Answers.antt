@@ -1,4 +1,4 @@
-use Rattle.std.proofs.Common.{ℕ, List, ◌∷◌, [], ◌++◌, refl, ap, ◌∙◌}
+use Rattle.std.proofs.Common.{ℕ, List, ◌∷◌, [], ◌++◌, refl, ap, ◌∙◌, arith}
 use Rattle.lc_level.specs.Job.{JobModel}
 use Rattle.lc_walk.specs.RowViews.{ChildModel}
 use Rattle.lc_walk.proofs.Posted.{posted_none, posted_noted, posted_unnoted, posted_full}
@@ -6,7 +6,7 @@ use Rattle.lc_walk.proofs.worker.Worker.post_child.Goals as goal
 use Rattle.lc_walk.proofs.worker.Worker.post_child.Goals.{in-Ok-push, in-Err}
 
 pub returns-in-Err-Full-clause-posts : goal.returns-in-Err-Full-clause-posts
-returns-in-Err-Full-clause-posts g c = rw (c.post.ensures.mine, c.in-Err-Full.is, c.in-Err-Full.field-0-is) (0, posted_full _, refl)
+returns-in-Err-Full-clause-posts g c = rw (c.post.ensures.mine, c.in-Err-Full.is, c.in-Err-Full.field-0-is) (0, posted_full _, refl, omega arith)
 
 pub returns-in-Err-Memory-clause-posts : goal.returns-in-Err-Memory-clause-posts
 returns-in-Err-Memory-clause-posts g c = rw (c.post.ensures.mine, c.in-Err-Memory.is, c.in-Err-Memory.field-0-is) (0, posted_none _)
