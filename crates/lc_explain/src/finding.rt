@@ -7,9 +7,8 @@ ghost use Rattle.lc_explain.specs.Explained.{CitedRule, said_for};
 ghost use Rattle.lc_explain.specs.Explained as explained;
 ghost use Rattle.lc_explain.specs.Findings.{explanation_of};
 
-use lc_level::{Place, Reason};
+use lc_level::{FaultWord, Place, Reason};
 use lc_rules::Origin;
-use lc_level::FaultWord;
 
 /// Where a rule stands: the origin of its file, and the number of its line there, from 1.
 #[derive(Clone, Copy, Debug)]

@@ -26,7 +26,7 @@ use Rattle.lc_level.specs.declared.rule_pair.PairRead.{PairRead}
 use Rattle.lc_level.specs.declared.unlisted.Unlisted.{Unlisted}
 use Rattle.lc_level.specs.declared.unlisted.Unlisted.TheVariants.{Faulted, Broken}
 use Rattle.lc_level.specs.declared.fault_word.FaultWord.{FaultWord}
-use Rattle.lc_level.specs.declared.cause.Cause.TheVariants.{Memory, TooManyDirs, TooDeep}
+use Rattle.lc_level.specs.declared.cause.Cause.TheVariants.{Memory, TooDeep}
 use Rattle.lc_level.specs.declared.place.Place.{Place}
 use Rattle.lc_level.specs.declared.place.Place.TheVariants.{Directory, IgnoreFile, AttributeFile}
 use Rattle.lc_level.proofs.GitReads.{any_count, any_rules, may_rules, listed}
@@ -61,7 +61,6 @@ list_refused lists gives j texts (Faulted place word) (is, l) =
       λ s. ap (λ (p : Place). faulted_level (place_path j.path p) word) (sym is),
     )
 list_refused lists gives j texts (Broken Memory) l = tt
-list_refused lists gives j texts (Broken TooManyDirs) l = absurd l
 list_refused lists gives j texts (Broken TooDeep) l = absurd l
 
 module _ (lists : List ℕ → Listings) (gives : List ℕ → Contents)
@@ -123,7 +122,6 @@ module _ (lists : List ℕ → Listings) (gives : List ℕ → Contents)
         (bytes_by own_rules a (Err (record { path = place_path j.path place; word = word })) (is j.path)),
   )
   info_refused (Broken Memory) r = tt
-  info_refused (Broken TooManyDirs) r = absurd r
   info_refused (Broken TooDeep) r = absurd r
 
   -- ---- the directory's own two files
@@ -161,7 +159,6 @@ module _ (lists : List ℕ → Listings) (gives : List ℕ → Contents)
             (e (place_path j.path) (any_count lists gives some_content j.path))),
       )
       at (Broken Memory) r = tt
-      at (Broken TooManyDirs) r = absurd r
       at (Broken TooDeep) r = absurd r
 
   -- all rule files were read

@@ -17,7 +17,7 @@ use Rattle.lc_level.specs.declared.rule_pair.PairRead.{PairRead}
 use Rattle.lc_level.specs.declared.unlisted.Unlisted.{Unlisted}
 use Rattle.lc_level.specs.declared.unlisted.Unlisted.TheVariants.{Faulted, Broken}
 use Rattle.lc_level.specs.declared.fault_word.FaultWord.{FaultWord}
-use Rattle.lc_level.specs.declared.cause.Cause.TheVariants.{Memory, TooManyDirs, TooDeep}
+use Rattle.lc_level.specs.declared.cause.Cause.TheVariants.{Memory, TooDeep}
 use Rattle.lc_level.specs.declared.place.Place.{Place}
 use Rattle.lc_level.specs.declared.place.Place.TheVariants.{Git, GitInfo, ExcludeFile, InfoAttributes}
 use Rattle.lc_level.proofs.GivenItems.{Counted, AsRules, items_at, entries_items, directory_items, may_items}
@@ -109,7 +109,6 @@ module _ (lists : List ℕ → Listings) (gives : List ℕ → Contents)
         → ReadsGit lists gives texts there (Err u)
     git_refused there (Faulted place word) e (is, l) = git_fault there place word e is l
     git_refused there (Broken Memory) e l = tt
-    git_refused there (Broken TooManyDirs) e l = absurd l
     git_refused there (Broken TooDeep) e l = absurd l
 
     -- where `.git` has no `info` nothing is read
@@ -141,7 +140,6 @@ module _ (lists : List ℕ → Listings) (gives : List ℕ → Contents)
         ListsFor (lists (codes ".git/info")) GitInfo (Err u) → ReadsGit lists gives texts there (Err u)
     info_refused there es (Faulted place word) e l present (is, m) = info_fault there es place word e l present is m
     info_refused there es (Broken Memory) e l present m = tt
-    info_refused there es (Broken TooManyDirs) e l present m = absurd m
     info_refused there es (Broken TooDeep) e l present m = absurd m
 
     abbrev in_info : List ℕ → Contents
@@ -187,5 +185,4 @@ module _ (lists : List ℕ → Listings) (gives : List ℕ → Contents)
               ∙ is (place_path directory) (any_count (codes ".git/info")),
         )
         at (Err (Broken Memory)) k = tt
-        at (Err (Broken TooManyDirs)) k = absurd k
         at (Err (Broken TooDeep)) k = absurd k

@@ -13,7 +13,7 @@ use Rattle.lc_level.specs.declared.rule_pair.PairRead.{PairRead}
 use Rattle.lc_level.specs.declared.unlisted.Unlisted.{Unlisted}
 use Rattle.lc_level.specs.declared.unlisted.Unlisted.TheVariants.{Faulted, Broken}
 use Rattle.lc_level.specs.declared.fault_word.FaultWord.{FaultWord}
-use Rattle.lc_level.specs.declared.cause.Cause.TheVariants.{Memory, TooManyDirs, TooDeep}
+use Rattle.lc_level.specs.declared.cause.Cause.TheVariants.{Memory, TooDeep}
 use Rattle.lc_level.specs.declared.place.Place.{Place}
 use Rattle.lc_level.proofs.GivenItems.{Counted, AsRules, items_at, but, at_name, at_other, may_but, given_items}
 
@@ -48,7 +48,6 @@ module _ (gives : List ℕ → Contents) (first_name second_name : List ℕ) (ap
       × ((path_at : Place → List ℕ) (counted : Counted)
       → read_of (path_at first) (path_at second) given counted ≡ Err (record { path = path_at place; word = word }))
   PairGiven texts top first second (Err (Broken Memory)) = Unit {0}
-  PairGiven texts top first second (Err (Broken TooManyDirs)) = ⊥
   PairGiven texts top first second (Err (Broken TooDeep)) = ⊥
 
   abbrev with_both : Option (Result (List ℕ) FaultWord) → Option (Result (List ℕ) FaultWord) → AsRules
@@ -113,5 +112,4 @@ module _ (gives : List ℕ → Contents) (first_name second_name : List ℕ) (ap
             ∙ ap (λ (l : Place). Err (record { path = path_at l; word = word })) (sym is),
       )
   pair_given texts top first second (Err (Broken Memory)) r = tt
-  pair_given texts top first second (Err (Broken TooManyDirs)) r = absurd r
   pair_given texts top first second (Err (Broken TooDeep)) r = absurd r

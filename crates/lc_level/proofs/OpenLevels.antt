@@ -22,7 +22,7 @@ use Rattle.lc_level.specs.declared.left_in.LeftIn.{LeftIn}
 use Rattle.lc_level.specs.declared.unlisted.Unlisted.{Unlisted}
 use Rattle.lc_level.specs.declared.unlisted.Unlisted.TheVariants.{Faulted, Broken}
 use Rattle.lc_level.specs.declared.cause.Cause.{Cause}
-use Rattle.lc_level.specs.declared.cause.Cause.TheVariants.{Memory, TooManyDirs, TooDeep}
+use Rattle.lc_level.specs.declared.cause.Cause.TheVariants.{Memory, TooDeep}
 use Rattle.lc_level.proofs.AskedPaths.{absent_is, entries_of_part}
 use Rattle.lc_level.proofs.DeepEntries.{deep_by_entries}
 
@@ -53,7 +53,6 @@ module _ (lists : List ℕ → Listings) (gives : List ℕ → Contents) (left_o
   pub enter_refused : (texts : Bool) (u : Unlisted) → EntersLevel lists gives j texts (Err u) → OpensLevel lists gives left_out s j (Err u)
   enter_refused texts (Faulted place word) (a, may, tidy, is) = (a, may, tidy, is s)
   enter_refused texts (Broken Memory) e = tt
-  enter_refused texts (Broken TooManyDirs) e = absurd e
   enter_refused texts (Broken TooDeep) e = absurd e
 
   -- the entries that take part are these
@@ -96,7 +95,6 @@ module _ (lists : List ℕ → Listings) (gives : List ℕ → Contents) (left_o
     pub take_refused : (cause : Cause) → LeavesIn left_out s e.job part (Err cause)
         → OpensLevel lists gives left_out s j (Err (Broken cause))
     take_refused Memory l = tt
-    take_refused TooManyDirs l = absurd l
     take_refused TooDeep l = (c.inside.answers, c.inside.may, c.inside.tidy, deep_is true l)
 
     -- they were taken

@@ -13,7 +13,7 @@ use Rattle.lc_tree.specs.Trees.{Listings, Contents}
 use Rattle.lc_level.specs.declared.entering.Entered.{Entered}
 use Rattle.lc_level.specs.declared.unlisted.Unlisted.{Unlisted}
 use Rattle.lc_level.specs.declared.unlisted.Unlisted.TheVariants.{Faulted, Broken}
-use Rattle.lc_level.specs.declared.cause.Cause.TheVariants.{Memory, TooManyDirs, TooDeep}
+use Rattle.lc_level.specs.declared.cause.Cause.TheVariants.{Memory, TooDeep}
 
 module _ (lists : List ℕ → Listings) (gives : List ℕ → Contents) (j : JobModel) where
   -- by answers that the tree may give, this is the directory with its rule files in both chains
@@ -40,5 +40,4 @@ module _ (lists : List ℕ → Listings) (gives : List ℕ → Contents) (j : Jo
   EntersLevel texts (Err (Faulted place word)) = (a : Answers) × MayAnswer lists gives j.path a × IsTidy a
       × ((s : SelectionModel) → level s j a ≡ faulted_level (place_path j.path place) word)
   EntersLevel texts (Err (Broken Memory)) = Unit {0}
-  EntersLevel texts (Err (Broken TooManyDirs)) = ⊥
   EntersLevel texts (Err (Broken TooDeep)) = ⊥

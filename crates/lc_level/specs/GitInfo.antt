@@ -10,7 +10,7 @@ use Rattle.lc_tree.specs.Trees.{Listings, Contents}
 use Rattle.lc_level.specs.declared.rule_pair.PairRead.{PairRead}
 use Rattle.lc_level.specs.declared.unlisted.Unlisted.{Unlisted}
 use Rattle.lc_level.specs.declared.unlisted.Unlisted.TheVariants.{Faulted, Broken}
-use Rattle.lc_level.specs.declared.cause.Cause.TheVariants.{Memory, TooManyDirs, TooDeep}
+use Rattle.lc_level.specs.declared.cause.Cause.TheVariants.{Memory, TooDeep}
 use Rattle.lc_level.specs.declared.place.Place.{Place}
 
 -- the answer to listing a directory for the sake of its rule files: a fault is one of this place
@@ -18,7 +18,6 @@ abbrev pub ListsFor : Listings → Place → Result (List EntryModel) Unlisted �
 ListsFor may place (Ok entries) = may (Ok entries)
 ListsFor may place (Err (Faulted at word)) = (at ≡ place) × FailsBy may word
 ListsFor may place (Err (Broken Memory)) = Unit {0}
-ListsFor may place (Err (Broken TooManyDirs)) = ⊥
 ListsFor may place (Err (Broken TooDeep)) = ⊥
 
 module _ (lists : List ℕ → Listings) (gives : List ℕ → Contents) where
@@ -37,5 +36,4 @@ module _ (lists : List ℕ → Listings) (gives : List ℕ → Contents) where
       × ((directory : List ℕ)
       → and_then (info_items there a) info_bytes ≡ Err (record { path = place_path directory place; word = word }))
   ReadsGit texts there (Err (Broken Memory)) = Unit {0}
-  ReadsGit texts there (Err (Broken TooManyDirs)) = ⊥
   ReadsGit texts there (Err (Broken TooDeep)) = ⊥

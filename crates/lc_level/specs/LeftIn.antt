@@ -14,7 +14,7 @@ use Rattle.lc_level.specs.declared.left_in.LeftIn.{LeftIn}
 use Rattle.lc_tree.specs.declared.entry.Kind.{Kind}
 use Rattle.lc_tree.specs.declared.entry.Kind.TheVariants.{File, Dir, Other}
 use Rattle.lc_level.specs.declared.cause.Cause.{Cause}
-use Rattle.lc_level.specs.declared.cause.Cause.TheVariants.{Memory, TooManyDirs, TooDeep}
+use Rattle.lc_level.specs.declared.cause.Cause.TheVariants.{Memory, TooDeep}
 
 -- the name of an entry, where it is a file that the rules leave in; the child directory, where it is one that they leave in
 abbrev pub kept_file : SelectionModel → JobModel → EntryModel → List (List ℕ)
@@ -50,7 +50,6 @@ abbrev pub TakesFile : Bool → Option Reason → List ℕ → LeftIn → LeftIn
 TakesFile left_out reason name old new (Ok _) =
     Gains old new (cond (is_none reason) (name ∷ []) []) [] (kept_left left_out name File reason)
 TakesFile left_out reason name old new (Err Memory) = Unit {0}
-TakesFile left_out reason name old new (Err TooManyDirs) = ⊥
 TakesFile left_out reason name old new (Err TooDeep) = ⊥
 
 -- what taking a child directory answers, which may have too many segments: one that is left in has not
@@ -59,14 +58,12 @@ TakesDirectory left_out reason deep child old new (Ok _) =
     Gains old new [] (cond (is_none reason) (child ∷ []) []) (kept_left left_out child.0 Dir reason)
     × ((is_none reason && deep) ≡ false)
 TakesDirectory left_out reason deep child old new (Err Memory) = Unit {0}
-TakesDirectory left_out reason deep child old new (Err TooManyDirs) = ⊥
 TakesDirectory left_out reason deep child old new (Err TooDeep) = (is_none reason ≡ true) × (deep ≡ true)
 
 -- what leaving out an entry of any kind answers
 abbrev pub LeavesOut : Bool → Reason → List ℕ → Kind → LeftIn → LeftIn → Result (Unit {0}) Cause → Type 0
 LeavesOut left_out reason name kind old new (Ok _) = Gains old new [] [] (kept_left left_out name kind (Some reason))
 LeavesOut left_out reason name kind old new (Err Memory) = Unit {0}
-LeavesOut left_out reason name kind old new (Err TooManyDirs) = ⊥
 LeavesOut left_out reason name kind old new (Err TooDeep) = ⊥
 
 -- what taking what is neither a file nor a directory answers
@@ -79,7 +76,6 @@ abbrev pub Takes : Bool → SelectionModel → JobModel → EntryModel → LeftI
 Takes left_out s j e old new (Ok _) =
     Gains old new (kept_file s j e) (kept_directory s j e) (left_entry left_out s j e) × (is_too_deep s j e ≡ false)
 Takes left_out s j e old new (Err Memory) = Unit {0}
-Takes left_out s j e old new (Err TooManyDirs) = ⊥
 Takes left_out s j e old new (Err TooDeep) = is_too_deep s j e ≡ true
 
 -- what taking all entries answers: those left in and out, in order, where none is too deep; or one of them is; or memory was refused
@@ -88,5 +84,4 @@ LeavesIn left_out s j es (Ok found) =
     (bytes_of found.files.items ≡ flat_map (kept_file s j) es) × (found.children.items ≡ flat_map (kept_directory s j) es)
     × (found.left.items ≡ flat_map (left_entry left_out s j) es) × (list_any (is_too_deep s j) es ≡ false)
 LeavesIn left_out s j es (Err Memory) = Unit {0}
-LeavesIn left_out s j es (Err TooManyDirs) = ⊥
 LeavesIn left_out s j es (Err TooDeep) = list_any (is_too_deep s j) es ≡ true

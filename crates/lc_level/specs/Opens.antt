@@ -16,7 +16,7 @@ use Rattle.lc_tree.specs.Trees.{Listings, Contents}
 use Rattle.lc_level.specs.declared.opening.Opened.{Opened}
 use Rattle.lc_level.specs.declared.unlisted.Unlisted.{Unlisted}
 use Rattle.lc_level.specs.declared.unlisted.Unlisted.TheVariants.{Faulted, Broken}
-use Rattle.lc_level.specs.declared.cause.Cause.TheVariants.{Memory, TooManyDirs, TooDeep}
+use Rattle.lc_level.specs.declared.cause.Cause.TheVariants.{Memory, TooDeep}
 
 module _ (lists : List ℕ → Listings) (gives : List ℕ → Contents) (left_out : Bool) (s : SelectionModel) (j : JobModel) where
   -- by answers that the tree may give: the directory with its rule files, what of its entries that take part these leave in and out,
@@ -36,5 +36,4 @@ module _ (lists : List ℕ → Listings) (gives : List ℕ → Contents) (left_o
   OpensLevel (Err (Faulted place word)) = (a : Answers) × MayAnswer lists gives j.path a × IsTidy a
       × (level s j a ≡ faulted_level (place_path j.path place) word)
   OpensLevel (Err (Broken Memory)) = Unit {0}
-  OpensLevel (Err (Broken TooManyDirs)) = ⊥
   OpensLevel (Err (Broken TooDeep)) = (a : Answers) × MayAnswer lists gives j.path a × IsTidy a × (has_too_deep s j a ≡ true)

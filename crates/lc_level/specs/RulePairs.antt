@@ -11,7 +11,7 @@ use Rattle.lc_level.specs.declared.unlisted.Unlisted.{Unlisted}
 use Rattle.lc_level.specs.declared.unlisted.Unlisted.TheVariants.{Faulted, Broken}
 use Rattle.lc_level.specs.declared.unread.Unread.{Unread}
 use Rattle.lc_level.specs.declared.unread.Unread.TheVariants as unread
-use Rattle.lc_level.specs.declared.cause.Cause.TheVariants.{Memory, TooManyDirs, TooDeep}
+use Rattle.lc_level.specs.declared.cause.Cause.TheVariants.{Memory, TooDeep}
 use Rattle.lc_level.specs.declared.place.Place.{Place}
 
 -- what becomes of a directory whose file at a place was not read
@@ -43,5 +43,4 @@ ReadsBoth texts rules attributes rules_there attributes_there top first second (
     ⊎ ((place ≡ second) × ((bytes : Option (List ℕ)) × MayGive rules rules_there (option_map Ok bytes))
     × MayGive attributes attributes_there (Some (Err word)))
 ReadsBoth texts rules attributes rules_there attributes_there top first second (Err (Broken Memory)) = Unit {0}
-ReadsBoth texts rules attributes rules_there attributes_there top first second (Err (Broken TooManyDirs)) = ⊥
 ReadsBoth texts rules attributes rules_there attributes_there top first second (Err (Broken TooDeep)) = ⊥

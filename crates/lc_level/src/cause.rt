@@ -5,8 +5,6 @@
 pub enum Cause {
     /// Memory was refused.
     Memory,
-    /// All numbers of directories are used.
-    TooManyDirs,
     /// An entry's path has over 4,096 bytes, or a directory's over 256 segments.
     TooDeep,
 }

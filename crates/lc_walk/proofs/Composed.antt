@@ -44,7 +44,7 @@ use Rattle.lc_walk.specs.RowViews.{ChildModel}
 use Rattle.lc_walk.proofs.Reports.{report_law}
 use Rattle.lc_walk.proofs.PathsApart.{paths_once_law, found_apart, file_list_apart, fault_list_apart, left_list_apart}
 use Rattle.lc_walk.proofs.PathsApart.{all_lists_apart}
-use Rattle.lc_level.specs.declared.cause.Cause.TheVariants.{Memory}
+use Rattle.lc_walk.specs.declared.given_up.GivenUp.TheVariants.{Memory}
 use Rattle.lc_walk.specs.declared.row.Row.{Row}
 use Rattle.lc_walk.specs.declared.row.Row.TheVariants.{Listed, Faulted, Broken}
 use Rattle.lc_board.proofs.EndsInPlace.{rows_hold}

@@ -35,7 +35,10 @@ use Rattle.lc_walk.proofs.Joining.{stands_permuted}
 use Rattle.lc_walk.proofs.Posted.{posts_come, job_stays}
 use Rattle.lc_walk.proofs.Working.{works_posts, works_give, works_fault, serves_broken, then_serves}
 use Rattle.lc_level.specs.declared.cause.Cause.{Cause}
-use Rattle.lc_level.specs.declared.cause.Cause.TheVariants.{Memory, TooManyDirs, TooDeep}
+use Rattle.lc_level.specs.declared.cause.Cause.TheVariants as level
+use Rattle.lc_walk.specs.GivenUps.{given_up_for}
+use Rattle.lc_walk.specs.declared.given_up.GivenUp.{GivenUp}
+use Rattle.lc_walk.specs.declared.given_up.GivenUp.TheVariants.{Memory, TooManyDirs, TooDeep}
 use Rattle.lc_level.specs.declared.counting.CountedFiles.{CountedFiles}
 use Rattle.lc_level.specs.declared.opening.Opened.{Opened}
 use Rattle.lc_level.specs.declared.place.Place.{Place}
@@ -48,7 +51,7 @@ unfolding IsStrictlySortedBy
 no_entries = record { good = refl; order = tt; few = omega arith }
 
 module _ (ask : Asked) (lists : List ℕ → Listings) (gives : List ℕ → Contents) where
-  abbrev Lawful : Pass JobModel Row → JobModel → Cause → Answers → Type 0
+  abbrev Lawful : Pass JobModel Row → JobModel → GivenUp → Answers → Type 0
   Lawful p j c a = IsLawfulEnd ask p.full (MayAnswer lists gives) (job_held p.mine) (posts_held p.mine)
       (ended.Returned (Broken (record { job = j; cause = c }))) a
 
@@ -67,10 +70,9 @@ module _ (ask : Asked) (lists : List ℕ → Listings) (gives : List ℕ → Con
   serves_unasked p j t h = works_give ask (MayAnswer lists gives) p _ no_answers t None (memory_end p j h) (λ fs s. tt) (λ e. inl refl)
 
   unopened_end : (p : Pass JobModel Row) (j : JobModel) (c : Cause) → HoldsJob j p
-      → OpensLevel lists gives ask.lists.left_out ask.selection j (Err (unlisted.Broken c)) → (a : Answers) × Lawful p j c a
-  unopened_end p j Memory h o = (no_answers, memory_end p j h)
-  unopened_end p j TooManyDirs h o = absurd o
-  unopened_end p j TooDeep h o = (
+      → OpensLevel lists gives ask.lists.left_out ask.selection j (Err (unlisted.Broken c)) → (a : Answers) × Lawful p j (given_up_for c) a
+  unopened_end p j level.Memory h o = (no_answers, memory_end p j h)
+  unopened_end p j level.TooDeep h o = (
     o.0,
     record {
       job_is = h.job_is;
@@ -83,10 +85,11 @@ module _ (ask : Asked) (lists : List ℕ → Listings) (gives : List ℕ → Con
   -- a directory that was given up before it was opened
   pub serves_unopened : (p : Pass JobModel Row) (j : JobModel) (c : Cause) (t : TallyModel) (result : Result (Unit {0}) AllocError)
       → HoldsJob j p →
-      OpensLevel lists gives ask.lists.left_out ask.selection j (Err (unlisted.Broken c)) → GivesUp c result →
-      Serves ask (MayAnswer lists gives) p (after_give p (Broken (record { job = j; cause = c }))) t t result
-  serves_unopened p j c t result h o g = let e = unopened_end p j c h o in serves_broken ask (MayAnswer lists gives) p j c e.0 t t
-      result e.1 g (λ n. refl)
+      OpensLevel lists gives ask.lists.left_out ask.selection j (Err (unlisted.Broken c)) → GivesUp (given_up_for c) result →
+      Serves ask (MayAnswer lists gives) p (after_give p (Broken (record { job = j; cause = given_up_for c }))) t t result
+  serves_unopened p j c t result h o g =
+      let e = unopened_end p j c h o in
+      serves_broken ask (MayAnswer lists gives) p j (given_up_for c) e.0 t t result e.1 g (λ n. refl)
 
   -- a directory at fault
   pub serves_faulted : (p : Pass JobModel Row) (j : JobModel) (place : Place) (word : FaultWord) (t : TallyModel) → HoldsJob j p →
@@ -111,7 +114,7 @@ module _ (ask : Asked) (lists : List ℕ → Listings) (gives : List ℕ → Con
     posts_now : (jobs : List JobModel) (x : HasPosted p q jobs) → posts_held q.mine ≡ posts_held x.since
     posts_now jobs x = ap posts_held x.mine ∙ posts_come x.since p.mine x.only ∙ ap (λ ps. ps ++ posts_held x.since) h.none
 
-    broken_end : (cause : Cause) (n : ℕ) → HasPosted p q (take n (jobs_of o.children.items))
+    broken_end : (cause : GivenUp) (n : ℕ) → HasPosted p q (take n (jobs_of o.children.items))
         → IsCause ask q.full j c.inside.answers (posts_held q.mine) cause → Lawful q j cause c.inside.answers
     broken_end cause n x is = record {
       job_is = job_now _ x;
@@ -140,7 +143,7 @@ module _ (ask : Asked) (lists : List ℕ → Listings) (gives : List ℕ → Con
     )
 
     -- not all were posted
-    pub serves_refused : (cause : Cause) (t : TallyModel) (result : Result (Unit {0}) AllocError)
+    pub serves_refused : (cause : GivenUp) (t : TallyModel) (result : Result (Unit {0}) AllocError)
         → RefusesPost (jobs_of o.children.items) p q cause → GivesUp cause result →
         Serves ask (MayAnswer lists gives) p (after_give q (Broken (record { job = j; cause = cause }))) t t result
     serves_refused Memory t result x g =

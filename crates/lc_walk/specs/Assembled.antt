@@ -15,8 +15,8 @@ use Rattle.lc_walk.specs.Rows.{row_of, job_of, children_in}
 use Rattle.lc_level.specs.PlacePaths.{place_path}
 use Rattle.lc_walk.specs.WalkReport.{line_of, left_line}
 use Rattle.lc_walk.specs.Walked.{AreWhole}
-use Rattle.lc_level.specs.declared.cause.Cause.{Cause}
-use Rattle.lc_level.specs.declared.cause.Cause.TheVariants.{Memory, TooManyDirs, TooDeep}
+use Rattle.lc_walk.specs.declared.given_up.GivenUp.{GivenUp}
+use Rattle.lc_walk.specs.declared.given_up.GivenUp.TheVariants.{Memory, TooManyDirs, TooDeep}
 use Rattle.lc_walk.specs.declared.row.Row.{Row}
 use Rattle.lc_walk.specs.declared.row.Row.TheVariants.{Listed, Faulted, Broken}
 use Rattle.lc_walk.specs.declared.walk_fault.WalkFault.{WalkFault}
@@ -111,12 +111,12 @@ pub record IsAssembled (lists : Lists) (tally : TallyModel) (rows : List (Ended 
   pub report : IsReport tally lists found r
 
 -- some row is Broken with this cause
-abbrev pub IsBrokenBy : Cause → Row → Type 0
+abbrev pub IsBrokenBy : GivenUp → Row → Type 0
 IsBrokenBy cause (Listed r) = ⊥
 IsBrokenBy cause (Faulted r) = ⊥
 IsBrokenBy cause (Broken r) = r.cause ≡ cause
 
-abbrev pub SomeBroken : Cause → List (Ended Row) → Type 0
+abbrev pub SomeBroken : GivenUp → List (Ended Row) → Type 0
 SomeBroken cause rows = (i : ℕ) × ((e : Ended Row) × (slice_get rows i ≡ Some e) × IsBrokenBy cause (row_of e))
 
 -- a Broken row's cause, Memory first; else the number at which they make no tree; or Memory

@@ -16,8 +16,8 @@ use Rattle.lc_level.specs.Deep.{has_too_deep}
 use Rattle.lc_walk.specs.RowViews.{ChildModel, ListedRowModel}
 use Rattle.lc_walk.specs.Rows.{row_of, job_of}
 use Rattle.lc_level.specs.PlacePaths.{place_path}
-use Rattle.lc_level.specs.declared.cause.Cause.{Cause}
-use Rattle.lc_level.specs.declared.cause.Cause.TheVariants.{Memory, TooManyDirs, TooDeep}
+use Rattle.lc_walk.specs.declared.given_up.GivenUp.{GivenUp}
+use Rattle.lc_walk.specs.declared.given_up.GivenUp.TheVariants.{Memory, TooManyDirs, TooDeep}
 use Rattle.lc_walk.specs.declared.options.Lists.{Lists}
 use Rattle.lc_walk.specs.declared.row.FaultedRow.{FaultedRow}
 use Rattle.lc_walk.specs.declared.row.BrokenRow.{BrokenRow}
@@ -67,7 +67,7 @@ pub record SaysFaulted (ask : Asked) (r : FaultedRow) (a : Answers) (posts : Lis
   pub posts_are : posts ≡ []
 
 -- why a directory was given up, by what was posted; `full` says whether a post of the row's pass was answered Full
-abbrev pub IsCause : Asked → Bool → JobModel → Answers → List (ℕ × JobModel) → Cause → Type 0
+abbrev pub IsCause : Asked → Bool → JobModel → Answers → List (ℕ × JobModel) → GivenUp → Type 0
 IsCause ask full j a posts Memory = Unit {0}
 IsCause ask full j a posts TooManyDirs = (full ≡ true) × (length posts < length (children_at ask.selection j a))
 IsCause ask full j a posts TooDeep = has_too_deep ask.selection j a ≡ true

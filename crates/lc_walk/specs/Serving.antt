@@ -8,8 +8,8 @@ use Rattle.lc_level.specs.Job.{JobModel}
 use Rattle.lc_walk.specs.Lawful.{Asked}
 use Rattle.lc_walk.specs.Tally.{TallyModel, CountedFile, StandsFor}
 use Rattle.lc_walk.specs.Worked.{HasWorked, HasEnded}
-use Rattle.lc_level.specs.declared.cause.Cause.{Cause}
-use Rattle.lc_level.specs.declared.cause.Cause.TheVariants.{Memory, TooManyDirs, TooDeep}
+use Rattle.lc_walk.specs.declared.given_up.GivenUp.{GivenUp}
+use Rattle.lc_walk.specs.declared.given_up.GivenUp.TheVariants.{Memory, TooManyDirs, TooDeep}
 use Rattle.lc_walk.specs.declared.row.Row.{Row}
 use Rattle.lc_walk.specs.declared.worker.End.{End}
 use Rattle.lc_walk.specs.declared.worker.End.TheVariants.{Over, Memory as NoMemory}
@@ -23,7 +23,7 @@ pub record HoldsJob (j : JobModel) (p : Pass JobModel Row) : Type 0 where
   pub nothing : posted p ≡ 0
 
 -- what giving up a directory for a cause answers: whether it was for want of memory
-abbrev pub GivesUp : Cause → Result (Unit {0}) AllocError → Type 0
+abbrev pub GivesUp : GivenUp → Result (Unit {0}) AllocError → Type 0
 GivesUp Memory (Ok _) = ⊥
 GivesUp Memory (Err _) = Unit {0}
 GivesUp TooManyDirs (Ok _) = Unit {0}

@@ -1,6 +1,6 @@
 //! The walk over a tree: its workers, their rows and tallies, and what it reports.
 //!
-//! - `row`: what a worker gives for a directory
+//! - `row`: what a worker gives for a directory; `given_up`: why one was given up
 //! - `tally`: the sums over the counted files, a row for each key
 //! - `report`: what a walk reports, and how the rows of a closed board make it
 //! - `worker`, with what is below it: one worker; `workers`: all workers at the same time
@@ -9,6 +9,7 @@
 #![tactic(auto)]
 
 mod closing;
+mod given_up;
 mod laws;
 mod options;
 mod report;
@@ -20,6 +21,7 @@ mod worker;
 mod workers;
 
 pub use closing::finish;
+pub use given_up::GivenUp;
 pub use laws::{
     a_part_is_the_whole_filtered, a_report_has_no_order, a_tally_has_no_order,
     all_that_is_found_is_given, entries_are_accounted_for, examples_hold, lawful_in_part_is_lawful,

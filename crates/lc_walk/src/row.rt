@@ -1,8 +1,8 @@
 //! What a worker gives for a directory.
 ghost use Rattle.std.specs.Prelude.{◌≡◌, IfOk, IfErr};
 
-use lc_level::{Cause, Counted, FileFault, Job, LeftOut, Place};
-use lc_level::FaultWord;
+use crate::given_up::GivenUp;
+use lc_level::{Counted, FaultWord, FileFault, Job, LeftOut, Place};
 use std::alloc::Global;
 use std::marker::Model;
 
@@ -135,7 +135,7 @@ pub struct FaultedRow {
 #[derive(Drop)]
 pub struct BrokenRow {
     pub job: Job,
-    pub cause: Cause,
+    pub cause: GivenUp,
 }
 
 /// What a worker gives for a directory.

@@ -3,10 +3,9 @@
 use crate::level::left_out::{Why, is_reason};
 use crate::level::work::{Asked, NOTHING, job_of, top};
 use lc_level::{
-    Cause, Entered, Job, Kept, LevelReader, Place, Scratch, Selection, Unlisted, path_in,
+    Cause, Entered, FaultWord, Job, Kept, LevelReader, Place, Scratch, Selection, Unlisted, path_in,
 };
 use lc_rules::{Origin, Verdict};
-use lc_level::FaultWord;
 use lc_tree::{Entry, Kind, MemTree, Sketch};
 use std::alloc::{AllocError, Global};
 use std::process::Abort;

@@ -1,8 +1,7 @@
 //! Directories at fault: at which place, and with which word.
 
 use crate::level::work::{Asked, check, top};
-use lc_level::{Place, Unlisted};
-use lc_level::FaultWord;
+use lc_level::{FaultWord, Place, Unlisted};
 use lc_tree::Sketch;
 use std::alloc::{AllocError, Global};
 use std::process::Abort;

@@ -1,8 +1,8 @@
 //! Directories that are listed: which entries are left in, and what becomes of the files.
 
 use crate::level::work::{Asked, Level, check, check_tops, top};
-use lc_rules::TextState;
 use lc_level::FaultWord;
+use lc_rules::TextState;
 use lc_tree::Sketch;
 use std::alloc::{AllocError, Global};
 use std::process::Abort;

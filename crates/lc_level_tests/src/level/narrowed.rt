@@ -1,8 +1,7 @@
 //! Directories of which some paths alone are asked for: which entries take part, and which paths are absent.
 
 use crate::level::work::{Asked, are_faults, are_names, job_of, open, top, work};
-use lc_level::{FileFault, Job, Kept, LeftOut, LevelReader, Opened, Scratch, Selection};
-use lc_level::FaultWord;
+use lc_level::{FaultWord, FileFault, Job, Kept, LeftOut, LevelReader, Opened, Scratch, Selection};
 use lc_tree::{MemTree, Sketch};
 use std::alloc::{AllocError, Global};
 use std::process::Abort;

@@ -1,8 +1,9 @@
 //! One directory's work on a sketch, and what is wanted of it.
 
-use lc_level::{Cause, CountedFiles, Job, Kept, LevelReader, Opened, Scratch, Selection, Unlisted};
+use lc_level::{
+    Cause, CountedFiles, FaultWord, Job, Kept, LevelReader, Opened, Scratch, Selection, Unlisted,
+};
 use lc_rules::{IgnoreFile, RuleFault, TextState};
-use lc_level::FaultWord;
 use lc_tree::{MemTree, Sketch};
 use std::alloc::{AllocError, Global};
 use std::process::Abort;

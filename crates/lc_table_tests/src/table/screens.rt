@@ -2,10 +2,10 @@
 
 use crate::table::tables::{Case, NONE, report_of};
 use lc_census::Eol;
+use lc_level::FaultWord;
 use lc_rules::TextState;
 use lc_table::table_text;
 use lc_text::{Columns, Format, Shape, SortBy};
-use lc_level::FaultWord;
 use std::process::Abort;
 use std::test::Fail;
 

@@ -2,11 +2,11 @@
 
 use crate::table::asking::{HEADER, TSV};
 use lc_census::{Count, Eol};
+use lc_level::FaultWord;
 use lc_rules::TextState;
 use lc_table::{table, table_text};
 use lc_text::PrintFault;
 use lc_text::trials::{Narrow, WRITERS, WhenFull};
-use lc_level::FaultWord;
 use lc_walk::{FaultLine, FileLine, Lists, Report, Sums, TallyRow};
 use std::alloc::{AllocError, Global};
 use std::process::Abort;

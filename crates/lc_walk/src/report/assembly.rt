@@ -6,6 +6,7 @@ ghost use Rattle.lc_walk.specs.Marks.{fault_of_tree};
 ghost use Rattle.lc_board.specs.declared.answers.Ended.{Ended};
 ghost use Rattle.lc_walk.specs.declared.row.Row.{Row};
 
+use crate::given_up::GivenUp;
 use crate::options::Lists;
 use crate::report::Report;
 use crate::report::row_lines::{findings_of, row_of};
@@ -14,11 +15,10 @@ use crate::row::Row;
 use crate::tally::Tally;
 use crate::walk_fault::WalkFault;
 use lc_board::{Closed, Ended};
-use lc_level::Cause;
 use std::alloc::Global;
 
 /// The row was given up for this cause.
-fn is_broken_by(row: &Row, cause: Cause) -> bool
+fn is_broken_by(row: &Row, cause: GivenUp) -> bool
     ensures broken { result ≡ true → IsBrokenBy cause row.now }
     ensures other { result ≡ false → IsBrokenBy cause row.now → ⊥ }
 {
@@ -30,7 +30,7 @@ fn is_broken_by(row: &Row, cause: Cause) -> bool
 }
 
 /// Some row was given up for this cause.
-fn some_broken(rows: &[Ended<Row>], cause: Cause) -> bool
+fn some_broken(rows: &[Ended<Row>], cause: GivenUp) -> bool
     ensures some { result ≡ true → SomeBroken cause rows.now }
     ensures none { result ≡ false → (i : ℕ) (e : Ended Row) → slice_get rows.now i ≡ Some e → IsBrokenBy cause (row_of e) → ⊥ }
 {
@@ -62,13 +62,13 @@ pub fn assemble(
     ensures { Assembles lists tally closed.rows.items result }
 {
     let rows = closed.rows.as_slice();
-    if some_broken(rows, Cause::Memory) {
+    if some_broken(rows, GivenUp::Memory) {
         return Err(WalkFault::Memory);
     }
-    if some_broken(rows, Cause::TooManyDirs) {
+    if some_broken(rows, GivenUp::TooManyDirs) {
         return Err(WalkFault::TooManyDirs);
     }
-    if some_broken(rows, Cause::TooDeep) {
+    if some_broken(rows, GivenUp::TooDeep) {
         return Err(WalkFault::TooDeep);
     }
     match check_tree(alloc, rows) {

@@ -1,8 +1,7 @@
 //! What a report says of one file, of one fault and of one entry left out.
 use lc_census::Count;
-use lc_level::Reason;
+use lc_level::{FaultWord, Reason};
 use lc_rules::TextState;
-use lc_level::FaultWord;
 use lc_tree::Kind;
 use std::marker::Model;
 

@@ -3,10 +3,11 @@ ghost use Rattle.std.specs.Prelude.{◌∷◌, []};
 ghost use Rattle.lc_walk.specs.BoardPasses.{HoldsClaim, IsPassOf};
 ghost use Rattle.lc_walk.specs.Posting.{PostsMore, PostsChildren};
 
+use crate::given_up::GivenUp;
 use crate::row::{Child, Row};
 use crate::worker::Worker;
 use lc_board::{PostFault, Shared};
-use lc_level::{Cause, ChildDirectory, Job};
+use lc_level::{ChildDirectory, Job};
 use lc_tree::Tree;
 use std::sync::Wait;
 
@@ -17,7 +18,7 @@ impl<B: Shared<Job, Row>, T: Tree, W: Wait> Worker<'_, B, T, W> {
         pass: &mut B::Pass,
         child: ChildDirectory,
         children: &mut Vec<Child>,
-    ) -> Result<(), Cause>
+    ) -> Result<(), GivenUp>
         requires { IsPassOf B.owns B.Pass.view self.now.board.now HoldsClaim pass.old }
         ensures pass { IsPassOf B.owns B.Pass.view self.now.board.now HoldsClaim pass.new }
         ensures posts { PostsMore (child ∷ []) (B.Pass.view pass.old) (B.Pass.view pass.new) children.old.items children.new.items result }
@@ -25,12 +26,12 @@ impl<B: Shared<Job, Row>, T: Tree, W: Wait> Worker<'_, B, T, W> {
         let ChildDirectory { name, job } = child;
         let number = match self.board.post(self.rt, pass, job) {
             Ok(number) => number,
-            Err(PostFault::Full(_)) => return Err(Cause::TooManyDirs),
-            Err(PostFault::Memory(_)) => return Err(Cause::Memory),
+            Err(PostFault::Full(_)) => return Err(GivenUp::TooManyDirs),
+            Err(PostFault::Memory(_)) => return Err(GivenUp::Memory),
         };
         match children.push(Child { name, number }) {
             Ok(()) => Ok(()),
-            Err(_) => Err(Cause::Memory),
+            Err(_) => Err(GivenUp::Memory),
         }
     }
 
@@ -39,13 +40,13 @@ impl<B: Shared<Job, Row>, T: Tree, W: Wait> Worker<'_, B, T, W> {
         &self,
         pass: &mut B::Pass,
         directories: Vec<ChildDirectory>,
-    ) -> Result<Vec<Child>, Cause>
+    ) -> Result<Vec<Child>, GivenUp>
         requires { IsPassOf B.owns B.Pass.view self.now.board.now HoldsClaim pass.old }
         ensures pass { IsPassOf B.owns B.Pass.view self.now.board.now HoldsClaim pass.new }
         ensures posts { PostsChildren directories.items (B.Pass.view pass.old) (B.Pass.view pass.new) result }
     {
         let Ok(mut children) = Vec::with_capacity(self.alloc, directories.len()) else {
-            return Err(Cause::Memory);
+            return Err(GivenUp::Memory);
         };
         for child in directories {
             self.post_child(pass, child, &mut children)?;

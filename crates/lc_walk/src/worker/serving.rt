@@ -8,12 +8,13 @@ ghost use Rattle.lc_walk.specs.Serving.{HoldsJob, GivesUp, GoesOn, Serves};
 ghost use Rattle.lc_walk.specs.WalkOptions.{asked_by};
 ghost use Rattle.lc_walk.specs.declared.row.Row.TheVariants.{Broken};
 
+use crate::given_up::GivenUp;
 use crate::row::{BrokenRow, FaultedRow, ListedParts, ListedRow, Row};
 use crate::tally::Tally;
 use crate::worker::Worker;
 use crate::worker::adding::add_files;
 use lc_board::Shared;
-use lc_level::{Cause, Counted, CountedFiles, Job, Kept, LevelReader, Opened, Scratch, Unlisted};
+use lc_level::{Counted, CountedFiles, Job, Kept, LevelReader, Opened, Scratch, Unlisted};
 use lc_tree::Tree;
 use std::alloc::AllocError;
 use std::sync::Wait;
@@ -33,7 +34,7 @@ impl<'w, B: Shared<Job, Row>, T: Tree, W: Wait> Worker<'w, B, T, W> {
     }
 
     /// Ends the claim of a directory by giving it up. It answers `Err` where that was for want of memory.
-    fn give_up(&self, pass: &mut B::Pass, job: Job, cause: Cause) -> Result<(), AllocError>
+    fn give_up(&self, pass: &mut B::Pass, job: Job, cause: GivenUp) -> Result<(), AllocError>
         requires { IsPassOf B.owns B.Pass.view self.now.board.now HoldsClaim pass.old }
         ensures pass { IsPassOf B.owns B.Pass.view self.now.board.now IsFree pass.new }
         ensures mine { B.Pass.view pass.new ≡ after_give (B.Pass.view pass.old) (Broken (record { job = job; cause = cause })) }
@@ -42,9 +43,9 @@ impl<'w, B: Shared<Job, Row>, T: Tree, W: Wait> Worker<'w, B, T, W> {
         self.board
             .give(self.rt, pass, Row::Broken(BrokenRow { job, cause }));
         match cause {
-            Cause::Memory => Err(AllocError),
-            Cause::TooManyDirs => Ok(()),
-            Cause::TooDeep => Ok(()),
+            GivenUp::Memory => Err(AllocError),
+            GivenUp::TooManyDirs => Ok(()),
+            GivenUp::TooDeep => Ok(()),
         }
     }
 
@@ -89,10 +90,10 @@ impl<'w, B: Shared<Job, Row>, T: Tree, W: Wait> Worker<'w, B, T, W> {
             Err(cause) => return self.give_up(pass, job, cause),
         };
         let Ok(found) = self.levels().count(&inside, files, absent, scratch) else {
-            return self.give_up(pass, job, Cause::Memory);
+            return self.give_up(pass, job, GivenUp::Memory);
         };
         let Ok(()) = add_files(tally, &found.files) else {
-            return self.give_up(pass, job, Cause::Memory);
+            return self.give_up(pass, job, GivenUp::Memory);
         };
         let CountedFiles { files, faults } = found;
         let parts = ListedParts {
@@ -108,7 +109,7 @@ impl<'w, B: Shared<Job, Row>, T: Tree, W: Wait> Worker<'w, B, T, W> {
                 self.board.give(self.rt, pass, Row::Listed(row));
                 Ok(())
             }
-            Err(job) => self.give_up(pass, job, Cause::Memory),
+            Err(job) => self.give_up(pass, job, GivenUp::Memory),
         }
     }
 
@@ -131,7 +132,7 @@ impl<'w, B: Shared<Job, Row>, T: Tree, W: Wait> Worker<'w, B, T, W> {
                 self.board.fault(self.rt, pass, Row::Faulted(FaultedRow { job, place, word }));
                 Ok(())
             }
-            Err(Unlisted::Broken(cause)) => self.give_up(pass, job, cause),
+            Err(Unlisted::Broken(cause)) => self.give_up(pass, job, GivenUp::unopened(cause)),
         }
     }
 
@@ -154,7 +155,7 @@ impl<'w, B: Shared<Job, Row>, T: Tree, W: Wait> Worker<'w, B, T, W> {
         {
             self.serve(pass, job, scratch, tally)
         } else {
-            self.give_up(pass, job, Cause::Memory)
+            self.give_up(pass, job, GivenUp::Memory)
         };
         if served.is_err() {
             *tally = None;

@@ -3,8 +3,7 @@
 use crate::walk::walked::{Found, NONE, has_found, report_of, walk_options};
 use lc_board::{Locked, Shared, Words};
 use lc_census::Eol;
-use lc_level::Job;
-use lc_level::FaultWord;
+use lc_level::{FaultWord, Job};
 use lc_tree::{Listing, MemFile, MemTree, ReadFault, Sketch, Tree};
 use lc_walk::{Row, walk_on};
 use std::alloc::{AllocError, Global};

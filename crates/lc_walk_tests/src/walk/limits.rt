@@ -6,8 +6,7 @@ use crate::walk::walked::{
 };
 use lc_board::{Locked, Words};
 use lc_census::Eol;
-use lc_level::Job;
-use lc_level::FaultWord;
+use lc_level::{FaultWord, Job};
 use lc_tree::{MemTree, Node, Sketch};
 use lc_walk::{Row, WalkFault};
 use std::alloc::{AllocError, Global};

@@ -3,10 +3,9 @@
 use crate::walk::left_lines::{Line, Why, has_lines};
 use crate::walk::walked::{has_faults, report_of};
 use lc_board::{Locked, Shared, Words};
-use lc_level::Job;
+use lc_level::{FaultWord, Job};
 use lc_rules::{Origin, TextState};
 use lc_tree::trials::{FailingCall, FailingTree};
-use lc_level::FaultWord;
 use lc_tree::{Kind, MemTree, Sketch};
 use lc_walk::{Lists, Options, Report, Row, walk_on};
 use std::alloc::{AllocError, Global};

@@ -3,9 +3,8 @@
 use super::tallies::put;
 use super::walked::has_faults;
 use lc_census::{Count, Eol};
-use lc_level::Reason;
+use lc_level::{FaultWord, Reason};
 use lc_rules::TextState;
-use lc_level::FaultWord;
 use lc_tree::Kind;
 use lc_walk::{FaultLine, FileLine, Findings, LeftLine, Lists, Report, Tally};
 use std::alloc::{AllocError, Global};

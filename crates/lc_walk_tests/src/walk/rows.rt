@@ -4,10 +4,9 @@ ghost use Rattle.lc_board.specs.Pass.{holding, new_pass};
 
 use crate::walk::walked::walk_options;
 use lc_board::{Claim, CloseFault, Closed, Ended, Locked, Shared, Words};
-use lc_level::{Cause, Job, Kept, LevelReader, Place, Scratch, Selection};
-use lc_level::FaultWord;
+use lc_level::{FaultWord, Job, Kept, LevelReader, Place, Scratch, Selection};
 use lc_tree::{MemTree, Sketch, Tree};
-use lc_walk::{BrokenRow, End, Lists, Row, Tally, WalkFault, Worked, Worker, assemble};
+use lc_walk::{BrokenRow, End, GivenUp, Lists, Row, Tally, WalkFault, Worked, Worker, assemble};
 use std::alloc::{AllocError, Global};
 use std::process::Abort;
 use std::sync::Wait;
@@ -50,7 +49,7 @@ enum Said {
     /// How many files and child directories it has.
     Listed(usize, usize),
     Faulted(Place, FaultWord),
-    Broken(Cause),
+    Broken(GivenUp),
     /// It was given as no such row is.
     Amiss,
 }
@@ -71,7 +70,7 @@ impl Said {
 /// A row says this, or that memory was refused.
 fn check_row(rt: &impl Abort, row: &Ended<Row>, wanted: Said) -> Result<(), AllocError> {
     let said = Said::by(row);
-    if said == Said::Broken(Cause::Memory) && said != wanted {
+    if said == Said::Broken(GivenUp::Memory) && said != wanted {
         return Err(AllocError);
     }
     assert!(rt; said == wanted);
@@ -132,7 +131,7 @@ fn check_each_kind<B: Shared<Job, Row>, R: Wait + Abort>(
     let wanted = [
         Said::Listed(1, 3),
         Said::Faulted(Place::Directory, FaultWord::Read),
-        Said::Broken(Cause::TooDeep),
+        Said::Broken(GivenUp::TooDeep),
         Said::Listed(2, 0),
     ];
     check_rows(rt, alloc, board, pass, &wanted)?;
@@ -186,7 +185,7 @@ fn break_top<B: Shared<Job, Row>, T: Tree, W: Wait>(
     if board.post(rt, pass, child).is_err() {
         return Err(AllocError);
     }
-    let cause = Cause::Memory;
+    let cause = GivenUp::Memory;
     board.give(rt, pass, Row::Broken(BrokenRow { job, cause }));
     Ok(())
 }
@@ -212,7 +211,7 @@ fn check_broken_top<B: Shared<Job, Row>, R: Wait + Abort>(
         return Err(AllocError);
     }
     let wanted = [
-        Said::Broken(Cause::Memory),
+        Said::Broken(GivenUp::Memory),
         Said::Listed(0, 1),
         Said::Listed(0, 0),
     ];
@@ -246,7 +245,7 @@ const OF_TWO_BELOW: [Said; 3] = [Said::Listed(1, 2), Said::Listed(1, 0), Said::L
 /// The rows of one worker say this up to the first that was refused memory, and all after it were given up for that. It answers
 /// whether one was.
 fn some_refused(rt: &impl Abort, rows: &[Ended<Row>], wanted: &[Said]) -> bool {
-    let given_up = Said::Broken(Cause::Memory);
+    let given_up = Said::Broken(GivenUp::Memory);
     let mut refused = false;
     for (row, wanted) in rows.iter().zip(wanted) {
         let said = Said::by(row);

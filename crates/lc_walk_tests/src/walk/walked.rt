@@ -5,9 +5,8 @@ ghost use Rattle.lc_walk.specs.WalkOptions.{AreWithinLimits};
 
 use lc_board::{Locked, Shared, Words};
 use lc_census::Eol;
-use lc_level::Job;
+use lc_level::{FaultWord, Job};
 use lc_rules::{IgnoreFile, RuleFault, TextState};
-use lc_level::FaultWord;
 use lc_tree::{MemTree, Sketch, Tree};
 use lc_walk::{FaultLine, Lists, Options, Report, Row, TallyRow, WalkFault, walk_on};
 use std::alloc::{AllocError, Global};

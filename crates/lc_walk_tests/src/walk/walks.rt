@@ -2,8 +2,8 @@
 
 use crate::walk::walked::{ASKED, Asked, Case, FOUND, Found, NONE, check, report_of};
 use lc_census::Eol;
-use lc_rules::TextState;
 use lc_level::FaultWord;
+use lc_rules::TextState;
 use lc_tree::{MemTree, Sketch};
 use lc_walk::{Lists, Options, Report, walk};
 use std::alloc::{AllocError, Global};

@@ -27,11 +27,11 @@ returns-in-Err-Broken-clause-serves g c =
     let gives = g.T.Tree.gives in
     let tree = c.args.self.now.tree.now in
     let broken = Err (unlisted.Broken c.in-Err-Broken.cause) in
-    rw (c.give_up.ensures.mine, c.in-Err-Broken.cause-is)
+    rw (c.give_up.ensures.mine, c.unopened.ensures, c.in-Err-Broken.cause-is)
     (serves_unopened ask (lists tree) (gives tree) _ c.args.job c.in-Err-Broken.cause c.args.tally.now c.give_up.result c.requires.1
     (subst (λ s. OpensLevel (lists tree) (gives tree) ask.lists.left_out s c.args.job broken) c.levels.ensures.selection
     (subst (λ k. OpensLevel (lists tree) (gives tree) k c.levels.result.selection c.args.job broken) c.levels.ensures.kept
     (subst (λ t. OpensLevel (lists t) (gives t) c.levels.result.kept.left_out c.levels.result.selection c.args.job broken)
     c.levels.ensures.tree
     (rw c.in-Err-Broken.field-0-is at c.in-Err-Broken.ensures.opens))))
-    (rw c.in-Err-Broken.cause-is at c.give_up.ensures.memory))
+    (rw (c.unopened.ensures, c.in-Err-Broken.cause-is) at c.give_up.ensures.memory))
