@@ -52,6 +52,7 @@ use Rattle.lc_board.proofs.RowsOfWorkers.{rows_are_ends}
 use Rattle.lc_board.proofs.Weights.{each-map, flat_map-on}
 use Rattle.lc_walk.proofs.Moves.{lists_moved}
 use Rattle.lc_walk.proofs.Law.{core_law, one_answer_law}
+use Rattle.lc_walk.proofs.OneTree.{agrees}
 use Rattle.lc_walk.proofs.Listings.{flat_twice, sum_twice, flat_asked, tallied_went, files_went, faults_went, left_went, directories_went}
 use Rattle.lc_walk.proofs.Listings.{entries_went, got_here, by_number, by_place, sums_by_number, below_all, numbers_from_0}
 
@@ -374,5 +375,6 @@ module _ (ask : Asked) (MayAnswer : List ℕ → Answers → Type 0) (capacity w
           apart = all_lists_apart found once ask.lists r ours;
           one_answer = λ tree one depth deep. report_law ask.lists found (walk_of ask.selection depth top tree) r
               (IsPermutation-sym _ _ (one_answer_law tree ask full capacity workers top history rows answers walked whole at_top
-              (λ i e here. one (job_of (row_of e)) (answers i) (may_here fed i e here)) depth deep)) ours;
+              (agrees ask full capacity workers top history rows answers walked whole at_top MayAnswer (may_here fed) tree one)
+              depth deep)) ours;
         }

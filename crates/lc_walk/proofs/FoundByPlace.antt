@@ -226,7 +226,8 @@ module _ (selection : SelectionModel) (j : JobModel) (a : Answers) where
       )
       at (taken, inr i) = absurd i
 
-  child_by_level : (c : List ℕ × JobModel) → In c (children_at selection j a)
+  -- a child directory is left in
+  pub child_by_level : (c : List ℕ × JobModel) → In c (children_at selection j a)
       → (inside : JobModel) × LeavesIn selection j a c.0 inside × (c.1 ≡ child_job inside c.0)
   child_by_level c =
       level_cases (λ l. In c (children_of l) → (inside : JobModel) × LeavesIn selection j a c.0 inside × (c.1 ≡ child_job inside c.0))
@@ -246,6 +247,7 @@ module _ (selection : SelectionModel) (j : JobModel) (a : Answers) where
         s.2,
       ))
 
+  -- and the other way round
   pub level_by_child : (name : List ℕ) (inside : JobModel) → LeavesIn selection j a name inside
       → In (name, child_job inside name) (children_at selection j a)
   level_by_child name inside l =

@@ -19,6 +19,7 @@ pub mod Levels
 pub mod Listings
 pub mod Marking
 pub mod Moves
+pub mod OneTree
 pub mod PartFates
 pub mod PartOfWalk
 pub mod PartsOfTrees

@@ -17,8 +17,8 @@ use Rattle.lc_walk.specs.declared.report.Report.{Report}
 -- a tree of memory answers as the one tree that its node stands for
 abbrev pub NodeOneAnswerLaw : Type 0
 NodeOneAnswerLaw =
-    (top : Node) → IsModest top → (selection : SelectionModel) →
-    IsOneAnswer selection (MayAnswer (mem_lists top) (mem_gives top)) (tree_of_node top)
+    (top : Node) → IsModest top → (selection : SelectionModel) (job : JobModel) →
+    IsOneAnswer selection (MayAnswer (mem_lists top) (mem_gives top)) job (tree_of_node top)
 
 -- the report of its walk, for which it may have answered in any way that it may, is that of the recursive walk of that one tree
 abbrev pub NodeReportLaw : Type 0

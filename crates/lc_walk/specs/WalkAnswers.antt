@@ -13,6 +13,7 @@ use Rattle.lc_level.specs.Job.{JobModel}
 use Rattle.lc_level.specs.Level.{level}
 use Rattle.lc_level.specs.Selection.{SelectionModel}
 use Rattle.lc_walk.specs.Found.{children_at}
+use Rattle.lc_walk.specs.FoundAt.{LeadsTo}
 use Rattle.lc_walk.specs.Walk.{walk_of}
 use Rattle.lc_level.specs.Deep.{has_too_deep}
 use Rattle.lc_walk.specs.Rows.{row_of, job_of}
@@ -24,10 +25,12 @@ use Rattle.lc_walk.specs.declared.row.Row.{Row}
 use Rattle.lc_walk.specs.declared.walk_fault.WalkFault.{WalkFault}
 use Rattle.lc_walk.specs.declared.walk_fault.WalkFault.TheVariants.{Memory, TooManyDirs, TooDeep, Torn, Mismatch}
 
--- a tree that for each path answers as one tree does, as far as a level tells
-abbrev pub IsOneAnswer : SelectionModel → (List ℕ → Answers → Type 0) → Tree → Type 0
-IsOneAnswer selection MayAnswer t =
-    (j : JobModel) (a : Answers) → MayAnswer j.path a → level selection j a ≡ level selection j (t (names_of_path j.path))
+-- a tree that answers as one tree does, as far as a level tells, for each directory that names lead to in that one: nothing is asked of
+-- what stands below a directory that is left out or can't be listed
+abbrev pub IsOneAnswer : SelectionModel → (List ℕ → Answers → Type 0) → JobModel → Tree → Type 0
+IsOneAnswer selection MayAnswer top t =
+    (place : List (List ℕ)) (j : JobModel) → LeadsTo selection top t place j → (a : Answers) → MayAnswer j.path a →
+    level selection j a ≡ level selection j (t (names_of_path j.path))
 
 -- over a board of these promises
 module _ (MayAnswer : List ℕ → Answers → Type 0) (ask : Asked) (capacity workers : ℕ) (top : JobModel) (promises : Promises) where
@@ -53,7 +56,7 @@ module _ (MayAnswer : List ℕ → Answers → Type 0) (ask : Asked) (capacity w
     pub faults_once : AreInOrder (fault_paths r.faults.items)
     pub left_once : AreInOrder (left_paths r.left.items)
     pub apart : AreApart (file_paths r.files.items ++ fault_paths r.faults.items ++ left_paths r.left.items)
-    pub one_answer : (t : Tree) → IsOneAnswer ask.selection MayAnswer t →
+    pub one_answer : (t : Tree) → IsOneAnswer ask.selection MayAnswer top t →
         (depth : ℕ) → capacity ≤ depth → IsReportOf ask.lists (walk_of ask.selection depth top t) r
 
   -- such rows, Broken ones allowed, of which one's listing has an entry that is too deep
