@@ -78,6 +78,14 @@ module _ {J R : Type 0} where
   rank_grows cap n g [] l k = omega arith
   rank_grows cap n g (e ∷ rest) l k = le_trans (rank_grows cap n g rest l.0 k) (rank_after cap (rest ++ g) e l.2 k)
 
+  legal_rest : (cap n : ℕ) (g rest : List (Event J R)) → IsLegal cap n (rest ++ g) → IsLegal cap n g
+  legal_rest cap n g [] l = l
+  legal_rest cap n g (e ∷ rest) l = legal_rest cap n g rest l.0
+
+  -- what a legal history goes on from is legal
+  pub legal_before : (cap n : ℕ) (h g : List (Event J R)) → IsLegal cap n h → GoesOn h g → IsLegal cap n g
+  legal_before cap n h g l s = legal_rest cap n g s.0 (subst (λ z. IsLegal cap n z) s.1 l)
+
   -- so over many events
   pub rank_from : (cap n : ℕ) (h g : List (Event J R)) → IsLegal cap n h → GoesOn h g → (k : ℕ) → rank (status g k) ≤ rank (status h k)
   rank_from cap n h g l s k =

@@ -23,7 +23,7 @@ use Rattle.lc_board.specs.declared.event.Event.TheVariants.{Post, Claim, Over}
 use Rattle.lc_board.specs.declared.words.coding.Word.{Word}
 use Rattle.lc_board.specs.declared.words.coding.Word.TheVariants as word
 use Rattle.lc_board.specs.declared.words.view.View.{View}
-use Rattle.lc_board.proofs.Growths.{rank_from, whole, goes_trans, rank_zero}
+use Rattle.lc_board.proofs.Growths.{rank_from, whole, goes_trans, rank_zero, legal_before}
 use Rattle.lc_board.proofs.WordCodes.{absent_is, open_is}
 use Rattle.lc_board.proofs.WordMarks.{stays_taken}
 
@@ -136,9 +136,9 @@ module _ {J R : Type 0} where
       → (status v.seen k ≡ Absent) ⊎ (2 ≤ rank (status w.seen k))
   passed cap v u w k l p = ⊎_elim (λ a. inl a) (λ (a : 2 ≤ rank (status u.seen k)). inr (stays_taken cap u w k l.0 l.2 a)) p
 
-  was_absent : (cap : ℕ) (v w : View J R) (k : ℕ) → IsLegal cap w.workers w.seen → GoesOn w.seen v.seen → status w.seen k ≡ Absent
+  was_absent : (cap n : ℕ) (v w : View J R) (k : ℕ) → IsLegal cap n w.seen → GoesOn w.seen v.seen → status w.seen k ≡ Absent
       → status v.seen k ≡ Absent
-  was_absent cap v w k l s e = let g = rank_from cap w.workers w.seen v.seen l s k in let x = ap rank e in rank_zero (status v.seen k)
+  was_absent cap n v w k l s e = let g = rank_from cap n w.seen v.seen l s k in let x = ap rank e in rank_zero (status v.seen k)
       (omega arith)
 
   others_on : (cap : ℕ) (v u w : View J R) → OthersHeld v u → GoesOn w.seen u.seen → w.worker ≡ u.worker → OthersHeld v w
@@ -191,7 +191,7 @@ module _ {J R : Type 0} where
     sees,
     (λ k a. stays_taken cap u w k l.0 l.2 (s.below k a)),
     (λ k a b. passed cap v u w k l (s.past k a b)),
-    (λ k f. was_absent cap v w k l.2.0 sees.0 (m.5 k f)),
+    (λ k f. was_absent cap w.workers v w k l.2.0 sees.0 (m.5 k f)),
   )
 
   -- this word is absent
@@ -200,7 +200,7 @@ module _ {J R : Type 0} where
   scan_absent cap start i busy v u w s m low = let l = looks_of cap i word.Absent u w m (last_no cap i u.low word.Absent low) in
       let t = scan_moved cap start i word.Absent busy v u w s m l in
       let sees = t.0 in (
-        all_passed cap start i v w sees t.1 t.2 (λ k far near. was_absent cap v w k l.2.0 sees.0 (m.6 k far)),
+        all_passed cap start i v w sees t.1 t.2 (λ k far near. was_absent cap w.workers v w k l.2.0 sees.0 (m.6 k far)),
         l.2,
         t.3,
         (λ on. others_on cap v u w (s.others on).0 l.0 m.0.3),
@@ -239,7 +239,7 @@ module _ {J R : Type 0} where
         below = t.1;
         past = λ k a b. dite (ℕ_discrete k i)
             (λ is. subst (λ z. (status v.seen z ≡ Absent) ⊎ (2 ≤ rank (status w.seen z))) (sym is)
-            (⊎_elim (λ (e : status w.seen i ≡ Absent). inl (was_absent cap v w i l.2.0 sees.0 e))
+            (⊎_elim (λ (e : status w.seen i ≡ Absent). inl (was_absent cap w.workers v w i l.2.0 sees.0 e))
             (λ (e : 2 ≤ rank (status w.seen i)). inr e) (found_passed i x w m.6 some_word not_open)))
             (λ ne. t.2 k a (omega arith));
         others = λ on. (
@@ -305,11 +305,33 @@ module _ {J R : Type 0} where
   answer_low cap v u w h answer.Later who p x = let l = x.1 in let o = x.2 in let sees = sees_trans v u w p.0 (l.0, l.1) in (
     x.0,
     waits cap v w (sees, λ k near there. stays_taken cap u w k l.0 l.2 (p.1 k near there)) l.2
-        (λ k far. was_absent cap v w k l.2.0 sees.0 (x.3 k far)) (o.0, o.1, o.2, goes_trans o.0 u.seen v.seen o.3 p.0.0, o.4, o.5, o.6),
+        (λ k far. was_absent cap w.workers v w k l.2.0 sees.0 (x.3 k far)) (o.0, o.1, o.2, goes_trans o.0 u.seen v.seen o.3 p.0.0, o.4, o.5, o.6),
   )
   answer_low cap v u w h answer.Over who p x =
       (x.0, subst (λ z. AddsEvent cap v (Over z) w) who (sees_adds cap v u w (Over u.worker) p.0 x.1))
   answer_low cap v u w h answer.Memory who p x = x
+
+  -- an answer stays one where more had been seen before
+  pub sees_answers : (cap : ℕ) (v u w : View J R) (h : Option ℕ) (a : Answer J) → u.worker ≡ v.worker → Sees v u
+      → AnswersWordsClaim cap u w h a → AnswersWordsClaim cap v w h a
+  sees_answers cap v u w h (answer.Got i j) who s x =
+      (x.0, subst (λ z. AddsEvent cap v (Claim z i j) w) who (sees_adds cap v u w (Claim u.worker i j) s x.1))
+  sees_answers cap v u w h answer.Later who s x = let l = x.1.0 in let o = x.1.2 in let sees = sees_trans v u w s (l.0, l.1) in (
+    x.0,
+    (
+      (sees.0, sees.1, l.2),
+      (λ k there. x.1.1 k (λ e. there (was_absent cap w.workers v u k (legal_before cap w.workers w.seen u.seen l.2.0 l.0) s.0 e))),
+      (o.0, o.1, o.2, goes_trans o.0 u.seen v.seen o.3 s.0, o.4, o.5, o.6),
+    ),
+  )
+  sees_answers cap v u w h answer.Over who s x =
+      (x.0, subst (λ z. AddsEvent cap v (Over z) w) who (sees_adds cap v u w (Over u.worker) s x.1))
+  sees_answers cap v u w h answer.Memory who s x = x
+
+  -- a look at a number above the low mark sees on
+  pub sees_above : (cap i : ℕ) (x : Word) (v u w : View J R) → Sees v u → Missed cap i x u w → u.low < i → Sees v w
+  sees_above cap i x v u w s m above = let l = looks_of cap i x u w m (last_no cap i u.low x (λ e. absurd (omega arith))) in
+      sees_trans v u w s (l.0, l.1)
 
   post_to : (cap i worker worker' : ℕ) (o : Option ℕ) (job job' : J) (v u w : View J R) → worker' ≡ worker → job' ≡ job → Sees v u
       → IfSome o (λ p. AddsEvent cap u (Post worker' p i job') w) → IfSome o (λ p. AddsEvent cap v (Post worker p i job) w)

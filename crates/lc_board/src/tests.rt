@@ -3,6 +3,7 @@ mod drawn;
 mod fill;
 mod marks;
 mod mismatch;
+mod order;
 mod plain_scripts;
 mod refused;
 mod schedules;

@@ -16,6 +16,7 @@ pub(crate) mod coding;
 mod drawing;
 pub mod pass;
 mod posts;
+pub(crate) mod recent;
 pub mod rule;
 mod shared;
 mod start;

@@ -17,6 +17,9 @@ use std::thread::Threads;
 /// How many jobs a worker posts under a claim, as long as there are numbers.
 const CHILDREN: u8 = 3;
 
+/// How many names a path has at most. A worker goes down first, and its paths would grow with the board.
+const DEPTH: usize = 16;
+
 /// What all directories share.
 #[derive(Drop)]
 struct Rules {
@@ -104,6 +107,9 @@ fn post_children<B: Shared<Job, Row>, W: Wait>(rt: &W, board: &B, pass: &mut B::
     ensures worker { (B.Pass.view pass.new).worker ≡ (B.Pass.view pass.old).worker }
     ensures holds { holding (B.Pass.view pass.new) ≡ holding (B.Pass.view pass.old) }
 {
+    if job.path.len() == DEPTH {
+        return;
+    }
     for name in 0..CHILDREN {
         post_child(rt, board, pass, job, name);
     }

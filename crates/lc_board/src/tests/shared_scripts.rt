@@ -53,7 +53,7 @@ pub fn expect<B: Shared<u32, u32>, R: Wait + Abort>(
 }
 
 /// Makes the calls on a new board, compares the answers, and closes the board.
-fn run<B: Shared<u32, u32>, R: Wait + Abort>(
+pub fn run<B: Shared<u32, u32>, R: Wait + Abort>(
     rt: &R,
     alloc: Global,
     capacity: u32,
