@@ -2,8 +2,8 @@
 
 ghost use Rattle.std.specs.Prelude.{◌≡◌, ℕ, ◌++◌, List, [], ◌∷◌, true, codes, IfOk};
 ghost use Rattle.clap.specs.Walk.{Rule};
-ghost use Rattle.lc_arguments.specs.CommandLine.{flag_rule, word_rule};
-ghost use Rattle.lc_arguments.specs.CountArgs.{is_own_name, IsArgOf, HasRules};
+ghost use Rattle.lc_arguments.specs.CommandLine.{flag_rule, text_rule, texts_rule, word_rule};
+ghost use Rattle.lc_arguments.specs.CountArgs.{is_own_name, IsArgOf, IsBare, HasRules};
 
 use clap::{Arg, ArgAction, Command};
 use std::alloc::{AllocError, Global};
@@ -19,6 +19,40 @@ pub(crate) fn flag<'a>(alloc: Global, name: &'a str, text: &'a str) -> Arg<'a>
         .help(text)
 }
 
+/// An option with a text, which help shows as `value`.
+pub(crate) fn text_option<'a>(
+    alloc: Global,
+    name: &'a str,
+    value: &'a str,
+    text: &'a str,
+) -> Arg<'a>
+    requires own { is_own_name name.now ≡ true }
+    ensures { IsArgOf (text_rule name.entry.now) result }
+{
+    Arg::new(alloc, name)
+        .long(name)
+        .value_name(value)
+        .action(ArgAction::Set)
+        .help(text)
+}
+
+/// An option with a text that may stand several times.
+pub(crate) fn texts_option<'a>(
+    alloc: Global,
+    name: &'a str,
+    value: &'a str,
+    text: &'a str,
+) -> Arg<'a>
+    requires own { is_own_name name.now ≡ true }
+    ensures { IsArgOf (texts_rule name.entry.now) result }
+{
+    Arg::new(alloc, name)
+        .long(name)
+        .value_name(value)
+        .action(ArgAction::Append)
+        .help(text)
+}
+
 /// A word that is wanted.
 pub(crate) fn word<'a>(alloc: Global, name: &'a str, text: &'a str) -> Arg<'a>
     requires own { is_own_name name.now ≡ true }
@@ -28,6 +62,27 @@ pub(crate) fn word<'a>(alloc: Global, name: &'a str, text: &'a str) -> Arg<'a>
         .required(true)
         .action(ArgAction::Set)
         .help(text)
+}
+
+/// A command without arguments, which doesn't stand among its own words.
+pub(crate) fn bare<'a>(
+    alloc: Global,
+    name: &'a str,
+    full_name: &'a str,
+    about: &'a str,
+    after: &'a str,
+    after_long: &'a str,
+) -> Result<Command<'a>, AllocError>
+    ensures { IfOk result (IsBare name.entry.now) }
+{
+    Ok(
+        Command::new(alloc, name)
+            .about(about)
+            .after_help(after)
+            .after_long_help(after_long)
+            .no_binary_name(true)
+            .bin_name(full_name)?,
+    )
 }
 
 /// A command with one argument more.

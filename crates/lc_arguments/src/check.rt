@@ -1,11 +1,11 @@
 //! The words of `lc check`.
 
-ghost use Rattle.std.specs.Prelude.{◌≡◌, IfOk, map, codes};
+ghost use Rattle.std.specs.Prelude.{IfOk, map};
 ghost use Rattle.lc_arguments.specs.CommandLine.{check_app};
-ghost use Rattle.lc_arguments.specs.CountArgs.{IsCommandOf, IsBare};
+ghost use Rattle.lc_arguments.specs.CountArgs.{IsCommandOf};
 ghost use Rattle.lc_arguments.specs.Explained.{AnswersCheckWords};
 
-use crate::arguments::{flag, with_arg, word};
+use crate::arguments::{bare, flag, with_arg, word};
 use crate::help;
 use crate::request::{NoRequest, explained};
 use clap::Command;
@@ -21,24 +21,18 @@ pub struct CheckRequest<'w> {
     pub file: &'w str,
 }
 
-fn bare<'a>(alloc: Global) -> Result<Command<'a>, AllocError>
-    ensures { IfOk result (IsBare (codes "check")) }
-{
-    Ok(
-        Command::new(alloc, "check")
-            .about(help::ABOUT_CHECK)
-            .after_help(help::AFTER_CHECK)
-            .after_long_help(help::AFTER_CHECK_LONG)
-            .no_binary_name(true)
-            .bin_name("lc check")?,
-    )
-}
-
 /// The command, without its name among the words.
 pub(crate) fn command<'a>(alloc: Global) -> Result<Command<'a>, AllocError>
     ensures { IfOk result (IsCommandOf check_app) }
 {
-    let command = bare(alloc)?;
+    let command = bare(
+        alloc,
+        "check",
+        "lc check",
+        help::ABOUT_CHECK,
+        help::AFTER_CHECK,
+        help::AFTER_CHECK_LONG,
+    )?;
     let command = with_arg(
         command,
         flag(

@@ -2,11 +2,11 @@
 
 ghost use Rattle.std.specs.Prelude.{◌≡◌, ℕ, ◌++◌, List, codes, map, IfOk};
 ghost use Rattle.clap.specs.Walk.{Rule};
-ghost use Rattle.lc_arguments.specs.CommandLine.{number_rule, text_rule, limit_rules, table_rules};
-ghost use Rattle.lc_arguments.specs.CountArgs.{IsArgOf, IsBare, IsCountCommand, HasRules};
+ghost use Rattle.lc_arguments.specs.CommandLine.{number_rule, limit_rules, table_rules};
+ghost use Rattle.lc_arguments.specs.CountArgs.{IsArgOf, IsCountCommand, HasRules};
 ghost use Rattle.lc_arguments.specs.Explained.{AnswersCountWords};
 
-use crate::arguments::{flag, with_arg, word};
+use crate::arguments::{bare, flag, text_option, with_arg, word};
 use crate::exclusions::{Exclusions, with_exclusions};
 use crate::help;
 use crate::paths::{only, paths_in};
@@ -62,49 +62,6 @@ fn max_dirs<'a>(alloc: Global) -> Arg<'a>
         .help("The most directories, DIR included, 1 to 1048576")
 }
 
-fn format<'a>(alloc: Global) -> Arg<'a>
-    ensures { IsArgOf (text_rule (codes "format")) result }
-{
-    Arg::new(alloc, "format")
-        .long("format")
-        .value_name("FORMAT")
-        .action(ArgAction::Set)
-        .help("tsv (tabs between fields, the default), table (for the eye) or json")
-}
-
-fn by<'a>(alloc: Global) -> Arg<'a>
-    ensures { IsArgOf (text_rule (codes "by")) result }
-{
-    Arg::new(alloc, "by")
-        .long("by")
-        .value_name("COLUMNS")
-        .action(ArgAction::Set)
-        .help("Sums rows by some of ext,text,eol alone, as --by ext")
-}
-
-fn sort<'a>(alloc: Global) -> Arg<'a>
-    ensures { IsArgOf (text_rule (codes "sort")) result }
-{
-    Arg::new(alloc, "sort")
-        .long("sort")
-        .value_name("COLUMN")
-        .action(ArgAction::Set)
-        .help("The largest files, lines, blank or bytes first")
-}
-
-fn bare<'a>(alloc: Global) -> Result<Command<'a>, AllocError>
-    ensures { IfOk result (IsBare (codes "count")) }
-{
-    Ok(
-        Command::new(alloc, "count")
-            .about(help::ABOUT_COUNT)
-            .after_help(help::AFTER_COUNT)
-            .after_long_help(help::AFTER_COUNT_LONG)
-            .no_binary_name(true)
-            .bin_name("lc count")?,
-    )
-}
-
 /// The command with the options that say what the table has and looks like.
 fn with_table<'a>(alloc: Global, command: Command<'a>) -> Result<Command<'a>, AllocError>
     ensures { (name : List ℕ) (rules : List Rule) → HasRules name rules command.entry
@@ -119,9 +76,33 @@ fn with_table<'a>(alloc: Global, command: Command<'a>) -> Result<Command<'a>, Al
             "Also the number of entries, and a line for each that is left out, with why",
         ),
     )?;
-    let command = with_arg(command, format(alloc))?;
-    let command = with_arg(command, by(alloc))?;
-    let command = with_arg(command, sort(alloc))?;
+    let command = with_arg(
+        command,
+        text_option(
+            alloc,
+            "format",
+            "FORMAT",
+            "tsv (tabs between fields, the default), table (for the eye) or json",
+        ),
+    )?;
+    let command = with_arg(
+        command,
+        text_option(
+            alloc,
+            "by",
+            "COLUMNS",
+            "Sums rows by some of ext,text,eol alone, as --by ext",
+        ),
+    )?;
+    let command = with_arg(
+        command,
+        text_option(
+            alloc,
+            "sort",
+            "COLUMN",
+            "The largest files, lines, blank or bytes first",
+        ),
+    )?;
     Ok(command)
 }
 
@@ -139,7 +120,14 @@ fn with_limits<'a>(alloc: Global, command: Command<'a>) -> Result<Command<'a>, A
 pub(crate) fn command<'a>(alloc: Global) -> Result<Command<'a>, AllocError>
     ensures { IfOk result IsCountCommand }
 {
-    let command = bare(alloc)?;
+    let command = bare(
+        alloc,
+        "count",
+        "lc count",
+        help::ABOUT_COUNT,
+        help::AFTER_COUNT,
+        help::AFTER_COUNT_LONG,
+    )?;
     let command = with_exclusions(alloc, command)?;
     let command = with_arg(command, only(alloc))?;
     let command = with_table(alloc, command)?;

@@ -3,13 +3,13 @@
 ghost use Rattle.std.specs.Prelude.{◌≡◌, ℕ, ◌++◌, List, map, codes, IfOk};
 ghost use Rattle.clap.specs.Matches.{found_of};
 ghost use Rattle.clap.specs.Walk.{Rule, rows_of};
-ghost use Rattle.lc_arguments.specs.CommandLine.{text_rule, texts_rule, exclusion_rules};
-ghost use Rattle.lc_arguments.specs.CountArgs.{IsArgOf, HasRules};
+ghost use Rattle.lc_arguments.specs.CommandLine.{exclusion_rules};
+ghost use Rattle.lc_arguments.specs.CountArgs.{HasRules};
 ghost use Rattle.lc_arguments.specs.Explained.{AnswersExclusions, AnswersNames, IsRefusal};
 
-use crate::arguments::{flag, with_arg};
+use crate::arguments::{flag, text_option, texts_option, with_arg};
 use crate::request::{NoRequest, refused};
-use clap::{Arg, ArgAction, ArgMatches, Command};
+use clap::{ArgMatches, Command};
 use lc_rules::is_attribute_name;
 use std::alloc::{AllocError, Global};
 
@@ -24,26 +24,6 @@ pub struct Exclusions<'w> {
     pub without: Vec<&'w str>,
 }
 
-fn exclude_from<'a>(alloc: Global) -> Arg<'a>
-    ensures { IsArgOf (text_rule (codes "exclude-from")) result }
-{
-    Arg::new(alloc, "exclude-from")
-        .long("exclude-from")
-        .value_name("FILE")
-        .action(ArgAction::Set)
-        .help("An ignore file for all of DIR, which each .gitignore overrides")
-}
-
-fn without<'a>(alloc: Global) -> Arg<'a>
-    ensures { IsArgOf (texts_rule (codes "without")) result }
-{
-    Arg::new(alloc, "without")
-        .long("without")
-        .value_name("ATTR")
-        .action(ArgAction::Append)
-        .help("Leaves out what has the attribute ATTR, as linguist-vendored; may be repeated")
-}
-
 /// A command with the options of exclusions.
 pub(crate) fn with_exclusions<'a>(
     alloc: Global,
@@ -52,7 +32,15 @@ pub(crate) fn with_exclusions<'a>(
     ensures { (name : List ℕ) (rules : List Rule) → HasRules name rules command.entry
         → IfOk result (HasRules name (rules ++ exclusion_rules)) }
 {
-    let command = with_arg(command, exclude_from(alloc))?;
+    let command = with_arg(
+        command,
+        text_option(
+            alloc,
+            "exclude-from",
+            "FILE",
+            "An ignore file for all of DIR, which each .gitignore overrides",
+        ),
+    )?;
     let command = with_arg(
         command,
         flag(
@@ -61,7 +49,15 @@ pub(crate) fn with_exclusions<'a>(
             "Leaves out what has the attribute export-ignore, as git archive does",
         ),
     )?;
-    let command = with_arg(command, without(alloc))?;
+    let command = with_arg(
+        command,
+        texts_option(
+            alloc,
+            "without",
+            "ATTR",
+            "Leaves out what has the attribute ATTR, as linguist-vendored; may be repeated",
+        ),
+    )?;
     Ok(command)
 }
 

@@ -2,10 +2,10 @@
 
 ghost use Rattle.std.specs.Prelude.{◌≡◌, IfOk, map, codes};
 ghost use Rattle.lc_arguments.specs.CommandLine.{explain_app, words_rule};
-ghost use Rattle.lc_arguments.specs.CountArgs.{IsArgOf, IsBare, IsCommandOf};
+ghost use Rattle.lc_arguments.specs.CountArgs.{IsArgOf, IsCommandOf};
 ghost use Rattle.lc_arguments.specs.Explained.{AnswersExplainWords};
 
-use crate::arguments::{with_arg, word};
+use crate::arguments::{bare, with_arg, word};
 use crate::exclusions::{Exclusions, with_exclusions};
 use crate::help;
 use crate::request::{NoRequest, explained};
@@ -32,24 +32,18 @@ fn paths<'a>(alloc: Global) -> Arg<'a>
     )
 }
 
-fn bare<'a>(alloc: Global) -> Result<Command<'a>, AllocError>
-    ensures { IfOk result (IsBare (codes "explain")) }
-{
-    Ok(
-        Command::new(alloc, "explain")
-            .about(help::ABOUT_EXPLAIN)
-            .after_help(help::AFTER_EXPLAIN)
-            .after_long_help(help::AFTER_EXPLAIN_LONG)
-            .no_binary_name(true)
-            .bin_name("lc explain")?,
-    )
-}
-
 /// The command, without its name among the words.
 pub(crate) fn command<'a>(alloc: Global) -> Result<Command<'a>, AllocError>
     ensures { IfOk result (IsCommandOf explain_app) }
 {
-    let command = bare(alloc)?;
+    let command = bare(
+        alloc,
+        "explain",
+        "lc explain",
+        help::ABOUT_EXPLAIN,
+        help::AFTER_EXPLAIN,
+        help::AFTER_EXPLAIN_LONG,
+    )?;
     let command = with_exclusions(alloc, command)?;
     let command = with_arg(
         command,

@@ -7,21 +7,21 @@ ghost use Rattle.lc_arguments.specs.CommandLine.{texts_rule};
 ghost use Rattle.lc_arguments.specs.CountArgs.{IsArgOf};
 ghost use Rattle.lc_arguments.specs.Explained.{AnswersPaths, AnswersPathsIn, IsRefusal};
 
+use crate::arguments::texts_option;
 use crate::request::{NoRequest, refused};
-use clap::{Arg, ArgAction, ArgMatches};
+use clap::{Arg, ArgMatches};
 use lc_text::{is_bad_path, split_slash};
 use std::alloc::Global;
 
 pub(crate) fn only<'a>(alloc: Global) -> Arg<'a>
     ensures { IsArgOf (texts_rule (codes "only")) result }
 {
-    Arg::new(alloc, "only")
-        .long("only")
-        .value_name("PATH")
-        .action(ArgAction::Append)
-        .help(
-            "Counts only what stands at or below PATH in DIR, by all rules of DIR; may be repeated",
-        )
+    texts_option(
+        alloc,
+        "only",
+        "PATH",
+        "Counts only what stands at or below PATH in DIR, by all rules of DIR; may be repeated",
+    )
 }
 
 /// Why words are refused that ask for what can't be a path.
