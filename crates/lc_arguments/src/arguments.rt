@@ -2,9 +2,10 @@
 
 ghost use Rattle.std.specs.Prelude.{◌≡◌, ℕ, ◌++◌, List, [], ◌∷◌, true, codes, IfOk};
 ghost use Rattle.clap.specs.Walk.{Rule};
-ghost use Rattle.lc_arguments.specs.CommandLine.{flag_rule, text_rule, texts_rule, word_rule};
+ghost use Rattle.lc_arguments.specs.CommandLine.{flag_rule, number_rule, text_rule, texts_rule, word_rule};
 ghost use Rattle.lc_arguments.specs.CountArgs.{is_own_name, IsArgOf, IsBare, HasRules};
 
+use clap::builder::ValueParser;
 use clap::{Arg, ArgAction, Command};
 use std::alloc::{AllocError, Global};
 
@@ -50,6 +51,26 @@ pub(crate) fn texts_option<'a>(
         .long(name)
         .value_name(value)
         .action(ArgAction::Append)
+        .help(text)
+}
+
+/// An option with a number from 1 to `most`.
+pub(crate) fn number_option<'a>(
+    alloc: Global,
+    name: &'a str,
+    most: u32,
+    default: &'a str,
+    text: &'a str,
+) -> Arg<'a>
+    requires own { is_own_name name.now ≡ true }
+    ensures { IsArgOf (number_rule name.entry.now most default.entry.now) result }
+{
+    Arg::new(alloc, name)
+        .long(name)
+        .value_name("N")
+        .action(ArgAction::Set)
+        .value_parser(ValueParser::signed(1, i64::from(most)))
+        .default_value(default)
         .help(text)
 }
 

@@ -1,18 +1,18 @@
 //! The words of `lc count`.
 
-ghost use Rattle.std.specs.Prelude.{◌≡◌, ℕ, ◌++◌, List, codes, map, IfOk};
+ghost use Rattle.std.specs.Prelude.{ℕ, ◌++◌, List, map, IfOk};
 ghost use Rattle.clap.specs.Walk.{Rule};
-ghost use Rattle.lc_arguments.specs.CommandLine.{number_rule, limit_rules, table_rules};
-ghost use Rattle.lc_arguments.specs.CountArgs.{IsArgOf, IsCountCommand, HasRules};
+ghost use Rattle.lc_arguments.specs.CommandLine.{limit_rules, table_rules};
+ghost use Rattle.lc_arguments.specs.CountArgs.{IsCountCommand, HasRules};
 ghost use Rattle.lc_arguments.specs.Explained.{AnswersCountWords};
 
-use crate::arguments::{bare, flag, text_option, with_arg, word};
+use crate::arguments::{bare, flag, number_option, text_option, with_arg, word};
 use crate::exclusions::{Exclusions, with_exclusions};
 use crate::help;
 use crate::paths::{only, paths_in};
 use crate::request::{NoRequest, explained};
 use crate::shape::shape_in;
-use clap::{Arg, ArgAction, Command, value_parser};
+use clap::Command;
 use lc_text::Shape;
 use std::alloc::{AllocError, Global};
 use std::convert::AsStr;
@@ -36,30 +36,6 @@ pub struct CountRequest<'w> {
     pub shape: Shape,
     /// The directory, as its path was given: `.` is the one that the program runs in.
     pub directory: &'w str,
-}
-
-fn threads<'a>(alloc: Global) -> Arg<'a>
-    ensures { IsArgOf (number_rule (codes "threads") 16 (codes "4")) result }
-{
-    Arg::new(alloc, "threads")
-        .long("threads")
-        .value_name("N")
-        .action(ArgAction::Set)
-        .value_parser(value_parser!(u32).range(1..17))
-        .default_value("4")
-        .help("Workers that count at the same time, 1 to 16")
-}
-
-fn max_dirs<'a>(alloc: Global) -> Arg<'a>
-    ensures { IsArgOf (number_rule (codes "max-dirs") 1048576 (codes "65536")) result }
-{
-    Arg::new(alloc, "max-dirs")
-        .long("max-dirs")
-        .value_name("N")
-        .action(ArgAction::Set)
-        .value_parser(value_parser!(u32).range(1..1_048_577))
-        .default_value("65536")
-        .help("The most directories, DIR included, 1 to 1048576")
 }
 
 /// The command with the options that say what the table has and looks like.
@@ -111,8 +87,26 @@ fn with_limits<'a>(alloc: Global, command: Command<'a>) -> Result<Command<'a>, A
     ensures { (name : List ℕ) (rules : List Rule) → HasRules name rules command.entry
         → IfOk result (HasRules name (rules ++ limit_rules)) }
 {
-    let command = with_arg(command, threads(alloc))?;
-    let command = with_arg(command, max_dirs(alloc))?;
+    let command = with_arg(
+        command,
+        number_option(
+            alloc,
+            "threads",
+            16,
+            "4",
+            "Workers that count at the same time, 1 to 16",
+        ),
+    )?;
+    let command = with_arg(
+        command,
+        number_option(
+            alloc,
+            "max-dirs",
+            1_048_576,
+            "65536",
+            "The most directories, DIR included, 1 to 1048576",
+        ),
+    )?;
     Ok(command)
 }
 

@@ -9,7 +9,7 @@ ghost use Rattle.lc_arguments.specs.Words.{AnswersWords};
 use crate::check::CheckRequest;
 use crate::count::CountRequest;
 use crate::explain::ExplainRequest;
-use crate::{check, count, explain, help};
+use crate::{arguments, check, count, explain, help};
 use clap::error::ErrorKind;
 use clap::{Command, Error};
 use std::alloc::{AllocError, Global};
@@ -42,15 +42,18 @@ pub enum NoRequest {
 fn bare<'a>(alloc: Global) -> Result<Command<'a>, AllocError>
     ensures { IfOk result (IsCommandOf bare_lc_app) }
 {
+    let command = arguments::bare(
+        alloc,
+        "lc",
+        "lc",
+        help::ABOUT,
+        help::AFTER,
+        help::AFTER_LONG,
+    )?;
     Ok(
-        Command::new(alloc, "lc")
-            .about(help::ABOUT)
-            .after_help(help::AFTER)
-            .after_long_help(help::AFTER_LONG)
+        command
             .version(help::VERSION)
-            .long_version(help::LONG_VERSION)
-            .no_binary_name(true)
-            .bin_name("lc")?,
+            .long_version(help::LONG_VERSION),
     )
 }
 
