@@ -1,0 +1,101 @@
+-- The report of a count agrees with what is said of each path.
+use Rattle.std.proofs.Common.{◌≡◌, ℕ, ◌+◌, ◌≤◌, true, false, cond, List, [], length, map, refl, sym, ◌∙◌, ap, subst, arith, inl, inr}
+use Rattle.std.proofs.Common.{Option}
+use Rattle.std.specs.List.{Contains}
+use Rattle.lc_explain.specs.Explained.{Explanation, bad, ignored, cited, said_for, IsExplained}
+use Rattle.lc_explain.specs.Laws.{IsTaken, EntryLaw}
+use Rattle.lc_explain.specs.Waypoints.{Way, MayEnter, text_or_none}
+use Rattle.lc_glob.specs.Path.{path_in, segments_of}
+use Rattle.lc_level.specs.Answers.{Tree}
+use Rattle.lc_level.specs.Job.{JobModel}
+use Rattle.lc_level.specs.Level.{Reason, named_git, by_rule, by_attribute, other_kind, counted, left}
+use Rattle.lc_level.specs.OneAnswer.{GivesOne}
+use Rattle.lc_level.specs.Selection.{SelectionModel, selection_of}
+use Rattle.lc_level.specs.TopJob.{top_job}
+use Rattle.lc_rules.specs.IgnoreRules.{RuleModel}
+use Rattle.lc_text.specs.PathLines.{is_bad_path}
+use Rattle.lc_tree.specs.Trees.{Listings, Contents}
+use Rattle.lc_walk.specs.ReportLines.{left_paths}
+use Rattle.lc_walk.specs.TreeOfRows.{tree_of_rows}
+use Rattle.lc_walk.specs.Walk.{walk_of}
+use Rattle.lc_walk.specs.WalkOptions.{asked_by, top_of}
+use Rattle.lc_walk.specs.WalkReport.{IsReportOf}
+use Rattle.lc_walk.specs.declared.options.Lists.{Lists}
+use Rattle.lc_walk.specs.declared.report.Report.{Report}
+use Rattle.lc_walk.proofs.FoundByPlace.{place_by_walk}
+use Rattle.lc_laws.specs.CountsExplained.{IsSaidLeft, AgreesOn, ExplainedLaw}
+use Rattle.lc_laws.specs.Entries.{LeadDown}
+use Rattle.lc_laws.specs.ReportedPaths.{IsCounted, IsLeft}
+use Rattle.lc_laws.proofs.Following.{IsSaidBelow, entry_agrees}
+use Rattle.lc_laws.proofs.OneWay.{IsGiven}
+use Rattle.lc_laws.proofs.ReportLists.{counted_found, left_found, left_somehow}
+use Rattle.lc_laws.proofs.RowTrees.{rows_given}
+use Rattle.lc_laws.proofs.Telling.{told}
+
+-- what is said for a reason, by any citing of its rule
+said_left : (exclude : List ℕ) (way : Way) (reason : Reason) (x : Explanation) → x ≡ said_for (cited exclude way) ignored reason
+    → IsSaidLeft reason x
+said_left exclude way named_git x e = e
+said_left exclude way (by_rule origin line) x e = ((cited exclude way origin line).text, e)
+said_left exclude way (by_attribute name) x e = e
+said_left exclude way other_kind x e = e
+
+-- what is said to be left out is not said to be taken
+not_both : (reason : Reason) (x : Explanation) → IsSaidLeft reason x → IsTaken x → ⊥
+not_both named_git x e (inl u) = absurd (cc (sym e ∙ u))
+not_both named_git x e (inr u) = absurd (cc (sym e ∙ u.1))
+not_both (by_rule origin line) x e (inl u) = absurd (cc (sym e.1 ∙ u))
+not_both (by_rule origin line) x e (inr u) = absurd (cc (sym e.1 ∙ u.1))
+not_both (by_attribute name) x e (inl u) = absurd (cc (sym e ∙ u))
+not_both (by_attribute name) x e (inr u) = absurd (cc (sym e ∙ u.1))
+not_both other_kind x e (inl u) = absurd (cc (sym e ∙ u))
+not_both other_kind x e (inr u) = absurd (cc (sym e ∙ u.1))
+
+module _ (law : EntryLaw) (lists : List ℕ → Listings) (gives : List ℕ → Contents) (one : GivesOne lists gives) (s : SelectionModel)
+    (whole : s.only ≡ []) (exclude : List ℕ) (x : Explanation) (top : JobModel) (at_top : top.path ≡ []) (t : Tree) (given : IsGiven lists gives s top t)
+    (asked : Lists) (depth : ℕ) (r : Report) (report : IsReportOf asked (walk_of s depth top t) r) (files : asked.files ≡ true)
+    (lefts : asked.left_out ≡ true) (path : List ℕ) (good : is_bad_path path ≡ false)
+    (said : IsExplained (MayEnter lists gives) s exclude top path false x) where
+  counted_said : IsCounted r path → IsTaken x
+  counted_said has =
+      let c = counted_found asked (walk_of s depth top t) r report files path has in
+      let p = place_by_walk s depth top t _ c.found in
+      let d = p.gives.0 in
+      (entry_agrees lists gives one s exclude x law top t at_top given p.place p.job p.leads c.file.name (counted c.file) p.gives.1 path
+      (c.path_is ∙ ap (λ d. path_in d c.file.name) d) good said).1
+
+  left_said : (reason : Reason) → IsLeft r path reason → IsSaidLeft reason x
+  left_said reason has =
+      let l = left_found asked (walk_of s depth top t) r report lefts path reason has in
+      let p = place_by_walk s depth top t _ l.found in
+      let a = entry_agrees lists gives one s exclude x law top t at_top given p.place p.job p.leads l.entry.name
+      (left l.entry.kind l.entry.reason) p.gives.1 path (l.path_is ∙ ap (λ d. path_in d l.entry.name) p.gives.0) good said in
+      subst (λ w. IsSaidLeft w x) l.reason_is (said_left exclude a.0 l.entry.reason x a.1)
+
+  taken_kept : IsTaken x → Contains (left_paths r.left.items) path → ⊥
+  taken_kept taken has = let l = left_somehow r path has in not_both l.0 x (left_said l.0 l.1) taken
+
+  pub agrees : length (segments_of path) ≤ depth → AgreesOn lists r path x
+  agrees deep = record {
+    counted = counted_said;
+    left = left_said;
+    told = λ kind entry.
+        told lists gives one s whole exclude x top t given asked depth r report files lefts path kind taken_kept (segments_of path) [] [] top refl
+        (omega (arith, deep)) path refl (sym (ap (λ d. path_in d path) at_top))
+        (subst (λ d. LeadDown lists d (segments_of path) kind) (sym at_top) entry)
+        (subst (λ b. cond b (x ≡ bad) (IsSaidBelow lists gives one s exclude x [] top (segments_of path))) good said);
+  }
+
+-- so does the report of a walk
+pub explained_law : EntryLaw → (lists : List ℕ → Listings) (gives : List ℕ → Contents) → ExplainedLaw lists gives
+explained_law law lists gives one o q r alike walks path x good said =
+    let s : SelectionModel = (asked_by o).selection in
+    let depth : ℕ = o.max_dirs + length (segments_of path) in
+    let exclude : List ℕ = text_or_none q.exclude in
+    let same : IsExplained (MayEnter lists gives) s exclude (top_of o) path false x =
+    subst (λ (w : SelectionModel). IsExplained (MayEnter lists gives) w exclude (top_of o) path false x) (sym alike.selection)
+    (subst (λ (e : Option (List RuleModel)). IsExplained (MayEnter lists gives)
+    (selection_of q.archive (map (λ name. name.now) q.without.now)) exclude (top_job e) path false x) (sym alike.exclude) said) in
+    agrees law lists gives one s (ap (λ (w : SelectionModel). w.only) alike.selection) exclude x (top_of o) refl (tree_of_rows walks.found.rows walks.found.answers)
+    (rows_given lists gives (asked_by o) o.max_dirs o.threads (top_of o) walks.found walks.whole) o.lists depth r
+    (walks.report depth (omega arith)) alike.files alike.left_out path good same (omega arith)

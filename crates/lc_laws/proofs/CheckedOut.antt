@@ -1,0 +1,223 @@
+-- The report of a count agrees with a check by the top's rules.
+use Rattle.std.proofs.Common.{◌≡◌, ℕ, ◌+◌, ◌<◌, Bool, true, false, cond, nat_eq, List, [], ◌∷◌, ◌++◌, length, take, get_or, refl}
+use Rattle.std.proofs.Common.{sym, ◌∙◌, ap, subst, arith, Option, Some, None, ◌⊎◌, inl, inr, length-append, codes}
+use Rattle.std.proofs.Math.Seq.{get_or-append_seam, take-append_seam}
+use Rattle.lc_explain.specs.Waypoints.{kind_in}
+use Rattle.lc_explain.proofs.PathSegments.{has_first, cut_at_slash, names_below}
+use Rattle.lc_glob.specs.Bytes.{slash}
+use Rattle.lc_glob.specs.Path.{path_in, segments_of}
+use Rattle.lc_level.specs.Answers.{Item, name_of, entry_of, entries_of, Tree}
+use Rattle.lc_level.specs.Job.{JobModel}
+use Rattle.lc_level.specs.Level.{by_rule, child_job}
+use Rattle.lc_level.specs.OneAnswer.{GivesOne}
+use Rattle.lc_level.specs.Selection.{SelectionModel}
+use Rattle.lc_level.specs.TopJob.{top_job}
+use Rattle.lc_level.proofs.Tidy.{Spread}
+use Rattle.lc_rules.specs.IgnoreChains.{rules_in}
+use Rattle.lc_rules.specs.IgnoreLaws.{DecidingLaw}
+use Rattle.lc_rules.specs.IgnoreRules.{RuleModel, rules_of}
+use Rattle.lc_rules.specs.Verdicts.{at_depth, deciding, verdict_from}
+use Rattle.lc_rules.specs.declared.origin.Origin.{Origin}
+use Rattle.lc_rules.specs.declared.verdicts.Verdict.{Verdict}
+use Rattle.lc_rules.specs.declared.verdicts.Verdict.TheVariants.{Ignored, Included, NoRule}
+use Rattle.lc_text.specs.CheckText.{file_verdict, is_ignored, has_ignored_parent, verdict_word, path_word}
+use Rattle.lc_text.specs.PathLines.{is_bad_path}
+use Rattle.lc_text.proofs.Directories.{is_ignored_parent-slash, has_ignored_parent-some}
+use Rattle.lc_tree.specs.Kinds.{is_dir}
+use Rattle.lc_tree.specs.Paths.{names_of_path}
+use Rattle.lc_tree.specs.Trees.{Listings, Contents}
+use Rattle.lc_tree.specs.declared.entry.Kind.{Kind}
+use Rattle.lc_tree.specs.declared.entry.Kind.TheVariants.{Dir}
+use Rattle.lc_walk.specs.Accounts.{RuleLaw}
+use Rattle.lc_walk.specs.FoundAt.{IsListed, LeadsTo}
+use Rattle.lc_walk.specs.ReportLines.{LeftLineModel}
+use Rattle.lc_walk.specs.TreeOfRows.{tree_of_rows}
+use Rattle.lc_walk.specs.Walk.{walk_of}
+use Rattle.lc_walk.specs.WalkOptions.{asked_by, top_of}
+use Rattle.lc_walk.specs.WalkReport.{IsReportOf}
+use Rattle.lc_walk.specs.declared.options.Lists.{Lists}
+use Rattle.lc_walk.specs.declared.report.Report.{Report}
+use Rattle.lc_walk.proofs.Elements.{In, is_in, contains}
+use Rattle.lc_walk.proofs.Levels.{tidy_items}
+use Rattle.lc_laws.specs.CountsChecked.{IsCheckedOut, IsRuledOut, CheckedLaw}
+use Rattle.lc_laws.specs.Entries.{HasListed, LeadDown, IsEntry}
+use Rattle.lc_laws.specs.ReportedPaths.{IsLeft}
+use Rattle.lc_laws.proofs.Checking.{plain, decided}
+use Rattle.lc_laws.proofs.Items.{item_of}
+use Rattle.lc_laws.proofs.OneWay.{kind_found, good_name, one_segment, IsGiven, place_names}
+use Rattle.lc_laws.proofs.RowTrees.{rows_given}
+use Rattle.lc_laws.proofs.TopRules.{rules_at}
+
+-- ---- the words of a check
+
+module _ (verdict : List ℕ → Bool → Verdict) (path : List ℕ) (as_dir : Bool) (good : is_bad_path path ≡ false) where
+  word_is : (above : Bool) → has_ignored_parent verdict path ≡ above
+      → path_word verdict path as_dir ≡ cond above (codes "below") (verdict_word (verdict path as_dir))
+  word_is above is =
+      ap (λ b. cond b (codes "bad") (cond (has_ignored_parent verdict path) (codes "below") (verdict_word (verdict path as_dir)))) good
+      ∙ ap (λ b. cond b (codes "below") (verdict_word (verdict path as_dir))) is
+
+  no_word : (v : Verdict) → is_ignored v ≡ false → (verdict_word v ≡ codes "ignored") ⊎ (verdict_word v ≡ codes "below") → ⊥
+  no_word Ignored kept word = absurd (cc kept)
+  no_word Included kept (inl e) = absurd (cc e)
+  no_word Included kept (inr e) = absurd (cc e)
+  no_word NoRule kept (inl e) = absurd (cc e)
+  no_word NoRule kept (inr e) = absurd (cc e)
+
+  -- what is not ignored and stands below nothing that is, is said to be neither
+  not_out : has_ignored_parent verdict path ≡ false → is_ignored (verdict path as_dir) ≡ false
+      → (path_word verdict path as_dir ≡ codes "ignored") ⊎ (path_word verdict path as_dir ≡ codes "below") → ⊥
+  not_out clear kept (inl e) = no_word (verdict path as_dir) kept (inl (sym (word_is false clear) ∙ e))
+  not_out clear kept (inr e) = no_word (verdict path as_dir) kept (inr (sym (word_is false clear) ∙ e))
+
+  ignored_word : (v : Verdict) → is_ignored v ≡ true → verdict_word v ≡ codes "ignored"
+  ignored_word Ignored e = refl
+  ignored_word Included e = absurd (cc e)
+  ignored_word NoRule e = absurd (cc e)
+
+  -- what is ignored is said to be, or to stand below what is
+  out_itself : is_ignored (verdict path as_dir) ≡ true
+      → (path_word verdict path as_dir ≡ codes "ignored") ⊎ (path_word verdict path as_dir ≡ codes "below")
+  out_itself is = at (has_ignored_parent verdict path) refl
+    where
+      at : (b : Bool) → has_ignored_parent verdict path ≡ b
+          → (path_word verdict path as_dir ≡ codes "ignored") ⊎ (path_word verdict path as_dir ≡ codes "below")
+      at true e = inr (word_is true e)
+      at false e = inl (word_is false e ∙ ignored_word (verdict path as_dir) is)
+
+  -- and so is what stands below a directory that is
+  out_below : (directory rest : List ℕ) → path ≡ directory ++ slash ∷ rest → is_ignored (verdict directory true) ≡ true
+      → (path_word verdict path as_dir ≡ codes "ignored") ⊎ (path_word verdict path as_dir ≡ codes "below")
+  out_below directory rest is ignored =
+      let low : length directory < length path = omega (arith, ap length is, length-append directory (slash ∷ rest)) in
+      let byte : nat_eq (get_or path (length directory) 0) 47 ≡ true =
+      ap (λ l. nat_eq (get_or l (length directory) 0) 47) is ∙ ap (λ c. nat_eq c 47) (get_or-append_seam directory slash rest 0) in
+      let above : take (length directory) path ≡ directory = ap (take (length directory)) is ∙ take-append_seam directory (slash ∷ rest) in
+      inr (word_is true (has_ignored_parent-some verdict path (length directory) low
+      (is_ignored_parent-slash verdict path (length directory) true byte (sym (ap (λ d. is_ignored (verdict d true)) above ∙ ignored)))))
+
+-- ---- the kind of an entry
+
+-- names lead on past a name
+down_past : (lists : List ℕ → Listings) (directory name : List ℕ) (names : List (List ℕ)) (kind : Kind) → (names ≡ [] → ⊥)
+    → LeadDown lists directory (name ∷ names) kind → LeadDown lists (path_in directory name) names kind
+down_past lists directory name [] kind some down = absurd (some refl)
+down_past lists directory name (next ∷ names) kind some down = down.1
+
+-- the first of more names lead to a directory
+down_above : (lists : List ℕ → Listings) (directory : List ℕ) (names : List (List ℕ)) (next : List ℕ) (others : List (List ℕ))
+    (kind : Kind) → (names ≡ [] → ⊥) → LeadDown lists directory (names ++ next ∷ others) kind → LeadDown lists directory names Dir
+down_above lists directory [] next others kind some down = absurd (some refl)
+down_above lists directory (name ∷ []) next others kind some down = down.0
+down_above lists directory (name ∷ more ∷ names) next others kind some down =
+    (down.0, down_above lists (path_in directory name) (more ∷ names) next others kind (λ e. cc e) down.1)
+
+some_end : (place : List (List ℕ)) (name : List ℕ) → place ++ name ∷ [] ≡ [] → ⊥
+some_end [] name e = cc
+some_end (n ∷ place) name e = cc
+
+module _ (lists : List ℕ → Listings) (gives : List ℕ → Contents) (one : GivesOne lists gives) (s : SelectionModel) where
+  listed_at_end : (place : List (List ℕ)) (j k : JobModel) (t : Tree) (name : List ℕ) (kind : Kind) → LeadsTo s j t place k
+      → LeadDown lists j.path (place ++ name ∷ []) kind → HasListed lists k.path name kind
+  listed_at_end [] j k t name kind leads down = subst (λ (i : JobModel). HasListed lists i.path name kind) leads down
+  listed_at_end (n ∷ place) j k t name kind (within, leaves, leads) down =
+      let same : within.path ≡ j.path = ap (λ (i : JobModel). i.path) leaves.listed.is in
+      listed_at_end place (child_job within n) k (λ p. t (n ∷ p)) name kind leads
+      (subst (λ d. LeadDown lists (path_in d n) (place ++ name ∷ []) kind) (sym same)
+      (down_past lists j.path n (place ++ name ∷ []) kind (some_end place name) down))
+
+  -- an item of a directory to which names lead has the kind of the entry
+  kind_same : (top : JobModel) (t : Tree) → top.path ≡ [] → IsGiven lists gives s top t → (place : List (List ℕ)) (k : JobModel)
+      → LeadsTo s top t place k → (items : List Item) (inside : JobModel) → IsListed k (t place) items inside → (item : Item)
+      → In item items → (path : List ℕ) → path ≡ path_in inside.path (name_of item) → (kind : Kind) → IsEntry lists path kind
+      → (entry_of item).kind ≡ kind
+  kind_same top t at_top given place k leads items inside listed item has path path_is kind entry =
+      let spread : Spread items = tidy_items (t place) (given place k leads).1 items listed.here in
+      let names : segments_of path ≡ place ++ name_of item ∷ [] =
+      ap segments_of (path_is ∙ ap (λ (j : JobModel). path_in j.path (name_of item)) listed.is) ∙ names_below k.path (name_of item)
+      ∙ ap (λ l. l ++ segments_of (name_of item)) (place_names lists gives s place top k t given leads
+      ∙ ap (λ p. names_of_path p ++ place) at_top)
+      ∙ ap (λ l. place ++ l) (one_segment (name_of item) (good_name items spread item has)) in
+      let down : LeadDown lists top.path (place ++ name_of item ∷ []) kind =
+      subst (λ d. LeadDown lists d (place ++ name_of item ∷ []) kind) (sym at_top) (subst (λ l. LeadDown lists [] l kind) names entry) in
+      let i = item_of lists gives one s top t given place k items inside leads listed (name_of item) kind
+      (listed_at_end place top k t (name_of item) kind leads down) in
+      let mine : kind_in (entries_of items) (name_of item) ≡ Some (entry_of item).kind = kind_found items spread item has in
+      let its : kind_in (entries_of items) (name_of item) ≡ Some (entry_of i.item).kind =
+      subst (λ n. kind_in (entries_of items) n ≡ Some (entry_of i.item).kind) i.named (kind_found items spread i.item i.has) in
+      let both : Some (entry_of item).kind ≡ Some (entry_of i.item).kind = sym mine ∙ its in
+      let same : (entry_of item).kind ≡ (entry_of i.item).kind = cc both in
+      same ∙ i.kind_is
+
+-- ---- by the report
+
+module _ (law : RuleLaw) (last : DecidingLaw) (lists : List ℕ → Listings) (gives : List ℕ → Contents) (one : GivesOne lists gives)
+    (t : Tree) (given : IsGiven lists gives plain (top_job None) t) (asked : Lists) (depth : ℕ) (r : Report)
+    (report : IsReportOf asked (walk_of plain depth (top_job None) t) r) (rules : List RuleModel)
+    (chain : (place : List (List ℕ)) (k : JobModel) → LeadsTo plain (top_job None) t place k → (items : List Item) (inside : JobModel)
+    → IsListed k (t place) items inside → rules_in inside.ignore ≡ at_depth 0 rules) where
+  -- what a rule leaves out is ignored by the check
+  ignored_there : (path : List ℕ) (kind : Kind) (origin : Origin) (line : ℕ) → IsEntry lists path kind → IsLeft r path (by_rule origin line)
+      → is_ignored (file_verdict rules path (is_dir kind)) ≡ true
+  ignored_there path kind origin line entry has =
+      let left : LeftLineModel = record { path = path; kind = has.0; reason = by_rule origin line } in
+      let by = law asked plain depth (top_job None) t r report left origin line has.1 refl in
+      let own = kind_same lists gives one plain (top_job None) t refl given by.place by.job by.leads by.items by.inside by.listed by.item
+      (is_in by.item by.items by.has) path by.path_is kind entry in
+      let decides = (last (rules_in by.inside.ignore) path (is_dir (entry_of by.item).kind)).1 (origin, by.rule) by.decides in
+      ap (λ rs. is_ignored (verdict_from (deciding rs path (is_dir kind))))
+      (sym (chain by.place by.job by.leads by.items by.inside by.listed))
+      ∙ ap (λ (d : Kind). is_ignored (verdict_from (deciding (rules_in by.inside.ignore) path (is_dir d)))) (sym own)
+      ∙ ap (λ found. is_ignored (verdict_from found)) decides ∙ ap (λ b. is_ignored (cond b Included Ignored)) by.ignores
+
+  pub checked_out : (path : List ℕ) (kind : Kind) → IsEntry lists path kind → is_bad_path path ≡ false → IsRuledOut r path
+      → IsCheckedOut rules path kind
+  checked_out path kind entry good (origin, line, inl has) =
+      out_itself (file_verdict rules) path (is_dir kind) good (ignored_there path kind origin line entry has)
+  checked_out path kind entry good (origin, line, inr (directory, rest, is, has)) =
+      let first = has_first directory in
+      let next = has_first rest in
+      let names : segments_of path ≡ segments_of directory ++ next.first ∷ next.others =
+      ap segments_of is ∙ cut_at_slash directory rest ∙ ap (λ l. segments_of directory ++ l) next.are in
+      let some : segments_of directory ≡ [] → ⊥ = λ e. let none : first.first ∷ first.others ≡ [] = sym first.are ∙ e in absurd (cc none) in
+      let above = down_above lists [] (segments_of directory) next.first next.others kind some
+      (subst (λ l. LeadDown lists [] l kind) names entry) in
+      out_below (file_verdict rules) path (is_dir kind) good directory rest is (ignored_there directory Dir origin line above has)
+
+-- so does the report of a walk
+pub checked_law : RuleLaw → DecidingLaw → (lists : List ℕ → Listings) (gives : List ℕ → Contents) → CheckedLaw lists gives
+checked_law law last lists gives one bytes has o r asks walks faultless path kind entry good no_git = (
+  λ out. by out (decided lists gives one t given o.lists depth r report asks.left_out faultless (rules_of bytes) chain path kind
+      (segments_of path) [] [] (top_job None) refl (omega arith) path refl refl (λ m. refl)
+      (record { within = omega arith; clear = λ k low. absurd (omega (arith, low)) })
+      (λ i. no_git (contains (codes ".git") (segments_of path) i)) entry),
+  checked_out law last lists gives one t given o.lists depth r report (rules_of bytes) chain path kind entry good,
+)
+  where
+    depth : ℕ
+    depth = o.max_dirs + length (segments_of path)
+
+    t : Tree
+    t = tree_of_rows walks.found.rows walks.found.answers
+
+    report : IsReportOf o.lists (walk_of plain depth (top_job None) t) r
+    report =
+        subst (λ (s : SelectionModel). IsReportOf o.lists (walk_of s depth (top_job None) t) r) asks.selection
+        (subst (λ (e : Option (List RuleModel)). IsReportOf o.lists (walk_of (asked_by o).selection depth (top_job e) t) r) asks.exclude
+        (walks.report depth (omega arith)))
+
+    given : IsGiven lists gives plain (top_job None) t
+    given =
+        subst (λ (s : SelectionModel). IsGiven lists gives s (top_job None) t) asks.selection
+        (subst (λ (e : Option (List RuleModel)). IsGiven lists gives (asked_by o).selection (top_job e) t) asks.exclude
+        (rows_given lists gives (asked_by o) o.max_dirs o.threads (top_of o) walks.found walks.whole))
+
+    chain : (place : List (List ℕ)) (k : JobModel) → LeadsTo plain (top_job None) t place k → (items : List Item) (inside : JobModel)
+        → IsListed k (t place) items inside → rules_in inside.ignore ≡ at_depth 0 (rules_of bytes)
+    chain = rules_at lists gives one bytes has plain t given
+
+    by : IsCheckedOut (rules_of bytes) path kind
+        → IsRuledOut r path ⊎ ((has_ignored_parent (file_verdict (rules_of bytes)) path ≡ false)
+        × (is_ignored (file_verdict (rules_of bytes) path (is_dir kind)) ≡ false)) → IsRuledOut r path
+    by out (inl ruled) = ruled
+    by out (inr (clear, kept)) = absurd (not_out (file_verdict (rules_of bytes)) path (is_dir kind) good clear kept out)

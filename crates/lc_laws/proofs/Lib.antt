@@ -1,0 +1,15 @@
+pub mod Agreement
+pub mod CheckedOut
+pub mod Checking
+pub mod FirstSegments
+pub mod Following
+pub mod Items
+pub mod OneWay
+pub mod Placed
+pub mod ReportLists
+pub mod RowTrees
+pub mod SaidOnce
+pub mod SlashesSaidAlike
+pub mod TakingPart
+pub mod Telling
+pub mod TopRules

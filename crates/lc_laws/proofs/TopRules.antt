@@ -1,0 +1,320 @@
+-- The rules that hold in each directory, where the only ignore file is the top's `.gitignore`.
+use Rattle.std.proofs.Common.{◌≡◌, ◌≢◌, ℕ, Bool, true, false, cond, List, [], ◌∷◌, refl, sym, ◌∙◌, ap, subst, Option, Some}
+use Rattle.std.proofs.Common.{None, Result, Ok, Err, codes, bytes_eq, append-nil, inl, inr, ◌⊎◌}
+use Rattle.std.specs.List.{AllByRecursion}
+use Rattle.std.specs.Prelude.{option_map}
+use Rattle.lc_census.specs.declared.totals.Count.{Count}
+use Rattle.lc_glob.specs.Path.{path_in, depth_of}
+use Rattle.lc_level.specs.Answers.{Item, file_item, directory_item, other_item, name_of, entry_of, entries_of, Answers, Tree, Items}
+use Rattle.lc_level.specs.FaultLines.{FaultLineModel}
+use Rattle.lc_level.specs.Job.{JobModel}
+use Rattle.lc_level.specs.Level.{child_job}
+use Rattle.lc_level.specs.OneAnswer.{GivesOne}
+use Rattle.lc_level.specs.RuleFiles.{listing, Pair, RuleBytes, file_named, has_directory, has_git, and_then, reading, both_read, info_items}
+use Rattle.lc_level.specs.RuleFiles.{info_bytes, own_bytes, rule_bytes, with_file_at, first_of}
+use Rattle.lc_level.specs.Selection.{SelectionModel}
+use Rattle.lc_level.specs.TopJob.{top_job}
+use Rattle.lc_level.specs.TreeAnswers.{MayHave, MayList, MayAnswer, items_of}
+use Rattle.lc_level.proofs.Tidy.{same_bytes, bytes_same}
+use Rattle.lc_rules.specs.IgnoreChains.{ChainModel, rules_in}
+use Rattle.lc_rules.specs.IgnoreRules.{RuleModel, rules_of}
+use Rattle.lc_rules.specs.Verdicts.{at_depth}
+use Rattle.lc_tree.specs.Listing.{EntryModel}
+use Rattle.lc_tree.specs.Trees.{Listings, Contents}
+use Rattle.lc_tree.specs.declared.entry.Kind.{Kind}
+use Rattle.lc_tree.specs.declared.entry.Kind.TheVariants.{File, Dir, Other}
+use Rattle.lc_tree.specs.declared.fault_word.FaultWord.{FaultWord}
+use Rattle.lc_walk.specs.FoundAt.{IsListed, LeadsTo}
+use Rattle.lc_walk.proofs.Elements.{In, is_in, contains, of_mapped}
+use Rattle.lc_walk.proofs.Levels.{tidy_items}
+use Rattle.lc_laws.specs.CountsChecked.{HasTopRules}
+use Rattle.lc_laws.specs.Entries.{HasListed}
+use Rattle.lc_laws.proofs.Items.{IsItem, item_of}
+use Rattle.lc_laws.proofs.OneWay.{IsGiven, good_name, given_below}
+
+-- ---- files of a name
+
+-- what is read under a name is a file of the name
+pub file_of : (items : List Item) (name : List ℕ) (rules : Result (List ℕ) FaultWord) → file_named name items ≡ Some rules
+    → (count : Result Count FaultWord) × In (file_item name count rules) items
+file_of [] name rules e = absurd (cc e)
+file_of (file_item n c own ∷ items) name rules e = at (file_of items name rules) (bytes_eq n name) refl e
+  where
+    at : (file_named name items ≡ Some rules → (count : Result Count FaultWord) × In (file_item name count rules) items) → (b : Bool)
+        → bytes_eq n name ≡ b → cond b (Some own) (file_named name items) ≡ Some rules
+        → (count : Result Count FaultWord) × In (file_item name count rules) (file_item n c own ∷ items)
+    at rest true same f =
+        let reads_is : own ≡ rules = cc f in
+        (c, inl (ap (λ m. file_item m c own) (same_bytes n name same) ∙ ap (file_item name c) reads_is))
+    at rest false same f = let h = rest f in (h.0, inr h.1)
+file_of (directory_item n ∷ items) name rules e = let h = file_of items name rules e in (h.0, inr h.1)
+file_of (other_item n ∷ items) name rules e = let h = file_of items name rules e in (h.0, inr h.1)
+
+-- a file of a name is read under it
+some_file : (items : List Item) (name : List ℕ) (item : Item) → In item items → entry_of item ≡ record { name = name; kind = File }
+    → file_named name items ≢ None
+some_file [] name item has e = absurd has
+some_file (file_item n c own ∷ items) name item has e = at (some_file items name item) (bytes_eq n name) refl
+  where
+    at : (In item items → entry_of item ≡ record { name = name; kind = File } → file_named name items ≢ None) → (b : Bool)
+        → bytes_eq n name ≡ b → cond b (Some own) (file_named name items) ≢ None
+    at rest true same = λ none. cc none
+    at rest false same = by has
+      where
+        by : (file_item n c own ≡ item) ⊎ In item items → file_named name items ≢ None
+        by (inl is) =
+            let named : n ≡ name = ap (λ (y : Item). name_of y) is ∙ ap (λ (x : EntryModel). x.name) e in
+            let yes : bytes_eq n name ≡ true = bytes_same n name named in absurd (cc (sym yes ∙ same))
+        by (inr i) = rest i e
+some_file (directory_item n ∷ items) name item (inl is) e =
+    let h : entry_of (directory_item n) ≡ record { name = name; kind = File } = ap entry_of is ∙ e in
+    let k : Dir ≡ File = ap (λ (x : EntryModel). x.kind) h in absurd (cc k)
+some_file (directory_item n ∷ items) name item (inr i) e = some_file items name item i e
+some_file (other_item n ∷ items) name item (inl is) e =
+    let h : entry_of (other_item n) ≡ record { name = name; kind = File } = ap entry_of is ∙ e in
+    let k : Other ≡ File = ap (λ (x : EntryModel). x.kind) h in absurd (cc k)
+some_file (other_item n ∷ items) name item (inr i) e = some_file items name item i e
+
+-- ---- what was read
+
+read_of : (path : List ℕ) (file : Option (Result (List ℕ) FaultWord)) (x : Option (List ℕ)) → reading path file ≡ Ok x
+    → option_map Ok x ≡ file
+read_of path None x e = let same : x ≡ None = cc e in ap (λ y. option_map Ok y) same
+read_of path (Some (Ok bytes)) x e = let same : x ≡ Some bytes = cc e in ap (λ y. option_map Ok y) same
+read_of path (Some (Err word)) x e = absurd (cc e)
+
+-- the first of two that were read is that of the first file
+pair_rules : (p q : List ℕ) (file other : Option (Result (List ℕ) FaultWord)) (pair : Pair) → both_read p file q other ≡ Ok pair
+    → option_map Ok pair.rules ≡ file
+pair_rules p q file other pair e = at (reading p file) refl e
+  where
+    after : (x : Option (List ℕ)) → reading p file ≡ Ok x → (y : Result (Option (List ℕ)) FaultLineModel)
+        → and_then y (λ z. Ok (record { rules = x; attributes = z })) ≡ Ok pair → option_map Ok pair.rules ≡ file
+    after x is (Ok y) f =
+        let same : record { rules = x; attributes = y } ≡ pair = cc f in
+        ap (option_map Ok) (sym (ap (λ (z : Pair). z.rules) same)) ∙ read_of p file x is
+    after x is (Err fault) f = absurd (cc f)
+
+    at : (first : Result (Option (List ℕ)) FaultLineModel) → reading p file ≡ first
+        → and_then first (λ x. and_then (reading q other) (λ y. Ok (record { rules = x; attributes = y }))) ≡ Ok pair
+        → option_map Ok pair.rules ≡ file
+    at (Ok x) is f = after x is (reading q other) f
+    at (Err fault) is f = absurd (cc f)
+
+-- all that was read for a directory
+pub record ReadHere (path : List ℕ) (items : List Item) (a : Answers) (bytes : RuleBytes) : Type 0 where
+  pub info : and_then (info_items (has_git path items) a) info_bytes ≡ Ok bytes.info
+  pub own : option_map Ok bytes.own.rules ≡ file_named (codes ".gitignore") items
+
+pub read_here : (path : List ℕ) (items : List Item) (a : Answers) (bytes : RuleBytes) → rule_bytes path items a ≡ Ok bytes
+    → ReadHere path items a bytes
+read_here path items a bytes e = at (and_then (info_items (has_git path items) a) info_bytes) refl e
+  where
+    after : (i : Pair) → and_then (info_items (has_git path items) a) info_bytes ≡ Ok i → (own : Result Pair FaultLineModel)
+        → own_bytes path items ≡ own → and_then own (λ o. Ok (record { info = i; own = o })) ≡ Ok bytes → ReadHere path items a bytes
+    after i is (Ok o) own f =
+        let same : record { info = i; own = o } ≡ bytes = cc f in
+        record {
+          info = is ∙ ap Ok (ap (λ (b : RuleBytes). b.info) same);
+          own = ap (option_map Ok) (sym (ap (λ (b : RuleBytes). b.own.rules) same))
+              ∙ pair_rules (path_in path (codes ".gitignore")) (path_in path (codes ".gitattributes"))
+              (file_named (codes ".gitignore") items) (file_named (codes ".gitattributes") items) o own;
+        }
+    after i is (Err fault) own f = absurd (cc f)
+
+    at : (info : Result Pair FaultLineModel) → and_then (info_items (has_git path items) a) info_bytes ≡ info
+        → and_then info (λ i. and_then (own_bytes path items) (λ o. Ok (record { info = i; own = o }))) ≡ Ok bytes
+        → ReadHere path items a bytes
+    at (Ok i) is f = after i is (own_bytes path items) refl f
+    at (Err fault) is f = absurd (cc f)
+
+-- nothing is read of `.git/info` where it isn't there
+no_info : (a : Answers) (there : Bool) (i : Pair) → there ≡ false → and_then (info_items there a) info_bytes ≡ Ok i → i.rules ≡ None
+no_info a true i e is = absurd (cc e)
+no_info a false i e is = sym (ap (λ (p : Result Pair FaultLineModel). elim p [ Ok x ↦ x.rules | Err f ↦ None ]) is)
+
+-- what is read of `.git/info` is in items of it, where there are some
+record InfoItems (a : Answers) (there : Bool) (rules : Option (List ℕ)) : Type 0 where
+  items : List Item
+  is : option_map Ok rules ≡ file_named (codes "exclude") items
+  listed : (items ≡ []) ⊎ ((there ≡ true) × (has_directory (codes "info") (items_of a.git) ≡ true) × (a.info ≡ Ok items))
+
+info_items_of : (a : Answers) (there : Bool) (i : Pair) → and_then (info_items there a) info_bytes ≡ Ok i → InfoItems a there i.rules
+info_items_of a there i e = at there refl (info_items there a) refl e
+  where
+    rules_in_items : (items : List Item) → info_bytes items ≡ Ok i → option_map Ok i.rules ≡ file_named (codes "exclude") items
+    rules_in_items items f =
+        pair_rules (codes ".git/info/exclude") (codes ".git/info/attributes") (file_named (codes "exclude") items)
+        (file_named (codes "attributes") items) i f
+
+    by_info : (b : Bool) (items : List Item) → listing b (codes ".git/info") a.info ≡ Ok items
+        → (items ≡ []) ⊎ ((b ≡ true) × (a.info ≡ Ok items))
+    by_info false items f = let none : items ≡ [] = cc f in inl none
+    by_info true items f = by a.info refl f
+      where
+        by : (o : Items) → a.info ≡ o → listing true (codes ".git/info") o ≡ Ok items
+            → (items ≡ []) ⊎ ((true ≡ true) × (a.info ≡ Ok items))
+        by (Ok xs) is g = let same : xs ≡ items = cc g in inr (refl, is ∙ ap Ok same)
+        by (Err word) is g = absurd (cc g)
+
+    by_git : (b : Bool) → there ≡ b → (g : Items) → a.git ≡ g → (items : List Item)
+        → and_then (listing b (codes ".git") g) (λ in_git. listing (has_directory (codes "info") in_git) (codes ".git/info") a.info) ≡ Ok items
+        → (items ≡ []) ⊎ ((there ≡ true) × (has_directory (codes "info") (items_of a.git) ≡ true) × (a.info ≡ Ok items))
+    by_git false is g git items f = let none : items ≡ [] = cc f in inl none
+    by_git true is (Ok xs) git items f = after (by_info (has_directory (codes "info") xs) items f)
+      where
+        after : (items ≡ []) ⊎ ((has_directory (codes "info") xs ≡ true) × (a.info ≡ Ok items))
+            → (items ≡ []) ⊎ ((there ≡ true) × (has_directory (codes "info") (items_of a.git) ≡ true) × (a.info ≡ Ok items))
+        after (inl none) = inl none
+        after (inr (has, info)) = inr (is, ap (λ (o : Items). has_directory (codes "info") (items_of o)) git ∙ has, info)
+    by_git true is (Err word) git items f = absurd (cc f)
+
+    at : (b : Bool) → there ≡ b → (read : Result (List Item) FaultLineModel) → info_items there a ≡ read
+        → and_then read info_bytes ≡ Ok i → InfoItems a there i.rules
+    at b is (Ok items) read f = record {
+      items = items;
+      is = rules_in_items items f;
+      listed = by_git b is a.git refl items (ap (λ c. info_items c a) (sym is) ∙ read);
+    }
+    at b is (Err fault) read f = absurd (cc f)
+
+-- ---- chains
+
+-- the chain of the top's rules alone
+abbrev pub top_chain : List RuleModel → ChainModel
+top_chain rules = record { exclude = None; info = None; tree = (0, rules) ∷ [] }
+
+pub top_chain_rules : (chain : ChainModel) (rules : List RuleModel) → chain ≡ top_chain rules → rules_in chain ≡ at_depth 0 rules
+top_chain_rules chain rules is = ap rules_in is ∙ append-nil (at_depth 0 rules)
+
+-- a chain with the rules of two files, as far as they are there
+abbrev with_both : JobModel → Option (List ℕ) → Option (List ℕ) → ChainModel
+with_both j info own = record {
+  exclude = j.ignore.exclude;
+  info = first_of (option_map rules_of info) j.ignore.info;
+  tree = with_file_at j.ignore.tree (depth_of j.path) (option_map rules_of own);
+}
+
+both_are : (j : JobModel) (a : Answers) (items : List Item) (inside : JobModel) (listed : IsListed j a items inside)
+    (info own : Option (List ℕ)) → listed.bytes.info.rules ≡ info → listed.bytes.own.rules ≡ own → inside.ignore ≡ with_both j info own
+both_are j a items inside listed info own one other =
+    ap (λ (i : JobModel). i.ignore) listed.is ∙ ap (λ x. with_both j x listed.bytes.own.rules) one ∙ ap (with_both j info) other
+
+not_top : (path : List ℕ) (items : List Item) → (path ≡ [] → ⊥) → has_git path items ≡ false
+not_top [] items some = absurd (some refl)
+not_top (b ∷ bs) items some = refl
+
+some_path : (d n : List ℕ) → (n ≡ [] → ⊥) → path_in d n ≡ [] → ⊥
+some_path [] n some = some
+some_path (b ∷ bs) n some = λ e. cc e
+
+module _ (lists : List ℕ → Listings) (gives : List ℕ → Contents) (one : GivesOne lists gives) (bytes : List ℕ)
+    (has : HasTopRules lists gives bytes) where
+  all_listed : (path : List ℕ) (a : Answers) (items : List Item) → MayAnswer lists gives path a → a.here ≡ Ok items
+      → MayList lists gives path (Ok items)
+  all_listed path a items may here = subst (MayList lists gives path) here may.here
+
+  entry_listed : (path : List ℕ) (items : List Item) (item : Item) → MayList lists gives path (Ok items) → In item items
+      → HasListed lists path (name_of item) (entry_of item).kind
+  entry_listed path items item may i =
+      (entries_of items, may.0, contains (entry_of item) (entries_of items) (of_mapped entry_of item items i))
+
+  each_has : (path : List ℕ) (items : List Item) (item : Item) → AllByRecursion (MayHave lists gives path) items → In item items
+      → MayHave lists gives path item
+  each_has path [] item all i = absurd i
+  each_has path (x ∷ xs) item all (inl e) = subst (MayHave lists gives path) e all.0
+  each_has path (x ∷ xs) item all (inr i) = each_has path xs item all.1 i
+
+  -- below the top no rules are added
+  below_top : (j : JobModel) (a : Answers) (items : List Item) (inside : JobModel) → (j.path ≡ [] → ⊥) → MayAnswer lists gives j.path a
+      → j.ignore ≡ top_chain (rules_of bytes) → IsListed j a items inside → inside.ignore ≡ top_chain (rules_of bytes)
+  below_top j a items inside some may chain listed =
+      let r = read_here j.path items a listed.bytes listed.read in
+      both_are j a items inside listed None None
+      (no_info a (has_git j.path items) listed.bytes.info (not_top j.path items some) r.info)
+      (own listed.bytes.own.rules r.own)
+      ∙ chain
+    where
+      own : (rules : Option (List ℕ)) → option_map Ok rules ≡ file_named (codes ".gitignore") items → rules ≡ None
+      own None e = refl
+      own (Some text) e =
+          let f = file_of items (codes ".gitignore") (Ok text) (sym e) in
+          absurd (has.no_other j.path some (entry_listed j.path items (file_item (codes ".gitignore") f.0 (Ok text))
+          (all_listed j.path a items may listed.here) f.1))
+
+  module _ (s : SelectionModel) (t : Tree) (given : IsGiven lists gives s (top_job None) t) where
+    -- at the top they are those of its file
+    at_top : (items : List Item) (inside : JobModel) → IsListed (top_job None) (t []) items inside
+        → inside.ignore ≡ top_chain (rules_of bytes)
+    at_top items inside listed =
+        let r = read_here [] items (t []) listed.bytes listed.read in
+        both_are (top_job None) (t []) items inside listed None (Some bytes)
+        (info listed.bytes.info.rules (info_items_of (t []) (has_git [] items) listed.bytes.info r.info))
+        (own listed.bytes.own.rules r.own)
+      where
+        may : MayList lists gives [] (Ok items)
+        may = all_listed [] (t []) items (given [] (top_job None) refl).0 listed.here
+
+        answers : MayAnswer lists gives [] (t [])
+        answers = (given [] (top_job None) refl).0
+
+        top_items : (b : Bool) → has_git [] items ≡ b → has_git [] (items_of (t []).here) ≡ b
+        top_items b e = ap (λ (o : Items). has_git [] (items_of o)) listed.here ∙ e
+
+        info : (rules : Option (List ℕ)) → InfoItems (t []) (has_git [] items) rules → rules ≡ None
+        info None found = refl
+        info (Some text) found = at found.listed
+          where
+            f : (count : Result Count FaultWord) × In (file_item (codes "exclude") count (Ok text)) found.items
+            f = file_of found.items (codes "exclude") (Ok text) (sym found.is)
+
+            at : (found.items ≡ []) ⊎ ((has_git [] items ≡ true) × (has_directory (codes "info") (items_of (t []).git) ≡ true)
+                × ((t []).info ≡ Ok found.items)) → Some text ≡ None
+            at (inl none) = absurd (subst (In (file_item (codes "exclude") f.0 (Ok text))) none f.1)
+            at (inr (git, inside_git, is)) =
+                let may_info = subst (MayList lists gives (codes ".git/info")) is (answers.info (top_items true git) inside_git) in
+                absurd (has.no_info (entry_listed (codes ".git/info") found.items (file_item (codes "exclude") f.0 (Ok text)) may_info f.1))
+
+        there : IsItem items (codes ".gitignore") File
+        there = item_of lists gives one s (top_job None) t given [] (top_job None) items inside refl listed (codes ".gitignore") File has.there
+
+        entry_is : (e : EntryModel) → e.name ≡ codes ".gitignore" → e.kind ≡ File → e ≡ record { name = codes ".gitignore"; kind = File }
+        entry_is e n k =
+            ap (λ m. record { name = m; kind = e.kind }) n ∙ ap (λ (d : Kind). record { name = codes ".gitignore"; kind = d }) k
+
+        own : (rules : Option (List ℕ)) → option_map Ok rules ≡ file_named (codes ".gitignore") items → rules ≡ Some bytes
+        own None e =
+            absurd (some_file items (codes ".gitignore") there.item there.has
+            (entry_is (entry_of there.item) there.named there.kind_is) (sym e))
+        own (Some text) e =
+            let f = file_of items (codes ".gitignore") (Ok text) (sym e) in
+            let reads = each_has [] items (file_item (codes ".gitignore") f.0 (Ok text)) may.1 f.1 in
+            let same : Ok text ≡ Ok bytes = one.rules (codes ".gitignore") (Ok text) (Ok bytes) reads.1 has.read in
+            let is : text ≡ bytes = cc same in
+            ap Some is
+
+    lower : (place : List (List ℕ)) (j : JobModel) (u : Tree) → IsGiven lists gives s j u → (j.path ≡ [] → ⊥)
+        → j.ignore ≡ top_chain (rules_of bytes) → (k : JobModel) → LeadsTo s j u place k → (items : List Item) (inside : JobModel)
+        → IsListed k (u place) items inside → inside.ignore ≡ top_chain (rules_of bytes)
+    lower [] j u fair some chain k leads items inside listed =
+        below_top j (u []) items inside some (fair [] j refl).0 chain
+        (subst (λ (i : JobModel). IsListed i (u []) items inside) (sym leads) listed)
+    lower (n ∷ place) j u fair some chain k (within, leaves, leads) items inside listed =
+        let spread = tidy_items (u []) (fair [] j refl).1 leaves.items leaves.listed.here in
+        let good = good_name leaves.items spread (directory_item n) (is_in _ leaves.items leaves.has) in
+        lower place (child_job within n) (λ p. u (n ∷ p)) (given_below lists gives s j u n within fair leaves)
+        (some_path within.path n good.0)
+        (below_top j (u []) leaves.items within some (fair [] j refl).0 chain leaves.listed) k leads items inside listed
+
+    -- so these rules hold in each directory to which names lead
+    pub rules_at : (place : List (List ℕ)) (k : JobModel) → LeadsTo s (top_job None) t place k → (items : List Item) (inside : JobModel)
+        → IsListed k (t place) items inside → rules_in inside.ignore ≡ at_depth 0 (rules_of bytes)
+    rules_at [] k leads items inside listed =
+        top_chain_rules inside.ignore (rules_of bytes)
+        (at_top items inside (subst (λ (i : JobModel). IsListed i (t []) items inside) (sym leads) listed))
+    rules_at (n ∷ place) k (within, leaves, leads) items inside listed =
+        let spread = tidy_items (t []) (given [] (top_job None) refl).1 leaves.items leaves.listed.here in
+        let good = good_name leaves.items spread (directory_item n) (is_in _ leaves.items leaves.has) in
+        top_chain_rules inside.ignore (rules_of bytes)
+        (lower place (child_job within n) (λ p. t (n ∷ p)) (given_below lists gives s (top_job None) t n within given leaves)
+        (some_path within.path n good.0) (at_top leaves.items within leaves.listed) k leads items inside listed)

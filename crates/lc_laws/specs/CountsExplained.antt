@@ -1,0 +1,62 @@
+-- That a count and an explanation agree, over a tree that answers in one way.
+use Rattle.std.specs.Prelude.{◌≡◌, ◌⊎◌, ℕ, true, false, List, map, option_map, Ok}
+use Rattle.std.specs.List.{Contains}
+use Rattle.lc_explain.specs.Explain.{MaySay}
+use Rattle.lc_explain.specs.Explained.{Explanation, bad, faulted, below, ignored, included, unruled, left_out}
+use Rattle.lc_explain.specs.Laws.{IsTaken}
+use Rattle.lc_explain.specs.declared.question.Question.{Question}
+use Rattle.lc_level.specs.Level.{Reason, named_git, by_rule, by_attribute, other_kind}
+use Rattle.lc_level.specs.OneAnswer.{GivesOne}
+use Rattle.lc_level.specs.RuleReads.{shared}
+use Rattle.lc_level.specs.Selection.{selection_of}
+use Rattle.lc_rules.specs.IgnoreRules.{rules_of}
+use Rattle.lc_text.specs.PathLines.{is_bad_path}
+use Rattle.lc_tree.specs.Trees.{Listings, Contents}
+use Rattle.lc_tree.specs.declared.entry.Kind.{Kind}
+use Rattle.lc_walk.specs.WalkOptions.{asked_by}
+use Rattle.lc_walk.specs.Walks.{Walks}
+use Rattle.lc_walk.specs.declared.options.Options.{Options}
+use Rattle.lc_walk.specs.declared.report.Report.{Report}
+use Rattle.lc_laws.specs.Entries.{IsEntry}
+use Rattle.lc_laws.specs.ReportedPaths.{IsCounted, IsLeft, IsKept, IsLeftAbove}
+
+-- a count that lists its files and what it leaves out, and an explanation by the same attributes and the same exclude file
+pub record AskAlike (o : Options) (q : Question) : Type 0 where
+  pub files : o.lists.files ≡ true
+  pub left_out : o.lists.left_out ≡ true
+  pub selection : (asked_by o).selection ≡ selection_of q.archive (map (λ name. name.now) q.without.now)
+  pub exclude : shared o.exclude ≡ option_map rules_of q.exclude
+
+-- it is said to be left out for a reason: ignored by that rule, or left
+abbrev pub IsSaidLeft : Reason → Explanation → Type 0
+IsSaidLeft named_git x = x ≡ left_out named_git
+IsSaidLeft (by_rule origin line) x = (text : List ℕ) × (x ≡ ignored (record { origin = origin; line = line; text = text }))
+IsSaidLeft (by_attribute name) x = x ≡ left_out (by_attribute name)
+IsSaidLeft other_kind x = x ≡ left_out other_kind
+
+-- what is said of an entry tells where the report has it: a fault that is said is one of the report; by a rule that is said to ignore
+-- it the report leaves it out, and by one that it is said to stand below a directory above it; for a reason that is said it leaves out
+-- one of these; and what is said to be taken is
+abbrev pub TellsOf : Report → List ℕ → Kind → Explanation → Type 0
+TellsOf r path kind bad = ⊥
+TellsOf r path kind (faulted fault) = Contains r.faults.items fault
+TellsOf r path kind (below rule) = IsLeftAbove r path (by_rule rule.origin rule.line)
+TellsOf r path kind (ignored rule) = IsLeft r path (by_rule rule.origin rule.line)
+TellsOf r path kind (included rule) = IsKept r path kind
+TellsOf r path kind unruled = IsKept r path kind
+TellsOf r path kind (left_out reason) = IsLeft r path reason ⊎ IsLeftAbove r path reason
+
+-- a report agrees with what is said of a path
+pub record AgreesOn (lists : List ℕ → Listings) (r : Report) (path : List ℕ) (x : Explanation) : Type 0 where
+  -- a counted file is said to be included, or decided by no rule
+  pub counted : IsCounted r path → IsTaken x
+  -- what is left out is said to be, for the same reason
+  pub left : (reason : Reason) → IsLeft r path reason → IsSaidLeft reason x
+  -- and what is said of an entry tells where the report has it
+  pub told : (kind : Kind) → IsEntry lists path kind → TellsOf r path kind x
+
+-- so does each report of a walk, with anything that may be said of a path that is not bad and asked about with no slash at its end
+abbrev pub ExplainedLaw : (List ℕ → Listings) → (List ℕ → Contents) → Type 0
+ExplainedLaw lists gives =
+    GivesOne lists gives → (o : Options) (q : Question) (r : Report) → AskAlike o q → Walks lists gives o (Ok r)
+    → (path : List ℕ) (x : Explanation) → is_bad_path path ≡ false → MaySay lists gives q path false x → AgreesOn lists r path x

@@ -1,0 +1,25 @@
+-- The entries of a tree, by its listings alone.
+use Rattle.std.specs.Prelude.{ℕ, List, [], ◌∷◌, Ok}
+use Rattle.std.specs.List.{Contains}
+use Rattle.lc_glob.specs.Path.{path_in, segments_of}
+use Rattle.lc_tree.specs.Listing.{EntryModel}
+use Rattle.lc_tree.specs.Trees.{Listings}
+use Rattle.lc_tree.specs.declared.entry.Kind.{Kind}
+use Rattle.lc_tree.specs.declared.entry.Kind.TheVariants.{Dir}
+
+module _ (lists : List ℕ → Listings) where
+  -- the directory at a path may be listed with an entry of this name and kind
+  abbrev pub HasListed : List ℕ → List ℕ → Kind → Type 0
+  HasListed directory name kind =
+      (entries : List EntryModel) × lists directory (Ok entries) × Contains entries (record { name = name; kind = kind })
+
+  -- names lead from a directory down to an entry of this kind, each but the last through a directory
+  abbrev pub LeadDown : List ℕ → List (List ℕ) → Kind → Type 0
+  LeadDown directory [] kind = ⊥
+  LeadDown directory (name ∷ []) kind = HasListed directory name kind
+  LeadDown directory (name ∷ next ∷ names) kind =
+      HasListed directory name Dir × LeadDown (path_in directory name) (next ∷ names) kind
+
+  -- the tree has an entry of this path and kind
+  abbrev pub IsEntry : List ℕ → Kind → Type 0
+  IsEntry path kind = LeadDown [] (segments_of path) kind

@@ -1,0 +1,6 @@
+pub mod Entries
+pub mod ReportedPaths
+pub mod CountsExplained
+pub mod CountsChecked
+pub mod OneExplanation
+pub mod SlashAtEnd

@@ -1,0 +1,32 @@
+-- What a report has of a path.
+use Rattle.std.specs.Prelude.{◌≡◌, ◌⊎◌, ℕ, List, ◌∷◌, ◌++◌}
+use Rattle.std.specs.List.{Contains}
+use Rattle.lc_glob.specs.Bytes.{slash}
+use Rattle.lc_level.specs.Level.{Reason}
+use Rattle.lc_tree.specs.declared.entry.Kind.{Kind}
+use Rattle.lc_tree.specs.declared.entry.Kind.TheVariants.{File, Dir, Other}
+use Rattle.lc_walk.specs.ReportLines.{file_paths, fault_paths, left_paths}
+use Rattle.lc_walk.specs.declared.report.Report.{Report}
+
+module _ (r : Report) (path : List ℕ) where
+  -- it is that of a counted file
+  abbrev pub IsCounted : Type 0
+  IsCounted = Contains (file_paths r.files.items) path
+
+  -- it is at fault
+  abbrev pub IsAtFault : Type 0
+  IsAtFault = Contains (fault_paths r.faults.items) path
+
+  -- it is left out, for this reason
+  abbrev pub IsLeft : Reason → Type 0
+  IsLeft reason = (kind : Kind) × Contains r.left.items (record { path = path; kind = kind; reason = reason })
+
+  -- what has this path is taken: a file is counted, or at fault; a directory is not left out
+  abbrev pub IsKept : Kind → Type 0
+  IsKept File = IsCounted ⊎ IsAtFault
+  IsKept Dir = Contains (left_paths r.left.items) path → ⊥
+  IsKept Other = ⊥
+
+-- a directory above it is left out, for this reason
+abbrev pub IsLeftAbove : Report → List ℕ → Reason → Type 0
+IsLeftAbove r path reason = (directory : List ℕ) × (rest : List ℕ) × (path ≡ directory ++ slash ∷ rest) × IsLeft r directory reason

@@ -1,0 +1,12 @@
+//! Laws that tie a count, an explanation and a check together, in the terms of who calls them.
+//!
+//! - `laws`: that a count agrees on each path with an explanation of the tree, and with a check by the top's rules; that a path has one
+//!   explanation, whether or not a slash ends a directory's path
+#![tactic(auto)]
+
+mod laws;
+
+pub use laws::{
+    counts_are_as_checked, counts_are_as_explained, one_answer_is_one_explanation,
+    slashes_of_directories_say_nothing,
+};
