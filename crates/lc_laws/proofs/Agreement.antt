@@ -97,5 +97,5 @@ explained_law law lists gives one o q r alike walks path x good said =
     (subst (λ (e : Option (List RuleModel)). IsExplained (MayEnter lists gives)
     (selection_of q.archive (map (λ name. name.now) q.without.now)) exclude (top_job e) path false x) (sym alike.exclude) said) in
     agrees law lists gives one s (ap (λ (w : SelectionModel). w.only) alike.selection) exclude x (top_of o) refl (tree_of_rows walks.found.rows walks.found.answers)
-    (rows_given lists gives (asked_by o) o.max_dirs o.threads (top_of o) walks.found walks.whole) o.lists depth r
+    (rows_given lists gives (asked_by o) o.max_dirs o.threads (top_of o) _ walks.found walks.whole) o.lists depth r
     (walks.report depth (omega arith)) alike.files alike.left_out path good same (omega arith)

@@ -210,7 +210,7 @@ checked_law law last lists gives one bytes has o r asks walks faultless path kin
     given =
         subst (λ (s : SelectionModel). IsGiven lists gives s (top_job None) t) asks.selection
         (subst (λ (e : Option (List RuleModel)). IsGiven lists gives (asked_by o).selection (top_job e) t) asks.exclude
-        (rows_given lists gives (asked_by o) o.max_dirs o.threads (top_of o) walks.found walks.whole))
+        (rows_given lists gives (asked_by o) o.max_dirs o.threads (top_of o) _ walks.found walks.whole))
 
     chain : (place : List (List ℕ)) (k : JobModel) → LeadsTo plain (top_job None) t place k → (items : List Item) (inside : JobModel)
         → IsListed k (t place) items inside → rules_in inside.ignore ≡ at_depth 0 (rules_of bytes)

@@ -12,7 +12,7 @@ use Rattle.lc_level.specs.Level.{Reason, Fate, left, file_fate, fate_of, reason_
 use Rattle.lc_level.specs.Selection.{SelectionModel}
 use Rattle.lc_tree.specs.declared.entry.Kind.{Kind}
 use Rattle.lc_tree.specs.declared.entry.Kind.TheVariants.{File}
-use Rattle.lc_tree.specs.declared.fault_word.FaultWord.{FaultWord}
+use Rattle.lc_level.specs.declared.fault_word.FaultWord.{FaultWord}
 use Rattle.lc_walk.specs.Found.{Found, found_file, found_fault, found_left}
 use Rattle.lc_walk.specs.FoundAt.{IsListed, LeadsTo, HasEntry, Gives}
 use Rattle.lc_walk.specs.Walk.{walk_of}

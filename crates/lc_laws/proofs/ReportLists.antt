@@ -7,7 +7,7 @@ use Rattle.lc_glob.specs.Path.{path_in}
 use Rattle.lc_level.specs.FaultLines.{FaultLineModel}
 use Rattle.lc_level.specs.Level.{CountedModel, LeftModel, Reason}
 use Rattle.lc_tree.specs.declared.entry.Kind.{Kind}
-use Rattle.lc_tree.specs.declared.fault_word.FaultWord.{FaultWord}
+use Rattle.lc_level.specs.declared.fault_word.FaultWord.{FaultWord}
 use Rattle.lc_walk.specs.Found.{Found, found_file, found_fault, found_directory, found_left}
 use Rattle.lc_walk.specs.ReportLines.{FileLineModel, LeftLineModel, file_paths, fault_paths, left_paths}
 use Rattle.lc_walk.specs.WalkReport.{line_of, left_line, file_in, fault_in, left_out_in, files_of, faults_of, left_out_of, IsReportOf}

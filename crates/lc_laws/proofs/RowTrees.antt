@@ -1,6 +1,7 @@
 -- The answers of the tree of a walk's rows are some that its tree may give.
 use Rattle.std.proofs.Common.{◌≡◌, ◌≢◌, ℕ, List, [], ◌∷◌, refl, sym, ◌∙◌, ap, subst, Some, inl, inr}
 use Rattle.std.specs.List.{AllByRecursion}
+use Rattle.lc_board.specs.ClosedBoard.{Promises}
 use Rattle.lc_board.specs.LegalHistory.{posts_under}
 use Rattle.lc_board.specs.State.{Absent, status}
 use Rattle.lc_board.proofs.PostedNumbers.{start, Known, known}
@@ -27,7 +28,7 @@ same_some : {A : Type 0} (x y : A) → Some x ≡ Some y → x ≡ y
 same_some x y e = cc
 
 module _ (lists : List ℕ → Listings) (gives : List ℕ → Contents) (ask : Asked) (capacity workers : ℕ) (top : JobModel)
-    (found : SomeRows (MayAnswer lists gives) ask capacity workers top) (whole : AreWhole found.rows) where
+    (promises : Promises) (found : SomeRows (MayAnswer lists gives) ask capacity workers top promises) (whole : AreWhole found.rows) where
   abbrev IsThere : ℕ → Type 0
   IsThere i = status found.history i ≢ Absent
 

@@ -23,14 +23,15 @@ use Rattle.lc_tree.specs.Listing.{EntryModel}
 use Rattle.lc_tree.specs.Trees.{Listings, Contents}
 use Rattle.lc_tree.specs.declared.entry.Kind.{Kind}
 use Rattle.lc_tree.specs.declared.entry.Kind.TheVariants.{File, Dir, Other}
-use Rattle.lc_tree.specs.declared.fault_word.FaultWord.{FaultWord}
+use Rattle.lc_level.specs.declared.fault_word.FaultWord.{FaultWord}
 use Rattle.lc_walk.specs.FoundAt.{IsListed, LeadsTo}
-use Rattle.lc_walk.proofs.Elements.{In, is_in, contains, of_mapped}
+use Rattle.lc_walk.proofs.Elements.{In, contains, of_mapped}
 use Rattle.lc_walk.proofs.Levels.{tidy_items}
 use Rattle.lc_laws.specs.CountsChecked.{HasTopRules}
 use Rattle.lc_laws.specs.Entries.{HasListed}
 use Rattle.lc_laws.proofs.Items.{IsItem, item_of}
 use Rattle.lc_laws.proofs.OneWay.{IsGiven, good_name, given_below}
+use Rattle.lc_laws.proofs.TakingPart.{in_part}
 
 -- ---- files of a name
 
@@ -301,7 +302,7 @@ module _ (lists : List ℕ → Listings) (gives : List ℕ → Contents) (one : 
         (subst (λ (i : JobModel). IsListed i (u []) items inside) (sym leads) listed)
     lower (n ∷ place) j u fair some chain k (within, leaves, leads) items inside listed =
         let spread = tidy_items (u []) (fair [] j refl).1 leaves.items leaves.listed.here in
-        let good = good_name leaves.items spread (directory_item n) (is_in _ leaves.items leaves.has) in
+        let good = good_name leaves.items spread (directory_item n) (in_part s j.path (directory_item n) leaves.items leaves.has) in
         lower place (child_job within n) (λ p. u (n ∷ p)) (given_below lists gives s j u n within fair leaves)
         (some_path within.path n good.0)
         (below_top j (u []) leaves.items within some (fair [] j refl).0 chain leaves.listed) k leads items inside listed
@@ -314,7 +315,7 @@ module _ (lists : List ℕ → Listings) (gives : List ℕ → Contents) (one : 
         (at_top items inside (subst (λ (i : JobModel). IsListed i (t []) items inside) (sym leads) listed))
     rules_at (n ∷ place) k (within, leaves, leads) items inside listed =
         let spread = tidy_items (t []) (given [] (top_job None) refl).1 leaves.items leaves.listed.here in
-        let good = good_name leaves.items spread (directory_item n) (is_in _ leaves.items leaves.has) in
+        let good = good_name leaves.items spread (directory_item n) (in_part s (top_job None).path (directory_item n) leaves.items leaves.has) in
         top_chain_rules inside.ignore (rules_of bytes)
         (lower place (child_job within n) (λ p. t (n ∷ p)) (given_below lists gives s (top_job None) t n within given leaves)
         (some_path within.path n good.0) (at_top leaves.items within leaves.listed) k leads items inside listed)

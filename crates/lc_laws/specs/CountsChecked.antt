@@ -11,7 +11,8 @@ use Rattle.lc_rules.specs.declared.origin.Origin.{Origin}
 use Rattle.lc_text.specs.CheckText.{file_verdict, path_word}
 use Rattle.lc_text.specs.PathLines.{is_bad_path}
 use Rattle.lc_tree.specs.Kinds.{is_dir}
-use Rattle.lc_tree.specs.Trees.{Listings, Contents, MayReadRules}
+use Rattle.lc_level.specs.FileReads.{MayReadRules}
+use Rattle.lc_tree.specs.Trees.{Listings, Contents}
 use Rattle.lc_tree.specs.declared.entry.Kind.{Kind}
 use Rattle.lc_tree.specs.declared.entry.Kind.TheVariants.{File}
 use Rattle.lc_walk.specs.WalkOptions.{asked_by}
