@@ -37,12 +37,13 @@ use Rattle.lc_walk.specs.declared.options.Lists.{Lists}
 use Rattle.lc_walk.specs.declared.report.Report.{Report}
 use Rattle.lc_walk.proofs.Elements.{In, is_in}
 use Rattle.lc_walk.proofs.Levels.{tidy_items}
+use Rattle.lc_walk.proofs.OneTree.{leads_on}
 use Rattle.lc_laws.specs.CountsChecked.{IsRuledOut}
 use Rattle.lc_laws.specs.Entries.{LeadDown}
 use Rattle.lc_laws.specs.ReportedPaths.{IsLeft}
 use Rattle.lc_laws.proofs.FirstSegments.{first_cut}
 use Rattle.lc_laws.proofs.Items.{IsItem, item_of, directory_is}
-use Rattle.lc_laws.proofs.OneWay.{entered_listed, good_name, IsGiven, leads_on}
+use Rattle.lc_laws.proofs.OneWay.{entered_listed, good_name, IsGiven}
 use Rattle.lc_laws.proofs.Placed.{fault_there, left_there}
 use Rattle.lc_laws.proofs.TakingPart.{part_has}
 
@@ -275,7 +276,7 @@ module _ (lists : List ℕ → Listings) (gives : List ℕ → Contents) (one : 
           let clear = clear_slash (file_verdict rules) path (front ++ name) parts.0 same
           (ap (λ d. is_ignored (file_verdict rules d true)) directory ∙ kept) named in
           below_decides longer (place ++ name ∷ []) (child_job m.inside name)
-          (leads_on lists gives plain place (top_job None) k t name m.inside leads leaves)
+          (leads_on plain place (top_job None) k m.inside name t leads leaves)
           (omega (arith, deep, length-append place (name ∷ []))) parts.0 parts.2
           (same ∙ sym (append_assoc (front ++ name) (slash ∷ []) parts.0))
           (λ l. append_assoc (front ++ name) (slash ∷ []) l ∙ append_assoc front name (slash ∷ l) ∙ joined (name ++ slash ∷ l)

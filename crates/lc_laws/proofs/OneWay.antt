@@ -157,14 +157,6 @@ module _ (lists : List ℕ → Listings) (gives : List ℕ → Contents) (s : Se
       → IsGiven (child_job inside name) (λ p. t (name ∷ p))
   given_below j t name inside given leaves place k leads = given (name ∷ place) k (inside, leaves, leads)
 
-  -- names lead on
-  pub leads_on : (place : List (List ℕ)) (j k : JobModel) (t : Tree) (name : List ℕ) (inside : JobModel) → LeadsTo s j t place k
-      → LeavesIn s k (t place) name inside → LeadsTo s j t (place ++ name ∷ []) (child_job inside name)
-  leads_on [] j k t name inside leads leaves =
-      (inside, subst (λ (i : JobModel). LeavesIn s i (t []) name inside) (sym leads) leaves, refl)
-  leads_on (n ∷ place) j k t name inside leads leaves =
-      (leads.0, leads.1, leads_on place (child_job leads.0 n) k (λ p. t (n ∷ p)) name inside leads.2 leaves)
-
   -- the names are those of the path
   pub place_names : (place : List (List ℕ)) (j k : JobModel) (t : Tree) → IsGiven j t → LeadsTo s j t place k
       → names_of_path k.path ≡ names_of_path j.path ++ place

@@ -35,12 +35,13 @@ use Rattle.lc_walk.specs.declared.options.Lists.{Lists}
 use Rattle.lc_walk.specs.declared.report.Report.{Report}
 use Rattle.lc_walk.proofs.Elements.{In}
 use Rattle.lc_walk.proofs.Levels.{tidy_items}
+use Rattle.lc_walk.proofs.OneTree.{leads_on}
 use Rattle.lc_laws.specs.CountsExplained.{TellsOf}
 use Rattle.lc_laws.specs.Entries.{LeadDown}
 use Rattle.lc_laws.specs.ReportedPaths.{IsLeft, IsKept, IsLeftAbove}
 use Rattle.lc_laws.proofs.FirstSegments.{first_cut}
 use Rattle.lc_laws.proofs.Following.{asked_as_it_is, went_into, IsSaidBelow, IsSaidIn, said_in, on_the_way, said_at_end}
-use Rattle.lc_laws.proofs.OneWay.{entered_listed, entered_by, kind_found, good_name, IsGiven, leads_on}
+use Rattle.lc_laws.proofs.OneWay.{entered_listed, entered_by, kind_found, good_name, IsGiven}
 use Rattle.lc_laws.proofs.Items.{IsItem, item_of, directory_is}
 use Rattle.lc_laws.proofs.Placed.{fault_there, left_there, file_there}
 use Rattle.lc_laws.proofs.TakingPart.{part_has}
@@ -261,7 +262,7 @@ module _ (lists : List ℕ → Listings) (gives : List ℕ → Contents) (one : 
                 taken = ap is_none e;
               } in
               below_tells (way ++ m.says.here ∷ []) (place ++ name ∷ []) (child_job m.inside name)
-              (leads_on lists gives s place top k t name m.inside leads leaves)
+              (leads_on s place top k m.inside name t leads leaves)
               (omega (arith, deep, length-append place (name ∷ []))) parts.0 parts.2
               (at ∙ ap (path_in k.path) parts.1 ∙ below_child k.path name parts.0 some_name
               ∙ ap (λ d. path_in (path_in d name) parts.0) (sym inside_path))

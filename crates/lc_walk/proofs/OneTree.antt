@@ -28,7 +28,7 @@ use Rattle.lc_walk.proofs.Levels.{IsChild}
 use Rattle.lc_walk.proofs.Places.{names_of_path-path_in}
 
 -- where names lead to a directory that leaves in a child, they lead on to the child
-leads_on : (selection : SelectionModel) (place : List (List ℕ)) (j k inside : JobModel) (name : List ℕ) (t : Tree)
+pub leads_on : (selection : SelectionModel) (place : List (List ℕ)) (j k inside : JobModel) (name : List ℕ) (t : Tree)
     → LeadsTo selection j t place k → LeavesIn selection k (t place) name inside
     → LeadsTo selection j t (place ++ name ∷ []) (child_job inside name)
 leads_on selection [] j k inside name t e l =

@@ -10,8 +10,8 @@ use Rattle.lc_walk.specs.declared.report.Report.{Report}
 use Rattle.lc_walk.specs.declared.walk_fault.WalkFault.{WalkFault}
 use Rattle.lc_walk.specs.declared.walk_fault.WalkFault.TheVariants.{Memory, TooManyDirs, TooDeep, Torn, Mismatch}
 
--- what a walk by these options, over words, answers of a tree whose listings and files may be these: its report, or why there is none. No number
--- is ever torn, and no worker's pass mismatches
+-- what a walk by these options, over words, answers of a tree whose listings and files may be these: its report, or why there is none. No
+-- number is ever torn, and no worker's pass mismatches
 abbrev pub Walks : (List ℕ → Listings) → (List ℕ → Contents) → Options → Result Report WalkFault → Type 0
 Walks lists gives o (Ok r) = IsWalkReport (MayAnswer lists gives) (asked_by o) o.max_dirs o.threads (top_of o) words_promises r
 Walks lists gives o (Err Memory) = Unit {0}
