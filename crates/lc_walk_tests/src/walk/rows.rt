@@ -242,16 +242,20 @@ const TWO_BELOW: Sketch = Sketch::Dir(&[
 /// Its rows where there is memory.
 const OF_TWO_BELOW: [Said; 3] = [Said::Listed(1, 2), Said::Listed(1, 0), Said::Listed(1, 0)];
 
-/// The rows of one worker say this up to the first that was refused memory, and all after it were given up for that. It answers
-/// whether one was.
-fn some_refused(rt: &impl Abort, rows: &[Ended<Row>], wanted: &[Said]) -> bool {
+/// In this order of claims the rows of one worker say this up to the first that was refused memory, and all after it were given up for
+/// that. It answers whether one was.
+fn some_refused(rt: &impl Abort, rows: &[Ended<Row>], wanted: &[Said], claims: &[usize]) -> bool {
     let given_up = Said::Broken(GivenUp::Memory);
     let mut refused = false;
-    for (row, wanted) in rows.iter().zip(wanted) {
-        let said = Said::by(row);
-        refused = refused || said == given_up;
-        let wanted = if refused { given_up } else { *wanted };
-        assert!(rt; said == wanted, "{said:?}");
+    for number in claims {
+        if let Some(row) = rows.get(*number)
+            && let Some(wanted) = wanted.get(*number)
+        {
+            let said = Said::by(row);
+            refused = refused || said == given_up;
+            let wanted = if refused { given_up } else { *wanted };
+            assert!(rt; said == wanted, "{said:?}");
+        }
     }
     refused
 }
@@ -260,6 +264,7 @@ fn some_refused(rt: &impl Abort, rows: &[Ended<Row>], wanted: &[Said]) -> bool {
 fn check_refused<B: Shared<Job, Row>, R: Wait + Abort>(
     rt: &R,
     alloc: Global,
+    claims: &[usize],
 ) -> Result<(), AllocError> {
     let node = TWO_BELOW.node(alloc)?;
     let (board, pass) = start_one::<B>(alloc)?;
@@ -281,7 +286,7 @@ fn check_refused<B: Shared<Job, Row>, R: Wait + Abort>(
         return Err(AllocError);
     }
     let closed = close_one(rt, alloc, board, pass)?;
-    let refused = some_refused(rt, &closed.rows, &OF_TWO_BELOW);
+    let refused = some_refused(rt, &closed.rows, &OF_TWO_BELOW, claims);
     let many = closed.rows.len();
     assert!(rt; many == 3 || refused && many < 3, "{many}");
     let tally = match tally {
@@ -306,7 +311,7 @@ fn check_refused<B: Shared<Job, Row>, R: Wait + Abort>(
 
 #[test]
 fn a_worker_that_may_be_refused_memory(rt: HostRuntime) -> Result<(), Fail> {
-    check_refused::<Words<Job, Row>, HostRuntime>(&rt, rt.alloc())?;
-    check_refused::<Locked<Job, Row>, HostRuntime>(&rt, rt.alloc())?;
+    check_refused::<Words<Job, Row>, HostRuntime>(&rt, rt.alloc(), &[0, 2, 1])?;
+    check_refused::<Locked<Job, Row>, HostRuntime>(&rt, rt.alloc(), &[0, 1, 2])?;
     Ok(())
 }
