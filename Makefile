@@ -8,7 +8,7 @@ SHELL := /bin/bash
 .PHONY: run test test-memory test-program test-git test-faults test-fuzz test-memcheck install uninstall dist deb clean rt FORCE
 
 lc: $(shell find crates -name out -prune -o -type f -print 2>/dev/null) crates.txt tools/build crates/lc/out/cpu | rt
-	@echo "make: proves lc and all that it stands on, then builds it for $(CPU): some minutes the first time, seconds after an edit"
+	@echo "make: proves lc and all that it stands on, then builds it for $(CPU): up to half an hour the first time, seconds after an edit"
 	@tools/build $(CPU)
 	@echo "make: ./lc is ready; it may be copied anywhere"
 
@@ -17,9 +17,9 @@ crates/lc/out/cpu: FORCE
 	@mkdir -p $(@D)
 	@[ "$$(cat $@ 2> /dev/null)" = $(CPU) ] || echo $(CPU) > $@
 
-# the main job on real input: the files and lines of this repository
-run: lc
-	@./lc count .
+# the main job on real input: the files and lines of this repository. On a new clone a build without proof shows it in a minute or two
+run: rt
+	@tools/build --look count $(CURDIR)
 
 # rt alone would run fewer checks side by side, since it counts a check's memory for more than it takes
 test: rt

@@ -1,7 +1,7 @@
 /* Loaded before a program: makes the call FAILING_NUMBER, the first being 1, of the function FAILING_CALL fail with the error
-   FAILING_ERRNO, and where FAILING_ON is set all later ones too. With SHORT set, reads and writes take a byte at most. The file that
-   COUNT_FILE names then has how often each function was called, as longs in the order of `names`, and the path of the first call that
-   failed, ended by a NUL. For tools/test-faults. */
+   FAILING_ERRNO, and where FAILING_ON is set all later ones too; a write with no error takes nothing. With SHORT set, reads and writes
+   take a byte at most. The file that COUNT_FILE names then has how often each function was called, as longs in the order of `names`, and
+   the path of the first call that failed, ended by a NUL. For tools/test-faults. */
 #define _GNU_SOURCE
 #include <dirent.h>
 #include <dlfcn.h>
@@ -159,7 +159,7 @@ ssize_t read(int file, void *buffer, size_t size) {
 }
 
 ssize_t write(int file, const void *buffer, size_t size) {
-  return fails(WRITE) ? -1 : real_write(file, buffer, is_short && size > 1 ? 1 : size);
+  return fails(WRITE) ? -(error != 0) : real_write(file, buffer, is_short && size > 1 ? 1 : size);
 }
 
 int isatty(int file) {

@@ -15,7 +15,7 @@ use Rattle.lc.specs.Requests.{LoadsFile, Reply, checked, ran}
 pub loads_file : {F : Type 0} (may_give : F → ℕ → Answer → F → Type 0) (answer : Result (List ℕ) RulesFileFault) (file read : F)
     → ReadsRuleText may_give file answer read → LoadsFile may_give answer
 loads_file may_give (Ok bytes) file read reads = (file, read, reads)
-loads_file may_give (Err fault.Unread) file read reads = tt
+loads_file may_give (Err fault.Read) file read reads = tt
 loads_file may_give (Err fault.TooLong) file read reads = (file, read, reads)
 loads_file may_give (Err fault.Memory) file read reads = tt
 

@@ -35,7 +35,7 @@ HasNumber _ = ⊥
 
 -- a file that gave no rules
 abbrev pub rules_cause : RulesFileFault → Cause
-rules_cause rules.Unread = UnreadRules
+rules_cause rules.Read = UnreadRules
 rules_cause rules.TooLong = RulesTooLong
 rules_cause rules.Memory = Memory
 

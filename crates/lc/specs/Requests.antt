@@ -62,7 +62,7 @@ Loaded = Result (List ℕ) RulesFileFault → Type 0
 -- too long
 abbrev pub LoadsFile : {F : Type 0} → (F → ℕ → Answer → F → Type 0) → Loaded
 LoadsFile {F} may_give (Ok bytes) = (file read : F) × ReadsRuleText may_give file (Ok bytes) read
-LoadsFile may_give (Err fault.Unread) = Unit {0}
+LoadsFile may_give (Err fault.Read) = Unit {0}
 LoadsFile {F} may_give (Err fault.TooLong) = (file read : F) × ReadsRuleText may_give file (Err fault.TooLong) read
 LoadsFile may_give (Err fault.Memory) = Unit {0}
 

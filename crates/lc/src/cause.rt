@@ -76,7 +76,7 @@ impl From<RulesFileFault> for Cause {
 
     fn from(fault: RulesFileFault) -> Cause {
         match fault {
-            RulesFileFault::Unread => Cause::UnreadRules,
+            RulesFileFault::Read => Cause::UnreadRules,
             RulesFileFault::TooLong => Cause::RulesTooLong,
             RulesFileFault::Memory => Cause::Memory,
         }

@@ -10,8 +10,6 @@ mod cause;
 mod program;
 mod repository;
 mod rules_file;
-#[cfg(test)]
-mod tests;
 
 use cause::Cause;
 use lc_census::StdSource;

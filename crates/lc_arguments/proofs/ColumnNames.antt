@@ -15,7 +15,7 @@ left_over None = 0
 left_over (Some rest) = suc (length rest.now)
 
 -- columns with the names that are left name what all names do
-pub record GoesOn (c : Columns) (left all : List (List ℕ)) : Type 0 where
+pub record StillNames (c : Columns) (left all : List (List ℕ)) : Type 0 where
   pub ext : once_if c.ext + how_often (codes "ext") left ≡ how_often (codes "ext") all
   pub text : once_if c.text + how_often (codes "text") left ≡ how_often (codes "text") all
   pub eol : once_if c.eol + how_often (codes "eol") left ≡ how_often (codes "eol") all
@@ -85,8 +85,8 @@ others_fit (n ∷ ns) =
     )
 
 -- with `eol`, which they did not have
-pub joins_eol : (c : Columns) (left all : List (List ℕ)) → c.eol ≡ false → GoesOn c (codes "eol" ∷ left) all
-    → GoesOn (record { ext = c.ext; text = c.text; eol = true }) left all
+pub joins_eol : (c : Columns) (left all : List (List ℕ)) → c.eol ≡ false → StillNames c (codes "eol" ∷ left) all
+    → StillNames (record { ext = c.ext; text = c.text; eol = true }) left all
 joins_eol c left all unset g =
     let none : once_if c.eol ≡ 0 = ap once_if unset in
     record {
@@ -97,7 +97,7 @@ joins_eol c left all unset g =
     }
 
 -- a name that is none of theirs but that of a column which they have ends it
-pub refuses : (c d : Columns) (n : List ℕ) (left all : List (List ℕ)) → GoesOn c (n ∷ left) all
+pub refuses : (c d : Columns) (n : List ℕ) (left all : List (List ℕ)) → StillNames c (n ∷ left) all
     → (n ≡ codes "ext" → c.ext ≡ true) → (n ≡ codes "text" → c.text ≡ true) → (n ≡ codes "eol" → c.eol ≡ true)
     → AreNamesOf all d → ⊥
 refuses c d n left all g ext text eol are =

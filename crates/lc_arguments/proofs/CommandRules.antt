@@ -1,14 +1,14 @@
 -- Commands that are given arguments in turn, and what is read of a number among these.
-use Rattle.std.proofs.Common.{◌≡◌, ◌∙◌, ◌<◌, ℕ, zero, suc, Bool, true, false, not, ◌&&◌, ◌||◌, List, [], ◌∷◌, ◌++◌, length, map, get_or, refl}
+use Rattle.std.proofs.Common.{◌≡◌, ◌∙◌, ◌<◌, ℕ, zero, suc, Bool, true, false, not, ◌&&◌, ◌||◌, List, [], ◌∷◌, length, map, get_or, refl}
 use Rattle.std.proofs.Common.{sym, ap, ap₂, subst, arith}
 use Rattle.std.specs.Prelude.{pos, Some}
 use Rattle.std.specs.List.{All, list_any, slice_index_or}
 use Rattle.std.specs.Str.{bytes_eq}
-use Rattle.std.proofs.lemmas.List.{append-nil, append_assoc, get_or-map, length-map, map-append}
-use Rattle.std.proofs.lemmas.List.Elements.{All-append, All-cons, All-nil}
+use Rattle.std.proofs.lemmas.List.{get_or-map, length-map}
+use Rattle.std.proofs.lemmas.List.Elements.{All-cons, All-nil}
 use Rattle.std.proofs.lemmas.List.Folds.{list_any_at}
 use Rattle.std.proofs.lemmas.Slice.Eq.{bytes_eq-Decides}
-use Rattle.clap.specs.Built.{AddsInTurn, AddsArg, FitsChain, HasDistinctIds}
+use Rattle.clap.specs.Built.{AddsArg, AddsInTurn, AddsSubcommand, FitsChain, HasDistinctIds}
 use Rattle.clap.specs.Lexer.{without_minus}
 use Rattle.clap.specs.Matches.{found_of, one_text}
 use Rattle.clap.specs.Values.{IsSignedIn}
@@ -16,10 +16,10 @@ use Rattle.clap.specs.declared.builder.arg.Arg.{Arg}
 use Rattle.clap.specs.declared.builder.command.Command.{Command}
 use Rattle.clap.specs.declared.builder.command.Command.TheViews.{out-Command}
 use Rattle.clap.specs.declared.builder.value_parser.ValueParser.TheVariants.{Signed}
-use Rattle.clap.specs.Simple.{App, app_of, with_rule}
+use Rattle.clap.specs.Simple.{App, app_of, with_rule, with_subcommand}
 use Rattle.clap.specs.Walk.{Rule, rule_of}
-use Rattle.lc_arguments.specs.CommandLine.{app_with, bare_app, number_rule, with_rules}
-use Rattle.lc_arguments.specs.CountArgs.{HasRules, IsArgOf, IsBare, IsCommandOf}
+use Rattle.lc_arguments.specs.CommandLine.{app_with, bare_app, number_rule, with_rules, with_subcommands}
+use Rattle.lc_arguments.specs.CountArgs.{AreArgsOf, AreCommandsOf, IsBare, IsCommandOf}
 use Rattle.lc_arguments.specs.Words.{ReadsWithin}
 use Rattle.lc_arguments.proofs.ReadValues.{read_in_chain}
 
@@ -88,47 +88,50 @@ rules_in_turn old new (x ∷ xs) added fits a is =
     (step.shape fit.1 ∙ ap (λ (b : App). with_rule b (rule_of x)) is) in
     (rest.0, λ local. rest.1 (step.globals ∙ (ap (λ b. b || x.global) local ∙ ap (λ b. false || b) fit.1)))
 
--- a command that was given no argument
-pub none_given : (name : List ℕ) (bare : Command) → IsBare name bare → HasRules name [] bare
-none_given name bare is = record {
+fit_of : (rules : List Rule) (args : List Arg) → AreArgsOf rules args → All FitsChain args
+fit_of [] [] are = All-nil FitsChain
+fit_of (rule ∷ rules) (a ∷ args) are = All-cons FitsChain a args are.0.1 (fit_of rules args are.1)
+fit_of [] (a ∷ args) are = absurd are
+fit_of (rule ∷ rules) [] are = absurd are
+
+rules_are : (rules : List Rule) (args : List Arg) → AreArgsOf rules args → map rule_of args ≡ rules
+rules_are [] [] are = refl
+rules_are (rule ∷ rules) (a ∷ args) are = ap₂ (λ (r : Rule) (rs : List Rule). r ∷ rs) are.0.0 (rules_are rules args are.1)
+rules_are [] (a ∷ args) are = absurd are
+rules_are (rule ∷ rules) [] are = absurd are
+
+-- a command of this name that was given arguments with these rules in turn
+pub record HasRules (name : List ℕ) (rules : List Rule) (c : Command) : Type 0 where
+  pub bare : Command
+  pub is_bare : IsBare name bare
+  pub args : List Arg
+  pub added : AddsInTurn AddsArg bare args c
+  pub fits : All FitsChain args
+  pub are : map rule_of args ≡ rules
+
+pub given : (name : List ℕ) (rules : List Rule) (bare : Command) (args : List Arg) (c : Command) → IsBare name bare → AreArgsOf rules args
+    → AddsInTurn AddsArg bare args c → HasRules name rules c
+given name rules bare args c is are added = record {
   bare = bare;
   is_bare = is;
-  args = [];
-  added = refl;
-  fits = λ k d low. absurd (omega arith);
-  are = refl;
+  args = args;
+  added = added;
+  fits = fit_of rules args are;
+  are = rules_are rules args are;
 }
 
-adds_last : (old mid new : Command) (xs : List Arg) (x : Arg) → AddsInTurn AddsArg old xs mid → AddsArg mid x new
-    → AddsInTurn AddsArg old (xs ++ x ∷ []) new
-adds_last old mid new [] x same added = (new, subst (λ (c : Command). AddsArg c x new) (sym same) added, refl)
-adds_last old mid new (y ∷ ys) x before added = (before.0, before.1, adds_last before.0 mid new ys x before.2 added)
-
--- and one that is given one more
-pub one_more : (name : List ℕ) (rules : List Rule) (rule : Rule) (old new : Command) (arg : Arg) → HasRules name rules old
-    → IsArgOf rule arg → AddsArg old arg new → HasRules name (rules ++ rule ∷ []) new
-one_more name rules rule old new arg has is added = record {
-  bare = has.bare;
-  is_bare = has.is_bare;
-  args = has.args ++ arg ∷ [];
-  added = adds_last has.bare old new has.args arg has.added added;
-  fits = All-append FitsChain has.args (arg ∷ []) has.fits (All-cons FitsChain arg [] is.1 (All-nil FitsChain));
-  are = map-append rule_of has.args (arg ∷ []) ∙ ap₂ (λ (rs : List Rule) (r : Rule). rs ++ r ∷ []) has.are is.0;
-}
-
--- some rules and then others, one by one
-abbrev pub one_by_one : List Rule → List Rule → List Rule
-one_by_one rules [] = rules
-one_by_one rules (r ∷ more) = one_by_one (rules ++ r ∷ []) more
-
-joined : (rules more : List Rule) → one_by_one rules more ≡ rules ++ more
-joined rules [] = sym (append-nil rules)
-joined rules (r ∷ more) = joined (rules ++ r ∷ []) more ∙ append_assoc rules (r ∷ []) more
-
--- a command that was given others one by one was given them all
-pub all_given : (name : List ℕ) (rules more : List Rule) (c : Command) → HasRules name (one_by_one rules more) c
-    → HasRules name (rules ++ more) c
-all_given name rules more c has = subst (λ (rs : List Rule). HasRules name rs c) (joined rules more) has
+-- a command that is given subcommands in turn
+pub subcommands_in_turn : (apps : List App) (commands : List Command) → AreCommandsOf apps commands → (a : App) (old new : Command)
+    → IsCommandOf a old → AddsInTurn AddsSubcommand old commands new → IsCommandOf (with_subcommands a apps) new
+subcommands_in_turn [] [] are a old new is added = subst (IsCommandOf a) added is
+subcommands_in_turn (app ∷ apps) (c ∷ commands) are a old new is added =
+    let step = added.1 in
+    subcommands_in_turn apps commands are.1 (with_subcommand a app.top) added.0 new (
+      step.shape are.0.1 ∙ ap₂ with_subcommand is.0 (ap (λ (b : App). b.top) are.0.0),
+      step.globals ∙ ap₂ (λ (x y : Bool). x || y) is.1 are.0.1,
+    ) added.2
+subcommands_in_turn [] (c ∷ commands) are a old new is added = absurd are
+subcommands_in_turn (app ∷ apps) [] are a old new is added = absurd are
 
 -- clap sees it as the command with these rules
 pub seen_with : (name : List ℕ) (rules : List Rule) (c : Command) → HasRules name rules c → IsCommandOf (app_with name rules) c

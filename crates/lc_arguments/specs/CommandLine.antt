@@ -83,11 +83,13 @@ explain_app = app_with (codes "explain") explain_rules
 abbrev pub bare_lc_app : App
 bare_lc_app = on_top (λ (s : Shape). record s { no_binary_name = true; has_version = true; has_long_version = true }) (new_app (codes "lc"))
 
-abbrev pub counting_app : App
-counting_app = with_subcommand bare_lc_app count_app.top
+abbrev pub subcommand_apps : List App
+subcommand_apps = count_app ∷ check_app ∷ explain_app ∷ []
 
-abbrev pub checking_app : App
-checking_app = with_subcommand counting_app check_app.top
+-- each in turn
+abbrev pub with_subcommands : App → List App → App
+with_subcommands a [] = a
+with_subcommands a (s ∷ ss) = with_subcommands (with_subcommand a s.top) ss
 
 abbrev pub lc_app : App
-lc_app = with_subcommand checking_app explain_app.top
+lc_app = with_subcommands bare_lc_app subcommand_apps

@@ -1,8 +1,7 @@
 -- Arguments of a command, as they are made.
-use Rattle.std.specs.Prelude.{◌≡◌, ℕ, Bool, false, not, ◌||◌, List, [], map, codes}
-use Rattle.std.specs.List.{All}
+use Rattle.std.specs.Prelude.{◌≡◌, ℕ, Bool, false, not, ◌||◌, List, [], ◌∷◌, codes}
 use Rattle.std.specs.Str.{bytes_eq}
-use Rattle.clap.specs.Built.{AddsArg, AddsInTurn, FitsChain}
+use Rattle.clap.specs.Built.{FitsChain}
 use Rattle.clap.specs.Facts.{args_of, groups_of}
 use Rattle.clap.specs.Simple.{App, app_of}
 use Rattle.clap.specs.Walk.{Rule, rule_of}
@@ -20,22 +19,27 @@ is_own_name id = not (bytes_eq id [] || bytes_eq id (codes "help") || bytes_eq i
 abbrev pub IsArgOf : Rule → Arg → Type 0
 IsArgOf rule a = (rule_of a ≡ rule) × FitsChain a
 
+-- arguments that clap sees so, one by one
+abbrev pub AreArgsOf : List Rule → List Arg → Type 0
+AreArgsOf [] [] = Unit {0}
+AreArgsOf (rule ∷ rules) (a ∷ args) = IsArgOf rule a × AreArgsOf rules args
+AreArgsOf [] (a ∷ args) = ⊥
+AreArgsOf (rule ∷ rules) [] = ⊥
+
 -- a command that clap sees so, and none of whose arguments its subcommands take
 abbrev pub IsCommandOf : App → Command → Type 0
 IsCommandOf app c = (app_of c ≡ app) × ((out-Command c).has_globals ≡ false)
 
+-- commands that clap sees so, one by one
+abbrev pub AreCommandsOf : List App → List Command → Type 0
+AreCommandsOf [] [] = Unit {0}
+AreCommandsOf (app ∷ apps) (c ∷ commands) = IsCommandOf app c × AreCommandsOf apps commands
+AreCommandsOf [] (c ∷ commands) = ⊥
+AreCommandsOf (app ∷ apps) [] = ⊥
+
 -- a command that has no argument yet
 abbrev pub IsBare : List ℕ → Command → Type 0
 IsBare name c = IsCommandOf (bare_app name) c × (args_of c ≡ []) × (groups_of c ≡ [])
-
--- a command of this name that was given arguments with these rules in turn
-pub record HasRules (name : List ℕ) (rules : List Rule) (c : Command) : Type 0 where
-  pub bare : Command
-  pub is_bare : IsBare name bare
-  pub args : List Arg
-  pub added : AddsInTurn AddsArg bare args c
-  pub fits : All FitsChain args
-  pub are : map rule_of args ≡ rules
 
 abbrev pub IsCountCommand : Command → Type 0
 IsCountCommand c = IsCommandOf count_app c × ReadsCountWithinLimits c

@@ -1,9 +1,8 @@
-//! Arguments that several commands have, and commands with them.
+//! Each form of an argument, and a command without any.
 
-ghost use Rattle.std.specs.Prelude.{◌≡◌, ℕ, ◌++◌, List, [], ◌∷◌, true, codes, IfOk};
-ghost use Rattle.clap.specs.Walk.{Rule};
+ghost use Rattle.std.specs.Prelude.{◌≡◌, true, IfOk};
 ghost use Rattle.lc_arguments.specs.CommandLine.{flag_rule, number_rule, text_rule, texts_rule, word_rule};
-ghost use Rattle.lc_arguments.specs.CountArgs.{is_own_name, IsArgOf, IsBare, HasRules};
+ghost use Rattle.lc_arguments.specs.CountArgs.{is_own_name, IsArgOf, IsBare};
 
 use clap::builder::ValueParser;
 use clap::{Arg, ArgAction, Command};
@@ -96,21 +95,10 @@ pub(crate) fn bare<'a>(
 ) -> Result<Command<'a>, AllocError>
     ensures { IfOk result (IsBare name.entry.now) }
 {
-    Ok(
-        Command::new(alloc, name)
-            .about(about)
-            .after_help(after)
-            .after_long_help(after_long)
-            .no_binary_name(true)
-            .bin_name(full_name)?,
-    )
-}
-
-/// A command with one argument more.
-pub(crate) fn with_arg<'a>(command: Command<'a>, arg: Arg<'a>) -> Result<Command<'a>, AllocError>
-    ensures { (name : List ℕ) (rules : List Rule) (rule : Rule) → HasRules name rules command.entry → IsArgOf rule arg.entry
-        → IfOk result (HasRules name (rules ++ rule ∷ [])) }
-{
-    let command = command.arg(arg)?;
-    Ok(command)
+    Command::new(alloc, name)
+        .about(about)
+        .after_help(after)
+        .after_long_help(after_long)
+        .no_binary_name(true)
+        .bin_name(full_name)
 }

@@ -1,14 +1,14 @@
 //! The words of `lc check`.
 
 ghost use Rattle.std.specs.Prelude.{IfOk, map};
-ghost use Rattle.lc_arguments.specs.CommandLine.{check_app};
-ghost use Rattle.lc_arguments.specs.CountArgs.{IsCommandOf};
+ghost use Rattle.lc_arguments.specs.CommandLine.{check_app, check_rules};
+ghost use Rattle.lc_arguments.specs.CountArgs.{AreArgsOf, IsCommandOf};
 ghost use Rattle.lc_arguments.specs.Explained.{AnswersCheckWords};
 
-use crate::arguments::{bare, flag, with_arg, word};
+use crate::arguments::{bare, flag, word};
 use crate::help;
 use crate::request::{NoRequest, explained};
-use clap::Command;
+use clap::{Arg, Command};
 use std::alloc::{AllocError, Global};
 use std::convert::AsStr;
 
@@ -21,10 +21,24 @@ pub struct CheckRequest<'w> {
     pub file: &'w str,
 }
 
+fn args<'a>(alloc: Global) -> [Arg<'a>; 2]
+    ensures { AreArgsOf check_rules result }
+{
+    [
+        flag(
+            alloc,
+            "explain",
+            "Also the line of FILE that decides, and its pattern",
+        ),
+        word(alloc, "FILE", "An ignore file"),
+    ]
+}
+
 /// The command, without its name among the words.
 pub(crate) fn command<'a>(alloc: Global) -> Result<Command<'a>, AllocError>
     ensures { IfOk result (IsCommandOf check_app) }
 {
+    let args = Vec::from_array(alloc, args(alloc))?;
     let command = bare(
         alloc,
         "check",
@@ -33,16 +47,7 @@ pub(crate) fn command<'a>(alloc: Global) -> Result<Command<'a>, AllocError>
         help::AFTER_CHECK,
         help::AFTER_CHECK_LONG,
     )?;
-    let command = with_arg(
-        command,
-        flag(
-            alloc,
-            "explain",
-            "Also the line of FILE that decides, and its pattern",
-        ),
-    )?;
-    let command = with_arg(command, word(alloc, "FILE", "An ignore file"))?;
-    Ok(command)
+    command.args(args)
 }
 
 impl<'w> CheckRequest<'w> {

@@ -1,18 +1,17 @@
 //! The words of `lc count`.
 
-ghost use Rattle.std.specs.Prelude.{ℕ, ◌++◌, List, map, IfOk};
-ghost use Rattle.clap.specs.Walk.{Rule};
-ghost use Rattle.lc_arguments.specs.CommandLine.{limit_rules, table_rules};
-ghost use Rattle.lc_arguments.specs.CountArgs.{IsCountCommand, HasRules};
+ghost use Rattle.std.specs.Prelude.{[], ◌∷◌, map, IfOk};
+ghost use Rattle.lc_arguments.specs.CommandLine.{count_rules, limit_rules, table_rules};
+ghost use Rattle.lc_arguments.specs.CountArgs.{AreArgsOf, IsCountCommand};
 ghost use Rattle.lc_arguments.specs.Explained.{AnswersCountWords};
 
-use crate::arguments::{bare, flag, number_option, text_option, with_arg, word};
-use crate::exclusions::{Exclusions, with_exclusions};
+use crate::arguments::{bare, flag, number_option, text_option, word};
+use crate::exclusions::{Exclusions, exclusion_options};
 use crate::help;
 use crate::paths::{only, paths_in};
 use crate::request::{NoRequest, explained};
 use crate::shape::shape_in;
-use clap::Command;
+use clap::{Arg, Command};
 use lc_text::Shape;
 use std::alloc::{AllocError, Global};
 use std::convert::AsStr;
@@ -38,57 +37,43 @@ pub struct CountRequest<'w> {
     pub directory: &'w str,
 }
 
-/// The command with the options that say what the table has and looks like.
-fn with_table<'a>(alloc: Global, command: Command<'a>) -> Result<Command<'a>, AllocError>
-    ensures { (name : List ℕ) (rules : List Rule) → HasRules name rules command.entry
-        → IfOk result (HasRules name (rules ++ table_rules)) }
+/// What the table has and looks like.
+fn table_options<'a>(alloc: Global) -> (Arg<'a>, Arg<'a>, Arg<'a>, Arg<'a>, Arg<'a>)
+    ensures { AreArgsOf table_rules (result.0 ∷ result.1 ∷ result.2 ∷ result.3 ∷ result.4 ∷ []) }
 {
-    let command = with_arg(command, flag(alloc, "files", "Also a line for each file"))?;
-    let command = with_arg(
-        command,
+    (
+        flag(alloc, "files", "Also a line for each file"),
         flag(
             alloc,
             "left-out",
             "Also the number of entries, and a line for each that is left out, with why",
         ),
-    )?;
-    let command = with_arg(
-        command,
         text_option(
             alloc,
             "format",
             "FORMAT",
             "tsv (tabs between fields, the default), table (for the eye) or json",
         ),
-    )?;
-    let command = with_arg(
-        command,
         text_option(
             alloc,
             "by",
             "COLUMNS",
             "Sums rows by some of ext,text,eol alone, as --by ext",
         ),
-    )?;
-    let command = with_arg(
-        command,
         text_option(
             alloc,
             "sort",
             "COLUMN",
             "The largest files, lines, blank or bytes first",
         ),
-    )?;
-    Ok(command)
+    )
 }
 
-/// The command with the options that bound a count.
-fn with_limits<'a>(alloc: Global, command: Command<'a>) -> Result<Command<'a>, AllocError>
-    ensures { (name : List ℕ) (rules : List Rule) → HasRules name rules command.entry
-        → IfOk result (HasRules name (rules ++ limit_rules)) }
+/// The bounds of a count.
+fn limits<'a>(alloc: Global) -> (Arg<'a>, Arg<'a>)
+    ensures { AreArgsOf limit_rules (result.0 ∷ result.1 ∷ []) }
 {
-    let command = with_arg(
-        command,
+    (
         number_option(
             alloc,
             "threads",
@@ -96,9 +81,6 @@ fn with_limits<'a>(alloc: Global, command: Command<'a>) -> Result<Command<'a>, A
             "4",
             "Workers that count at the same time, 1 to 16",
         ),
-    )?;
-    let command = with_arg(
-        command,
         number_option(
             alloc,
             "max-dirs",
@@ -106,14 +88,36 @@ fn with_limits<'a>(alloc: Global, command: Command<'a>) -> Result<Command<'a>, A
             "65536",
             "The most directories, DIR included, 1 to 1048576",
         ),
-    )?;
-    Ok(command)
+    )
+}
+
+fn args<'a>(alloc: Global) -> [Arg<'a>; 12]
+    ensures { AreArgsOf count_rules result }
+{
+    let (exclude_from, archive, without) = exclusion_options(alloc);
+    let (files, left_out, format, by, sort) = table_options(alloc);
+    let (threads, max_dirs) = limits(alloc);
+    [
+        exclude_from,
+        archive,
+        without,
+        only(alloc),
+        files,
+        left_out,
+        format,
+        by,
+        sort,
+        threads,
+        max_dirs,
+        word(alloc, "DIR", "The directory to count"),
+    ]
 }
 
 /// The command, without its name among the words.
 pub(crate) fn command<'a>(alloc: Global) -> Result<Command<'a>, AllocError>
     ensures { IfOk result IsCountCommand }
 {
+    let args = Vec::from_array(alloc, args(alloc))?;
     let command = bare(
         alloc,
         "count",
@@ -122,12 +126,7 @@ pub(crate) fn command<'a>(alloc: Global) -> Result<Command<'a>, AllocError>
         help::AFTER_COUNT,
         help::AFTER_COUNT_LONG,
     )?;
-    let command = with_exclusions(alloc, command)?;
-    let command = with_arg(command, only(alloc))?;
-    let command = with_table(alloc, command)?;
-    let command = with_limits(alloc, command)?;
-    let command = with_arg(command, word(alloc, "DIR", "The directory to count"))?;
-    Ok(command)
+    command.args(args)
 }
 
 impl<'w> CountRequest<'w> {

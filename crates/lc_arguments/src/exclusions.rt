@@ -1,15 +1,15 @@
 //! What leaves entries out beside the rules of a directory, as the words say it.
 
-ghost use Rattle.std.specs.Prelude.{◌≡◌, ℕ, ◌++◌, List, map, codes, IfOk};
+ghost use Rattle.std.specs.Prelude.{◌≡◌, [], ◌∷◌, map, codes};
 ghost use Rattle.clap.specs.Matches.{found_of};
-ghost use Rattle.clap.specs.Walk.{Rule, rows_of};
+ghost use Rattle.clap.specs.Walk.{rows_of};
 ghost use Rattle.lc_arguments.specs.CommandLine.{exclusion_rules};
-ghost use Rattle.lc_arguments.specs.CountArgs.{HasRules};
+ghost use Rattle.lc_arguments.specs.CountArgs.{AreArgsOf};
 ghost use Rattle.lc_arguments.specs.Explained.{AnswersExclusions, AnswersNames, IsRefusal};
 
-use crate::arguments::{flag, text_option, texts_option, with_arg};
+use crate::arguments::{flag, text_option, texts_option};
 use crate::request::{NoRequest, refused};
-use clap::{ArgMatches, Command};
+use clap::{Arg, ArgMatches};
 use lc_rules::is_attribute_name;
 use std::alloc::{AllocError, Global};
 
@@ -24,41 +24,29 @@ pub struct Exclusions<'w> {
     pub without: Vec<&'w str>,
 }
 
-/// A command with the options of exclusions.
-pub(crate) fn with_exclusions<'a>(
-    alloc: Global,
-    command: Command<'a>,
-) -> Result<Command<'a>, AllocError>
-    ensures { (name : List ℕ) (rules : List Rule) → HasRules name rules command.entry
-        → IfOk result (HasRules name (rules ++ exclusion_rules)) }
+/// The options of exclusions.
+pub(crate) fn exclusion_options<'a>(alloc: Global) -> (Arg<'a>, Arg<'a>, Arg<'a>)
+    ensures { AreArgsOf exclusion_rules (result.0 ∷ result.1 ∷ result.2 ∷ []) }
 {
-    let command = with_arg(
-        command,
+    (
         text_option(
             alloc,
             "exclude-from",
             "FILE",
             "An ignore file for all of DIR, which each .gitignore overrides",
         ),
-    )?;
-    let command = with_arg(
-        command,
         flag(
             alloc,
             "archive",
             "Leaves out what has the attribute export-ignore, as git archive does",
         ),
-    )?;
-    let command = with_arg(
-        command,
         texts_option(
             alloc,
             "without",
             "ATTR",
             "Leaves out what has the attribute ATTR, as linguist-vendored; may be repeated",
         ),
-    )?;
-    Ok(command)
+    )
 }
 
 /// Why the words are refused that name what is no attribute's name.

@@ -1,12 +1,12 @@
 //! The words of `lc explain`.
 
 ghost use Rattle.std.specs.Prelude.{◌≡◌, IfOk, map, codes};
-ghost use Rattle.lc_arguments.specs.CommandLine.{explain_app, words_rule};
-ghost use Rattle.lc_arguments.specs.CountArgs.{IsArgOf, IsCommandOf};
+ghost use Rattle.lc_arguments.specs.CommandLine.{explain_app, explain_rules, words_rule};
+ghost use Rattle.lc_arguments.specs.CountArgs.{AreArgsOf, IsArgOf, IsCommandOf};
 ghost use Rattle.lc_arguments.specs.Explained.{AnswersExplainWords};
 
-use crate::arguments::{bare, with_arg, word};
-use crate::exclusions::{Exclusions, with_exclusions};
+use crate::arguments::{bare, word};
+use crate::exclusions::{Exclusions, exclusion_options};
 use crate::help;
 use crate::request::{NoRequest, explained};
 use clap::{Arg, ArgAction, Command};
@@ -32,10 +32,24 @@ fn paths<'a>(alloc: Global) -> Arg<'a>
     )
 }
 
+fn args<'a>(alloc: Global) -> [Arg<'a>; 5]
+    ensures { AreArgsOf explain_rules result }
+{
+    let (exclude_from, archive, without) = exclusion_options(alloc);
+    [
+        exclude_from,
+        archive,
+        without,
+        word(alloc, "DIR", "The directory whose rules are asked"),
+        paths(alloc),
+    ]
+}
+
 /// The command, without its name among the words.
 pub(crate) fn command<'a>(alloc: Global) -> Result<Command<'a>, AllocError>
     ensures { IfOk result (IsCommandOf explain_app) }
 {
+    let args = Vec::from_array(alloc, args(alloc))?;
     let command = bare(
         alloc,
         "explain",
@@ -44,13 +58,7 @@ pub(crate) fn command<'a>(alloc: Global) -> Result<Command<'a>, AllocError>
         help::AFTER_EXPLAIN,
         help::AFTER_EXPLAIN_LONG,
     )?;
-    let command = with_exclusions(alloc, command)?;
-    let command = with_arg(
-        command,
-        word(alloc, "DIR", "The directory whose rules are asked"),
-    )?;
-    let command = with_arg(command, paths(alloc))?;
-    Ok(command)
+    command.args(args)
 }
 
 impl<'w> ExplainRequest<'w> {

@@ -1,8 +1,8 @@
 //! What the words after the program's name ask for.
 
 ghost use Rattle.std.specs.Prelude.{◌≡◌, IfOk, map};
-ghost use Rattle.lc_arguments.specs.CommandLine.{bare_lc_app, counting_app, checking_app, lc_app};
-ghost use Rattle.lc_arguments.specs.CountArgs.{IsCommandOf};
+ghost use Rattle.lc_arguments.specs.CommandLine.{bare_lc_app, lc_app, subcommand_apps};
+ghost use Rattle.lc_arguments.specs.CountArgs.{AreCommandsOf, IsCommandOf};
 ghost use Rattle.lc_arguments.specs.Explained.{Explains, IsRefusal, AnswersOthers};
 ghost use Rattle.lc_arguments.specs.Words.{AnswersWords};
 
@@ -57,29 +57,22 @@ fn bare<'a>(alloc: Global) -> Result<Command<'a>, AllocError>
     )
 }
 
-fn with_count<'a>(alloc: Global) -> Result<Command<'a>, AllocError>
-    ensures { IfOk result (IsCommandOf counting_app) }
+fn subcommands<'a>(alloc: Global) -> Result<Vec<Command<'a>>, AllocError>
+    ensures { IfOk result (λ commands. AreCommandsOf subcommand_apps commands.items) }
 {
     let count = count::command(alloc)?;
-    let command = bare(alloc)?.subcommand(count)?;
-    Ok(command)
-}
-
-fn with_check<'a>(alloc: Global) -> Result<Command<'a>, AllocError>
-    ensures { IfOk result (IsCommandOf checking_app) }
-{
     let check = check::command(alloc)?;
-    let command = with_count(alloc)?.subcommand(check)?;
-    Ok(command)
+    let explain = explain::command(alloc)?;
+    Ok(vec![in alloc; count, check, explain]?)
 }
 
 /// The command line without the program's name, for what belongs to no command: help, the version, refusals.
 fn command<'a>(alloc: Global) -> Result<Command<'a>, AllocError>
     ensures { IfOk result (IsCommandOf lc_app) }
 {
-    let explain = explain::command(alloc)?;
-    let command = with_check(alloc)?.subcommand(explain)?;
-    Ok(command)
+    let subcommands = subcommands(alloc)?;
+    let command = bare(alloc)?;
+    command.subcommands(subcommands)
 }
 
 /// What an error of `clap` says, with an example of the command with its operand where an argument is missing or a word is

@@ -8,7 +8,7 @@ use Rattle.lc_board.specs.LegalHistory.{posts_under, IsIdle, IsOver, IsAllowed, 
 use Rattle.lc_board.specs.Part.{worker_of}
 use Rattle.lc_board.specs.ClosedBoard.{Shows, IsUnended}
 use Rattle.lc_board.specs.RowsInPlace.{job_posted, job_got, row_given, InPlace}
-use Rattle.lc_board.specs.PlainBoard.{Board, cell_at, Fits, IsAfter, first_board}
+use Rattle.lc_board.specs.PlainBoard.{Board, cell_at, IsCellOf, IsAfter, first_board}
 use Rattle.lc_board.specs.PlainCalls.{IsOpen, IsHeld, IsLeft, NoneOpen, NoneHeld, cell_of}
 use Rattle.lc_board.specs.declared.event.Event.{Event}
 use Rattle.lc_board.specs.declared.event.Event.TheVariants.{Post, Claim, Return, Fault, Over}
@@ -36,15 +36,15 @@ module _ {J R : Type 0} where
     pub jobs : job_posted root g k ≡ job_posted root h k
 
   -- a cell fits another history that says the same of its number
-  pub fits_same : (root : J) (h g : List (Event J R)) (k : ℕ) → Agree root h g k → (o : Option (Cell J R)) → Fits root h k o
-      → Fits root g k o
+  pub fits_same : (root : J) (h g : List (Event J R)) (k : ℕ) → Agree root h g k → (o : Option (Cell J R)) → IsCellOf root h k o
+      → IsCellOf root g k o
   fits_same root h g k a None f = (a.states ∙ f.0, a.posts ∙ f.1, a.given ∙ f.2)
   fits_same root h g k a (Some (Waiting j)) f = (a.states ∙ f.0, a.posts ∙ f.1, a.given ∙ f.2, a.jobs ∙ f.3)
   fits_same root h g k a (Some (Held w n)) f = (a.states ∙ f.0, ap length a.posts ∙ f.1, a.given ∙ f.2, a.got ∙ (f.3 ∙ sym a.jobs))
   fits_same root h g k a (Some (Done e)) f = (a.states ∙ f.0, a.given ∙ f.1, a.got ∙ (f.2 ∙ sym a.jobs))
 
   -- what the status of a number says of its cell
-  pub claimed_cell : (root : J) (h : List (Event J R)) (k w : ℕ) (o : Option (Cell J R)) → Fits root h k o → status h k ≡ Claimed w
+  pub claimed_cell : (root : J) (h : List (Event J R)) (k w : ℕ) (o : Option (Cell J R)) → IsCellOf root h k o → status h k ≡ Claimed w
       → (n : ℕ) × (o ≡ Some (Held w n))
   claimed_cell root h k w None f s = let e : Absent ≡ Claimed w = sym f.0 ∙ s in absurd (cc e)
   claimed_cell root h k w (Some (Waiting j)) f s = let e : Open ≡ Claimed w = sym f.0 ∙ s in absurd (cc e)
@@ -54,7 +54,7 @@ module _ {J R : Type 0} where
   claimed_cell root h k w (Some (Done (ended.Faulted r))) f s = let e : Faulted ≡ Claimed w = sym f.0 ∙ s in absurd (cc e)
 
   -- the cell of an open number waits
-  pub open_cell : (root : J) (h : List (Event J R)) (k : ℕ) (o : Option (Cell J R)) → Fits root h k o → status h k ≡ Open → IsOpen o
+  pub open_cell : (root : J) (h : List (Event J R)) (k : ℕ) (o : Option (Cell J R)) → IsCellOf root h k o → status h k ≡ Open → IsOpen o
   open_cell root h k None f s = let e : Absent ≡ Open = sym f.0 ∙ s in absurd (cc e)
   open_cell root h k (Some (Waiting j)) f s = tt
   open_cell root h k (Some (Held v n)) f s = let e : Claimed v ≡ Open = sym f.0 ∙ s in absurd (cc e)
@@ -68,7 +68,7 @@ module _ {J R : Type 0} where
   -- one event more
   pub after_step : (root : J) (h : List (Event J R)) (e : Event J R) (old new : Board J R) → IsAfter root h old
       → new.capacity ≡ old.capacity → length new.held ≡ length old.held
-      → worker_of e < length old.held → IsAllowed old.capacity h e → ((k : ℕ) → Fits root (e ∷ h) k (cell_at new k))
+      → worker_of e < length old.held → IsAllowed old.capacity h e → ((k : ℕ) → IsCellOf root (e ∷ h) k (cell_at new k))
       → IsAfter root (e ∷ h) new
   after_step root h e old new a same count low may fits = record {
     legal =
@@ -89,10 +89,10 @@ module _ {J R : Type 0} where
       → new.cells ≡ slice_set old.cells i (Held w 0)
       → IsAfter root (Claim w i j ∷ h) new
   after_claim root h old new w i j a same count low free near here cells =
-      let was = subst (Fits root h i) here (a.fits i) in
+      let was = subst (IsCellOf root h i) here (a.fits i) in
       after_step root h (Claim w i j) old new a same count low (was.0, idle_after root h old w a free)
-      (λ k. subst (λ (cs : List (Cell J R)). Fits root (Claim w i j ∷ h) k (slice_get cs k)) (sym cells)
-      (each_set (Fits root (Claim w i j ∷ h)) old.cells i (Held w 0) near
+      (λ k. subst (λ (cs : List (Cell J R)). IsCellOf root (Claim w i j ∷ h) k (slice_get cs k)) (sym cells)
+      (each_set (IsCellOf root (Claim w i j ∷ h)) old.cells i (Held w 0) near
       (at_same i i _ _ refl, ap length was.1, was.2, at_same i i _ _ refl ∙ sym was.3)
       (λ m n. fits_same root h (Claim w i j ∷ h) m (record {
         states = at_other m i _ _ n;
@@ -128,25 +128,25 @@ module _ {J R : Type 0} where
       let g = Post w p i j ∷ h in
       let ds = slice_set old.cells p (Held w (n + 1)) in
       let len : length ds ≡ i = simp length-set in
-      let was = subst (Fits root h p) here (a.fits p) in
-      let new_at = subst (Fits root h i) (slice_get_past old.cells i (omega arith)) (a.fits i) in
+      let was = subst (IsCellOf root h p) here (a.fits p) in
+      let new_at = subst (IsCellOf root h i) (slice_get_past old.cells i (omega arith)) (a.fits i) in
       let apart : i ≢ p = λ e. absurd (omega (arith, near, e)) in
       let back : p ≢ i = λ e. absurd (omega (arith, near, e)) in
       let longer : length (posts_under p h ++ (i, j) ∷ []) ≡ n + 1 = omega (arith, length-append (posts_under p h) ((i, j) ∷ []), was.1) in
-      let at_i : Fits root g i (Some (Waiting j)) = (
+      let at_i : IsCellOf root g i (Some (Waiting j)) = (
         at_same i i _ _ refl,
         at_other i p _ _ apart ∙ new_at.1,
         new_at.2,
         at_same i i _ _ refl,
       ) in
-      let at_p : Fits root g p (Some (Held w (n + 1))) = (
+      let at_p : IsCellOf root g p (Some (Held w (n + 1))) = (
         at_other p i _ _ back ∙ was.0,
         ap length (at_same p p (posts_under p h ++ (i, j) ∷ []) (posts_under p h) refl) ∙ longer,
         was.2,
         was.3 ∙ sym (at_other p i _ _ back),
       ) in
-      let rest : (m : ℕ) → m ≢ i → Fits root g m (slice_get ds m) =
-      λ m off. each_set (λ q o. q ≢ i → Fits root g q o) old.cells p (Held w (n + 1)) near (λ _. at_p)
+      let rest : (m : ℕ) → m ≢ i → IsCellOf root g m (slice_get ds m) =
+      λ m off. each_set (λ q o. q ≢ i → IsCellOf root g q o) old.cells p (Held w (n + 1)) near (λ _. at_p)
       (λ q other away. fits_same root h g q (record {
         states = at_other q i _ _ away;
         posts = at_other q p _ _ other;
@@ -155,9 +155,9 @@ module _ {J R : Type 0} where
         jobs = at_other q i _ _ away;
       }) (slice_get old.cells q) (a.fits q)) m off in
       after_step root h (Post w p i j) old new a same count low (was.0, new_at.0, room, near)
-      (λ k. subst (λ (cs : List (Cell J R)). Fits root g k (slice_get cs k)) (sym cells)
-      (each_push (Fits root g) ds (Waiting j)
-      (subst (λ m. Fits root g m (Some (Waiting j))) (sym len) at_i)
+      (λ k. subst (λ (cs : List (Cell J R)). IsCellOf root g k (slice_get cs k)) (sym cells)
+      (each_push (IsCellOf root g) ds (Waiting j)
+      (subst (λ m. IsCellOf root g m (Some (Waiting j))) (sym len) at_i)
       (λ m off. rest m (λ e. off (e ∙ sym len))) k))
 
   -- a return
@@ -167,10 +167,10 @@ module _ {J R : Type 0} where
       → new.cells ≡ slice_set old.cells i (Done (ended.Returned r))
       → IsAfter root (Return w i r ∷ h) new
   after_return root h old new w i n r a same count low near here cells =
-      let was = subst (Fits root h i) here (a.fits i) in
+      let was = subst (IsCellOf root h i) here (a.fits i) in
       after_step root h (Return w i r) old new a same count low was.0
-      (λ k. subst (λ (cs : List (Cell J R)). Fits root (Return w i r ∷ h) k (slice_get cs k)) (sym cells)
-      (each_set (Fits root (Return w i r ∷ h)) old.cells i (Done (ended.Returned r)) near
+      (λ k. subst (λ (cs : List (Cell J R)). IsCellOf root (Return w i r ∷ h) k (slice_get cs k)) (sym cells)
+      (each_set (IsCellOf root (Return w i r ∷ h)) old.cells i (Done (ended.Returned r)) near
       (at_same i i _ _ refl, at_same i i _ _ refl, was.3)
       (λ m off. fits_same root h (Return w i r ∷ h) m
       (record { states = at_other m i _ _ off; posts = refl; given = at_other m i _ _ off; got = refl; jobs = refl })
@@ -183,18 +183,18 @@ module _ {J R : Type 0} where
       → new.cells ≡ slice_set old.cells i (Done (ended.Faulted r))
       → IsAfter root (Fault w i r ∷ h) new
   after_fault root h old new w i r a same count low near here cells =
-      let was = subst (Fits root h i) here (a.fits i) in
+      let was = subst (IsCellOf root h i) here (a.fits i) in
       after_step root h (Fault w i r) old new a same count low (was.0, no_posts (posts_under i h) was.1)
-      (λ k. subst (λ (cs : List (Cell J R)). Fits root (Fault w i r ∷ h) k (slice_get cs k)) (sym cells)
-      (each_set (Fits root (Fault w i r ∷ h)) old.cells i (Done (ended.Faulted r)) near
+      (λ k. subst (λ (cs : List (Cell J R)). IsCellOf root (Fault w i r ∷ h) k (slice_get cs k)) (sym cells)
+      (each_set (IsCellOf root (Fault w i r ∷ h)) old.cells i (Done (ended.Faulted r)) near
       (at_same i i _ _ refl, at_same i i _ _ refl, was.3)
       (λ m off. fits_same root h (Fault w i r ∷ h) m
       (record { states = at_other m i _ _ off; posts = refl; given = at_other m i _ _ off; got = refl; jobs = refl })
       (slice_get old.cells m) (a.fits m)) k))
 
-  first_fits : (root : J) (k : ℕ) (o : Option (Cell J R)) → slice_get (Waiting root ∷ []) k ≡ o → Fits root [] k o
-  first_fits root zero o e = subst (Fits root [] 0) e (refl, refl, refl, refl)
-  first_fits root (suc k) o e = subst (Fits root [] (suc k)) e (at_other (suc k) 0 _ _ (λ x. absurd (omega (arith, x))), refl, refl)
+  first_fits : (root : J) (k : ℕ) (o : Option (Cell J R)) → slice_get (Waiting root ∷ []) k ≡ o → IsCellOf root [] k o
+  first_fits root zero o e = subst (IsCellOf root [] 0) e (refl, refl, refl, refl)
+  first_fits root (suc k) o e = subst (IsCellOf root [] (suc k)) e (at_other (suc k) 0 _ _ (λ x. absurd (omega (arith, x))), refl, refl)
 
   -- the first board stands for the empty history
   pub after_first : (capacity count : ℕ) (root : J) → IsAfter {R = R} root [] (first_board capacity count root)
@@ -207,7 +207,7 @@ module _ {J R : Type 0} where
     pub handed : (e : Ended R) → o ≡ Some e → job_got h k ≡ job_posted root h k
     pub shown : Shows (status h k) o
 
-  ends : (root : J) (h : List (Event J R)) (k : ℕ) (o : Option (Ended R)) → Fits {R = R} root h k (option_map cell_of o) → Ends root h k o
+  ends : (root : J) (h : List (Event J R)) (k : ℕ) (o : Option (Ended R)) → IsCellOf {R = R} root h k (option_map cell_of o) → Ends root h k o
   ends root h k None f = record {
     over = over_by _ Absent f.0 (λ e. absurd (cc e)) (λ w e. absurd (cc e));
     given = sym f.2;
@@ -230,14 +230,14 @@ module _ {J R : Type 0} where
   ends_at : (root : J) (h : List (Event J R)) (b : Board J R) (rows : List (Ended R)) → IsAfter root h b → map cell_of rows ≡ b.cells
       → (k : ℕ) → Ends root h k (slice_get rows k)
   ends_at root h b rows a is k = ends root h k (slice_get rows k)
-      (subst (Fits root h k) (ap (λ (cs : List (Cell J R)). slice_get cs k) (sym is) ∙ slice_get-map cell_of rows k) (a.fits k))
+      (subst (IsCellOf root h k) (ap (λ (cs : List (Cell J R)). slice_get cs k) (sym is) ∙ slice_get-map cell_of rows k) (a.fits k))
 
   -- the rows of a closed board are those of the numbers' ends
   pub rows_shown : (root : J) (h : List (Event J R)) (b : Board J R) (rows : List (Ended R)) → IsAfter root h b
       → map cell_of rows ≡ b.cells → (k : ℕ) → Shows (status h k) (slice_get rows k)
   rows_shown root h b rows a is k = (ends_at root h b rows a is k).shown
 
-  left_by : (root : J) (h : List (Event J R)) (k : ℕ) (o : Option (Cell J R)) → Fits root h k o → IsLeft o → IsUnended (status h k)
+  left_by : (root : J) (h : List (Event J R)) (k : ℕ) (o : Option (Cell J R)) → IsCellOf root h k o → IsLeft o → IsUnended (status h k)
   left_by root h k None f x = absurd x
   left_by root h k (Some (Waiting j)) f x = subst IsUnended (sym f.0) tt
   left_by root h k (Some (Held w n)) f x = subst IsUnended (sym f.0) tt
@@ -248,7 +248,7 @@ module _ {J R : Type 0} where
       → IsUnended (status h k)
   left_status root h b k a x = left_by root h k (cell_at b k) (a.fits k) x
 
-  gone_by : (root : J) (h : List (Event J R)) (k : ℕ) (o : Option (Cell J R)) → Fits root h k o → ¬ IsLeft o → ¬ IsUnended (status h k)
+  gone_by : (root : J) (h : List (Event J R)) (k : ℕ) (o : Option (Cell J R)) → IsCellOf root h k o → ¬ IsLeft o → ¬ IsUnended (status h k)
   gone_by root h k None f n x = subst IsUnended f.0 x
   gone_by root h k (Some (Waiting j)) f n x = n tt
   gone_by root h k (Some (Held w m)) f n x = n tt
@@ -271,7 +271,7 @@ module _ {J R : Type 0} where
       → (status h k ≡ Absent) ↔ (length cs ≤ k)
   present h k cs c e there = (λ s. absurd (there s), λ past. absurd (omega (arith, slice_get_within cs k c e, past)))
 
-  numbers_at : (root : J) (h : List (Event J R)) (k : ℕ) (cs : List (Cell J R)) (o : Option (Cell J R)) → Fits root h k o
+  numbers_at : (root : J) (h : List (Event J R)) (k : ℕ) (cs : List (Cell J R)) (o : Option (Cell J R)) → IsCellOf root h k o
       → slice_get cs k ≡ o → (status h k ≡ Absent) ↔ (length cs ≤ k)
   numbers_at root h k cs None f e = (λ _. get_none cs k e, λ _. f.0)
   numbers_at root h k cs (Some (Waiting j)) f e = present h k cs (Waiting j) e (λ s. let x : Open ≡ Absent = sym f.0 ∙ s in absurd (cc x))

@@ -15,21 +15,21 @@ use Rattle.lc_board.specs.State.{Absent, Open, Claimed, status}
 use Rattle.lc_board.specs.Part.{part}
 use Rattle.lc_board.specs.LegalHistory.{IsAllowed, IsLegal}
 use Rattle.lc_board.specs.Holding.{holding}
-use Rattle.lc_board.specs.Growth.{rank, put, job_at, IsMatched}
+use Rattle.lc_board.specs.Growth.{rank, put, job_at}
 use Rattle.lc_board.specs.WordCode.{shown, code, word_of, is_absent, is_open, has_ended}
-use Rattle.lc_board.specs.WordRow.{Seated, Lies, Knows, IsRow}
+use Rattle.lc_board.specs.WordRow.{Seated, SlotHolds, Knows, IsRow}
 use Rattle.lc_board.specs.declared.words.coding.Word.{Word}
 use Rattle.lc_board.specs.declared.words.coding.Word.TheVariants as word
-use Rattle.lc_board.specs.WordSteps.{IsFair, Looks, AddsEvent, SomeHolds, Finds, Missed, looked, TakesJob, claimed, low_after, last_look}
+use Rattle.lc_board.specs.WordSteps.{ExtendsFairly, AddsEvent, SomeHolds, Finds, HasLooked, looked, TakesJob, claimed, low_after, last_look}
 use Rattle.lc_board.specs.declared.event.Event.{Event}
 use Rattle.lc_board.specs.declared.event.Event.TheVariants.{Claim, Over}
 use Rattle.lc_board.specs.declared.words.view.Slot.{Slot}
 use Rattle.lc_board.specs.declared.words.view.Slot.TheVariants.{Job}
 use Rattle.lc_board.specs.declared.words.view.View.{View}
 use Rattle.lc_board.proofs.HeldClaims.{part_tells_claim}
-use Rattle.lc_board.proofs.Growths.{at_put, put_else, longer, whole, rank_most, rank_from, part_own, part_else}
+use Rattle.lc_board.proofs.Growths.{at_put, put_else, whole, part_own, part_else}
 use Rattle.lc_board.proofs.WordCodes.{decoded, absent_is, not_open, ended_rank}
-use Rattle.lc_board.proofs.WordsMoved.{apart_same, agree_put, held_is, IsNext, rebuilt, lies_stay, IsTurn, turned}
+use Rattle.lc_board.proofs.WordsMoved.{apart_same, agree_put, held_is, still_ended, IsTold, IsNext, steps_on, lies_stay, IsTurn, turned}
 
 low_tells : (cap i low : ℕ) (x : Word) (z : ℕ) → z < low_after cap i low x → (z < low) ⊎ ((z ≡ i) × (has_ended x ≡ true))
 low_tells cap i low x z h = grind (arith, nat_tests)
@@ -42,30 +42,6 @@ abbrev pub St : Type 0 → Type 0 → Type 0
 St J R = State (Slot J R) (View J R)
 
 module _ {J R : Type 0} where
-  abbrev pub updated : View J R → List (Event J R) → View J R
-  updated v h = record v { seen = h }
-
-  -- a pass that has seen all knows what it knew
-  pub knows_more : (root : Option J) (workers cap : ℕ) (h : List (Event J R)) (faces : ℕ → Word) (owner : ℕ → Option ℕ) (me : ℕ)
-      (v : View J R) → IsLegal cap workers h → Knows root workers h faces owner me v
-      → Knows root workers h faces owner me (record v { seen = h })
-  knows_more root workers cap h faces owner me v l k = record {
-    root_is = k.root_is;
-    workers_are = k.workers_are;
-    member = k.member;
-    mine = k.mine;
-    seen = whole h;
-    own = k.mine;
-    owns = k.owns;
-    drew = k.drew;
-    draws = k.draws;
-    low = λ i below. let a = k.low i below in let b = rank_from cap workers h v.seen l k.seen i in let c = rank_most (status h i) in
-        omega arith;
-    front = k.front;
-    deals = k.deals;
-    joins = k.joins;
-  }
-
   -- nothing changes but what the pass has seen
   pub next_same : (root : Option J) (workers : ℕ) (s : St J R) (r : IsRow root workers s) (worker : ℕ)
       → IsNext root workers s r worker r.history r.faces s.words s.homes
@@ -81,29 +57,16 @@ module _ {J R : Type 0} where
     more = λ k e. e;
   }
 
-  -- and what it knows is fair
-  pub fair : (root : Option J) (workers cap : ℕ) (h : List (Event J R)) (faces : ℕ → Word) (owner : ℕ → Option ℕ) (me : ℕ)
-      (w : View J R) → w.seen ≡ h → IsLegal cap workers h → IsMatched root h → Knows root workers h faces owner me w → IsFair cap w
-  fair root workers cap h faces owner me w same l m k = (
-    subst (λ (z : ℕ × List (Event J R)). IsLegal cap z.0 z.1) (λ i. (sym k.workers_are i, sym same i)) l,
-    subst (λ (z : Option J × List (Event J R)). IsMatched z.0 z.1) (λ i. (sym k.root_is i, sym same i)) m,
-    ap (part w.worker) same ∙ k.mine,
-  )
-
-  -- the low mark stays where one event is added
-  pub low_stays : (root : Option J) (workers cap : ℕ) (h : List (Event J R)) (faces : ℕ → Word) (owner : ℕ → Option ℕ) (me : ℕ)
-      (v : View J R) (e : Event J R) → IsLegal cap workers (e ∷ h) → Knows root workers h faces owner me v
-      → (k : ℕ) → k < v.low → rank (status (e ∷ h) k) ≡ 3
-  low_stays root workers cap h faces owner me v e l k i below = let a = k.low i below in let b = rank_from cap workers (e ∷ h) v.seen l
-      (longer h v.seen e k.seen) i in let c = rank_most (status (e ∷ h) i) in omega arith
-
-  -- an event of its own is one more that it has seen
-  pub adds : (root : Option J) (workers cap : ℕ) (h : List (Event J R)) (faces : ℕ → Word) (owner : ℕ → Option ℕ) (me : ℕ)
-      (v : View J R) (e : Event J R) (f : ℕ → Word) (w : View J R) → w.seen ≡ e ∷ h → w.mine ≡ e ∷ v.mine
-      → IsLegal cap workers (e ∷ h) → IsMatched root (e ∷ h) → Knows root workers h faces owner me v
-      → Knows root workers (e ∷ h) f owner me w → AddsEvent cap v e w
-  adds root workers cap h faces owner me v e f w same own l m k k' =
-      ((h, k.seen, same), own, fair root workers cap (e ∷ h) f owner me w same l m k')
+  -- so what it has seen is its own as before
+  pub told_same : (root : Option J) (workers : ℕ) (s : St J R) (r : IsRow root workers s) (me : ℕ) (v : View J R)
+      → Knows root workers r.history r.faces r.owner me v → IsTold v.worker r.history r.faces v.mine v.drawn v.low v.front
+  told_same root workers s r me v k = record {
+    own = k.mine;
+    drew = k.drew;
+    draws = k.draws;
+    ended = still_ended root workers s r me v k r.history r.state.legal (whole r.history);
+    used = k.front;
+  }
 
   -- the word of a number says what the number is
   pub face_here : (root : Option J) (workers : ℕ) (s : St J R) (r : IsRow root workers s) (i : ℕ) → i < length s.homes
@@ -111,10 +74,10 @@ module _ {J R : Type 0} where
   face_here root workers s r i near = ap word_of (r.state.shows i near) ∙ decoded (r.faces i)
 
   -- what a look tells of a number is so of the history
-  pub finds : (root : Option J) (workers : ℕ) (s : St J R) (r : IsRow root workers s) (i me : ℕ) (h' : List (Event J R)) (w : View J R)
+  pub finds : (root : Option J) (workers : ℕ) (s : St J R) (r : IsRow root workers s) (i : ℕ) (h' : List (Event J R)) (w : View J R)
       → IsLegal (length s.homes) workers h' → ((k : ℕ) → status w.seen k ≡ status r.history k)
-      → Knows root workers h' r.faces r.owner me w → w.seen ≡ h' → Finds i (r.faces i) w
-  finds root workers s r i me h' w legal same k' is_h = found (r.faces i) refl
+      → part w.worker h' ≡ w.mine → w.seen ≡ h' → Finds i (r.faces i) w
+  finds root workers s r i h' w legal same own is_h = found (r.faces i) refl
     where
       some_holds : (p u : ℕ) → status r.history p ≡ Claimed u → SomeHolds w
       some_holds p u t = (
@@ -124,7 +87,7 @@ module _ {J R : Type 0} where
         λ free e.
             let there : status h' p ≡ Claimed w.worker = ap (λ y. status y p) (sym is_h) ∙ (same p ∙ (t ∙ ap Claimed e)) in
             let told = part_tells_claim (length s.homes) workers h' legal w.worker in
-            let x : None ≡ Some p = sym free ∙ (ap holding (sym k'.mine) ∙ (told.claimed p).1 there) in cc,
+            let x : None ≡ Some p = sym free ∙ (ap holding (sym own) ∙ (told.claimed p).1 there) in cc,
       )
 
       found : (c : Word) → r.faces i ≡ c → Finds i c w
@@ -147,8 +110,7 @@ module _ {J R : Type 0} where
     km = r.each_seat me v at lives
 
     ended_now : (z : ℕ) → z < v.low → rank (status r.history z) ≡ 3
-    ended_now z below = let a = km.low z below in let b = rank_from
-        (length s.homes) workers r.history v.seen r.state.legal km.seen z in let c = rank_most (status r.history z) in omega arith
+    ended_now = still_ended root workers s r me v km r.history r.state.legal (whole r.history)
 
     ended_here : has_ended (r.faces i) ≡ true → rank (status r.history i) ≡ 3
     ended_here e = ap rank (r.state.agrees i) ∙ ended_rank (r.faces i) e
@@ -161,23 +123,11 @@ module _ {J R : Type 0} where
     beyond_now : (z : ℕ) → length s.homes ≤ z → status r.history z ≡ Absent
     beyond_now z far = r.state.agrees z ∙ ap shown (r.state.beyond z far)
 
-    looked_knows : Knows root workers r.history r.faces r.owner me
-        (looked_view v r.history (low_after (length s.homes) i v.low (r.faces i)))
-    looked_knows = record {
-      root_is = km.root_is;
-      workers_are = km.workers_are;
-      member = km.member;
-      mine = km.mine;
-      seen = whole r.history;
-      own = km.mine;
-      owns = km.owns;
-      drew = km.drew;
-      draws = km.draws;
-      low = low_now;
-      front = km.front;
-      deals = km.deals;
-      joins = km.joins;
-    }
+    abbrev mark : ℕ
+    mark = low_after (length s.homes) i v.low (r.faces i)
+
+    looked_told : IsTold v.worker r.history r.faces v.mine v.drawn mark v.front
+    looked_told = record { own = km.mine; drew = km.drew; draws = km.draws; ended = low_now; used = km.front }
 
     module _ (last : (v.low ≡ i) × ((is_absent (r.faces i) ≡ true) ⊎ ((has_ended (r.faces i) ≡ true) × (i + 1 ≡ length s.homes)))) where
       all_done : (z : ℕ) → (rank (status r.history z) ≡ 3) ⊎ (status r.history z ≡ Absent)
@@ -218,58 +168,23 @@ module _ {J R : Type 0} where
         more = λ z e. e;
       }
 
-      over_knows : Knows root workers (Over v.worker ∷ r.history) r.faces r.owner me
-          (over_view v r.history (low_after (length s.homes) i v.low (r.faces i)))
-      over_knows = record {
-        root_is = km.root_is;
-        workers_are = km.workers_are;
-        member = km.member;
-        mine = part_own v.worker r.history (Over v.worker) refl ∙ ap (λ z. Over v.worker ∷ z) km.mine;
-        seen = whole (Over v.worker ∷ r.history);
+      over_told : IsTold v.worker (Over v.worker ∷ r.history) r.faces (Over v.worker ∷ v.mine) v.drawn mark v.front
+      over_told = record {
         own = part_own v.worker r.history (Over v.worker) refl ∙ ap (λ z. Over v.worker ∷ z) km.mine;
-        owns = km.owns;
         drew = km.drew;
         draws = km.draws;
-        low = low_now;
-        front = km.front;
-        deals = km.deals;
-        joins = λ a u m is. let x = km.joins a u m is in
-            record {
-              owned = x.owned;
-              other = x.other;
-              events = part_else u r.history (Over v.worker) (λ w. x.other (sym w))
-                  ∙ x.events;
-              idle = x.idle;
-            };
+        ended = low_now;
+        used = km.front;
       }
 
     -- the step, by whether it is the last look
     pub misses : (b : Bool) → last_look (length s.homes) i v.low (r.faces i) ≡ b
         → (w : View J R) × IsRow root workers record { words = s.words; homes = s.homes; views = set s.views me w }
-        × Missed (length s.homes) i (r.faces i) v w
-    misses false is = let w = looked_view v r.history (low_after (length s.homes) i v.low (r.faces i)) in (
-      w,
-      rebuilt root workers s r me v at lives r.history r.faces s.words s.homes w (next_same root workers s r v.worker) looked_knows,
-      (
-        (refl, refl, refl, refl, refl, refl),
-        refl,
-        refl,
-        refl,
-        low_now,
-        beyond_now,
-        finds root workers s r i me r.history w r.state.legal (λ z. refl) looked_knows refl,
-        subst (λ b. MatchBool b (AddsEvent (length s.homes) v (Over v.worker) w) (Looks (length s.homes) v w)) (sym is) (
-          km.seen,
-          refl,
-          fair root workers
-              (length s.homes) r.history r.faces r.owner me w refl r.state.legal r.state.matched looked_knows,
-        ),
-      ),
-    )
-    misses true is = let last = last_tells (length s.homes) i v.low (r.faces i) is in let w = over_view v r.history
-        (low_after (length s.homes) i v.low (r.faces i)) in (
+        × HasLooked (length s.homes) i (r.faces i) v w
+    misses false is = let did = steps_on root workers s r me v at lives r.history r.faces s.words s.homes v.mine v.drawn mark v.front
+        (next_same root workers s r v.worker) looked_told in let w = looked_view v r.history mark in (
           w,
-          rebuilt root workers s r me v at lives (Over v.worker ∷ r.history) r.faces s.words s.homes w (over_next last) (over_knows last),
+          did.0,
           (
             (refl, refl, refl, refl, refl, refl),
             refl,
@@ -277,10 +192,26 @@ module _ {J R : Type 0} where
             refl,
             low_now,
             beyond_now,
-            finds root workers s r i me (Over v.worker ∷ r.history) w (over_legal last) (λ z. refl) (over_knows last) refl,
-            subst (λ b. MatchBool b (AddsEvent (length s.homes) v (Over v.worker) w) (Looks (length s.homes) v w)) (sym is)
-                (adds root workers (length s.homes) r.history r.faces r.owner me v (Over v.worker) r.faces w refl refl (over_legal last)
-                (r.state.matched, tt) km (over_knows last)),
+            finds root workers s r i r.history w r.state.legal (λ z. refl) km.mine refl,
+            subst (λ b. MatchBool b (AddsEvent (length s.homes) v (Over v.worker) w) (ExtendsFairly (length s.homes) v w)) (sym is)
+                (km.seen, refl, did.1),
+          ),
+        )
+    misses true is = let last = last_tells (length s.homes) i v.low (r.faces i) is in let e : Event J R = Over v.worker in
+        let told = over_told last in let did = steps_on root workers s r me v at lives (e ∷ r.history) r.faces s.words s.homes (e ∷ v.mine)
+        v.drawn mark v.front (over_next last) told in let w = over_view v r.history mark in (
+          w,
+          did.0,
+          (
+            (refl, refl, refl, refl, refl, refl),
+            refl,
+            refl,
+            refl,
+            low_now,
+            beyond_now,
+            finds root workers s r i (e ∷ r.history) w (over_legal last) (λ z. refl) told.own refl,
+            subst (λ b. MatchBool b (AddsEvent (length s.homes) v (Over v.worker) w) (ExtendsFairly (length s.homes) v w)) (sym is)
+                ((r.history, km.seen, refl), refl, did.1),
           ),
         )
 
@@ -294,7 +225,7 @@ module _ {J R : Type 0} where
         tt,
         subst (λ (ws : List ℕ). IsRow root workers record { words = ws; homes = s.homes; views = set s.views me did.0 })
             (sym (set-get_or s.words i 0)) did.1,
-        (refl, subst (λ (z : ℕ × Word). Missed z.0 i z.1 v did.0) (λ k. (len k, sym (face_here root workers s r i near') k)) did.2),
+        (refl, subst (λ (z : ℕ × Word). HasLooked z.0 i z.1 v did.0) (λ k. (len k, sym (face_here root workers s r i near') k)) did.2),
       )
 
   abbrev pub added : View J R → List (Event J R) → Event J R → View J R
@@ -351,30 +282,17 @@ module _ {J R : Type 0} where
         );
       }
 
-      claim_knows : Knows root workers (Claim v.worker i j ∷ r.history) (put r.faces i (word.Claimed v.worker)) r.owner me
-          (added v r.history (Claim v.worker i j))
-      claim_knows = record {
-        root_is = k.root_is;
-        workers_are = k.workers_are;
-        member = k.member;
-        mine = part_own v.worker h e refl ∙ ap (λ z. e ∷ z) k.mine;
-        seen = whole (e ∷ h);
+      claim_told : IsTold v.worker (Claim v.worker i j ∷ r.history) (put r.faces i (word.Claimed v.worker)) (Claim v.worker i j ∷ v.mine)
+          v.drawn v.low v.front
+      claim_told = record {
         own = part_own v.worker h e refl ∙ ap (λ z. e ∷ z) k.mine;
-        owns = k.owns;
         drew = λ z. at_put r.faces i (word.Claimed v.worker) (λ y f. f ≡ word.Drawn v.worker → v.drawn ≡ y + 1) z (λ x. absurd (cc))
             (λ _ x. k.drew z x);
         draws = λ z is. let x = k.draws z is in put_else r.faces i (word.Claimed v.worker) z
             (λ (o : z ≡ i). let y : word.Drawn v.worker ≡ word.Open = sym x ∙ (ap r.faces o ∙ open_there) in cc) ∙ x;
-        low = low_stays root workers (length s.homes) h r.faces r.owner me v e claim_legal k;
-        front = λ z below. at_put r.faces i (word.Claimed v.worker) (λ y f. y < v.front → f ≢ word.Absent) z (λ _ x. cc)
+        ended = still_ended root workers s r me v k (Claim v.worker i j ∷ r.history) claim_legal (e ∷ [], refl);
+        used = λ z below. at_put r.faces i (word.Claimed v.worker) (λ y f. y < v.front → f ≢ word.Absent) z (λ _ x. cc)
             (λ _. k.front z) below;
-        deals = k.deals;
-        joins = λ n u m is. let x = k.joins n u m is in record {
-          owned = x.owned;
-          other = x.other;
-          events = part_else u h e (λ w. x.other (sym w)) ∙ x.events;
-          idle = λ z. at_put r.faces i (word.Claimed v.worker) (λ y f. f ≢ word.Drawn u) z (λ y. cc) (λ _. x.idle z);
-        };
       }
 
   -- so does an exchange that claims, whether it takes place or not
@@ -387,17 +305,17 @@ module _ {J R : Type 0} where
       × IsRow root workers (stepped s i n me m.1 w a) × claimed (step slots i 1 new none) m z (w, carried_after m.1 a) in
       exchanged z 1 new G
       (λ (hit : z ≡ 1). let there : r.faces i ≡ word.Open = sym (face_here root workers s r i near') ∙ ap word_of hit in
-      let l = subst (λ c. Lies root r.history s.homes i c) there (r.lies i near') in
+      let l = subst (λ c. SlotHolds root r.history s.homes i c) there (r.lies i near') in
       let e : Event J R = Claim v.worker i l.0 in let k = r.each_seat me v at lives in let w = added v r.history e in
       let turn = claim_turn root workers me i v lives free s r at near' there l.0 l.1 l.2 in
-      let k' = claim_knows root workers me i v lives free s r at near' there l.0 l.1 l.2 in (
+      let did = steps_on root workers s r me v at lives (e ∷ r.history) (put r.faces i (word.Claimed v.worker))
+      (set s.words i (5 + 2 * v.worker)) (set s.homes i none) (e ∷ v.mine) v.drawn v.low v.front
+      (turned root workers s r v.worker i (e ∷ r.history) (word.Claimed v.worker) (set s.homes i none) turn)
+      (claim_told root workers me i v lives free s r at near' there l.0 l.1 l.2) in (
         w,
         takes i (Job l.0),
         l.1,
-        subst (λ n. IsRow root workers (stepped s i n me m.1 w (takes i (Job l.0)))) (sym is)
-            (rebuilt root workers s r me v at lives (e ∷ r.history) (put r.faces i (word.Claimed v.worker))
-            (set s.words i (5 + 2 * v.worker)) (set s.homes i none) w
-            (turned root workers s r v.worker i (e ∷ r.history) (word.Claimed v.worker) (set s.homes i none) turn) k'),
+        subst (λ n. IsRow root workers (stepped s i n me m.1 w (takes i (Job l.0)))) (sym is) did.0,
         subst (λ b. MatchBool b (TakesJob (step slots i 1 new none) m (w, carried_after m.1 (takes i (Job l.0))))
             (looked (step slots i 1 new none) m z (w, carried_after m.1 (takes i (Job l.0))))) (sym (ap (λ n. is_open (word_of n)) hit)) (
               l.0,
@@ -406,9 +324,7 @@ module _ {J R : Type 0} where
               refl,
               refl,
               refl,
-              subst (λ c. AddsEvent c v e w) len
-                  (adds root workers (length s.homes) r.history r.faces r.owner me v e
-                  (put r.faces i (word.Claimed v.worker)) w refl refl turn.legal turn.matched k k'),
+              subst (λ c. AddsEvent c v e w) len ((r.history, k.seen, refl), refl, did.1),
             ),
       ))
       (λ (miss : z ≢ 1). let did = misses root workers me i v lives s r at near' (last_look (length s.homes) i v.low (r.faces i)) refl in (
@@ -420,5 +336,5 @@ module _ {J R : Type 0} where
         subst (λ b. MatchBool b (TakesJob (step slots i 1 new none) m (did.0, carried_after m.1 keeps))
             (looked (step slots i 1 new none) m z (did.0, carried_after m.1 keeps)))
             (sym (ap is_open (face_here root workers s r i near') ∙ not_open (r.faces i) (λ e. miss (r.state.shows i near' ∙ ap code e))))
-            (refl, subst (λ (y : ℕ × Word). Missed y.0 i y.1 v did.0) (λ k. (len k, sym (face_here root workers s r i near') k)) did.2),
+            (refl, subst (λ (y : ℕ × Word). HasLooked y.0 i y.1 v did.0) (λ k. (len k, sym (face_here root workers s r i near') k)) did.2),
       ))

@@ -18,7 +18,7 @@ use Rattle.lc_board.specs.Pass.{Pass}
 use Rattle.lc_board.specs.ClosedBoard.{Shows, IsUnended, Settled, Unfinished, Finished}
 use Rattle.lc_board.specs.Growth.{rank, job_at, IsMatched}
 use Rattle.lc_board.specs.WordCode.{shown, word_of, is_absent, has_ended}
-use Rattle.lc_board.specs.WordRow.{Homes, Lies, Knows, ShowsState, IsRow}
+use Rattle.lc_board.specs.WordRow.{Homes, SlotHolds, Knows, ShowsState, IsRow}
 use Rattle.lc_board.specs.declared.words.coding.Word.{Word}
 use Rattle.lc_board.specs.declared.words.coding.Word.TheVariants as word
 use Rattle.lc_board.specs.WordSteps.{merged, larger}
@@ -336,7 +336,7 @@ module _ {J R : Type 0} where
       let is : p ≡ q = cc x in
       subst (λ (z : Pass J R). Tells v u z.mine × (z.full ≡ true → slots ≤ v.front)) is (inl (same ∙ sym num, sym own), full)
 
-  ended_lies : (root : Option J) (h : List (Event J R)) (hs : Homes J R) (k : ℕ) (c : Word) → Lies root h hs k c → rank (shown c) ≡ 3
+  ended_lies : (root : Option J) (h : List (Event J R)) (hs : Homes J R) (k : ℕ) (c : Word) → SlotHolds root h hs k c → rank (shown c) ≡ 3
       → (r : R) × (get_elem? hs k ≡ some (some (Row r))) × (row_given h k ≡ ended_as (shown c) r)
   ended_lies root h hs k (word.Drawn w) l e = absurd (omega arith)
   ended_lies root h hs k word.Absent l e = absurd (omega arith)

@@ -17,7 +17,7 @@ use Rattle.lc_board.specs.RowsInPlace.{row_given}
 use Rattle.lc_board.specs.Growth.{rank, put, job_at, IsRight}
 use Rattle.lc_board.specs.Ending.{MayEnd, end_event, row_in}
 use Rattle.lc_board.specs.WordCode.{shown, code, end_word}
-use Rattle.lc_board.specs.WordRow.{Homes, Seated, Lies, Knows, IsRow}
+use Rattle.lc_board.specs.WordRow.{Homes, Seated, SlotHolds, Knows, IsRow}
 use Rattle.lc_board.specs.declared.words.coding.Word.{Word}
 use Rattle.lc_board.specs.declared.words.coding.Word.TheVariants as word
 use Rattle.lc_board.specs.WordSteps.{AddsEvent, put_down}
@@ -28,10 +28,10 @@ use Rattle.lc_board.specs.declared.words.view.Slot.{Slot}
 use Rattle.lc_board.specs.declared.words.view.Slot.TheVariants.{Empty, Row}
 use Rattle.lc_board.specs.declared.words.view.View.{View}
 use Rattle.lc_board.proofs.HeldClaims.{posted_nothing}
-use Rattle.lc_board.proofs.Growths.{at_put, put_here, put_else, whole, part_own, part_else}
-use Rattle.lc_board.proofs.WordsMoved.{agree_put, of_shown, held_is, IsNext, rebuilt, lies_stay, IsTurn, turned}
+use Rattle.lc_board.proofs.Growths.{at_put, put_here, put_else, part_own, part_else}
+use Rattle.lc_board.proofs.WordsMoved.{agree_put, of_shown, held_is, IsNext, still_ended, IsTold, steps_on, lies_stay, IsTurn, turned}
 use Rattle.lc_board.specs.declared.answers.Ended.{Ended}
-use Rattle.lc_board.proofs.WordClaims.{St, added, knows_more, next_same, low_stays, adds}
+use Rattle.lc_board.proofs.WordClaims.{St, added, next_same, told_same}
 
 taken_same : (a b : ℕ) → Claimed a ≡ Claimed b → a ≡ b
 taken_same a b e = cc
@@ -71,7 +71,7 @@ module _ {J R : Type 0} where
   end_right root w i (ended.Faulted r) h = tt
 
   end_lies : (root : Option J) (i : ℕ) (x : Ended R) (h : List (Event J R)) (hs : Homes J R)
-      → get_elem? hs i ≡ some (some (Row (row_in x))) → row_given h i ≡ Some x → Lies root h hs i (end_word x)
+      → get_elem? hs i ≡ some (some (Row (row_in x))) → row_given h i ≡ Some x → SlotHolds root h hs i (end_word x)
   end_lies root i (ended.Returned r) h hs a b = (r, a, b)
   end_lies root i (ended.Faulted r) h hs a b = (r, a, b)
 
@@ -154,27 +154,14 @@ module _ {J R : Type 0} where
       loose = λ u ne. ((λ y. let z = sym had ∙ y in cc), undrawn u, (λ y. apart u (ap shown y)));
     }
 
-    end_knows : Knows root workers (e ∷ r.history) (put r.faces i c) r.owner me (added v r.history e)
-    end_knows = record {
-      root_is = k.root_is;
-      workers_are = k.workers_are;
-      member = k.member;
-      mine = part_own v.worker r.history e (by_worker J v.worker i x) ∙ ap (λ z. e ∷ z) k.mine;
-      seen = whole (e ∷ r.history);
+    end_told : IsTold v.worker (e ∷ r.history) (put r.faces i c) (e ∷ v.mine) v.drawn v.low v.front
+    end_told = record {
       own = part_own v.worker r.history e (by_worker J v.worker i x) ∙ ap (λ z. e ∷ z) k.mine;
-      owns = k.owns;
       drew = λ z. at_put r.faces i c (λ y f. f ≡ word.Drawn v.worker → v.drawn ≡ y + 1) z (λ y. absurd (undrawn v.worker y))
           (λ _ y. k.drew z y);
       draws = λ z is. absurd (omega arith);
-      low = low_stays root workers (length s.homes) r.history r.faces r.owner me v e end_legal k;
-      front = λ z below. at_put r.faces i c (λ y f. y < v.front → f ≢ word.Absent) z (λ _ y. there (ap shown y)) (λ _. k.front z) below;
-      deals = k.deals;
-      joins = λ a u l is. let y = k.joins a u l is in record {
-        owned = y.owned;
-        other = y.other;
-        events = part_else u r.history e (λ w. y.other (sym w ∙ by_worker J v.worker i x)) ∙ y.events;
-        idle = λ z. at_put r.faces i c (λ q f. f ≢ word.Drawn u) z (undrawn u) (λ _. y.idle z);
-      };
+      ended = still_ended root workers s r me v k (e ∷ r.history) end_legal (e ∷ [], refl);
+      used = λ z below. at_put r.faces i c (λ y f. y < v.front → f ≢ word.Absent) z (λ _ y. there (ap shown y)) (λ _. k.front z) below;
     }
 
   -- an exchange that ends a claim keeps the row of words
@@ -186,24 +173,22 @@ module _ {J R : Type 0} where
       let near' : i < length s.homes = omega arith in let k0 = r.each_seat me v at lives in
       let e : Event J R = end_event v.worker i x in let w = added v r.history e in
       let turn = end_turn root workers me i v lives empty claim x may s r at near' in
-      let k' = end_knows root workers me i v lives empty claim x may s r at near' in
-      let to = set s.homes i (some (Row (row_in x))) in (
+      let to = set s.homes i (some (Row (row_in x))) in
+      let did = steps_on root workers s r me v at lives (e ∷ r.history) (put r.faces i (end_word x)) (set s.words i (code (end_word x))) to
+      (e ∷ v.mine) v.drawn v.low v.front (turned root workers s r v.worker i (e ∷ r.history) (end_word x) to turn)
+      (end_told root workers me i v lives empty claim x may s r at near') in (
         w,
         gives,
         tt,
         subst (λ (c : List (ℕ × Slot J R)). IsRow root workers (stepped s i new me c w gives)) (sym has)
-            (subst (λ n. IsRow root workers record { words = set s.words i n; homes = to; views = set s.views me w }) (sym coded)
-            (rebuilt root workers s r me v at lives (e ∷ r.history) (put r.faces i (end_word x)) (set s.words i (code (end_word x))) to w
-            (turned root workers s r v.worker i (e ∷ r.history) (end_word x) to turn) k')),
+            (subst (λ n. IsRow root workers record { words = set s.words i n; homes = to; views = set s.views me w }) (sym coded) did.0),
         (
           ((refl, refl, refl, refl, refl, refl), empty, refl, refl, refl),
           (
             x,
             coded,
             has,
-            subst (λ c. AddsEvent c v e w) len
-                (adds root workers (length s.homes) r.history r.faces r.owner me v e
-                (put r.faces i (end_word x)) w refl refl turn.legal turn.matched k0 k'),
+            subst (λ c. AddsEvent c v e w) len ((r.history, k0.seen, refl), refl, did.1),
           ),
         ),
       )
@@ -240,7 +225,7 @@ module _ {J R : Type 0} where
         state = base.state;
         grows = base.grows;
         parts = base.parts;
-        lies = λ z l. dite (ℕ_discrete z i) (λ is. subst (λ c. Lies root r.history hs z c) (sym (ap r.faces is ∙ face)) tt)
+        lies = λ z l. dite (ℕ_discrete z i) (λ is. subst (λ c. SlotHolds root r.history hs z c) (sym (ap r.faces is ∙ face)) tt)
             (λ ne. lies_stay root r.history r.history s.homes hs z (set_else s.homes i z (some Empty) ne) refl refl (r.faces z)
             (r.lies z l));
         busy = base.busy;
@@ -253,7 +238,7 @@ module _ {J R : Type 0} where
         subst (λ (c : List (ℕ × Slot J R)). IsRow root workers (stepped s i (get_or s.words i 0) me c w gives)) (sym has)
             (subst (λ (ws : List ℕ). IsRow root workers record { words = ws; homes = hs; views = set s.views me w })
             (sym (set-get_or s.words i 0))
-            (rebuilt root workers s r me v at lives r.history r.faces s.words hs w next
-            (knows_more root workers (length s.homes) r.history r.faces r.owner me v r.state.legal k0))),
+            (steps_on root workers s r me v at lives r.history r.faces s.words hs v.mine v.drawn v.low v.front next
+            (told_same root workers s r me v k0)).0),
         (((refl, refl, refl, refl, refl, refl), empty, refl, refl, refl), (k0.seen, refl)),
       )

@@ -4,7 +4,7 @@ use Rattle.std.specs.Prelude.{MatchBool}
 use Rattle.std.proofs.lemmas.Bool.Decides.{nat_tests}
 use Rattle.lc_board.specs.State.{Claimed, status}
 use Rattle.lc_board.specs.Growth.{GoesOn, rank}
-use Rattle.lc_board.specs.WordSteps.{IsFair, AddsEvent, Looks, Finds, Missed, taken_after, last_look}
+use Rattle.lc_board.specs.WordSteps.{IsFair, AddsEvent, ExtendsFairly, Finds, HasLooked, taken_after, last_look}
 use Rattle.lc_board.specs.WordPass.{AreTaken}
 use Rattle.lc_board.specs.WordCode.{is_taken}
 use Rattle.lc_board.specs.declared.words.coding.Word.{Word}
@@ -28,7 +28,7 @@ module _ {J R : Type 0} where
   marked_on cap taken v w goes fair marked k low = stays_taken cap v w k goes fair (marked k low)
 
   -- numbers below the mark stay taken over a look
-  pub marked_looked : (cap taken : ℕ) (v w : View J R) → Looks cap v w → AreTaken taken v.seen → AreTaken taken w.seen
+  pub marked_looked : (cap taken : ℕ) (v w : View J R) → ExtendsFairly cap v w → AreTaken taken v.seen → AreTaken taken w.seen
   marked_looked cap taken v w l = marked_on cap taken v w l.0 l.2
 
   -- over an event
@@ -50,13 +50,13 @@ module _ {J R : Type 0} where
   found_taken i (word.Drawn u) w f is = absurd cc
   found_taken i (word.Claimed u) w f is = let e = ap rank f.0 in omega arith
 
-  missed_marked : (cap taken : ℕ) (v w : View J R) (b : Bool) → MatchBool b (AddsEvent cap v (Over v.worker) w) (Looks cap v w)
+  missed_marked : (cap taken : ℕ) (v w : View J R) (b : Bool) → MatchBool b (AddsEvent cap v (Over v.worker) w) (ExtendsFairly cap v w)
       → AreTaken taken v.seen → AreTaken taken w.seen
   missed_marked cap taken v w true a = marked_added cap taken v w (Over v.worker) a
   missed_marked cap taken v w false a = marked_looked cap taken v w a
 
   -- over a look at the mark that claims nothing, by which it goes up
-  pub marked_missed : (cap i : ℕ) (x : Word) (taken taken2 : ℕ) (v w : View J R) → Missed cap i x v w → taken2 ≡ taken_after i taken x
+  pub marked_missed : (cap i : ℕ) (x : Word) (taken taken2 : ℕ) (v w : View J R) → HasLooked cap i x v w → taken2 ≡ taken_after i taken x
       → AreTaken taken v.seen → AreTaken taken2 w.seen
   marked_missed cap i x taken taken2 v w m mark marked =
       marked_next i taken taken2 x w mark (missed_marked cap taken v w (last_look cap i v.low x) m.7 marked) (found_taken i x w m.6)

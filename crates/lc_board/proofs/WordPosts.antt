@@ -15,7 +15,7 @@ use Rattle.lc_board.specs.LegalHistory.{IsLegal}
 use Rattle.lc_board.specs.Holding.{holding}
 use Rattle.lc_board.specs.Growth.{put, job_at}
 use Rattle.lc_board.specs.WordCode.{shown, code, word_of, is_absent}
-use Rattle.lc_board.specs.WordRow.{Seated, Lies, Knows, IsRow}
+use Rattle.lc_board.specs.WordRow.{Seated, SlotHolds, Knows, IsRow}
 use Rattle.lc_board.specs.declared.words.coding.Word.TheVariants as word
 use Rattle.lc_board.specs.WordSteps.{IsFair, AddsEvent, TakesEmpty, drew, stepped_over, opened}
 use Rattle.lc_board.specs.declared.event.Event.{Event}
@@ -25,8 +25,8 @@ use Rattle.lc_board.specs.declared.words.view.Slot.TheVariants.{Empty, Job}
 use Rattle.lc_board.specs.declared.words.view.View.{View}
 use Rattle.lc_board.proofs.Growths.{at_put, put_here, put_else, whole, part_own, part_else}
 use Rattle.lc_board.proofs.WordCodes.{not_absent}
-use Rattle.lc_board.proofs.WordsMoved.{agree_put, held_is, rebuilt, IsTurn, turned}
-use Rattle.lc_board.proofs.WordClaims.{St, face_here, updated, knows_more, next_same, fair, low_stays, adds}
+use Rattle.lc_board.proofs.WordsMoved.{agree_put, held_is, still_ended, IsTold, steps_on, IsTurn, turned}
+use Rattle.lc_board.proofs.WordClaims.{St, face_here, next_same, told_same}
 
 held_same : (a b : ℕ) → word.Drawn a ≡ word.Drawn b → a ≡ b
 held_same a b e = cc
@@ -76,47 +76,25 @@ module _ {J R : Type 0} where
         );
       }
 
-      draw_knows : Knows root workers r.history (put r.faces i (word.Drawn v.worker)) r.owner me (drawn_view v r.history i)
-      draw_knows = let k' = knows_more root workers (length s.homes) r.history r.faces r.owner me v r.state.legal k in record {
-        root_is = k.root_is;
-        workers_are = k.workers_are;
-        member = k.member;
-        mine = k.mine;
-        seen = whole r.history;
+      draw_told : IsTold v.worker r.history (put r.faces i (word.Drawn v.worker)) v.mine (i + 1) v.low (i + 1)
+      draw_told = record {
         own = k.mine;
-        owns = k.owns;
         drew = λ z. at_put r.faces i (word.Drawn v.worker) (λ y f. f ≡ word.Drawn v.worker → i + 1 ≡ y + 1) z (λ _. refl)
             (λ _ x. absurd (let y = k.drew z x in omega arith));
         draws = λ z is. let e : i ≡ z = omega arith in subst (λ y. put r.faces i (word.Drawn v.worker) y ≡ word.Drawn v.worker) e
             (put_here r.faces i (word.Drawn v.worker));
-        low = k'.low;
-        front = λ z. at_put r.faces i (word.Drawn v.worker) (λ y f. y < i + 1 → f ≢ word.Absent) z (λ _ x. cc)
+        ended = (told_same root workers s r me v k).ended;
+        used = λ z. at_put r.faces i (word.Drawn v.worker) (λ y f. y < i + 1 → f ≢ word.Absent) z (λ _ x. cc)
             (λ ne l. k.front z (omega arith));
-        deals = k.deals;
-        joins = λ n u m is. let x = k.joins n u m is in record {
-          owned = x.owned;
-          other = x.other;
-          events = x.events;
-          idle = λ z. at_put r.faces i (word.Drawn v.worker) (λ y f. f ≢ word.Drawn u) z (λ y. x.other (sym (held_same v.worker u y)))
-              (λ _. x.idle z);
-        };
       }
 
-    pass_knows : r.faces i ≢ word.Absent → Knows root workers r.history r.faces r.owner me (passed_view v r.history i)
-    pass_knows there = let k' = knows_more root workers (length s.homes) r.history r.faces r.owner me v r.state.legal k in record {
-      root_is = k.root_is;
-      workers_are = k.workers_are;
-      member = k.member;
-      mine = k.mine;
-      seen = whole r.history;
+    pass_told : r.faces i ≢ word.Absent → IsTold v.worker r.history r.faces v.mine v.drawn v.low (i + 1)
+    pass_told there = record {
       own = k.mine;
-      owns = k.owns;
       drew = k.drew;
       draws = k.draws;
-      low = k'.low;
-      front = λ z l. dite (ℕ_discrete z i) (λ (e : z ≡ i). λ x. there (ap r.faces (sym e) ∙ x)) (λ ne. k.front z (omega arith));
-      deals = k.deals;
-      joins = k.joins;
+      ended = (told_same root workers s r me v k).ended;
+      used = λ z l. dite (ℕ_discrete z i) (λ (e : z ≡ i). λ x. there (ap r.faces (sym e) ∙ x)) (λ ne. k.front z (omega arith));
     }
 
   -- an exchange that draws a number keeps the row of words, whether it takes place or not
@@ -129,50 +107,40 @@ module _ {J R : Type 0} where
       × IsRow root workers (stepped s i x me m.1 w a) × drew (step slots i 0 new none) m z (w, carried_after m.1 a) in
       exchanged z 0 new G
       (λ (hit : z ≡ 0). let gone : r.faces i ≡ word.Absent = sym (face_here root workers s r i near') ∙ ap word_of hit in
-      let l = subst (λ c. Lies root r.history s.homes i c) gone (r.lies i near') in
-      let w = drawn_view v r.history i in let k' = draw_knows root workers me i v lives empty front q claim s r at near' gone in (
+      let l = subst (λ c. SlotHolds root r.history s.homes i c) gone (r.lies i near') in
+      let did = steps_on root workers s r me v at lives r.history (put r.faces i (word.Drawn v.worker)) (set s.words i (4 + 2 * v.worker))
+      (set s.homes i none) v.mine (i + 1) v.low (i + 1)
+      (turned root workers s r v.worker i r.history (word.Drawn v.worker) (set s.homes i none)
+      (draw_turn root workers me i v lives empty front q claim s r at near' gone))
+      (draw_told root workers me i v lives empty front q claim s r at near' gone) in let w = drawn_view v r.history i in (
         w,
         takes i Empty,
         l,
-        subst (λ x. IsRow root workers (stepped s i x me m.1 w (takes i Empty))) (sym is)
-            (rebuilt root workers s r me v at lives r.history (put r.faces i (word.Drawn v.worker)) (set s.words i (4 + 2 * v.worker))
-            (set s.homes i none) w
-            (turned root workers s r v.worker i r.history (word.Drawn v.worker) (set s.homes i none)
-            (draw_turn root workers me i v lives empty front q claim s r at near' gone)) k'),
+        subst (λ x. IsRow root workers (stepped s i x me m.1 w (takes i Empty))) (sym is) did.0,
         (
           (refl, refl, refl, refl, refl, refl),
           refl,
           refl,
-          (
-            k0.seen,
-            refl,
-            subst (λ c. IsFair c w) len (fair root workers (length s.homes) r.history
-                (put r.faces i (word.Drawn v.worker)) r.owner me w refl r.state.legal r.state.matched k'),
-          ),
+          (k0.seen, refl, subst (λ c. IsFair c w) len did.1),
           subst (λ b. MatchBool b (TakesEmpty i m (w, carried_after m.1 (takes i Empty)))
               ((carried_after m.1 (takes i Empty) ≡ m.1) × (w.drawn ≡ v.drawn))) (sym (ap (λ n. is_absent (word_of n)) hit))
               (refl, refl, below_it root workers me i v lives empty front q claim s r at near' gone),
         ),
       ))
       (λ (miss : z ≢ 0). let w = passed_view v r.history i in
-      let k' = pass_knows root workers me i v lives empty front q claim s r at near'
-      (λ e. miss (r.state.shows i near' ∙ ap code e)) in (
+      let did = steps_on root workers s r me v at lives r.history r.faces s.words s.homes v.mine v.drawn v.low (i + 1)
+      (next_same root workers s r v.worker) (pass_told root workers me i v lives empty front q claim s r at near'
+      (λ e. miss (r.state.shows i near' ∙ ap code e))) in (
         w,
         keeps,
         tt,
         subst (λ (ws : List ℕ). IsRow root workers record { words = ws; homes = s.homes; views = set s.views me w })
-            (sym (set-get_or s.words i 0))
-            (rebuilt root workers s r me v at lives r.history r.faces s.words s.homes w (next_same root workers s r v.worker) k'),
+            (sym (set-get_or s.words i 0)) did.0,
         (
           (refl, refl, refl, refl, refl, refl),
           refl,
           refl,
-          (
-            k0.seen,
-            refl,
-            subst (λ c. IsFair c w) len (fair root workers
-                (length s.homes) r.history r.faces r.owner me w refl r.state.legal r.state.matched k'),
-          ),
+          (k0.seen, refl, subst (λ c. IsFair c w) len did.1),
           subst (λ b. MatchBool b (TakesEmpty i m (w, m.1)) ((m.1 ≡ m.1) × (w.drawn ≡ v.drawn)))
               (sym (ap is_absent (face_here root workers s r i near') ∙ not_absent (r.faces i)
               (λ e. miss (r.state.shows i near' ∙ ap code e)))) (refl, refl),
@@ -186,37 +154,32 @@ module _ {J R : Type 0} where
   steps_over root workers slots me m i q lives near empty front claim s r len at fits = let v = m.0 in let z : ℕ = get_or s.words i 0 in
       let near' : i < length s.homes = omega arith in let k0 = r.each_seat me v at lives in
       dite (ℕ_discrete z 0)
-      (λ (hit : z ≡ 0). let w = updated v r.history in let k' = knows_more root workers
-      (length s.homes) r.history r.faces r.owner me v r.state.legal k0 in (
+      (λ (hit : z ≡ 0). let w = record v { seen = r.history } in
+      let did = steps_on root workers s r me v at lives r.history r.faces s.words s.homes v.mine v.drawn v.low v.front
+      (next_same root workers s r v.worker) (told_same root workers s r me v k0) in (
         w,
         keeps,
         tt,
         subst (λ (ws : List ℕ). IsRow root workers record { words = ws; homes = s.homes; views = set s.views me w })
-            (sym (set-get_or s.words i 0))
-            (rebuilt root workers s r me v at lives r.history r.faces s.words s.homes w (next_same root workers s r v.worker) k'),
+            (sym (set-get_or s.words i 0)) did.0,
         (
           refl,
           (refl, refl, refl, refl, refl, refl),
           refl,
           refl,
           sym (ap (λ n. cond (is_absent (word_of n)) v.front (i + 1)) hit),
-          (
-            k0.seen,
-            refl,
-            subst (λ c. IsFair c w) len (fair root workers
-                (length s.homes) r.history r.faces r.owner me w refl r.state.legal r.state.matched k'),
-          ),
+          (k0.seen, refl, subst (λ c. IsFair c w) len did.1),
         ),
       ))
       (λ (miss : z ≢ 0). let w = passed_view v r.history i in
-      let k' = pass_knows root workers me i v lives empty front q claim s r at near'
-      (λ e. miss (r.state.shows i near' ∙ ap code e)) in (
+      let did = steps_on root workers s r me v at lives r.history r.faces s.words s.homes v.mine v.drawn v.low (i + 1)
+      (next_same root workers s r v.worker) (pass_told root workers me i v lives empty front q claim s r at near'
+      (λ e. miss (r.state.shows i near' ∙ ap code e))) in (
         w,
         keeps,
         tt,
         subst (λ (ws : List ℕ). IsRow root workers record { words = ws; homes = s.homes; views = set s.views me w })
-            (sym (set-get_or s.words i 0))
-            (rebuilt root workers s r me v at lives r.history r.faces s.words s.homes w (next_same root workers s r v.worker) k'),
+            (sym (set-get_or s.words i 0)) did.0,
         (
           refl,
           (refl, refl, refl, refl, refl, refl),
@@ -224,12 +187,7 @@ module _ {J R : Type 0} where
           refl,
           sym (ap (λ b. cond b v.front (i + 1)) (ap is_absent (face_here root workers s r i near') ∙ not_absent (r.faces i)
               (λ e. miss (r.state.shows i near' ∙ ap code e)))),
-          (
-            k0.seen,
-            refl,
-            subst (λ c. IsFair c w) len (fair root workers
-                (length s.homes) r.history r.faces r.owner me w refl r.state.legal r.state.matched k'),
-          ),
+          (k0.seen, refl, subst (λ c. IsFair c w) len did.1),
         ),
       ))
 
@@ -279,28 +237,14 @@ module _ {J R : Type 0} where
       loose = λ u ne. ((λ x. ne (sym (held_same v.worker u (sym has ∙ x)))), (λ x. cc), (λ x. cc));
     }
 
-    open_knows : Knows root workers (Post v.worker p i j ∷ r.history) (put r.faces i word.Open) r.owner me
-        (opened_view v r.history (Post v.worker p i j))
-    open_knows = record {
-      root_is = ko.root_is;
-      workers_are = ko.workers_are;
-      member = ko.member;
-      mine = part_own v.worker r.history post refl ∙ ap (λ z. post ∷ z) ko.mine;
-      seen = whole (post ∷ r.history);
+    open_told : IsTold v.worker (Post v.worker p i j ∷ r.history) (put r.faces i word.Open) (Post v.worker p i j ∷ v.mine) 0 v.low v.front
+    open_told = record {
       own = part_own v.worker r.history post refl ∙ ap (λ z. post ∷ z) ko.mine;
-      owns = ko.owns;
       drew = λ z. at_put r.faces i word.Open (λ y f. f ≡ word.Drawn v.worker → 0 ≡ y + 1) z (λ x. absurd (cc))
           (λ ne x. absurd (let y = ko.drew z x in ne (omega arith)));
       draws = λ z is. absurd (omega arith);
-      low = low_stays root workers (length s.homes) r.history r.faces r.owner me v post post_legal ko;
-      front = λ z below. at_put r.faces i word.Open (λ y f. y < v.front → f ≢ word.Absent) z (λ _ x. cc) (λ _. ko.front z) below;
-      deals = ko.deals;
-      joins = λ a u m is. let x = ko.joins a u m is in record {
-        owned = x.owned;
-        other = x.other;
-        events = part_else u r.history post (λ w. x.other (sym w)) ∙ x.events;
-        idle = λ z. at_put r.faces i word.Open (λ y f. f ≢ word.Drawn u) z (λ y. cc) (λ _. x.idle z);
-      };
+      ended = still_ended root workers s r me v ko (Post v.worker p i j ∷ r.history) post_legal (post ∷ [], refl);
+      used = λ z below. at_put r.faces i word.Open (λ y f. y < v.front → f ≢ word.Absent) z (λ _ x. cc) (λ _. ko.front z) below;
     }
 
   -- and so does the store that opens a drawn number with its job
@@ -311,14 +255,14 @@ module _ {J R : Type 0} where
       let near' : i < length s.homes = omega arith in let k0 = r.each_seat me v at lives in
       let e : Event J R = Post v.worker p i j in let w = opened_view v r.history e in
       let turn = open_turn root workers me i v lives full p claim below j s r at near' in
-      let k' = open_knows root workers me i v lives full p claim below j s r at near' in (
+      let did = steps_on root workers s r me v at lives (e ∷ r.history) (put r.faces i word.Open) (set s.words i 1)
+      (set s.homes i (some (Job j))) (e ∷ v.mine) 0 v.low v.front
+      (turned root workers s r v.worker i (e ∷ r.history) word.Open (set s.homes i (some (Job j))) turn)
+      (open_told root workers me i v lives full p claim below j s r at near') in (
         w,
         gives,
         tt,
-        subst (λ (c : List (ℕ × Slot J R)). IsRow root workers (stepped s i 1 me c w gives)) (sym has)
-            (rebuilt root workers s r me v at lives (e ∷ r.history) (put r.faces i word.Open) (set s.words i 1)
-            (set s.homes i (some (Job j))) w
-            (turned root workers s r v.worker i (e ∷ r.history) word.Open (set s.homes i (some (Job j))) turn) k'),
+        subst (λ (c : List (ℕ × Slot J R)). IsRow root workers (stepped s i 1 me c w gives)) (sym has) did.0,
         (
           ((refl, refl, refl, refl, refl, refl), refl, refl, refl, refl),
           (
@@ -326,9 +270,7 @@ module _ {J R : Type 0} where
             j,
             claim,
             has,
-            subst (λ c. AddsEvent c v e w) len
-                (adds root workers (length s.homes) r.history r.faces r.owner me v e
-                (put r.faces i word.Open) w refl refl turn.legal turn.matched k0 k'),
+            subst (λ c. AddsEvent c v e w) len ((r.history, k0.seen, refl), refl, did.1),
           ),
         ),
       )

@@ -9,7 +9,7 @@ use Rattle.lc_board.specs.State.{Status, Absent, Open, status}
 use Rattle.lc_board.specs.LegalHistory.{IsLegal}
 use Rattle.lc_board.specs.Holding.{holding}
 use Rattle.lc_board.specs.Growth.{GoesOn, rank}
-use Rattle.lc_board.specs.WordSteps.{EndsAt, IsFair, AddsEvent, Looks, Sees, OthersHeld, Waits, SomeHolds, Finds, Missed, low_after}
+use Rattle.lc_board.specs.WordSteps.{EndsAt, IsFair, AddsEvent, ExtendsFairly, Extends, OthersHeld, Waits, SomeHolds, Finds, HasLooked, low_after}
 use Rattle.lc_board.specs.WordSteps.{is_last_word, last_look}
 use Rattle.lc_board.specs.WordCode.{is_absent, is_open, has_ended, is_busy}
 use Rattle.lc_board.specs.WordMarks.{AnswersLow, HasPassed}
@@ -96,15 +96,15 @@ none_later false x P e y = subst (λ z. IfNone z P) (sym e) y
 
 module _ {J R : Type 0} where
   -- seeing more before an event adds it all the same
-  pub sees_adds : (cap : ℕ) (v u w : View J R) (e : Event J R) → Sees v u → AddsEvent cap u e w → AddsEvent cap v e w
+  pub sees_adds : (cap : ℕ) (v u w : View J R) (e : Event J R) → Extends v u → AddsEvent cap u e w → AddsEvent cap v e w
   sees_adds cap v u w e s a = ((a.0.0, goes_trans a.0.0 u.seen v.seen a.0.1 s.0, a.0.2), a.1 ∙ ap (λ z. e ∷ z) s.1, a.2)
 
   -- seeing goes on
-  pub sees_trans : (v u w : View J R) → Sees v u → Sees u w → Sees v w
+  pub sees_trans : (v u w : View J R) → Extends v u → Extends u w → Extends v w
   sees_trans v u w a b = (goes_trans w.seen u.seen v.seen b.0 a.0, b.1 ∙ a.1)
 
   -- looking goes on
-  pub looks_trans : (cap : ℕ) (v u w : View J R) → Looks cap v u → Looks cap u w → Looks cap v w
+  pub looks_trans : (cap : ℕ) (v u w : View J R) → ExtendsFairly cap v u → ExtendsFairly cap u w → ExtendsFairly cap v w
   looks_trans cap v u w a b = let sees = sees_trans v u w (a.0, a.1) (b.0, b.1) in (sees.0, sees.1, b.2)
 
   -- a pass stays the same over two steps
@@ -112,27 +112,27 @@ module _ {J R : Type 0} where
   same_trans a b c x y = (y.0 ∙ x.0, y.1 ∙ x.1, y.2 ∙ x.2, y.3 ∙ x.3, y.4 ∙ x.4)
 
   -- a pass sees what it has seen
-  pub sees_self : (v : View J R) → Sees v v
+  pub sees_self : (v : View J R) → Extends v v
   sees_self v = (whole v.seen, refl)
 
   -- what a claim that has gone up to i knows, where v is the view at the start
   pub record IsScan (cap start i : ℕ) (busy : Bool) (v w : View J R) : Type 0 where
-    pub sees : Sees v w
+    pub sees : Extends v w
     pub fair : start < i → IsFair cap w
     pub below : (k : ℕ) → k < start → 2 ≤ rank (status w.seen k)
     pub past : (k : ℕ) → start ≤ k → k < i → (status v.seen k ≡ Absent) ⊎ (2 ≤ rank (status w.seen k))
     pub others : busy ≡ true → OthersHeld v w × (start < i)
     pub far : start < i → (k : ℕ) → cap ≤ k → status v.seen k ≡ Absent
 
-  looks_of : (cap i : ℕ) (x : Word) (v w : View J R) → Missed cap i x v w → last_look cap i v.low x ≡ false → Looks cap v w
-  looks_of cap i x v w m is = subst (λ b. MatchBool b (AddsEvent cap v (Over v.worker) w) (Looks cap v w)) is m.7
+  looks_of : (cap i : ℕ) (x : Word) (v w : View J R) → HasLooked cap i x v w → last_look cap i v.low x ≡ false → ExtendsFairly cap v w
+  looks_of cap i x v w m is = subst (λ b. MatchBool b (AddsEvent cap v (Over v.worker) w) (ExtendsFairly cap v w)) is m.7
 
-  over_of : (cap i : ℕ) (x : Word) (v w : View J R) → Missed cap i x v w → last_look cap i v.low x ≡ true
+  over_of : (cap i : ℕ) (x : Word) (v w : View J R) → HasLooked cap i x v w → last_look cap i v.low x ≡ true
       → AddsEvent cap v (Over v.worker) w
-  over_of cap i x v w m is = subst (λ b. MatchBool b (AddsEvent cap v (Over v.worker) w) (Looks cap v w)) is m.7
+  over_of cap i x v w m is = subst (λ b. MatchBool b (AddsEvent cap v (Over v.worker) w) (ExtendsFairly cap v w)) is m.7
 
   -- the numbers that are passed stay passed
-  passed : (cap : ℕ) (v u w : View J R) (k : ℕ) → Looks cap u w → (status v.seen k ≡ Absent) ⊎ (2 ≤ rank (status u.seen k))
+  passed : (cap : ℕ) (v u w : View J R) (k : ℕ) → ExtendsFairly cap u w → (status v.seen k ≡ Absent) ⊎ (2 ≤ rank (status u.seen k))
       → (status v.seen k ≡ Absent) ⊎ (2 ≤ rank (status w.seen k))
   passed cap v u w k l p = ⊎_elim (λ a. inl a) (λ (a : 2 ≤ rank (status u.seen k)). inr (stays_taken cap u w k l.0 l.2 a)) p
 
@@ -157,13 +157,13 @@ module _ {J R : Type 0} where
 
   -- it is over
   pub scan_over : (cap start i : ℕ) (x : Word) (busy : Bool) (v u w : View J R) → u.worker ≡ v.worker → IsScan cap start i busy v u
-      → u.low ≡ i → Missed cap i x u w → is_last_word cap i x ≡ true → AddsEvent cap v (Over v.worker) w
+      → u.low ≡ i → HasLooked cap i x u w → is_last_word cap i x ≡ true → AddsEvent cap v (Over v.worker) w
   scan_over cap start i x busy v u w who s low m last =
       subst (λ z. AddsEvent cap v (Over z) w) who (sees_adds cap v u w (Over u.worker) s.sees
       (over_of cap i x u w m (last_yes cap i u.low x low last)))
 
   -- all that had been seen posted is passed, where the rest is absent
-  all_passed : (cap start i : ℕ) (v w : View J R) → Sees v w → ((k : ℕ) → k < start → 2 ≤ rank (status w.seen k))
+  all_passed : (cap start i : ℕ) (v w : View J R) → Extends v w → ((k : ℕ) → k < start → 2 ≤ rank (status w.seen k))
       → ((k : ℕ) → start ≤ k → k < i → (status v.seen k ≡ Absent) ⊎ (2 ≤ rank (status w.seen k)))
       → ((k : ℕ) → i ≤ k → k < cap → status v.seen k ≡ Absent) → HasPassed cap v w
   all_passed cap start i v w sees below past rest = (
@@ -183,8 +183,8 @@ module _ {J R : Type 0} where
   )
 
   -- one more look, by which nothing was claimed and nothing is over
-  scan_moved : (cap start i : ℕ) (x : Word) (busy : Bool) (v u w : View J R) → IsScan cap start i busy v u → Missed cap i x u w
-      → Looks cap u w → Sees v w × ((k : ℕ) → k < start → 2 ≤ rank (status w.seen k))
+  scan_moved : (cap start i : ℕ) (x : Word) (busy : Bool) (v u w : View J R) → IsScan cap start i busy v u → HasLooked cap i x u w
+      → ExtendsFairly cap u w → Extends v w × ((k : ℕ) → k < start → 2 ≤ rank (status w.seen k))
       × ((k : ℕ) → start ≤ k → k < i → (status v.seen k ≡ Absent) ⊎ (2 ≤ rank (status w.seen k)))
       × ((k : ℕ) → cap ≤ k → status v.seen k ≡ Absent)
   scan_moved cap start i x busy v u w s m l = let sees = sees_trans v u w s.sees (l.0, l.1) in (
@@ -195,7 +195,7 @@ module _ {J R : Type 0} where
   )
 
   -- this word is absent
-  scan_absent : (cap start i : ℕ) (busy : Bool) (v u w : View J R) → IsScan cap start i busy v u → Missed cap i word.Absent u w
+  scan_absent : (cap start i : ℕ) (busy : Bool) (v u w : View J R) → IsScan cap start i busy v u → HasLooked cap i word.Absent u w
       → u.low ≢ i → HasPassed cap v w × IsFair cap w × ((k : ℕ) → cap ≤ k → status v.seen k ≡ Absent) × (busy ≡ true → OthersHeld v w)
   scan_absent cap start i busy v u w s m low = let l = looks_of cap i word.Absent u w m (last_no cap i u.low word.Absent low) in
       let t = scan_moved cap start i word.Absent busy v u w s m l in
@@ -225,12 +225,12 @@ module _ {J R : Type 0} where
   found_busy i (word.Claimed u) w f e = f.1
 
   -- who holds a claim is another, for a pass that has claimed nothing
-  others_held : (v w : View J R) → Sees v w → holding v.mine ≡ None → SomeHolds w → OthersHeld v w
+  others_held : (v w : View J R) → Extends v w → holding v.mine ≡ None → SomeHolds w → OthersHeld v w
   others_held v w sees free o = (w.seen, o.0, o.1, sees.0, whole w.seen, o.3 (ap holding sees.1 ∙ free), o.2)
 
   -- the next word
   pub scan_next : (cap start i : ℕ) (x : Word) (busy busy' : Bool) (v u w : View J R) → start ≤ i → IsScan cap start i busy v u
-      → Missed cap i x u w → last_look cap i u.low x ≡ false → holding v.mine ≡ None
+      → HasLooked cap i x u w → last_look cap i u.low x ≡ false → holding v.mine ≡ None
       → is_absent x ≡ false → is_open x ≡ false → busy' ≡ (busy || is_busy x) → IsScan cap start (i + 1) busy' v w
   scan_next cap start i x busy busy' v u w from s m goes free some_word not_open both =
       let l = looks_of cap i x u w m goes in let t = scan_moved cap start i x busy v u w s m l in let sees = t.0 in record {
@@ -254,16 +254,16 @@ module _ {J R : Type 0} where
       }
 
   -- an absent word ends a claim that found another's with Later
-  pub later_absent : (cap start i : ℕ) (x : Word) (busy : Bool) (v u w : View J R) → IsScan cap start i busy v u → Missed cap i x u w
+  pub later_absent : (cap start i : ℕ) (x : Word) (busy : Bool) (v u w : View J R) → IsScan cap start i busy v u → HasLooked cap i x u w
       → is_absent x ≡ true → u.low ≢ i → busy ≡ true → Waits cap v w
   later_absent cap start i x busy v u w s m is low on = let a = scan_absent cap start i busy v u w s
-      (subst (λ z. Missed cap i z u w) (absent_is x is) m) low in waits cap v w a.0 a.1 a.2 (a.3 on)
+      (subst (λ z. HasLooked cap i z u w) (absent_is x is) m) low in waits cap v w a.0 a.1 a.2 (a.3 on)
 
   -- or it has passed all there are
-  pub passed_absent : (cap start i : ℕ) (x : Word) (busy : Bool) (v u w : View J R) → IsScan cap start i busy v u → Missed cap i x u w
+  pub passed_absent : (cap start i : ℕ) (x : Word) (busy : Bool) (v u w : View J R) → IsScan cap start i busy v u → HasLooked cap i x u w
       → is_absent x ≡ true → u.low ≢ i → HasPassed cap v w
   passed_absent cap start i x busy v u w s m is low =
-      (scan_absent cap start i busy v u w s (subst (λ z. Missed cap i z u w) (absent_is x is) m) low).0
+      (scan_absent cap start i busy v u w s (subst (λ z. HasLooked cap i z u w) (absent_is x is) m) low).0
 
   -- the end of the row
   pub passed_end : (cap start i : ℕ) (busy : Bool) (v w : View J R) → IsScan cap start i busy v w → cap ≤ i → HasPassed cap v w
@@ -275,8 +275,8 @@ module _ {J R : Type 0} where
       (s.far o.1) o.0
 
   -- another is busy with the lowest number that has not ended
-  pub low_busy : (cap i : ℕ) (x : Word) (v u w : View J R) → Sees v u → Missed cap i x u w → holding v.mine ≡ None → is_busy x ≡ true
-      → Looks cap v w × OthersHeld v w × EndsAt cap w
+  pub low_busy : (cap i : ℕ) (x : Word) (v u w : View J R) → Extends v u → HasLooked cap i x u w → holding v.mine ≡ None → is_busy x ≡ true
+      → ExtendsFairly cap v w × OthersHeld v w × EndsAt cap w
   low_busy cap i x v u w s m free busy = let l = looks_of cap i x u w m (last_not cap i u.low x (busy_last cap i x busy)) in
       let sees = sees_trans v u w s (l.0, l.1) in (
         (sees.0, sees.1, l.2),
@@ -285,14 +285,14 @@ module _ {J R : Type 0} where
       )
 
   -- the last look at the low mark finds the board over
-  pub low_over : (cap i : ℕ) (x : Word) (v u w : View J R) → u.worker ≡ v.worker → Sees v u → Missed cap i x u w → u.low ≡ i
+  pub low_over : (cap i : ℕ) (x : Word) (v u w : View J R) → u.worker ≡ v.worker → Extends v u → HasLooked cap i x u w → u.low ≡ i
       → is_last_word cap i x ≡ true → AddsEvent cap v (Over v.worker) w
   low_over cap i x v u w who s m low last = subst (λ z. AddsEvent cap v (Over z) w) who
       (sees_adds cap v u w (Over u.worker) s (over_of cap i x u w m (last_yes cap i u.low x low last)))
 
   -- another look moves the low mark
-  pub low_on : (cap i : ℕ) (x : Word) (v u w : View J R) → Sees v u → Missed cap i x u w → is_last_word cap i x ≡ false
-      → is_open x ≡ false → is_busy x ≡ false → i < cap → u.low ≡ i → Sees v w × (w.low ≡ i + 1)
+  pub low_on : (cap i : ℕ) (x : Word) (v u w : View J R) → Extends v u → HasLooked cap i x u w → is_last_word cap i x ≡ false
+      → is_open x ≡ false → is_busy x ≡ false → i < cap → u.low ≡ i → Extends v w × (w.low ≡ i + 1)
   low_on cap i x v u w s m more not_open still near low =
       let l = looks_of cap i x u w m (last_not cap i u.low x more) in let ends = ended_else x (absent_last cap i x more) not_open still in
       (sees_trans v u w s (l.0, l.1), m.3 ∙ low_next cap i u.low x low ends (ended_last cap i x more ends near))
@@ -312,7 +312,7 @@ module _ {J R : Type 0} where
   answer_low cap v u w h answer.Memory who p x = x
 
   -- an answer stays one where more had been seen before
-  pub sees_answers : (cap : ℕ) (v u w : View J R) (h : Option ℕ) (a : Answer J) → u.worker ≡ v.worker → Sees v u
+  pub sees_answers : (cap : ℕ) (v u w : View J R) (h : Option ℕ) (a : Answer J) → u.worker ≡ v.worker → Extends v u
       → AnswersWordsClaim cap u w h a → AnswersWordsClaim cap v w h a
   sees_answers cap v u w h (answer.Got i j) who s x =
       (x.0, subst (λ z. AddsEvent cap v (Claim z i j) w) who (sees_adds cap v u w (Claim u.worker i j) s x.1))
@@ -329,11 +329,11 @@ module _ {J R : Type 0} where
   sees_answers cap v u w h answer.Memory who s x = x
 
   -- a look at a number above the low mark sees on
-  pub sees_above : (cap i : ℕ) (x : Word) (v u w : View J R) → Sees v u → Missed cap i x u w → u.low < i → Sees v w
+  pub sees_above : (cap i : ℕ) (x : Word) (v u w : View J R) → Extends v u → HasLooked cap i x u w → u.low < i → Extends v w
   sees_above cap i x v u w s m above = let l = looks_of cap i x u w m (last_no cap i u.low x (λ e. absurd (omega arith))) in
       sees_trans v u w s (l.0, l.1)
 
-  post_to : (cap i worker worker' : ℕ) (o : Option ℕ) (job job' : J) (v u w : View J R) → worker' ≡ worker → job' ≡ job → Sees v u
+  post_to : (cap i worker worker' : ℕ) (o : Option ℕ) (job job' : J) (v u w : View J R) → worker' ≡ worker → job' ≡ job → Extends v u
       → IfSome o (λ p. AddsEvent cap u (Post worker' p i job') w) → IfSome o (λ p. AddsEvent cap v (Post worker p i job) w)
   post_to cap i worker worker' None job job' v u w a b s x = x
   post_to cap i worker worker' (Some p) job job' v u w a b s x =
@@ -341,13 +341,13 @@ module _ {J R : Type 0} where
 
   -- a post goes through the looks before it
   pub post_through : (cap i worker worker' : ℕ) (o o' : Option ℕ) (job job' : J) (v u w : View J R) → o' ≡ o → worker' ≡ worker
-      → job' ≡ job → Sees v u → IfSome o' (λ p. AddsEvent cap u (Post worker' p i job') w)
+      → job' ≡ job → Extends v u → IfSome o' (λ p. AddsEvent cap u (Post worker' p i job') w)
       → IfSome o (λ p. AddsEvent cap v (Post worker p i job) w)
   post_through cap i worker worker' o o' job job' v u w e a b s x =
       post_to cap i worker worker' o job job' v u w a b s (subst (λ z. IfSome z (λ p. AddsEvent cap u (Post worker' p i job') w)) e x)
 
   -- a look, after one that found the number open
-  looked_twice : (cap i : ℕ) (x : Word) (v u w : View J R) → Missed cap i word.Open v u → Missed cap i x u w → Missed cap i x v w
+  looked_twice : (cap i : ℕ) (x : Word) (v u w : View J R) → HasLooked cap i word.Open v u → HasLooked cap i x u w → HasLooked cap i x v w
   looked_twice cap i x v u w m n = let l = looks_of cap i word.Open v u m (last_not cap i v.low word.Open refl) in let low : u.low
       ≡ v.low = m.3 ∙ low_open cap i v.low in (
         (n.0.0 ∙ m.0.0, n.0.1 ∙ m.0.1, n.0.2 ∙ m.0.2, n.0.3 ∙ m.0.3, n.0.4 ∙ m.0.4, n.0.5 ∙ m.0.5),
@@ -360,8 +360,8 @@ module _ {J R : Type 0} where
         again (last_look cap i u.low x) (last_look cap i v.low x) (ap (λ z. last_look cap i z x) low) (l.0, l.1) m.0.3 n.7,
       )
     where
-      again : (a b : Bool) → a ≡ b → Sees v u → u.worker ≡ v.worker → MatchBool a (AddsEvent cap u (Over u.worker) w) (Looks cap u w)
-          → MatchBool b (AddsEvent cap v (Over v.worker) w) (Looks cap v w)
+      again : (a b : Bool) → a ≡ b → Extends v u → u.worker ≡ v.worker → MatchBool a (AddsEvent cap u (Over u.worker) w) (ExtendsFairly cap u w)
+          → MatchBool b (AddsEvent cap v (Over v.worker) w) (ExtendsFairly cap v w)
       again true true e s who x = subst (λ z. AddsEvent cap v (Over z) w) who (sees_adds cap v u w (Over u.worker) s x)
       again true false e s who x = absurd cc
       again false true e s who x = absurd cc
@@ -369,11 +369,11 @@ module _ {J R : Type 0} where
 
   -- a look that finds an open number goes on to the exchange
   pub visit_then : (b : Words J R) (i : ℕ) (c : Word) (old mid new : WordsPass J R) (x : Result J Word)
-      → Missed b.capacity i c (known old) (known mid) → is_open c ≡ true → TriesClaim b i mid x new → TriesClaim b i old x new
+      → HasLooked b.capacity i c (known old) (known mid) → is_open c ≡ true → TriesClaim b i mid x new → TriesClaim b i old x new
   visit_then b i c old mid new x m is a = go x a
     where
-      seen : Missed b.capacity i word.Open (known old) (known mid)
-      seen = subst (λ z. Missed b.capacity i z (known old) (known mid)) (open_is c is) m
+      seen : HasLooked b.capacity i word.Open (known old) (known mid)
+      seen = subst (λ z. HasLooked b.capacity i z (known old) (known mid)) (open_is c is) m
 
       go : (x : Result J Word) → TriesClaim b i mid x new → TriesClaim b i old x new
       go (Ok j) a = let l = looks_of b.capacity i word.Open (known old) (known mid) seen
@@ -385,11 +385,11 @@ module _ {J R : Type 0} where
       go (Err z) a = (a.0, a.1, looked_twice b.capacity i z (known old) (known mid) (known new) seen a.2)
 
   -- a number that was drawn and then opened
-  pub try_posted : (cap slots i wk : ℕ) (o : Option ℕ) (job : J) (v u' u w : View J R) → slots ≡ cap → u ≡ u' → Looks slots v u'
+  pub try_posted : (cap slots i wk : ℕ) (o : Option ℕ) (job : J) (v u' u w : View J R) → slots ≡ cap → u ≡ u' → ExtendsFairly slots v u'
       → u.worker ≡ wk → holding v.mine ≡ o → (p : ℕ) (j : J) → holding u.mine ≡ Some p → j ≡ job
       → AddsEvent slots u (Post u.worker p i j) w → IfSome o (λ q. AddsEvent cap v (Post wk q i job) w)
   try_posted cap slots i wk o job v u' u w size me l' who held p j claim same a =
-      let l : Looks slots v u = subst (λ z. Looks slots v z) (sym me) l' in
+      let l : ExtendsFairly slots v u = subst (λ z. ExtendsFairly slots v z) (sym me) l' in
       let is : o ≡ Some p = sym held ∙ (ap holding (sym l.1) ∙ claim) in
       let all : AddsEvent slots v (Post u.worker p i j) w = sees_adds slots v u w (Post u.worker p i j) (l.0, l.1) a in
       subst (λ z. IfSome z (λ q. AddsEvent cap v (Post wk q i job) w)) (sym is)

@@ -13,10 +13,10 @@ use Rattle.lc_board.specs.State.{Absent, Open, Claimed, status}
 use Rattle.lc_board.specs.Part.{part}
 use Rattle.lc_board.specs.Growth.{put}
 use Rattle.lc_board.specs.WordCode.{code}
-use Rattle.lc_board.specs.WordRow.{Homes, Lies, HasJoined, Knows, IsRow}
+use Rattle.lc_board.specs.WordRow.{Homes, SlotHolds, HasJoined, Knows, IsRow}
 use Rattle.lc_board.specs.declared.words.coding.Word.{Word}
 use Rattle.lc_board.specs.declared.words.coding.Word.TheVariants as word
-use Rattle.lc_board.specs.WordSteps.{dealer, dealt, newcomer, merged, spent}
+use Rattle.lc_board.specs.WordSteps.{view_before_split, left_of_split, larger, right_of_split, merged, spent}
 use Rattle.lc_board.specs.declared.event.Event.{Event}
 use Rattle.lc_board.specs.declared.words.view.Slot.{Slot}
 use Rattle.lc_board.specs.declared.words.view.Slot.TheVariants.{Empty, Job}
@@ -80,29 +80,37 @@ module _ {J R : Type 0} where
     each_seat = seats;
   }
 
+  -- what a pass took in is told by the owners of now
+  reowned : (h : List (Event J R)) (faces : ℕ → Word) (owner owner' : ℕ → Option ℕ) (j worker u : ℕ) (m : List (Event J R))
+      → HasJoined h faces owner j worker u m → owner' u ≡ Some j → HasJoined h faces owner' j worker u m
+  reowned h faces owner owner' j worker u m x o = record { owned = o; other = x.other; events = x.events; idle = x.idle }
+
+  -- a pass knows what it knew where owners, the passes that it makes or took in, and its front change
   reknown : (root : Option J) (workers : ℕ) (h : List (Event J R)) (faces : ℕ → Word) (owner owner' : ℕ → Option ℕ) (j : ℕ)
-      (d : View J R) → Knows root workers h faces owner j d → owner' d.worker ≡ Some j
-      → (0 < d.made → (j ≡ 0) × ((u : ℕ) → d.made ≤ u → owner' u ≡ None))
-      → ((n u : ℕ) (m : List (Event J R)) → get_elem? d.joined n ≡ some (u, m) → owner' u ≡ Some j) → Knows root workers h faces owner' j d
-  reknown root workers h faces owner owner' j d k a b c = record {
+      (d : View J R) (made : ℕ) (joined : List (ℕ × List (Event J R))) (front : ℕ) → Knows root workers h faces owner j d
+      → owner' d.worker ≡ Some j → ((i : ℕ) → i < front → faces i ≢ word.Absent)
+      → (0 < made → (j ≡ 0) × ((u : ℕ) → made ≤ u → owner' u ≡ None))
+      → ((n u : ℕ) (m : List (Event J R)) → get_elem? joined n ≡ some (u, m) → HasJoined h faces owner' j d.worker u m)
+      → Knows root workers h faces owner' j (record d { made = made; joined = joined; front = front })
+  reknown root workers h faces owner owner' j d made joined front k owns used deals joins = record {
     root_is = k.root_is;
     workers_are = k.workers_are;
     member = k.member;
     mine = k.mine;
     seen = k.seen;
     own = k.own;
-    owns = a;
+    owns = owns;
     drew = k.drew;
     draws = k.draws;
     low = k.low;
-    front = k.front;
-    deals = b;
-    joins = λ n u m e. let x = k.joins n u m e in record { owned = c n u m e; other = x.other; events = x.events; idle = x.idle };
+    front = used;
+    deals = deals;
+    joins = joins;
   }
 
   -- a pass that is made from the first keeps the row of words
   pub splits : (root : Option J) (workers id : ℕ) (v : View J R) → v.live ≡ true → 0 < v.made → v.made < workers
-      → Splits (IsRow root workers) id v (dealt v) (newcomer v)
+      → Splits (IsRow root workers) id v (left_of_split v) (right_of_split v)
   splits root workers id v lives some_made room s r at = let k = r.each_seat id v at lives in let deals = k.deals some_made in
       let n : ℕ = length s.views in
       let owner' : ℕ → Option ℕ = put r.owner v.made (Some n) in
@@ -110,37 +118,25 @@ module _ {J R : Type 0} where
       let other : (u j : ℕ) → r.owner u ≡ Some j → u ≢ v.made = (λ u j e x. let y = sym e ∙ (ap r.owner x ∙ fresh) in cc) in
       let kept : (u j : ℕ) → r.owner u ≡ Some j → owner' u ≡ Some j = (λ u j e. put_else r.owner v.made (Some n) u (other u j e) ∙ e) in
       let unused = r.idle v.made fresh in
-      reseated root workers s r (set s.views id (dealt v) ++ newcomer v ∷ []) owner'
+      reseated root workers s r (set s.views id (left_of_split v) ++ right_of_split v ∷ []) owner'
       (λ u. at_put r.owner v.made (Some n) (λ z o. o ≡ None → (part z r.history ≡ [])
       × ((q : ℕ) → (r.faces q ≢ word.Drawn z) × (r.faces q ≢ word.Claimed z))) u (λ e. absurd cc) (λ _ e. r.idle u e))
       (λ j d e live. ⊎_elim
-      (λ (x : get_elem? (set s.views id (dealt v)) j ≡ some d). ⊎_elim
-      (λ (y : (j ≡ id) × (dealt v ≡ d)). subst (λ (z : ℕ × View J R). Knows root workers r.history r.faces owner' z.0 z.1)
+      (λ (x : get_elem? (set s.views id (left_of_split v)) j ≡ some d). ⊎_elim
+      (λ (y : (j ≡ id) × (left_of_split v ≡ d)). subst (λ (z : ℕ × View J R). Knows root workers r.history r.faces owner' z.0 z.1)
       (λ i. (sym y.0 i, y.1 i))
-      (let base : Knows root workers r.history r.faces r.owner id (dealt v) = record {
-        root_is = k.root_is;
-        workers_are = k.workers_are;
-        member = k.member;
-        mine = k.mine;
-        seen = k.seen;
-        own = k.own;
-        owns = k.owns;
-        drew = k.drew;
-        draws = k.draws;
-        low = k.low;
-        front = k.front;
-        deals = λ _. (deals.0, λ u le. deals.1 u (omega arith));
-        joins = k.joins;
-      } in reknown root workers r.history r.faces r.owner owner' id (dealt v) base (kept v.worker id k.owns)
+      (reknown root workers r.history r.faces r.owner owner' id v (v.made + 1) v.joined v.front k (kept v.worker id k.owns) k.front
       (λ _. (deals.0, λ u le. put_else r.owner v.made (Some n) u (λ z. absurd (omega arith)) ∙ deals.1 u (omega arith)))
-      (λ a u m is. let q = k.joins a u m is in kept u id q.owned)))
+      (λ a u m is. let q = k.joins a u m is in
+      reowned r.history r.faces r.owner owner' id v.worker u m q (kept u id q.owned))))
       (λ (y : (j ≢ id) × (get_elem? s.views j ≡ some d)). let kd = r.each_seat j d y.1 live in
-      reknown root workers r.history r.faces r.owner owner' j d kd (kept d.worker j kd.owns)
-      (λ more. absurd (y.0 ((kd.deals more).0 ∙ sym deals.0))) (λ a u m is. let q = kd.joins a u m is in kept u j q.owned))
-      (at_set s.views id j (dealt v) d x))
-      (λ (x : (j ≡ length (set s.views id (dealt v))) × (newcomer v ≡ d)). subst
+      reknown root workers r.history r.faces r.owner owner' j d d.made d.joined d.front kd (kept d.worker j kd.owns) kd.front
+      (λ more. absurd (y.0 ((kd.deals more).0 ∙ sym deals.0))) (λ a u m is. let q = kd.joins a u m is in
+      reowned r.history r.faces r.owner owner' j d.worker u m q (kept u j q.owned)))
+      (at_set s.views id j (left_of_split v) d x))
+      (λ (x : (j ≡ length (set s.views id (left_of_split v))) × (right_of_split v ≡ d)). subst
       (λ (z : ℕ × View J R). Knows root workers r.history r.faces owner' z.0 z.1)
-      (λ i. (sym (x.0 ∙ length-set s.views id (dealt v)) i, x.1 i)) record {
+      (λ i. (sym (x.0 ∙ length-set s.views id (left_of_split v)) i, x.1 i)) record {
         root_is = k.root_is;
         workers_are = k.workers_are;
         member = room;
@@ -155,7 +151,7 @@ module _ {J R : Type 0} where
         deals = λ f. absurd (omega arith);
         joins = λ a u m f. absurd (some-ne-none (u, m) (sym f));
       })
-      (at_end (set s.views id (dealt v)) (newcomer v) d j e))
+      (at_end (set s.views id (left_of_split v)) (right_of_split v) d j e))
 
   -- so does one that is taken in at close
   pub merges : (root : Option J) (workers id : ℕ) (v : View J R) (other : ℕ) (w : View J R) → v.live ≡ true → w.live ≡ true
@@ -171,28 +167,20 @@ module _ {J R : Type 0} where
       (λ (y : (j ≡ other) × (spent ≡ d)). let x : false ≡ true = ap (λ (z : View J R). z.live) y.1 ∙ live in absurd cc)
       (λ (y : (j ≢ other) × (get_elem? (set s.views id (merged v w)) j ≡ some d)). ⊎_elim
       (λ (z : (j ≡ id) × (merged v w ≡ d)). subst (λ (q : ℕ × View J R). Knows root workers r.history r.faces owner' q.0 q.1)
-      (λ i. (sym z.0 i, z.1 i)) record {
-        root_is = k.root_is;
-        workers_are = k.workers_are;
-        member = k.member;
-        mine = k.mine;
-        seen = k.seen;
-        own = k.own;
-        owns = mine_stays v.worker k.owns;
-        drew = k.drew;
-        draws = k.draws;
-        low = k.low;
-        front = λ q l. below_larger v.front w.front (λ z. r.faces z ≢ word.Absent) (ltb v.front w.front) k.front kw.front q l;
-        deals = λ more. let x = k.deals more in (x.0, λ u le. ap (redirect other id) (x.1 u le));
-        joins = λ n u m is. ⊎_elim (λ (q : get_elem? v.joined n ≡ some (u, m)). let x = k.joins n u m q in
-            record { owned = mine_stays u x.owned; other = x.other; events = x.events; idle = x.idle })
-            (λ (q : (a : ℕ) × (get_elem? ((w.worker, w.mine) ∷ w.joined) a ≡ some (u, m))). joined_one q.0 u m q.1)
-            (at_append v.joined ((w.worker, w.mine) ∷ w.joined) (u, m) n is);
-      })
+      (λ i. (sym z.0 i, z.1 i)) (reknown root workers r.history r.faces r.owner owner' id v v.made
+      (v.joined ++ (w.worker, w.mine) ∷ w.joined) (larger v.front w.front) k (mine_stays v.worker k.owns)
+      (λ q l. below_larger v.front w.front (λ z. r.faces z ≢ word.Absent) (ltb v.front w.front) k.front kw.front q l)
+      (λ more. let x = k.deals more in (x.0, λ u le. ap (redirect other id) (x.1 u le)))
+      (λ n u m is. ⊎_elim (λ (q : get_elem? v.joined n ≡ some (u, m)). let x = k.joins n u m q in
+      reowned r.history r.faces r.owner owner' id v.worker u m x (mine_stays u x.owned))
+      (λ (q : (a : ℕ) × (get_elem? ((w.worker, w.mine) ∷ w.joined) a ≡ some (u, m))). joined_one q.0 u m q.1)
+      (at_append v.joined ((w.worker, w.mine) ∷ w.joined) (u, m) n is))))
       (λ (z : (j ≢ id) × (get_elem? s.views j ≡ some d)). let kd = r.each_seat j d z.1 live in
-      reknown root workers r.history r.faces r.owner owner' j d kd (redirect_else other id j (r.owner d.worker) kd.owns y.0)
+      reknown root workers r.history r.faces r.owner owner' j d d.made d.joined d.front kd
+      (redirect_else other id j (r.owner d.worker) kd.owns y.0) kd.front
       (λ more. let x = kd.deals more in (x.0, λ u le. ap (redirect other id) (x.1 u le)))
-      (λ a u m is. let x = kd.joins a u m is in redirect_else other id j (r.owner u) x.owned y.0))
+      (λ a u m is. let x = kd.joins a u m is in
+      reowned r.history r.faces r.owner owner' j d.worker u m x (redirect_else other id j (r.owner u) x.owned y.0)))
       (at_set s.views id j (merged v w) d y.1))
       (at_set (set s.views id (merged v w)) other j spent d e))
     where
@@ -251,16 +239,16 @@ module _ (J R : Type 0) (root : J) (workers n : ℕ) (some_worker : 0 < workers)
   first_shows zero l = refl
   first_shows (suc k) l = zeros n k ∙ ap code (sym (put_else (λ _. word.Absent) 0 word.Open (suc k) (λ e. absurd (omega arith))))
 
-  first_lies : (k : ℕ) → k < suc n → Lies (Some root) [] first_homes k (first_faces k)
+  first_lies : (k : ℕ) → k < suc n → SlotHolds (Some root) [] first_homes k (first_faces k)
   first_lies zero l = (root, refl, refl)
-  first_lies (suc k) l = subst (λ f. Lies (Some root) [] first_homes (suc k) f)
+  first_lies (suc k) l = subst (λ f. SlotHolds (Some root) [] first_homes (suc k) f)
       (sym (put_else (λ _. word.Absent) 0 word.Open (suc k) (λ e. absurd (omega arith)))) (empties J R n k (omega arith))
 
   -- word 0 is open with the root in its slot, and the others are absent
   pub begins : (ws : List ℕ) (xs : List (Slot J R)) → ws ≡ 1 ∷ blank n → xs ≡ Job root ∷ replicate n Empty
-      → IsRow (Some root) workers (opening ws xs (dealer (Some root) workers))
+      → IsRow (Some root) workers (opening ws xs (view_before_split (Some root) workers))
   begins ws xs is are = subst (λ (z : List ℕ × List (Slot J R)). IsRow (Some root) workers
-      (opening z.0 z.1 (dealer (Some root) workers))) (λ i. (sym is i, sym are i)) record {
+      (opening z.0 z.1 (view_before_split (Some root) workers))) (λ i. (sym is i, sym are i)) record {
         history = [];
         faces = first_faces;
         owner = put (λ _. None) 0 (Some 0);
@@ -287,7 +275,7 @@ module _ (J R : Type 0) (root : J) (workers n : ℕ) (some_worker : 0 < workers)
         each_seat = first_seats;
       }
     where
-      first_seat : Knows (Some root) workers [] first_faces (put (λ _. None) 0 (Some 0)) 0 (dealer {J = J} {R = R} (Some root) workers)
+      first_seat : Knows (Some root) workers [] first_faces (put (λ _. None) 0 (Some 0)) 0 (view_before_split {J = J} {R = R} (Some root) workers)
       first_seat = record {
         root_is = refl;
         workers_are = refl;
@@ -304,8 +292,8 @@ module _ (J R : Type 0) (root : J) (workers n : ℕ) (some_worker : 0 < workers)
         joins = λ a u m e. absurd (some-ne-none (u, m) (sym e));
       }
 
-      first_seats : (j : ℕ) (v : View J R) → get_elem? (dealer (Some root) workers ∷ []) j ≡ some v → v.live ≡ true
+      first_seats : (j : ℕ) (v : View J R) → get_elem? (view_before_split (Some root) workers ∷ []) j ≡ some v → v.live ≡ true
           → Knows (Some root) workers [] first_faces (put (λ _. None) 0 (Some 0)) j v
       first_seats zero v e live = subst (λ z. Knows (Some root) workers [] first_faces (put (λ _. None) 0 (Some 0)) 0 z)
-          (some-injective (dealer (Some root) workers) v e) first_seat
+          (some-injective (view_before_split (Some root) workers) v e) first_seat
       first_seats (suc j) v e live = absurd (some-ne-none v (sym e))

@@ -2,7 +2,7 @@
 use Rattle.std.proofs.Common.{◌≡◌, ◌<◌, ◌+◌, ◌++◌, ◌∷◌, ◌∙◌, ℕ, false, List, [], Some, length, slice_get, slice_set, sym, ap, subst, arith}
 use Rattle.std.proofs.lemmas.List.{length-set}
 use Rattle.lc_board.specs.Pass.{new_pass}
-use Rattle.lc_board.specs.WordSteps.{dealt, newcomer}
+use Rattle.lc_board.specs.WordSteps.{left_of_split, right_of_split}
 use Rattle.lc_board.specs.WordsBoard.{IsPassOf, Owns, IsSamePass, known, told}
 use Rattle.lc_board.specs.declared.words.Words.{Words}
 use Rattle.lc_board.specs.declared.words.pass.WordsPass.{WordsPass}
@@ -16,8 +16,8 @@ module _ {J R : Type 0} where
   -- one pass more of those that are started
   pub one_more : (b : Words J R) (items : List (WordsPass J R)) (n workers : ℕ) (first first' other : WordsPass J R)
       → slice_get items 0 ≡ Some first → length items ≡ n → 0 < n
-      → IsSamePass first first' → known first' ≡ dealt (known first) → IsPassOf b other → other.worker ≡ n → other.full ≡ false
-      → known other ≡ newcomer (known first)
+      → IsSamePass first first' → known first' ≡ left_of_split (known first) → IsPassOf b other → other.worker ≡ n → other.full ≡ false
+      → known other ≡ right_of_split (known first)
       → ((w : ℕ) (p : WordsPass J R) → slice_get items w ≡ Some p → IsNew b w p)
       → ((known first).made ≡ n) × ((known first).workers ≡ workers)
       → ((w : ℕ) (p : WordsPass J R) → slice_get (slice_set items 0 first' ++ other ∷ []) w ≡ Some p → IsNew b w p)

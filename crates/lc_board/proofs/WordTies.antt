@@ -9,7 +9,7 @@ use Rattle.lc_board.specs.Holding.{holding, posted}
 use Rattle.lc_board.specs.WordCode.{word_of, is_absent, is_open}
 use Rattle.lc_board.specs.WordRow.{Seated}
 use Rattle.lc_board.specs.declared.words.coding.Word.{Word}
-use Rattle.lc_board.specs.WordSteps.{AddsEvent, Looks, Missed, low_after, last_look, Leaves, looked, TakesJob, claimed, TriesDraw}
+use Rattle.lc_board.specs.WordSteps.{AddsEvent, ExtendsFairly, HasLooked, low_after, last_look, Leaves, looked, TakesJob, claimed, TriesDraw}
 use Rattle.lc_board.specs.WordSteps.{Opens, stepped_over}
 use Rattle.lc_board.specs.WordPass.{IsTied, kind, tag, tags_as, carried_as}
 use Rattle.lc_board.specs.declared.event.Event.{Event}
@@ -36,10 +36,10 @@ module _ {J R : Type 0} where
 
   -- an exchange at a word that is not open claims nothing
   pub not_claimed : (st : Step (Slot J R)) (m m' : Seated J R) (r : ℕ) (x : Word) → x ≡ word_of r → is_open x ≡ false
-      → claimed st m r m' → (m'.1 ≡ m.1) × Missed st.slots st.word x m.0 m'.0
+      → claimed st m r m' → (m'.1 ≡ m.1) × HasLooked st.slots st.word x m.0 m'.0
   not_claimed st m m' r x found e did = let saw = match_false (is_open (word_of r)) (TakesJob st m m') (looked st m r m')
       (ap is_open (sym found) ∙ e) did in
-      (saw.0, subst (λ z. Missed st.slots st.word z m.0 m'.0) (sym found) saw.1)
+      (saw.0, subst (λ z. HasLooked st.slots st.word z m.0 m'.0) (sym found) saw.1)
 
   is_empty : (x : Slot J R) → kind x ≡ 0 → Path (Slot J R) x Empty
   is_empty Empty e = refl
@@ -66,19 +66,19 @@ module _ {J R : Type 0} where
   held_slot i slots worker posts front low m t = let e = carried_is m.1 (Some i) t.carries in
       (Empty, e ∙ ap (λ l. (i, Empty) ∷ rest l) (sym e))
 
-  missed_holds : (cap : ℕ) (v w : View J R) (b : Bool) → MatchBool b (AddsEvent cap v (Over v.worker) w) (Looks cap v w)
+  missed_holds : (cap : ℕ) (v w : View J R) (b : Bool) → MatchBool b (AddsEvent cap v (Over v.worker) w) (ExtendsFairly cap v w)
       → holding w.mine ≡ holding v.mine
   missed_holds cap v w true a = ap holding a.1
   missed_holds cap v w false a = ap holding a.1
 
-  missed_posted : (cap : ℕ) (v w : View J R) (b : Bool) → MatchBool b (AddsEvent cap v (Over v.worker) w) (Looks cap v w)
+  missed_posted : (cap : ℕ) (v w : View J R) (b : Bool) → MatchBool b (AddsEvent cap v (Over v.worker) w) (ExtendsFairly cap v w)
       → posted w.mine ≡ posted v.mine
   missed_posted cap v w true a = ap posted a.1
   missed_posted cap v w false a = ap posted a.1
 
   -- the tie holds over a look that claims nothing
   pub tied_missed : (cap i : ℕ) (x : Word) (slots worker : ℕ) (claim : Option ℕ) (posts front low low2 : ℕ) (m m' : Seated J R)
-      → slots ≡ cap → m'.1 ≡ m.1 → Missed cap i x m.0 m'.0 → low2 ≡ low_after cap i low x
+      → slots ≡ cap → m'.1 ≡ m.1 → HasLooked cap i x m.0 m'.0 → low2 ≡ low_after cap i low x
       → IsTied slots worker claim posts front low m → IsTied slots worker claim posts front low2 m'
   tied_missed cap i x slots worker claim posts front low low2 m m' same c miss is t = record {
     live = miss.0.0 ∙ t.live;

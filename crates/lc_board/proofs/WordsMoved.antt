@@ -1,5 +1,5 @@
 -- What stays of the row of words when one number and one pass move.
-use Rattle.std.proofs.Common.{◌≡◌, ◌≢◌, ◌↔◌, ℕ, eqb, subst, ◌<◌, true, false, cond, List, length, get_or, set, sym, refl, ap, ◌∙◌}
+use Rattle.std.proofs.Common.{◌≡◌, ◌≢◌, ◌↔◌, ℕ, eqb, subst, ◌+◌, ◌<◌, true, false, cond, List, length, get_or, set, sym, refl, ap, ◌∙◌}
 use Rattle.std.proofs.Common.{⊎_elim, arith, length-set, get_or-set_same, get_or-set_other, Option, Some, None}
 use mathlib.Core.Path.{Path}
 use mathlib.Core.Option.{some}
@@ -11,16 +11,17 @@ use Rattle.lc_board.specs.Part.{part}
 use Rattle.lc_board.specs.LegalHistory.{IsLegal}
 use Rattle.lc_board.specs.Holding.{holding}
 use Rattle.lc_board.specs.RowsInPlace.{row_given}
-use Rattle.lc_board.specs.Growth.{GoesOn, put, job_at, IsMatched}
+use Rattle.lc_board.specs.Growth.{GoesOn, IsEnded, put, job_at, IsMatched}
 use Rattle.lc_board.specs.WordCode.{shown, code}
-use Rattle.lc_board.specs.WordRow.{Homes, Lies, HasJoined, Knows, ShowsState, IsRow}
+use Rattle.lc_board.specs.WordRow.{Homes, SlotHolds, HasJoined, Knows, ShowsState, IsRow}
+use Rattle.lc_board.specs.WordSteps.{IsFair}
 use Rattle.lc_board.specs.declared.words.coding.Word.{Word}
 use Rattle.lc_board.specs.declared.words.coding.Word.TheVariants as word
 use Rattle.lc_board.specs.declared.event.Event.{Event}
 use Rattle.lc_board.specs.declared.words.view.Slot.{Slot}
 use Rattle.lc_board.specs.declared.words.view.View.{View}
 use Rattle.lc_board.proofs.HeldClaims.{part_tells_claim}
-use Rattle.lc_board.proofs.Growths.{at_put, put_else, goes_trans}
+use Rattle.lc_board.proofs.Growths.{at_put, put_else, whole, goes_trans, rank_most, rank_from}
 
 -- a number is the same for the worker u
 pub record IsApart (u : ℕ) (faces faces' : ℕ → Word) : Type 0 where
@@ -118,13 +119,13 @@ module _ {J R : Type 0} where
     pub state : ShowsState root workers (length s.homes) words' h' faces'
     pub grows : GoesOn h' r.history
     pub parts : (u : ℕ) → u ≢ worker → part u h' ≡ part u r.history
-    pub lies : (k : ℕ) → k < length s.homes → Lies root h' homes' k (faces' k)
+    pub lies : (k : ℕ) → k < length s.homes → SlotHolds root h' homes' k (faces' k)
     pub busy : (k w : ℕ) → faces' k ≡ word.Drawn w → (p : ℕ) × (status h' p ≡ Claimed w)
     pub apart : (u : ℕ) → u ≢ worker → IsApart u r.faces faces'
     pub more : (k : ℕ) → faces' k ≡ word.Absent → r.faces k ≡ word.Absent
 
   -- the row of words after one worker's step, from what its pass knows
-  pub rebuilt : (root : Option J) (workers : ℕ) (s : State (Slot J R) (View J R)) (r : IsRow root workers s) (me : ℕ) (v : View J R)
+  rebuilt : (root : Option J) (workers : ℕ) (s : State (Slot J R) (View J R)) (r : IsRow root workers s) (me : ℕ) (v : View J R)
       → get_elem? s.views me ≡ some v → v.live ≡ true
       → (h' : List (Event J R)) (faces' : ℕ → Word) (words' : List ℕ) (homes' : Homes J R) (w : View J R)
       → IsNext root workers s r v.worker h' faces' words' homes' → Knows root workers h' faces' r.owner me w
@@ -157,9 +158,59 @@ module _ {J R : Type 0} where
             (at_set s.views me j w d e);
       }
 
+  -- the numbers that a pass knows to have ended still have
+  pub still_ended : (root : Option J) (workers : ℕ) (s : State (Slot J R) (View J R)) (r : IsRow root workers s) (me : ℕ) (v : View J R)
+      → Knows root workers r.history r.faces r.owner me v → (h' : List (Event J R)) → IsLegal (length s.homes) workers h'
+      → GoesOn h' r.history → (i : ℕ) → i < v.low → IsEnded (status h' i)
+  still_ended root workers s r me v k h' legal grows i below = let a = k.low i below in let b = rank_from (length s.homes) workers h' v.seen
+      legal (goes_trans h' r.history v.seen grows k.seen) i in let c = rank_most (status h' i) in omega arith
+
+  -- the view of a pass after its own step: it has seen all
+  abbrev pub moved : View J R → List (Event J R) → List (Event J R) → ℕ → ℕ → ℕ → View J R
+  moved v h mine drawn low front = record v { seen = h; mine = mine; drawn = drawn; low = low; front = front }
+
+  -- what the step of a worker tells its pass anew: its events, what it has drawn, and its marks
+  pub record IsTold (worker : ℕ) (h : List (Event J R)) (faces : ℕ → Word) (mine : List (Event J R)) (drawn low front : ℕ) : Type 0 where
+    pub own : part worker h ≡ mine
+    pub drew : (k : ℕ) → faces k ≡ word.Drawn worker → drawn ≡ k + 1
+    pub draws : (k : ℕ) → drawn ≡ k + 1 → faces k ≡ word.Drawn worker
+    pub ended : (k : ℕ) → k < low → IsEnded (status h k)
+    pub used : (k : ℕ) → k < front → faces k ≢ word.Absent
+
+  -- the row of words after one worker's step, of which its pass has seen all, and what that has seen is fair
+  pub steps_on : (root : Option J) (workers : ℕ) (s : State (Slot J R) (View J R)) (r : IsRow root workers s) (me : ℕ) (v : View J R)
+      → get_elem? s.views me ≡ some v → v.live ≡ true
+      → (h' : List (Event J R)) (faces' : ℕ → Word) (words' : List ℕ) (homes' : Homes J R) (mine : List (Event J R)) (drawn low front : ℕ)
+      → IsNext root workers s r v.worker h' faces' words' homes' → IsTold v.worker h' faces' mine drawn low front
+      → IsRow root workers record { words = words'; homes = homes'; views = set s.views me (moved v h' mine drawn low front) }
+      × IsFair (length s.homes) (moved v h' mine drawn low front)
+  steps_on root workers s r me v at lives h' faces' words' homes' mine drawn low front n told = let k = r.each_seat me v at lives in (
+    rebuilt root workers s r me v at lives h' faces' words' homes' (moved v h' mine drawn low front) n record {
+      root_is = k.root_is;
+      workers_are = k.workers_are;
+      member = k.member;
+      mine = told.own;
+      seen = whole h';
+      own = told.own;
+      owns = k.owns;
+      drew = told.drew;
+      draws = told.draws;
+      low = told.ended;
+      front = told.used;
+      deals = k.deals;
+      joins = λ a u m e. let x = k.joins a u m e in
+          still_joined r.history h' r.faces faces' r.owner me v.worker u m (n.parts u x.other) (n.apart u x.other) x;
+    },
+    (
+      subst (λ z. IsLegal (length s.homes) z h') (sym k.workers_are) n.state.legal,
+      subst (λ z. IsMatched z h') (sym k.root_is) n.state.matched,
+      told.own,
+    ),
+  )
+
   -- what lies at a home stays where nothing of its number moves
   pub lies_stay : (root : Option J) (h h' : List (Event J R)) (hs hs' : Homes J R) (k : ℕ) → get_elem? hs' k ≡ get_elem? hs k
-      → job_at root h' k ≡ job_at root h k → row_given h' k ≡ row_given h k → (c : Word) → Lies root h hs k c → Lies root h' hs' k c
+      → job_at root h' k ≡ job_at root h k → row_given h' k ≡ row_given h k → (c : Word) → SlotHolds root h hs k c → SlotHolds root h' hs' k c
   lies_stay root h h' hs hs' k a b d (word.Drawn w) l = tt
   lies_stay root h h' hs hs' k a b d word.Absent l = a ∙ l
   lies_stay root h h' hs hs' k a b d word.Open l = (l.0, a ∙ l.1, b ∙ l.2)
@@ -182,7 +233,7 @@ module _ {J R : Type 0} where
     pub homes_else : (k : ℕ) → k ≢ i → get_elem? homes' k ≡ get_elem? s.homes k
     pub jobs_else : (k : ℕ) → k ≢ i → job_at root h' k ≡ job_at root r.history k
     pub rows_else : (k : ℕ) → k ≢ i → row_given h' k ≡ row_given r.history k
-    pub lies_here : Lies root h' homes' i c'
+    pub lies_here : SlotHolds root h' homes' i c'
     pub busy : (k w : ℕ) → put r.faces i c' k ≡ word.Drawn w → (p : ℕ) × (status h' p ≡ Claimed w)
     pub loose : (u : ℕ) → u ≢ worker → (r.faces i ≢ word.Drawn u) × (c' ≢ word.Drawn u) × (c' ≢ word.Claimed u)
 
@@ -207,7 +258,7 @@ module _ {J R : Type 0} where
     };
     grows = t.grows;
     parts = t.parts;
-    lies = λ k l. at_put r.faces i c' (λ z f. z < length s.homes → Lies root h' homes' z f) k (λ _. t.lies_here)
+    lies = λ k l. at_put r.faces i c' (λ z f. z < length s.homes → SlotHolds root h' homes' z f) k (λ _. t.lies_here)
         (λ ne near. lies_stay root r.history h' s.homes homes' k (t.homes_else k ne) (t.jobs_else k ne) (t.rows_else k ne) (r.faces k)
         (r.lies k near)) l;
     busy = t.busy;

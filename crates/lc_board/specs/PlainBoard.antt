@@ -49,18 +49,18 @@ module _ {J R : Type 0} where
   posts_by b w = posts_at b (held_by b w)
 
   -- the cell of a number is what the history made of it
-  abbrev pub Fits : J → List (Event J R) → ℕ → Option (Cell J R) → Type 0
-  Fits root h k None = (status h k ≡ Absent) × (posts_under k h ≡ []) × (row_given h k ≡ None)
-  Fits root h k (Some (Waiting j)) = (status h k ≡ Open) × (posts_under k h ≡ []) × (row_given h k ≡ None)
+  abbrev pub IsCellOf : J → List (Event J R) → ℕ → Option (Cell J R) → Type 0
+  IsCellOf root h k None = (status h k ≡ Absent) × (posts_under k h ≡ []) × (row_given h k ≡ None)
+  IsCellOf root h k (Some (Waiting j)) = (status h k ≡ Open) × (posts_under k h ≡ []) × (row_given h k ≡ None)
       × (job_posted root h k ≡ Some j)
-  Fits root h k (Some (Held w n)) = (status h k ≡ Claimed w) × (length (posts_under k h) ≡ n) × (row_given h k ≡ None)
+  IsCellOf root h k (Some (Held w n)) = (status h k ≡ Claimed w) × (length (posts_under k h) ≡ n) × (row_given h k ≡ None)
       × (job_got h k ≡ job_posted root h k)
-  Fits root h k (Some (Done e)) = (status h k ≡ status_ended e) × (row_given h k ≡ Some e) × (job_got h k ≡ job_posted root h k)
+  IsCellOf root h k (Some (Done e)) = (status h k ≡ status_ended e) × (row_given h k ≡ Some e) × (job_got h k ≡ job_posted root h k)
 
   -- the board is the state after the history
   pub record IsAfter (root : J) (h : List (Event J R)) (b : Board J R) : Type 0 where
     pub legal : IsLegal b.capacity (workers_of b) h
-    pub fits : (k : ℕ) → Fits root h k (cell_at b k)
+    pub fits : (k : ℕ) → IsCellOf root h k (cell_at b k)
 
   -- one event more: whatever the history was, it goes on with this event
   pub record Adds (old : Board J R) (e : Event J R) (new : Board J R) : Type 0 where

@@ -28,13 +28,13 @@ Seated J R = Me (Slot J R) (View J R)
 
 module _ {J R : Type 0} where
   -- what the slot of a number holds
-  abbrev pub Lies : Option J → List (Event J R) → Homes J R → ℕ → Word → Type 0
-  Lies root h hs i (word.Drawn w) = Unit {0}
-  Lies root h hs i word.Absent = get_elem? hs i ≡ some (some Empty)
-  Lies root h hs i word.Open = (j : J) × (get_elem? hs i ≡ some (some (Job j))) × (job_at root h i ≡ Some j)
-  Lies root h hs i (word.Claimed w) = Unit {0}
-  Lies root h hs i word.Returned = (r : R) × (get_elem? hs i ≡ some (some (Row r))) × (row_given h i ≡ Some (ended.Returned r))
-  Lies root h hs i word.Faulted = (r : R) × (get_elem? hs i ≡ some (some (Row r))) × (row_given h i ≡ Some (ended.Faulted r))
+  abbrev pub SlotHolds : Option J → List (Event J R) → Homes J R → ℕ → Word → Type 0
+  SlotHolds root h hs i (word.Drawn w) = Unit {0}
+  SlotHolds root h hs i word.Absent = get_elem? hs i ≡ some (some Empty)
+  SlotHolds root h hs i word.Open = (j : J) × (get_elem? hs i ≡ some (some (Job j))) × (job_at root h i ≡ Some j)
+  SlotHolds root h hs i (word.Claimed w) = Unit {0}
+  SlotHolds root h hs i word.Returned = (r : R) × (get_elem? hs i ≡ some (some (Row r))) × (row_given h i ≡ Some (ended.Returned r))
+  SlotHolds root h hs i word.Faulted = (r : R) × (get_elem? hs i ≡ some (some (Row r))) × (row_given h i ≡ Some (ended.Faulted r))
 
   -- what a worker that a pass took in has left: its events, and no word that it holds
   pub record HasJoined (h : List (Event J R)) (faces : ℕ → Word) (owner : ℕ → Option ℕ)
@@ -77,7 +77,7 @@ module _ {J R : Type 0} where
     pub owner : ℕ → Option ℕ
     pub state : ShowsState root workers (length s.homes) s.words history faces
     pub wide : length s.words ≡ length s.homes
-    pub lies : (k : ℕ) → k < length s.homes → Lies root history s.homes k (faces k)
+    pub lies : (k : ℕ) → k < length s.homes → SlotHolds root history s.homes k (faces k)
     pub busy : (k w : ℕ) → faces k ≡ word.Drawn w → (p : ℕ) × (status history p ≡ Claimed w)
     pub idle : (u : ℕ) → owner u ≡ None
         → (part u history ≡ []) × ((k : ℕ) → (faces k ≢ word.Drawn u) × (faces k ≢ word.Claimed u))

@@ -55,12 +55,12 @@ module _ {J R : Type 0} where
   IsFair cap w = IsLegal cap w.workers w.seen × IsMatched w.root w.seen × (part w.worker w.seen ≡ w.mine)
 
   -- the history goes on from what was seen, and the worker has added nothing
-  abbrev pub Sees : View J R → View J R → Type 0
-  Sees v w = GoesOn w.seen v.seen × (w.mine ≡ v.mine)
+  abbrev pub Extends : View J R → View J R → Type 0
+  Extends v w = GoesOn w.seen v.seen × (w.mine ≡ v.mine)
 
   -- the same, and what was seen is fair
-  abbrev pub Looks : ℕ → View J R → View J R → Type 0
-  Looks cap v w = GoesOn w.seen v.seen × (w.mine ≡ v.mine) × IsFair cap w
+  abbrev pub ExtendsFairly : ℕ → View J R → View J R → Type 0
+  ExtendsFairly cap v w = GoesOn w.seen v.seen × (w.mine ≡ v.mine) × IsFair cap w
 
   -- the history goes on from what was seen, and ends with the event, which is one more of the worker's
   abbrev pub AddsEvent : ℕ → View J R → Event J R → View J R → Type 0
@@ -73,7 +73,7 @@ module _ {J R : Type 0} where
 
   -- no number that had been seen posted is open, and another worker had a claim meanwhile
   abbrev pub Waits : ℕ → View J R → View J R → Type 0
-  Waits cap v w = Looks cap v w × ((k : ℕ) → status v.seen k ≢ Absent → status w.seen k ≢ Open) × OthersHeld v w
+  Waits cap v w = ExtendsFairly cap v w × ((k : ℕ) → status v.seen k ≢ Absent → status w.seen k ≢ Open) × OthersHeld v w
 
   -- each number below this one has ended
   abbrev pub EndedTo : ℕ → View J R → Type 0
@@ -97,14 +97,14 @@ module _ {J R : Type 0} where
   Finds i (word.Claimed u) w = (status w.seen i ≡ Claimed u) × SomeHolds w
 
   -- a look at the number i, whose word is x. It is the event Over where no number is left to look at
-  abbrev pub Missed : ℕ → ℕ → Word → View J R → View J R → Type 0
-  Missed cap i x v w = Same v w × (w.drawn ≡ v.drawn) × (w.front ≡ v.front) × (w.low ≡ low_after cap i v.low x)
+  abbrev pub HasLooked : ℕ → ℕ → Word → View J R → View J R → Type 0
+  HasLooked cap i x v w = Same v w × (w.drawn ≡ v.drawn) × (w.front ≡ v.front) × (w.low ≡ low_after cap i v.low x)
       × EndedTo w.low w × EndsAt cap w
-      × Finds i x w × MatchBool (last_look cap i v.low x) (AddsEvent cap v (Over v.worker) w) (Looks cap v w)
+      × Finds i x w × MatchBool (last_look cap i v.low x) (AddsEvent cap v (Over v.worker) w) (ExtendsFairly cap v w)
 
   -- a look
   abbrev pub looked : Step (Slot J R) → Seated J R → ℕ → Seated J R → Type 0
-  looked st m r m' = (m'.1 ≡ m.1) × Missed st.slots st.word (word_of r) m.0 m'.0
+  looked st m r m' = (m'.1 ≡ m.1) × HasLooked st.slots st.word (word_of r) m.0 m'.0
 
   -- the number is claimed, and its job is taken
   abbrev pub TakesJob : Step (Slot J R) → Seated J R → Seated J R → Type 0
@@ -125,7 +125,7 @@ module _ {J R : Type 0} where
 
   -- a try to draw the number, which is drawn where it was free; the front goes on
   abbrev pub TriesDraw : ℕ → ℕ → Bool → Seated J R → Seated J R → Type 0
-  TriesDraw cap i free m m' = Same m.0 m'.0 × (m'.0.low ≡ m.0.low) × (m'.0.front ≡ i + 1) × Looks cap m.0 m'.0
+  TriesDraw cap i free m m' = Same m.0 m'.0 × (m'.0.low ≡ m.0.low) × (m'.0.front ≡ i + 1) × ExtendsFairly cap m.0 m'.0
       × MatchBool free (TakesEmpty i m m') ((m'.1 ≡ m.1) × (m'.0.drawn ≡ m.0.drawn))
 
   -- an exchange of the word, which draws the number where that is absent
@@ -135,7 +135,7 @@ module _ {J R : Type 0} where
   -- a look at the front: where that number is used, the front goes on
   abbrev pub stepped_over : Step (Slot J R) → Seated J R → ℕ → Seated J R → Type 0
   stepped_over st m r m' = (m'.1 ≡ m.1) × Same m.0 m'.0 × (m'.0.drawn ≡ m.0.drawn) × (m'.0.low ≡ m.0.low)
-      × (m'.0.front ≡ cond (is_absent (word_of r)) m.0.front (st.word + 1)) × Looks st.slots m.0 m'.0
+      × (m'.0.front ≡ cond (is_absent (word_of r)) m.0.front (st.word + 1)) × ExtendsFairly st.slots m.0 m'.0
 
   -- a slot goes home
   abbrev pub Leaves : Seated J R → Seated J R → Type 0
@@ -164,11 +164,11 @@ module _ {J R : Type 0} where
 
   -- a claim that is not ended stays, but its slot goes home: the board is about to be closed
   abbrev pub put_down : Step (Slot J R) → Seated J R → ℕ → Seated J R → Type 0
-  put_down st m r m' = Leaves m m' × Sees m.0 m'.0
+  put_down st m r m' = Leaves m m' × Extends m.0 m'.0
 
   -- the first pass, which makes the others
-  abbrev pub dealer : Option J → ℕ → View J R
-  dealer root workers = record {
+  abbrev pub view_before_split : Option J → ℕ → View J R
+  view_before_split root workers = record {
     live = true;
     root = root;
     workers = workers;
@@ -183,12 +183,12 @@ module _ {J R : Type 0} where
   }
 
   -- a pass that has made one more
-  abbrev pub dealt : View J R → View J R
-  dealt v = record v { made = v.made + 1 }
+  abbrev pub left_of_split : View J R → View J R
+  left_of_split v = record v { made = v.made + 1 }
 
   -- the pass that it made
-  abbrev pub newcomer : View J R → View J R
-  newcomer v = record {
+  abbrev pub right_of_split : View J R → View J R
+  right_of_split v = record {
     live = true;
     root = v.root;
     workers = v.workers;

@@ -3,7 +3,7 @@ use Rattle.std.specs.Prelude.{◌≡◌, ◌+◌, ℕ, false, Option, Some, None
 use Rattle.lc_board.specs.Pass.{Pass}
 use Rattle.lc_board.specs.Ending.{end_event}
 use Rattle.lc_board.specs.WordCode.{is_open}
-use Rattle.lc_board.specs.WordSteps.{AddsEvent, Looks, Missed, Sees, Waits}
+use Rattle.lc_board.specs.WordSteps.{AddsEvent, ExtendsFairly, HasLooked, Extends, Waits}
 use Rattle.lc_board.specs.declared.event.Event.TheVariants as event
 use Rattle.lc_board.specs.declared.answers.Claim.{Claim}
 use Rattle.lc_board.specs.declared.answers.Claim.TheVariants as answer
@@ -57,7 +57,7 @@ module _ {J R : Type 0} where
   abbrev pub TriesClaim : Words J R → ℕ → WordsPass J R → Result J Word → WordsPass J R → Type 0
   TriesClaim b i old (Ok j) new = (new.holding ≡ Some i)
       × AddsEvent b.capacity (known old) (event.Claim (known old).worker i j) (known new)
-  TriesClaim b i old (Err x) new = (new.holding ≡ None) × (is_open x ≡ false) × Missed b.capacity i x (known old) (known new)
+  TriesClaim b i old (Err x) new = (new.holding ≡ None) × (is_open x ≡ false) × HasLooked b.capacity i x (known old) (known new)
 
   -- under the claim that it has, the pass has posted the number with this job
   abbrev pub HasPosted : Words J R → WordsPass J R → ℕ → J → WordsPass J R → Type 0
@@ -67,16 +67,16 @@ module _ {J R : Type 0} where
   -- what a try to post answers: the number; or else the job comes back
   abbrev pub TriesPost : Words J R → WordsPass J R → J → Result ℕ J → WordsPass J R → Type 0
   TriesPost b old job (Ok i) new = (new.posted ≡ old.posted + 1) × HasPosted b old i job new
-  TriesPost b old job (Err j) new = (j ≡ job) × (new.posted ≡ old.posted) × Looks b.capacity (known old) (known new)
+  TriesPost b old job (Err j) new = (j ≡ job) × (new.posted ≡ old.posted) × ExtendsFairly b.capacity (known old) (known new)
 
   -- what a post answers: the number; or else the job comes back, and no number is left. It never wants memory
   abbrev pub AnswersWordsPost : Words J R → WordsPass J R → J → Result ℕ (PostFault J) → WordsPass J R → Type 0
   AnswersWordsPost b old job (Ok i) new = (new.posted ≡ old.posted + 1) × HasPosted b old i job new
   AnswersWordsPost b old job (Err (refusal.Full j)) new = (j ≡ job) × (new.posted ≡ old.posted)
-      × Sees (known old) (known new) × ((known new).front ≡ b.capacity)
+      × Extends (known old) (known new) × ((known new).front ≡ b.capacity)
   AnswersWordsPost b old job (Err (refusal.Memory j)) new = ⊥
 
   -- the pass has ended its claim so
-  abbrev pub HasEnded : Words J R → WordsPass J R → Ended R → WordsPass J R → Type 0
-  HasEnded b old e new = IfSome old.holding
+  abbrev pub EndsClaim : Words J R → WordsPass J R → Ended R → WordsPass J R → Type 0
+  EndsClaim b old e new = IfSome old.holding
       (λ i. AddsEvent b.capacity (known old) (end_event old.worker i e) (known new))

@@ -21,6 +21,3 @@ pub use plain::Plain;
 pub use shared::{Shared, Token};
 pub use words::Words;
 pub use words::pass::WordsPass;
-
-#[cfg(test)]
-mod tests;

@@ -7,7 +7,7 @@ use Rattle.lc_level.specs.Selection.{SelectionModel, selection_of}
 use Rattle.lc_level.specs.TopJob.{top_job}
 use Rattle.lc_rules.specs.IgnoreRules.{rules_of}
 use Rattle.lc_text.specs.Check.{AnswersInput}
-use Rattle.lc_text.specs.Lines.{lines_of}
+use Rattle.lc_text.specs.Lines.{input_lines_of}
 use Rattle.lc_text.specs.Writes.{AnswersPrint}
 use Rattle.lc_text.specs.declared.outcome.Outcome.{Outcome}
 use Rattle.lc_text.specs.declared.printing.PrintFault.{PrintFault}
@@ -45,7 +45,7 @@ module _ {O : Type 0} (may_take : O → List ℕ → Result ℕ Failed → O →
 
   module _ {I : Type 0} (may_give : I → ℕ → Answer → I → Type 0) where
     pub explain_stops : (fault : PrintFault) (input read : I) (bytes text : List ℕ) (outcome : Outcome) (out wrote : O)
-        → AnswersInput may_give input (Ok tt) bytes read → Explains Says (lines_of bytes) text outcome
+        → AnswersInput may_give input (Ok tt) bytes read → Explains Says (input_lines_of bytes) text outcome
         → AnswersPrint may_take out text (Err fault) wrote
         → AnswersExplain may_take Says may_give input out (Err (print_fault fault)) read wrote
     explain_stops print.Write input read bytes text outcome out wrote given told stopped = (bytes, given, (text, outcome, told, stopped))

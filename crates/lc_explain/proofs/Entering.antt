@@ -5,11 +5,11 @@ use Rattle.lc_level.specs.Enters.{EntersLevel}
 use Rattle.lc_level.specs.FaultLines.{FaultLineModel}
 use Rattle.lc_level.specs.Job.{JobModel}
 use Rattle.lc_level.specs.Level.{faulted_level, level_of, level_after}
-use Rattle.lc_level.specs.PlacePaths.{place_path}
+use Rattle.lc_level.specs.SitePaths.{site_path}
 use Rattle.lc_level.specs.RuleFiles.{RuleBytes, rule_bytes}
 use Rattle.lc_level.specs.Selection.{SelectionModel}
-use Rattle.lc_level.specs.declared.place.Place.{Place}
-use Rattle.lc_level.specs.declared.unlisted.Unlisted.TheVariants.{Faulted}
+use Rattle.lc_level.specs.declared.fault_site.FaultSite.{FaultSite}
+use Rattle.lc_level.specs.declared.open_fault.OpenFault.TheVariants.{Faulted}
 use Rattle.lc_tree.specs.Trees.{Listings, Contents}
 use Rattle.lc_level.specs.declared.fault_word.FaultWord.{FaultWord}
 use Rattle.lc_explain.specs.Waypoints.{WaypointModel, waypoint_of, waypoint_after, MayEnter}
@@ -39,15 +39,15 @@ no_attributes : SelectionModel
 no_attributes = record { without = []; only = [] }
 
 -- a directory at fault can't be entered
-pub fault_entered : (lists : List ℕ → Listings) (gives : List ℕ → Contents) (j : JobModel) (texts : Bool) (place : Place) (word : FaultWord)
-    (directory : List ℕ) → directory ≡ j.path → EntersLevel lists gives j texts (Err (Faulted place word))
-    → MayEnter lists gives j (Err (record { path = place_path directory place; word = word }))
-fault_entered lists gives j texts place word directory at (a, may, tidy, is) = record {
+pub fault_entered : (lists : List ℕ → Listings) (gives : List ℕ → Contents) (j : JobModel) (texts : Bool) (site : FaultSite) (word : FaultWord)
+    (directory : List ℕ) → directory ≡ j.path → EntersLevel lists gives j texts (Err (Faulted site word))
+    → MayEnter lists gives j (Err (record { path = site_path directory site; word = word }))
+fault_entered lists gives j texts site word directory at (a, may, well_formed, is) = record {
   answers = a;
   may = may;
-  tidy = tidy;
-  gives_it = fault_of no_attributes j (place_path j.path place) word a a.here (is no_attributes)
-      ∙ ap (λ (d : List ℕ). as_fault (place_path d place) word) (sym at);
+  well_formed = well_formed;
+  gives_it = fault_of no_attributes j (site_path j.path site) word a a.here (is no_attributes)
+      ∙ ap (λ (d : List ℕ). as_fault (site_path d site) word) (sym at);
 }
 
 -- a directory that was entered has the path of its job

@@ -5,7 +5,7 @@ use Rattle.std.specs.List.{AllByRecursion}
 use Rattle.std.proofs.lemmas.Grind.{flat_map-append}
 use Rattle.std.proofs.lemmas.List.{map-append}
 use Rattle.std.proofs.lemmas.List.Folds.{list_any-append}
-use Rattle.lc_text.specs.Lines.{lines_of}
+use Rattle.lc_text.specs.Lines.{input_lines_of}
 use Rattle.lc_text.specs.PathLines.{path_of, is_dir_line}
 use Rattle.lc_text.specs.declared.outcome.Outcome.{Outcome}
 use Rattle.lc_text.specs.declared.outcome.Outcome.TheVariants.{Clean, SomeFaults}
@@ -56,11 +56,11 @@ pub eight_pieces : (old a b c d e f g h : List ℕ)
 eight_pieces old a b c d e f g h = simp append_assoc
 
 -- the lines of an input, one by one
-pub line_done : (done all : List (List ℕ)) (rest line others : List ℕ) → done ++ lines_of rest ≡ all
-    → lines_of rest ≡ line ∷ lines_of others
-    → (done ++ line ∷ []) ++ lines_of others ≡ all
+pub line_done : (done all : List (List ℕ)) (rest line others : List ℕ) → done ++ input_lines_of rest ≡ all
+    → input_lines_of rest ≡ line ∷ input_lines_of others
+    → (done ++ line ∷ []) ++ input_lines_of others ≡ all
 line_done done all rest line others is split =
-    append_assoc done (line ∷ []) (lines_of others) ∙ ap (λ (l : List (List ℕ)). done ++ l) (sym split) ∙ is
+    append_assoc done (line ∷ []) (input_lines_of others) ∙ ap (λ (l : List (List ℕ)). done ++ l) (sym split) ∙ is
 
-pub lines_done : (done all : List (List ℕ)) (rest : List ℕ) → done ++ lines_of rest ≡ all → rest ≡ [] → done ≡ all
-lines_done done all rest is none = sym (append-nil done) ∙ ap (λ (l : List ℕ). done ++ lines_of l) (sym none) ∙ is
+pub lines_done : (done all : List (List ℕ)) (rest : List ℕ) → done ++ input_lines_of rest ≡ all → rest ≡ [] → done ≡ all
+lines_done done all rest is none = sym (append-nil done) ∙ ap (λ (l : List ℕ). done ++ input_lines_of l) (sym none) ∙ is

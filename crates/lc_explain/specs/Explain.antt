@@ -9,7 +9,7 @@ use Rattle.lc_level.specs.Selection.{selection_of}
 use Rattle.lc_level.specs.TopJob.{top_job}
 use Rattle.lc_rules.specs.IgnoreRules.{rules_of}
 use Rattle.lc_text.specs.Check.{AnswersInput}
-use Rattle.lc_text.specs.Lines.{lines_of}
+use Rattle.lc_text.specs.Lines.{input_lines_of}
 use Rattle.lc_text.specs.PathLines.{path_of, is_dir_line}
 use Rattle.lc_text.specs.Writes.{Writes, StopsWriting}
 use Rattle.lc_text.specs.declared.printing.PrintFault.{PrintFault}
@@ -54,7 +54,7 @@ module _ {O : Type 0} (may_take : O → List ℕ → Result ℕ Failed → O →
     abbrev pub AnswersExplain : I → O → Result Outcome ExplainFault → I → O → Type 0
     -- the input was read whole, and the text of its lines was written whole
     AnswersExplain input out (Ok outcome) read wrote =
-        (bytes : List ℕ) × AnswersInput may_give input (Ok tt) bytes read × AnswersLines (lines_of bytes) out (Ok outcome) wrote
+        (bytes : List ℕ) × AnswersInput may_give input (Ok tt) bytes read × AnswersLines (input_lines_of bytes) out (Ok outcome) wrote
     -- a read of the input failed
     AnswersExplain input out (Err Read) read wrote =
         ((bytes : List ℕ) × AnswersInput may_give input (Err whole.Read) bytes read) × (wrote ≡ out)
@@ -65,7 +65,7 @@ module _ {O : Type 0} (may_take : O → List ℕ → Result ℕ Failed → O →
     AnswersExplain input out (Err Memory) read wrote = wrote ≡ out
     -- a prefix of the text was written
     AnswersExplain input out (Err Write) read wrote =
-        (bytes : List ℕ) × AnswersInput may_give input (Ok tt) bytes read × AnswersLines (lines_of bytes) out (Err print.Write) wrote
+        (bytes : List ℕ) × AnswersInput may_give input (Ok tt) bytes read × AnswersLines (input_lines_of bytes) out (Err print.Write) wrote
 
 -- an input that was not read whole
 abbrev pub input_fault : WholeFault → ExplainFault

@@ -2,7 +2,7 @@
 use Rattle.std.specs.Prelude.{ℕ}
 use Rattle.lc_level.specs.FaultLines.{FaultLineModel}
 use Rattle.lc_level.specs.Reasons.{reason_model}
-use Rattle.lc_level.specs.PlacePaths.{place_path}
+use Rattle.lc_level.specs.SitePaths.{site_path}
 use Rattle.lc_rules.specs.declared.origin.Origin.{Origin}
 use Rattle.lc_explain.specs.Explained.{CitedRule, Explanation, bad, faulted, below, ignored, included, unruled, left_out}
 use Rattle.lc_explain.specs.declared.finding.DirectoryFault.{DirectoryFault}
@@ -11,7 +11,7 @@ use Rattle.lc_explain.specs.declared.finding.Finding.TheVariants as found
 
 -- the path at which a directory is at fault, and why
 abbrev pub fault_line_of : DirectoryFault → FaultLineModel
-fault_line_of fault = record { path = place_path fault.directory.now fault.place; word = fault.word }
+fault_line_of fault = record { path = site_path fault.directory.now fault.site; word = fault.word }
 
 -- what it says, by the rules as they are told of
 abbrev pub explanation_of : (Origin → ℕ → CitedRule) → Finding → Explanation

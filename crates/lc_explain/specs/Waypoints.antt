@@ -4,7 +4,7 @@ use Rattle.lc_level.specs.Answers.{Item, Items, Answers, entries_of}
 use Rattle.lc_level.specs.FaultLines.{FaultLineModel}
 use Rattle.lc_level.specs.Job.{JobModel}
 use Rattle.lc_level.specs.RuleFiles.{RuleBytes, rule_bytes, extended}
-use Rattle.lc_level.specs.Tidy.{IsTidy}
+use Rattle.lc_level.specs.WellFormed.{IsWellFormed}
 use Rattle.lc_level.specs.TreeAnswers.{MayAnswer}
 use Rattle.lc_rules.specs.declared.origin.Origin.{Origin}
 use Rattle.lc_rules.specs.declared.origin.Origin.TheVariants.{ExcludeFile, GitInfo, Directory}
@@ -45,7 +45,7 @@ pub record MayEnter (lists : List ℕ → Listings) (gives : List ℕ → Conten
     : Type 0 where
   pub answers : Answers
   pub may : MayAnswer lists gives j.path answers
-  pub tidy : IsTidy answers
+  pub well_formed : IsWellFormed answers
   pub gives_it : waypoint j answers ≡ entered
 
 -- ---- what a way knows

@@ -21,7 +21,7 @@ use crate::question::Question;
 use crate::way::Way;
 use crate::waypoint::Waypoint;
 use lc_glob::cut_at_first;
-use lc_level::{Entered, Job, Kept, LevelReader, RuleTexts, Unlisted};
+use lc_level::{Entered, Job, Kept, LevelReader, OpenFault, RuleTexts};
 use lc_text::is_bad_path;
 use lc_tree::{Kind, Tree};
 use std::alloc::{AllocError, Global};
@@ -108,12 +108,12 @@ impl<'t, T: Tree> Explainer<'t, T> {
                 })?;
                 Ok(None)
             }
-            Err(Unlisted::Faulted(place, word)) => Ok(Some(DirectoryFault {
+            Err(OpenFault::Faulted(site, word)) => Ok(Some(DirectoryFault {
                 directory,
-                place,
+                site,
                 word,
             })),
-            Err(Unlisted::Broken(_)) => Err(AllocError),
+            Err(OpenFault::Broken(_)) => Err(AllocError),
         }
     }
 

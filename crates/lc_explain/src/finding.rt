@@ -7,7 +7,7 @@ ghost use Rattle.lc_explain.specs.Explained.{CitedRule, said_for};
 ghost use Rattle.lc_explain.specs.Explained as explained;
 ghost use Rattle.lc_explain.specs.Findings.{explanation_of};
 
-use lc_level::{FaultWord, Place, Reason};
+use lc_level::{FaultSite, FaultWord, Reason};
 use lc_rules::Origin;
 
 /// Where a rule stands: the origin of its file, and the number of its line there, from 1.
@@ -21,7 +21,7 @@ pub(crate) struct RulePlace {
 #[derive(Clone, Copy, Debug)]
 pub(crate) struct DirectoryFault<'a> {
     pub(crate) directory: &'a [u8],
-    pub(crate) place: Place,
+    pub(crate) site: FaultSite,
     pub(crate) word: FaultWord,
 }
 

@@ -4,11 +4,11 @@ ghost use Rattle.std.specs.Prelude.{◌≡◌, ◌++◌, ◌∷◌, if◌then◌
 ghost use Rattle.lc_level.specs.Reasons.{reason_model};
 ghost use Rattle.lc_text.specs.Escape.{escape_bytes};
 ghost use Rattle.lc_text.specs.ExplainedText.{line_text};
-ghost use Rattle.lc_text.specs.Lines.{lines_of};
+ghost use Rattle.lc_text.specs.Lines.{input_lines_of};
 ghost use Rattle.lc_explain.specs.Explain.{Explains};
 ghost use Rattle.lc_explain.specs.Explained.{cited, left_out, IsExplained};
 ghost use Rattle.lc_explain.specs.ExplainText.{four_fields, fault_line, rule_line, explained_line, is_fault};
-ghost use Rattle.lc_level.specs.PlacePaths.{place_path};
+ghost use Rattle.lc_level.specs.SitePaths.{site_path};
 ghost use Rattle.lc_explain.specs.Findings.{fault_line_of, explanation_of};
 ghost use Rattle.lc_explain.specs.Waypoints.{MayEnter};
 ghost use Rattle.lc_explain.specs.Ways.{IsWay};
@@ -16,7 +16,7 @@ ghost use Rattle.lc_explain.specs.Ways.{IsWay};
 use crate::explainer::Explainer;
 use crate::finding::{DirectoryFault, Finding, RulePlace};
 use crate::way::Way;
-use lc_level::{Place, Reason, path_in};
+use lc_level::{FaultSite, Reason, path_in};
 use lc_rules::{Lines, text_of_line};
 use lc_text::{Outcome, push_escaped, push_origin, push_path, split_line, split_slash};
 use lc_tree::Tree;
@@ -104,16 +104,16 @@ fn push_left(text: &mut Vec<u8>, reason: &Reason, line: &[u8]) -> Result<(), All
 
 /// The path at which a directory is at fault.
 fn fault_path(alloc: Global, fault: &DirectoryFault) -> Result<Vec<u8>, AllocError>
-    ensures { IfOk result (λ path. path.items ≡ place_path fault.now.directory.now fault.now.place) }
+    ensures { IfOk result (λ path. path.items ≡ site_path fault.now.directory.now fault.now.site) }
 {
-    match fault.place {
-        Place::Directory => fault.directory.to_vec(alloc),
-        Place::Git => b".git".to_vec(alloc),
-        Place::GitInfo => b".git/info".to_vec(alloc),
-        Place::ExcludeFile => b".git/info/exclude".to_vec(alloc),
-        Place::InfoAttributes => b".git/info/attributes".to_vec(alloc),
-        Place::IgnoreFile => path_in(alloc, fault.directory, b".gitignore"),
-        Place::AttributeFile => path_in(alloc, fault.directory, b".gitattributes"),
+    match fault.site {
+        FaultSite::Directory => fault.directory.to_vec(alloc),
+        FaultSite::Git => b".git".to_vec(alloc),
+        FaultSite::GitInfo => b".git/info".to_vec(alloc),
+        FaultSite::ExcludeFile => b".git/info/exclude".to_vec(alloc),
+        FaultSite::InfoAttributes => b".git/info/attributes".to_vec(alloc),
+        FaultSite::IgnoreFile => path_in(alloc, fault.directory, b".gitignore"),
+        FaultSite::AttributeFile => path_in(alloc, fault.directory, b".gitattributes"),
     }
 }
 
@@ -229,7 +229,7 @@ impl Telling {
     ) -> Result<Telling, AllocError>
         ensures { IfOk result (λ t. Explains
             (IsExplained (MayEnter (T.lists explainer.now.levels.tree.now) (T.gives explainer.now.levels.tree.now))
-            explainer.now.levels.selection explainer.now.exclude.now explainer.now.top) (lines_of paths.now) t.text.items t.outcome) }
+            explainer.now.levels.selection explainer.now.exclude.now explainer.now.top) (input_lines_of paths.now) t.text.items t.outcome) }
     {
         let mut way = Way::new(alloc)?;
         let mut telling = Telling::new(alloc);

@@ -1,11 +1,11 @@
--- How segments spell names from their end, and lead to it.
+-- How segments match names from their end, and lead to it.
 use Rattle.std.proofs.Common.{◌≡◌, ◌↔◌, IsTrue, ℕ, Bool, true, false, List, [], ◌∷◌, ◌++◌, refl, sym, ◌∙◌, subst, ap}
 use Rattle.std.proofs.lemmas.List.{append-nil}
 use Rattle.std.proofs.lemmas.Bool.{false≢true}
 use Rattle.lc_glob.specs.Tokens.{TokenModel}
 use Rattle.lc_glob.specs.Fits.{Fits}
 use Rattle.lc_glob.specs.Patterns.{SegmentModel, plain, double_star}
-use Rattle.lc_glob.specs.Matches.{Spells}
+use Rattle.lc_glob.specs.Matches.{MatchesPath}
 use Rattle.lc_glob.specs.Leads.{Leads}
 use Rattle.lc_glob.proofs.After.{after_empty, after_end}
 
@@ -27,42 +27,42 @@ ends_at (t ∷ []) s = ends_at [] s
 ends_at (t ∷ u ∷ r) s = ends_at (u ∷ r) s
 
 -- segments whose last is no double star
-spells_leads : (s : List SegmentModel) (path : List (List ℕ)) → ends_double s ≡ false → Spells s path ↔ Leads s path
-spells_leads [] [] e = (λ h. h, λ h. h)
-spells_leads [] (n ∷ ns) e = (λ h. h, λ h. h)
-spells_leads (plain us ∷ []) [] e = (λ h. h, λ h. h)
-spells_leads (plain us ∷ []) (n ∷ []) e = (λ h. h, λ h. h)
-spells_leads (plain us ∷ []) (n ∷ m ∷ ns) e = (λ h. h, λ h. h)
-spells_leads (double_star ∷ []) path e = cc
-spells_leads (plain us ∷ t ∷ r) [] e = (λ h. h, λ h. h)
-spells_leads (plain us ∷ t ∷ r) (n ∷ ns) e = let rest = spells_leads (t ∷ r) ns e in (λ h. (h.0, rest.0 h.1), λ h. (h.0, rest.1 h.1))
-spells_leads (double_star ∷ t ∷ r) path e = (
-  λ h. (h.0, h.1, h.2, (spells_leads (t ∷ r) h.1 e).0 h.3),
-  λ h. (h.0, h.1, h.2, (spells_leads (t ∷ r) h.1 e).1 h.3),
+matches_leads : (s : List SegmentModel) (path : List (List ℕ)) → ends_double s ≡ false → MatchesPath s path ↔ Leads s path
+matches_leads [] [] e = (λ h. h, λ h. h)
+matches_leads [] (n ∷ ns) e = (λ h. h, λ h. h)
+matches_leads (plain us ∷ []) [] e = (λ h. h, λ h. h)
+matches_leads (plain us ∷ []) (n ∷ []) e = (λ h. h, λ h. h)
+matches_leads (plain us ∷ []) (n ∷ m ∷ ns) e = (λ h. h, λ h. h)
+matches_leads (double_star ∷ []) path e = cc
+matches_leads (plain us ∷ t ∷ r) [] e = (λ h. h, λ h. h)
+matches_leads (plain us ∷ t ∷ r) (n ∷ ns) e = let rest = matches_leads (t ∷ r) ns e in (λ h. (h.0, rest.0 h.1), λ h. (h.0, rest.1 h.1))
+matches_leads (double_star ∷ t ∷ r) path e = (
+  λ h. (h.0, h.1, h.2, (matches_leads (t ∷ r) h.1 e).0 h.3),
+  λ h. (h.0, h.1, h.2, (matches_leads (t ∷ r) h.1 e).1 h.3),
 )
 
 -- segments whose last is a double star
-double_none : (s : List SegmentModel) → ends_double s ≡ true → Spells s [] → ⊥
+double_none : (s : List SegmentModel) → ends_double s ≡ true → MatchesPath s [] → ⊥
 double_none [] e h = cc
 double_none (plain us ∷ []) e h = h
 double_none (double_star ∷ []) e h = h
 double_none (plain us ∷ t ∷ r) e h = h
-double_none (double_star ∷ t ∷ r) e h = double_none (t ∷ r) e (after_empty (Spells (t ∷ r)) h)
+double_none (double_star ∷ t ∷ r) e h = double_none (t ∷ r) e (after_empty (MatchesPath (t ∷ r)) h)
 
-double_one : (path : List (List ℕ)) (n : List ℕ) → Spells (double_star ∷ []) (path ++ n ∷ [])
+double_one : (path : List (List ℕ)) (n : List ℕ) → MatchesPath (double_star ∷ []) (path ++ n ∷ [])
 double_one [] n = tt
 double_one (x ∷ path) n = tt
 
 -- they give the last name to that double star
 double_end : (s : List SegmentModel) (above : List (List ℕ)) (n : List ℕ) → ends_double s ≡ true
-    → Spells s (above ++ n ∷ []) ↔ Leads s above
+    → MatchesPath s (above ++ n ∷ []) ↔ Leads s above
 double_end [] above n e = cc
 double_end (plain us ∷ []) above n e = cc
 double_end (double_star ∷ []) above n e = (λ h. (above, [], sym (append-nil above), tt), λ h. double_one above n)
 double_end (plain us ∷ t ∷ r) [] n e = (λ h. absurd (double_none (t ∷ r) e h.1), λ h. absurd h)
 double_end (plain us ∷ t ∷ r) (x ∷ above) n e = let rest = double_end (t ∷ r) above n e in (λ h. (h.0, rest.0 h.1), λ h. (h.0, rest.1 h.1))
 double_end (double_star ∷ t ∷ r) above n e =
-    after_end (Spells (t ∷ r)) (Leads (t ∷ r)) n (double_none (t ∷ r) e) (λ b. double_end (t ∷ r) b n e) above
+    after_end (MatchesPath (t ∷ r)) (Leads (t ∷ r)) n (double_none (t ∷ r) e) (λ b. double_end (t ∷ r) b n e) above
 
 -- a plain segment that is last needs a name
 pub plain_none : (r : List SegmentModel) (us : List TokenModel) → Leads (r ++ plain us ∷ []) [] → ⊥
@@ -103,32 +103,32 @@ pub when_none : (s r : List SegmentModel) (us : List TokenModel) (path : List (L
     → Leads s path → ⊥
 when_none s r us path e q h = plain_none r us (subst (Leads (r ++ plain us ∷ [])) q (subst (λ (l : List SegmentModel). Leads l path) e h))
 
--- what tells whether the segments spell the names, by the last of both
-not_spelled : (above : List (List ℕ)) (n : List ℕ) → Spells [] (above ++ n ∷ []) → ⊥
-not_spelled [] n h = h
-not_spelled (x ∷ above) n h = h
+-- what tells whether the segments match the names, by the last of both
+not_matched : (above : List (List ℕ)) (n : List ℕ) → MatchesPath [] (above ++ n ∷ []) → ⊥
+not_matched [] n h = h
+not_matched (x ∷ above) n h = h
 
--- no segments spell no path that has a name
+-- no segments match no path that has a name
 pub none_spelled : (s : List SegmentModel) (path above : List (List ℕ)) (n : List ℕ) → s ≡ [] → path ≡ above ++ n ∷ []
-    → IsTrue false ↔ Spells s path
+    → IsTrue false ↔ MatchesPath s path
 none_spelled s path above n e q = (
   λ h. absurd (false≢true h),
-  λ h. absurd (not_spelled above n
-      (subst (λ (l : List SegmentModel). Spells l (above ++ n ∷ [])) e (subst (Spells s) q h))),
+  λ h. absurd (not_matched above n
+      (subst (λ (l : List SegmentModel). MatchesPath l (above ++ n ∷ [])) e (subst (MatchesPath s) q h))),
 )
 
--- a double star at the end spells a path where the segments lead to what stands above its last name
+-- a double star at the end matches a path where the segments lead to what stands above its last name
 pub double_spelled : (T : Type 0) (s r : List SegmentModel) (path above : List (List ℕ)) (n : List ℕ) → s ≡ r ++ double_star ∷ []
-    → path ≡ above ++ n ∷ [] → T ↔ Leads s above → T ↔ Spells s path
+    → path ≡ above ++ n ∷ [] → T ↔ Leads s above → T ↔ MatchesPath s path
 double_spelled T s r path above n e q t =
     let last : ends_double s ≡ true = ap ends_double e ∙ ends_at r double_star in
     let same = double_end s above n last in
-    (λ h. subst (Spells s) (sym q) (same.1 (t.0 h)), λ h. t.1 (same.0 (subst (Spells s) q h)))
+    (λ h. subst (MatchesPath s) (sym q) (same.1 (t.0 h)), λ h. t.1 (same.0 (subst (MatchesPath s) q h)))
 
--- a plain segment at the end spells a path where the others lead to what stands above, and it fits the last name
+-- a plain segment at the end matches a path where the others lead to what stands above, and it fits the last name
 pub plain_spelled : (s r : List SegmentModel) (us : List TokenModel) (path above : List (List ℕ)) (n : List ℕ) → s ≡ r ++ plain us ∷ []
-    → path ≡ above ++ n ∷ [] → Spells s path ↔ (Leads r above × Fits us n)
+    → path ≡ above ++ n ∷ [] → MatchesPath s path ↔ (Leads r above × Fits us n)
 plain_spelled s r us path above n e q =
-    let first = spells_leads s path (ap ends_double e ∙ ends_at r (plain us)) in
+    let first = matches_leads s path (ap ends_double e ∙ ends_at r (plain us)) in
     let then = when_end s r us path above n e q in
     (λ h. then.0 (first.0 h), λ h. first.1 (then.1 h))

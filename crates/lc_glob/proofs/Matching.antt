@@ -4,9 +4,9 @@ use Rattle.std.specs.Bool.{Decides, one_answer}
 use Rattle.lc_glob.specs.Tokens.{TokenModel, literal, any_byte, star, class, takes}
 use Rattle.lc_glob.specs.Fits.{Fits}
 use Rattle.lc_glob.specs.Patterns.{SegmentModel, plain, double_star, PatternModel}
-use Rattle.lc_glob.specs.Matches.{Spells, FitsLast, SegmentsMatch, Matches}
+use Rattle.lc_glob.specs.Matches.{MatchesPath, FitsLast, SegmentsMatch, Matches}
 use Rattle.lc_glob.specs.Path.{segments_of}
-use Rattle.lc_glob.specs.IsMatch.{some_rest, fits, spells, fits_last_name, fits_last, segments_match, is_match}
+use Rattle.lc_glob.specs.IsMatch.{some_rest, fits, matches_path, fits_last_name, fits_last, segments_match, is_match}
 use Rattle.lc_glob.proofs.After.{After, after_none, after_more, after_empty, after_cut}
 
 and_decides : {P Q : Type 0} (a b : Bool) → Decides a P → Decides b Q → Decides (a && b) (P × Q)
@@ -52,14 +52,14 @@ fits_decides (class n rs ∷ us) [] = never
 fits_decides (class n rs ∷ us) (b ∷ bs) =
     and_decides (takes (class n rs) b) (fits us bs) (true_decides (takes (class n rs) b)) (fits_decides us bs)
 
-spells_decides : (segments : List SegmentModel) (path : List (List ℕ)) → Decides (spells segments path) (Spells segments path)
-spells_decides [] [] = always
-spells_decides [] (n ∷ ns) = never
-spells_decides (plain us ∷ r) [] = never
-spells_decides (plain us ∷ r) (n ∷ ns) = and_decides (fits us n) (spells r ns) (fits_decides us n) (spells_decides r ns)
-spells_decides (double_star ∷ []) [] = never
-spells_decides (double_star ∷ []) (n ∷ ns) = always
-spells_decides (double_star ∷ s ∷ r) path = rest_decides (spells (s ∷ r)) (Spells (s ∷ r)) (spells_decides (s ∷ r)) path
+matches_decides : (segments : List SegmentModel) (path : List (List ℕ)) → Decides (matches_path segments path) (MatchesPath segments path)
+matches_decides [] [] = always
+matches_decides [] (n ∷ ns) = never
+matches_decides (plain us ∷ r) [] = never
+matches_decides (plain us ∷ r) (n ∷ ns) = and_decides (fits us n) (matches_path r ns) (fits_decides us n) (matches_decides r ns)
+matches_decides (double_star ∷ []) [] = never
+matches_decides (double_star ∷ []) (n ∷ ns) = always
+matches_decides (double_star ∷ s ∷ r) path = rest_decides (matches_path (s ∷ r)) (MatchesPath (s ∷ r)) (matches_decides (s ∷ r)) path
 
 -- the last of some names
 abbrev EndFits : List TokenModel → List (List ℕ) → Type 0
@@ -96,7 +96,7 @@ last_decides (double_star ∷ r) path = never
 segments_decide : (anchored : Bool) (segments : List SegmentModel) (path : List (List ℕ))
     → Decides (segments_match anchored segments path) (SegmentsMatch anchored segments path)
 segments_decide false segments path = last_decides segments path
-segments_decide true segments path = spells_decides segments path
+segments_decide true segments path = matches_decides segments path
 
 not_decides : (b : Bool) → Decides (not b) (b ≡ false)
 not_decides true = (λ h. absurd (cc), λ h. absurd (cc))

@@ -13,7 +13,7 @@ use Rattle.lc_glob.specs.declared.match_path.PathPlace.{PathPlace}
 use Rattle.lc_glob.proofs.After.{After, Later, later_after, after_split, after_join, after_after, after_drop}
 use Rattle.lc_glob.proofs.Cost.{again}
 
--- what is still to be tried where the segments here don't spell the segments that are left
+-- what is still to be tried where the segments here don't match the segments that are left
 abbrev pub LaterOf : Option PathPlace → Type 0
 LaterOf None = ⊥
 LaterOf (Some b) = Later (Leads (map segment_model b.segments.now)) (segments_left b.left.rest)
@@ -72,7 +72,7 @@ covers_name (Some b) segments rest us path n ns e p c =
     λ f. after_drop (Leads (plain us ∷ rest)) (Leads rest) (λ h. h) (λ x xs h. h.1) n ns
     (subst (λ (l : List (List ℕ)). After (Leads (plain us ∷ rest)) l) p (subst (λ (l : List SegmentModel). After (Leads l) path) e (c f)))
 
--- where the segments here don't spell the segments left
+-- where the segments here don't match the segments left
 pub at_block : (T H : Type 0) (s r : List SegmentModel) (path : List (List ℕ)) (n : List ℕ) (ns : List (List ℕ)) → path ≡ n ∷ ns
     → r ≡ s → (H → ⊥) → T ↔ (H ⊎ Later (Leads s) path) → T ↔ (Leads r ns ⊎ Later (Leads r) ns)
 at_block T H s r path n ns e q never t =

@@ -22,15 +22,15 @@ fits (any_byte ∷ us) (b ∷ bs) = takes any_byte b && fits us bs
 fits (class n rs ∷ us) [] = false
 fits (class n rs ∷ us) (b ∷ bs) = takes (class n rs) b && fits us bs
 
--- whether the segments spell the path's
-abbrev pub spells : List SegmentModel → List (List ℕ) → Bool
-spells [] [] = true
-spells [] (n ∷ ns) = false
-spells (plain us ∷ r) [] = false
-spells (plain us ∷ r) (n ∷ ns) = fits us n && spells r ns
-spells (double_star ∷ []) [] = false
-spells (double_star ∷ []) (n ∷ ns) = true
-spells (double_star ∷ s ∷ r) path = some_rest (spells (s ∷ r)) path
+-- whether the segments match the path's
+abbrev pub matches_path : List SegmentModel → List (List ℕ) → Bool
+matches_path [] [] = true
+matches_path [] (n ∷ ns) = false
+matches_path (plain us ∷ r) [] = false
+matches_path (plain us ∷ r) (n ∷ ns) = fits us n && matches_path r ns
+matches_path (double_star ∷ []) [] = false
+matches_path (double_star ∷ []) (n ∷ ns) = true
+matches_path (double_star ∷ s ∷ r) path = some_rest (matches_path (s ∷ r)) path
 
 -- whether the tokens fit the last of the names
 abbrev pub fits_last_name : List TokenModel → List (List ℕ) → Bool
@@ -48,7 +48,7 @@ fits_last (double_star ∷ r) path = false
 -- whether the segments of a pattern, anchored or not, match the path's
 abbrev pub segments_match : Bool → List SegmentModel → List (List ℕ) → Bool
 segments_match false segments path = fits_last segments path
-segments_match true segments path = spells segments path
+segments_match true segments path = matches_path segments path
 
 -- whether the pattern matches the path of a directory, or of something else: true exactly where `Matches` holds
 unfoldable pub is_match : PatternModel → List ℕ → Bool → Bool

@@ -4,16 +4,16 @@ use Rattle.lc_glob.specs.Fits.{Fits}
 use Rattle.lc_glob.specs.Patterns.{SegmentModel, plain, double_star, PatternModel}
 use Rattle.lc_glob.specs.Path.{segments_of}
 
--- the segments of an anchored pattern spell a path's: a plain one gives one name that it fits, a double star any run of
+-- the segments of an anchored pattern match a path's: a plain one gives one name that it fits, a double star any run of
 -- names, none included, but the last segment of a pattern at least one
-abbrev pub Spells : List SegmentModel → List (List ℕ) → Type 0
-Spells [] [] = Unit {0}
-Spells [] (n ∷ ns) = ⊥
-Spells (plain us ∷ r) [] = ⊥
-Spells (plain us ∷ r) (n ∷ ns) = Fits us n × Spells r ns
-Spells (double_star ∷ []) [] = ⊥
-Spells (double_star ∷ []) (n ∷ ns) = Unit {0}
-Spells (double_star ∷ s ∷ r) path = (a b : List (List ℕ)) × (path ≡ a ++ b) × Spells (s ∷ r) b
+abbrev pub MatchesPath : List SegmentModel → List (List ℕ) → Type 0
+MatchesPath [] [] = Unit {0}
+MatchesPath [] (n ∷ ns) = ⊥
+MatchesPath (plain us ∷ r) [] = ⊥
+MatchesPath (plain us ∷ r) (n ∷ ns) = Fits us n × MatchesPath r ns
+MatchesPath (double_star ∷ []) [] = ⊥
+MatchesPath (double_star ∷ []) (n ∷ ns) = Unit {0}
+MatchesPath (double_star ∷ s ∷ r) path = (a b : List (List ℕ)) × (path ≡ a ++ b) × MatchesPath (s ∷ r) b
 
 -- the one segment of a pattern that isn't anchored fits the last of a path's
 abbrev pub FitsLast : List SegmentModel → List (List ℕ) → Type 0
@@ -25,7 +25,7 @@ FitsLast (double_star ∷ r) path = ⊥
 -- the segments of a pattern, anchored or not, match those of a path
 abbrev pub SegmentsMatch : Bool → List SegmentModel → List (List ℕ) → Type 0
 SegmentsMatch Bool.false segments path = FitsLast segments path
-SegmentsMatch Bool.true segments path = Spells segments path
+SegmentsMatch Bool.true segments path = MatchesPath segments path
 
 -- the pattern matches the path of a directory, or of something else
 abbrev pub Matches : PatternModel → List ℕ → Bool → Type 0

@@ -4,15 +4,15 @@ use Rattle.std.specs.Int.{from_bool}
 use Rattle.lc_glob.specs.Tokens.{in_ranges}
 
 -- the number whose k-th bit, of n, tells whether the test holds of the k-th number from `low` on
-unfoldable pub word_of : (ℕ → Bool) → ℕ → ℕ → ℕ
-word_of test low zero = 0
-word_of test low (suc n) = 2 * word_of test (suc low) n + from_bool (test low)
+unfoldable pub bits_of : (ℕ → Bool) → ℕ → ℕ → ℕ
+bits_of test low zero = 0
+bits_of test low (suc n) = 2 * bits_of test (suc low) n + from_bool (test low)
 
 -- the four words of the bytes that are in some ranges, 64 bytes each
 abbrev pub words_of : List (ℕ × ℕ) → List ℕ
 words_of ranges =
-    word_of (in_ranges ranges) 0 64 ∷ word_of (in_ranges ranges) 64 64 ∷ word_of (in_ranges ranges) 128 64
-    ∷ word_of (in_ranges ranges) 192 64 ∷ []
+    bits_of (in_ranges ranges) 0 64 ∷ bits_of (in_ranges ranges) 64 64 ∷ bits_of (in_ranges ranges) 128 64
+    ∷ bits_of (in_ranges ranges) 192 64 ∷ []
 
 -- a table tells of each byte whether the test holds of it
 abbrev pub AreMembers : (ℕ → Bool) → List Bool → Type 0

@@ -2,10 +2,10 @@
 
 ghost use Rattle.std.specs.Prelude.{◌≡◌, ◌≤◌, ◌<◌, ◌&&◌, ◌||◌, nat_le, ℕ, false, slice_index_or};
 ghost use Rattle.lc_glob.specs.Tokens.{in_ranges, takes, class};
-ghost use Rattle.lc_glob.specs.Words.{AreMembers, GainsRange, word_of, words_of};
+ghost use Rattle.lc_glob.specs.Words.{AreMembers, GainsRange, bits_of, words_of};
 
 /// The bytes of some ranges, or all but those and the slash.
-#[derive(Debug, Drop)]
+#[derive(Drop)]
 pub(crate) struct ByteSet {
     pub(crate) negated: bool,
     /// The first and the last byte of each range.
@@ -71,7 +71,7 @@ fn add_range(members: &mut [bool; 256], first: u8, last: u8)
 /// The bits of the 64 bytes from `low` on.
 fn word_at(members: &[bool; 256], low: usize) -> u64
     requires { low ≤ 192 }
-    ensures { result ≡ word_of (λ b. slice_index_or members.now b false) low 64 }
+    ensures { result ≡ bits_of (λ b. slice_index_or members.now b false) low 64 }
 {
     let mut word = 0;
     let mut left = 64;

@@ -16,7 +16,7 @@ use std::marker::Model;
 /// let candidate = Candidate::new(b"src/main.c");
 /// patterns.iter().rev().find(|pattern| pattern.matches_candidate(&candidate, false))
 /// ```
-#[derive(Debug, Drop)]
+#[derive(Drop)]
 pub struct Candidate<'a> {
     path: &'a [u8],
     pub(crate) above: SegmentsLeft<'a>,
@@ -45,7 +45,7 @@ impl<'a> Candidate<'a> {
 }
 
 /// The segments of a path that are left: none, or those of the bytes.
-#[derive(Clone, Copy, Debug)]
+#[derive(Clone, Copy)]
 pub(crate) struct SegmentsLeft<'a> {
     rest: Option<&'a [u8]>,
 }

@@ -1,11 +1,11 @@
-//! Whether a pattern's segments spell a path's.
+//! Whether a pattern's segments match a path's.
 //!
 //! What stands after the last double star is compared from the end of the path, so that it costs no more than the
 //! pattern is long. Only what stands before it is looked for, from the front, with one place to go back to: the last
 //! double star that was passed, since the shortest run that serves one serves all before it.
 
 ghost use Rattle.std.specs.Prelude.{◌↔◌, ◌≤◌, ◌+◌, ◌*◌, IsTrue, map};
-ghost use Rattle.lc_glob.specs.Matches.{Spells};
+ghost use Rattle.lc_glob.specs.Matches.{MatchesPath};
 ghost use Rattle.lc_glob.specs.Path.{segments_of, segments_left};
 ghost use Rattle.lc_glob.specs.PathSteps.{PathEndStepIs, PathFrontStepIs, PathRetryIs, LeadsAt, cost_at, cost_after, front_cost_at};
 ghost use Rattle.lc_glob.specs.Costs.{full_cost};
@@ -16,9 +16,9 @@ use crate::match_segment::fits;
 use crate::path_segment::ByteTests;
 use crate::segment::Segment;
 
-/// Whether the segments spell the path's.
-pub(crate) fn spells(segments: &[Segment], path: &Candidate, tests: &mut ByteTests) -> bool
-    ensures spells { IsTrue result ↔ Spells (map segment_model segments.now) (segments_of path.now) }
+/// Whether the segments match the path's.
+pub(crate) fn matches_path(segments: &[Segment], path: &Candidate, tests: &mut ByteTests) -> bool
+    ensures matches_path { IsTrue result ↔ MatchesPath (map segment_model segments.now) (segments_of path.now) }
     ensures cost { tests.new.made ≤ tests.old.made + full_cost (map segment_model segments.now) (segments_of path.now) }
 {
     let (above, name) = (path.above, path.last);

@@ -34,7 +34,7 @@ impl ByteTests {
 }
 
 /// A segment of a path, or what is left of one. Only the byte tests, which are counted, look at its bytes.
-#[derive(Clone, Copy, Debug)]
+#[derive(Clone, Copy)]
 pub(crate) struct PathSegment<'a> {
     bytes: &'a [u8],
 }

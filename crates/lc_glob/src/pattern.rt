@@ -8,7 +8,7 @@ ghost use Rattle.lc_glob.specs.Reading.{pattern_of};
 ghost use Rattle.lc_glob.specs.Costs.{full_cost};
 
 use crate::candidate::Candidate;
-use crate::match_path::spells;
+use crate::match_path::matches_path;
 use crate::match_segment::fits;
 use crate::path_segment::ByteTests;
 use crate::reading::read_pattern;
@@ -23,14 +23,14 @@ use std::marker::Model;
 /// assert!(rt; pattern.matches(b"build/x86/main.o", false));
 /// assert!(rt; !pattern.matches(b"src/build/main.o", false));
 /// ```
-#[derive(Debug, Drop)]
+#[derive(Drop)]
 pub struct Pattern {
     pub(crate) is_dir_only: bool,
     pub(crate) kind: PatternKind,
 }
 
 /// What of a path a pattern is matched with.
-#[derive(Debug, Drop)]
+#[derive(Drop)]
 pub(crate) enum PatternKind {
     /// Nothing, since it couldn't be read.
     Dead,
@@ -142,7 +142,7 @@ impl Pattern {
         match &self.kind {
             PatternKind::Dead => false,
             PatternKind::LastSegment(tokens) => fits(tokens, path.last, tests),
-            PatternKind::WholePath(segments) => spells(segments, path, tests),
+            PatternKind::WholePath(segments) => matches_path(segments, path, tests),
         }
     }
 }

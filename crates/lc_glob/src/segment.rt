@@ -13,7 +13,7 @@ use std::alloc::{AllocError, Global};
 pub(crate) type Literals = SmallVec<u8, 16>;
 
 /// What stands between two separators of a pattern.
-#[derive(Debug, Drop)]
+#[derive(Drop)]
 pub(crate) enum Segment {
     /// Tokens that one segment of a path must fit.
     Plain(Tokens),
@@ -22,7 +22,7 @@ pub(crate) enum Segment {
 }
 
 /// The tokens of a segment, by their shape. The two most usual ones are compared as bytes.
-#[derive(Debug, Drop)]
+#[derive(Drop)]
 pub(crate) enum Tokens {
     /// Literals alone, as `Makefile`.
     Literal(Literals),

@@ -7,7 +7,7 @@ ghost use Rattle.lc_glob.specs.Views.{token_model};
 use crate::byte_set::ByteSet;
 
 /// One token of a segment.
-#[derive(Debug, Drop)]
+#[derive(Drop)]
 pub(crate) enum Token {
     /// That byte.
     Literal(u8),

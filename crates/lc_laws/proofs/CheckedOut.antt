@@ -12,7 +12,7 @@ use Rattle.lc_level.specs.Level.{by_rule, child_job}
 use Rattle.lc_level.specs.OneAnswer.{GivesOne}
 use Rattle.lc_level.specs.Selection.{SelectionModel}
 use Rattle.lc_level.specs.TopJob.{top_job}
-use Rattle.lc_level.proofs.Tidy.{Spread}
+use Rattle.lc_level.proofs.WellFormed.{Spread}
 use Rattle.lc_rules.specs.IgnoreChains.{rules_in}
 use Rattle.lc_rules.specs.IgnoreLaws.{DecidingLaw}
 use Rattle.lc_rules.specs.IgnoreRules.{RuleModel, rules_of}
@@ -38,7 +38,7 @@ use Rattle.lc_walk.specs.WalkReport.{IsReportOf}
 use Rattle.lc_walk.specs.declared.options.Lists.{Lists}
 use Rattle.lc_walk.specs.declared.report.Report.{Report}
 use Rattle.lc_walk.proofs.Elements.{In, is_in, contains}
-use Rattle.lc_walk.proofs.Levels.{tidy_items}
+use Rattle.lc_walk.proofs.Levels.{well_formed_items}
 use Rattle.lc_laws.specs.CountsChecked.{IsCheckedOut, IsRuledOut, CheckedLaw}
 use Rattle.lc_laws.specs.Entries.{HasListed, LeadDown, IsEntry}
 use Rattle.lc_laws.specs.ReportedPaths.{IsLeft}
@@ -132,7 +132,7 @@ module _ (lists : List ℕ → Listings) (gives : List ℕ → Contents) (one : 
       → In item items → (path : List ℕ) → path ≡ path_in inside.path (name_of item) → (kind : Kind) → IsEntry lists path kind
       → (entry_of item).kind ≡ kind
   kind_same top t at_top given place k leads items inside listed item has path path_is kind entry =
-      let spread : Spread items = tidy_items (t place) (given place k leads).1 items listed.here in
+      let spread : Spread items = well_formed_items (t place) (given place k leads).1 items listed.here in
       let names : segments_of path ≡ place ++ name_of item ∷ [] =
       ap segments_of (path_is ∙ ap (λ (j : JobModel). path_in j.path (name_of item)) listed.is) ∙ names_below k.path (name_of item)
       ∙ ap (λ l. l ++ segments_of (name_of item)) (place_names lists gives s place top k t given leads

@@ -17,7 +17,7 @@ use Rattle.lc_level.specs.Level.{child_job}
 use Rattle.lc_level.specs.OneAnswer.{GivesOne}
 use Rattle.lc_level.specs.Selection.{SelectionModel, selection_of}
 use Rattle.lc_level.specs.TopJob.{top_job}
-use Rattle.lc_level.proofs.Tidy.{Spread, other_bytes}
+use Rattle.lc_level.proofs.WellFormed.{Spread, other_bytes}
 use Rattle.lc_rules.specs.IgnoreChains.{rules_in}
 use Rattle.lc_rules.specs.IgnoreRules.{RuleModel}
 use Rattle.lc_rules.specs.Verdicts.{at_depth, deciding, verdict_from}
@@ -30,13 +30,13 @@ use Rattle.lc_tree.specs.Kinds.{is_dir}
 use Rattle.lc_tree.specs.Trees.{Listings, Contents}
 use Rattle.lc_tree.specs.declared.entry.Kind.{Kind}
 use Rattle.lc_tree.specs.declared.entry.Kind.TheVariants.{File, Dir, Other}
-use Rattle.lc_walk.specs.FoundAt.{IsListed, LeavesIn, LeadsTo}
+use Rattle.lc_walk.specs.FoundAt.{IsListed, WalksInto, LeadsTo}
 use Rattle.lc_walk.specs.Walk.{walk_of}
 use Rattle.lc_walk.specs.WalkReport.{IsReportOf}
 use Rattle.lc_walk.specs.declared.options.Lists.{Lists}
 use Rattle.lc_walk.specs.declared.report.Report.{Report}
 use Rattle.lc_walk.proofs.Elements.{In, is_in}
-use Rattle.lc_walk.proofs.Levels.{tidy_items}
+use Rattle.lc_walk.proofs.Levels.{well_formed_items}
 use Rattle.lc_walk.proofs.OneTree.{leads_on}
 use Rattle.lc_laws.specs.CountsChecked.{IsRuledOut}
 use Rattle.lc_laws.specs.Entries.{LeadDown}
@@ -181,7 +181,7 @@ module _ (lists : List ℕ → Listings) (gives : List ℕ → Contents) (one : 
       i = item_of lists gives one plain (top_job None) t given place k m.items m.inside leads m.listed name kind down
 
       spread : Spread m.items
-      spread = tidy_items (t place) (given place k leads).1 m.items m.listed.here
+      spread = well_formed_items (t place) (given place k leads).1 m.items m.listed.here
 
       whole : path ≡ front ++ name
       whole = at ∙ ap (λ l. front ++ l) (first_cut rest name [] cut)
@@ -228,7 +228,7 @@ module _ (lists : List ℕ → Listings) (gives : List ℕ → Contents) (one : 
       i = item_of lists gives one plain (top_job None) t given place k m.items m.inside leads m.listed name Dir down.0
 
       spread : Spread m.items
-      spread = tidy_items (t place) (given place k leads).1 m.items m.listed.here
+      spread = well_formed_items (t place) (given place k leads).1 m.items m.listed.here
 
       has : In (directory_item name) m.items
       has = subst (λ (y : Item). In y m.items) (directory_is i.item i.kind_is ∙ ap directory_item i.named) i.has
@@ -263,7 +263,7 @@ module _ (lists : List ℕ → Listings) (gives : List ℕ → Contents) (one : 
             ),
           )
       by (inr (none, kept)) =
-          let leaves : LeavesIn plain k (t place) name m.inside = record {
+          let leaves : WalksInto plain k (t place) name m.inside = record {
             items = m.items;
             listed = m.listed;
             has = part_has plain refl k.path (directory_item name) m.items has;

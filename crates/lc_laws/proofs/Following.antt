@@ -15,7 +15,7 @@ use Rattle.lc_level.specs.Level.{Reason, Fate, fate_of, reason_of, reason_for, c
 use Rattle.lc_level.specs.OneAnswer.{GivesOne}
 use Rattle.lc_level.specs.Selection.{SelectionModel}
 use Rattle.lc_level.specs.TreeAnswers.{MayAnswer}
-use Rattle.lc_level.proofs.Tidy.{Spread}
+use Rattle.lc_level.proofs.WellFormed.{Spread}
 use Rattle.lc_text.specs.PathLines.{is_bad_path}
 use Rattle.lc_tree.specs.Listing.{EntryModel}
 use Rattle.lc_tree.specs.Paths.{names_of_path}
@@ -24,7 +24,7 @@ use Rattle.lc_tree.specs.declared.entry.Kind.{Kind}
 use Rattle.lc_tree.specs.declared.entry.Kind.TheVariants.{File, Dir, Other}
 use Rattle.lc_walk.specs.FoundAt.{IsListed, LeadsTo, HasEntry}
 use Rattle.lc_walk.proofs.Elements.{In}
-use Rattle.lc_walk.proofs.Levels.{tidy_items}
+use Rattle.lc_walk.proofs.Levels.{well_formed_items}
 use Rattle.lc_laws.proofs.OneWay.{listed_entered, entered_by, kind_found, good_name, one_segment, IsGiven, given_below, place_names}
 use Rattle.lc_laws.proofs.TakingPart.{in_part}
 
@@ -109,7 +109,7 @@ module _ (lists : List ℕ → Listings) (gives : List ℕ → Contents) (one : 
       (subst (λ (i : JobModel). IsListed i (t []) items inside) (sym leads) listed) said)
   followed (n ∷ place) way j k t items inside name given (within, leaves, leads) listed said =
       let a = said_in way j (t []) leaves.items within (n ∷ place ++ name ∷ []) (given [] j refl).0 leaves.listed said in
-      let spread : Spread leaves.items = tidy_items (t []) (given [] j refl).1 leaves.items leaves.listed.here in
+      let spread : Spread leaves.items = well_formed_items (t []) (given [] j refl).1 leaves.items leaves.listed.here in
       let kind : kind_in a.here.entries n ≡ Some Dir =
       ap (λ (es : List EntryModel). kind_in es n) a.entries
       ∙ kind_found leaves.items spread (directory_item n) (in_part s j.path (directory_item n) leaves.items leaves.has) in
@@ -129,7 +129,7 @@ module _ (lists : List ℕ → Listings) (gives : List ℕ → Contents) (one : 
       → path ≡ path_in k.path name → is_bad_path path ≡ false → IsExplained (MayEnter lists gives) s exclude top path false x
       → (way : Way) × Agrees (cited exclude way) fate x
   entry_agrees law top t at_top given place k leads name fate h path path_is good said =
-      let spread : Spread h.items = tidy_items (t place) (given place k leads).1 h.items h.listed.here in
+      let spread : Spread h.items = well_formed_items (t place) (given place k leads).1 h.items h.listed.here in
       let item : In h.item h.items = in_part s k.path h.item h.items h.has in
       let named : segments_of name ≡ name ∷ [] =
       subst (λ n. segments_of n ≡ n ∷ []) h.named (one_segment (name_of h.item) (good_name h.items spread h.item item)) in

@@ -11,17 +11,17 @@ use Rattle.lc_level.specs.Level.{faulted_level, level, level_of, level_after, ch
 use Rattle.lc_level.specs.OneAnswer.{GivesOne}
 use Rattle.lc_level.specs.RuleFiles.{RuleBytes, rule_bytes, extended}
 use Rattle.lc_level.specs.Selection.{SelectionModel}
-use Rattle.lc_level.specs.Tidy.{IsTidy}
+use Rattle.lc_level.specs.WellFormed.{IsWellFormed}
 use Rattle.lc_level.specs.TreeAnswers.{MayAnswer}
 use Rattle.lc_level.proofs.OneLevel.{here, same_rules}
-use Rattle.lc_level.proofs.Tidy.{IsGoodName, Spread, bytes_same, other_bytes, bytes_other}
+use Rattle.lc_level.proofs.WellFormed.{IsGoodName, Spread, bytes_same, other_bytes, bytes_other}
 use Rattle.lc_tree.specs.Listing.{EntryModel}
 use Rattle.lc_tree.specs.Paths.{names_of_path}
 use Rattle.lc_tree.specs.Trees.{Listings, Contents}
 use Rattle.lc_tree.specs.declared.entry.Kind.{Kind}
-use Rattle.lc_walk.specs.FoundAt.{IsListed, LeavesIn, LeadsTo}
+use Rattle.lc_walk.specs.FoundAt.{IsListed, WalksInto, LeadsTo}
 use Rattle.lc_walk.proofs.Elements.{In}
-use Rattle.lc_walk.proofs.Levels.{tidy_items}
+use Rattle.lc_walk.proofs.Levels.{well_formed_items}
 use Rattle.lc_walk.proofs.Places.{names_of_path-path_in}
 use Rattle.lc_laws.proofs.TakingPart.{in_part}
 
@@ -147,13 +147,13 @@ one_segment (b ∷ bs) good = names_of_path-path_in [] (b ∷ bs) good
 -- ---- trees whose answers may be given
 
 module _ (lists : List ℕ → Listings) (gives : List ℕ → Contents) (s : SelectionModel) where
-  -- the answers at each place that names lead to are tidy, and some that may be given
+  -- the answers at each place that names lead to are well-formed, and some that may be given
   abbrev pub IsGiven : JobModel → Tree → Type 0
   IsGiven j t =
-      (place : List (List ℕ)) (k : JobModel) → LeadsTo s j t place k → MayAnswer lists gives k.path (t place) × IsTidy (t place)
+      (place : List (List ℕ)) (k : JobModel) → LeadsTo s j t place k → MayAnswer lists gives k.path (t place) × IsWellFormed (t place)
 
   -- so it is below
-  pub given_below : (j : JobModel) (t : Tree) (name : List ℕ) (inside : JobModel) → IsGiven j t → LeavesIn s j (t []) name inside
+  pub given_below : (j : JobModel) (t : Tree) (name : List ℕ) (inside : JobModel) → IsGiven j t → WalksInto s j (t []) name inside
       → IsGiven (child_job inside name) (λ p. t (name ∷ p))
   given_below j t name inside given leaves place k leads = given (name ∷ place) k (inside, leaves, leads)
 
@@ -162,7 +162,7 @@ module _ (lists : List ℕ → Listings) (gives : List ℕ → Contents) (s : Se
       → names_of_path k.path ≡ names_of_path j.path ++ place
   place_names [] j k t given leads = ap (λ (i : JobModel). names_of_path i.path) (sym leads) ∙ sym (append-nil (names_of_path j.path))
   place_names (n ∷ place) j k t given (inside, leaves, leads) =
-      let spread : Spread leaves.items = tidy_items (t []) (given [] j refl).1 leaves.items leaves.listed.here in
+      let spread : Spread leaves.items = well_formed_items (t []) (given [] j refl).1 leaves.items leaves.listed.here in
       let good : IsGoodName n = good_name leaves.items spread (directory_item n) (in_part s j.path (directory_item n) leaves.items leaves.has) in
       let same : inside.path ≡ j.path = ap (λ (i : JobModel). i.path) leaves.listed.is in
       place_names place (child_job inside n) k (λ p. t (n ∷ p)) (given_below j t n inside given leaves) leads

@@ -9,7 +9,7 @@ use Rattle.lc_board.proofs.Weights.{each-map}
 use Rattle.lc_level.specs.Answers.{Answers, no_answers, Tree}
 use Rattle.lc_level.specs.Job.{JobModel}
 use Rattle.lc_level.specs.Level.{child_job}
-use Rattle.lc_level.specs.Tidy.{IsTidy}
+use Rattle.lc_level.specs.WellFormed.{IsWellFormed}
 use Rattle.lc_level.specs.TreeAnswers.{MayAnswer}
 use Rattle.lc_tree.specs.Trees.{Listings, Contents}
 use Rattle.lc_walk.specs.FoundAt.{LeadsTo}
@@ -21,7 +21,7 @@ use Rattle.lc_walk.specs.WalkAnswers.{SomeRows}
 use Rattle.lc_walk.proofs.Core.{Under, under_rows, same_head, same_tail}
 use Rattle.lc_walk.proofs.Elements.{In}
 use Rattle.lc_walk.proofs.FoundByPlace.{level_by_child}
-use Rattle.lc_walk.proofs.Law.{row_here, job_or, job_at, inside, posted_at, top_job, fits}
+use Rattle.lc_walk.proofs.Law.{row_here, job_or, job_at, inside, posted_at, job_at_top, fits}
 use Rattle.lc_laws.proofs.OneWay.{IsGiven}
 
 same_some : {A : Type 0} (x y : A) → Some x ≡ Some y → x ≡ y
@@ -96,7 +96,7 @@ module _ (lists : List ℕ → Listings) (gives : List ℕ → Contents) (ask : 
   -- so the tree of the rows answers as the tree may
   pub rows_given : IsGiven lists gives ask.selection top (tree_of_rows found.rows found.answers)
   rows_given place k leads =
-      let first : job 0 ≡ top = top_job ask found.full capacity workers top found.history found.rows found.answers found.walked in
+      let first : job 0 ≡ top = job_at_top ask found.full capacity workers top found.history found.rows found.answers found.walked in
       let n = number_at place 0 k (start found.history)
       (subst (λ (j : JobModel). LeadsTo ask.selection j (tree 0) place k) (sym first) leads) in
       let r = row_here found.rows n.number
@@ -104,5 +104,5 @@ module _ (lists : List ℕ → Listings) (gives : List ℕ → Contents) (ask : 
       let same : job_of (row_of r.row) ≡ k = ap (job_or top) (sym r.is) ∙ n.job_is in (
         subst (λ (a : Answers). MayAnswer lists gives k.path a) (sym n.answers_are)
             (subst (λ (j : JobModel). MayAnswer lists gives j.path (found.answers n.number)) same (found.may n.number r.row r.is)),
-        subst IsTidy (sym n.answers_are) (found.walked.lawful n.number r.row r.is).tidy,
+        subst IsWellFormed (sym n.answers_are) (found.walked.lawful n.number r.row r.is).well_formed,
       )

@@ -32,13 +32,13 @@ module _ (lists : List ℕ → Listings) (gives : List ℕ → Contents) (one : 
   same_entered j a b one_way other =
       sym one_way.gives_it ∙ one_waypoint lists gives one s j one_way.answers other.answers one_way.may other.may ∙ other.gives_it
 
-  once_entered : (j : JobModel) (Says Tells : WaypointModel → Type 0) → ((here : WaypointModel) → Says here → Tells here → x ≡ y)
-      → OnEntering (MayEnter lists gives) j x Says → OnEntering (MayEnter lists gives) j y Tells → x ≡ y
-  once_entered j Says Tells same (Ok here, enters, said) (other, enters_too, told) =
+  once_entered : (j : JobModel) (IsSaidBelow Tells : WaypointModel → Type 0) → ((here : WaypointModel) → IsSaidBelow here → Tells here → x ≡ y)
+      → OnEntering (MayEnter lists gives) j x IsSaidBelow → OnEntering (MayEnter lists gives) j y Tells → x ≡ y
+  once_entered j IsSaidBelow Tells same (Ok here, enters, said) (other, enters_too, told) =
       same here said
       (subst (λ (r : Result WaypointModel FaultLineModel). MatchResult r Tells (λ fault. y ≡ faulted fault))
       (same_entered j other (Ok here) enters_too enters) told)
-  once_entered j Says Tells same (Err fault, enters, said) (other, enters_too, told) =
+  once_entered j IsSaidBelow Tells same (Err fault, enters, said) (other, enters_too, told) =
       said
       ∙ sym (subst (λ (r : Result WaypointModel FaultLineModel). MatchResult r Tells (λ f. y ≡ faulted f))
       (same_entered j other (Err fault) enters_too enters) told)

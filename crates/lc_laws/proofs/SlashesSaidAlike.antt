@@ -20,7 +20,7 @@ use Rattle.lc_tree.specs.Trees.{Listings, Contents}
 use Rattle.lc_tree.specs.declared.entry.Kind.{Kind}
 use Rattle.lc_tree.specs.declared.entry.Kind.TheVariants.{Dir}
 use Rattle.lc_walk.proofs.Elements.{is_in, in_mapped}
-use Rattle.lc_walk.proofs.Levels.{tidy_items}
+use Rattle.lc_walk.proofs.Levels.{well_formed_items}
 use Rattle.lc_laws.specs.Entries.{HasListed, LeadDown}
 use Rattle.lc_laws.specs.SlashAtEnd.{SlashLaw}
 use Rattle.lc_laws.proofs.OneWay.{entered_listed, kind_found}
@@ -34,8 +34,8 @@ on_a_directory None false Left Into Onto Beside Near e on a = absurd (cc e)
 
 module _ (lists : List ℕ → Listings) (gives : List ℕ → Contents) (one : GivesOne lists gives) (s : SelectionModel) (exclude : List ℕ)
     (x : Explanation) where
-  abbrev Says : Bool → Way → JobModel → List (List ℕ) → Type 0
-  Says as_dir way j names =
+  abbrev IsSaidBelow : Bool → Way → JobModel → List (List ℕ) → Type 0
+  IsSaidBelow as_dir way j names =
       OnEntering (MayEnter lists gives) j x (λ here. IsSaid (MayEnter lists gives) s exclude (way ++ here ∷ []) here names as_dir x)
 
   -- what is listed there is found in the directory that was entered
@@ -48,7 +48,7 @@ module _ (lists : List ℕ → Listings) (gives : List ℕ → Contents) (one : 
       let entry : EntryModel = record { name = name; kind = kind } in
       let there : Contains (entries_of l.items) entry = subst (λ es. Contains es entry) (cc same) has in
       let m = in_mapped entry_of entry l.items (is_in entry (entries_of l.items) there) in
-      let spread = tidy_items enters.answers enters.tidy l.items l.listed.here in (
+      let spread = well_formed_items enters.answers enters.well_formed l.items l.listed.here in (
         ap (λ (es : List EntryModel). kind_in es name) l.entries
             ∙ subst (λ n. kind_in (entries_of l.items) n ≡ Some (entry_of m.0).kind) (ap (λ (e : EntryModel). e.name) m.2)
             (kind_found l.items spread m.0 m.1)
@@ -56,8 +56,8 @@ module _ (lists : List ℕ → Listings) (gives : List ℕ → Contents) (one : 
         ap (λ (i : JobModel). i.path) l.listed.is,
       )
 
-  said_alike : (names : List (List ℕ)) (way : Way) (j : JobModel) → LeadDown lists j.path names Dir → Says true way j names
-      → Says false way j names
+  said_alike : (names : List (List ℕ)) (way : Way) (j : JobModel) → LeadDown lists j.path names Dir → IsSaidBelow true way j names
+      → IsSaidBelow false way j names
   said_alike [] way j down said = absurd down
   said_alike (name ∷ []) way j down (Err fault, enters, said) = (Err fault, enters, said)
   said_alike (name ∷ []) way j down (Ok here, enters, said) =
@@ -76,8 +76,8 @@ module _ (lists : List ℕ → Listings) (gives : List ℕ → Contents) (one : 
         enters,
         on_a_directory (reason_for s here.job name (kind_asked true (kind_in here.entries name))) (is_directory (kind_in here.entries name))
             (λ r. x ≡ said_for (cited exclude (way ++ here ∷ [])) below r)
-            (Says true (way ++ here ∷ []) (child_job here.job name) (next ∷ names))
-            (Says false (way ++ here ∷ []) (child_job here.job name) (next ∷ names))
+            (IsSaidBelow true (way ++ here ∷ []) (child_job here.job name) (next ∷ names))
+            (IsSaidBelow false (way ++ here ∷ []) (child_job here.job name) (next ∷ names))
             (x ≡ said_beside s exclude (way ++ here ∷ []) (child_job here.job name) (next ∷ names) true)
             (x ≡ said_beside s exclude (way ++ here ∷ []) (child_job here.job name) (next ∷ names) false)
             (ap is_directory there.0)
@@ -94,7 +94,7 @@ slash_law lists gives one q path x entry = at (is_bad_path path)
     top : JobModel
     top = top_job (option_map rules_of q.exclude)
 
-    at : (b : Bool) → cond b (x ≡ bad) (Says lists gives one s (text_or_none q.exclude) x true [] top (segments_of path))
-        → cond b (x ≡ bad) (Says lists gives one s (text_or_none q.exclude) x false [] top (segments_of path))
+    at : (b : Bool) → cond b (x ≡ bad) (IsSaidBelow lists gives one s (text_or_none q.exclude) x true [] top (segments_of path))
+        → cond b (x ≡ bad) (IsSaidBelow lists gives one s (text_or_none q.exclude) x false [] top (segments_of path))
     at true e = e
     at false said = said_alike lists gives one s (text_or_none q.exclude) x (segments_of path) [] top entry said

@@ -17,7 +17,7 @@ use Rattle.lc_level.specs.Level.{Reason, named_git, by_rule, by_attribute, other
 use Rattle.lc_level.specs.Level.{fate_of, reason_of, reason_for, child_job}
 use Rattle.lc_level.specs.OneAnswer.{GivesOne}
 use Rattle.lc_level.specs.Selection.{SelectionModel}
-use Rattle.lc_level.proofs.Tidy.{Spread}
+use Rattle.lc_level.proofs.WellFormed.{Spread}
 use Rattle.lc_rules.specs.IgnoreChains.{rules_in}
 use Rattle.lc_rules.specs.IgnoreRules.{RuleModel}
 use Rattle.lc_rules.specs.Verdicts.{deciding}
@@ -27,14 +27,14 @@ use Rattle.lc_tree.specs.Trees.{Listings, Contents}
 use Rattle.lc_tree.specs.declared.entry.Kind.{Kind}
 use Rattle.lc_tree.specs.declared.entry.Kind.TheVariants.{File, Dir, Other}
 use Rattle.lc_walk.specs.Found.{Found}
-use Rattle.lc_walk.specs.FoundAt.{IsListed, LeavesIn, LeadsTo}
+use Rattle.lc_walk.specs.FoundAt.{IsListed, WalksInto, LeadsTo}
 use Rattle.lc_walk.specs.ReportLines.{left_paths}
 use Rattle.lc_walk.specs.Walk.{walk_of}
 use Rattle.lc_walk.specs.WalkReport.{IsReportOf}
 use Rattle.lc_walk.specs.declared.options.Lists.{Lists}
 use Rattle.lc_walk.specs.declared.report.Report.{Report}
 use Rattle.lc_walk.proofs.Elements.{In}
-use Rattle.lc_walk.proofs.Levels.{tidy_items}
+use Rattle.lc_walk.proofs.Levels.{well_formed_items}
 use Rattle.lc_walk.proofs.OneTree.{leads_on}
 use Rattle.lc_laws.specs.CountsExplained.{TellsOf}
 use Rattle.lc_laws.specs.Entries.{LeadDown}
@@ -192,7 +192,7 @@ module _ (lists : List ℕ → Listings) (gives : List ℕ → Contents) (one : 
       by (inl f) = subst (TellsOf r path kind) (sym f.2) (fault_told place k leads shallow f.0 f.1)
       by (inr m) =
           let i = item_of lists gives one s top t given place k m.items m.inside leads m.listed name kind down in
-          let spread : Spread m.items = tidy_items (t place) (given place k leads).1 m.items m.listed.here in
+          let spread : Spread m.items = well_formed_items (t place) (given place k leads).1 m.items m.listed.here in
           let e = said_at_end lists gives one s exclude x way m.items m.inside name m.says in
           let found_kind : kind_in (entries_of m.items) name ≡ Some (entry_of i.item).kind =
           subst (λ n. kind_in (entries_of m.items) n ≡ Some (entry_of i.item).kind) i.named (kind_found m.items spread i.item i.has) in
@@ -218,7 +218,7 @@ module _ (lists : List ℕ → Listings) (gives : List ℕ → Contents) (one : 
           i = item_of lists gives one s top t given place k m.items m.inside leads m.listed name Dir down.0
 
           spread : Spread m.items
-          spread = tidy_items (t place) (given place k leads).1 m.items m.listed.here
+          spread = well_formed_items (t place) (given place k leads).1 m.items m.listed.here
 
           has : In (directory_item name) m.items
           has = subst (λ (y : Item). In y m.items) (directory_is i.item i.kind_is ∙ ap directory_item i.named) i.has
@@ -255,7 +255,7 @@ module _ (lists : List ℕ → Listings) (gives : List ℕ → Contents) (one : 
           onward None e =
               let into = went_into _ _ _ _ _ (reason_is ∙ e) (ap is_directory there)
               (on_the_way lists gives one s exclude x (way ++ m.says.here ∷ []) m.says.here name (next ∷ names) (λ n. cc n) m.says.says) in
-              let leaves : LeavesIn s k (t place) name m.inside = record {
+              let leaves : WalksInto s k (t place) name m.inside = record {
                 items = m.items;
                 listed = m.listed;
                 has = part_has s whole k.path (directory_item name) m.items has;

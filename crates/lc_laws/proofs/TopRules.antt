@@ -15,7 +15,7 @@ use Rattle.lc_level.specs.RuleFiles.{info_bytes, own_bytes, rule_bytes, with_fil
 use Rattle.lc_level.specs.Selection.{SelectionModel}
 use Rattle.lc_level.specs.TopJob.{top_job}
 use Rattle.lc_level.specs.TreeAnswers.{MayHave, MayList, MayAnswer, items_of}
-use Rattle.lc_level.proofs.Tidy.{same_bytes, bytes_same}
+use Rattle.lc_level.proofs.WellFormed.{same_bytes, bytes_same}
 use Rattle.lc_rules.specs.IgnoreChains.{ChainModel, rules_in}
 use Rattle.lc_rules.specs.IgnoreRules.{RuleModel, rules_of}
 use Rattle.lc_rules.specs.Verdicts.{at_depth}
@@ -26,7 +26,7 @@ use Rattle.lc_tree.specs.declared.entry.Kind.TheVariants.{File, Dir, Other}
 use Rattle.lc_level.specs.declared.fault_word.FaultWord.{FaultWord}
 use Rattle.lc_walk.specs.FoundAt.{IsListed, LeadsTo}
 use Rattle.lc_walk.proofs.Elements.{In, contains, of_mapped}
-use Rattle.lc_walk.proofs.Levels.{tidy_items}
+use Rattle.lc_walk.proofs.Levels.{well_formed_items}
 use Rattle.lc_laws.specs.CountsChecked.{HasTopRules}
 use Rattle.lc_laws.specs.Entries.{HasListed}
 use Rattle.lc_laws.proofs.Items.{IsItem, item_of}
@@ -301,7 +301,7 @@ module _ (lists : List ℕ → Listings) (gives : List ℕ → Contents) (one : 
         below_top j (u []) items inside some (fair [] j refl).0 chain
         (subst (λ (i : JobModel). IsListed i (u []) items inside) (sym leads) listed)
     lower (n ∷ place) j u fair some chain k (within, leaves, leads) items inside listed =
-        let spread = tidy_items (u []) (fair [] j refl).1 leaves.items leaves.listed.here in
+        let spread = well_formed_items (u []) (fair [] j refl).1 leaves.items leaves.listed.here in
         let good = good_name leaves.items spread (directory_item n) (in_part s j.path (directory_item n) leaves.items leaves.has) in
         lower place (child_job within n) (λ p. u (n ∷ p)) (given_below lists gives s j u n within fair leaves)
         (some_path within.path n good.0)
@@ -314,7 +314,7 @@ module _ (lists : List ℕ → Listings) (gives : List ℕ → Contents) (one : 
         top_chain_rules inside.ignore (rules_of bytes)
         (at_top items inside (subst (λ (i : JobModel). IsListed i (t []) items inside) (sym leads) listed))
     rules_at (n ∷ place) k (within, leaves, leads) items inside listed =
-        let spread = tidy_items (t []) (given [] (top_job None) refl).1 leaves.items leaves.listed.here in
+        let spread = well_formed_items (t []) (given [] (top_job None) refl).1 leaves.items leaves.listed.here in
         let good = good_name leaves.items spread (directory_item n) (in_part s (top_job None).path (directory_item n) leaves.items leaves.has) in
         top_chain_rules inside.ignore (rules_of bytes)
         (lower place (child_job within n) (λ p. t (n ∷ p)) (given_below lists gives s (top_job None) t n within given leaves)

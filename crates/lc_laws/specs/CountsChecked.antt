@@ -38,7 +38,8 @@ pub record AsksRulesAlone (o : Options) : Type 0 where
 -- a check by the rules of a file says `ignored` of a path of this kind, or `below`
 abbrev pub IsCheckedOut : List RuleModel → List ℕ → Kind → Type 0
 IsCheckedOut rules path kind =
-    (path_word (file_verdict rules) path (is_dir kind) ≡ codes "ignored") ⊎ (path_word (file_verdict rules) path (is_dir kind) ≡ codes "below")
+    (path_word (file_verdict rules) path (is_dir kind) ≡ codes "ignored")
+    ⊎ (path_word (file_verdict rules) path (is_dir kind) ≡ codes "below")
 
 -- a report has the path as left out by a rule, or a directory above it
 abbrev pub IsRuledOut : Report → List ℕ → Type 0

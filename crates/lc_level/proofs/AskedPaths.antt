@@ -14,7 +14,7 @@ use Rattle.lc_level.specs.Answers.{Item, entry_of, entries_of}
 use Rattle.lc_level.specs.Level.{FileFaultModel, absent_faults}
 use Rattle.lc_level.specs.Narrowing.{after, stands_below, rest_from, each_once, leads_to, is_whole, rests, takes_part, part_of, absent_from}
 use Rattle.lc_level.specs.PathSteps.{leads_on, is_led_to, unled, if_seen}
-use Rattle.lc_level.proofs.Tidy.{same_bytes}
+use Rattle.lc_level.proofs.WellFormed.{same_bytes}
 use Rattle.lc_rules.proofs.ReadingOrder.{list_any-map}
 use Rattle.lc_tree.specs.Listing.{EntryModel}
 

@@ -15,7 +15,7 @@ use Rattle.lc_level.specs.Narrowing.{rests, takes_part, part_of, absent_from}
 use Rattle.lc_level.specs.PathSteps.{unled}
 use Rattle.lc_level.specs.Selection.{SelectionModel}
 use Rattle.lc_tree.specs.Listing.{EntryModel, IsListing}
-use Rattle.lc_level.specs.Tidy.{IsTidy, listed_in}
+use Rattle.lc_level.specs.WellFormed.{IsWellFormed, listed_in}
 use Rattle.lc_level.specs.Opens.{IsOpened}
 use Rattle.lc_level.specs.RuleFiles.{file_named, has_git, is_top, and_then, both_read, info_items, info_bytes, own_bytes}
 use Rattle.lc_level.specs.RuleFiles.{rule_bytes}
@@ -130,10 +130,10 @@ module _ (lists : List ℕ → Listings) (gives : List ℕ → Contents) (left_o
       info = λ there within. c.inside.may.info (had_git there) within;
     }
 
-    is_tidy : IsTidy answers
-    is_tidy =
+    is_well_formed : IsWellFormed answers
+    is_well_formed =
         subst (λ (es : List EntryModel). IsListing es) (sym (same_entries s o.job in_part found f.results))
-        (subst (λ (l : Items). IsListing (listed_in l)) c.inside.here c.inside.tidy)
+        (subst (λ (l : Items). IsListing (listed_in l)) c.inside.here c.inside.well_formed)
 
     level_is : IsLevelOf (level s j answers) left_out (parts_with o counts.files.items counts.faults.items)
     level_is = record {
@@ -166,6 +166,6 @@ module _ (lists : List ℕ → Listings) (gives : List ℕ → Contents) (left_o
         ∙ sym (deep_by_entries s j o.job c.inside.answers found c.inside.bytes c.inside.here c.inside.read c.inside.extends) ∙ c.shallow
 
     -- once its files are counted, by answers that the tree may give
-    pub counted_level : (a : Answers) × MayAnswer lists gives j.path a × IsTidy a
+    pub counted_level : (a : Answers) × MayAnswer lists gives j.path a × IsWellFormed a
         × IsLevelOf (level s j a) left_out (parts_with o counts.files.items counts.faults.items) × (has_too_deep s j a ≡ false)
-    counted_level = (answers, may_answer, is_tidy, level_is, shallow)
+    counted_level = (answers, may_answer, is_well_formed, level_is, shallow)

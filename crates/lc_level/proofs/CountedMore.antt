@@ -14,8 +14,8 @@ use Rattle.lc_level.specs.Level.{Fate, FileFaultModel, file_fate, counted_of, fa
 use Rattle.lc_tree.specs.Trees.{Contents}
 use Rattle.lc_level.specs.FileReads.{MayCount}
 use Rattle.lc_level.specs.declared.counting.CountedFiles.{CountedFiles}
-use Rattle.lc_level.specs.declared.unread.Unread.{Unread}
-use Rattle.lc_level.specs.declared.unread.Unread.TheVariants as unread
+use Rattle.lc_level.specs.declared.content_fault.ContentFault.{ContentFault}
+use Rattle.lc_level.specs.declared.content_fault.ContentFault.TheVariants as content_fault
 use Rattle.lc_level.specs.declared.fault_word.FaultWord.{FaultWord}
 
 module _ (gives : List ℕ → Contents) (j : JobModel) (n : List ℕ) (r : Result Count FaultWord)
@@ -62,22 +62,22 @@ module _ (gives : List ℕ → Contents) (j : JobModel) (name : List ℕ) (old n
   adds (Err e) r may a = tt
 
   -- a file was counted
-  pub adds_file : (result : Result (Unit {0}) AllocError) (path : List ℕ) (count : Count) (answer : Result Count Unread)
+  pub adds_file : (result : Result (Unit {0}) AllocError) (path : List ℕ) (count : Count) (answer : Result Count ContentFault)
       → answer ≡ Ok count → path ≡ path_in j.path name →
       IsAnswer (MayCount (gives path)) (λ c. c) answer → AddsResult j name (Ok count) old new result
       → AddsCounted gives j name old new result
   adds_file result path count answer is at may a =
-      let counted : MayCount (gives path) (Ok count) = subst (λ (x : Result Count Unread). IsAnswer (MayCount (gives path)) (λ c. c) x)
+      let counted : MayCount (gives path) (Ok count) = subst (λ (x : Result Count ContentFault). IsAnswer (MayCount (gives path)) (λ c. c) x)
       is may in
       adds result (Ok count) (subst (λ (p : List ℕ). MayCount (gives p) (Ok count)) at counted) a
 
   -- a file was not counted
-  pub adds_fault : (result : Result (Unit {0}) AllocError) (path : List ℕ) (word : FaultWord) (answer : Result Count Unread)
-      → answer ≡ Err (unread.Fault word) → path ≡ path_in j.path name →
+  pub adds_fault : (result : Result (Unit {0}) AllocError) (path : List ℕ) (word : FaultWord) (answer : Result Count ContentFault)
+      → answer ≡ Err (content_fault.Fault word) → path ≡ path_in j.path name →
       IsAnswer (MayCount (gives path)) (λ c. c) answer → AddsResult j name (Err word) old new result
       → AddsCounted gives j name old new result
   adds_fault result path word answer is at may a =
-      let counted : MayCount (gives path) (Err word) = subst (λ (x : Result Count Unread). IsAnswer (MayCount (gives path)) (λ c. c) x)
+      let counted : MayCount (gives path) (Err word) = subst (λ (x : Result Count ContentFault). IsAnswer (MayCount (gives path)) (λ c. c) x)
       is may in
       adds result (Err word) (subst (λ (p : List ℕ). MayCount (gives p) (Err word)) at counted) a
 

@@ -8,7 +8,7 @@ use Rattle.lc_level.specs.Answers.{Item, Answers}
 use Rattle.lc_level.specs.EntryLooks.{has_file, has_dir}
 use Rattle.lc_level.specs.GitInfo.{ListsFor, MayAnswerGit, ReadsGit}
 use Rattle.lc_level.specs.Job.{JobModel}
-use Rattle.lc_level.specs.Tidy.{IsTidy}
+use Rattle.lc_level.specs.WellFormed.{IsWellFormed}
 use Rattle.lc_level.specs.Level.{faulted_level, level, level_after}
 use Rattle.lc_level.specs.Enters.{IsEntered, EntersLevel}
 use Rattle.lc_tree.specs.Listing.{EntryModel, IsListing}
@@ -16,19 +16,19 @@ use Rattle.lc_level.specs.FaultLines.{FaultLineModel}
 use Rattle.lc_level.specs.Selection.{SelectionModel}
 use Rattle.lc_level.specs.RuleFiles.{Pair, has_git, is_top, and_then, info_items, info_bytes, own_bytes, rule_bytes, extended}
 use Rattle.lc_level.specs.RulePairs.{AreFilesOf, IsReadOf, ReadsBoth}
-use Rattle.lc_level.specs.PlacePaths.{place_path}
+use Rattle.lc_level.specs.SitePaths.{site_path}
 use Rattle.lc_level.specs.RuleReads.{text_items}
 use Rattle.lc_level.specs.TreeAnswers.{MayAnswer}
 use Rattle.lc_tree.specs.Trees.{Listings, Content, Contents, MayHold}
 use Rattle.lc_level.specs.FileReads.{MayCount, MayReadRules}
 use Rattle.lc_level.specs.declared.entering.Entered.{Entered}
 use Rattle.lc_level.specs.declared.rule_pair.PairRead.{PairRead}
-use Rattle.lc_level.specs.declared.unlisted.Unlisted.{Unlisted}
-use Rattle.lc_level.specs.declared.unlisted.Unlisted.TheVariants.{Faulted, Broken}
+use Rattle.lc_level.specs.declared.open_fault.OpenFault.{OpenFault}
+use Rattle.lc_level.specs.declared.open_fault.OpenFault.TheVariants.{Faulted, Broken}
 use Rattle.lc_level.specs.declared.fault_word.FaultWord.{FaultWord}
 use Rattle.lc_level.specs.declared.cause.Cause.TheVariants.{Memory, TooDeep}
-use Rattle.lc_level.specs.declared.place.Place.{Place}
-use Rattle.lc_level.specs.declared.place.Place.TheVariants.{Directory, IgnoreFile, AttributeFile}
+use Rattle.lc_level.specs.declared.fault_site.FaultSite.{FaultSite}
+use Rattle.lc_level.specs.declared.fault_site.FaultSite.TheVariants.{Directory, IgnoreFile, AttributeFile}
 use Rattle.lc_level.proofs.GitReads.{any_count, any_rules, may_rules, listed}
 use Rattle.lc_level.proofs.GivenItems.{AsRules, items_at, entries_items, directory_items}
 use Rattle.lc_level.proofs.GivenPairs.{PairGiven, pair_given}
@@ -51,14 +51,14 @@ no_top true e = cc
 no_top false e = cc
 
 -- the directory was not listed
-pub list_refused : (lists : List ℕ → Listings) (gives : List ℕ → Contents) (j : JobModel) (texts : Bool) (u : Unlisted)
+pub list_refused : (lists : List ℕ → Listings) (gives : List ℕ → Contents) (j : JobModel) (texts : Bool) (u : OpenFault)
     → ListsFor (lists j.path) Directory (Err u) → EntersLevel lists gives j texts (Err u)
-list_refused lists gives j texts (Faulted place word) (is, l) =
+list_refused lists gives j texts (Faulted site word) (is, l) =
     let a : Answers = record { here = Err word; git = Ok []; info = Ok [] } in (
       a,
       record { here = l; git = λ t. absurd (no_top (is_top j.path) t); info = λ t h. absurd (no_top (is_top j.path) t) },
       no_entries,
-      λ s. ap (λ (p : Place). faulted_level (place_path j.path p) word) (sym is),
+      λ s. ap (λ (p : FaultSite). faulted_level (site_path j.path p) word) (sym is),
     )
 list_refused lists gives j texts (Broken Memory) l = tt
 list_refused lists gives j texts (Broken TooDeep) l = absurd l
@@ -93,9 +93,9 @@ module _ (lists : List ℕ → Listings) (gives : List ℕ → Contents)
     info = λ t h. git.info (sym (git_there given) ∙ t) h;
   }
 
-  -- and are tidy
-  pub is_tidy : (given : AsRules) (a : Answers) → IsTidy (answers given a)
-  is_tidy given a = subst IsListing (sym (entries_items (any_count lists gives some_content j.path) given es)) is_listing
+  -- and are well-formed
+  pub is_well_formed : (given : AsRules) (a : Answers) → IsWellFormed (answers given a)
+  is_well_formed given a = subst IsListing (sym (entries_items (any_count lists gives some_content j.path) given es)) is_listing
 
   -- what reading the rule files gives, by the two parts of it
   bytes_by : (given : AsRules) (a : Answers) (r : Result Pair FaultLineModel) → and_then (info_items there a) info_bytes ≡ r →
@@ -113,20 +113,20 @@ module _ (lists : List ℕ → Listings) (gives : List ℕ → Contents)
   fault_level given a path word e s = ap (level_after s j (own_items given)) e
 
   -- a refusal of `.git/info` is one of the directory
-  pub info_refused : (u : Unlisted) → ReadsGit lists gives texts there (Err u) → EntersLevel lists gives j texts (Err u)
-  info_refused (Faulted place word) (a, git, is) = (
+  pub info_refused : (u : OpenFault) → ReadsGit lists gives texts there (Err u) → EntersLevel lists gives j texts (Err u)
+  info_refused (Faulted site word) (a, git, is) = (
     answers own_rules a,
     may_answer own_rules (may_rules lists gives some_content j.path) a git,
-    is_tidy own_rules a,
-    fault_level own_rules a (place_path j.path place) word
-        (bytes_by own_rules a (Err (record { path = place_path j.path place; word = word })) (is j.path)),
+    is_well_formed own_rules a,
+    fault_level own_rules a (site_path j.path site) word
+        (bytes_by own_rules a (Err (record { path = site_path j.path site; word = word })) (is j.path)),
   )
   info_refused (Broken Memory) r = tt
   info_refused (Broken TooDeep) r = absurd r
 
   -- ---- the directory's own two files
 
-  abbrev ReadsOwn : Result PairRead Unlisted → Type 0
+  abbrev ReadsOwn : Result PairRead OpenFault → Type 0
   ReadsOwn r =
       ReadsBoth texts (gives (path_in j.path (codes ".gitignore"))) (gives (path_in j.path (codes ".gitattributes")))
       (has_file (codes ".gitignore") es) (has_file (codes ".gitattributes") es) (is_top j.path) IgnoreFile AttributeFile r
@@ -134,29 +134,29 @@ module _ (lists : List ℕ → Listings) (gives : List ℕ → Contents)
   abbrev in_directory : List ℕ → Contents
   in_directory n = gives (path_in j.path n)
 
-  abbrev OwnGiven : Result PairRead Unlisted → Type 0
+  abbrev OwnGiven : Result PairRead OpenFault → Type 0
   OwnGiven r = PairGiven in_directory (codes ".gitignore") (codes ".gitattributes") refl es own_rules
       (may_rules lists gives some_content j.path) texts (is_top j.path) IgnoreFile AttributeFile r
 
-  own_given : (r : Result PairRead Unlisted) → ReadsOwn r → OwnGiven r
+  own_given : (r : Result PairRead OpenFault) → ReadsOwn r → OwnGiven r
   own_given r reads = pair_given in_directory (codes ".gitignore") (codes ".gitattributes") refl es own_rules
       (may_rules lists gives some_content j.path) texts (is_top j.path) IgnoreFile AttributeFile r reads
 
   -- so is one of its own rule files
-  pub own_refused : (info : PairRead) → ReadsGit lists gives texts there (Ok info) → (u : Unlisted) → ReadsOwn (Err u)
+  pub own_refused : (info : PairRead) → ReadsGit lists gives texts there (Ok info) → (u : OpenFault) → ReadsOwn (Err u)
       → EntersLevel lists gives j texts (Err u)
   own_refused info (a, git, (i, are, is)) u reads = at u (own_given (Err u) reads)
     where
-      at : (v : Unlisted) → OwnGiven (Err v) → EntersLevel lists gives j texts (Err v)
-      at (Faulted place word) (given, may, e) = (
+      at : (v : OpenFault) → OwnGiven (Err v) → EntersLevel lists gives j texts (Err v)
+      at (Faulted site word) (given, may, e) = (
         answers given a,
         may_answer given may a git,
-        is_tidy given a,
-        fault_level given a (place_path j.path place) word
+        is_well_formed given a,
+        fault_level given a (site_path j.path site) word
             (bytes_by given a (Ok i) is
-            ∙ and_then_err (own_bytes j.path (own_items given)) (record { path = place_path j.path place; word = word })
+            ∙ and_then_err (own_bytes j.path (own_items given)) (record { path = site_path j.path site; word = word })
             (λ o. Ok (record { info = i; own = o }))
-            (e (place_path j.path) (any_count lists gives some_content j.path))),
+            (e (site_path j.path) (any_count lists gives some_content j.path))),
       )
       at (Broken Memory) r = tt
       at (Broken TooDeep) r = absurd r
@@ -201,7 +201,7 @@ module _ (lists : List ℕ → Listings) (gives : List ℕ → Contents)
     inside = record {
       answers = answers r.given r.git_answers;
       may = may_answer r.given r.may r.git_answers r.git;
-      tidy = is_tidy r.given r.git_answers;
+      well_formed = is_well_formed r.given r.git_answers;
       items = own_items r.given;
       here = refl;
       bytes = record { info = r.info_bytes; own = r.own_bytes };

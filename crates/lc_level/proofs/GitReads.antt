@@ -8,22 +8,22 @@ use Rattle.lc_level.specs.GitInfo.{ListsFor, MayAnswerGit, ReadsGit}
 use Rattle.lc_tree.specs.Listing.{EntryModel}
 use Rattle.lc_level.specs.RuleFiles.{has_directory, and_then, listing, info_items, info_bytes}
 use Rattle.lc_level.specs.RulePairs.{IsReadOf, ReadsBoth}
-use Rattle.lc_level.specs.PlacePaths.{place_path}
+use Rattle.lc_level.specs.SitePaths.{site_path}
 use Rattle.lc_level.specs.RuleReads.{text_if}
 use Rattle.lc_level.specs.TreeAnswers.{FailsBy, MayList}
 use Rattle.lc_tree.specs.Trees.{Listings, Content, Contents, MayHold}
 use Rattle.lc_level.specs.FileReads.{MayCount, MayReadRules}
 use Rattle.lc_level.specs.declared.rule_pair.PairRead.{PairRead}
-use Rattle.lc_level.specs.declared.unlisted.Unlisted.{Unlisted}
-use Rattle.lc_level.specs.declared.unlisted.Unlisted.TheVariants.{Faulted, Broken}
+use Rattle.lc_level.specs.declared.open_fault.OpenFault.{OpenFault}
+use Rattle.lc_level.specs.declared.open_fault.OpenFault.TheVariants.{Faulted, Broken}
 use Rattle.lc_level.specs.declared.fault_word.FaultWord.{FaultWord}
 use Rattle.lc_level.specs.declared.cause.Cause.TheVariants.{Memory, TooDeep}
-use Rattle.lc_level.specs.declared.place.Place.{Place}
-use Rattle.lc_level.specs.declared.place.Place.TheVariants.{Git, GitInfo, ExcludeFile, InfoAttributes}
+use Rattle.lc_level.specs.declared.fault_site.FaultSite.{FaultSite}
+use Rattle.lc_level.specs.declared.fault_site.FaultSite.TheVariants.{Git, GitInfo, ExcludeFile, InfoAttributes}
 use Rattle.lc_level.proofs.GivenItems.{Counted, AsRules, items_at, entries_items, directory_items, may_items}
 use Rattle.lc_level.proofs.GivenPairs.{PairGiven, pair_given}
 use Rattle.lc_level.proofs.SomeReads.{some_count, some_rules}
-use Rattle.lc_level.proofs.Tidy.{clash}
+use Rattle.lc_level.proofs.WellFormed.{clash}
 
 abbrev asked : Items → Items → Answers
 asked git info = record { here = Ok []; git = git; info = info }
@@ -80,7 +80,7 @@ module _ (lists : List ℕ → Listings) (gives : List ℕ → Contents)
   by_info es info b e = ap (λ t. and_then (listing t (codes ".git/info") info) info_bytes) (has_info es ∙ e)
 
   module _ (texts : Bool) where
-    at_true : (there : Bool) (r : Result PairRead Unlisted) → there ≡ true → ReadsGit lists gives texts true r
+    at_true : (there : Bool) (r : Result PairRead OpenFault) → there ≡ true → ReadsGit lists gives texts true r
         → ReadsGit lists gives texts there r
     at_true there r e k = subst (λ b. ReadsGit lists gives texts b r) (sym e) k
 
@@ -95,19 +95,19 @@ module _ (lists : List ℕ → Listings) (gives : List ℕ → Contents)
         )
 
     -- a fault of `.git`
-    pub git_fault : (there : Bool) (place : Place) (word : FaultWord) → there ≡ true → place ≡ Git → FailsBy (lists (codes ".git")) word
-        → ReadsGit lists gives texts there (Err (Faulted place word))
-    git_fault there place word e is l =
-        at_true there (Err (Faulted place word)) e (
+    pub git_fault : (there : Bool) (site : FaultSite) (word : FaultWord) → there ≡ true → site ≡ Git → FailsBy (lists (codes ".git")) word
+        → ReadsGit lists gives texts there (Err (Faulted site word))
+    git_fault there site word e is l =
+        at_true there (Err (Faulted site word)) e (
           asked (Err word) (Ok []),
           record { git = λ t. l; info = λ t h. absurd (clash h refl) },
-          λ directory. ap (λ (p : Place). Err (record { path = place_path directory p; word = word })) (sym is),
+          λ directory. ap (λ (p : FaultSite). Err (record { path = site_path directory p; word = word })) (sym is),
         )
 
     -- the same, by how the listing was refused
-    pub git_refused : (there : Bool) (u : Unlisted) → there ≡ true → ListsFor (lists (codes ".git")) Git (Err u)
+    pub git_refused : (there : Bool) (u : OpenFault) → there ≡ true → ListsFor (lists (codes ".git")) Git (Err u)
         → ReadsGit lists gives texts there (Err u)
-    git_refused there (Faulted place word) e (is, l) = git_fault there place word e is l
+    git_refused there (Faulted site word) e (is, l) = git_fault there site word e is l
     git_refused there (Broken Memory) e l = tt
     git_refused there (Broken TooDeep) e l = absurd l
 
@@ -123,22 +123,22 @@ module _ (lists : List ℕ → Listings) (gives : List ℕ → Contents)
         )
 
     -- a fault of `.git/info`
-    pub info_fault : (there : Bool) (es : List EntryModel) (place : Place) (word : FaultWord) → there ≡ true
+    pub info_fault : (there : Bool) (es : List EntryModel) (site : FaultSite) (word : FaultWord) → there ≡ true
         → lists (codes ".git") (Ok es) → has_dir (codes "info") es ≡ true →
-        place ≡ GitInfo → FailsBy (lists (codes ".git/info")) word → ReadsGit lists gives texts there (Err (Faulted place word))
-    info_fault there es place word e l present is m =
-        at_true there (Err (Faulted place word)) e (
+        site ≡ GitInfo → FailsBy (lists (codes ".git/info")) word → ReadsGit lists gives texts there (Err (Faulted site word))
+    info_fault there es site word e l present is m =
+        at_true there (Err (Faulted site word)) e (
           asked (Ok (git_items es)) (Err word),
           record { git = λ t. may_git es l; info = λ t h. m },
           λ directory. by_info es (Err word) true present
-              ∙ ap (λ (p : Place). Err (record { path = place_path directory p; word = word })) (sym is),
+              ∙ ap (λ (p : FaultSite). Err (record { path = site_path directory p; word = word })) (sym is),
         )
 
     -- the same, or want of memory
-    pub info_refused : (there : Bool) (es : List EntryModel) (u : Unlisted) → there ≡ true → lists (codes ".git") (Ok es)
+    pub info_refused : (there : Bool) (es : List EntryModel) (u : OpenFault) → there ≡ true → lists (codes ".git") (Ok es)
         → has_dir (codes "info") es ≡ true →
         ListsFor (lists (codes ".git/info")) GitInfo (Err u) → ReadsGit lists gives texts there (Err u)
-    info_refused there es (Faulted place word) e l present (is, m) = info_fault there es place word e l present is m
+    info_refused there es (Faulted site word) e l present (is, m) = info_fault there es site word e l present is m
     info_refused there es (Broken Memory) e l present m = tt
     info_refused there es (Broken TooDeep) e l present m = absurd m
 
@@ -148,12 +148,12 @@ module _ (lists : List ℕ → Listings) (gives : List ℕ → Contents)
     abbrev info_of : List EntryModel → AsRules → Items
     info_of fs given = Ok (items_at (any_count (codes ".git/info")) given fs)
 
-    abbrev InfoGiven : List EntryModel → Result PairRead Unlisted → Type 0
+    abbrev InfoGiven : List EntryModel → Result PairRead OpenFault → Type 0
     InfoGiven fs r = PairGiven in_info (codes "exclude") (codes "attributes") refl fs (any_rules (codes ".git/info"))
         (may_rules (codes ".git/info")) texts true ExcludeFile InfoAttributes r
 
     -- what its two files answered
-    pub both_files : (there : Bool) (es fs : List EntryModel) (r : Result PairRead Unlisted) → there ≡ true
+    pub both_files : (there : Bool) (es fs : List EntryModel) (r : Result PairRead OpenFault) → there ≡ true
         → lists (codes ".git") (Ok es) → has_dir (codes "info") es ≡ true →
         lists (codes ".git/info") (Ok fs) →
         ReadsBoth texts (gives (codes ".git/info/exclude")) (gives (codes ".git/info/attributes")) (has_file (codes "exclude") fs)
@@ -167,7 +167,7 @@ module _ (lists : List ℕ → Listings) (gives : List ℕ → Contents)
             → MayAnswerGit lists gives true (asked (Ok (git_items es)) (info_of fs given))
         may given k = record { git = λ t. may_git es l; info = λ t h. listed (codes ".git/info") fs given k m }
 
-        at : (o : Result PairRead Unlisted) → InfoGiven fs o → ReadsGit lists gives texts true o
+        at : (o : Result PairRead OpenFault) → InfoGiven fs o → ReadsGit lists gives texts true o
         at (Ok read) (given, k, (bytes, are, is)) = (
           asked (Ok (git_items es)) (info_of fs given),
           may given k,
@@ -178,11 +178,11 @@ module _ (lists : List ℕ → Listings) (gives : List ℕ → Contents)
                 (any_count (codes ".git/info")),
           ),
         )
-        at (Err (Faulted place word)) (given, k, is) = (
+        at (Err (Faulted site word)) (given, k, is) = (
           asked (Ok (git_items es)) (info_of fs given),
           may given k,
           λ directory. by_info es (info_of fs given) true present
-              ∙ is (place_path directory) (any_count (codes ".git/info")),
+              ∙ is (site_path directory) (any_count (codes ".git/info")),
         )
         at (Err (Broken Memory)) k = tt
         at (Err (Broken TooDeep)) k = absurd k

@@ -16,7 +16,7 @@ use Rattle.lc_level.specs.FileReads.{MayCount, MayReadRules}
 use Rattle.lc_level.specs.declared.fault_word.FaultWord.{FaultWord}
 use Rattle.lc_tree.specs.declared.entry.Kind.{Kind}
 use Rattle.lc_tree.specs.declared.entry.Kind.TheVariants.{File, Dir, Other}
-use Rattle.lc_level.proofs.Tidy.{same_bytes, bytes_same}
+use Rattle.lc_level.proofs.WellFormed.{same_bytes, bytes_same}
 
 -- what the file of each name gives where it is counted, and where it is read as rules
 abbrev pub Counted : Type 0

@@ -10,11 +10,11 @@ use Rattle.lc_level.specs.RuleReads.{MayGive}
 use Rattle.lc_tree.specs.Trees.{Contents}
 use Rattle.lc_level.specs.FileReads.{MayReadRules}
 use Rattle.lc_level.specs.declared.rule_pair.PairRead.{PairRead}
-use Rattle.lc_level.specs.declared.unlisted.Unlisted.{Unlisted}
-use Rattle.lc_level.specs.declared.unlisted.Unlisted.TheVariants.{Faulted, Broken}
+use Rattle.lc_level.specs.declared.open_fault.OpenFault.{OpenFault}
+use Rattle.lc_level.specs.declared.open_fault.OpenFault.TheVariants.{Faulted, Broken}
 use Rattle.lc_level.specs.declared.fault_word.FaultWord.{FaultWord}
 use Rattle.lc_level.specs.declared.cause.Cause.TheVariants.{Memory, TooDeep}
-use Rattle.lc_level.specs.declared.place.Place.{Place}
+use Rattle.lc_level.specs.declared.fault_site.FaultSite.{FaultSite}
 use Rattle.lc_level.proofs.GivenItems.{Counted, AsRules, items_at, but, at_name, at_other, may_but, given_items}
 
 both_ok : (p q : List ℕ) (x y : Option (List ℕ))
@@ -39,14 +39,14 @@ module _ (gives : List ℕ → Contents) (first_name second_name : List ℕ) (ap
       both_read p (file_named first_name (items_at counted given es)) q (file_named second_name (items_at counted given es))
 
   -- what all files give as rules, so that reading the two gives what was answered
-  abbrev pub PairGiven : Bool → Bool → Place → Place → Result PairRead Unlisted → Type 0
+  abbrev pub PairGiven : Bool → Bool → FaultSite → FaultSite → Result PairRead OpenFault → Type 0
   PairGiven texts top first second (Ok read) =
       (given : AsRules) × ((n : List ℕ) → MayReadRules (gives n) (given n))
       × ((bytes : Pair) × IsReadOf texts top read bytes × ((p q : List ℕ) (counted : Counted) → read_of p q given counted ≡ Ok bytes))
-  PairGiven texts top first second (Err (Faulted place word)) =
+  PairGiven texts top first second (Err (Faulted site word)) =
       (given : AsRules) × ((n : List ℕ) → MayReadRules (gives n) (given n))
-      × ((path_at : Place → List ℕ) (counted : Counted)
-      → read_of (path_at first) (path_at second) given counted ≡ Err (record { path = path_at place; word = word }))
+      × ((path_at : FaultSite → List ℕ) (counted : Counted)
+      → read_of (path_at first) (path_at second) given counted ≡ Err (record { path = path_at site; word = word }))
   PairGiven texts top first second (Err (Broken Memory)) = Unit {0}
   PairGiven texts top first second (Err (Broken TooDeep)) = ⊥
 
@@ -77,7 +77,7 @@ module _ (gives : List ℕ → Contents) (first_name second_name : List ℕ) (ap
   first_at x v e = ap (λ o. but first_name o rules first_name) e ∙ at_name first_name v rules
 
   -- the answer for two files is one for the items
-  pub pair_given : (texts top : Bool) (first second : Place) (r : Result PairRead Unlisted) →
+  pub pair_given : (texts top : Bool) (first second : FaultSite) (r : Result PairRead OpenFault) →
       ReadsBoth texts (gives first_name) (gives second_name) (has_file first_name es) (has_file second_name es) top first second r
       → PairGiven texts top first second r
   pair_given texts top first second (Ok read) (bytes, are, may) =
@@ -92,16 +92,16 @@ module _ (gives : List ℕ → Contents) (first_name second_name : List ℕ) (ap
               ∙ both_ok p q bytes.rules bytes.attributes,
         ),
       )
-  pair_given texts top first second (Err (Faulted place word)) (inl (is, may)) =
+  pair_given texts top first second (Err (Faulted site word)) (inl (is, may)) =
       let x : Option (Result (List ℕ) FaultWord) = Some (Err word) in (
         but first_name x rules,
         may_but gives first_name (has_file first_name es) x rules may may_read,
         λ path_at counted.
             ap (λ o. both_read (path_at first) o (path_at second) (file_named second_name (items_at counted (but first_name x rules) es)))
             (given_items (gives first_name) counted (but first_name x rules) first_name x es may (first_at x))
-            ∙ ap (λ (l : Place). Err (record { path = path_at l; word = word })) (sym is),
+            ∙ ap (λ (l : FaultSite). Err (record { path = path_at l; word = word })) (sym is),
       )
-  pair_given texts top first second (Err (Faulted place word)) (inr (is, before, may)) =
+  pair_given texts top first second (Err (Faulted site word)) (inr (is, before, may)) =
       let x : Option (Result (List ℕ) FaultWord) = option_map Ok before.0 in
       let y : Option (Result (List ℕ) FaultWord) = Some (Err word) in (
         with_both x y,
@@ -109,7 +109,7 @@ module _ (gives : List ℕ → Contents) (first_name second_name : List ℕ) (ap
         λ path_at counted.
             both_are x y before.1 may (path_at first) (path_at second) counted
             ∙ second_fault (path_at first) (path_at second) before.0 word
-            ∙ ap (λ (l : Place). Err (record { path = path_at l; word = word })) (sym is),
+            ∙ ap (λ (l : FaultSite). Err (record { path = path_at l; word = word })) (sym is),
       )
   pair_given texts top first second (Err (Broken Memory)) r = tt
   pair_given texts top first second (Err (Broken TooDeep)) r = absurd r

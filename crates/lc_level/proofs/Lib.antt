@@ -20,4 +20,4 @@ pub mod Rooms
 pub mod RuleParsing
 pub mod Selecting
 pub mod SomeReads
-pub mod Tidy
+pub mod WellFormed

@@ -5,7 +5,7 @@ use Rattle.std.specs.Prelude.{IfOk, Vec, option_and_then}
 use Rattle.std.specs.declared.alloc.Global.{Global}
 use Rattle.std.proofs.lemmas.Cmp.{nat_list_cmp_total}
 use Rattle.std.proofs.lemmas.Map.Keys.{sorted_from_all_adjacent}
-use Rattle.lc_level.specs.Tidy.{listed_in}
+use Rattle.lc_level.specs.WellFormed.{listed_in}
 use Rattle.std.specs.List.{AllByRecursion}
 use Rattle.lc_glob.specs.Path.{is_good_name, path_in}
 use Rattle.lc_level.specs.Answers.{Item, entry_of, entries_of}
@@ -38,11 +38,11 @@ entry_by name file File = refl
 entry_by name file Dir = refl
 entry_by name file Other = refl
 
-entries_are : (children : List Child) → entries_of (map item_of children) ≡ map nodes.entry_of children
+entries_are : (children : List Child) → entries_of (map item_of children) ≡ map nodes.entry_of_child children
 entries_are [] = refl
 entries_are (c ∷ cs) =
     ap (λ (e : EntryModel). e ∷ entries_of (map item_of cs)) (entry_by c.0.items (content_of (Some c.1)) (kind_of c.1))
-    ∙ ap (λ l. nodes.entry_of c ∷ l) (entries_are cs)
+    ∙ ap (λ l. nodes.entry_of_child c ∷ l) (entries_are cs)
 
 both : (a b : Bool) → (a && b) ≡ true → (a ≡ true) × (b ≡ true)
 both true b e = (refl, e)
@@ -54,7 +54,7 @@ answer_of (Ok items) = Ok (entries_of items)
 answer_of (Err fault) = Err fault
 
 answer_for : (children : List Child) (items : Result (List Item) ReadFault) → ItemsFor entry_of (map item_of children) items
-    → IsAnswerFor (map nodes.entry_of children) (answer_of items)
+    → IsAnswerFor (map nodes.entry_of_child children) (answer_of items)
 answer_for children (Ok items) is = subst (λ (l : List EntryModel). IsAnswerFor l (Ok (entries_of items))) (entries_are children) is
 answer_for children (Err fault) is = subst (λ (l : List EntryModel). IsAnswerFor l (Err fault)) (entries_are children) is
 
@@ -99,17 +99,17 @@ module _ (top : Node) (path : List ℕ) where
   may_have name node Other e = tt
 
   -- of all of them, each of which is found by its name
-  all_have : (children : List Child) → have_good_names (map nodes.entry_of children) ≡ true
+  all_have : (children : List Child) → have_good_names (map nodes.entry_of_child children) ≡ true
       → AllByRecursion (λ (c : Child). option_and_then (child_of c.0.items) (node_at top path) ≡ Some c.1) children
       → AllByRecursion (MayHave (mem_lists top) (mem_gives top) path) (map item_of children)
   all_have [] good found = tt
   all_have (c ∷ cs) good found =
-      let t = both (is_good_name c.0.items) (have_good_names (map nodes.entry_of cs)) good in
+      let t = both (is_good_name c.0.items) (have_good_names (map nodes.entry_of_child cs)) good in
       (may_have c.0.items c.1 (kind_of c.1) (node_in top path c.0.items t.0 ∙ found.0), all_have cs t.1 found.1)
 
   -- each entry of a directory there is found by its name
   found_there : (node : Node) (children : Vec Child Global) → node_at top path ≡ Some node → out-Node node ≡ Node-F.Dir children
-      → HaveDistinctNames (map nodes.entry_of children.items)
+      → HaveDistinctNames (map nodes.entry_of_child children.items)
       → AllByRecursion (λ (c : Child). option_and_then (child_of c.0.items) (node_at top path) ≡ Some c.1) children.items
   found_there node children e is distinct =
       subst (λ (o : Option Node). AllByRecursion (λ (c : Child). option_and_then (child_of c.0.items) o ≡ Some c.1) children.items) (sym e)
@@ -174,20 +174,20 @@ no_entries = record {
   few = omega arith;
 }
 
-tidy_by : (es : List EntryModel) (items : Result (List Item) ReadFault) → IsAnswerFor es (answer_of items)
+well_formed_by : (es : List EntryModel) (items : Result (List Item) ReadFault) → IsAnswerFor es (answer_of items)
     → IsListing (listed_in (told_items items))
-tidy_by es (Ok items) is = is.listing
-tidy_by es (Err fault) is = no_entries
+well_formed_by es (Ok items) is = is.listing
+well_formed_by es (Err fault) is = no_entries
 
-tidy_within : (node : Node-F Node) → IsListing (listed_in (told_items (listing_within node)))
-tidy_within (Node-F.Dir entries) =
-    tidy_by (map nodes.entry_of entries.items) (listing_within (Node-F.Dir entries)) (lists_within (Node-F.Dir entries))
-tidy_within Node-F.Closed = no_entries
-tidy_within (Node-F.File bytes) = no_entries
-tidy_within (Node-F.Failing bytes) = no_entries
-tidy_within Node-F.Other = no_entries
+well_formed_within : (node : Node-F Node) → IsListing (listed_in (told_items (listing_within node)))
+well_formed_within (Node-F.Dir entries) =
+    well_formed_by (map nodes.entry_of_child entries.items) (listing_within (Node-F.Dir entries)) (lists_within (Node-F.Dir entries))
+well_formed_within Node-F.Closed = no_entries
+well_formed_within (Node-F.File bytes) = no_entries
+well_formed_within (Node-F.Failing bytes) = no_entries
+well_formed_within Node-F.Other = no_entries
 
 -- and its listings are listings
-pub tidy_at : (o : Option Node) → IsListing (listed_in (items_at o))
-tidy_at None = no_entries
-tidy_at (Some node) = tidy_within (out-Node node)
+pub well_formed_at : (o : Option Node) → IsListing (listed_in (items_at o))
+well_formed_at None = no_entries
+well_formed_at (Some node) = well_formed_within (out-Node node)

@@ -9,7 +9,7 @@ use Rattle.lc_tree.specs.declared.entry.Kind.{Kind}
 use Rattle.lc_tree.specs.declared.entry.Kind.TheVariants.{File, Dir, Other}
 use Rattle.lc_level.specs.declared.fault_word.FaultWord.{FaultWord}
 use Rattle.lc_tree.specs.declared.read_fault.ReadFault.{ReadFault}
-use Rattle.lc_level.specs.FaultWords.{word_of}
+use Rattle.lc_level.specs.FaultWords.{fault_word_of}
 use Rattle.lc_level.specs.Answers.{Item, file_item, directory_item, other_item, entry_of, entries_of, Items, Answers}
 use Rattle.lc_level.specs.Job.{JobModel}
 use Rattle.lc_level.specs.Level.{level, level_of, level_after}
@@ -24,7 +24,7 @@ entries_or d (Err word) = d
 
 abbrev word_or : Option FaultWord → Result (List EntryModel) ReadFault → Option FaultWord
 word_or d (Ok es) = d
-word_or d (Err fault) = word_of fault
+word_or d (Err fault) = fault_word_of fault
 
 abbrev is_listed : Result (List EntryModel) ReadFault → Bool
 is_listed (Ok es) = true

@@ -14,13 +14,13 @@ use Rattle.lc_level.specs.Narrowing.{rests, takes_part, part_of}
 use Rattle.lc_level.specs.Opens.{IsOpened, OpensLevel}
 use Rattle.lc_level.specs.PathSteps.{unled}
 use Rattle.lc_level.specs.Selection.{SelectionModel}
-use Rattle.lc_level.specs.Tidy.{listed_in}
+use Rattle.lc_level.specs.WellFormed.{listed_in}
 use Rattle.lc_tree.specs.Listing.{EntryModel, IsListing}
 use Rattle.lc_tree.specs.Trees.{Listings, Contents}
 use Rattle.lc_level.specs.declared.entering.Entered.{Entered}
 use Rattle.lc_level.specs.declared.left_in.LeftIn.{LeftIn}
-use Rattle.lc_level.specs.declared.unlisted.Unlisted.{Unlisted}
-use Rattle.lc_level.specs.declared.unlisted.Unlisted.TheVariants.{Faulted, Broken}
+use Rattle.lc_level.specs.declared.open_fault.OpenFault.{OpenFault}
+use Rattle.lc_level.specs.declared.open_fault.OpenFault.TheVariants.{Faulted, Broken}
 use Rattle.lc_level.specs.declared.cause.Cause.{Cause}
 use Rattle.lc_level.specs.declared.cause.Cause.TheVariants.{Memory, TooDeep}
 use Rattle.lc_level.proofs.AskedPaths.{absent_is, entries_of_part}
@@ -50,8 +50,8 @@ module _ (s : SelectionModel) (e : Entered) (only : List (List ℕ)) (directory 
 
 module _ (lists : List ℕ → Listings) (gives : List ℕ → Contents) (left_out : Bool) (s : SelectionModel) (j : JobModel) where
   -- what stops entering a directory stops opening it
-  pub enter_refused : (texts : Bool) (u : Unlisted) → EntersLevel lists gives j texts (Err u) → OpensLevel lists gives left_out s j (Err u)
-  enter_refused texts (Faulted place word) (a, may, tidy, is) = (a, may, tidy, is s)
+  pub enter_refused : (texts : Bool) (u : OpenFault) → EntersLevel lists gives j texts (Err u) → OpensLevel lists gives left_out s j (Err u)
+  enter_refused texts (Faulted site word) (a, may, well_formed, is) = (a, may, well_formed, is s)
   enter_refused texts (Broken Memory) e = tt
   enter_refused texts (Broken TooDeep) e = absurd e
 
@@ -74,7 +74,7 @@ module _ (lists : List ℕ → Listings) (gives : List ℕ → Contents) (left_o
     -- they are few
     pub few : length part < 2 ^ 32
     few =
-        let listing : IsListing (entries_of c.inside.items) = subst (λ (l : Items). IsListing (listed_in l)) c.inside.here c.inside.tidy in
+        let listing : IsListing (entries_of c.inside.items) = subst (λ (l : Items). IsListing (listed_in l)) c.inside.here c.inside.well_formed in
         omega (
           arith,
           listing.few,
@@ -95,7 +95,7 @@ module _ (lists : List ℕ → Listings) (gives : List ℕ → Contents) (left_o
     pub take_refused : (cause : Cause) → LeavesIn left_out s e.job part (Err cause)
         → OpensLevel lists gives left_out s j (Err (Broken cause))
     take_refused Memory l = tt
-    take_refused TooDeep l = (c.inside.answers, c.inside.may, c.inside.tidy, deep_is true l)
+    take_refused TooDeep l = (c.inside.answers, c.inside.may, c.inside.well_formed, deep_is true l)
 
     -- they were taken
     pub opened : (found : LeftIn) (absent : Vec FileFaultModel Global) (number : ℕ)

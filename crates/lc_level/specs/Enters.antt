@@ -3,16 +3,16 @@ use Rattle.std.specs.Prelude.{◌≡◌, ℕ, Bool, List, Result, Ok, Err}
 use Rattle.lc_level.specs.Answers.{Item, Answers, entries_of}
 use Rattle.lc_level.specs.Job.{JobModel}
 use Rattle.lc_level.specs.Level.{faulted_level, level}
-use Rattle.lc_level.specs.PlacePaths.{place_path}
+use Rattle.lc_level.specs.SitePaths.{site_path}
 use Rattle.lc_level.specs.RuleFiles.{RuleBytes, rule_bytes, extended}
 use Rattle.lc_level.specs.RuleReads.{text_items, text_if}
 use Rattle.lc_level.specs.Selection.{SelectionModel}
-use Rattle.lc_level.specs.Tidy.{IsTidy}
+use Rattle.lc_level.specs.WellFormed.{IsWellFormed}
 use Rattle.lc_level.specs.TreeAnswers.{MayAnswer}
 use Rattle.lc_tree.specs.Trees.{Listings, Contents}
 use Rattle.lc_level.specs.declared.entering.Entered.{Entered}
-use Rattle.lc_level.specs.declared.unlisted.Unlisted.{Unlisted}
-use Rattle.lc_level.specs.declared.unlisted.Unlisted.TheVariants.{Faulted, Broken}
+use Rattle.lc_level.specs.declared.open_fault.OpenFault.{OpenFault}
+use Rattle.lc_level.specs.declared.open_fault.OpenFault.TheVariants.{Faulted, Broken}
 use Rattle.lc_level.specs.declared.cause.Cause.TheVariants.{Memory, TooDeep}
 
 module _ (lists : List ℕ → Listings) (gives : List ℕ → Contents) (j : JobModel) where
@@ -20,7 +20,7 @@ module _ (lists : List ℕ → Listings) (gives : List ℕ → Contents) (j : Jo
   pub record IsInside (k : JobModel) : Type 0 where
     pub answers : Answers
     pub may : MayAnswer lists gives j.path answers
-    pub tidy : IsTidy answers
+    pub well_formed : IsWellFormed answers
     pub items : List Item
     pub here : answers.here ≡ Ok items
     pub bytes : RuleBytes
@@ -35,9 +35,9 @@ module _ (lists : List ℕ → Listings) (gives : List ℕ → Contents) (j : Jo
     pub own_text : text_items e.texts.own ≡ text_if texts inside.bytes.own.rules
 
   -- a directory that is entered, at fault, or given up for want of memory
-  abbrev pub EntersLevel : Bool → Result Entered Unlisted → Type 0
+  abbrev pub EntersLevel : Bool → Result Entered OpenFault → Type 0
   EntersLevel texts (Ok e) = IsEntered texts e
-  EntersLevel texts (Err (Faulted place word)) = (a : Answers) × MayAnswer lists gives j.path a × IsTidy a
-      × ((s : SelectionModel) → level s j a ≡ faulted_level (place_path j.path place) word)
+  EntersLevel texts (Err (Faulted site word)) = (a : Answers) × MayAnswer lists gives j.path a × IsWellFormed a
+      × ((s : SelectionModel) → level s j a ≡ faulted_level (site_path j.path site) word)
   EntersLevel texts (Err (Broken Memory)) = Unit {0}
   EntersLevel texts (Err (Broken TooDeep)) = ⊥

@@ -123,7 +123,7 @@ small_as_it_is = record {
 
 -- a directory's entries stand in order of their names; the one that fails is a fault; `.git`, the ignored file and the link are left out,
 -- and of an archive what has the attribute `export-ignore`; what is closed, or has a bad name in it, can't be listed
-pub record ExamplesHold (alloc : Global) : Type 0 where
+pub record LevelExamplesHold (alloc : Global) : Type 0 where
   pub top : (tree_of_node (small_node alloc) []).here ≡ Ok small_items
   pub count : census (codes "one\n") ≡ record { lines = 1; blank = 0; bytes = 4; eol = Lf }
   pub names : small_names alloc false ≡ small_as_it_is

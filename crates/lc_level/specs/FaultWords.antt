@@ -15,10 +15,10 @@ fault_word Endless = codes "endless"
 fault_word Absent = codes "absent"
 
 -- that of a fault of a listing; want of memory has none
-abbrev pub word_of : ReadFault → Option FaultWord
-word_of fault.Failed = Some Read
-word_of fault.Unnamed = Some Name
-word_of fault.BadName = Some Name
-word_of fault.Twice = Some Twice
-word_of fault.TooMany = Some Many
-word_of fault.Memory = None
+abbrev pub fault_word_of : ReadFault → Option FaultWord
+fault_word_of fault.Failed = Some Read
+fault_word_of fault.Unnamed = Some Name
+fault_word_of fault.BadName = Some Name
+fault_word_of fault.Twice = Some Twice
+fault_word_of fault.TooMany = Some Many
+fault_word_of fault.Memory = None

@@ -10,14 +10,14 @@ use Rattle.lc_tree.specs.Trees.{Contents}
 use Rattle.lc_level.specs.declared.fault_word.FaultWord.{FaultWord}
 use Rattle.lc_level.specs.declared.fault_word.FaultWord.TheVariants as word
 use Rattle.lc_tree.specs.declared.node.Node.{Node}
-use Rattle.lc_level.specs.declared.unread.Unread.{Unread}
-use Rattle.lc_level.specs.declared.unread.Unread.TheVariants as unread
+use Rattle.lc_level.specs.declared.content_fault.ContentFault.{ContentFault}
+use Rattle.lc_level.specs.declared.content_fault.ContentFault.TheVariants as content_fault
 
 -- the answer is one that may come, or memory was refused
-abbrev pub IsAnswer : {A B : Type 0} → (Result A FaultWord → Type 0) → (B → A) → Result B Unread → Type 0
+abbrev pub IsAnswer : {A B : Type 0} → (Result A FaultWord → Type 0) → (B → A) → Result B ContentFault → Type 0
 IsAnswer may view (Ok x) = may (Ok (view x))
-IsAnswer may view (Err (unread.Fault word)) = may (Err word)
-IsAnswer may view (Err unread.Memory) = Unit {0}
+IsAnswer may view (Err (content_fault.Fault word)) = may (Err word)
+IsAnswer may view (Err content_fault.Memory) = Unit {0}
 
 -- what counting a file of these contents may give: its census, a failed read, or no end within 2^32 reads
 abbrev pub MayCount : Contents → Result Count FaultWord → Type 0

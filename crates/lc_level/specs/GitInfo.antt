@@ -4,21 +4,21 @@ use Rattle.lc_level.specs.Answers.{Answers}
 use Rattle.lc_tree.specs.Listing.{EntryModel}
 use Rattle.lc_level.specs.RuleFiles.{Pair, has_directory, and_then, info_items, info_bytes}
 use Rattle.lc_level.specs.RulePairs.{IsReadOf}
-use Rattle.lc_level.specs.PlacePaths.{place_path}
+use Rattle.lc_level.specs.SitePaths.{site_path}
 use Rattle.lc_level.specs.TreeAnswers.{FailsBy, MayList, items_of}
 use Rattle.lc_tree.specs.Trees.{Listings, Contents}
 use Rattle.lc_level.specs.declared.rule_pair.PairRead.{PairRead}
-use Rattle.lc_level.specs.declared.unlisted.Unlisted.{Unlisted}
-use Rattle.lc_level.specs.declared.unlisted.Unlisted.TheVariants.{Faulted, Broken}
+use Rattle.lc_level.specs.declared.open_fault.OpenFault.{OpenFault}
+use Rattle.lc_level.specs.declared.open_fault.OpenFault.TheVariants.{Faulted, Broken}
 use Rattle.lc_level.specs.declared.cause.Cause.TheVariants.{Memory, TooDeep}
-use Rattle.lc_level.specs.declared.place.Place.{Place}
+use Rattle.lc_level.specs.declared.fault_site.FaultSite.{FaultSite}
 
--- the answer to listing a directory for the sake of its rule files: a fault is one of this place
-abbrev pub ListsFor : Listings → Place → Result (List EntryModel) Unlisted → Type 0
-ListsFor may place (Ok entries) = may (Ok entries)
-ListsFor may place (Err (Faulted at word)) = (at ≡ place) × FailsBy may word
-ListsFor may place (Err (Broken Memory)) = Unit {0}
-ListsFor may place (Err (Broken TooDeep)) = ⊥
+-- the answer to listing a directory for the sake of its rule files: a fault is one of this site
+abbrev pub ListsFor : Listings → FaultSite → Result (List EntryModel) OpenFault → Type 0
+ListsFor may site (Ok entries) = may (Ok entries)
+ListsFor may site (Err (Faulted at word)) = (at ≡ site) × FailsBy may word
+ListsFor may site (Err (Broken Memory)) = Unit {0}
+ListsFor may site (Err (Broken TooDeep)) = ⊥
 
 module _ (lists : List ℕ → Listings) (gives : List ℕ → Contents) where
   -- what the tree may answer for `.git` and `.git/info`, where `.git` is there
@@ -26,14 +26,14 @@ module _ (lists : List ℕ → Listings) (gives : List ℕ → Contents) where
     pub git : there ≡ true → MayList lists gives (codes ".git") a.git
     pub info : there ≡ true → has_directory (codes "info") (items_of a.git) ≡ true → MayList lists gives (codes ".git/info") a.info
 
-  -- the answer by such answers: what was read, or the place of the first fault, or memory was refused
-  abbrev pub ReadsGit : Bool → Bool → Result PairRead Unlisted → Type 0
+  -- the answer by such answers: what was read, or the site of the first fault, or memory was refused
+  abbrev pub ReadsGit : Bool → Bool → Result PairRead OpenFault → Type 0
   ReadsGit texts there (Ok read) =
       (a : Answers) × MayAnswerGit there a
       × ((bytes : Pair) × IsReadOf texts true read bytes × (and_then (info_items there a) info_bytes ≡ Ok bytes))
-  ReadsGit texts there (Err (Faulted place word)) =
+  ReadsGit texts there (Err (Faulted site word)) =
       (a : Answers) × MayAnswerGit there a
       × ((directory : List ℕ)
-      → and_then (info_items there a) info_bytes ≡ Err (record { path = place_path directory place; word = word }))
+      → and_then (info_items there a) info_bytes ≡ Err (record { path = site_path directory site; word = word }))
   ReadsGit texts there (Err (Broken Memory)) = Unit {0}
   ReadsGit texts there (Err (Broken TooDeep)) = ⊥

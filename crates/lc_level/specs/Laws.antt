@@ -9,7 +9,7 @@ use Rattle.lc_level.specs.LeftIn.{bytes_of}
 use Rattle.lc_level.specs.Level.{CountedModel, FileFaultModel, LevelParts, IsLevelOf, level}
 use Rattle.lc_level.specs.Opens.{IsOpened}
 use Rattle.lc_level.specs.Selection.{SelectionModel, selection_of}
-use Rattle.lc_level.specs.Tidy.{IsTidy}
+use Rattle.lc_level.specs.WellFormed.{IsWellFormed}
 use Rattle.lc_level.specs.TreeAnswers.{MayAnswer}
 use Rattle.lc_level.specs.declared.counting.CountedFiles.{CountedFiles}
 use Rattle.lc_level.specs.declared.opening.Opened.{Opened}
@@ -35,7 +35,7 @@ module _ (lists : List ℕ → Listings) (gives : List ℕ → Contents) where
   CountedLaw =
       (left_out : Bool) (s : SelectionModel) (j : JobModel) (o : Opened) (found : CountedFiles) →
       IsOpened lists gives left_out s j o → IsCounted gives o.job (bytes_of o.files.items) o.absent.items found →
-      (a : Answers) × MayAnswer lists gives j.path a × IsTidy a
+      (a : Answers) × MayAnswer lists gives j.path a × IsWellFormed a
       × IsLevelOf (level s j a) left_out (parts_with o found.files.items found.faults.items) × (has_too_deep s j a ≡ false)
 
   -- all but the files of one that was opened is that of its level, whatever its files give

@@ -19,12 +19,12 @@ pub mod OneAnswer
 pub mod Opens
 pub mod PathBuffers
 pub mod PathSteps
-pub mod PlacePaths
+pub mod SitePaths
 pub mod Reasons
 pub mod RuleFiles
 pub mod RulePairs
 pub mod RuleReads
 pub mod Selection
-pub mod Tidy
+pub mod WellFormed
 pub mod TopJob
 pub mod TreeAnswers

@@ -8,7 +8,7 @@ use Rattle.lc_tree.specs.Trees.{Content}
 use Rattle.lc_tree.specs.Nodes.{Child, kind_of, node_below}
 use Rattle.lc_tree.specs.declared.entry.Kind.{Kind}
 use Rattle.lc_tree.specs.declared.entry.Kind.TheVariants.{File, Dir, Other}
-use Rattle.lc_level.specs.FaultWords.{word_of}
+use Rattle.lc_level.specs.FaultWords.{fault_word_of}
 use Rattle.lc_level.specs.declared.fault_word.FaultWord.TheVariants.{Read}
 use Rattle.lc_tree.specs.declared.node.Node.{Node, out-Node}
 use Rattle.lc_tree.specs.declared.node.Node.TheOpen.{Node-F}
@@ -39,7 +39,7 @@ listing_at (Some node) = listing_within (out-Node node)
 -- the items, or the word of the fault, which is never want of memory
 abbrev pub told_items : Result (List Item) ReadFault → Items
 told_items (Ok items) = Ok items
-told_items (Err fault) = Err (unwrap_or (word_of fault) Read)
+told_items (Err fault) = Err (unwrap_or (fault_word_of fault) Read)
 
 abbrev pub items_at : Option Node → Items
 items_at node = told_items (listing_at node)

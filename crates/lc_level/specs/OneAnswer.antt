@@ -15,7 +15,7 @@ use Rattle.lc_level.specs.Job.{JobModel}
 use Rattle.lc_level.specs.Level.{level}
 use Rattle.lc_level.specs.NodeTrees.{tree_of_node}
 use Rattle.lc_level.specs.Selection.{SelectionModel}
-use Rattle.lc_level.specs.Tidy.{IsTidy}
+use Rattle.lc_level.specs.WellFormed.{IsWellFormed}
 use Rattle.lc_level.specs.TreeAnswers.{MayAnswer}
 
 module _ (lists : List ℕ → Listings) (gives : List ℕ → Contents) where
@@ -32,12 +32,12 @@ module _ (lists : List ℕ → Listings) (gives : List ℕ → Contents) where
       → level s j a ≡ level s j b
 
 -- each file of a tree of memory has under 2^32 bytes
-abbrev pub IsModest : Node → Type 0
-IsModest top = (path : List ℕ) → length (content_at top path).bytes < 2 ^ 32
+abbrev pub HasShortFiles : Node → Type 0
+HasShortFiles top = (path : List ℕ) → length (content_at top path).bytes < 2 ^ 32
 
 -- such a tree has one level for each directory
 abbrev pub MemoryLaw : Type 0
-MemoryLaw = (top : Node) → IsModest top → GivesOne (mem_lists top) (mem_gives top)
+MemoryLaw = (top : Node) → HasShortFiles top → GivesOne (mem_lists top) (mem_gives top)
 
 -- the tree that a node stands for: its answers are some that a tree of memory may give
 abbrev pub NodeAnswersLaw : Type 0
@@ -46,9 +46,10 @@ NodeAnswersLaw = (top : Node) (path : List ℕ) → MayAnswer (mem_lists top) (m
 -- no others give another level, where each file has under 2^32 bytes
 abbrev pub NodeLevelsLaw : Type 0
 NodeLevelsLaw =
-    (top : Node) → IsModest top → (s : SelectionModel) (j : JobModel) (a : Answers) → MayAnswer (mem_lists top) (mem_gives top) j.path a
+    (top : Node) → HasShortFiles top → (s : SelectionModel) (j : JobModel) (a : Answers)
+    → MayAnswer (mem_lists top) (mem_gives top) j.path a
     → level s j a ≡ level s j (tree_of_node top (names_of_path j.path))
 
 -- and its listings are listings
-abbrev pub NodeTidyLaw : Type 0
-NodeTidyLaw = (top : Node) (place : List (List ℕ)) → IsTidy (tree_of_node top place)
+abbrev pub NodeWellFormedLaw : Type 0
+NodeWellFormedLaw = (top : Node) (place : List (List ℕ)) → IsWellFormed (tree_of_node top place)

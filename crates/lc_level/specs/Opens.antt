@@ -5,17 +5,17 @@ use Rattle.lc_level.specs.Answers.{Answers, entries_of}
 use Rattle.lc_level.specs.Deep.{has_too_deep}
 use Rattle.lc_level.specs.Enters.{IsInside}
 use Rattle.lc_level.specs.Job.{JobModel}
-use Rattle.lc_level.specs.Tidy.{IsTidy}
+use Rattle.lc_level.specs.WellFormed.{IsWellFormed}
 use Rattle.lc_level.specs.LeftIn.{kept_file, kept_directory, left_entry, bytes_of}
 use Rattle.lc_level.specs.Level.{absent_faults, faulted_level, level}
 use Rattle.lc_level.specs.Narrowing.{part_of, absent_from}
-use Rattle.lc_level.specs.PlacePaths.{place_path}
+use Rattle.lc_level.specs.SitePaths.{site_path}
 use Rattle.lc_level.specs.Selection.{SelectionModel}
 use Rattle.lc_level.specs.TreeAnswers.{MayAnswer}
 use Rattle.lc_tree.specs.Trees.{Listings, Contents}
 use Rattle.lc_level.specs.declared.opening.Opened.{Opened}
-use Rattle.lc_level.specs.declared.unlisted.Unlisted.{Unlisted}
-use Rattle.lc_level.specs.declared.unlisted.Unlisted.TheVariants.{Faulted, Broken}
+use Rattle.lc_level.specs.declared.open_fault.OpenFault.{OpenFault}
+use Rattle.lc_level.specs.declared.open_fault.OpenFault.TheVariants.{Faulted, Broken}
 use Rattle.lc_level.specs.declared.cause.Cause.TheVariants.{Memory, TooDeep}
 
 module _ (lists : List ℕ → Listings) (gives : List ℕ → Contents) (left_out : Bool) (s : SelectionModel) (j : JobModel) where
@@ -31,9 +31,9 @@ module _ (lists : List ℕ → Listings) (gives : List ℕ → Contents) (left_o
     pub shallow : has_too_deep s j inside.answers ≡ false
 
   -- a directory that is opened, at fault, too deep for a walk, or given up for want of memory
-  abbrev pub OpensLevel : Result Opened Unlisted → Type 0
+  abbrev pub OpensLevel : Result Opened OpenFault → Type 0
   OpensLevel (Ok o) = IsOpened o
-  OpensLevel (Err (Faulted place word)) = (a : Answers) × MayAnswer lists gives j.path a × IsTidy a
-      × (level s j a ≡ faulted_level (place_path j.path place) word)
+  OpensLevel (Err (Faulted site word)) = (a : Answers) × MayAnswer lists gives j.path a × IsWellFormed a
+      × (level s j a ≡ faulted_level (site_path j.path site) word)
   OpensLevel (Err (Broken Memory)) = Unit {0}
-  OpensLevel (Err (Broken TooDeep)) = (a : Answers) × MayAnswer lists gives j.path a × IsTidy a × (has_too_deep s j a ≡ true)
+  OpensLevel (Err (Broken TooDeep)) = (a : Answers) × MayAnswer lists gives j.path a × IsWellFormed a × (has_too_deep s j a ≡ true)

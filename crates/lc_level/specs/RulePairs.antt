@@ -7,17 +7,17 @@ use Rattle.lc_level.specs.RuleReads.{shared, text_items, text_if, MayGive}
 use Rattle.lc_tree.specs.Trees.{Contents}
 use Rattle.lc_level.specs.declared.rule_pair.RulePair.{RulePair}
 use Rattle.lc_level.specs.declared.rule_pair.PairRead.{PairRead}
-use Rattle.lc_level.specs.declared.unlisted.Unlisted.{Unlisted}
-use Rattle.lc_level.specs.declared.unlisted.Unlisted.TheVariants.{Faulted, Broken}
-use Rattle.lc_level.specs.declared.unread.Unread.{Unread}
-use Rattle.lc_level.specs.declared.unread.Unread.TheVariants as unread
+use Rattle.lc_level.specs.declared.open_fault.OpenFault.{OpenFault}
+use Rattle.lc_level.specs.declared.open_fault.OpenFault.TheVariants.{Faulted, Broken}
+use Rattle.lc_level.specs.declared.content_fault.ContentFault.{ContentFault}
+use Rattle.lc_level.specs.declared.content_fault.ContentFault.TheVariants as content_fault
 use Rattle.lc_level.specs.declared.cause.Cause.TheVariants.{Memory, TooDeep}
-use Rattle.lc_level.specs.declared.place.Place.{Place}
+use Rattle.lc_level.specs.declared.fault_site.FaultSite.{FaultSite}
 
--- what becomes of a directory whose file at a place was not read
-abbrev pub unlisted_by : Place → Unread → Unlisted
-unlisted_by place (unread.Fault word) = Faulted place word
-unlisted_by place unread.Memory = Broken Memory
+-- what becomes of a directory whose file at a site was not read
+abbrev pub open_fault_by : FaultSite → ContentFault → OpenFault
+open_fault_by site (content_fault.Fault word) = Faulted site word
+open_fault_by site content_fault.Memory = Broken Memory
 
 -- the files are those of these bytes
 pub record AreFilesOf (top : Bool) (files : RulePair) (bytes : Pair) : Type 0 where
@@ -34,13 +34,13 @@ pub record MayGiveBoth (rules attributes : Contents) (rules_there attributes_the
   pub rules_given : MayGive rules rules_there (option_map Ok bytes.rules)
   pub attributes_given : MayGive attributes attributes_there (option_map Ok bytes.attributes)
 
--- the answer to reading both, the first first: what was read, or the place of the first fault, or memory was refused
-abbrev pub ReadsBoth : Bool → Contents → Contents → Bool → Bool → Bool → Place → Place → Result PairRead Unlisted → Type 0
+-- the answer to reading both, the first first: what was read, or the site of the first fault, or memory was refused
+abbrev pub ReadsBoth : Bool → Contents → Contents → Bool → Bool → Bool → FaultSite → FaultSite → Result PairRead OpenFault → Type 0
 ReadsBoth texts rules attributes rules_there attributes_there top first second (Ok read) =
     (bytes : Pair) × IsReadOf texts top read bytes × MayGiveBoth rules attributes rules_there attributes_there bytes
-ReadsBoth texts rules attributes rules_there attributes_there top first second (Err (Faulted place word)) =
-    ((place ≡ first) × MayGive rules rules_there (Some (Err word)))
-    ⊎ ((place ≡ second) × ((bytes : Option (List ℕ)) × MayGive rules rules_there (option_map Ok bytes))
+ReadsBoth texts rules attributes rules_there attributes_there top first second (Err (Faulted site word)) =
+    ((site ≡ first) × MayGive rules rules_there (Some (Err word)))
+    ⊎ ((site ≡ second) × ((bytes : Option (List ℕ)) × MayGive rules rules_there (option_map Ok bytes))
     × MayGive attributes attributes_there (Some (Err word)))
 ReadsBoth texts rules attributes rules_there attributes_there top first second (Err (Broken Memory)) = Unit {0}
 ReadsBoth texts rules attributes rules_there attributes_there top first second (Err (Broken TooDeep)) = ⊥

@@ -8,8 +8,8 @@ use Rattle.lc_level.specs.FileReads.{MayReadRules}
 use Rattle.lc_level.specs.declared.fault_word.FaultWord.{FaultWord}
 use Rattle.lc_rules.specs.IgnoreRules.{rules_of}
 use Rattle.lc_level.specs.declared.rule_files.IgnoreRead.{IgnoreRead}
-use Rattle.lc_level.specs.declared.unread.Unread.{Unread}
-use Rattle.lc_level.specs.declared.unread.Unread.TheVariants as unread
+use Rattle.lc_level.specs.declared.content_fault.ContentFault.{ContentFault}
+use Rattle.lc_level.specs.declared.content_fault.ContentFault.TheVariants as content_fault
 
 -- what the file of a name may have given, if it is there: its bytes or its fault
 abbrev pub MayGive : Contents → Bool → Option (Result (List ℕ) FaultWord) → Type 0
@@ -17,11 +17,11 @@ MayGive gives there None = there ≡ false
 MayGive gives there (Some read) = (there ≡ true) × MayReadRules gives read
 
 -- whether it is there, with these bytes if it is, or why not
-abbrev pub IsRead : Contents → Bool → Result Bool Unread → List ℕ → Type 0
+abbrev pub IsRead : Contents → Bool → Result Bool ContentFault → List ℕ → Type 0
 IsRead gives there (Ok false) bytes = MayGive gives there None
 IsRead gives there (Ok true) bytes = MayGive gives there (Some (Ok bytes))
-IsRead gives there (Err (unread.Fault word)) bytes = MayGive gives there (Some (Err word))
-IsRead gives there (Err unread.Memory) bytes = Unit {0}
+IsRead gives there (Err (content_fault.Fault word)) bytes = MayGive gives there (Some (Err word))
+IsRead gives there (Err content_fault.Memory) bytes = Unit {0}
 
 -- the file that a place shares, if it is there
 abbrev pub shared : {R A : Type 0} → Option (Arc R A) → Option R
@@ -29,11 +29,11 @@ shared None = None
 shared (Some file) = Some (arc_value file)
 
 -- the file of the bytes that were read, if it is there, or why not
-abbrev pub IsParsed : {R A : Type 0} → Contents → Bool → (List ℕ → R) → Result (Option (Arc R A)) Unread → Type 0
+abbrev pub IsParsed : {R A : Type 0} → Contents → Bool → (List ℕ → R) → Result (Option (Arc R A)) ContentFault → Type 0
 IsParsed gives there parse (Ok file) =
     (bytes : Option (List ℕ)) × (shared file ≡ option_map parse bytes) × MayGive gives there (option_map Ok bytes)
-IsParsed gives there parse (Err (unread.Fault word)) = MayGive gives there (Some (Err word))
-IsParsed gives there parse (Err unread.Memory) = Unit {0}
+IsParsed gives there parse (Err (content_fault.Fault word)) = MayGive gives there (Some (Err word))
+IsParsed gives there parse (Err content_fault.Memory) = Unit {0}
 
 -- the bytes of a text, if there is one
 abbrev pub text_items : Option (Vec ℕ Global) → Option (List ℕ)
@@ -44,9 +44,9 @@ abbrev pub text_if : Bool → Option (List ℕ) → Option (List ℕ)
 text_if texts bytes = if texts then bytes else None
 
 -- the same of an ignore file, whose text is kept where texts are
-abbrev pub IsIgnoreRead : Bool → Contents → Bool → Result IgnoreRead Unread → Type 0
+abbrev pub IsIgnoreRead : Bool → Contents → Bool → Result IgnoreRead ContentFault → Type 0
 IsIgnoreRead texts gives there (Ok read) =
     (bytes : Option (List ℕ)) × (shared read.file ≡ option_map rules_of bytes) × (text_items read.text ≡ text_if texts bytes)
     × MayGive gives there (option_map Ok bytes)
-IsIgnoreRead texts gives there (Err (unread.Fault word)) = MayGive gives there (Some (Err word))
-IsIgnoreRead texts gives there (Err unread.Memory) = Unit {0}
+IsIgnoreRead texts gives there (Err (content_fault.Fault word)) = MayGive gives there (Some (Err word))
+IsIgnoreRead texts gives there (Err content_fault.Memory) = Unit {0}

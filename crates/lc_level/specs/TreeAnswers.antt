@@ -5,7 +5,7 @@ use Rattle.lc_level.specs.Answers.{Item, file_item, directory_item, other_item, 
 use Rattle.lc_glob.specs.Path.{path_in}
 use Rattle.lc_level.specs.RuleFiles.{has_directory, has_git}
 use Rattle.lc_tree.specs.Trees.{Listings, Contents}
-use Rattle.lc_level.specs.FaultWords.{word_of}
+use Rattle.lc_level.specs.FaultWords.{fault_word_of}
 use Rattle.lc_level.specs.FileReads.{MayCount, MayReadRules}
 use Rattle.lc_level.specs.declared.fault_word.FaultWord.{FaultWord}
 use Rattle.lc_tree.specs.declared.read_fault.ReadFault.{ReadFault}
@@ -17,7 +17,7 @@ items_of (Err word) = []
 
 -- a listing may answer a fault that this word tells of
 abbrev pub FailsBy : Listings → FaultWord → Type 0
-FailsBy may word = (fault : ReadFault) × (word_of fault ≡ Some word) × may (Err fault)
+FailsBy may word = (fault : ReadFault) × (fault_word_of fault ≡ Some word) × may (Err fault)
 
 -- `lists` and `gives` say what the listings and the files of a tree may answer at each path
 module _ (lists : List ℕ → Listings) (gives : List ℕ → Contents) where

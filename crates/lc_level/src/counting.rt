@@ -4,10 +4,10 @@ ghost use Rattle.lc_glob.specs.Path.{path_in};
 ghost use Rattle.lc_level.specs.CountedNames.{AddsResult, AddsCounted, IsCounted};
 ghost use Rattle.lc_level.specs.LeftIn.{bytes_of};
 
+use crate::content_fault::ContentFault;
 use crate::job::Job;
 use crate::level_reader::LevelReader;
 use crate::scratch::Scratch;
-use crate::unread::Unread;
 use crate::{Counted, FaultWord, FileFault};
 use lc_census::Count;
 use lc_tree::Tree;
@@ -70,8 +70,8 @@ impl<T: Tree> LevelReader<'_, T> {
         let path = scratch.path.as_slice();
         match self.count_file(path, &mut scratch.buffer) {
             Ok(count) => found.push_file(self.alloc, job, path, name, count),
-            Err(Unread::Fault(word)) => found.push_fault(job, name, word),
-            Err(Unread::Memory) => Err(AllocError),
+            Err(ContentFault::Fault(word)) => found.push_fault(job, name, word),
+            Err(ContentFault::Memory) => Err(AllocError),
         }
     }
 

@@ -6,15 +6,15 @@ ghost use Rattle.lc_level.specs.Enters.{EntersLevel};
 ghost use Rattle.lc_level.specs.GitInfo.{ReadsGit};
 ghost use Rattle.lc_level.specs.RuleFiles.{Pair, is_top, extended};
 ghost use Rattle.lc_level.specs.RulePairs.{AreFilesOf, ReadsBoth};
-ghost use Rattle.lc_level.specs.declared.place.Place.TheVariants.{IgnoreFile, AttributeFile};
+ghost use Rattle.lc_level.specs.declared.fault_site.FaultSite.TheVariants.{IgnoreFile, AttributeFile};
 
 use crate::chains::{attributes_below, ignore_below};
 use crate::job::Job;
 use crate::level_reader::LevelReader;
+use crate::open_fault::OpenFault;
 use crate::rule_pair::{PairNames, PairRead, RuleName, RulePair};
 use crate::scratch::Scratch;
-use crate::unlisted::Unlisted;
-use crate::{Cause, Place};
+use crate::{Cause, FaultSite};
 use lc_tree::{Entry, Tree};
 use std::alloc::AllocError;
 
@@ -45,7 +45,7 @@ impl<T: Tree> LevelReader<'_, T> {
         directory: &[u8],
         entries: &[Entry],
         scratch: &mut Scratch,
-    ) -> Result<PairRead, Unlisted>
+    ) -> Result<PairRead, OpenFault>
         ensures { ReadsGit (T.lists self.now.tree.now) (T.gives self.now.tree.now) self.now.kept.texts
             (is_top directory.now && has_dir (codes ".git") entries.now) result }
     {
@@ -61,7 +61,7 @@ impl<T: Tree> LevelReader<'_, T> {
         directory: &[u8],
         entries: &[Entry],
         scratch: &mut Scratch,
-    ) -> Result<PairRead, Unlisted>
+    ) -> Result<PairRead, OpenFault>
         ensures at { OnOk result (scratch.new.path.directory ≡ directory.now) }
         ensures read { ReadsBoth self.now.kept.texts
             (T.gives self.now.tree.now (path_in directory.now (codes ".gitignore")))
@@ -70,16 +70,16 @@ impl<T: Tree> LevelReader<'_, T> {
             (is_top directory.now) IgnoreFile AttributeFile result }
     {
         let Ok(()) = scratch.path.enter(directory) else {
-            return Err(Unlisted::Broken(Cause::Memory));
+            return Err(OpenFault::Broken(Cause::Memory));
         };
         let names = PairNames {
             rules: RuleName {
                 name: b".gitignore",
-                place: Place::IgnoreFile,
+                site: FaultSite::IgnoreFile,
             },
             attributes: RuleName {
                 name: b".gitattributes",
-                place: Place::AttributeFile,
+                site: FaultSite::AttributeFile,
             },
             top: directory.is_empty(),
         };
@@ -105,16 +105,16 @@ impl<T: Tree> LevelReader<'_, T> {
     }
 
     /// Enters the directory of a job: what stops it is its first fault. The scratch paths are then those of the directory.
-    pub fn enter(&self, job: &Job, scratch: &mut Scratch) -> Result<Entered, Unlisted>
+    pub fn enter(&self, job: &Job, scratch: &mut Scratch) -> Result<Entered, OpenFault>
         ensures at { IfOk result (λ e. scratch.new.path.directory ≡ e.job.path) }
         ensures enters { EntersLevel (T.lists self.now.tree.now) (T.gives self.now.tree.now) job.now self.now.kept.texts result }
     {
         let path = job.path();
-        let listing = self.list_for(path, Place::Directory)?;
+        let listing = self.list_for(path, FaultSite::Directory)?;
         let info = self.read_info(path, listing.entries(), scratch)?;
         let own = self.read_own(path, listing.entries(), scratch)?;
         let Ok(inside) = self.with_files(job, info.files, own.files) else {
-            return Err(Unlisted::Broken(Cause::Memory));
+            return Err(OpenFault::Broken(Cause::Memory));
         };
         let texts = RuleTexts {
             info: info.text,

@@ -1,7 +1,7 @@
 //! Why a part of a tree was not counted.
 
 ghost use Rattle.std.specs.Prelude.{◌≡◌};
-ghost use Rattle.lc_level.specs.FaultWords.{fault_word, word_of};
+ghost use Rattle.lc_level.specs.FaultWords.{fault_word, fault_word_of};
 
 use lc_tree::ReadFault;
 
@@ -27,7 +27,7 @@ pub enum FaultWord {
 impl FaultWord {
     /// That of a directory that a tree didn't list. Want of memory has none, since there is no report then.
     pub fn of(fault: ReadFault) -> Option<FaultWord>
-        ensures { result ≡ word_of fault }
+        ensures { result ≡ fault_word_of fault }
     {
         match fault {
             ReadFault::Failed => Some(FaultWord::Read),

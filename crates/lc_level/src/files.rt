@@ -4,29 +4,29 @@ ghost use Rattle.lc_census.specs.Limits.{buffer_len};
 ghost use Rattle.lc_level.specs.FileReads.{IsAnswer, MayCount, MayReadRules};
 
 use crate::FaultWord;
+use crate::content_fault::ContentFault;
 use crate::level_reader::LevelReader;
-use crate::unread::Unread;
 use lc_census::{CensusFault, Count, MAX_TURNS, WholeFault, count_in, read_whole};
 use lc_rules::MAX_RULE_BYTES;
 use lc_tree::{ReadFault, Tree};
 
 impl<T: Tree> LevelReader<'_, T> {
     /// Counts the file at a path by reads into the lent buffer.
-    pub(crate) fn count_file(&self, path: &[u8], buffer: &mut [u8]) -> Result<Count, Unread>
+    pub(crate) fn count_file(&self, path: &[u8], buffer: &mut [u8]) -> Result<Count, ContentFault>
         requires some { 0 < length buffer.old }
         requires room { length buffer.old ≤ buffer_len }
         ensures { IsAnswer (MayCount (T.gives self.now.tree.now path.now)) (λ count. count) result }
     {
         let mut file = match self.tree.open_file(self.alloc, path) {
             Ok(file) => file,
-            Err(ReadFault::Memory) => return Err(Unread::Memory),
-            Err(_) => return Err(Unread::Fault(FaultWord::Read)),
+            Err(ReadFault::Memory) => return Err(ContentFault::Memory),
+            Err(_) => return Err(ContentFault::Fault(FaultWord::Read)),
         };
         match count_in(buffer, &mut file, MAX_TURNS) {
             Ok(count) => Ok(count),
-            Err(CensusFault::Read) => Err(Unread::Fault(FaultWord::Read)),
-            Err(CensusFault::Endless) => Err(Unread::Fault(FaultWord::Endless)),
-            Err(CensusFault::Memory) => Err(Unread::Memory),
+            Err(CensusFault::Read) => Err(ContentFault::Fault(FaultWord::Read)),
+            Err(CensusFault::Endless) => Err(ContentFault::Fault(FaultWord::Endless)),
+            Err(CensusFault::Memory) => Err(ContentFault::Memory),
         }
     }
 
@@ -36,20 +36,20 @@ impl<T: Tree> LevelReader<'_, T> {
         path: &[u8],
         buffer: &mut [u8],
         bytes: &mut Vec<u8>,
-    ) -> Result<(), Unread>
+    ) -> Result<(), ContentFault>
         requires some { 0 < length buffer.old }
         ensures { IsAnswer (MayReadRules (T.gives self.now.tree.now path.now)) (λ _. bytes.new.items) result }
     {
         let mut file = match self.tree.open_file(self.alloc, path) {
             Ok(file) => file,
-            Err(ReadFault::Memory) => return Err(Unread::Memory),
-            Err(_) => return Err(Unread::Fault(FaultWord::Read)),
+            Err(ReadFault::Memory) => return Err(ContentFault::Memory),
+            Err(_) => return Err(ContentFault::Fault(FaultWord::Read)),
         };
         match read_whole(buffer, bytes, &mut file, MAX_RULE_BYTES) {
             Ok(()) => Ok(()),
-            Err(WholeFault::Read) => Err(Unread::Fault(FaultWord::Read)),
-            Err(WholeFault::TooLong) => Err(Unread::Fault(FaultWord::Long)),
-            Err(WholeFault::Memory) => Err(Unread::Memory),
+            Err(WholeFault::Read) => Err(ContentFault::Fault(FaultWord::Read)),
+            Err(WholeFault::TooLong) => Err(ContentFault::Fault(FaultWord::Long)),
+            Err(WholeFault::Memory) => Err(ContentFault::Memory),
         }
     }
 }

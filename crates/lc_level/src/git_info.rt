@@ -5,22 +5,22 @@ ghost use Rattle.lc_level.specs.GitInfo.{ListsFor, ReadsGit};
 
 use crate::entry_looks::has_dir;
 use crate::level_reader::LevelReader;
+use crate::open_fault::OpenFault;
 use crate::rule_pair::{PairNames, PairRead, RuleName};
 use crate::scratch::Scratch;
-use crate::unlisted::Unlisted;
-use crate::{Cause, FaultWord, Place};
+use crate::{Cause, FaultSite, FaultWord};
 use lc_tree::{Entry, Listing, Tree};
 
 impl<T: Tree> LevelReader<'_, T> {
-    /// Lists a directory, whose fault is one of this place.
-    pub(crate) fn list_for(&self, path: &[u8], place: Place) -> Result<Listing, Unlisted>
-        ensures { ListsFor (T.lists self.now.tree.now path.now) place result }
+    /// Lists a directory, whose fault is one of this site.
+    pub(crate) fn list_for(&self, path: &[u8], site: FaultSite) -> Result<Listing, OpenFault>
+        ensures { ListsFor (T.lists self.now.tree.now path.now) site result }
     {
         match self.tree.list(self.alloc, path) {
             Ok(listing) => Ok(listing),
             Err(fault) => match FaultWord::of(fault) {
-                Some(word) => Err(Unlisted::Faulted(place, word)),
-                None => Err(Unlisted::Broken(Cause::Memory)),
+                Some(word) => Err(OpenFault::Faulted(site, word)),
+                None => Err(OpenFault::Broken(Cause::Memory)),
             },
         }
     }
@@ -31,29 +31,29 @@ impl<T: Tree> LevelReader<'_, T> {
         &self,
         entries: &[Entry],
         scratch: &mut Scratch,
-    ) -> Result<PairRead, Unlisted>
+    ) -> Result<PairRead, OpenFault>
         ensures { ReadsGit (T.lists self.now.tree.now) (T.gives self.now.tree.now) self.now.kept.texts
             (has_dir (codes ".git") entries.now) result }
     {
         if !has_dir(entries, b".git") {
             return Ok(PairRead::none());
         }
-        let git = self.list_for(b".git", Place::Git)?;
+        let git = self.list_for(b".git", FaultSite::Git)?;
         if !has_dir(git.entries(), b"info") {
             return Ok(PairRead::none());
         }
-        let info = self.list_for(b".git/info", Place::GitInfo)?;
+        let info = self.list_for(b".git/info", FaultSite::GitInfo)?;
         let Ok(()) = scratch.path.enter(b".git/info") else {
-            return Err(Unlisted::Broken(Cause::Memory));
+            return Err(OpenFault::Broken(Cause::Memory));
         };
         let names = PairNames {
             rules: RuleName {
                 name: b"exclude",
-                place: Place::ExcludeFile,
+                site: FaultSite::ExcludeFile,
             },
             attributes: RuleName {
                 name: b"attributes",
-                place: Place::InfoAttributes,
+                site: FaultSite::InfoAttributes,
             },
             top: true,
         };

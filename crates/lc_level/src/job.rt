@@ -27,7 +27,7 @@ pub struct Job {
 
 #[derive(Drop)]
 struct Parts {
-    path: Vec<u8>,
+    path: Box<Vec<u8>, Global>,
     ignore: Arc<Chain, Global>,
     attributes: Arc<AttrChain, Global>,
 }
@@ -40,9 +40,9 @@ impl Model for Parts {
 
     ghost Value = { JobModel };
 
-    ghost invariant = { λ p. length p.path.items ≤ max_path };
+    ghost invariant = { λ p. length p.path.value.items ≤ max_path };
 
-    ghost view = { λ p. record { path = p.path.items; ignore = arc_value p.ignore; attributes = arc_value p.attributes } };
+    ghost view = { λ p. record { path = p.path.value.items; ignore = arc_value p.ignore; attributes = arc_value p.attributes } };
 }
 
 impl Model for Job {
@@ -75,6 +75,9 @@ impl Job {
         requires { length path.items ≤ max_path }
         ensures { IfOk result (λ j. j ≡ record { path = path.items; ignore = arc_value ignore; attributes = arc_value attributes }) }
     {
+        let Ok(path) = Box::new(alloc, path) else {
+            return Err(AllocError);
+        };
         let parts = Parts {
             path,
             ignore,
@@ -117,7 +120,7 @@ impl Job {
     pub(crate) fn depth(&self) -> u32
         ensures { result ≡ depth_of self.now.path }
     {
-        depth_of(&self.parts.path) as u32
+        depth_of(self.parts.path.as_slice()) as u32
     }
 
     /// The job of a directory at this path, under the rule files of this one.
@@ -142,5 +145,17 @@ impl Job {
         ensures { result.now ≡ self.now.path }
     {
         &self.parts.path
+    }
+
+    /// The path of the directory alone, without a copy. It is in a box, so that it is one word long as a job is.
+    pub fn into_path(self) -> Box<Vec<u8>, Global>
+        ensures { result.value.items ≡ self.path }
+    {
+        let Parts {
+            path,
+            ignore: _,
+            attributes: _,
+        } = Box::into_inner(self.parts);
+        path
     }
 }

@@ -1,8 +1,8 @@
 //! Laws of one directory's work. The functions do nothing: their contracts are what is proved.
-ghost use Rattle.lc_level.specs.Examples.{ExamplesHold};
+ghost use Rattle.lc_level.specs.Examples.{LevelExamplesHold};
 ghost use Rattle.lc_level.specs.FileReads.{CountsOnce, ReadsRulesOnce};
 ghost use Rattle.lc_level.specs.Laws.{ArchiveLaw, CountedLaw, OpenedLaw};
-ghost use Rattle.lc_level.specs.OneAnswer.{MemoryLaw, NodeAnswersLaw, NodeLevelsLaw, NodeTidyLaw, OneLevelLaw};
+ghost use Rattle.lc_level.specs.OneAnswer.{MemoryLaw, NodeAnswersLaw, NodeLevelsLaw, NodeWellFormedLaw, OneLevelLaw};
 
 use lc_census::bytes_have_one_cutting;
 use lc_tree::{Tree, trees_of_memory_list_once};
@@ -49,14 +49,14 @@ pub fn trees_of_memory_give_one()
 pub fn a_node_is_one_tree()
     ensures answers { NodeAnswersLaw }
     ensures levels { NodeLevelsLaw }
-    ensures tidy { NodeTidyLaw }
+    ensures well_formed { NodeWellFormedLaw }
 {
     trees_of_memory_give_one();
 }
 
 /// The tree of a node of memory, computed on a small node.
-pub fn examples_hold(alloc: Global)
-    ensures { ExamplesHold alloc }
+pub fn level_examples_hold(alloc: Global)
+    ensures { LevelExamplesHold alloc }
 {
     let _alloc = alloc;
     bytes_have_one_cutting();

@@ -1,25 +1,27 @@
 //! What one directory gives: its listing, its rule files, its entries in order.
 //!
-//! - `job`: a directory to be walked; `cause`, `place`: why it is given up, and where it is at fault
+//! - `job`: a directory to be walked; `cause`, `fault_site`: why it is given up, and where it is at fault
 //! - `entering`: a directory's listing and its rule files, read whole; `opening`: which of its entries these leave in
 //! - `git_info`, `rule_files`, `rule_pair`: its rule files; `chains`: both chains by them
 //! - `entry_looks`, `left_in`: what is looked for among its entries, and which of them stay; `deciding`, `reason`: why the others don't
 //! - `selection`: what decides beside the rules; `narrowing`: which entries take part, where some paths alone are asked for
 //! - `counted`, `counting`: what became of its files, and counting them
-//! - `files`, `unread`: opening one file, to count it or to read it as rules, and why that was not possible
+//! - `files`, `content_fault`: opening one file, to count it or to read it as rules, and why that was not possible
 //! - `paths`: the path of a name in a directory
 //! - `level_reader`: what is lent for all of this; `scratch`, `path_buffer`: its buffers, and the paths of entries one after another
-//! - `unlisted`: why a directory gives nothing of its entries; `fault_word`: the words by which a report tells of faults
+//! - `open_fault`: why a directory gives nothing of its entries; `fault_word`: the words by which a report tells of faults
 //! - `laws`: that this work makes the level of the definitions
 #![tactic(auto)]
 
 mod cause;
 mod chains;
+mod content_fault;
 mod counted;
 mod counting;
 mod deciding;
 mod entering;
 mod entry_looks;
+mod fault_site;
 mod fault_word;
 mod files;
 mod git_info;
@@ -28,35 +30,32 @@ mod laws;
 mod left_in;
 mod level_reader;
 mod narrowing;
+mod open_fault;
 mod opening;
 mod path_buffer;
 mod paths;
-mod place;
 mod reason;
 mod rule_files;
 mod rule_pair;
 mod scratch;
 mod selection;
-mod unlisted;
-mod unread;
 
 pub use cause::Cause;
 pub use counted::{Counted, FileFault};
 pub use counting::CountedFiles;
 pub use entering::{Entered, RuleTexts};
+pub use fault_site::FaultSite;
 pub use fault_word::FaultWord;
 pub use job::Job;
 pub use laws::{
-    a_node_is_one_tree, an_archive_is_without_export_ignore, examples_hold,
-    files_of_memory_are_read_once, one_answer_is_one_level, trees_of_memory_give_one,
-    work_is_a_level,
+    a_node_is_one_tree, an_archive_is_without_export_ignore, files_of_memory_are_read_once,
+    level_examples_hold, one_answer_is_one_level, trees_of_memory_give_one, work_is_a_level,
 };
 pub use left_in::ChildDirectory;
 pub use level_reader::{Kept, LevelReader};
+pub use open_fault::OpenFault;
 pub use opening::Opened;
 pub use paths::path_in;
-pub use place::Place;
 pub use reason::{LeftOut, Reason};
 pub use scratch::Scratch;
 pub use selection::Selection;
-pub use unlisted::Unlisted;

@@ -9,9 +9,9 @@ use crate::job::Job;
 use crate::left_in::ChildDirectory;
 use crate::level_reader::LevelReader;
 use crate::narrowing::{absent_paths, part_of};
+use crate::open_fault::OpenFault;
 use crate::reason::LeftOut;
 use crate::scratch::Scratch;
-use crate::unlisted::Unlisted;
 use lc_tree::Tree;
 
 /// A directory whose entries are known, before its files are counted.
@@ -34,7 +34,7 @@ pub struct Opened {
 impl<T: Tree> LevelReader<'_, T> {
     /// Opens the directory of a job: what stops it is its first fault, or an entry that is too deep for a walk. The scratch
     /// paths are then those of the directory.
-    pub fn open(&self, job: &Job, scratch: &mut Scratch) -> Result<Opened, Unlisted>
+    pub fn open(&self, job: &Job, scratch: &mut Scratch) -> Result<Opened, OpenFault>
         ensures at { IfOk result (λ o. scratch.new.path.directory ≡ o.job.path) }
         ensures opens { OpensLevel (T.lists self.now.tree.now) (T.gives self.now.tree.now) self.now.kept.left_out
             self.now.selection job.now result }
@@ -42,10 +42,10 @@ impl<T: Tree> LevelReader<'_, T> {
         let Entered { job, entries, .. } = self.enter(job, scratch)?;
         let Ok(absent) = absent_paths(self.alloc, self.selection.only(), job.path(), &entries)
         else {
-            return Err(Unlisted::Broken(Cause::Memory));
+            return Err(OpenFault::Broken(Cause::Memory));
         };
         let Ok(entries) = part_of(self.alloc, self.selection.only(), job.path(), entries) else {
-            return Err(Unlisted::Broken(Cause::Memory));
+            return Err(OpenFault::Broken(Cause::Memory));
         };
         let number = entries.len() as u32;
         match self.left_in(&job, entries, &mut scratch.path) {
@@ -57,7 +57,7 @@ impl<T: Tree> LevelReader<'_, T> {
                 absent,
                 entries: number,
             }),
-            Err(cause) => Err(Unlisted::Broken(cause)),
+            Err(cause) => Err(OpenFault::Broken(cause)),
         }
     }
 }

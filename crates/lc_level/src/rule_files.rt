@@ -6,10 +6,10 @@ ghost use Rattle.lc_level.specs.EntryLooks.{has_file};
 ghost use Rattle.lc_level.specs.RuleReads.{text_items, text_if, IsRead, IsParsed, IsIgnoreRead};
 
 use crate::FaultWord;
+use crate::content_fault::ContentFault;
 use crate::entry_looks::has_file;
 use crate::level_reader::LevelReader;
 use crate::scratch::Scratch;
-use crate::unread::Unread;
 use lc_rules::{AttrFile, IgnoreFile, RuleFault};
 use lc_tree::{Entry, Tree};
 use std::alloc::{AllocError, Global};
@@ -39,7 +39,7 @@ impl<T: Tree> LevelReader<'_, T> {
         entries: &[Entry],
         name: &[u8],
         scratch: &mut Scratch,
-    ) -> Result<bool, Unread>
+    ) -> Result<bool, ContentFault>
         ensures same { scratch.new.path.directory ≡ scratch.old.path.directory }
         ensures read { IsRead (T.gives self.now.tree.now (path_in scratch.old.path.directory name.now))
             (has_file name.now entries.now) result scratch.new.rules.items }
@@ -48,7 +48,7 @@ impl<T: Tree> LevelReader<'_, T> {
             return Ok(false);
         }
         let Ok(()) = scratch.path.set_name(name) else {
-            return Err(Unread::Memory);
+            return Err(ContentFault::Memory);
         };
         self.read_rules(
             scratch.path.as_slice(),
@@ -64,7 +64,7 @@ impl<T: Tree> LevelReader<'_, T> {
         entries: &[Entry],
         name: &[u8],
         scratch: &mut Scratch,
-    ) -> Result<IgnoreRead, Unread>
+    ) -> Result<IgnoreRead, ContentFault>
         ensures same { scratch.new.path.directory ≡ scratch.old.path.directory }
         ensures read { IsIgnoreRead self.now.kept.texts (T.gives self.now.tree.now (path_in scratch.old.path.directory name.now))
             (has_file name.now entries.now) result }
@@ -78,17 +78,17 @@ impl<T: Tree> LevelReader<'_, T> {
         let file = match IgnoreFile::read(self.alloc, &scratch.rules) {
             Ok(file) => file,
             Err(RuleFault::TooLong) => unreachable!(),
-            Err(RuleFault::Memory) => return Err(Unread::Memory),
+            Err(RuleFault::Memory) => return Err(ContentFault::Memory),
         };
         let Ok(file) = Arc::new(self.alloc, file) else {
-            return Err(Unread::Memory);
+            return Err(ContentFault::Memory);
         };
         match self.text_of(&scratch.rules) {
             Ok(text) => Ok(IgnoreRead {
                 file: Some(file),
                 text,
             }),
-            Err(_) => Err(Unread::Memory),
+            Err(_) => Err(ContentFault::Memory),
         }
     }
 
@@ -100,7 +100,7 @@ impl<T: Tree> LevelReader<'_, T> {
         name: &[u8],
         top: bool,
         scratch: &mut Scratch,
-    ) -> Result<Option<Arc<AttrFile, Global>>, Unread>
+    ) -> Result<Option<Arc<AttrFile, Global>>, ContentFault>
         ensures same { scratch.new.path.directory ≡ scratch.old.path.directory }
         ensures read { IsParsed (T.gives self.now.tree.now (path_in scratch.old.path.directory name.now)) (has_file name.now entries.now)
             (attribute_file_of top) result }
@@ -111,10 +111,10 @@ impl<T: Tree> LevelReader<'_, T> {
         match AttrFile::read(self.alloc, &scratch.rules, top) {
             Ok(file) => match Arc::new(self.alloc, file) {
                 Ok(file) => Ok(Some(file)),
-                Err(_) => Err(Unread::Memory),
+                Err(_) => Err(ContentFault::Memory),
             },
             Err(RuleFault::TooLong) => unreachable!(),
-            Err(RuleFault::Memory) => Err(Unread::Memory),
+            Err(RuleFault::Memory) => Err(ContentFault::Memory),
         }
     }
 }

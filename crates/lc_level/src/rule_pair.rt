@@ -4,10 +4,10 @@ ghost use Rattle.lc_glob.specs.Path.{path_in};
 ghost use Rattle.lc_level.specs.EntryLooks.{has_file};
 ghost use Rattle.lc_level.specs.RulePairs.{ReadsBoth};
 
-use crate::Place;
+use crate::FaultSite;
 use crate::level_reader::LevelReader;
+use crate::open_fault::OpenFault;
 use crate::scratch::Scratch;
-use crate::unlisted::Unlisted;
 use lc_rules::{AttrFile, IgnoreFile};
 use lc_tree::{Entry, Tree};
 use std::alloc::Global;
@@ -42,11 +42,11 @@ impl PairRead {
     }
 }
 
-/// A name to be read, and the place that is at fault where it can't be.
+/// A name to be read, and the site that is at fault where it can't be.
 #[derive(Clone, Copy)]
 pub(crate) struct RuleName<'a> {
     pub(crate) name: &'a [u8],
-    pub(crate) place: Place,
+    pub(crate) site: FaultSite,
 }
 
 /// Which two files of a directory are read, and whether it is one whose attributes may define macros.
@@ -64,17 +64,17 @@ impl<T: Tree> LevelReader<'_, T> {
         entries: &[Entry],
         names: PairNames,
         scratch: &mut Scratch,
-    ) -> Result<PairRead, Unlisted>
+    ) -> Result<PairRead, OpenFault>
         ensures same { scratch.new.path.directory ≡ scratch.old.path.directory }
         ensures read { ReadsBoth self.now.kept.texts
             (T.gives self.now.tree.now (path_in scratch.old.path.directory names.entry.rules.name.now))
             (T.gives self.now.tree.now (path_in scratch.old.path.directory names.entry.attributes.name.now))
             (has_file names.entry.rules.name.now entries.now) (has_file names.entry.attributes.name.now entries.now)
-            names.entry.top names.entry.rules.place names.entry.attributes.place result }
+            names.entry.top names.entry.rules.site names.entry.attributes.site result }
     {
         let rules = match self.ignore_file(entries, names.rules.name, scratch) {
             Ok(read) => read,
-            Err(unread) => return Err(unread.at(names.rules.place)),
+            Err(content_fault) => return Err(content_fault.at(names.rules.site)),
         };
         let attributes = match self.attribute_file(
             entries,
@@ -83,7 +83,7 @@ impl<T: Tree> LevelReader<'_, T> {
             scratch,
         ) {
             Ok(file) => file,
-            Err(unread) => return Err(unread.at(names.attributes.place)),
+            Err(content_fault) => return Err(content_fault.at(names.attributes.site)),
         };
         let files = RulePair {
             rules: rules.file,

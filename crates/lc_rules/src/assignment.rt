@@ -8,7 +8,7 @@ use lc_glob::Pattern;
 use std::alloc::AllocError;
 
 /// What an assignment makes of its name.
-#[derive(Debug, Drop)]
+#[derive(Drop)]
 pub(crate) enum OwnedState {
     Set,
     Unset,
@@ -30,7 +30,7 @@ impl OwnedState {
 }
 
 /// A name, and what a line makes of it.
-#[derive(Debug, Drop)]
+#[derive(Drop)]
 pub(crate) struct Assignment {
     pub(crate) name: Vec<u8>,
     pub(crate) state: OwnedState,
@@ -62,14 +62,14 @@ pub(crate) fn copied(name: &Vec<u8>) -> Result<Vec<u8>, AllocError>
 }
 
 /// A name that stands for assignments.
-#[derive(Debug, Drop)]
+#[derive(Drop)]
 pub(crate) struct Macro {
     pub(crate) name: Vec<u8>,
     pub(crate) assignments: Vec<Assignment>,
 }
 
 /// A line with a pattern.
-#[derive(Debug, Drop)]
+#[derive(Drop)]
 pub(crate) struct PatternLine {
     pub(crate) pattern: Pattern,
     pub(crate) assignments: Vec<Assignment>,

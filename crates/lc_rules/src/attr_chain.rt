@@ -38,14 +38,13 @@ fn decide_by_file<'a>(
     if !lines.can_decide(query) {
         return Ok(None);
     }
-    let found = decide_by_lines(
+    decide_by_lines(
         query,
         lines.as_slice(),
         &Candidate::new(path),
         is_dir,
         resolver,
-    )?;
-    Ok(found)
+    )
 }
 
 /// Reads the lines of the files, the nearest to the path first.
@@ -69,8 +68,7 @@ fn decide_by_files<'a>(
     if let Some(state) = decide_by_files(query, nearer, inner, is_dir, resolver)? {
         return Ok(Some(state));
     }
-    let found = decide_by_file(query, file, inner.rest, is_dir, resolver)?;
-    Ok(found)
+    decide_by_file(query, file, inner.rest, is_dir, resolver)
 }
 
 /// Reads the lines of the file of `.git/info`, if there is one.
@@ -89,8 +87,7 @@ fn decide_by_info<'a>(
     let Some(file) = info else {
         return Ok(None);
     };
-    let found = decide_by_file(query, file, path, is_dir, resolver)?;
-    Ok(found)
+    decide_by_file(query, file, path, is_dir, resolver)
 }
 
 /// The attribute files that speak of a directory's entries: those of the tree from the top down, each with the depth of
@@ -209,8 +206,7 @@ impl AttrChain {
             return Ok(Some(state));
         }
         let whole = PathBelow::new(path);
-        let found = decide_by_files(query, self.files.left(), whole, is_dir, resolver)?;
-        Ok(found)
+        decide_by_files(query, self.files.left(), whole, is_dir, resolver)
     }
 
     fn macros(&self) -> KnownMacros

@@ -13,7 +13,7 @@ use std::alloc::{AllocError, Global};
 use std::marker::Model;
 
 /// An attribute file, as a `.gitattributes`: its macros and its lines with a pattern, each in the order of the file.
-#[derive(Debug, Drop)]
+#[derive(Drop)]
 pub struct AttrFile {
     is_top: bool,
     macros: MacroTable,
@@ -76,6 +76,7 @@ fn read_file(alloc: Global, bytes: &[u8], top: bool) -> Result<AttrFile, AllocEr
         }
         left = others;
     }
+    lines.shrink_to_fit();
     Ok(AttrFile {
         is_top: top,
         macros,

@@ -78,14 +78,12 @@ fn read_words(alloc: Global, is_top: bool, line: &[u8]) -> Result<Option<AttrLin
         return Ok(None);
     };
     let Some(name) = macro_word(first) else {
-        let found = read_pattern_line(alloc, first, rest)?;
-        return Ok(found);
+        return read_pattern_line(alloc, first, rest);
     };
     if !is_top {
         return Ok(None);
     }
-    let found = read_macro(alloc, name, rest)?;
-    Ok(found)
+    read_macro(alloc, name, rest)
 }
 
 fn read_quoted(alloc: Global, bytes: &[u8]) -> Result<Option<AttrLine>, AllocError>
@@ -94,8 +92,7 @@ fn read_quoted(alloc: Global, bytes: &[u8]) -> Result<Option<AttrLine>, AllocErr
     let Some((pattern, rest)) = unquoted(alloc, bytes)? else {
         return Ok(None);
     };
-    let found = read_pattern_line(alloc, pattern.as_slice(), rest)?;
-    Ok(found)
+    read_pattern_line(alloc, pattern.as_slice(), rest)
 }
 
 /// What a line gives, if anything. A macro line gives something in a top-level file alone.
@@ -114,9 +111,7 @@ pub(crate) fn read_line(
         return Ok(None);
     }
     if *first == b'"' {
-        let found = read_quoted(alloc, rest)?;
-        return Ok(found);
+        return read_quoted(alloc, rest);
     }
-    let found = read_words(alloc, is_top, line)?;
-    Ok(found)
+    read_words(alloc, is_top, line)
 }

@@ -147,5 +147,7 @@ pub(crate) fn read_assignments(
         found.push(assignment)?;
         left = rest;
     }
+    // Most lines have one or two, and a vector begins with room for more.
+    found.shrink_to_fit();
     Ok(Some(found))
 }

@@ -11,7 +11,7 @@ use std::fmt;
 pub const MAX_RULE_BYTES: usize = 1_048_576;
 
 /// Why an ignore file or an attribute file was not read.
-#[derive(Clone, Copy, Debug, PartialEq, Eq, Hash)]
+#[derive(Clone, Copy, Debug)]
 pub enum RuleFault {
     /// It has over `MAX_RULE_BYTES` bytes. Its length is tested before memory is taken.
     TooLong,

@@ -15,7 +15,7 @@ use std::alloc::{AllocError, Global};
 use std::marker::Model;
 
 /// An ignore file, as a `.gitignore`: its rules in the order of its lines.
-#[derive(Debug, Drop)]
+#[derive(Drop)]
 pub struct IgnoreFile {
     rules: Vec<Rule>,
 }
@@ -92,6 +92,7 @@ fn read_rules(alloc: Global, bytes: &[u8]) -> Result<Vec<Rule>, AllocError>
         number += 1;
         left = others;
     }
+    rules.shrink_to_fit();
     Ok(rules)
 }
 

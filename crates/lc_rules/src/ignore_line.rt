@@ -11,7 +11,7 @@ use std::alloc::{AllocError, Global};
 use std::marker::Model;
 
 /// A rule of an ignore file.
-#[derive(Debug, Drop)]
+#[derive(Drop)]
 pub struct Rule {
     line: u32,
     is_negated: bool,

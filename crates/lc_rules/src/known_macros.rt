@@ -94,17 +94,18 @@ fn stack_all<'a>(
 fn stack_binary<'a>(words: &mut Vec<AssignmentRef<'a>>) -> Result<(), AllocError>
     ensures { IfOk result (λ _. map assignment_ref_model words.new.items ≡ map assignment_ref_model words.old.items ++ binary.1) }
 {
-    words.push(AssignmentRef {
-        name: b"diff",
-        state: State::Unset,
-    })?;
-    words.push(AssignmentRef {
-        name: b"merge",
-        state: State::Unset,
-    })?;
-    words.push(AssignmentRef {
-        name: b"text",
-        state: State::Unset,
-    })?;
-    Ok(())
+    words.extend_from_slice(&[
+        AssignmentRef {
+            name: b"diff",
+            state: State::Unset,
+        },
+        AssignmentRef {
+            name: b"merge",
+            state: State::Unset,
+        },
+        AssignmentRef {
+            name: b"text",
+            state: State::Unset,
+        },
+    ])
 }

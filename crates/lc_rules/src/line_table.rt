@@ -14,7 +14,7 @@ use std::collections::BTreeSet;
 use std::marker::Model;
 
 /// Lines in their order, and the names that they assign, so that a file that can't decide an attribute is skipped whole.
-#[derive(Debug, Drop)]
+#[derive(Drop)]
 pub(crate) struct LineTable {
     lines: Vec<PatternLine>,
     names: BTreeSet<Vec<u8>>,
@@ -50,6 +50,13 @@ impl LineTable {
         add_names(&mut self.names, line.assignments.as_slice())?;
         self.lines.push_reserved(line);
         Ok(())
+    }
+
+    /// Gives back the room for lines that did not come.
+    pub(crate) fn shrink_to_fit(&mut self)
+        ensures { self.new ≡ self.old }
+    {
+        self.lines.shrink_to_fit();
     }
 
     pub(crate) fn as_slice(&self) -> &[PatternLine]

@@ -11,7 +11,7 @@ use std::marker::Model;
 
 /// Macros in the order of their lines, and of each name the place of its last macro, so that a file of many macros is
 /// searched in the logarithm of their number.
-#[derive(Debug, Drop)]
+#[derive(Drop)]
 pub(crate) struct MacroTable {
     defined: Vec<Macro>,
     places: BTreeMap<Vec<u8>, usize>,

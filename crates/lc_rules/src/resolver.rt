@@ -179,8 +179,7 @@ fn decide_by_line<'a>(
     if !line.pattern.matches_candidate(path, is_dir) {
         return Ok(None);
     }
-    let found = decide_by_words(query, assignments, resolver)?;
-    Ok(found)
+    decide_by_words(query, assignments, resolver)
 }
 
 /// Reads lines from the last to the first.

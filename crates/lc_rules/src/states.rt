@@ -1,7 +1,7 @@
 //! What an attribute is for a path.
 
 /// What an attribute is for a path.
-#[derive(Clone, Copy, Debug)]
+#[derive(Clone, Copy)]
 pub enum State<'a> {
     Set,
     Unset,
@@ -11,7 +11,7 @@ pub enum State<'a> {
 }
 
 /// What the attribute `text` is for a file.
-#[derive(Clone, Copy, Debug, PartialEq, Eq, PartialOrd, Ord, Hash)]
+#[derive(Clone, Copy, Debug, PartialEq, Eq)]
 pub enum TextState {
     Set,
     Unset,

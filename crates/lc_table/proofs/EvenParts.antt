@@ -12,7 +12,7 @@ use Rattle.lc_table.specs.declared.cells.Side.TheVariants.{Left, Right, End}
 use Rattle.lc_table.proofs.EvenLines.{AreSound, Fit, end_at, end_of, front, is_layout, line_parted}
 use Rattle.lc_table.proofs.EvenLines.{one_line_end, one_line_front, side_width, sides, span}
 use Rattle.lc_table.proofs.EvenLines.{width_of-front, widths_fit}
-use Rattle.lc_table.proofs.LinesApart.{IsLined, lined-append, lined-one, lines_of-lined}
+use Rattle.lc_table.proofs.LinesApart.{IsLined, lined-append, lined-one, input_lines_of-lined}
 use Rattle.lc_table.proofs.OneLine.{is_one_line, one_line-append}
 
 -- a line whose cells stand on these sides
@@ -149,7 +149,7 @@ module _ {A : Type 0} (cells : A → List CellModel) (end : A → List ℕ) (end
       let whole = lined-append lines ([] ∷ []) (lines_in ws (headings ∷ ls)) (codes "\n")
       (lined_lines ss ws (headings ∷ ls) layout fits like) (lined-one [] refl) in (
         lines,
-        lines_of-lined (lines ++ [] ∷ []) (lines_in ws (headings ∷ ls) ++ codes "\n") whole,
+        input_lines_of-lined (lines ++ [] ∷ []) (lines_in ws (headings ∷ ls) ++ codes "\n") whole,
         (
           span ss ws,
           (

@@ -6,8 +6,8 @@ use Rattle.std.proofs.lemmas.List.Elements.{All-append, All-cons, All-nil, All-h
 use Rattle.std.proofs.lemmas.List.Splits.{slice_split_at}
 use Rattle.std.proofs.lemmas.Grind.{flat_map-append}
 use Rattle.lc_text.specs.Joined.{with_feed}
-use Rattle.lc_text.specs.Lines.{lines_of}
-use Rattle.lc_text.proofs.LinesOf.{lines_of-first}
+use Rattle.lc_text.specs.Lines.{input_lines_of}
+use Rattle.lc_text.proofs.LinesOf.{input_lines_of-first}
 use Rattle.lc_table.proofs.OneLine.{is_no_feed, is_one_line}
 
 -- a text is these lines, each with a line feed after it and none within
@@ -21,20 +21,20 @@ none_passes (b ∷ bs) e =
     let parts = and_parts (is_no_feed b) (is_one_line bs) e in
     All-cons (λ b. (b == 10) ≡ false) b bs (not-true (b == 10) parts.0) (none_passes bs parts.1)
 
-lines_of-feed : (line rest : List ℕ) → is_one_line line ≡ true → lines_of (line ++ 10 ∷ rest) ≡ line ∷ lines_of rest
-lines_of-feed line rest e =
-    lines_of-first (line ++ 10 ∷ rest) line rest (slice_split_at (λ b. b == 10) line 10 rest (none_passes line e) refl)
+input_lines_of-feed : (line rest : List ℕ) → is_one_line line ≡ true → input_lines_of (line ++ 10 ∷ rest) ≡ line ∷ input_lines_of rest
+input_lines_of-feed line rest e =
+    input_lines_of-first (line ++ 10 ∷ rest) line rest (slice_split_at (λ b. b == 10) line 10 rest (none_passes line e) refl)
 
-lines_of-lines : (lines : List (List ℕ)) → All (λ line. is_one_line line ≡ true) lines → lines_of (flat_map with_feed lines) ≡ lines
-lines_of-lines [] all = refl
-lines_of-lines (line ∷ lines) all =
-    ap lines_of (append_assoc line (codes "\n") (flat_map with_feed lines))
-    ∙ lines_of-feed line (flat_map with_feed lines) (All-head (λ l. is_one_line l ≡ true) line lines all)
-    ∙ ap (λ (l : List (List ℕ)). line ∷ l) (lines_of-lines lines (All-tail (λ l. is_one_line l ≡ true) line lines all))
+input_lines_of-lines : (lines : List (List ℕ)) → All (λ line. is_one_line line ≡ true) lines → input_lines_of (flat_map with_feed lines) ≡ lines
+input_lines_of-lines [] all = refl
+input_lines_of-lines (line ∷ lines) all =
+    ap input_lines_of (append_assoc line (codes "\n") (flat_map with_feed lines))
+    ∙ input_lines_of-feed line (flat_map with_feed lines) (All-head (λ l. is_one_line l ≡ true) line lines all)
+    ∙ ap (λ (l : List (List ℕ)). line ∷ l) (input_lines_of-lines lines (All-tail (λ l. is_one_line l ≡ true) line lines all))
 
 -- these are its lines
-pub lines_of-lined : (lines : List (List ℕ)) (text : List ℕ) → IsLined lines text → lines_of text ≡ lines
-lines_of-lined lines text is = ap lines_of is.text_is ∙ lines_of-lines lines is.each
+pub input_lines_of-lined : (lines : List (List ℕ)) (text : List ℕ) → IsLined lines text → input_lines_of text ≡ lines
+input_lines_of-lined lines text is = ap input_lines_of is.text_is ∙ input_lines_of-lines lines is.each
 
 pub lined-append : (xs ys : List (List ℕ)) (a b : List ℕ) → IsLined xs a → IsLined ys b → IsLined (xs ++ ys) (a ++ b)
 lined-append xs ys a b first second = record {

@@ -20,7 +20,7 @@ use Rattle.lc_rules.specs.declared.states.TextState.TheVariants as state
 use Rattle.lc_text.specs.RulePlaces.{above, rule_file}
 use Rattle.lc_text.specs.Visible.{visible_bytes, visible_path}
 use Rattle.lc_text.specs.declared.shape.Columns.{Columns}
-use Rattle.lc_text.specs.Lines.{lines_of}
+use Rattle.lc_text.specs.Lines.{input_lines_of}
 use Rattle.lc_level.specs.FaultWords.{fault_word}
 use Rattle.lc_tree.specs.declared.entry.Kind.{Kind}
 use Rattle.lc_tree.specs.declared.entry.Kind.TheVariants.{File, Dir, Other}
@@ -44,7 +44,7 @@ use Rattle.lc_table.specs.declared.cells.Side.TheVariants.{Left, Right, End}
 use Rattle.lc_table.specs.declared.classes.ClassSums.{ClassSums}
 use Rattle.lc_table.proofs.EvenLines.{Fit, IsSound, sound-append, span}
 use Rattle.lc_table.proofs.EvenParts.{IsLike, has_no_end, layout_from, like_fit, lined_lines, listing_aligned, rule_is, shown, wide_lines}
-use Rattle.lc_table.proofs.LinesApart.{IsLined, lined-append, lined-one, lines_of-lined}
+use Rattle.lc_table.proofs.LinesApart.{IsLined, lined-append, lined-one, input_lines_of-lined}
 use Rattle.lc_table.proofs.OneLine.{is_one_line, one_line-append, one_line-decimal, one_line-number, one_line-visible, utf8-visible}
 use Rattle.lc_table.proofs.Spacing.{width_of-hyphens, one_line_hyphens}
 
@@ -295,7 +295,7 @@ module _ {X : Type 0} (P : X → Type 0) where
 -- lines that are alike, some with a rule between
 rows_even : (ss : List Side) (headings : List CellModel) (rows sums : List (List CellModel)) → has_no_end ss ≡ true
     → All (IsLike ss) (headings ∷ (rows ++ sums))
-    → AreAsWide (lines_of (rows_in_columns (widths_of (headings ∷ (rows ++ sums))) headings rows sums))
+    → AreAsWide (input_lines_of (rows_in_columns (widths_of (headings ∷ (rows ++ sums))) headings rows sums))
 rows_even ss headings rows sums closed like =
     let ws = widths_of (headings ∷ (rows ++ sums)) in
     let fits = like_fit ss headings (rows ++ sums) like in
@@ -332,7 +332,7 @@ rows_even ss headings rows sums closed like =
     (All-append W (heads ++ (hyphens ∷ [])) middle
     (All-append W heads (hyphens ∷ []) (wide_lines ss ws (headings ∷ []) closed head_fits head_like) wide_rule)
     (wide_lines ss ws rows closed rows_fits rows_like)) wide_rule) (wide_lines ss ws sums closed sums_fits sums_like) in
-    (n, All-same W _ lines (lines_of-lined lines _ lined) wide)
+    (n, All-same W _ lines (input_lines_of-lined lines _ lined) wide)
 
 pub summary_law : SummaryWidthLaw
 summary_law by r rows small =
@@ -366,6 +366,6 @@ counts_law r =
     let fits = (like_fit ss first more like).0 in (
       span ss ws,
       All-same (λ line. width_of line ≡ span ss ws) _ (map (shown ws) (first ∷ more))
-          (lines_of-lined (map (shown ws) (first ∷ more)) (lines_in ws (first ∷ more)) (lined_lines ss ws (first ∷ more) refl fits like))
+          (input_lines_of-lined (map (shown ws) (first ∷ more)) (lines_in ws (first ∷ more)) (lined_lines ss ws (first ∷ more) refl fits like))
           (wide_lines ss ws (first ∷ more) refl fits like),
     )

@@ -3,7 +3,7 @@ use Rattle.std.specs.Prelude.{◌≡◌, ◌<◌, ℕ, List, [], ◌∷◌, ◌+
 use Rattle.std.specs.List.{All, AllZip}
 use Rattle.lc_level.specs.FaultLines.{FaultLineModel}
 use Rattle.lc_level.specs.Level.{Reason, named_git, by_rule, by_attribute, other_kind}
-use Rattle.lc_text.specs.Lines.{lines_of}
+use Rattle.lc_text.specs.Lines.{input_lines_of}
 use Rattle.lc_text.specs.Visible.{visible_bytes, visible_path}
 use Rattle.lc_text.specs.declared.shape.Columns.{Columns}
 use Rattle.lc_walk.specs.ReportLines.{FileLineModel, LeftLineModel}
@@ -27,7 +27,7 @@ AreAligned lines ends =
 abbrev pub IsAlignedListing : List ℕ → List (List ℕ) → List ℕ → Type 0
 IsAlignedListing heading [] text = text ≡ []
 IsAlignedListing heading (end ∷ ends) text =
-    (lines : List (List ℕ)) × (lines_of text ≡ lines ++ [] ∷ []) × AreAligned lines (heading ∷ end ∷ ends)
+    (lines : List (List ℕ)) × (input_lines_of text ≡ lines ++ [] ∷ []) × AreAligned lines (heading ∷ end ∷ ends)
 
 -- numbers that are bytes, as those of each path and name are
 abbrev pub AreBytes : List ℕ → Type 0
@@ -43,11 +43,11 @@ HasByteName other_kind = ⊤
 abbrev pub SummaryWidthLaw : Type 0
 SummaryWidthLaw =
     (by : Columns) (r : Report) (rows : List TallyRowModel) → All (λ row. IfSome row.key.extension AreBytes) rows
-    → AreAsWide (lines_of (summary by r rows))
+    → AreAsWide (input_lines_of (summary by r rows))
 
 -- the numbers of directories and of entries
 abbrev pub CountsWidthLaw : Type 0
-CountsWidthLaw = (r : Report) → AreAsWide (lines_of (counts r))
+CountsWidthLaw = (r : Report) → AreAsWide (input_lines_of (counts r))
 
 -- what is listed, whose last column is one of paths
 abbrev pub FilesWidthLaw : Type 0

@@ -19,7 +19,7 @@ use Rattle.lc_rules.proofs.RuleLineNumbers.{on_their_lines}
 use Rattle.lc_text.specs.CheckText.{file_verdict, has_ignored_parent, path_word}
 use Rattle.lc_text.specs.Escape.{escape_bytes}
 use Rattle.lc_text.specs.ExplainedText.{file_rule, highest_ignored, path_rule, rule_fields, explained_line, explained_text_of}
-use Rattle.lc_text.specs.Lines.{lines_of}
+use Rattle.lc_text.specs.Lines.{input_lines_of}
 use Rattle.lc_text.specs.PathLines.{is_bad_path, is_dir_line, path_of}
 
 -- what holds of all rules holds of the one that decides
@@ -98,7 +98,7 @@ text_at texts lines i found read low is =
 
 -- one line more
 pub line_more : (name bytes : List ℕ) (old rest line others whole : List ℕ) → old ++ explained_text_of name bytes rest ≡ whole
-    → lines_of rest ≡ line ∷ lines_of others
+    → input_lines_of rest ≡ line ∷ input_lines_of others
     → (old ++ explained_line name bytes line) ++ explained_text_of name bytes others ≡ whole
 line_more name bytes old rest line others whole told split =
     append_assoc old (explained_line name bytes line) (explained_text_of name bytes others)

@@ -2,7 +2,7 @@
 use Rattle.std.proofs.Common.{◌≡◌, ℕ, ◌==◌, List, [], ◌∷◌, length, refl, ap, arith, ◌∙◌}
 use Rattle.std.proofs.lemmas.List.Splits.{length-slice_split}
 use Rattle.lc_glob.specs.Pieces.{pieces_of}
-use Rattle.lc_text.specs.Lines.{without_empty_last, lines_of}
+use Rattle.lc_text.specs.Lines.{without_empty_last, input_lines_of}
 
 some_piece : (bytes : List ℕ) → pieces_of 10 bytes ≡ [] → ⊥
 some_piece bytes e =
@@ -15,5 +15,5 @@ without_empty_last-cons line [] some = absurd (some refl)
 without_empty_last-cons line (p ∷ ps) some = refl
 
 -- the first line stands before the first line feed
-pub lines_of-first : (bytes line rest : List ℕ) → pieces_of 10 bytes ≡ line ∷ pieces_of 10 rest → lines_of bytes ≡ line ∷ lines_of rest
-lines_of-first bytes line rest is = ap without_empty_last is ∙ without_empty_last-cons line (pieces_of 10 rest) (some_piece rest)
+pub input_lines_of-first : (bytes line rest : List ℕ) → pieces_of 10 bytes ≡ line ∷ pieces_of 10 rest → input_lines_of bytes ≡ line ∷ input_lines_of rest
+input_lines_of-first bytes line rest is = ap without_empty_last is ∙ without_empty_last-cons line (pieces_of 10 rest) (some_piece rest)

@@ -7,7 +7,7 @@ use Rattle.lc_rules.specs.Verdicts.{verdict_of, at_depth}
 use Rattle.lc_rules.specs.declared.verdicts.Verdict.{Verdict}
 use Rattle.lc_rules.specs.declared.verdicts.Verdict.TheVariants.{Ignored, Included, NoRule}
 use Rattle.lc_text.specs.Escape.{escape_bytes}
-use Rattle.lc_text.specs.Lines.{lines_of}
+use Rattle.lc_text.specs.Lines.{input_lines_of}
 use Rattle.lc_text.specs.PathLines.{is_bad_path, is_dir_line, path_of}
 
 -- what the rules of one file say of a path, or of a directory
@@ -52,7 +52,7 @@ checked_line verdict line =
 
 -- the lines of the paths, each with its word
 abbrev pub check_text_of : (List ℕ → Bool → Verdict) → List ℕ → List ℕ
-check_text_of verdict paths = flat_map (checked_line verdict) (lines_of paths)
+check_text_of verdict paths = flat_map (checked_line verdict) (input_lines_of paths)
 
 -- the same with the rules of one file
 abbrev pub text_by : List RuleModel → List ℕ → List ℕ

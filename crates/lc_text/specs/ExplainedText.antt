@@ -7,7 +7,7 @@ use Rattle.lc_rules.specs.Verdicts.{at_depth, deciding}
 use Rattle.lc_rules.specs.declared.verdicts.Verdict.{Verdict}
 use Rattle.lc_text.specs.CheckText.{file_verdict, is_ignored_parent, has_ignored_parent, path_word}
 use Rattle.lc_text.specs.Escape.{escape_bytes}
-use Rattle.lc_text.specs.Lines.{lines_of}
+use Rattle.lc_text.specs.Lines.{input_lines_of}
 use Rattle.lc_text.specs.PathLines.{is_bad_path, is_dir_line, path_of}
 
 -- the rule of one file that decides a path, or a directory
@@ -45,4 +45,4 @@ explained_line name bytes line =
 
 -- the lines of the paths, by the rules of a file with this name and these bytes
 abbrev pub explained_text_of : List ℕ → List ℕ → List ℕ → List ℕ
-explained_text_of name bytes paths = flat_map (explained_line name bytes) (lines_of paths)
+explained_text_of name bytes paths = flat_map (explained_line name bytes) (input_lines_of paths)

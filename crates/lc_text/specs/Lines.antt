@@ -11,5 +11,5 @@ without_empty_last (p ∷ []) = cond (is_empty p) [] (p ∷ [])
 without_empty_last (p ∷ q ∷ ps) = p ∷ without_empty_last (q ∷ ps)
 
 -- what stands between line feeds; a last line needs none, and nothing after the last one is no line
-abbrev pub lines_of : List ℕ → List (List ℕ)
-lines_of bytes = without_empty_last (pieces_of line_feed bytes)
+abbrev pub input_lines_of : List ℕ → List (List ℕ)
+input_lines_of bytes = without_empty_last (pieces_of line_feed bytes)

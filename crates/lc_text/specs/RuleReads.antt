@@ -8,11 +8,11 @@ use Rattle.lc_rules.specs.Limits.{max_rule_bytes}
 use Rattle.lc_rules.specs.declared.faults.RuleFault.{RuleFault}
 use Rattle.lc_rules.specs.declared.faults.RuleFault.TheVariants as rule
 use Rattle.lc_text.specs.declared.rules.RulesFileFault.{RulesFileFault}
-use Rattle.lc_text.specs.declared.rules.RulesFileFault.TheVariants.{Unread, TooLong, Memory}
+use Rattle.lc_text.specs.declared.rules.RulesFileFault.TheVariants.{Read, TooLong, Memory}
 
 -- a file that was not read whole
 abbrev pub file_fault : WholeFault → RulesFileFault
-file_fault whole.Read = Unread
+file_fault whole.Read = Read
 file_fault whole.TooLong = TooLong
 file_fault whole.Memory = Memory
 
@@ -24,7 +24,7 @@ bytes_fault rule.Memory = Memory
 -- the bytes of a file that was read whole; or the reads failed, or gave more bytes than a file of rules may have
 abbrev pub ReadsRuleText : {S : Type 0} → (S → ℕ → Answer → S → Type 0) → S → Result (List ℕ) RulesFileFault → S → Type 0
 ReadsRuleText may_give old (Ok bytes) new = AnswersWhole may_give max_rule_bytes old (Ok tt) bytes new
-ReadsRuleText may_give old (Err Unread) new = (bytes : List ℕ) × AnswersWhole may_give max_rule_bytes old (Err whole.Read) bytes new
+ReadsRuleText may_give old (Err Read) new = (bytes : List ℕ) × AnswersWhole may_give max_rule_bytes old (Err whole.Read) bytes new
 ReadsRuleText may_give old (Err TooLong) new =
     (bytes : List ℕ) × AnswersWhole may_give max_rule_bytes old (Err whole.TooLong) bytes new
 ReadsRuleText may_give old (Err Memory) new = Unit {0}

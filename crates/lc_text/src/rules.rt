@@ -19,7 +19,7 @@ use thiserror::Error;
 pub enum RulesFileFault {
     /// It was not opened, or a read failed.
     #[error("cannot read rules")]
-    Unread,
+    Read,
     /// It has over 1,048,576 bytes.
     #[error("rules too long")]
     TooLong,
@@ -43,7 +43,7 @@ impl From<io::Error> for RulesFileFault {
     fn from(error: io::Error) -> RulesFileFault {
         match error.kind() {
             io::ErrorKind::OutOfMemory => RulesFileFault::Memory,
-            _ => RulesFileFault::Unread,
+            _ => RulesFileFault::Read,
         }
     }
 }
@@ -53,7 +53,7 @@ impl From<WholeFault> for RulesFileFault {
 
     fn from(fault: WholeFault) -> RulesFileFault {
         match fault {
-            WholeFault::Read => RulesFileFault::Unread,
+            WholeFault::Read => RulesFileFault::Read,
             WholeFault::TooLong => RulesFileFault::TooLong,
             WholeFault::Memory => RulesFileFault::Memory,
         }
@@ -72,7 +72,7 @@ impl From<RuleFault> for RulesFileFault {
 }
 
 /// The text of an ignore file, with the rules that it gives.
-#[derive(Debug, Drop)]
+#[derive(Drop)]
 pub struct RuleText {
     bytes: Vec<u8>,
     rules: Arc<IgnoreFile, Global>,

@@ -10,7 +10,7 @@ use Rattle.std.proofs.lemmas.Slice.Eq.{bytes_eq-Decides}
 use Rattle.lc_glob.specs.Path.{is_good_name, is_no_name, path_in, segments_of}
 use Rattle.lc_tree.specs.ByteOrder.{bytes_cmp}
 use Rattle.lc_tree.specs.Listing.{names, HaveDistinctNames}
-use Rattle.lc_tree.specs.Nodes.{Child, entry_of, child_among, child_of, node_below, node_at}
+use Rattle.lc_tree.specs.Nodes.{Child, entry_of_child, child_among, child_of, node_below, node_at}
 use Rattle.lc_tree.specs.Paths.{names_of_path}
 use Rattle.lc_tree.specs.declared.node.Node.{Node}
 
@@ -96,7 +96,7 @@ first_found : (c : Child) (cs : List Child) → child_among c.0.items (c ∷ cs)
 first_found c cs = ap (λ b. option_map (λ (d : Child). d.1) (cond b (Some c) (find (λ (d : Child). bytes_eq d.0.items c.0.items) cs)))
     ((bytes_eq-Decides c.0.items c.0.items).1 refl)
 
-later_found : (c : Child) (cs ds : List Child) → AllByRecursion (λ k. eq_by_cmp bytes_cmp c.0.items k ≡ false) (names (map entry_of ds)) →
+later_found : (c : Child) (cs ds : List Child) → AllByRecursion (λ k. eq_by_cmp bytes_cmp c.0.items k ≡ false) (names (map entry_of_child ds)) →
     AllByRecursion (λ (d : Child). child_among d.0.items cs ≡ Some d.1) ds
     → AllByRecursion (λ (d : Child). child_among d.0.items (c ∷ cs) ≡ Some d.1) ds
 later_found c cs [] other all = tt
@@ -107,7 +107,7 @@ later_found c cs (d ∷ ds) other all = (
 )
 
 -- each child of a directory is found by its name
-pub each_found : (cs : List Child) → HaveDistinctNames (map entry_of cs)
+pub each_found : (cs : List Child) → HaveDistinctNames (map entry_of_child cs)
     → AllByRecursion (λ (c : Child). child_among c.0.items cs ≡ Some c.1) cs
 unfolding IsDistinct
 each_found [] distinct = tt

@@ -2,7 +2,7 @@
 use Rattle.std.specs.Prelude.{◌≡◌, ℕ, true, false, List, [], take, drop, map, Option, Some, None, Result, Ok, Err, IsTrue, IsFalse}
 use Rattle.lc_census.specs.Reads.{Answer, gave, failed}
 use Rattle.lc_tree.specs.Listing.{EntryModel, IsListingOf, IsRefusedBy}
-use Rattle.lc_tree.specs.Nodes.{entry_of, node_at}
+use Rattle.lc_tree.specs.Nodes.{entry_of_child, node_at}
 use Rattle.lc_tree.specs.Trees.{Listings, Contents, Content, GivesContent}
 use Rattle.lc_tree.specs.declared.listing.ListingFault.TheVariants.{BadName, TooMany}
 use Rattle.lc_tree.specs.declared.listing.ListingFault.TheVariants as listing
@@ -23,7 +23,7 @@ IsAnswerFor entries (Err fault.Memory) = ⊥
 
 -- what listing a node answers: a directory's entries listed, and for any other node that it can't be read
 abbrev pub ListsWithin : Node-F Node → Listings
-ListsWithin (Node-F.Dir entries) answer = IsAnswerFor (map entry_of entries.items) answer
+ListsWithin (Node-F.Dir entries) answer = IsAnswerFor (map entry_of_child entries.items) answer
 ListsWithin Node-F.Closed answer = answer ≡ Err fault.Failed
 ListsWithin (Node-F.File bytes) answer = answer ≡ Err fault.Failed
 ListsWithin (Node-F.Failing bytes) answer = answer ≡ Err fault.Failed

@@ -24,8 +24,8 @@ abbrev pub Child : Type 0
 Child = Vec ℕ Global × Node
 
 -- an entry as a listing has it
-abbrev pub entry_of : Child → EntryModel
-entry_of child = record { name = child.0.items; kind = kind_of child.1 }
+abbrev pub entry_of_child : Child → EntryModel
+entry_of_child child = record { name = child.0.items; kind = kind_of child.1 }
 
 -- the node of the first entry of a name
 abbrev pub child_among : List ℕ → List Child → Option Node

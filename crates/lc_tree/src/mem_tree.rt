@@ -1,7 +1,7 @@
 //! A tree of memory.
 ghost use Rattle.std.specs.Prelude.{◌≡◌, ◌≢◌, IfOk, map};
 ghost use Rattle.lc_tree.specs.MemTrees.{ReadsContent, mem_gives};
-ghost use Rattle.lc_tree.specs.Nodes.{entry_of};
+ghost use Rattle.lc_tree.specs.Nodes.{entry_of_child};
 ghost use Rattle.lc_tree.specs.Trees.{Opens};
 
 use crate::mem_file::MemFile;
@@ -46,7 +46,7 @@ impl<'a> MemTree<'a> {
 
 // The entries of a directory, as a listing has them.
 fn entries_of(alloc: Global, children: &[(Vec<u8>, Node)]) -> Result<Vec<Entry>, AllocError>
-    ensures { IfOk result (λ entries. entries.items ≡ map entry_of children.now) }
+    ensures { IfOk result (λ entries. entries.items ≡ map entry_of_child children.now) }
 {
     let mut entries = Vec::with_capacity(alloc, children.len())?;
     for child in children {

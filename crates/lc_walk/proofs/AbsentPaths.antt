@@ -12,7 +12,7 @@ use Rattle.lc_glob.specs.Path.{path_in, segments_of}
 use Rattle.lc_level.specs.Answers.{Item, entry_of}
 use Rattle.lc_level.specs.Narrowing.{after, stands_below, rest_from, each_once, rests, leads_to, absent_from}
 use Rattle.lc_level.proofs.AskedPaths.{rest_is}
-use Rattle.lc_level.proofs.Tidy.{bytes_other, clash}
+use Rattle.lc_level.proofs.WellFormed.{bytes_other, clash}
 use Rattle.lc_tree.specs.Paths.{names_of_path}
 use Rattle.lc_walk.proofs.Distinct.{Distinct}
 use Rattle.lc_walk.proofs.Elements.{In}

@@ -12,7 +12,7 @@ use Rattle.lc_walk.specs.Running.{HasRun, AllOver, TalliesAll}
 use Rattle.lc_walk.specs.Serving.{EndsAs}
 use Rattle.lc_walk.specs.Tally.{TallyModel, CountedFile, StandsFor}
 use Rattle.lc_walk.specs.TreeOfRows.{numbers_below}
-use Rattle.lc_walk.specs.Worked.{AreLawful, HasEnded, TalliesFor, files_given, files_of_pass}
+use Rattle.lc_walk.specs.Worked.{AreLawful, FoundOver, TalliesFor, files_given, files_of_pass}
 use Rattle.lc_walk.specs.declared.row.Row.{Row}
 use Rattle.lc_walk.specs.declared.worker.End.TheVariants.{Over}
 use Rattle.lc_walk.specs.declared.worker.Worked.{Worked}
@@ -50,12 +50,12 @@ module _ {P : Type 0} (view : P → Pass JobModel Row) (ask : Asked) (MayAnswer 
 
   ended_at : (w : ℕ) (o : Option (Worked P)) → ((x : Worked P) → o ≡ Some x → Ran w x) → ((x : Worked P) → o ≡ Some x → x.end ≡ Over)
       → (p : Pass JobModel Row) → option_map last o ≡ Some p →
-      (p.worker ≡ w) × HasEnded p
+      (p.worker ≡ w) × FoundOver p
   ended_at w None ran over p e = let n : None ≡ Some p = e in absurd (cc n)
   ended_at w (Some x) ran over p e =
       let same : view x.pass ≡ p = cc e in
       let r = ran x refl in
-      subst (λ (q : Pass JobModel Row). (q.worker ≡ w) × HasEnded q) same
+      subst (λ (q : Pass JobModel Row). (q.worker ≡ w) × FoundOver q) same
       (r.worked.worker, subst (λ end. EndsAs end (view x.pass)) (over x refl) r.ends)
 
   tallied_at : (w : ℕ) (o : Option (Worked P)) (ran : (x : Worked P) → o ≡ Some x → Ran w x) (x : Worked P) → o ≡ Some x

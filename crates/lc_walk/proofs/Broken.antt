@@ -4,7 +4,7 @@ use Rattle.lc_board.specs.declared.answers.Ended.{Ended}
 use Rattle.lc_walk.specs.Rows.{row_of, IsWhole}
 use Rattle.lc_walk.specs.Walked.{AreWhole}
 use Rattle.lc_walk.specs.Assembled.{IsBrokenBy, RefusesRows}
-use Rattle.lc_walk.specs.Marks.{RefusesTree, fault_of_tree}
+use Rattle.lc_walk.specs.Links.{RefusesTree, fault_of_tree}
 use Rattle.lc_walk.specs.declared.given_up.GivenUp.{GivenUp}
 use Rattle.lc_walk.specs.declared.given_up.GivenUp.TheVariants.{Memory, TooManyDirs, TooDeep}
 use Rattle.lc_walk.specs.declared.row.Row.{Row}

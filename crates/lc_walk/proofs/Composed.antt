@@ -26,7 +26,7 @@ use Rattle.lc_level.specs.Level.{counted_in, left_in}
 use Rattle.lc_walk.specs.Found.{Found, path_of, found_of, found_at}
 use Rattle.lc_walk.specs.Rows.{row_of, job_of, IsWhole}
 use Rattle.lc_walk.specs.Lawful.{Asked, IsLawful, Says, counted_files}
-use Rattle.lc_level.specs.Tidy.{IsTidy}
+use Rattle.lc_level.specs.WellFormed.{IsWellFormed}
 use Rattle.lc_walk.specs.TreeOfRows.{numbers_below, child_number, tree_from, children_by_rows, tree_of_rows}
 use Rattle.lc_walk.specs.Walked.{Walked, AreWhole, row_found, rows_found}
 use Rattle.lc_walk.specs.WalkReport.{tallied, line_of, left_line, tallied_in, file_in, fault_in, directory_in, left_out_in, entries_in}
@@ -138,7 +138,7 @@ module _ (ask : Asked) (MayAnswer : List ℕ → Answers → Type 0) (capacity w
       subst (λ a. IsLawful ask full history i e a × MayStand MayAnswer (posts_under i history) (row_of e) a) (sym (answers_are i e is)) (
         record {
           job_is = l.job_is;
-          tidy = l.tidy;
+          well_formed = l.well_formed;
           says = fuller_says ask (is_full (slice_get passes (ender history i))) full e
               (held.by i) _ (some_full passes (ender history i)) l.says;
         },
@@ -330,19 +330,19 @@ module _ (ask : Asked) (MayAnswer : List ℕ → Answers → Type 0) (capacity w
     unfolding IsStrictlySortedBy
     no_entries = record { good = refl; order = tt; few = omega arith }
 
-    tidy_or : (i : ℕ) (o : Option (Ended Row)) → slice_get rows i ≡ o → IsTidy (or_no_answers o (held.by i))
-    tidy_or i None is = no_entries
-    tidy_or i (Some e) is = subst IsTidy (answers_are i e is) (lawful_here i e is).0.tidy
+    well_formed_or : (i : ℕ) (o : Option (Ended Row)) → slice_get rows i ≡ o → IsWellFormed (or_no_answers o (held.by i))
+    well_formed_or i None is = no_entries
+    well_formed_or i (Some e) is = subst IsWellFormed (answers_are i e is) (lawful_here i e is).0.well_formed
 
-    tidy_at : (i : ℕ) → IsTidy (answers i)
-    tidy_at i = tidy_or i (slice_get rows i) refl
+    well_formed_at : (i : ℕ) → IsWellFormed (answers i)
+    well_formed_at i = well_formed_or i (slice_get rows i) refl
 
-    tidy_from : (children : ℕ → List ChildModel) (i : ℕ) (place : List (List ℕ)) → IsTidy (tree_from no_answers answers children i place)
-    tidy_from children i [] = tidy_at i
-    tidy_from children i (n ∷ place) = at (child_number n (children i)) (λ k. tidy_from children k place)
+    well_formed_from : (children : ℕ → List ChildModel) (i : ℕ) (place : List (List ℕ)) → IsWellFormed (tree_from no_answers answers children i place)
+    well_formed_from children i [] = well_formed_at i
+    well_formed_from children i (n ∷ place) = at (child_number n (children i)) (λ k. well_formed_from children k place)
       where
-        at : (o : Option ℕ) → ((k : ℕ) → IsTidy (tree_from no_answers answers children k place))
-            → IsTidy (elim o [ None ↦ no_answers | Some k ↦ tree_from no_answers answers children k place ])
+        at : (o : Option ℕ) → ((k : ℕ) → IsWellFormed (tree_from no_answers answers children k place))
+            → IsWellFormed (elim o [ None ↦ no_answers | Some k ↦ tree_from no_answers answers children k place ])
         at None rec = no_entries
         at (Some k) rec = rec k
 
@@ -351,7 +351,7 @@ module _ (ask : Asked) (MayAnswer : List ℕ → Answers → Type 0) (capacity w
 
     once : AreApart (map path_of found)
     once = found_apart _ found moved (paths_once_law ask.selection capacity top (tree_of_rows rows answers)
-        (tidy_from (children_by_rows rows) 0))
+        (well_formed_from (children_by_rows rows) 0))
 
     -- ---- the report of the walk
 

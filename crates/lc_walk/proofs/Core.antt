@@ -16,7 +16,7 @@ use Rattle.lc_walk.specs.TreeOfRows.{child_number, tree_from}
 use Rattle.lc_board.proofs.Weights.{each-map}
 use Rattle.lc_board.proofs.PostedNumbers.{Known, known}
 use Rattle.lc_walk.proofs.Reach.{reach}
-use Rattle.lc_level.proofs.Tidy.{bytes_same}
+use Rattle.lc_level.proofs.WellFormed.{bytes_same}
 use Rattle.lc_walk.proofs.Levels.{IsApart}
 
 same_some : {A : Type 0} (x y : A) → Some x ≡ Some y → x ≡ y

@@ -20,7 +20,7 @@ use Rattle.lc_level.specs.Selection.{SelectionModel}
 use Rattle.lc_level.specs.declared.fault_word.FaultWord.TheVariants.{Absent}
 use Rattle.lc_walk.specs.Found.{Found, found_file, found_fault, found_directory, found_left, found_absent, found_by, found_of, found_at}
 use Rattle.lc_walk.specs.Found.{children_of, children_at}
-use Rattle.lc_walk.specs.FoundAt.{IsListed, LeavesIn, LeadsTo, HasEntry, Gives, IsFoundIn, FoundLaw}
+use Rattle.lc_walk.specs.FoundAt.{IsListed, WalksInto, LeadsTo, HasEntry, Gives, IsFoundIn, FoundLaw}
 use Rattle.lc_walk.specs.Walk.{walks_below, walk_of}
 use Rattle.lc_level.proofs.Fates.{children_by, walked_items_are}
 use Rattle.lc_walk.proofs.Elements.{In, is_in, contains, in_left, in_right, in_either, in_lists, of_lists, if_cond, cond_if, in_mapped}
@@ -228,9 +228,9 @@ module _ (selection : SelectionModel) (j : JobModel) (a : Answers) where
 
   -- a child directory is left in
   pub child_by_level : (c : List ℕ × JobModel) → In c (children_at selection j a)
-      → (inside : JobModel) × LeavesIn selection j a c.0 inside × (c.1 ≡ child_job inside c.0)
+      → (inside : JobModel) × WalksInto selection j a c.0 inside × (c.1 ≡ child_job inside c.0)
   child_by_level c =
-      level_cases (λ l. In c (children_of l) → (inside : JobModel) × LeavesIn selection j a c.0 inside × (c.1 ≡ child_job inside c.0))
+      level_cases (λ l. In c (children_of l) → (inside : JobModel) × WalksInto selection j a c.0 inside × (c.1 ≡ child_job inside c.0))
       selection j a
       (λ p w i. absurd i)
       (λ items here b read i.
@@ -248,7 +248,7 @@ module _ (selection : SelectionModel) (j : JobModel) (a : Answers) where
       ))
 
   -- and the other way round
-  pub level_by_child : (name : List ℕ) (inside : JobModel) → LeavesIn selection j a name inside
+  pub level_by_child : (name : List ℕ) (inside : JobModel) → WalksInto selection j a name inside
       → In (name, child_job inside name) (children_at selection j a)
   level_by_child name inside l =
       let part = part_of selection.only j.path l.items in
@@ -291,7 +291,7 @@ module _ (selection : SelectionModel) where
       (of_below walk x t c cs i h)
 
   deeper : (depth : ℕ) (j : JobModel) (t : Tree) (x : Found) (c : List ℕ × JobModel) (inside : JobModel)
-      → LeavesIn selection j (t []) c.0 inside → c.1 ≡ child_job inside c.0 →
+      → WalksInto selection j (t []) c.0 inside → c.1 ≡ child_job inside c.0 →
       IsFoundIn selection depth c.1 (λ place. t (c.0 ∷ place)) x → IsFoundIn selection (suc depth) j t x
   deeper depth j t x c inside l e r = record {
     place = c.0 ∷ r.place;

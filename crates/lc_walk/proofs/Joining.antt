@@ -11,7 +11,7 @@ use Rattle.std.proofs.Common.{length-append}
 use Rattle.std.proofs.lemmas.List.{take_all, get_or-take, length-take}
 use Rattle.lc_walk.specs.Key.{Key, same_key}
 use Rattle.lc_walk.specs.TallyRows.{TallyRowModel, sums_of_rows, rows_with, IsInOrder}
-use Rattle.lc_walk.specs.Sums.{plus, no_files, one_file, IsModest, HasRoom}
+use Rattle.lc_walk.specs.Sums.{plus, no_files, one_file, IsModest, IsInRange}
 use Rattle.lc_walk.specs.Tally.{Gains, Grows, TallyModel, IsKept, StandsFor, CountedFile, sums_of_files, files_with, key_of}
 use Rattle.lc_walk.specs.declared.tally.sums.Sums.{Sums}
 use Rattle.lc_walk.proofs.Filtered.{part, sum_by-filter, filter_push, length-filter_push}
@@ -93,7 +93,7 @@ joins_more first xs rows new i x k s within read is_key is_sums joined gained =
 -- there is room for each row of a modest tally beside another
 pub room : (first xs rows : List TallyRowModel) (i : ℕ) (x : TallyRowModel) (a b s : Sums) → i < length xs → x ≡ get_or xs i x
     → s ≡ x.sums → a ≡ sums_of_rows first → b ≡ sums_of_rows xs → IsModest a → IsModest b → a.files + b.files ≤ 2 ^ 63
-    → Joins first (take i xs) rows → HasRoom (plus (sums_of_rows rows) s)
+    → Joins first (take i xs) rows → IsInRange (plus (sums_of_rows rows) s)
 room first xs rows i x a b s within read is_sums is_a is_b modest_a modest_b few joined =
     let below : (v : TallyRowModel → ℕ) → sum_by v (take i xs) + v x ≤ sum_by v xs = λ v. subst
     (λ (r : TallyRowModel). sum_by v (take i xs) + v r ≤ sum_by v xs) (sym read) (sum_by_more_le v xs i x within) in

@@ -102,8 +102,8 @@ module _ (ask : Asked) (full : Bool) (capacity workers : ℕ) (top : JobModel) (
   posted_at i a = let r = row_here rows i (inside i a) in posted_here i r.row r.is ∙ ap (λ o. Some (job_or top o)) (sym r.is)
 
   -- that of number 0 is the top's
-  pub top_job : job_at 0 ≡ top
-  top_job = same_some (job_at 0) top (sym (posted_at 0 (start h)) ∙ top_posted capacity workers top h walked.legal)
+  pub job_at_top : job_at 0 ≡ top
+  job_at_top = same_some (job_at 0) top (sym (posted_at 0 (start h)) ∙ top_posted capacity workers top h walked.legal)
 
   -- each post under a number has the job of the number posted
   pub own_jobs : (i : ℕ) → AllByRecursion (λ p. job_at p.0 ≡ p.1) (posts_under i h)
@@ -115,13 +115,13 @@ module _ (ask : Asked) (full : Bool) (capacity workers : ℕ) (top : JobModel) (
     abbrev children_of_number : ℕ → List (List ℕ × JobModel)
     children_of_number i = children_at ask.selection (job_at i) (answers i)
 
-    pub record Fits (i : ℕ) : Type 0 where
+    pub record HasItsChildren (i : ℕ) : Type 0 where
       pub jobs : jobs_of (posts_under i h) ≡ jobs_of (children_of_number i)
       pub children : children_by_rows rows i ≡ named (children_of_number i) (posts_under i h)
       pub looked : Finds (λ m. child_number m (children_by_rows rows i)) (children_of_number i) (posts_under i h)
       pub named_so : AllByRecursion (IsChild (job_at i).path) (children_of_number i)
 
-    pub fits : (i : ℕ) → status h i ≢ Absent → Fits i
+    pub fits : (i : ℕ) → status h i ≢ Absent → HasItsChildren i
     fits i a =
         let r = row_here rows i (inside i a) in
         let lawful = walked.lawful i r.row r.is in
@@ -133,8 +133,8 @@ module _ (ask : Asked) (full : Bool) (capacity workers : ℕ) (top : JobModel) (
           jobs = p.jobs ∙ ap (λ j. jobs_of (children_at ask.selection j (answers i))) job;
           children = children;
           looked = subst (λ (cs : List ChildModel). Finds (λ m. child_number m cs) (children_of_number i) (posts_under i h)) (sym children)
-              (finds (children_of_number i) (posts_under i h) (apart_level ask.selection (job_at i) (answers i) lawful.tidy));
-          named_so = good_level ask.selection (job_at i) (answers i) lawful.tidy;
+              (finds (children_of_number i) (posts_under i h) (apart_level ask.selection (job_at i) (answers i) lawful.well_formed));
+          named_so = good_level ask.selection (job_at i) (answers i) lawful.well_formed;
         }
 
     -- ---- the tree of rows
@@ -181,7 +181,7 @@ module _ (ask : Asked) (full : Bool) (capacity workers : ℕ) (top : JobModel) (
         → IsPermutation (walk_of ask.selection depth top (tree_of_rows rows answers)) (rows_found ask rows answers)
     of_rows depth deep =
         by_reach depth deep _
-        (ap (λ j. walk_of ask.selection depth j (tree_of_rows rows answers)) (sym top_job)
+        (ap (λ j. walk_of ask.selection depth j (tree_of_rows rows answers)) (sym job_at_top)
         ∙ walk_is (found_at ask.selection) (children_at ask.selection) capacity workers top h job_at answers
         (tree_from no_answers answers (children_by_rows rows)) walked.legal
         posted_at (λ i a. (fits i a).jobs) grows depth 0 (start h))
@@ -210,7 +210,7 @@ module _ (ask : Asked) (full : Bool) (capacity workers : ℕ) (top : JobModel) (
     pub of_numbers : (depth : ℕ) → capacity ≤ depth → IsPermutation (walk_numbers ask depth top rows answers) (numbers_below (length rows))
     of_numbers depth deep =
         let is : walk_numbers ask depth top rows answers ≡ reach h depth 0 =
-        ap (λ j. walk_numbers ask depth j rows answers) (sym top_job)
+        ap (λ j. walk_numbers ask depth j rows answers) (sym job_at_top)
         ∙ walk_is number_found number_children capacity workers top h job_at (λ i. (i, answers i))
         (tree_from (0, no_answers) (λ i. (i, answers i)) (children_by_rows rows)) walked.legal
         posted_at (λ i a. (fits i a).jobs) numbers_grow depth 0 (start h)
@@ -246,7 +246,7 @@ module _ (ask : Asked) (full : Bool) (capacity workers : ℕ) (top : JobModel) (
         (depth : ℕ) → capacity ≤ depth → IsPermutation (walk_of ask.selection depth top t) (rows_found ask rows answers)
     of_one_tree t at_top agree depth deep =
         by_reach depth deep _
-        (ap (λ j. walk_of ask.selection depth j t) (sym top_job)
+        (ap (λ j. walk_of ask.selection depth j t) (sym job_at_top)
         ∙ ap (λ (u : List (List ℕ) → Answers). walk_of ask.selection depth (job_at 0) u) (sym whole_tree)
         ∙ walk_is (found_at ask.selection) (children_at ask.selection) capacity workers top h job_at answers
         (λ i p. t (place_at i ++ p)) walked.legal
@@ -273,7 +273,7 @@ module _ (ask : Asked) (full : Bool) (capacity workers : ℕ) (top : JobModel) (
 
         whole_tree : (λ (p : List (List ℕ)). t (place_at 0 ++ p)) ≡ t
         whole_tree = ap {B = List (List ℕ) → Answers} (λ (x : List (List ℕ)) (p : List (List ℕ)). t (x ++ p))
-            (ap (λ (j : JobModel). names_of_path j.path) top_job ∙ ap names_of_path at_top)
+            (ap (λ (j : JobModel). names_of_path j.path) job_at_top ∙ ap names_of_path at_top)
 
 -- the tree of rows has what the rows found
 pub core_law : CoreLaw
@@ -296,6 +296,6 @@ part_law ask full capacity workers w i h e a legal k =
     let same : SaysSame i h (part w h) = part_says_whole capacity workers h legal w i (job_of (row_of e)) k.job_is in
     record {
       job_is = sym same.got ∙ k.job_is;
-      tidy = k.tidy;
+      well_formed = k.well_formed;
       says = subst (λ ps. Says ask full e a ps) same.posts k.says;
     }

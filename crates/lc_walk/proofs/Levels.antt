@@ -15,8 +15,8 @@ use Rattle.lc_level.specs.Level.{walked_in, fates_of}
 use Rattle.lc_level.specs.Narrowing.{part_of}
 use Rattle.lc_level.specs.Selection.{SelectionModel}
 use Rattle.lc_walk.specs.Found.{children_of, children_at}
-use Rattle.lc_level.specs.Tidy.{IsTidy, listed_in}
-use Rattle.lc_level.proofs.Tidy.{IsGoodName, good_one, Spread, spread}
+use Rattle.lc_level.specs.WellFormed.{IsWellFormed, listed_in}
+use Rattle.lc_level.proofs.WellFormed.{IsGoodName, good_one, Spread, spread}
 use Rattle.lc_level.proofs.Fates.{children_by, walked_items_are}
 use Rattle.lc_walk.proofs.TakingPart.{spread_part}
 
@@ -163,28 +163,28 @@ good_names : (es : List Item) → Spread es → AllByRecursion (λ e. IsGoodName
 good_names [] t = tt
 good_names (e ∷ es) t = (t.1, good_names es t.2)
 
--- the items of tidy answers have good names, no two the same
-pub tidy_items : (a : Answers) → IsTidy a → (es : List Item) → a.here ≡ Ok es → Spread es
-tidy_items a t es e = spread es (subst (λ (o : Items). IsListing (listed_in o)) e t)
+-- the items of well-formed answers have good names, no two the same
+pub well_formed_items : (a : Answers) → IsWellFormed a → (es : List Item) → a.here ≡ Ok es → Spread es
+well_formed_items a t es e = spread es (subst (λ (o : Items). IsListing (listed_in o)) e t)
 
 -- so have those that take part
-pub tidy_part : (only : List (List ℕ)) (d : List ℕ) (a : Answers) → IsTidy a → (es : List Item) → a.here ≡ Ok es
+pub well_formed_part : (only : List (List ℕ)) (d : List ℕ) (a : Answers) → IsWellFormed a → (es : List Item) → a.here ≡ Ok es
     → Spread (part_of only d es)
-tidy_part only d a t es e = spread_part only d es (tidy_items a t es e)
+well_formed_part only d a t es e = spread_part only d es (well_formed_items a t es e)
 
 -- and the child directories of a level
-pub apart_level : (selection : SelectionModel) (j : JobModel) (a : Answers) → IsTidy a → IsApart (children_at selection j a)
+pub apart_level : (selection : SelectionModel) (j : JobModel) (a : Answers) → IsWellFormed a → IsApart (children_at selection j a)
 apart_level selection j a t =
     level_keeps (λ l. IsApart (children_of l)) selection j a (λ p w. tt)
     (λ es e b. subst IsApart (sym (walked_items_are selection (extended j b) (part_of selection.only j.path es)))
-    (apart_children selection (extended j b) (part_of selection.only j.path es) (tidy_part selection.only j.path a t es e)))
+    (apart_children selection (extended j b) (part_of selection.only j.path es) (well_formed_part selection.only j.path a t es e)))
 
 -- and each is a child of the directory, by its name
-pub good_level : (selection : SelectionModel) (j : JobModel) (a : Answers) → IsTidy a →
+pub good_level : (selection : SelectionModel) (j : JobModel) (a : Answers) → IsWellFormed a →
     AllByRecursion (IsChild j.path) (children_at selection j a)
 good_level selection j a t =
     level_keeps (λ l. AllByRecursion (IsChild j.path) (children_of l)) selection j a (λ p w. tt)
     (λ es e b.
     let part = part_of selection.only j.path es in
     each_child selection (extended j b) (IsChild j.path) IsGoodName (λ n g. (g, refl)) part
-    (good_names part (tidy_part selection.only j.path a t es e)))
+    (good_names part (well_formed_part selection.only j.path a t es e)))

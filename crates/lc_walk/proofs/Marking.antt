@@ -8,8 +8,8 @@ use Rattle.lc_board.specs.declared.answers.Ended.{Ended}
 use Rattle.lc_glob.specs.Path.{path_in}
 use Rattle.lc_walk.specs.RowViews.{ChildModel}
 use Rattle.lc_walk.specs.Rows.{row_of, job_of, children_in}
-use Rattle.lc_walk.specs.Assembled.{IsEdge, HangsOnce, IsPlaced}
-use Rattle.lc_walk.specs.Marks.{Seen, HangsSeen, Marks, IsNext, IsPathAt}
+use Rattle.lc_walk.specs.Assembled.{IsEdge, IsLinkedOnce, IsPlaced}
+use Rattle.lc_walk.specs.Links.{Seen, IsLinkedSoFar, AreLinked, IsNext, IsPathAt}
 use Rattle.lc_walk.specs.declared.row.Row.{Row}
 use Rattle.lc_walk.proofs.Listings.{got_here}
 
@@ -58,9 +58,9 @@ module _ (rows : List (Ended Row)) where
       some_child x y e = cc
 
   -- one child more, of another number
-  other_hangs : (at j k : ℕ) (child : ChildModel) → IsNext rows at j child → child.number ≢ k → HangsSeen rows at j k
-      → HangsSeen rows at (j + 1) k
-  other_hangs at j k child n o h = record {
+  other_links : (at j k : ℕ) (child : ChildModel) → IsNext rows at j child → child.number ≢ k → IsLinkedSoFar rows at j k
+      → IsLinkedSoFar rows at (j + 1) k
+  other_links at j k child n o h = record {
     row = h.row;
     its = h.its;
     parent = h.parent;
@@ -86,28 +86,28 @@ module _ (rows : List (Ended Row)) where
       at_place (inr x) = o (one_number at j k child n (subst (λ y. IsEdge rows at y k) x.1 (subst (λ y. IsEdge rows y i k) x.0 e)))
 
   -- a child whose number is no row's marks nothing
-  pub marks_skip : (at j : ℕ) (child : ChildModel) (hung : List Bool) → IsNext rows at j child
-      → (child.number ≡ 0) ⊎ (length rows ≤ child.number) → Marks rows at j hung → Marks rows at (j + 1) hung
-  marks_skip at j child hung n out m = record {
+  pub marks_skip : (at j : ℕ) (child : ChildModel) (linked : List Bool) → IsNext rows at j child
+      → (child.number ≡ 0) ⊎ (length rows ≤ child.number) → AreLinked rows at j linked → AreLinked rows at (j + 1) linked
+  marks_skip at j child linked n out m = record {
     long = m.long;
-    unnamed = λ k some is. other_unnamed at j k child n (apart k some (slice_get_within hung k false is) out) (m.unnamed k some is);
-    hangs = λ k some is. other_hangs at j k child n (apart k some (slice_get_within hung k true is) out) (m.hangs k some is);
+    unnamed = λ k some is. other_unnamed at j k child n (apart k some (slice_get_within linked k false is) out) (m.unnamed k some is);
+    links = λ k some is. other_links at j k child n (apart k some (slice_get_within linked k true is) out) (m.links k some is);
   }
     where
-      apart : (k : ℕ) → 1 ≤ k → k < length hung → (child.number ≡ 0) ⊎ (length rows ≤ child.number) → child.number ≢ k
+      apart : (k : ℕ) → 1 ≤ k → k < length linked → (child.number ≡ 0) ⊎ (length rows ≤ child.number) → child.number ≢ k
       apart k some low (inl z) e = omega arith
       apart k some low (inr g) e = let same = m.long in omega arith
 
   -- why the rows make no tree at the child's number
-  placed_at : (k : ℕ) (e : Ended Row) → 1 ≤ k → slice_get rows k ≡ Some e → IsPlaced rows k → HangsOnce rows k (row_of e)
+  placed_at : (k : ℕ) (e : Ended Row) → 1 ≤ k → slice_get rows k ≡ Some e → IsPlaced rows k → IsLinkedOnce rows k (row_of e)
   placed_at zero e some is p = absurd (omega arith)
   placed_at (suc k) e some is p = p e is
 
-  -- a number that is named twice doesn't hang once
-  pub torn_twice : (at j : ℕ) (child : ChildModel) (hung : List Bool) → IsNext rows at j child → 1 ≤ child.number →
-      slice_get hung child.number ≡ Some true → Marks rows at j hung → IsPlaced rows child.number → ⊥
-  torn_twice at j child hung n some is m p =
-      let s = m.hangs child.number some is in
+  -- a number that is named twice isn't linked once
+  pub torn_twice : (at j : ℕ) (child : ChildModel) (linked : List Bool) → IsNext rows at j child → 1 ≤ child.number →
+      slice_get linked child.number ≡ Some true → AreLinked rows at j linked → IsPlaced rows child.number → ⊥
+  torn_twice at j child linked n some is m p =
+      let s = m.links child.number some is in
       let h = placed_at child.number s.row some s.its p in
       let mine = h.only at j (next_edge at j child n) in
       let theirs = h.only s.parent s.place s.edge in
@@ -146,14 +146,14 @@ module _ (rows : List (Ended Row)) where
       one_child x y e = cc
 
   -- the child's number gets its mark
-  pub marks_set : (at j : ℕ) (child : ChildModel) (d x : List ℕ) (hung : List Bool) → IsNext rows at j child → IsPathAt rows at d
+  pub marks_set : (at j : ℕ) (child : ChildModel) (d x : List ℕ) (linked : List Bool) → IsNext rows at j child → IsPathAt rows at d
       → IsPathAt rows child.number x → 1 ≤ child.number → child.number < length rows → at < child.number →
-      slice_get hung child.number ≡ Some false → x ≡ path_in d child.name →
-      Marks rows at j hung → Marks rows at (j + 1) (slice_set hung child.number true)
-  marks_set at j child d x hung n dir its some low up unmarked path m = record {
-    long = long hung child.number ∙ m.long;
+      slice_get linked child.number ≡ Some false → x ≡ path_in d child.name →
+      AreLinked rows at j linked → AreLinked rows at (j + 1) (slice_set linked child.number true)
+  marks_set at j child d x linked n dir its some low up unmarked path m = record {
+    long = long linked child.number ∙ m.long;
     unnamed = λ k s f. unnamed k s f (which k);
-    hangs = λ k s t. hangs k s t (which k);
+    links = λ k s t. links k s t (which k);
   }
     where
       one_row : (x y : Ended Row) → Some x ≡ Some y → x ≡ y
@@ -165,7 +165,7 @@ module _ (rows : List (Ended Row)) where
       long : (xs : List Bool) (i : ℕ) → length (slice_set xs i true) ≡ length xs
       long xs i = length_set xs i true
 
-      within : child.number < length hung
+      within : child.number < length linked
       within = let same = m.long in omega arith
 
       which : (k : ℕ) → (child.number ≡ k) ⊎ (child.number ≢ k)
@@ -175,22 +175,22 @@ module _ (rows : List (Ended Row)) where
           decide true e = inl (eqb-true child.number k e)
           decide false e = inr (λ s. (let t = eq-eqb child.number k s in let h : true ≡ false = sym t ∙ e in cc))
 
-      marked : slice_get (slice_set hung child.number true) child.number ≡ Some true
-      marked = get_set_same hung child.number true within
+      marked : slice_get (slice_set linked child.number true) child.number ≡ Some true
+      marked = get_set_same linked child.number true within
 
-      old : (k : ℕ) → child.number ≢ k → slice_get (slice_set hung child.number true) k ≡ slice_get hung k
-      old k o = get_set_other hung child.number k true (λ e. o (sym e))
+      old : (k : ℕ) → child.number ≢ k → slice_get (slice_set linked child.number true) k ≡ slice_get linked k
+      old k o = get_set_other linked child.number k true (λ e. o (sym e))
 
-      unnamed : (k : ℕ) → 1 ≤ k → slice_get (slice_set hung child.number true) k ≡ Some false → (child.number ≡ k) ⊎ (child.number ≢ k)
+      unnamed : (k : ℕ) → 1 ≤ k → slice_get (slice_set linked child.number true) k ≡ Some false → (child.number ≡ k) ⊎ (child.number ≢ k)
           → (p i : ℕ) → Seen at (j + 1) p i → IsEdge rows p i k → ⊥
-      unnamed k s f (inl e) p i z x = let t : Some true ≡ Some false = sym marked ∙ ap (slice_get (slice_set hung child.number true)) e
+      unnamed k s f (inl e) p i z x = let t : Some true ≡ Some false = sym marked ∙ ap (slice_get (slice_set linked child.number true)) e
           ∙ f in cc
       unnamed k s f (inr o) p i z x = other_unnamed at j k child n o (m.unnamed k s (sym (old k o) ∙ f)) p i z x
 
-      hangs : (k : ℕ) → 1 ≤ k → slice_get (slice_set hung child.number true) k ≡ Some true → (child.number ≡ k) ⊎ (child.number ≢ k)
-          → HangsSeen rows at (j + 1) k
-      hangs k s t (inr o) = other_hangs at j k child n o (m.hangs k s (sym (old k o) ∙ t))
-      hangs k s t (inl e) = subst (HangsSeen rows at (j + 1)) e (record {
+      links : (k : ℕ) → 1 ≤ k → slice_get (slice_set linked child.number true) k ≡ Some true → (child.number ≡ k) ⊎ (child.number ≢ k)
+          → IsLinkedSoFar rows at (j + 1) k
+      links k s t (inr o) = other_links at j k child n o (m.links k s (sym (old k o) ∙ t))
+      links k s t (inl e) = subst (IsLinkedSoFar rows at (j + 1)) e (record {
         row = its.row;
         its = its.is;
         parent = at;
@@ -207,12 +207,12 @@ module _ (rows : List (Ended Row)) where
           only p i edge (inr x) = x
 
   -- all children of a row were seen
-  pub marks_row : (at : ℕ) (e : Ended Row) (hung : List Bool) → slice_get rows at ≡ Some e
-      → Marks rows at (length (children_in (row_of e))) hung → Marks rows (at + 1) 0 hung
-  marks_row at e hung is m = record {
+  pub marks_row : (at : ℕ) (e : Ended Row) (linked : List Bool) → slice_get rows at ≡ Some e
+      → AreLinked rows at (length (children_in (row_of e))) linked → AreLinked rows (at + 1) 0 linked
+  marks_row at e linked is m = record {
     long = m.long;
     unnamed = λ k s f p i z edge. m.unnamed k s f p i (back p i k edge z) edge;
-    hangs = λ k s t. (let h = m.hangs k s t in record {
+    links = λ k s t. (let h = m.links k s t in record {
       row = h.row;
       its = h.its;
       parent = h.parent;
@@ -251,11 +251,11 @@ module _ (rows : List (Ended Row)) where
   no_marks (suc n) (suc k) e = no_marks n k e
 
   -- at first nothing is marked
-  pub marks_start : (hung : List Bool) → hung ≡ replicate (length rows) false → length hung ≡ length rows → Marks rows 0 0 hung
-  marks_start hung is long = record {
+  pub marks_start : (linked : List Bool) → linked ≡ replicate (length rows) false → length linked ≡ length rows → AreLinked rows 0 0 linked
+  marks_start linked is long = record {
     long = long;
     unnamed = λ k s f p i z edge. none p i z;
-    hangs = λ k s t. absurd (no_marks (length rows) k (ap (λ l. slice_get l k) (sym is) ∙ t));
+    links = λ k s t. absurd (no_marks (length rows) k (ap (λ l. slice_get l k) (sym is) ∙ t));
   }
     where
       none : (p i : ℕ) → Seen 0 0 p i → ⊥
@@ -266,19 +266,19 @@ module _ (rows : List (Ended Row)) where
   all_seen : (p i k : ℕ) → IsEdge rows p i k → Seen (length rows) 0 p i
   all_seen p i k edge = inl (slice_get_within rows p edge.above edge.is)
 
-  -- a number that is not named hangs nowhere
-  pub torn_unnamed : (k : ℕ) (hung : List Bool) → 1 ≤ k → k < length rows → slice_get hung k ≡ Some false
-      → Marks rows (length rows) 0 hung → IsPlaced rows k → ⊥
-  torn_unnamed k hung some low is m p =
+  -- a number that is not named is linked nowhere
+  pub torn_unnamed : (k : ℕ) (linked : List Bool) → 1 ≤ k → k < length rows → slice_get linked k ≡ Some false
+      → AreLinked rows (length rows) 0 linked → IsPlaced rows k → ⊥
+  torn_unnamed k linked some low is m p =
       let r = got_here rows k low in
       let h = placed_at k r.0 some r.1 p in
       m.unnamed k some is h.parent h.at (all_seen h.parent h.at k h.edge) h.edge
 
-  -- a marked number hangs once
-  pub hangs_now : (k : ℕ) (hung : List Bool) (e : Ended Row) → 1 ≤ k → slice_get rows k ≡ Some e → slice_get hung k ≡ Some true
-      → Marks rows (length rows) 0 hung → HangsOnce rows k (row_of e)
-  hangs_now k hung e some is t m =
-      let h = m.hangs k some t in
+  -- a marked number is linked once
+  pub links_now : (k : ℕ) (linked : List Bool) (e : Ended Row) → 1 ≤ k → slice_get rows k ≡ Some e → slice_get linked k ≡ Some true
+      → AreLinked rows (length rows) 0 linked → IsLinkedOnce rows k (row_of e)
+  links_now k linked e some is t m =
+      let h = m.links k some t in
       let row : h.row ≡ e = one_row h.row e (sym h.its ∙ is) in
       record {
         parent = h.parent;
@@ -304,9 +304,9 @@ module _ (rows : List (Ended Row)) where
       one_row x y e = cc
 
   -- where all are marked the rows make a tree
-  pub all_placed : (hung : List Bool) (e : Ended Row) → slice_get rows 0 ≡ Some e → (job_of (row_of e)).path ≡ []
-      → Marks rows (length rows) 0 hung →
-      ((k : ℕ) → 1 ≤ k → k < length rows → slice_get hung k ≡ Some true) → (k : ℕ) → IsPlaced rows k
-  all_placed hung e is top m all zero = (e, is, top)
-  all_placed hung e is top m all (suc k) = λ d here. hangs_now (suc k) hung d (omega arith) here
+  pub all_placed : (linked : List Bool) (e : Ended Row) → slice_get rows 0 ≡ Some e → (job_of (row_of e)).path ≡ []
+      → AreLinked rows (length rows) 0 linked →
+      ((k : ℕ) → 1 ≤ k → k < length rows → slice_get linked k ≡ Some true) → (k : ℕ) → IsPlaced rows k
+  all_placed linked e is top m all zero = (e, is, top)
+  all_placed linked e is top m all (suc k) = λ d here. links_now (suc k) linked d (omega arith) here
       (all (suc k) (omega arith) (slice_get_within rows (suc k) d here)) m

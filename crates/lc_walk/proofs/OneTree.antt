@@ -14,7 +14,7 @@ use Rattle.lc_level.specs.Job.{JobModel}
 use Rattle.lc_level.specs.Level.{level, child_job}
 use Rattle.lc_level.specs.Selection.{SelectionModel}
 use Rattle.lc_walk.specs.Found.{children_of, children_at}
-use Rattle.lc_walk.specs.FoundAt.{LeavesIn, LeadsTo}
+use Rattle.lc_walk.specs.FoundAt.{WalksInto, LeadsTo}
 use Rattle.lc_walk.specs.Lawful.{Asked, jobs_of}
 use Rattle.lc_walk.specs.Rows.{row_of, job_of}
 use Rattle.lc_walk.specs.WalkAnswers.{IsOneAnswer}
@@ -23,16 +23,16 @@ use Rattle.lc_walk.specs.declared.row.Row.{Row}
 use Rattle.lc_walk.proofs.Core.{same_head, same_tail}
 use Rattle.lc_walk.proofs.Elements.{In}
 use Rattle.lc_walk.proofs.FoundByPlace.{child_by_level}
-use Rattle.lc_walk.proofs.Law.{row_here, job_or, job_at, inside, there, top_job, own_jobs, fits}
+use Rattle.lc_walk.proofs.Law.{row_here, job_or, job_at, inside, there, job_at_top, own_jobs, fits}
 use Rattle.lc_walk.proofs.Levels.{IsChild}
 use Rattle.lc_walk.proofs.Places.{names_of_path-path_in}
 
 -- where names lead to a directory that leaves in a child, they lead on to the child
 pub leads_on : (selection : SelectionModel) (place : List (List ℕ)) (j k inside : JobModel) (name : List ℕ) (t : Tree)
-    → LeadsTo selection j t place k → LeavesIn selection k (t place) name inside
+    → LeadsTo selection j t place k → WalksInto selection k (t place) name inside
     → LeadsTo selection j t (place ++ name ∷ []) (child_job inside name)
 leads_on selection [] j k inside name t e l =
-    (inside, subst (λ (i : JobModel). LeavesIn selection i (t []) name inside) (sym e) l, refl)
+    (inside, subst (λ (i : JobModel). WalksInto selection i (t []) name inside) (sym e) l, refl)
 leads_on selection (n ∷ place) j k inside name t (i, l, more) leaves =
     (i, l, leads_on selection place (child_job i n) k inside name (λ p. t (n ∷ p)) more leaves)
 
@@ -103,7 +103,7 @@ module _ (ask : Asked) (full : Bool) (capacity workers : ℕ) (top : JobModel) (
   led_by k (inl first) above =
       subst IsLed (sym first)
       (subst (λ (j : JobModel). LeadsTo ask.selection top t (names_of_path j.path) j)
-      (sym (top_job ask full capacity workers top h rows answers walked))
+      (sym (job_at_top ask full capacity workers top h rows answers walked))
       (subst (λ p. LeadsTo ask.selection top t (names_of_path p) top) (sym at_top) refl))
   led_by k (inr (p, a, i)) above =
       led_below p k a (above p (posted_above capacity workers top h walked.legal p k i) a) i

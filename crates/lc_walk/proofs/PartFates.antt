@@ -9,7 +9,7 @@ use Rattle.lc_level.specs.Level.{Reason, other_kind, Fate, counted, failed, walk
 use Rattle.lc_level.specs.Level.{level_of, level_after, fate_of, file_fate, reason_of, child_job}
 use Rattle.lc_level.specs.RuleFiles.{RuleBytes, rule_bytes}
 use Rattle.lc_level.specs.Selection.{SelectionModel, narrowed}
-use Rattle.lc_level.proofs.Tidy.{IsGoodName, Spread}
+use Rattle.lc_level.proofs.WellFormed.{IsGoodName, Spread}
 use Rattle.lc_tree.specs.declared.entry.Kind.{Kind}
 use Rattle.lc_tree.specs.declared.entry.Kind.TheVariants.{File, Dir, Other}
 use Rattle.lc_level.specs.declared.fault_word.FaultWord.{FaultWord}
@@ -17,22 +17,22 @@ use Rattle.lc_walk.proofs.Elements.{In}
 use Rattle.lc_walk.proofs.Levels.{IsOwnPlace, own_level_keeps}
 
 -- an entry of this kind may have such a fate
-abbrev pub Fits : Fate → Kind → Type 0
-Fits (counted f) kind = kind ≡ File
-Fits (failed word) kind = kind ≡ File
-Fits (walked job) kind = kind ≡ Dir
-Fits (left out reason) kind = kind ≡ out
+abbrev pub IsFateOf : Fate → Kind → Type 0
+IsFateOf (counted f) kind = kind ≡ File
+IsFateOf (failed word) kind = kind ≡ File
+IsFateOf (walked job) kind = kind ≡ Dir
+IsFateOf (left out reason) kind = kind ≡ out
 
-fits_by : (kind : Kind) (own : Fate) → Fits own kind → (o : Option Reason) → Fits (option_map_or (left kind) o own) kind
+fits_by : (kind : Kind) (own : Fate) → IsFateOf own kind → (o : Option Reason) → IsFateOf (option_map_or (left kind) o own) kind
 fits_by kind own is None = is
 fits_by kind own is (Some reason) = refl
 
-fits_count : (k : JobModel) (n : List ℕ) (c : Result Count FaultWord) → Fits (file_fate k n c) File
+fits_count : (k : JobModel) (n : List ℕ) (c : Result Count FaultWord) → IsFateOf (file_fate k n c) File
 fits_count k n (Ok count) = refl
 fits_count k n (Err word) = refl
 
 -- each has one that fits it
-pub fits : (s : SelectionModel) (k : JobModel) (item : Item) → Fits (fate_of s k item) (entry_of item).kind
+pub fits : (s : SelectionModel) (k : JobModel) (item : Item) → IsFateOf (fate_of s k item) (entry_of item).kind
 fits s k (file_item n c rules) = fits_by File (file_fate k n c) (fits_count k n c) (reason_of s k n false)
 fits s k (directory_item n) = fits_by Dir (walked (child_job k n)) refl (reason_of s k n true)
 fits s k (other_item n) = fits_by Other (left Other other_kind) refl (reason_of s k n false)

@@ -8,22 +8,22 @@ use Rattle.lc_level.specs.Level.{CountedModel, LeftModel, Fate, counted, failed,
 use Rattle.lc_level.specs.Level.{fate_of, child_job}
 use Rattle.lc_level.specs.Narrowing.{part_of, takes_part}
 use Rattle.lc_level.specs.Selection.{SelectionModel, narrowed}
-use Rattle.lc_level.specs.Tidy.{IsTidy}
+use Rattle.lc_level.specs.WellFormed.{IsWellFormed}
 use Rattle.lc_level.proofs.AskedPaths.{all_take_part}
-use Rattle.lc_level.proofs.Tidy.{IsGoodName}
+use Rattle.lc_level.proofs.WellFormed.{IsGoodName}
 use Rattle.lc_tree.specs.declared.entry.Kind.{Kind}
 use Rattle.lc_tree.specs.declared.entry.Kind.TheVariants.{File, Dir}
 use Rattle.lc_level.specs.declared.fault_word.FaultWord.{FaultWord}
 use Rattle.lc_level.specs.declared.fault_word.FaultWord.TheVariants.{Absent}
 use Rattle.lc_walk.specs.Found.{Found, found_file, found_fault, found_directory, found_left}
-use Rattle.lc_walk.specs.FoundAt.{IsListed, LeavesIn, LeadsTo, HasEntry, Gives, IsFoundIn}
+use Rattle.lc_walk.specs.FoundAt.{IsListed, WalksInto, LeadsTo, HasEntry, Gives, IsFoundIn}
 use Rattle.lc_walk.specs.PartOfWalk.{IsWithin, EntryTakesPart, IsOnWay, IsFaultOnWay, Lists, PartOfWalkLaw}
 use Rattle.lc_walk.specs.PartOfWalk.{whole_walk, part_walk}
 use Rattle.lc_walk.proofs.AbsentPaths.{absent_asked}
 use Rattle.lc_walk.proofs.Elements.{In, is_in, contains}
 use Rattle.lc_walk.proofs.FoundByPlace.{found_law}
-use Rattle.lc_walk.proofs.Levels.{IsOwnPlace, tidy_items}
-use Rattle.lc_walk.proofs.PartFates.{Fits, fits, same_fate, same_fault, fault_at, spread_good}
+use Rattle.lc_walk.proofs.Levels.{IsOwnPlace, well_formed_items}
+use Rattle.lc_walk.proofs.PartFates.{IsFateOf, fits, same_fate, same_fault, fault_at, spread_good}
 use Rattle.lc_walk.proofs.PartsOfTrees.{by_part, of_part}
 use Rattle.lc_walk.proofs.PathsWithin.{IsAtOrBelow, name_below, name_some, path_some, below_at, on_way_of_child, on_way_up}
 use Rattle.lc_walk.proofs.PathsWithin.{within_file, directory_takes, takes_on_way}
@@ -55,22 +55,22 @@ module _ (s : SelectionModel) (only : List (List ℕ)) where
       → Contains (part_of only d items) item
   in_part_of d items item i e = contains item (part_of only d items) (of_filter (λ x. takes_part only d (entry_of x)) item items i e)
 
-  entry_good : (j : JobModel) (a : Answers) (n : List ℕ) (fate : Fate) → IsTidy a → HasEntry whole j a n fate → IsGoodName n
-  entry_good j a n fate tidy h =
+  entry_good : (j : JobModel) (a : Answers) (n : List ℕ) (fate : Fate) → IsWellFormed a → HasEntry whole j a n fate → IsGoodName n
+  entry_good j a n fate well_formed h =
       subst IsGoodName h.named
-      (spread_good h.item h.items (tidy_items a tidy h.items h.listed.here) (in_whole j.path h.items h.item h.has))
+      (spread_good h.item h.items (well_formed_items a well_formed h.items h.listed.here) (in_whole j.path h.items h.item h.has))
 
-  part_entry : (j : JobModel) (a : Answers) (n : List ℕ) (fate : Fate) → IsTidy a → HasEntry whole j a n fate
-      → ((kind : Kind) → Fits fate kind → EntryTakesPart only kind (path_in j.path n)) → HasEntry part j a n fate
-  part_entry j a n fate tidy h takes = record {
+  part_entry : (j : JobModel) (a : Answers) (n : List ℕ) (fate : Fate) → IsWellFormed a → HasEntry whole j a n fate
+      → ((kind : Kind) → IsFateOf fate kind → EntryTakesPart only kind (path_in j.path n)) → HasEntry part j a n fate
+  part_entry j a n fate well_formed h takes = record {
     items = h.items;
     inside = h.inside;
     listed = h.listed;
     item = h.item;
     has = in_part_of j.path h.items h.item here
-        (of_part only j.path (entry_of h.item) (spread_good h.item h.items (tidy_items a tidy h.items h.listed.here) here)
+        (of_part only j.path (entry_of h.item) (spread_good h.item h.items (well_formed_items a well_formed h.items h.listed.here) here)
         (subst (λ m. EntryTakesPart only (entry_of h.item).kind (path_in j.path m)) (sym h.named)
-        (takes (entry_of h.item).kind (subst (λ f. Fits f (entry_of h.item).kind) h.fate_is (fits whole h.inside h.item)))));
+        (takes (entry_of h.item).kind (subst (λ f. IsFateOf f (entry_of h.item).kind) h.fate_is (fits whole h.inside h.item)))));
     named = h.named;
     fate_is = same_fate s only [] h.inside h.item ∙ h.fate_is;
   }
@@ -78,23 +78,23 @@ module _ (s : SelectionModel) (only : List (List ℕ)) where
       here : In h.item h.items
       here = in_whole j.path h.items h.item h.has
 
-  leaves_part : (j : JobModel) (a : Answers) (n : List ℕ) (inside : JobModel) → IsTidy a → LeavesIn whole j a n inside
-      → EntryTakesPart only Dir (path_in j.path n) → LeavesIn part j a n inside
-  leaves_part j a n inside tidy l takes = record {
+  leaves_part : (j : JobModel) (a : Answers) (n : List ℕ) (inside : JobModel) → IsWellFormed a → WalksInto whole j a n inside
+      → EntryTakesPart only Dir (path_in j.path n) → WalksInto part j a n inside
+  leaves_part j a n inside well_formed l takes = record {
     items = l.items;
     listed = l.listed;
     has = in_part_of j.path l.items (directory_item n) here
         (of_part only j.path (entry_of (directory_item n))
-        (spread_good (directory_item n) l.items (tidy_items a tidy l.items l.listed.here) here) takes);
+        (spread_good (directory_item n) l.items (well_formed_items a well_formed l.items l.listed.here) here) takes);
     taken = l.taken;
   }
     where
       here : In (directory_item n) l.items
       here = in_whole j.path l.items (directory_item n) l.has
 
-  child_good : (j : JobModel) (a : Answers) (n : List ℕ) (inside : JobModel) → IsTidy a → LeavesIn whole j a n inside → IsGoodName n
-  child_good j a n inside tidy l =
-      spread_good (directory_item n) l.items (tidy_items a tidy l.items l.listed.here) (in_whole j.path l.items (directory_item n) l.has)
+  child_good : (j : JobModel) (a : Answers) (n : List ℕ) (inside : JobModel) → IsWellFormed a → WalksInto whole j a n inside → IsGoodName n
+  child_good j a n inside well_formed l =
+      spread_good (directory_item n) l.items (well_formed_items a well_formed l.items l.listed.here) (in_whole j.path l.items (directory_item n) l.has)
 
   -- ---- the directories on the way
 
@@ -108,23 +108,23 @@ module _ (s : SelectionModel) (only : List (List ℕ)) where
       (inr (below_at k.path (path_in inside.path n) inside.path
       (reach place (child_job inside n) k (λ p. t (n ∷ p)) more (path_some inside.path n there)) (name_below inside.path n there)))
 
-  leads_part : (place : List (List ℕ)) (j k : JobModel) (t : Tree) → ((p : List (List ℕ)) → IsTidy (t p)) → LeadsTo whole j t place k
+  leads_part : (place : List (List ℕ)) (j k : JobModel) (t : Tree) → ((p : List (List ℕ)) → IsWellFormed (t p)) → LeadsTo whole j t place k
       → IsOnWay only k.path → LeadsTo part j t place k
-  leads_part [] j k t tidy e on = e
-  leads_part (n ∷ place) j k t tidy (inside, l, more) on =
+  leads_part [] j k t well_formed e on = e
+  leads_part (n ∷ place) j k t well_formed (inside, l, more) on =
       let same : inside.path ≡ j.path = inside_path j inside (t []) l.items l.listed in
-      let there : path_in inside.path n ≢ [] = name_some inside.path n (child_good j (t []) n inside (tidy []) l) in
+      let there : path_in inside.path n ≢ [] = name_some inside.path n (child_good j (t []) n inside (well_formed []) l) in
       let takes : EntryTakesPart only Dir (path_in inside.path n) =
       directory_takes only (path_in inside.path n)
       (on_way_up only k.path (path_in inside.path n) there (reach place (child_job inside n) k (λ p. t (n ∷ p)) more there) on) in (
         inside,
-        leaves_part j (t []) n inside (tidy []) l (subst (λ p. EntryTakesPart only Dir (path_in p n)) same takes),
-        leads_part place (child_job inside n) k (λ p. t (n ∷ p)) (λ p. tidy (n ∷ p)) more on,
+        leaves_part j (t []) n inside (well_formed []) l (subst (λ p. EntryTakesPart only Dir (path_in p n)) same takes),
+        leads_part place (child_job inside n) k (λ p. t (n ∷ p)) (λ p. well_formed (n ∷ p)) more on,
       )
 
   module _ (some : only ≢ []) (good : AllByRecursion (λ path. is_good_path path ≡ true) only) where
     whole_entry : (j : JobModel) (a : Answers) (n : List ℕ) (fate : Fate) → HasEntry part j a n fate
-        → HasEntry whole j a n fate × (kind : Kind) × Fits fate kind × EntryTakesPart only kind (path_in j.path n)
+        → HasEntry whole j a n fate × (kind : Kind) × IsFateOf fate kind × EntryTakesPart only kind (path_in j.path n)
     whole_entry j a n fate h =
         let i = in_part j.path h.items h.item h.has in
         let is : fate_of whole h.inside h.item ≡ fate = same_fate s [] only h.inside h.item ∙ h.fate_is in (
@@ -138,7 +138,7 @@ module _ (s : SelectionModel) (only : List (List ℕ)) where
             fate_is = is;
           },
           (entry_of h.item).kind,
-          subst (λ f. Fits f (entry_of h.item).kind) is (fits whole h.inside h.item),
+          subst (λ f. IsFateOf f (entry_of h.item).kind) is (fits whole h.inside h.item),
           subst (λ m. EntryTakesPart only (entry_of h.item).kind (path_in j.path m)) h.named
               (by_part only j.path (entry_of h.item) some good i.1),
         )
@@ -168,7 +168,7 @@ module _ (s : SelectionModel) (only : List (List ℕ)) where
 
     -- ---- the walk
 
-    module _ (depth : ℕ) (top : JobModel) (t : Tree) (at_top : top.path ≡ []) (tidy : (place : List (List ℕ)) → IsTidy (t place)) where
+    module _ (depth : ℕ) (top : JobModel) (t : Tree) (at_top : top.path ≡ []) (well_formed : (place : List (List ℕ)) → IsWellFormed (t place)) where
       in_whole_walk : (x : Found) → IsFoundIn whole depth top t x → Contains (whole_walk s only depth top t) x
       in_whole_walk x r = (found_law whole depth top t x).1 r
 
@@ -189,15 +189,15 @@ module _ (s : SelectionModel) (only : List (List ℕ)) where
           IsWithin only (path_in directory f.name) → Contains (part_walk s only depth top t) (found_file directory f)
       has_file directory f r within =
           let here : IsWithin only (path_in r.job.path f.name) = subst (λ d. IsWithin only (path_in d f.name)) r.gives.0 within in
-          let name = entry_good r.job (t r.place) f.name (counted f) (tidy r.place) r.gives.1 in
+          let name = entry_good r.job (t r.place) f.name (counted f) (well_formed r.place) r.gives.1 in
           in_part_walk _ (record {
             place = r.place;
             shallow = r.shallow;
             job = r.job;
-            leads = leads_part r.place top r.job t tidy r.leads (on_way_of_child only r.job.path f.name File name (inl here));
+            leads = leads_part r.place top r.job t well_formed r.leads (on_way_of_child only r.job.path f.name File name (inl here));
             gives = (
               r.gives.0,
-              part_entry r.job (t r.place) f.name (counted f) (tidy r.place) r.gives.1 (λ kind is. inl here),
+              part_entry r.job (t r.place) f.name (counted f) (well_formed r.place) r.gives.1 (λ kind is. inl here),
             );
           })
 
@@ -216,15 +216,15 @@ module _ (s : SelectionModel) (only : List (List ℕ)) where
       has_left_out directory l r takes =
           let here : EntryTakesPart only l.kind (path_in r.job.path l.name) =
           subst (λ d. EntryTakesPart only l.kind (path_in d l.name)) r.gives.0 takes in
-          let name = entry_good r.job (t r.place) l.name (left l.kind l.reason) (tidy r.place) r.gives.1 in
+          let name = entry_good r.job (t r.place) l.name (left l.kind l.reason) (well_formed r.place) r.gives.1 in
           in_part_walk _ (record {
             place = r.place;
             shallow = r.shallow;
             job = r.job;
-            leads = leads_part r.place top r.job t tidy r.leads (on_way_of_child only r.job.path l.name l.kind name here);
+            leads = leads_part r.place top r.job t well_formed r.leads (on_way_of_child only r.job.path l.name l.kind name here);
             gives = (
               r.gives.0,
-              part_entry r.job (t r.place) l.name (left l.kind l.reason) (tidy r.place) r.gives.1
+              part_entry r.job (t r.place) l.name (left l.kind l.reason) (well_formed r.place) r.gives.1
                   (λ kind is. subst (λ k. EntryTakesPart only k (path_in r.job.path l.name)) (sym is) here),
             );
           })
@@ -256,7 +256,7 @@ module _ (s : SelectionModel) (only : List (List ℕ)) where
               place = r.place;
               shallow = r.shallow;
               job = r.job;
-              leads = leads_part r.place top r.job t tidy r.leads (subst (IsOnWay only) r.gives.0 on);
+              leads = leads_part r.place top r.job t well_formed r.leads (subst (IsOnWay only) r.gives.0 on);
               gives = (r.gives.0, record { items = h.items; inside = h.inside; listed = h.listed; many = refl });
             }),
           )
@@ -302,7 +302,7 @@ module _ (s : SelectionModel) (only : List (List ℕ)) where
             place = f.place;
             shallow = f.shallow;
             job = f.job;
-            leads = leads_part f.place top f.job t tidy f.leads f.on_way;
+            leads = leads_part f.place top f.job t well_formed f.leads f.on_way;
             gives = inl (same_fault s [] only f.job (t f.place) path word f.fault);
           })
 
@@ -326,30 +326,30 @@ module _ (s : SelectionModel) (only : List (List ℕ)) where
           })
       has_fault path word r (inr (inl (n, e, h))) (inl within) =
           let here : IsWithin only (path_in r.job.path n) = subst (IsWithin only) e within in
-          let name = entry_good r.job (t r.place) n (failed word) (tidy r.place) h in
+          let name = entry_good r.job (t r.place) n (failed word) (well_formed r.place) h in
           in_part_walk _ (record {
             place = r.place;
             shallow = r.shallow;
             job = r.job;
-            leads = leads_part r.place top r.job t tidy r.leads (on_way_of_child only r.job.path n File name (inl here));
-            gives = inr (inl (n, e, part_entry r.job (t r.place) n (failed word) (tidy r.place) h (λ kind is. inl here)));
+            leads = leads_part r.place top r.job t well_formed r.leads (on_way_of_child only r.job.path n File name (inl here));
+            gives = inr (inl (n, e, part_entry r.job (t r.place) n (failed word) (well_formed r.place) h (λ kind is. inl here)));
           })
       has_fault path word r (inr (inr (rest, e, is, h))) (inl within) = absurd (is_in rest [] h.absent)
 
 -- so a walk of some paths finds of the whole
 pub part_law : PartOfWalkLaw
-part_law s only some good depth top t at_top tidy =
+part_law s only some good depth top t at_top well_formed =
     record {
-      file = λ d f c. file s only some good depth top t at_top tidy d f ((found_law (narrowed s only) depth top t _).0 c);
-      has_file = λ d f c. has_file s only some good depth top t at_top tidy d f ((found_law (narrowed s []) depth top t _).0 c);
-      left = λ d l c. left_out s only some good depth top t at_top tidy d l ((found_law (narrowed s only) depth top t _).0 c);
-      has_left = λ d l c. has_left_out s only some good depth top t at_top tidy d l ((found_law (narrowed s []) depth top t _).0 c);
-      directory = λ p c. directory s only some good depth top t at_top tidy p c.0 ((found_law (narrowed s only) depth top t _).0 c.1);
-      has_directory = λ p c. has_directory s only some good depth top t at_top tidy p c.0 ((found_law (narrowed s []) depth top t _).0 c.1);
+      file = λ d f c. file s only some good depth top t at_top well_formed d f ((found_law (narrowed s only) depth top t _).0 c);
+      has_file = λ d f c. has_file s only some good depth top t at_top well_formed d f ((found_law (narrowed s []) depth top t _).0 c);
+      left = λ d l c. left_out s only some good depth top t at_top well_formed d l ((found_law (narrowed s only) depth top t _).0 c);
+      has_left = λ d l c. has_left_out s only some good depth top t at_top well_formed d l ((found_law (narrowed s []) depth top t _).0 c);
+      directory = λ p c. directory s only some good depth top t at_top well_formed p c.0 ((found_law (narrowed s only) depth top t _).0 c.1);
+      has_directory = λ p c. has_directory s only some good depth top t at_top well_formed p c.0 ((found_law (narrowed s []) depth top t _).0 c.1);
       fault = λ p w c.
           let r = (found_law (narrowed s only) depth top t (found_fault p w)).0 c in
-          fault s only some good depth top t at_top tidy p w r r.gives;
+          fault s only some good depth top t at_top well_formed p w r r.gives;
       has_fault = λ p w c.
           let r = (found_law (narrowed s []) depth top t (found_fault p w)).0 c in
-          has_fault s only some good depth top t at_top tidy p w r r.gives;
+          has_fault s only some good depth top t at_top well_formed p w r r.gives;
     }

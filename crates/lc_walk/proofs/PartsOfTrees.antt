@@ -7,7 +7,7 @@ use Rattle.lc_glob.specs.Lists.{is_empty}
 use Rattle.lc_glob.specs.Path.{path_in, is_good_path}
 use Rattle.lc_level.specs.Narrowing.{after, stands_below, rest_from, is_whole, leads_to, rests, takes_part}
 use Rattle.lc_level.proofs.AskedPaths.{after_is, after_front, rest_is, passes, any_seen, leads_once}
-use Rattle.lc_level.proofs.Tidy.{IsGoodName, bytes_same, same_bytes}
+use Rattle.lc_level.proofs.WellFormed.{IsGoodName, bytes_same, same_bytes}
 use Rattle.lc_tree.specs.Kinds.{is_dir}
 use Rattle.lc_tree.specs.Listing.{EntryModel}
 use Rattle.lc_walk.specs.PartOfWalk.{IsBelow, IsWithin, EntryTakesPart}

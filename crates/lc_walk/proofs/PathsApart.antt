@@ -8,7 +8,7 @@ use Rattle.std.proofs.lemmas.Map.Keys.{IsDistinct-IsPermutation}
 use Rattle.std.proofs.lemmas.Map.Text.{is_eq-slice_cmp}
 use Rattle.lc_tree.specs.ByteOrder.{bytes_cmp, AreApart}
 use Rattle.lc_level.specs.FaultLines.{FaultLineModel}
-use Rattle.lc_level.proofs.Tidy.{other_bytes, bytes_other}
+use Rattle.lc_level.proofs.WellFormed.{other_bytes, bytes_other}
 use Rattle.lc_board.proofs.Weights.{each-append}
 use Rattle.lc_walk.specs.Found.{Found, found_file, found_fault, found_directory, found_left, path_of}
 use Rattle.lc_walk.specs.Laws.{PathsOnceLaw}
@@ -47,7 +47,7 @@ apart_moved xs ys = IsDistinct-IsPermutation _ ((eq_by_cmp_equiv nat_list_cmp_to
 
 -- no path stands twice in a walk
 pub paths_once_law : PathsOnceLaw
-paths_once_law selection depth j t tidy = apart_from_distinct (map path_of (walk_of selection depth j t)) (fine selection depth j t tidy).1
+paths_once_law selection depth j t well_formed = apart_from_distinct (map path_of (walk_of selection depth j t)) (fine selection depth j t well_formed).1
 
 -- nor in what was found in another order
 pub found_apart : (xs ys : List Found) → IsPermutation xs ys → AreApart (map path_of xs) → AreApart (map path_of ys)

@@ -1,4 +1,4 @@
--- No path stands twice in a walk of a tree whose listings are tidy.
+-- No path stands twice in a walk of a tree whose listings are well-formed.
 use Rattle.std.proofs.Common.{◌≡◌, ◌≢◌, ℕ, zero, suc, not, Bool, true, false, cond, List, [], ◌∷◌, ◌++◌, map, refl, sym, ◌∙◌, ap}
 use Rattle.std.proofs.Common.{◌&&◌, length, subst, inl, inr, Option, Some, None, Result, Ok, Err, append_assoc, append-nil, bytes_eq}
 use Rattle.std.specs.List.{flat_map, AllByRecursion}
@@ -20,13 +20,13 @@ use Rattle.lc_level.specs.Narrowing.{stands_below, leads_to, part_of, absent_fro
 use Rattle.lc_level.specs.Selection.{SelectionModel}
 use Rattle.lc_walk.specs.Found.{Found, found_directory, found_absent, path_of, found_by, found_of, found_at, children_of, children_at}
 use Rattle.lc_walk.specs.Walk.{walks_below, walk_by}
-use Rattle.lc_level.specs.Tidy.{IsTidy}
+use Rattle.lc_level.specs.WellFormed.{IsWellFormed}
 use Rattle.lc_board.proofs.Weights.{each-map, each-append}
-use Rattle.lc_level.proofs.Tidy.{IsGoodName, Spread, bytes_other}
+use Rattle.lc_level.proofs.WellFormed.{IsGoodName, Spread, bytes_other}
 use Rattle.lc_walk.proofs.AbsentPaths.{names_of_rest, not_below, not_above, rests_apart, neither, NoneLeads}
 use Rattle.lc_walk.proofs.AbsentPaths.{absent_distinct, absent_asked, absent_leads}
 use Rattle.lc_walk.proofs.Distinct.{Distinct, distinct-append, picked, each_picked, picked_distinct, picked_apart}
-use Rattle.lc_walk.proofs.Levels.{IsOwnPlace, own_level_keeps, tidy_items, IsChild, each_child}
+use Rattle.lc_walk.proofs.Levels.{IsOwnPlace, own_level_keeps, well_formed_items, IsChild, each_child}
 use Rattle.lc_walk.proofs.PathGroups.{Below, Under, Group, IsGroup, groups_distinct, groups_below, groups_above}
 use Rattle.lc_walk.proofs.PathNames.{one_name}
 use Rattle.lc_walk.proofs.Places.{names_of_path-path_in}
@@ -346,11 +346,11 @@ module _ (selection : SelectionModel) where
   own_below d p (inr (inr e)) = (names_of_path p, ap (λ x. names_of_path x ++ names_of_path p) (sym e))
 
   -- so no path stands twice in the walk
-  pub fine : (k : ℕ) (j : JobModel) (t : Tree) → ((p : List (List ℕ)) → IsTidy (t p)) → IsFine j.path (paths (walk k j t))
-  fine zero j t tidy = (tt, tt)
-  fine (suc k) j t tidy =
+  pub fine : (k : ℕ) (j : JobModel) (t : Tree) → ((p : List (List ℕ)) → IsWellFormed (t p)) → IsFine j.path (paths (walk k j t))
+  fine zero j t well_formed = (tt, tt)
+  fine (suc k) j t well_formed =
       own_level_keeps
       (λ l. IsFine j.path (paths (found_of j l ++ walks_below (found_at selection) (children_at selection) (walk k) t (children_of l))))
       selection j (t [])
       (λ p w o. ((own_below j.path p o, tt), (tt, tt)))
-      (λ es e b. of_items k (extended j b) t es (tidy_items (t []) (tidy []) es e) (λ i u. fine k i (λ p. t (u ∷ p)) (λ p. tidy (u ∷ p))))
+      (λ es e b. of_items k (extended j b) t es (well_formed_items (t []) (well_formed []) es e) (λ i u. fine k i (λ p. t (u ∷ p)) (λ p. well_formed (u ∷ p))))

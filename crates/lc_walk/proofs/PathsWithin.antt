@@ -4,7 +4,7 @@ use Rattle.std.proofs.Common.{eq-eqb}
 use Rattle.std.specs.List.{Contains, AllByRecursion}
 use Rattle.std.proofs.lemmas.List.{append_cancel_left}
 use Rattle.lc_glob.specs.Path.{path_in, is_good_path}
-use Rattle.lc_level.proofs.Tidy.{IsGoodName, clash}
+use Rattle.lc_level.proofs.WellFormed.{IsGoodName, clash}
 use Rattle.lc_tree.specs.Kinds.{is_dir}
 use Rattle.lc_tree.specs.declared.entry.Kind.{Kind}
 use Rattle.lc_tree.specs.declared.entry.Kind.TheVariants.{File, Dir}

@@ -4,7 +4,7 @@ use Rattle.std.specs.List.{AllByRecursion, list_any}
 use Rattle.lc_glob.specs.Path.{path_in}
 use Rattle.lc_tree.specs.Paths.{names_of_path}
 use Rattle.lc_tree.proofs.NodesIn.{names_below}
-use Rattle.lc_level.proofs.Tidy.{IsGoodName}
+use Rattle.lc_level.proofs.WellFormed.{IsGoodName}
 
 no_slash : (n : List ℕ) → AllByRecursion (λ b. (b == 47) ≡ false) n → list_any (λ b. b == 47) n ≡ false
 no_slash [] a = refl

@@ -14,10 +14,10 @@ use Rattle.lc_walk.specs.Rows.{row_of, job_of, children_in}
 use Rattle.lc_walk.specs.Lawful.{Asked, named}
 use Rattle.lc_walk.specs.TreeOfRows.{children_at_row}
 use Rattle.lc_walk.specs.Walked.{Walked, AreWhole}
-use Rattle.lc_walk.specs.Assembled.{HangsOnce, IsPlaced}
+use Rattle.lc_walk.specs.Assembled.{IsLinkedOnce, IsPlaced}
 use Rattle.lc_walk.specs.declared.row.Row.{Row}
 use Rattle.lc_board.proofs.PostedNumbers.{start}
-use Rattle.lc_walk.proofs.Law.{row_here, job_or, job_at, inside, there, top_job, own_jobs, fits}
+use Rattle.lc_walk.proofs.Law.{row_here, job_or, job_at, inside, there, job_at_top, own_jobs, fits}
 use Rattle.lc_board.proofs.Parents.{IsIn, parent, one_parent, posts_once, posted_above}
 use Rattle.lc_walk.proofs.ChildPlaces.{child_posted, one_place, posted_child}
 
@@ -45,9 +45,9 @@ module _ (ask : Asked) (full : Bool) (capacity workers : ℕ) (top : JobModel) (
       subst (λ m. IsIn m (posts_under p h)) n (child_posted (children_of_number p) (posts_under p h) i c
       (ap (λ cs. slice_get cs i) (sym (named_here p e is)) ∙ here))
 
-  hangs : (k : ℕ) (e : Ended Row) → slice_get rows k ≡ Some e → (p : ℕ) → status h p ≢ Absent → IsIn k (posts_under p h)
-      → HangsOnce rows k (row_of e)
-  hangs k e is p a i =
+  links : (k : ℕ) (e : Ended Row) → slice_get rows k ≡ Some e → (p : ℕ) → status h p ≢ Absent → IsIn k (posts_under p h)
+      → IsLinkedOnce rows k (row_of e)
+  links k e is p a i =
       let r = row_here rows p (inside ask full capacity workers top h rows answers walked p a) in
       let f = fits ask full capacity workers top h rows answers walked whole p a in
       let c = posted_child (job p).path job (children_of_number p) (posts_under p h) k f.jobs f.named_so
@@ -84,19 +84,19 @@ module _ (ask : Asked) (full : Bool) (capacity workers : ℕ) (top : JobModel) (
       let r = row_here rows 0 (inside ask full capacity workers top h rows answers walked 0 (start h)) in (
         r.row,
         r.is,
-        ap (λ (j : JobModel). j.path) (job_here 0 r.row r.is ∙ top_job ask full capacity workers top h rows answers walked)
+        ap (λ (j : JobModel). j.path) (job_here 0 r.row r.is ∙ job_at_top ask full capacity workers top h rows answers walked)
             ∙ at_top,
       )
 
-  below_placed : (k : ℕ) (e : Ended Row) → slice_get rows (suc k) ≡ Some e → HangsOnce rows (suc k) (row_of e)
+  below_placed : (k : ℕ) (e : Ended Row) → slice_get rows (suc k) ≡ Some e → IsLinkedOnce rows (suc k) (row_of e)
   below_placed k e is = at (parent capacity workers h walked.legal (suc k)
       (there ask full capacity workers top h rows answers walked (suc k) (slice_get_within rows (suc k) e is)))
     where
-      at : (suc k ≡ 0) ⊎ ((p : ℕ) × (status h p ≢ Absent) × IsIn (suc k) (posts_under p h)) → HangsOnce rows (suc k) (row_of e)
+      at : (suc k ≡ 0) ⊎ ((p : ℕ) × (status h p ≢ Absent) × IsIn (suc k) (posts_under p h)) → IsLinkedOnce rows (suc k) (row_of e)
       at (inl z) = absurd (omega arith)
-      at (inr p) = hangs (suc k) e is p.0 p.1 p.2
+      at (inr p) = links (suc k) e is p.0 p.1 p.2
 
-  -- each number hangs where the row above says
+  -- each number is linked where the row above says
   pub placed : (k : ℕ) → IsPlaced rows k
   placed zero = top_placed
   placed (suc k) = below_placed k

@@ -20,14 +20,14 @@ use Rattle.lc_level.specs.LeftIn.{bytes_of}
 use Rattle.lc_level.specs.Laws.{parts_with}
 use Rattle.lc_level.specs.Level.{IsLevelOf, level, walked_in}
 use Rattle.lc_level.specs.Opens.{IsOpened, OpensLevel}
-use Rattle.lc_level.specs.Tidy.{IsTidy}
+use Rattle.lc_level.specs.WellFormed.{IsWellFormed}
 use Rattle.lc_level.specs.TreeAnswers.{MayAnswer}
 use Rattle.lc_level.proofs.CountedLevels.{opened_level, counted_level}
 use Rattle.lc_walk.specs.Found.{children_of, children_at}
 use Rattle.lc_walk.specs.Lawful.{Asked, IsCause, jobs_of, named, counted_files, files_at}
 use Rattle.lc_walk.specs.Posting.{HasPosted, RefusesPost}
 use Rattle.lc_walk.specs.RowViews.{ListedRowModel}
-use Rattle.lc_walk.specs.Serving.{HoldsJob, GivesUp, AddsFiles, GoesOn, Serves}
+use Rattle.lc_walk.specs.Serving.{HoldsJob, GivesUp, AddsFiles, WorksOn, Serves}
 use Rattle.lc_walk.specs.Tally.{TallyModel, CountedFile, StandsFor}
 use Rattle.lc_walk.specs.WalkReport.{tallied}
 use Rattle.lc_walk.specs.Worked.{IsLawfulEnd}
@@ -41,8 +41,8 @@ use Rattle.lc_walk.specs.declared.given_up.GivenUp.{GivenUp}
 use Rattle.lc_walk.specs.declared.given_up.GivenUp.TheVariants.{Memory, TooManyDirs, TooDeep}
 use Rattle.lc_level.specs.declared.counting.CountedFiles.{CountedFiles}
 use Rattle.lc_level.specs.declared.opening.Opened.{Opened}
-use Rattle.lc_level.specs.declared.place.Place.{Place}
-use Rattle.lc_level.specs.declared.unlisted.Unlisted.TheVariants as unlisted
+use Rattle.lc_level.specs.declared.fault_site.FaultSite.{FaultSite}
+use Rattle.lc_level.specs.declared.open_fault.OpenFault.TheVariants as open_fault
 use Rattle.lc_walk.specs.declared.row.Row.{Row}
 use Rattle.lc_walk.specs.declared.row.Row.TheVariants.{Listed, Faulted, Broken}
 
@@ -59,24 +59,24 @@ module _ (ask : Asked) (lists : List ℕ → Listings) (gives : List ℕ → Con
   memory_end : (p : Pass JobModel Row) (j : JobModel) → HoldsJob j p → Lawful p j Memory no_answers
   memory_end p j h = record {
     job_is = h.job_is;
-    tidy = no_entries;
+    well_formed = no_entries;
     says = record { posted = 0; posts_are = ap jobs_of h.none; cause_is = tt };
     may = inl (refl, h.none);
   }
 
   -- and with it the tally, whatever stood there
   pub serves_unasked : (p : Pass JobModel Row) (j : JobModel) (t : Option TallyModel) → HoldsJob j p
-      → GoesOn ask (MayAnswer lists gives) p (after_give p (Broken (record { job = j; cause = Memory }))) t None
+      → WorksOn ask (MayAnswer lists gives) p (after_give p (Broken (record { job = j; cause = Memory }))) t None
   serves_unasked p j t h = works_give ask (MayAnswer lists gives) p _ no_answers t None (memory_end p j h) (λ fs s. tt) (λ e. inl refl)
 
   unopened_end : (p : Pass JobModel Row) (j : JobModel) (c : Cause) → HoldsJob j p
-      → OpensLevel lists gives ask.lists.left_out ask.selection j (Err (unlisted.Broken c)) → (a : Answers) × Lawful p j (given_up_for c) a
+      → OpensLevel lists gives ask.lists.left_out ask.selection j (Err (open_fault.Broken c)) → (a : Answers) × Lawful p j (given_up_for c) a
   unopened_end p j level.Memory h o = (no_answers, memory_end p j h)
   unopened_end p j level.TooDeep h o = (
     o.0,
     record {
       job_is = h.job_is;
-      tidy = o.2;
+      well_formed = o.2;
       says = record { posted = 0; posts_are = ap jobs_of h.none; cause_is = o.3 };
       may = inr o.1;
     },
@@ -85,19 +85,19 @@ module _ (ask : Asked) (lists : List ℕ → Listings) (gives : List ℕ → Con
   -- a directory that was given up before it was opened
   pub serves_unopened : (p : Pass JobModel Row) (j : JobModel) (c : Cause) (t : TallyModel) (result : Result (Unit {0}) AllocError)
       → HoldsJob j p →
-      OpensLevel lists gives ask.lists.left_out ask.selection j (Err (unlisted.Broken c)) → GivesUp (given_up_for c) result →
+      OpensLevel lists gives ask.lists.left_out ask.selection j (Err (open_fault.Broken c)) → GivesUp (given_up_for c) result →
       Serves ask (MayAnswer lists gives) p (after_give p (Broken (record { job = j; cause = given_up_for c }))) t t result
   serves_unopened p j c t result h o g =
       let e = unopened_end p j c h o in
       serves_broken ask (MayAnswer lists gives) p j (given_up_for c) e.0 t t result e.1 g (λ n. refl)
 
   -- a directory at fault
-  pub serves_faulted : (p : Pass JobModel Row) (j : JobModel) (place : Place) (word : FaultWord) (t : TallyModel) → HoldsJob j p →
-      OpensLevel lists gives ask.lists.left_out ask.selection j (Err (unlisted.Faulted place word)) →
-      GoesOn ask (MayAnswer lists gives) p (after_fault p (Faulted (record { job = j; place = place; word = word }))) (Some t) (Some t)
-  serves_faulted p j place word t h o = works_fault ask (MayAnswer lists gives) p _ o.0 (Some t) (record {
+  pub serves_faulted : (p : Pass JobModel Row) (j : JobModel) (site : FaultSite) (word : FaultWord) (t : TallyModel) → HoldsJob j p →
+      OpensLevel lists gives ask.lists.left_out ask.selection j (Err (open_fault.Faulted site word)) →
+      WorksOn ask (MayAnswer lists gives) p (after_fault p (Faulted (record { job = j; site = site; word = word }))) (Some t) (Some t)
+  serves_faulted p j site word t h o = works_fault ask (MayAnswer lists gives) p _ o.0 (Some t) (record {
     job_is = h.job_is;
-    tidy = o.2;
+    well_formed = o.2;
     says = record { level_is = o.3; posts_are = h.none };
     may = inr o.1;
   })
@@ -118,7 +118,7 @@ module _ (ask : Asked) (lists : List ℕ → Listings) (gives : List ℕ → Con
         → IsCause ask q.full j c.inside.answers (posts_held q.mine) cause → Lawful q j cause c.inside.answers
     broken_end cause n x is = record {
       job_is = job_now _ x;
-      tidy = c.inside.tidy;
+      well_formed = c.inside.well_formed;
       says = record {
         posted = n;
         posts_are = ap jobs_of (posts_now _ x) ∙ x.jobs_are ∙ ap (λ cs. take n (jobs_of cs))
@@ -178,12 +178,12 @@ module _ (ask : Asked) (lists : List ℕ → Listings) (gives : List ℕ → Con
     pub serves_listed : (found : CountedFiles) (t u : TallyModel) (row : ListedRowModel) (x : HasPosted p q (jobs_of o.children.items))
         → IsCounted gives o.job (bytes_of o.files.items) o.absent.items found →
         AddsFiles (map tallied found.files.items) t u (Ok tt) → IsRowOf row found (posts_held x.since) →
-        GoesOn ask (MayAnswer lists gives) p (after_give q (Listed row)) (Some t) (Some u)
+        WorksOn ask (MayAnswer lists gives) p (after_give q (Listed row)) (Some t) (Some u)
     serves_listed found t u row x f adds is first w =
         works_give ask (MayAnswer lists gives) q (Listed row) counted.0 (Some t) (Some u) lawful gains (λ e. absurd (cc e)) first
         (works_posts ask (MayAnswer lists gives) p q _ (Some t) x first w)
       where
-        counted : (a : Answers) × MayAnswer lists gives j.path a × IsTidy a
+        counted : (a : Answers) × MayAnswer lists gives j.path a × IsWellFormed a
             × IsLevelOf (level ask.selection j a) ask.lists.left_out (parts_with o found.files.items found.faults.items)
             × (has_too_deep ask.selection j a ≡ false)
         counted = counted_level lists gives ask.lists.left_out ask.selection j o c found f
@@ -200,7 +200,7 @@ module _ (ask : Asked) (lists : List ℕ → Listings) (gives : List ℕ → Con
             counted.0
         lawful = record {
           job_is = job_now _ x ∙ ap Some (sym is.job);
-          tidy = counted.2;
+          well_formed = counted.2;
           says = record {
             fates = here.fates;
             absent = here.absent;

@@ -3,7 +3,7 @@ use Rattle.std.proofs.Common.{◌≡◌, ℕ, Bool, true, false, cond, List, [],
 use Rattle.std.specs.List.{filter, AllByRecursion}
 use Rattle.lc_level.specs.Answers.{Item, name_of}
 use Rattle.lc_level.specs.Narrowing.{part_of}
-use Rattle.lc_level.proofs.Tidy.{Spread}
+use Rattle.lc_level.proofs.WellFormed.{Spread}
 use Rattle.lc_walk.proofs.Elements.{In}
 
 -- what holds of all holds of what passes a test

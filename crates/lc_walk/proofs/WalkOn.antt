@@ -20,7 +20,7 @@ use Rattle.lc_level.specs.Job.{JobModel}
 use Rattle.lc_walk.specs.Rows.{row_of, job_of}
 use Rattle.lc_walk.specs.Lawful.{Asked, Says, IsCause}
 use Rattle.lc_walk.specs.Assembled.{IsBrokenBy, SomeBroken, Assembles}
-use Rattle.lc_walk.specs.Worked.{AreLawful, files_of_passes, HasEnded}
+use Rattle.lc_walk.specs.Worked.{AreLawful, files_of_passes, FoundOver}
 use Rattle.lc_walk.specs.WalkAnswers.{SomeRows, WalkAnswers}
 use Rattle.lc_walk.specs.WalkOn.{fault_of_close}
 use Rattle.lc_board.specs.WordClose.{words_promises}
@@ -112,7 +112,7 @@ module _ (ask : Asked) (MayAnswer : List ℕ → Answers → Type 0) (capacity w
   unended Faulted u n m = u
 
   -- what a refused close answers
-  pub refused_walk : 1 ≤ workers → ((w : ℕ) (p : Pass JobModel Row) → slice_get passes w ≡ Some p → (p.worker ≡ w) × HasEnded p) →
+  pub refused_walk : 1 ≤ workers → ((w : ℕ) (p : Pass JobModel Row) → slice_get passes w ≡ Some p → (p.worker ≡ w) × FoundOver p) →
       (f : CloseFault) → RefusesClose capacity workers promises passes f
       → WalkAnswers MayAnswer ask capacity workers top promises (Err (fault_of_close f))
   refused_walk some ended_so (close.Unfinished n) u = λ keeps compares.

@@ -15,7 +15,7 @@ use Rattle.lc_level.specs.Answers.{Answers}
 use Rattle.lc_level.specs.Job.{JobModel}
 use Rattle.lc_walk.specs.Lawful.{Asked}
 use Rattle.lc_walk.specs.Posting.{IsPost, HasPosted}
-use Rattle.lc_walk.specs.Serving.{GivesUp, GoesOn, Serves}
+use Rattle.lc_walk.specs.Serving.{GivesUp, WorksOn, Serves}
 use Rattle.lc_walk.specs.Tally.{TallyModel, CountedFile, StandsFor}
 use Rattle.lc_walk.specs.Worked.{IsLawfulEnd, AreLawful, AreLawfulSince, HasWorked, TalliesFor, GaveUp, files_given, returned_files}
 use Rattle.lc_walk.specs.Assembled.{IsBrokenBy}
@@ -87,7 +87,7 @@ module _ (ask : Asked) (MayAnswer : List ℕ → Answers → Type 0) where
 
   -- a claim
   pub works_claim : (p : Pass JobModel Row) (a : ClaimAnswer JobModel) (t : Option TallyModel)
-      → GoesOn ask MayAnswer p (after_claim p a) t t
+      → WorksOn ask MayAnswer p (after_claim p a) t t
   works_claim p (answer.Got i j) t first w = record {
     worker = w.worker;
     since = Claim p.worker i j ∷ w.since;
@@ -119,7 +119,7 @@ module _ (ask : Asked) (MayAnswer : List ℕ → Answers → Type 0) where
 
   -- posts
   pub works_posts : (p q : Pass JobModel Row) (jobs : List JobModel) (t : Option TallyModel) → HasPosted p q jobs
-      → GoesOn ask MayAnswer p q t t
+      → WorksOn ask MayAnswer p q t t
   works_posts p q jobs t h first w = record {
     worker = h.worker ∙ w.worker;
     since = h.since ++ w.since;
@@ -135,7 +135,7 @@ module _ (ask : Asked) (MayAnswer : List ℕ → Answers → Type 0) where
   pub works_give : (p : Pass JobModel Row) (r : Row) (a : Answers) (t u : Option TallyModel)
       → IsLawfulEnd ask p.full MayAnswer (job_held p.mine) (posts_held p.mine) (ended.Returned r) a →
       ((fs : List CountedFile) → TalliesFor t fs → TalliesFor u (returned_files ask r a ++ fs))
-      → (u ≡ None → IsBrokenBy Memory r ⊎ (t ≡ None)) → GoesOn ask MayAnswer p (after_give p r) t u
+      → (u ≡ None → IsBrokenBy Memory r ⊎ (t ≡ None)) → WorksOn ask MayAnswer p (after_give p r) t u
   works_give p r a t u l more none first w = record {
     worker = w.worker;
     since = Return p.worker (held_number p) r ∷ w.since;
@@ -153,7 +153,7 @@ module _ (ask : Asked) (MayAnswer : List ℕ → Answers → Type 0) where
   -- a fault
   pub works_fault : (p : Pass JobModel Row) (r : Row) (a : Answers) (t : Option TallyModel)
       → IsLawfulEnd ask p.full MayAnswer (job_held p.mine) (posts_held p.mine) (ended.Faulted r) a
-      → GoesOn ask MayAnswer p (after_fault p r) t t
+      → WorksOn ask MayAnswer p (after_fault p r) t t
   works_fault p r a t l first w = record {
     worker = w.worker;
     since = Fault p.worker (held_number p) r ∷ w.since;
@@ -181,12 +181,12 @@ module _ (ask : Asked) (MayAnswer : List ℕ → Answers → Type 0) where
 
   -- a claim, and what is done under it
   pub then_serves : (p q r : Pass JobModel Row) (t u : TallyModel) (result : Result (Unit {0}) AllocError)
-      → GoesOn ask MayAnswer p q (Some t) (Some t) → Serves ask MayAnswer q r t u result → Serves ask MayAnswer p r t u result
+      → WorksOn ask MayAnswer p q (Some t) (Some t) → Serves ask MayAnswer q r t u result → Serves ask MayAnswer p r t u result
   then_serves p q r t u (Ok _) a b = λ first w. b first (a first w)
   then_serves p q r t u (Err _) a b = λ first w. b first (a first w)
 
   -- where memory was refused no tally is left
   pub refused_serves : (p q : Pass JobModel Row) (t u : TallyModel) (result : Result (Unit {0}) AllocError) → is_err result ≡ true
-      → Serves ask MayAnswer p q t u result → GoesOn ask MayAnswer p q (Some t) None
+      → Serves ask MayAnswer p q t u result → WorksOn ask MayAnswer p q (Some t) None
   refused_serves p q t u (Ok _) e s = absurd (cc e)
   refused_serves p q t u (Err _) e s = s

@@ -12,7 +12,7 @@ use Rattle.lc_glob.specs.Path.{path_in}
 use Rattle.lc_level.specs.Level.{FileFaultModel}
 use Rattle.lc_walk.specs.RowViews.{ChildModel}
 use Rattle.lc_walk.specs.Rows.{row_of, job_of, children_in}
-use Rattle.lc_level.specs.PlacePaths.{place_path}
+use Rattle.lc_level.specs.SitePaths.{site_path}
 use Rattle.lc_walk.specs.WalkReport.{line_of, left_line}
 use Rattle.lc_walk.specs.Walked.{AreWhole}
 use Rattle.lc_walk.specs.declared.given_up.GivenUp.{GivenUp}
@@ -39,7 +39,7 @@ fault_line directory f = record { path = path_in directory f.name; word = f.word
 
 abbrev pub faults_by_row : Row → List FaultLineModel
 faults_by_row (Listed r) = map (fault_line r.job.path) r.faults
-faults_by_row (Faulted r) = record { path = place_path r.job.path r.place; word = r.word } ∷ []
+faults_by_row (Faulted r) = record { path = site_path r.job.path r.site; word = r.word } ∷ []
 faults_by_row (Broken r) = []
 
 abbrev pub left_by_row : Row → List LeftLineModel
@@ -87,7 +87,7 @@ pub record IsEdge (rows : List (Ended Row)) (parent at k : ℕ) : Type 0 where
   pub number : child.number ≡ k
 
 -- the number is named once, by a lower number, and its path is its parent's with the child's name
-pub record HangsOnce (rows : List (Ended Row)) (k : ℕ) (row : Row) : Type 0 where
+pub record IsLinkedOnce (rows : List (Ended Row)) (k : ℕ) (row : Row) : Type 0 where
   pub parent : ℕ
   pub at : ℕ
   pub lower : parent < k
@@ -95,10 +95,10 @@ pub record HangsOnce (rows : List (Ended Row)) (k : ℕ) (row : Row) : Type 0 wh
   pub path : (job_of row).path ≡ path_in (job_of (row_of edge.above)).path edge.child.name
   pub only : (p i : ℕ) → IsEdge rows p i k → (p ≡ parent) × (i ≡ at)
 
--- the top has the empty path, and each other number hangs so
+-- the top has the empty path, and each other number is linked so
 abbrev pub IsPlaced : List (Ended Row) → ℕ → Type 0
 IsPlaced rows zero = (e : Ended Row) × (slice_get rows 0 ≡ Some e) × ((job_of (row_of e)).path ≡ [])
-IsPlaced rows (suc k) = (e : Ended Row) → slice_get rows (suc k) ≡ Some e → HangsOnce rows (suc k) (row_of e)
+IsPlaced rows (suc k) = (e : Ended Row) → slice_get rows (suc k) ≡ Some e → IsLinkedOnce rows (suc k) (row_of e)
 
 -- ---- what `assemble` answers
 

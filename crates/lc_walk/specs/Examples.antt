@@ -17,8 +17,8 @@ one_line = record { lines = 1; blank = 1; bytes = 1; eol = Lf }
 abbrev pub as_it_is : SelectionModel
 as_it_is = selection_of_archive false
 
-abbrev pub top_job : JobModel
-top_job = record { path = []; ignore = no_ignore_files; attributes = record { tree = []; info = None } }
+abbrev pub example_top : JobModel
+example_top = record { path = []; ignore = no_ignore_files; attributes = record { tree = []; info = None } }
 
 -- a `.gitignore` of `*.o`, `.git/info/exclude` of `!k.o` and `b/`, and files and directories
 abbrev pub small_directory : Answers
@@ -34,6 +34,6 @@ small_directory = record {
 }
 
 -- the rules of the directory's own file go before those of `.git/info`, and nothing of `.git` is counted
-pub record ExamplesHold : Type 0 where
-  pub counted : map (λ f. f.name) (files_at as_it_is top_job small_directory) ≡ codes ".gitignore" ∷ codes "c" ∷ []
-  pub below : map (λ c. c.0) (children_at as_it_is top_job small_directory) ≡ codes "d" ∷ []
+pub record WalkExamplesHold : Type 0 where
+  pub counted : map (λ f. f.name) (files_at as_it_is example_top small_directory) ≡ codes ".gitignore" ∷ codes "c" ∷ []
+  pub below : map (λ c. c.0) (children_at as_it_is example_top small_directory) ≡ codes "d" ∷ []

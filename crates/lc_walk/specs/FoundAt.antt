@@ -29,7 +29,7 @@ module _ (selection : SelectionModel) where
 
   -- it has a directory of this name that takes part, which is not `.git`, which the last rule that matches it does not ignore, and
   -- which the selection does not leave out
-  pub record LeavesIn (j : JobModel) (a : Answers) (name : List ℕ) (inside : JobModel) : Type 0 where
+  pub record WalksInto (j : JobModel) (a : Answers) (name : List ℕ) (inside : JobModel) : Type 0 where
     pub items : List Item
     pub listed : IsListed j a items inside
     pub has : Contains (part_of selection.only j.path items) (directory_item name)
@@ -39,7 +39,7 @@ module _ (selection : SelectionModel) where
   abbrev pub LeadsTo : JobModel → Tree → List (List ℕ) → JobModel → Type 0
   LeadsTo j t [] k = j ≡ k
   LeadsTo j t (name ∷ place) k =
-      (inside : JobModel) × LeavesIn j (t []) name inside × LeadsTo (child_job inside name) (λ p. t (name ∷ p)) place k
+      (inside : JobModel) × WalksInto j (t []) name inside × LeadsTo (child_job inside name) (λ p. t (name ∷ p)) place k
 
   -- it has an entry of this name that takes part, whose fate is this under its rule files and the selection
   pub record HasEntry (j : JobModel) (a : Answers) (name : List ℕ) (fate : Fate) : Type 0 where

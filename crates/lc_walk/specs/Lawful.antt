@@ -6,7 +6,7 @@ use Rattle.lc_board.specs.declared.event.Event.{Event}
 use Rattle.lc_board.specs.declared.answers.Ended.{Ended}
 use Rattle.lc_board.specs.declared.answers.Ended.TheVariants as ended
 use Rattle.lc_level.specs.Answers.{Answers}
-use Rattle.lc_level.specs.Tidy.{IsTidy}
+use Rattle.lc_level.specs.WellFormed.{IsWellFormed}
 use Rattle.lc_level.specs.Job.{JobModel}
 use Rattle.lc_level.specs.Level.{CountedModel, Fate, Level, faulted_level, listed_level, level, absent_faults, counted_in, failed_in}
 use Rattle.lc_level.specs.Level.{walked_in, left_in}
@@ -15,7 +15,7 @@ use Rattle.lc_walk.specs.Found.{children_at}
 use Rattle.lc_level.specs.Deep.{has_too_deep}
 use Rattle.lc_walk.specs.RowViews.{ChildModel, ListedRowModel}
 use Rattle.lc_walk.specs.Rows.{row_of, job_of}
-use Rattle.lc_level.specs.PlacePaths.{place_path}
+use Rattle.lc_level.specs.SitePaths.{site_path}
 use Rattle.lc_walk.specs.declared.given_up.GivenUp.{GivenUp}
 use Rattle.lc_walk.specs.declared.given_up.GivenUp.TheVariants.{Memory, TooManyDirs, TooDeep}
 use Rattle.lc_walk.specs.declared.options.Lists.{Lists}
@@ -63,7 +63,7 @@ pub record SaysListed (ask : Asked) (r : ListedRowModel) (a : Answers) (posts : 
 
 -- a directory at fault: nothing was posted
 pub record SaysFaulted (ask : Asked) (r : FaultedRow) (a : Answers) (posts : List (ℕ × JobModel)) : Type 0 where
-  pub level_is : level ask.selection r.job a ≡ faulted_level (place_path r.job.path r.place) r.word
+  pub level_is : level ask.selection r.job a ≡ faulted_level (site_path r.job.path r.site) r.word
   pub posts_are : posts ≡ []
 
 -- why a directory was given up, by what was posted; `full` says whether a post of the row's pass was answered Full
@@ -90,5 +90,5 @@ Says ask full (ended.Faulted (Broken r)) a posts = ⊥
 -- the row of a number is lawful with these answers in a history, which may be one pass's own list
 pub record IsLawful (ask : Asked) (full : Bool) (h : List (Event JobModel Row)) (i : ℕ) (e : Ended Row) (a : Answers) : Type 0 where
   pub job_is : job_got h i ≡ Some (job_of (row_of e))
-  pub tidy : IsTidy a
+  pub well_formed : IsWellFormed a
   pub says : Says ask full e a (posts_under i h)

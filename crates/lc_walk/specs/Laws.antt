@@ -15,7 +15,7 @@ use Rattle.lc_walk.specs.Walk.{walk_by, walk_of}
 use Rattle.lc_walk.specs.Rows.{row_of, job_of}
 use Rattle.lc_tree.specs.ByteOrder.{AreApart}
 use Rattle.lc_walk.specs.Lawful.{Asked, IsLawful}
-use Rattle.lc_level.specs.Tidy.{IsTidy}
+use Rattle.lc_level.specs.WellFormed.{IsWellFormed}
 use Rattle.lc_walk.specs.TreeOfRows.{tree_from, children_by_rows, tree_of_rows, numbers_below}
 use Rattle.lc_walk.specs.Walked.{Walked, AreWhole, rows_found}
 use Rattle.lc_walk.specs.declared.row.Row.{Row}
@@ -61,8 +61,8 @@ PartLaw =
     (ask : Asked) (full : Bool) (capacity workers w i : ℕ) (h : List (Event JobModel Row)) (e : Ended Row) (a : Answers) →
     IsLegal capacity workers h → IsLawful ask full (part w h) i e a → IsLawful ask full h i e a
 
--- no path stands twice in what a walk of a tree with tidy listings finds: files, faults, directories and entries left out
+-- no path stands twice in what a walk of a tree with well-formed listings finds: files, faults, directories and entries left out
 abbrev pub PathsOnceLaw : Type 0
 PathsOnceLaw =
-    (selection : SelectionModel) (depth : ℕ) (j : JobModel) (t : Tree) → ((place : List (List ℕ)) → IsTidy (t place)) →
+    (selection : SelectionModel) (depth : ℕ) (j : JobModel) (t : Tree) → ((place : List (List ℕ)) → IsWellFormed (t place)) →
     AreApart (map path_of (walk_of selection depth j t))

@@ -9,7 +9,7 @@ pub mod GivenUps
 pub mod Key
 pub mod Lawful
 pub mod Laws
-pub mod Marks
+pub mod Links
 pub mod NodeWalks
 pub mod PartOfWalk
 pub mod Passes

@@ -7,7 +7,7 @@ use Rattle.lc_level.specs.Answers.{Tree}
 use Rattle.lc_level.specs.Job.{JobModel}
 use Rattle.lc_level.specs.Level.{CountedModel, LeftModel, faulted_level, level}
 use Rattle.lc_level.specs.Selection.{SelectionModel, narrowed}
-use Rattle.lc_level.specs.Tidy.{IsTidy}
+use Rattle.lc_level.specs.WellFormed.{IsWellFormed}
 use Rattle.lc_tree.specs.Kinds.{is_dir}
 use Rattle.lc_tree.specs.declared.entry.Kind.{Kind}
 use Rattle.lc_level.specs.declared.fault_word.FaultWord.{FaultWord}
@@ -77,9 +77,9 @@ module _ (selection : SelectionModel) (only : List (List ℕ)) (depth : ℕ) (to
     pub has_fault : (path : List ℕ) (word : FaultWord) → Contains whole_walk (found_fault path word) →
         IsWithin only path ⊎ IsFaultOnWay path word → Contains part_walk (found_fault path word)
 
--- so it is of each tree with tidy listings, for some paths that entries can have
+-- so it is of each tree with well-formed listings, for some paths that entries can have
 abbrev pub PartOfWalkLaw : Type 0
 PartOfWalkLaw =
     (selection : SelectionModel) (only : List (List ℕ)) → only ≢ [] → AllByRecursion (λ path. is_good_path path ≡ true) only →
-    (depth : ℕ) (top : JobModel) (t : Tree) → top.path ≡ [] → ((place : List (List ℕ)) → IsTidy (t place)) →
+    (depth : ℕ) (top : JobModel) (t : Tree) → top.path ≡ [] → ((place : List (List ℕ)) → IsWellFormed (t place)) →
     IsPartOfWalk selection only depth top t

@@ -6,7 +6,7 @@ use Rattle.lc_level.specs.Answers.{Answers}
 use Rattle.lc_level.specs.Job.{JobModel}
 use Rattle.lc_level.specs.Selection.{SelectionModel}
 use Rattle.lc_walk.specs.Lawful.{Asked}
-use Rattle.lc_walk.specs.Worked.{AreLawful, HasEnded, files_of_passes}
+use Rattle.lc_walk.specs.Worked.{AreLawful, FoundOver, files_of_passes}
 use Rattle.lc_walk.specs.declared.options.Lists.{Lists}
 use Rattle.lc_walk.specs.declared.row.Row.{Row}
 
@@ -15,7 +15,7 @@ pub record HaveWorked (ask : Asked) (MayAnswer : List ℕ → Answers → Type 0
     (passes : List (Pass JobModel Row)) (tally : TallyModel) : Type 0 where
   pub given : ℕ → List Answers
   pub lawful : (w : ℕ) (p : Pass JobModel Row) → slice_get passes w ≡ Some p → AreLawful ask p.full MayAnswer p.mine (given w)
-  pub ended : (w : ℕ) (p : Pass JobModel Row) → slice_get passes w ≡ Some p → (p.worker ≡ w) × HasEnded p
+  pub ended : (w : ℕ) (p : Pass JobModel Row) → slice_get passes w ≡ Some p → (p.worker ≡ w) × FoundOver p
   pub tallied : StandsFor tally (files_of_passes ask given passes)
 
 abbrev pub asked : Lists → SelectionModel → Asked

@@ -43,7 +43,8 @@ PostsMore children old new before after (Ok _) =
 PostsMore children old new before after (Err cause) = RefusesPost (jobs_of children) old new cause
 
 -- what posting child directories answers: their names with the numbers of the posts
-abbrev pub PostsChildren : List (List ℕ × JobModel) → Pass JobModel Row → Pass JobModel Row → Result (Vec ChildModel Global) GivenUp → Type 0
+abbrev pub PostsChildren : List (List ℕ × JobModel) → Pass JobModel Row → Pass JobModel Row
+    → Result (Vec ChildModel Global) GivenUp → Type 0
 PostsChildren children old new (Ok posted) =
     (p : HasPosted old new (jobs_of children)) × (posted.items ≡ named children (posts_held p.since))
 PostsChildren children old new (Err cause) = RefusesPost (jobs_of children) old new cause

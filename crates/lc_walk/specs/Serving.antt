@@ -7,7 +7,7 @@ use Rattle.lc_level.specs.Answers.{Answers}
 use Rattle.lc_level.specs.Job.{JobModel}
 use Rattle.lc_walk.specs.Lawful.{Asked}
 use Rattle.lc_walk.specs.Tally.{TallyModel, CountedFile, StandsFor}
-use Rattle.lc_walk.specs.Worked.{HasWorked, HasEnded}
+use Rattle.lc_walk.specs.Worked.{HasWorked, FoundOver}
 use Rattle.lc_walk.specs.declared.given_up.GivenUp.{GivenUp}
 use Rattle.lc_walk.specs.declared.given_up.GivenUp.TheVariants.{Memory, TooManyDirs, TooDeep}
 use Rattle.lc_walk.specs.declared.row.Row.{Row}
@@ -37,18 +37,18 @@ AddsFiles more old new (Ok _) = (files : List CountedFile) → StandsFor old fil
 AddsFiles more old new (Err _) = Unit {0}
 
 -- what the worker had done since any earlier pass, with its tally, goes on
-abbrev pub GoesOn : Asked → (List ℕ → Answers → Type 0) →
+abbrev pub WorksOn : Asked → (List ℕ → Answers → Type 0) →
     Pass JobModel Row → Pass JobModel Row → Option TallyModel → Option TallyModel → Type 0
-GoesOn ask MayAnswer old new before after =
+WorksOn ask MayAnswer old new before after =
     (first : Pass JobModel Row) → HasWorked ask MayAnswer first old before → HasWorked ask MayAnswer first new after
 
 -- what serving a claim answers; where memory was refused there is no tally any more
 abbrev pub Serves : Asked → (List ℕ → Answers → Type 0) →
     Pass JobModel Row → Pass JobModel Row → TallyModel → TallyModel → Result (Unit {0}) AllocError → Type 0
-Serves ask MayAnswer old new before after (Ok _) = GoesOn ask MayAnswer old new (Some before) (Some after)
-Serves ask MayAnswer old new before after (Err _) = GoesOn ask MayAnswer old new (Some before) None
+Serves ask MayAnswer old new before after (Ok _) = WorksOn ask MayAnswer old new (Some before) (Some after)
+Serves ask MayAnswer old new before after (Err _) = WorksOn ask MayAnswer old new (Some before) None
 
 -- how a worker has come to its end
 abbrev pub EndsAs : End → Pass JobModel Row → Type 0
-EndsAs Over p = HasEnded p
+EndsAs Over p = FoundOver p
 EndsAs NoMemory p = p.refused ≡ true

@@ -21,7 +21,7 @@ plus a b = record {
 }
 
 -- each sum fits its type
-pub record HasRoom (s : Sums) : Type 0 where
+pub record IsInRange (s : Sums) : Type 0 where
   pub files : s.files < 2 ^ 64
   pub lines : s.lines < 2 ^ 128
   pub blank : s.blank < 2 ^ 128

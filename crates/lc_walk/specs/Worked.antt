@@ -12,7 +12,7 @@ use Rattle.lc_level.specs.Answers.{Answers}
 use Rattle.lc_level.specs.Job.{JobModel}
 use Rattle.lc_walk.specs.Rows.{row_of, job_of}
 use Rattle.lc_walk.specs.Lawful.{Asked, Says, files_at}
-use Rattle.lc_level.specs.Tidy.{IsTidy}
+use Rattle.lc_level.specs.WellFormed.{IsWellFormed}
 use Rattle.lc_walk.specs.TreeOfRows.{numbers_below}
 use Rattle.lc_walk.specs.WalkReport.{tallied}
 use Rattle.lc_walk.specs.Assembled.{IsBrokenBy}
@@ -34,7 +34,7 @@ MayStand MayAnswer posts r a = (IsBrokenBy Memory r × (posts ≡ [])) ⊎ MayAn
 pub record IsLawfulEnd (ask : Asked) (full : Bool) (MayAnswer : List ℕ → Answers → Type 0)
     (got : Option JobModel) (posts : List (ℕ × JobModel)) (e : Ended Row) (a : Answers) : Type 0 where
   pub job_is : got ≡ Some (job_of (row_of e))
-  pub tidy : IsTidy a
+  pub well_formed : IsWellFormed a
   pub says : Says ask full e a posts
   pub may : MayStand MayAnswer posts (row_of e) a
 
@@ -96,8 +96,8 @@ pub record HasWorked (ask : Asked) (MayAnswer : List ℕ → Answers → Type 0)
   pub untallied : tally ≡ None → GaveUp since
 
 -- the pass has found that the board is over
-abbrev pub HasEnded : Pass JobModel Row → Type 0
-HasEnded p = (m : List (Event JobModel Row)) × (p.mine ≡ Over p.worker ∷ m)
+abbrev pub FoundOver : Pass JobModel Row → Type 0
+FoundOver p = (m : List (Event JobModel Row)) × (p.mine ≡ Over p.worker ∷ m)
 
 -- the counted files of the rows that all passes returned, by their answers, pass by pass
 abbrev pub files_of_pass : Asked → List Answers → Option (Pass JobModel Row) → List CountedFile

@@ -2,7 +2,7 @@
 ghost use Rattle.std.specs.Prelude.{List};
 ghost use Rattle.std.specs.List.Sorted.{IsPermutation};
 ghost use Rattle.lc_walk.specs.Accounts.{EntriesLaw, RuleLaw};
-ghost use Rattle.lc_walk.specs.Examples.{ExamplesHold};
+ghost use Rattle.lc_walk.specs.Examples.{WalkExamplesHold};
 ghost use Rattle.lc_walk.specs.FoundAt.{FoundLaw};
 ghost use Rattle.lc_walk.specs.Laws.{CoreLaw, NumbersLaw, OneAnswerLaw, PartLaw, PathsOnceLaw};
 ghost use Rattle.lc_walk.specs.NodeWalks.{NodeOneAnswerLaw, NodeReportLaw};
@@ -83,6 +83,6 @@ pub fn a_report_has_no_order()
 {}
 
 /// The definitions of a level, computed on a small directory.
-pub fn examples_hold()
-    ensures { ExamplesHold }
+pub fn walk_examples_hold()
+    ensures { WalkExamplesHold }
 {}

@@ -2,7 +2,8 @@
 ghost use Rattle.std.specs.Prelude.{◌≡◌, IfOk, IfErr};
 
 use crate::given_up::GivenUp;
-use lc_level::{Counted, FaultWord, FileFault, Job, LeftOut, Place};
+use crate::served_job::ServedJob;
+use lc_level::{Counted, FaultSite, FaultWord, FileFault, LeftOut};
 use std::alloc::Global;
 use std::marker::Model;
 
@@ -25,7 +26,7 @@ impl Model for Child {
 #[derive(Drop)]
 pub struct ListedParts {
     /// The directory.
-    pub job: Job,
+    pub job: ServedJob,
     /// The number of its entries that take part.
     pub entries: u32,
     /// The counted files, in the order of their names, where the report is to have them.
@@ -70,7 +71,7 @@ impl Model for ListedRow {
 
 impl ListedRow {
     /// The row of these parts. Where memory is refused the job comes back.
-    pub fn new(alloc: Global, parts: ListedParts) -> Result<ListedRow, Job>
+    pub fn new(alloc: Global, parts: ListedParts) -> Result<ListedRow, ServedJob>
         ensures row { IfOk result (λ r. r ≡ parts) }
         ensures job { IfErr result (λ j. j ≡ parts.job) }
     {
@@ -81,7 +82,7 @@ impl ListedRow {
     }
 
     /// The directory.
-    pub fn job(&self) -> &Job
+    pub fn job(&self) -> &ServedJob
         ensures { result.now ≡ self.now.job }
     {
         &self.parts.job
@@ -126,15 +127,15 @@ impl ListedRow {
 /// A directory at fault.
 #[derive(Drop)]
 pub struct FaultedRow {
-    pub job: Job,
-    pub place: Place,
+    pub job: ServedJob,
+    pub site: FaultSite,
     pub word: FaultWord,
 }
 
 /// A directory that was given up.
 #[derive(Drop)]
 pub struct BrokenRow {
-    pub job: Job,
+    pub job: ServedJob,
     pub cause: GivenUp,
 }
 

@@ -6,7 +6,7 @@
 ghost use Rattle.std.specs.Prelude.{◌≡◌, ◌+◌, ◌<◌, ◌≤◌, ◌^◌, List, [], ◌∷◌, ◌++◌, length, IfOk, IsOk, IsTrue, OnOk, OnErr};
 ghost use Rattle.std.specs.Prelude.{MatchResult, option_map};
 ghost use Rattle.lc_walk.specs.TallyRows.{IsInOrder, IsPlaceFor, has_row, sums_of_rows};
-ghost use Rattle.lc_walk.specs.Sums.{plus, IsModest, HasRoom};
+ghost use Rattle.lc_walk.specs.Sums.{plus, IsModest, IsInRange};
 ghost use Rattle.lc_walk.specs.Tally.{StandsFor, CountedFile, IsTally, Gains, Grows, counted, key_of};
 
 mod extensions;
@@ -27,7 +27,7 @@ pub use sums::Sums;
 pub use tally_row::TallyRow;
 
 /// The most files of a tally. A walk has fewer than 2^40, so none is ever full: workers test for it in place of a sum over all rows.
-pub(crate) const MOST_FILES: u64 = 1 << 63;
+pub(crate) const MAX_FILES: u64 = 1 << 63;
 
 /// The tally of the files counted so far.
 ///
@@ -149,7 +149,7 @@ impl Tally {
         ensures grows { OnOk result (Grows self.old self.new key.now more) }
         ensures unchanged { OnErr result (self.new ≡ self.old) }
     {
-        if more.files > MOST_FILES - self.totals.files || !more.is_modest() {
+        if more.files > MAX_FILES - self.totals.files || !more.is_modest() {
             return Err(AllocError);
         }
         self.grow(key, more)
@@ -177,7 +177,7 @@ fn settle(
     more: Sums,
 ) -> Result<(), AllocError>
     requires order { IsInOrder rows.old.items }
-    requires room { HasRoom (plus (sums_of_rows rows.old.items) more) }
+    requires room { IsInRange (plus (sums_of_rows rows.old.items) more) }
     ensures gains { OnOk result (Gains rows.old.items rows.new.items key.now more) }
     ensures known { IsTrue (has_row key.now rows.old.items) → IsOk result }
     ensures unchanged { OnErr result (rows.new.items ≡ rows.old.items) }

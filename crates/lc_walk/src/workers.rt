@@ -10,7 +10,7 @@ ghost use Rattle.lc_walk.specs.WalkOptions.{asked_by};
 
 use crate::options::Options;
 use crate::row::Row;
-use crate::tally::{MOST_FILES, Tally};
+use crate::tally::{MAX_FILES, Tally};
 use crate::worker::{End, Worked, Worker};
 use lc_board::Shared;
 use lc_level::Job;
@@ -66,7 +66,7 @@ fn merge(first: Tally, second: Tally) -> Option<Tally>
     ensures { IfSome result (λ t. (fs gs : List CountedFile) → StandsFor first fs → StandsFor second gs → StandsFor t (fs ++ gs)) }
 {
     let files = first.totals().files.checked_add(second.totals().files)?;
-    if files > MOST_FILES {
+    if files > MAX_FILES {
         return None;
     }
     first.merge(second).ok()

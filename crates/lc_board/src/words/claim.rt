@@ -2,7 +2,7 @@
 //! nothing is open there, from the low mark.
 ghost use Rattle.std.specs.Prelude.{◌≡◌, ◌<◌, Some, None, IfSome, IfNone, MatchBool};
 ghost use Rattle.lc_board.specs.declared.answers.Claim.TheVariants.{Later};
-ghost use Rattle.lc_board.specs.WordSteps.{Sees, is_last_word};
+ghost use Rattle.lc_board.specs.WordSteps.{Extends, is_last_word};
 ghost use Rattle.lc_board.specs.WordsBoard.{AnswersWordsClaim, IsPassOf, IsSamePass, TriesClaim, known};
 ghost use Rattle.lc_board.specs.WordMarks.{AnswersLow, HasPassed};
 
@@ -112,7 +112,7 @@ impl<J, R> Words<J, R> {
         requires free { pass.old.holding ≡ None }
         ensures board { IsSamePass pass.old pass.new }
         ensures some { IfSome result (AnswersWordsClaim self.now.capacity (known pass.old) (known pass.new) pass.new.holding) }
-        ensures none { IfNone result ((pass.new.holding ≡ None) × Sees (known pass.old) (known pass.new)) }
+        ensures none { IfNone result ((pass.new.holding ≡ None) × Extends (known pass.old) (known pass.new)) }
     {
         let mut end = span.end.min(self.capacity);
         while span.start < end {
@@ -138,7 +138,7 @@ impl<J, R> Words<J, R> {
         requires free { pass.old.holding ≡ None }
         ensures board { IsSamePass pass.old pass.new }
         ensures some { IfSome result (AnswersWordsClaim self.now.capacity (known pass.old) (known pass.new) pass.new.holding) }
-        ensures none { IfNone result ((pass.new.holding ≡ None) × Sees (known pass.old) (known pass.new)) }
+        ensures none { IfNone result ((pass.new.holding ≡ None) × Extends (known pass.old) (known pass.new)) }
     {
         for _ in 0..SPANS {
             let Some(span) = pass.recent.pop() else {

@@ -1,6 +1,6 @@
 //! A job is posted at the front of a pass, or beyond it.
 ghost use Rattle.std.specs.Prelude.{◌≡◌, ◌+◌, ◌<◌, MatchBool, IsSome};
-ghost use Rattle.lc_board.specs.WordSteps.{Looks};
+ghost use Rattle.lc_board.specs.WordSteps.{ExtendsFairly};
 ghost use Rattle.lc_board.specs.WordsBoard.{AnswersWordsPost, IsPassOf, IsSamePass, TriesPost, known};
 
 use crate::answers::PostFault;
@@ -18,7 +18,7 @@ impl<J, R> Words<J, R> {
         requires near { pass.old.front < self.now.capacity }
         ensures board { IsSamePass pass.old pass.new × (pass.new.holding ≡ pass.old.holding) × (pass.new.posted ≡ pass.old.posted) }
         ensures front { MatchBool result (pass.new.front ≡ pass.old.front + 1) (pass.new.front ≡ pass.old.front) }
-        ensures rule { Looks self.now.capacity (known pass.old) (known pass.new) }
+        ensures rule { ExtendsFairly self.now.capacity (known pass.old) (known pass.new) }
     {
         let number = pass.front;
         let shared = &self.table.shared;

@@ -15,12 +15,12 @@ pub struct OneHistory;
 
 impl<J, R> TableRule<Slot<J, R>, View<J, R>, Origin<J>> for OneHistory {
     ghost use Rattle.lc_board.specs.WordRow.{IsRow};
-    ghost use Rattle.lc_board.specs.WordSteps.{dealer};
+    ghost use Rattle.lc_board.specs.WordSteps.{view_before_split};
     ghost use Rattle.std.specs.Prelude.{Some};
 
     ghost holds = { λ key. IsRow (Some key.root.value) key.workers };
 
-    ghost first = { λ key. dealer (Some key.root.value) key.workers };
+    ghost first = { λ key. view_before_split (Some key.root.value) key.workers };
 }
 
 pub struct Look;
@@ -85,11 +85,11 @@ impl<J, R> Play<Slot<J, R>, View<J, R>> for PutDown {
 pub struct Deal;
 
 impl<J, R> Split<View<J, R>> for Deal {
-    ghost use Rattle.lc_board.specs.WordSteps.{dealt, newcomer};
+    ghost use Rattle.lc_board.specs.WordSteps.{left_of_split, right_of_split};
 
-    ghost left = { dealt };
+    ghost left = { left_of_split };
 
-    ghost right = { newcomer };
+    ghost right = { right_of_split };
 }
 
 impl<J, R> Join<View<J, R>> for Deal {

@@ -3,7 +3,7 @@ ghost use Rattle.std.specs.Prelude.{◌≡◌, ◌≢◌, ◌≤◌, ℕ, [], No
 ghost use Rattle.lc_board.specs.ClosedBoard.{Settled, RefusesClose};
 ghost use Rattle.lc_board.specs.WordClose.{words_promises};
 ghost use Rattle.lc_board.specs.Pass.{holding, posted, new_pass, after_claim, after_post, after_give, after_fault, job_back};
-ghost use Rattle.lc_board.specs.WordsBoard.{AnswersWordsClaim, AnswersWordsPost, HasEnded, Owns, known, told};
+ghost use Rattle.lc_board.specs.WordsBoard.{AnswersWordsClaim, AnswersWordsPost, EndsClaim, Owns, known, told};
 ghost use Rattle.lc_board.specs.declared.answers.Ended.TheVariants.{Returned, Faulted};
 ghost use Rattle.lc_board.specs.declared.words.pass.WordsPass.{WordsPass};
 ghost use Rattle.lc_board.specs.Limits.{capacity_limit, workers_limit};
@@ -101,7 +101,7 @@ impl<J: Drop + Send, R: Drop + Send> Shared<J, R> for Words<J, R> {
         requires holds { holding (told pass.old) ≢ None }
         ensures pass { Owns self.now pass.new }
         ensures mine { told pass.new ≡ after_give (told pass.old) row }
-        ensures rule { HasEnded self.now pass.old (Returned row) pass.new }
+        ensures rule { EndsClaim self.now pass.old (Returned row) pass.new }
     {
         Words::give(self, pass, row);
     }
@@ -113,7 +113,7 @@ impl<J: Drop + Send, R: Drop + Send> Shared<J, R> for Words<J, R> {
         requires none { posted (told pass.old) ≡ 0 }
         ensures pass { Owns self.now pass.new }
         ensures mine { told pass.new ≡ after_fault (told pass.old) row }
-        ensures rule { HasEnded self.now pass.old (Faulted row) pass.new }
+        ensures rule { EndsClaim self.now pass.old (Faulted row) pass.new }
     {
         Words::fault(self, pass, row);
     }

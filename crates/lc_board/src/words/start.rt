@@ -3,7 +3,7 @@ ghost use Rattle.std.specs.Prelude.{◌≡◌, ◌<◌, ◌≤◌, ◌∷◌, re
 ghost use Rattle.lc_board.specs.declared.words.coding.Word.TheVariants.{Absent, Open};
 ghost use Rattle.lc_board.specs.declared.words.view.Slot.TheVariants.{Empty, Job};
 ghost use Rattle.lc_board.specs.WordCode.{code};
-ghost use Rattle.lc_board.specs.WordSteps.{dealer, dealt, newcomer};
+ghost use Rattle.lc_board.specs.WordSteps.{view_before_split, left_of_split, right_of_split};
 ghost use Rattle.lc_board.specs.WordsBoard.{IsNewPass, IsPassOf, IsSamePass, known};
 ghost use Rattle.lc_board.specs.Limits.{capacity_limit, workers_limit};
 
@@ -55,7 +55,7 @@ impl<J: Drop, R: Drop> Words<J, R> {
         requires workers { (1 ≤ workers) × (workers ≤ workers_limit) }
         ensures board { IfOk result
             (λ b. (b.0.capacity ≡ capacity) × (b.0.workers ≡ workers) × (b.0.table.shared.key.root.value ≡ root)) }
-        ensures pass { IfOk result (λ b. IsNewPass b.0 0 (dealer (Some root) workers) b.1) }
+        ensures pass { IfOk result (λ b. IsNewPass b.0 0 (view_before_split (Some root) workers) b.1) }
     {
         let origin = Origin {
             root: Snapshot::of(&root),
@@ -98,8 +98,8 @@ impl<J, R> Words<J, R> {
         requires next { (0 < worker) × (worker < self.now.workers)
             × ((known pass.old).made ≡ worker) × ((known pass.old).workers ≡ self.now.workers) }
         ensures same { IsSamePass pass.old pass.new × (pass.new.holding ≡ pass.old.holding)
-            × (known pass.new ≡ dealt (known pass.old)) }
-        ensures other { IsNewPass self.now worker (newcomer (known pass.old)) result }
+            × (known pass.new ≡ left_of_split (known pass.old)) }
+        ensures other { IsNewPass self.now worker (right_of_split (known pass.old)) result }
     {
         let seat = self.table.shared.split_seat::<Deal>(&mut pass.seat);
         WordsPass {

@@ -1,7 +1,7 @@
 //! One number is looked at, claimed, or ended.
 ghost use Rattle.std.specs.Prelude.{◌≡◌, ◌<◌, IsSome, None};
-ghost use Rattle.lc_board.specs.WordSteps.{Missed, low_after, taken_after};
-ghost use Rattle.lc_board.specs.WordsBoard.{HasEnded, IsPassOf, IsSamePass, TriesClaim, known};
+ghost use Rattle.lc_board.specs.WordSteps.{HasLooked, low_after, taken_after};
+ghost use Rattle.lc_board.specs.WordsBoard.{EndsClaim, IsPassOf, IsSamePass, TriesClaim, known};
 ghost use Rattle.lc_board.specs.Ending.{MayEnd};
 ghost use Rattle.lc_board.specs.declared.answers.Ended.TheVariants.{Returned, Faulted};
 ghost use Rattle.lc_board.specs.Limits.{capacity_limit};
@@ -43,7 +43,7 @@ impl<J, R> Words<J, R> {
         requires board { IsPassOf self.now pass.old }
         requires near { number < self.now.capacity }
         ensures board { IsSamePass pass.old pass.new × (pass.new.holding ≡ pass.old.holding) }
-        ensures rule { Missed self.now.capacity number result (known pass.old) (known pass.new) }
+        ensures rule { HasLooked self.now.capacity number result (known pass.old) (known pass.new) }
     {
         let shared = &self.table.shared;
         let found = Word::of(shared.load::<Look>(&mut pass.seat, number as usize));
@@ -86,7 +86,7 @@ impl<J, R> Words<J, R> {
         requires board { IsPassOf self.now pass.old }
         requires holds { IsSome pass.old.holding }
         ensures board { IsSamePass pass.old pass.new × (pass.new.holding ≡ None) }
-        ensures rule { HasEnded self.now pass.old (Returned row) pass.new }
+        ensures rule { EndsClaim self.now pass.old (Returned row) pass.new }
     {
         self.end(pass, Ended::Returned(row));
     }
@@ -96,7 +96,7 @@ impl<J, R> Words<J, R> {
         requires board { IsPassOf self.now pass.old }
         requires holds { IsSome pass.old.holding × (pass.old.posted ≡ 0) }
         ensures board { IsSamePass pass.old pass.new × (pass.new.holding ≡ None) }
-        ensures rule { HasEnded self.now pass.old (Faulted row) pass.new }
+        ensures rule { EndsClaim self.now pass.old (Faulted row) pass.new }
     {
         self.end(pass, Ended::Faulted(row));
     }
@@ -107,7 +107,7 @@ impl<J, R> Words<J, R> {
         requires holds { IsSome pass.old.holding }
         requires may { MayEnd pass.old.posted ended }
         ensures board { IsSamePass pass.old pass.new × (pass.new.holding ≡ None) }
-        ensures rule { HasEnded self.now pass.old ended pass.new }
+        ensures rule { EndsClaim self.now pass.old ended pass.new }
     {
         let Some(number) = pass.holding else {
             unreachable!()

@@ -1,6 +1,7 @@
 //! What a slot of a board of words holds, and what a pass of one knows.
 use crate::event::Event;
 use std::collections::LinkedList;
+use std::mem::size_of;
 
 /// What lies in the slot of a number.
 #[derive(Drop)]
@@ -9,6 +10,9 @@ pub enum Slot<J, R> {
     Job(J),
     Row(R),
 }
+
+// what a number takes beside its word, where jobs and rows are boxes
+const _: () = prove!(size_of::<Slot<Box<[u64; 100]>, Box<[u64; 50]>>>() == 16);
 
 /// What a pass knows, newest events first. No value of it is made.
 pub struct View<J, R> {

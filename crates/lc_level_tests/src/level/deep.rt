@@ -1,12 +1,12 @@
 //! What is too long or too deep for a walk.
 
 use crate::level::work::{Asked, Level, NOTHING, check, open, top};
-use lc_level::{Cause, Job, LevelReader, Scratch, Selection, Unlisted};
+use lc_level::{Cause, Job, LevelReader, OpenFault, Scratch, Selection};
 use lc_tree::{MemTree, Node, Sketch};
 use std::alloc::{AllocError, Global};
 use std::test::Fail;
 
-const DEEP: Unlisted = Unlisted::Broken(Cause::TooDeep);
+const DEEP: OpenFault = OpenFault::Broken(Cause::TooDeep);
 
 #[test]
 fn long_paths(rt: HostRuntime) -> Result<(), Fail> {
@@ -53,13 +53,13 @@ fn nested(alloc: Global, depth: u32) -> Result<Node, AllocError> {
 }
 
 /// Goes down to the directory from which no other is reached, and says how deep it is and how it ended.
-fn descend(alloc: Global, tree: &MemTree) -> Result<(u32, Option<Unlisted>), AllocError> {
+fn descend(alloc: Global, tree: &MemTree) -> Result<(u32, Option<OpenFault>), AllocError> {
     let mut scratch = Scratch::new(alloc)?;
     let levels = LevelReader::new(alloc, tree, Selection::new(false, &[]), NOTHING);
     let mut job = Job::top(alloc, None)?;
     for depth in 0..300 {
         match open(&levels, &job, &mut scratch)? {
-            Err(unlisted) => return Ok((depth, Some(unlisted))),
+            Err(open_fault) => return Ok((depth, Some(open_fault))),
             Ok(opened) => {
                 let mut children = opened.children;
                 match children.pop() {
@@ -74,7 +74,7 @@ fn descend(alloc: Global, tree: &MemTree) -> Result<(u32, Option<Unlisted>), All
 
 #[test]
 fn deep_directories(rt: HostRuntime) -> Result<(), Fail> {
-    let cases: [(u32, (u32, Option<Unlisted>)); 3] = [
+    let cases: [(u32, (u32, Option<OpenFault>)); 3] = [
         (0, (0, None)),
         (256, (256, None)),
         (257, (256, Some(DEEP))),

@@ -3,7 +3,8 @@
 use crate::level::left_out::{Why, is_reason};
 use crate::level::work::{Asked, NOTHING, job_of, top};
 use lc_level::{
-    Cause, Entered, FaultWord, Job, Kept, LevelReader, Place, Scratch, Selection, Unlisted, path_in,
+    Cause, Entered, FaultSite, FaultWord, Job, Kept, LevelReader, OpenFault, Scratch, Selection,
+    path_in,
 };
 use lc_rules::{Origin, Verdict};
 use lc_tree::{Entry, Kind, MemTree, Sketch};
@@ -42,9 +43,9 @@ fn enter(
     levels: &LevelReader<MemTree>,
     job: &Job,
     scratch: &mut Scratch,
-) -> Result<Result<Entered, Unlisted>, AllocError> {
+) -> Result<Result<Entered, OpenFault>, AllocError> {
     match levels.enter(job, scratch) {
-        Err(Unlisted::Broken(Cause::Memory)) => Err(AllocError),
+        Err(OpenFault::Broken(Cause::Memory)) => Err(AllocError),
         answer => Ok(answer),
     }
 }
@@ -236,9 +237,9 @@ fn a_fault_is_answered(rt: HostRuntime) -> Result<(), Fail> {
     let top = Job::top(rt.alloc(), None)?;
     match enter(&levels, &top, &mut scratch)? {
         Ok(_) => assert!(rt; false, "it was entered"),
-        Err(unlisted) => {
-            let wanted = Unlisted::Faulted(Place::Directory, FaultWord::Read);
-            assert!(rt; unlisted == wanted, "{unlisted:?}");
+        Err(open_fault) => {
+            let wanted = OpenFault::Faulted(FaultSite::Directory, FaultWord::Read);
+            assert!(rt; open_fault == wanted, "{open_fault:?}");
         }
     }
     Ok(())

@@ -1,7 +1,7 @@
 //! Directories at fault: at which place, and with which word.
 
 use crate::level::work::{Asked, check, top};
-use lc_level::{FaultWord, Place, Unlisted};
+use lc_level::{FaultSite, FaultWord, OpenFault};
 use lc_tree::Sketch;
 use std::alloc::{AllocError, Global};
 use std::process::Abort;
@@ -11,47 +11,47 @@ const LINE: Sketch = Sketch::File(b"x\n");
 
 const FAILING: Sketch = Sketch::Failing(b"");
 
-static OF_A_DIRECTORY: [(&str, Sketch, Place, FaultWord); 7] = [
+static OF_A_DIRECTORY: [(&str, Sketch, FaultSite, FaultWord); 7] = [
     (
         "can't be listed",
         Sketch::Closed,
-        Place::Directory,
+        FaultSite::Directory,
         FaultWord::Read,
     ),
     (
         "a name twice",
         Sketch::Dir(&[(b"a", LINE), (b"a", Sketch::Other)]),
-        Place::Directory,
+        FaultSite::Directory,
         FaultWord::Twice,
     ),
     (
         "a name with a slash",
         Sketch::Dir(&[(b"a/b", LINE)]),
-        Place::Directory,
+        FaultSite::Directory,
         FaultWord::Name,
     ),
     (
         "the name of its parent",
         Sketch::Dir(&[(b"..", LINE)]),
-        Place::Directory,
+        FaultSite::Directory,
         FaultWord::Name,
     ),
     (
         "its rules fail",
         Sketch::Dir(&[(b".gitignore", FAILING)]),
-        Place::IgnoreFile,
+        FaultSite::IgnoreFile,
         FaultWord::Read,
     ),
     (
         "its attributes fail",
         Sketch::Dir(&[(b".gitattributes", FAILING)]),
-        Place::AttributeFile,
+        FaultSite::AttributeFile,
         FaultWord::Read,
     ),
     (
         "both fail, the rules first",
         Sketch::Dir(&[(b".gitattributes", FAILING), (b".gitignore", FAILING)]),
-        Place::IgnoreFile,
+        FaultSite::IgnoreFile,
         FaultWord::Read,
     ),
 ];
@@ -62,7 +62,7 @@ fn check_directory(
     alloc: Global,
     case: &str,
     directory: Sketch,
-    wanted: Unlisted,
+    wanted: OpenFault,
 ) -> Result<(), AllocError> {
     let nested = [(b"s".as_slice(), directory)];
     let below = Asked {
@@ -76,7 +76,7 @@ fn check_directory(
 #[test]
 fn faults_of_a_directory(rt: HostRuntime) -> Result<(), Fail> {
     for (case, directory, place, word) in &OF_A_DIRECTORY {
-        let wanted = Unlisted::Faulted(*place, *word);
+        let wanted = OpenFault::Faulted(*place, *word);
         check_directory(&rt, rt.alloc(), case, *directory, wanted)?;
     }
     Ok(())
@@ -86,22 +86,22 @@ const BOTH_FAIL: Sketch = Sketch::Dir(&[(b"exclude", FAILING), (b"attributes", F
 
 const ATTRIBUTES_FAIL: Sketch = Sketch::Dir(&[(b"attributes", FAILING)]);
 
-static OF_THE_REPOSITORY: [(&str, Sketch, Place); 4] = [
-    (".git can't be listed", Sketch::Closed, Place::Git),
+static OF_THE_REPOSITORY: [(&str, Sketch, FaultSite); 4] = [
+    (".git can't be listed", Sketch::Closed, FaultSite::Git),
     (
         "its info can't",
         Sketch::Dir(&[(b"info", Sketch::Closed)]),
-        Place::GitInfo,
+        FaultSite::GitInfo,
     ),
     (
         "exclude fails, before attributes",
         Sketch::Dir(&[(b"info", BOTH_FAIL)]),
-        Place::ExcludeFile,
+        FaultSite::ExcludeFile,
     ),
     (
         "attributes fail",
         Sketch::Dir(&[(b"info", ATTRIBUTES_FAIL)]),
-        Place::InfoAttributes,
+        FaultSite::InfoAttributes,
     ),
 ];
 
@@ -111,13 +111,13 @@ fn check_repository(
     alloc: Global,
     case: &str,
     git: Sketch,
-    place: Place,
+    place: FaultSite,
 ) -> Result<(), AllocError> {
     let entries = [
         (b".git".as_slice(), git),
         (b".gitignore".as_slice(), FAILING),
     ];
-    let wanted = Unlisted::Faulted(place, FaultWord::Read);
+    let wanted = OpenFault::Faulted(place, FaultWord::Read);
     check(rt, alloc, case, top(Sketch::Dir(&entries)), Err(wanted))
 }
 

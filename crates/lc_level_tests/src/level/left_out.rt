@@ -68,7 +68,7 @@ fn check_left(
                 assert!(rt; are_left(&opened.left, wanted), "{case}: {:?}", opened.left);
                 assert!(rt; opened.entries == number, "{case}: {}", opened.entries);
             }
-            Err(unlisted) => assert!(rt; false, "{case}: {unlisted:?}"),
+            Err(open_fault) => assert!(rt; false, "{case}: {open_fault:?}"),
         }
     }
     Ok(())

@@ -110,7 +110,7 @@ fn check_part(
             let children = names_of(alloc, &opened)?;
             assert!(rt; is_part(&opened, &children, case), "{}", case.name);
         }
-        Err(unlisted) => assert!(rt; false, "{}: {unlisted:?}", case.name),
+        Err(open_fault) => assert!(rt; false, "{}: {open_fault:?}", case.name),
     }
     Ok(())
 }
@@ -130,7 +130,7 @@ fn check_faults(
     let job = Job::top(alloc, None)?;
     match work(alloc, &levels, &job, &mut scratch)? {
         Ok(found) => assert!(rt; are_faults(&found.counted, wanted), "faults"),
-        Err(unlisted) => assert!(rt; false, "{unlisted:?}"),
+        Err(open_fault) => assert!(rt; false, "{open_fault:?}"),
     }
     Ok(())
 }

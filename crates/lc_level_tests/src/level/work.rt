@@ -1,7 +1,7 @@
 //! One directory's work on a sketch, and what is wanted of it.
 
 use lc_level::{
-    Cause, CountedFiles, FaultWord, Job, Kept, LevelReader, Opened, Scratch, Selection, Unlisted,
+    Cause, CountedFiles, FaultWord, Job, Kept, LevelReader, OpenFault, Opened, Scratch, Selection,
 };
 use lc_rules::{IgnoreFile, RuleFault, TextState};
 use lc_tree::{MemTree, Sketch};
@@ -64,9 +64,9 @@ pub(crate) fn open(
     levels: &LevelReader<MemTree>,
     job: &Job,
     scratch: &mut Scratch,
-) -> Result<Result<Opened, Unlisted>, AllocError> {
+) -> Result<Result<Opened, OpenFault>, AllocError> {
     match levels.open(job, scratch) {
-        Err(Unlisted::Broken(Cause::Memory)) => Err(AllocError),
+        Err(OpenFault::Broken(Cause::Memory)) => Err(AllocError),
         answer => Ok(answer),
     }
 }
@@ -107,11 +107,11 @@ pub(crate) fn work(
     levels: &LevelReader<MemTree>,
     job: &Job,
     scratch: &mut Scratch,
-) -> Result<Result<Found, Unlisted>, AllocError> {
+) -> Result<Result<Found, OpenFault>, AllocError> {
     let opened = match levels.open(job, scratch) {
         Ok(opened) => opened,
-        Err(Unlisted::Broken(Cause::Memory)) => return Err(AllocError),
-        Err(unlisted) => return Ok(Err(unlisted)),
+        Err(OpenFault::Broken(Cause::Memory)) => return Err(AllocError),
+        Err(open_fault) => return Ok(Err(open_fault)),
     };
     let Opened {
         job,
@@ -156,7 +156,7 @@ pub(crate) fn are_names(found: &[Vec<u8>], wanted: &[&[u8]]) -> bool {
             .all(|(child, name)| child.as_slice() == *name)
 }
 
-fn is_wanted(found: &Result<Found, Unlisted>, wanted: &Result<Level, Unlisted>) -> bool {
+fn is_wanted(found: &Result<Found, OpenFault>, wanted: &Result<Level, OpenFault>) -> bool {
     match (found, wanted) {
         (Ok(found), Ok(level)) => {
             are_files(&found.counted, level.files)
@@ -164,7 +164,7 @@ fn is_wanted(found: &Result<Found, Unlisted>, wanted: &Result<Level, Unlisted>) 
                 && are_names(&found.children, level.children)
                 && found.left_out == 0
         }
-        (Err(unlisted), Err(wanted)) => unlisted == wanted,
+        (Err(open_fault), Err(wanted)) => open_fault == wanted,
         (Ok(_), Err(_)) | (Err(_), Ok(_)) => false,
     }
 }
@@ -175,7 +175,7 @@ pub(crate) fn check(
     alloc: Global,
     case: &str,
     asked: Asked,
-    wanted: Result<Level, Unlisted>,
+    wanted: Result<Level, OpenFault>,
 ) -> Result<(), AllocError> {
     let node = asked.tree.node(alloc)?;
     let tree = MemTree::new(&node);

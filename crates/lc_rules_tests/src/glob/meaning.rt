@@ -23,20 +23,8 @@ fn check(rt: &impl Abort, alloc: Global, cases: &[Case]) -> Result<(), AllocErro
     Ok(())
 }
 
-fn check_told(
-    rt: &impl Abort,
-    alloc: Global,
-    cases: &[(&'static [u8], Told)],
-) -> Result<(), AllocError> {
-    for (pattern, told) in cases {
-        let read = Pattern::read(alloc, pattern)?;
-        let found = (read.is_dead(), read.is_dir_only(), read.is_anchored());
-        assert!(rt; found == *told, "{pattern:?}");
-    }
-    Ok(())
-}
-
-static STAR: [Case; 5] = [
+/// A star stops at a slash.
+const STAR: &[Case] = &[
     (b"foo/*", b"foo/test.json", FILE, true),
     (b"foo/*", b"foo/bar", DIR, true),
     (b"f*o", b"fo", FILE, true),
@@ -44,13 +32,8 @@ static STAR: [Case; 5] = [
     (b"f*o", b"f/o", FILE, false),
 ];
 
-#[test]
-fn star_stops_at_slash(rt: HostRuntime) -> Result<(), Fail> {
-    check(&rt, rt.alloc(), &STAR)?;
-    Ok(())
-}
-
-static LAST_DOUBLE_STAR: [Case; 5] = [
+/// A last double star matches what is below.
+const LAST_DOUBLE_STAR: &[Case] = &[
     (b"abc/**", b"abc/x", FILE, true),
     (b"abc/**", b"abc/x/y", FILE, true),
     (b"/**", b"a", FILE, true),
@@ -58,13 +41,8 @@ static LAST_DOUBLE_STAR: [Case; 5] = [
     (b"abc/**", b"abc", DIR, false),
 ];
 
-#[test]
-fn last_double_star_matches_what_is_below(rt: HostRuntime) -> Result<(), Fail> {
-    check(&rt, rt.alloc(), &LAST_DOUBLE_STAR)?;
-    Ok(())
-}
-
-static DOUBLE_STAR: [Case; 9] = [
+/// A double star matches any depth.
+const DOUBLE_STAR: &[Case] = &[
     (b"a/**/b", b"a/b", FILE, true),
     (b"a/**/b", b"a/x/b", FILE, true),
     (b"a/**/b", b"a/x/y/b", FILE, true),
@@ -76,13 +54,8 @@ static DOUBLE_STAR: [Case; 9] = [
     (b"a/**/b/**/c", b"a/x/y/c", FILE, false),
 ];
 
-#[test]
-fn double_star_matches_any_depth(rt: HostRuntime) -> Result<(), Fail> {
-    check(&rt, rt.alloc(), &DOUBLE_STAR)?;
-    Ok(())
-}
-
-static OTHER_STARS: [Case; 6] = [
+/// Other runs of stars are one star.
+const OTHER_STARS: &[Case] = &[
     (b"x**/b", b"x/b", FILE, true),
     (b"x**/b", b"xyz/b", FILE, true),
     (b"***/b", b"q/b", FILE, true),
@@ -91,13 +64,8 @@ static OTHER_STARS: [Case; 6] = [
     (b"***/b", b"q/r/b", FILE, false),
 ];
 
-#[test]
-fn other_runs_of_stars_are_one_star(rt: HostRuntime) -> Result<(), Fail> {
-    check(&rt, rt.alloc(), &OTHER_STARS)?;
-    Ok(())
-}
-
-static LAST_SEPARATOR: [Case; 6] = [
+/// A last separator asks for a directory.
+const LAST_SEPARATOR: &[Case] = &[
     (b"doc/frotz/", b"doc/frotz", DIR, true),
     (b"frotz/", b"frotz", DIR, true),
     (b"frotz/", b"a/frotz", DIR, true),
@@ -106,13 +74,8 @@ static LAST_SEPARATOR: [Case; 6] = [
     (b"frotz/", b"frotz", FILE, false),
 ];
 
-#[test]
-fn last_separator_asks_for_directory(rt: HostRuntime) -> Result<(), Fail> {
-    check(&rt, rt.alloc(), &LAST_SEPARATOR)?;
-    Ok(())
-}
-
-static MEMBERS: [Case; 15] = [
+/// A bracket stands for its members.
+const MEMBERS: &[Case] = &[
     (b"[]a]", b"]", FILE, true),
     (b"[]a]", b"a", FILE, true),
     (b"[!a-c]", b"d", FILE, true),
@@ -130,13 +93,8 @@ static MEMBERS: [Case; 15] = [
     (b"[\\]]", b"]", FILE, true),
 ];
 
-#[test]
-fn bracket_stands_for_members(rt: HostRuntime) -> Result<(), Fail> {
-    check(&rt, rt.alloc(), &MEMBERS)?;
-    Ok(())
-}
-
-static OTHER_BYTES: [Case; 7] = [
+/// A bracket stands for nothing else.
+const OTHER_BYTES: &[Case] = &[
     (b"[]a]", b"b", FILE, false),
     (b"[!a-c]", b"b", FILE, false),
     (b"[^a-c]", b"b", FILE, false),
@@ -146,13 +104,8 @@ static OTHER_BYTES: [Case; 7] = [
     (b"a[!b]c", b"a/c", FILE, false),
 ];
 
-#[test]
-fn bracket_stands_for_nothing_else(rt: HostRuntime) -> Result<(), Fail> {
-    check(&rt, rt.alloc(), &OTHER_BYTES)?;
-    Ok(())
-}
-
-static CLASSES: [Case; 15] = [
+/// Classes are of ASCII.
+const CLASSES: &[Case] = &[
     (b"[[:alpha:]]", b"Z", FILE, true),
     (b"[[:lower:]]", b"z", FILE, true),
     (b"[[:upper:]]", b"A", FILE, true),
@@ -170,13 +123,8 @@ static CLASSES: [Case; 15] = [
     (b"[[:alpha:]]", b"\xe4", FILE, false),
 ];
 
-#[test]
-fn classes_are_ascii(rt: HostRuntime) -> Result<(), Fail> {
-    check(&rt, rt.alloc(), &CLASSES)?;
-    Ok(())
-}
-
-static QUOTED: [Case; 9] = [
+/// A backslash quotes.
+const QUOTED: &[Case] = &[
     (b"\\#a", b"#a", FILE, true),
     (b"\\!b", b"!b", FILE, true),
     (b"\\*", b"*", FILE, true),
@@ -188,52 +136,8 @@ static QUOTED: [Case; 9] = [
     (b"[[:upper:]]?", b"q1", FILE, false),
 ];
 
-#[test]
-fn backslash_quotes(rt: HostRuntime) -> Result<(), Fail> {
-    check(&rt, rt.alloc(), &QUOTED)?;
-    Ok(())
-}
-
-const DEAD: Told = (true, false, false);
-
-static DEAD_PATTERNS: [(&'static [u8], Told); 9] = [
-    (b"[[:foo:]]", DEAD),
-    (b"[ab", DEAD),
-    (b"[a\\", DEAD),
-    (b"[[:a", DEAD),
-    (b"a\\", DEAD),
-    (b"a//b", DEAD),
-    (b"//", DEAD),
-    (b"/", DEAD),
-    (b"", DEAD),
-];
-
-#[test]
-fn dead_patterns_are_told(rt: HostRuntime) -> Result<(), Fail> {
-    check_told(&rt, rt.alloc(), &DEAD_PATTERNS)?;
-    for (pattern, _) in &DEAD_PATTERNS {
-        check(&rt, rt.alloc(), &[(pattern, b"a", DIR, false)])?;
-    }
-    Ok(())
-}
-
-static SEPARATORS: [(&'static [u8], Told); 7] = [
-    (b"a", (false, false, false)),
-    (b"a/", (false, true, false)),
-    (b"/a", (false, false, true)),
-    (b"/a/", (false, true, true)),
-    (b"a/b", (false, false, true)),
-    (b"\\/a", (false, false, true)),
-    (b"[a/b]", (false, false, false)),
-];
-
-#[test]
-fn separators_anchor_and_ask_for_directory(rt: HostRuntime) -> Result<(), Fail> {
-    check_told(&rt, rt.alloc(), &SEPARATORS)?;
-    Ok(())
-}
-
-static DOCUMENTED: [Case; 8] = [
+/// The examples of the crate's documentation.
+const DOCUMENTED: &[Case] = &[
     (b"/build/**/*.o", b"build/x86/main.o", FILE, true),
     (b"frotz/", b"a/frotz", DIR, true),
     (b"*.[oa]", b"main.a", FILE, true),
@@ -244,6 +148,53 @@ static DOCUMENTED: [Case; 8] = [
     (b"[!a-z]", b"m", FILE, false),
 ];
 
+#[test]
+fn each_case_holds(rt: HostRuntime) -> Result<(), Fail> {
+    check(&rt, rt.alloc(), STAR)?;
+    check(&rt, rt.alloc(), LAST_DOUBLE_STAR)?;
+    check(&rt, rt.alloc(), DOUBLE_STAR)?;
+    check(&rt, rt.alloc(), OTHER_STARS)?;
+    check(&rt, rt.alloc(), LAST_SEPARATOR)?;
+    check(&rt, rt.alloc(), MEMBERS)?;
+    check(&rt, rt.alloc(), OTHER_BYTES)?;
+    check(&rt, rt.alloc(), CLASSES)?;
+    check(&rt, rt.alloc(), QUOTED)?;
+    check(&rt, rt.alloc(), DOCUMENTED)?;
+    Ok(())
+}
+
+const DEAD: Told = (true, false, false);
+
+const TOLD: &[(&'static [u8], Told)] = &[
+    (b"[[:foo:]]", DEAD),
+    (b"[ab", DEAD),
+    (b"[a\\", DEAD),
+    (b"[[:a", DEAD),
+    (b"a\\", DEAD),
+    (b"a//b", DEAD),
+    (b"//", DEAD),
+    (b"/", DEAD),
+    (b"", DEAD),
+    (b"a", (false, false, false)),
+    (b"a/", (false, true, false)),
+    (b"/a", (false, false, true)),
+    (b"/a/", (false, true, true)),
+    (b"a/b", (false, false, true)),
+    (b"\\/a", (false, false, true)),
+    (b"[a/b]", (false, false, false)),
+];
+
+#[test]
+fn each_pattern_tells_what_it_is(rt: HostRuntime) -> Result<(), Fail> {
+    for (pattern, told) in TOLD {
+        let read = Pattern::read(rt.alloc(), pattern)?;
+        let found = (read.is_dead(), read.is_dir_only(), read.is_anchored());
+        let matches_nothing = !read.is_dead() || !read.matches(b"a", true);
+        assert!(rt; found == *told && matches_nothing, "{pattern:?}");
+    }
+    Ok(())
+}
+
 /// How many patterns stand behind the last one that matches.
 fn behind_the_last(patterns: &[Pattern], path: &[u8]) -> Option<usize> {
     let candidate = Candidate::new(path);
@@ -253,10 +204,8 @@ fn behind_the_last(patterns: &[Pattern], path: &[u8]) -> Option<usize> {
         .position(|pattern| pattern.matches_candidate(&candidate, false))
 }
 
-/// The examples of the crate's documentation.
 #[test]
-fn documented_examples(rt: HostRuntime) -> Result<(), Fail> {
-    check(&rt, rt.alloc(), &DOCUMENTED)?;
+fn the_last_that_matches_is_found(rt: HostRuntime) -> Result<(), Fail> {
     let mut patterns = Vec::new(rt.alloc());
     for text in [b"*.c".as_slice(), b"/src"] {
         patterns.push(Pattern::read(rt.alloc(), text)?)?;

@@ -4,7 +4,7 @@ use lc_glob::cut_at_first;
 use lc_glob::path::{depth_of, is_good_name, is_good_path, is_too_deep, is_too_long, push_name};
 use std::test::Fail;
 
-static NAMES: [(&'static [u8], bool); 12] = [
+const NAMES: &[(&'static [u8], bool)] = &[
     (b"a", true),
     (b"...", true),
     (b".git", true),
@@ -21,12 +21,12 @@ static NAMES: [(&'static [u8], bool); 12] = [
 
 #[test]
 fn names_that_a_directory_can_have(rt: HostRuntime) {
-    for (name, is_good) in &NAMES {
+    for (name, is_good) in NAMES {
         assert!(rt; is_good_name(name) == *is_good, "{name:?}");
     }
 }
 
-static PATHS: [(&'static [u8], bool); 10] = [
+const PATHS: &[(&'static [u8], bool)] = &[
     (b"a", true),
     (b"a/b", true),
     (b"a/.../c", true),
@@ -41,7 +41,7 @@ static PATHS: [(&'static [u8], bool); 10] = [
 
 #[test]
 fn paths_that_a_tree_can_have(rt: HostRuntime) {
-    for (path, is_good) in &PATHS {
+    for (path, is_good) in PATHS {
         assert!(rt; is_good_path(path) == *is_good, "{path:?}");
     }
 }
@@ -60,12 +60,12 @@ fn longest_and_deepest_path(rt: HostRuntime) -> Result<(), Fail> {
 }
 
 /// Names, and the path after each was pushed.
-static PUSHED: [(&'static [u8], &'static [u8]); 2] = [(b"src", b"src"), (b"main.c", b"src/main.c")];
+const PUSHED: &[(&'static [u8], &'static [u8])] = &[(b"src", b"src"), (b"main.c", b"src/main.c")];
 
 #[test]
 fn name_is_pushed_after_a_slash(rt: HostRuntime) -> Result<(), Fail> {
     let mut path = Vec::new(rt.alloc());
-    for (name, after) in &PUSHED {
+    for (name, after) in PUSHED {
         push_name(&mut path, name)?;
         assert!(rt; path.as_slice() == *after, "{name:?}");
     }
@@ -73,7 +73,7 @@ fn name_is_pushed_after_a_slash(rt: HostRuntime) -> Result<(), Fail> {
 }
 
 /// A byte, what is cut at its first place, and the two parts.
-static CUTS: [(u8, &'static [u8], (&'static [u8], Option<&'static [u8]>)); 3] = [
+const CUTS: &[(u8, &'static [u8], (&'static [u8], Option<&'static [u8]>))] = &[
     (b'=', b"eol=lf=", (b"eol", Some(b"lf="))),
     (b'=', b"eol", (b"eol", None)),
     (b'\n', b"\n", (b"", Some(b""))),
@@ -81,7 +81,7 @@ static CUTS: [(u8, &'static [u8], (&'static [u8], Option<&'static [u8]>)); 3] = 
 
 #[test]
 fn bytes_are_cut_at_the_first(rt: HostRuntime) {
-    for (byte, bytes, parts) in &CUTS {
+    for (byte, bytes, parts) in CUTS {
         assert!(rt; cut_at_first(*byte, bytes) == *parts, "{bytes:?}");
     }
 }

@@ -7,11 +7,15 @@ use std::process::Abort;
 use std::sync::Arc;
 use std::test::Fail;
 
+const FILE: bool = false;
+
+const DIR: bool = true;
+
 /// Lines of the top file, the path of a file, an attribute, and its state.
 type Case = (&'static [u8], &'static [u8], &'static [u8], State<'static>);
 
 /// What a chain is made of, from its top on: files of directories at a depth, or none, and the file of `.git/info`.
-#[derive(Drop)]
+#[derive(Clone, Copy)]
 enum Part {
     File(u32, &'static [u8]),
     NoFile(u32),
@@ -21,6 +25,14 @@ enum Part {
 
 /// What a chain is made of, the path of a file, and its attribute `text`.
 type TextCase = (&'static [Part], &'static [u8], TextState);
+
+/// What a chain is made of, a path and its kind, an attribute, and its state.
+type StateCase = (
+    &'static [Part],
+    (&'static [u8], bool),
+    &'static [u8],
+    State<'static>,
+);
 
 fn read(alloc: Global, bytes: &[u8], top: bool) -> Result<AttrFile, AllocError> {
     AttrFile::read(alloc, bytes, top).map_err(|_| AllocError)
@@ -91,8 +103,8 @@ fn check_texts(rt: &impl Abort, alloc: Global, cases: &[TextCase]) -> Result<(),
     Ok(())
 }
 
-// Tables are statics, since a constant is unfolded in the proof of each use; one that points at another can't be a static.
-static WORDS: [Case; 14] = [
+// Tables are constant slices, since an array is written out in the proof of each function that lends it.
+const WORDS: &[Case] = &[
     (b"*.c text", b"a.c", b"text", State::Set),
     (b"*.c -text", b"a.c", b"text", State::Unset),
     (b"*.c text\n*.c !text", b"a.c", b"text", State::Unspecified),
@@ -114,13 +126,7 @@ static WORDS: [Case; 14] = [
     (b"*.c A.b-c_9", b"a.c", b"A.b-c_9", State::Set),
 ];
 
-#[test]
-fn words(rt: HostRuntime) -> Result<(), Fail> {
-    check(&rt, rt.alloc(), &WORDS)?;
-    Ok(())
-}
-
-static LINES: [Case; 8] = [
+const LINES: &[Case] = &[
     (b"#* text", b"#a", b"text", State::Unspecified),
     (b"  #* text", b"#a", b"text", State::Unspecified),
     (b"\xEF\xBB\xBFa text", b"a", b"text", State::Set),
@@ -131,13 +137,7 @@ static LINES: [Case; 8] = [
     (b"/t text", b"s/t", b"text", State::Unspecified),
 ];
 
-#[test]
-fn lines(rt: HostRuntime) -> Result<(), Fail> {
-    check(&rt, rt.alloc(), &LINES)?;
-    Ok(())
-}
-
-static QUOTED_PATTERNS: [Case; 10] = [
+const QUOTED_PATTERNS: &[Case] = &[
     (b"\"a b\" text", b"a b", b"text", State::Set),
     (b"\"a b\"text", b"a b", b"text", State::Set),
     (b"\"\\101\" -text", b"A", b"text", State::Unset),
@@ -155,13 +155,7 @@ static QUOTED_PATTERNS: [Case; 10] = [
     (b"\"[attr]m\" text", b"m", b"text", State::Unspecified),
 ];
 
-#[test]
-fn quoted_patterns(rt: HostRuntime) -> Result<(), Fail> {
-    check(&rt, rt.alloc(), &QUOTED_PATTERNS)?;
-    Ok(())
-}
-
-static MACROS: [Case; 14] = [
+const MACROS: &[Case] = &[
     (b"*.a binary", b"x.a", b"text", State::Unset),
     (b"*.a binary", b"x.a", b"binary", State::Set),
     (b"*.a binary\n*.a -binary", b"x.a", b"binary", State::Unset),
@@ -208,13 +202,7 @@ static MACROS: [Case; 14] = [
     (b"[attr]-m a\n*.q a", b"y.q", b"a", State::Set),
 ];
 
-#[test]
-fn macros(rt: HostRuntime) -> Result<(), Fail> {
-    check(&rt, rt.alloc(), &MACROS)?;
-    Ok(())
-}
-
-static LATER_ASSIGNMENTS_DECIDE: [Case; 6] = [
+const LATER_ASSIGNMENTS_DECIDE: &[Case] = &[
     (b"*.w text -text", b"a.w", b"text", State::Unset),
     (b"*.w -text text", b"a.w", b"text", State::Set),
     (b"*.v text\n*.v -text", b"a.v", b"text", State::Unset),
@@ -224,138 +212,102 @@ static LATER_ASSIGNMENTS_DECIDE: [Case; 6] = [
 ];
 
 #[test]
-fn later_assignments_decide(rt: HostRuntime) -> Result<(), Fail> {
-    check(&rt, rt.alloc(), &LATER_ASSIGNMENTS_DECIDE)?;
+fn each_case_holds(rt: HostRuntime) -> Result<(), Fail> {
+    check(&rt, rt.alloc(), WORDS)?;
+    check(&rt, rt.alloc(), LINES)?;
+    check(&rt, rt.alloc(), QUOTED_PATTERNS)?;
+    check(&rt, rt.alloc(), MACROS)?;
+    check(&rt, rt.alloc(), LATER_ASSIGNMENTS_DECIDE)?;
     Ok(())
 }
 
-const TEXT_LINES: [Part; 1] = [Part::File(
+const TEXT_LINES: &[Part] = &[Part::File(
     0,
     b"*.t text=auto\n*.u text=crlf\n*.s text\n*.n -text\n*.v text\n*.v !text\nd/ text",
 )];
 
-const TEXTS: [TextCase; 7] = [
-    (&TEXT_LINES, b"b.t", TextState::Auto),
-    (&TEXT_LINES, b"b.u", TextState::Other),
-    (&TEXT_LINES, b"b.s", TextState::Set),
-    (&TEXT_LINES, b"b.n", TextState::Unset),
-    (&TEXT_LINES, b"b.v", TextState::Unspecified),
-    (&TEXT_LINES, b"b.x", TextState::Unspecified),
-    (&TEXT_LINES, b"d", TextState::Unspecified),
-];
-
-#[test]
-fn the_attribute_text(rt: HostRuntime) -> Result<(), Fail> {
-    check_texts(&rt, rt.alloc(), &TEXTS)?;
-    let of_directory = has_state(&TEXT_LINES, rt.alloc(), (b"d", true), b"text", State::Set)?;
-    assert!(rt; of_directory);
-    Ok(())
-}
-
-static MANUAL: [Part; 3] = [
+/// The example of gitattributes(5).
+const MANUAL: &[Part] = &[
     Part::File(0, b"abc foo bar baz"),
     Part::File(1, b"ab* merge=filfre\nabc -foo -bar\n*.c frotz"),
     Part::NoFile(2),
 ];
 
-static MANUAL_STATES: [(&'static [u8], State<'static>); 5] = [
-    (b"foo", State::Unset),
-    (b"bar", State::Unset),
-    (b"baz", State::Set),
-    (b"merge", State::Value(b"filfre")),
-    (b"frotz", State::Unspecified),
-];
-
-#[test]
-fn manual_example_states(rt: HostRuntime) -> Result<(), Fail> {
-    for (name, state) in &MANUAL_STATES {
-        let holds = has_state(&MANUAL, rt.alloc(), (b"t/abc", false), name, *state)?;
-        assert!(rt; holds, "{name:?}");
-    }
-    check_texts(
-        &rt,
-        rt.alloc(),
-        &[(&MANUAL, b"t/abc", TextState::Unspecified)],
-    )?;
-    Ok(())
-}
-
-const TOP_MACRO: [Part; 2] = [
+/// Only the top file defines macros.
+const TOP_MACRO: &[Part] = &[
     Part::File(0, b"[attr]m -text"),
     Part::File(1, b"[attr]sub -text\n*.z sub\n*.y m"),
 ];
 
-const BELOW_THE_TOP: [Part; 1] = [Part::File(1, b"*.z binary")];
+const BELOW_THE_TOP: &[Part] = &[Part::File(1, b"*.z binary")];
 
-const TOP_MACROS: [TextCase; 4] = [
-    (&TOP_MACRO, b"t/a.z", TextState::Unspecified),
-    (&TOP_MACRO, b"t/a.y", TextState::Unset),
-    (&BELOW_THE_TOP, b"t/a.z", TextState::Unset),
-    (&[], b"a", TextState::Unspecified),
-];
-
-#[test]
-fn macros_of_the_top_file_alone(rt: HostRuntime) -> Result<(), Fail> {
-    check_texts(&rt, rt.alloc(), &TOP_MACROS)?;
-    let of_name = has_state(
-        &TOP_MACRO,
-        rt.alloc(),
-        (b"t/a.z", false),
-        b"sub",
-        State::Set,
-    )?;
-    assert!(rt; of_name);
-    Ok(())
-}
-
-static INFO_FIRST: [Part; 3] = [
+/// The attributes of `.git/info` override the tree's, also where they are put last.
+const INFO_FIRST: &[Part] = &[
     Part::Info(b"*.c text"),
     Part::File(0, b"*.c -text"),
     Part::File(1, b"*.c !text"),
 ];
 
-#[test]
-fn info_attributes_override_the_tree(rt: HostRuntime) -> Result<(), Fail> {
-    check_texts(&rt, rt.alloc(), &[(&INFO_FIRST, b"t/a.c", TextState::Set)])?;
-    Ok(())
-}
+const NO_INFO: &[Part] = &[Part::File(0, b"*.c -text"), Part::NoInfo];
 
-const NO_INFO: [Part; 2] = [Part::File(0, b"*.c -text"), Part::NoInfo];
-
-const INFO_LAST: [Part; 3] = [
+const INFO_LAST: &[Part] = &[
     Part::File(0, b"*.c -text"),
     Part::NoInfo,
     Part::Info(b"*.c text"),
 ];
 
-const PUT_LAST: [TextCase; 2] = [
-    (&NO_INFO, b"a.c", TextState::Unset),
-    (&INFO_LAST, b"a.c", TextState::Set),
-];
+/// So do its macros those of the top file.
+const NO_INFO_MACROS: &[Part] = &[Part::File(0, b"[attr]m text\n*.c m")];
 
-#[test]
-fn info_attributes_put_last(rt: HostRuntime) -> Result<(), Fail> {
-    check_texts(&rt, rt.alloc(), &PUT_LAST)?;
-    Ok(())
-}
-
-const NO_INFO_MACROS: [Part; 1] = [Part::File(0, b"[attr]m text\n*.c m")];
-
-const INFO_MACROS: [Part; 3] = [
+const INFO_MACROS: &[Part] = &[
     Part::File(0, b"[attr]m text\n*.c m"),
     Part::Info(b"[attr]m -text\n[attr]src text"),
     Part::File(1, b"*.d src"),
 ];
 
-const MACROS_OF_INFO: [TextCase; 3] = [
-    (&NO_INFO_MACROS, b"a.c", TextState::Set),
-    (&INFO_MACROS, b"a.c", TextState::Unset),
-    (&INFO_MACROS, b"t/a.d", TextState::Set),
+const TEXTS: &[TextCase] = &[
+    (TEXT_LINES, b"b.t", TextState::Auto),
+    (TEXT_LINES, b"b.u", TextState::Other),
+    (TEXT_LINES, b"b.s", TextState::Set),
+    (TEXT_LINES, b"b.n", TextState::Unset),
+    (TEXT_LINES, b"b.v", TextState::Unspecified),
+    (TEXT_LINES, b"b.x", TextState::Unspecified),
+    (TEXT_LINES, b"d", TextState::Unspecified),
+    (MANUAL, b"t/abc", TextState::Unspecified),
+    (TOP_MACRO, b"t/a.z", TextState::Unspecified),
+    (TOP_MACRO, b"t/a.y", TextState::Unset),
+    (BELOW_THE_TOP, b"t/a.z", TextState::Unset),
+    (&[], b"a", TextState::Unspecified),
+    (INFO_FIRST, b"t/a.c", TextState::Set),
+    (NO_INFO, b"a.c", TextState::Unset),
+    (INFO_LAST, b"a.c", TextState::Set),
+    (NO_INFO_MACROS, b"a.c", TextState::Set),
+    (INFO_MACROS, b"a.c", TextState::Unset),
+    (INFO_MACROS, b"t/a.d", TextState::Set),
 ];
 
 #[test]
-fn macros_of_info_override_those_of_the_top(rt: HostRuntime) -> Result<(), Fail> {
-    check_texts(&rt, rt.alloc(), &MACROS_OF_INFO)?;
+fn texts_by_a_chain(rt: HostRuntime) -> Result<(), Fail> {
+    check_texts(&rt, rt.alloc(), TEXTS)?;
+    Ok(())
+}
+
+const STATES: &[StateCase] = &[
+    (MANUAL, (b"t/abc", FILE), b"foo", State::Unset),
+    (MANUAL, (b"t/abc", FILE), b"bar", State::Unset),
+    (MANUAL, (b"t/abc", FILE), b"baz", State::Set),
+    (MANUAL, (b"t/abc", FILE), b"merge", State::Value(b"filfre")),
+    (MANUAL, (b"t/abc", FILE), b"frotz", State::Unspecified),
+    (TOP_MACRO, (b"t/a.z", FILE), b"sub", State::Set),
+    (TEXT_LINES, (b"d", DIR), b"text", State::Set),
+];
+
+#[test]
+fn states_by_a_chain(rt: HostRuntime) -> Result<(), Fail> {
+    for (parts, path, name, state) in STATES {
+        let holds = has_state(parts, rt.alloc(), *path, name, *state)?;
+        assert!(rt; holds, "{name:?}");
+    }
     Ok(())
 }
 
@@ -376,13 +328,27 @@ fn at_most_a_mebibyte(rt: HostRuntime) -> Result<(), Fail> {
     Ok(())
 }
 
+/// Words, and whether an attribute can have such a name.
+const NAMES: &[(&'static str, bool)] = &[
+    ("a", true),
+    ("linguist-vendored", true),
+    ("A.9_z", true),
+    ("_", true),
+    (".", true),
+    ("0-", true),
+    ("", false),
+    ("-", false),
+    ("-a", false),
+    ("a b", false),
+    ("a=b", false),
+    ("!a", false),
+    ("\u{e9}", false),
+    ("a/b", false),
+];
+
 #[test]
-fn names_of_attributes(rt: HostRuntime) -> Result<(), Fail> {
-    for name in ["a", "linguist-vendored", "A.9_z", "_", ".", "0-"] {
-        assert!(rt; is_attribute_name(name.as_bytes()), "{name}");
+fn names_of_attributes(rt: HostRuntime) {
+    for (name, is_name) in NAMES {
+        assert!(rt; is_attribute_name(name.as_bytes()) == *is_name, "{name}");
     }
-    for name in ["", "-", "-a", "a b", "a=b", "!a", "\u{e9}", "a/b"] {
-        assert!(rt; !is_attribute_name(name.as_bytes()), "{name}");
-    }
-    Ok(())
 }

@@ -48,56 +48,21 @@ fn check(rt: &impl Abort, alloc: Global, cases: &[Case]) -> Result<(), AllocErro
     Ok(())
 }
 
-const TOP: [Directory; 1] = [(0, Some(b"*.t"))];
+const TOP: &[Directory] = &[(0, Some(b"*.t"))];
 
-const INNER: [Directory; 2] = [(0, Some(b"*.t")), (1, Some(b"!k.t"))];
+/// A deeper file overrides.
+const INNER: &[Directory] = &[(0, Some(b"*.t")), (1, Some(b"!k.t"))];
 
-const DEEPER: [Case; 5] = [
-    (&INNER, b"s/k.t", FILE, Verdict::Included),
-    (&INNER, b"s/j.t", FILE, Verdict::Ignored),
-    (&INNER, b"s/u.c", FILE, Verdict::NoRule),
-    (&TOP, b"k.t", FILE, Verdict::Ignored),
-    (&[], b"k.t", FILE, Verdict::NoRule),
-];
+/// A later file of one depth overrides.
+const ONE_DEPTH: &[Directory] = &[(0, Some(b"*.c")), (0, Some(b"!x.c"))];
 
-#[test]
-fn a_deeper_file_overrides(rt: HostRuntime) -> Result<(), Fail> {
-    check(&rt, rt.alloc(), &DEEPER)?;
-    Ok(())
-}
+const AND_NO_FILE: &[Directory] = &[(0, Some(b"*.c")), (0, Some(b"!x.c")), (3, None)];
 
-const ONE_DEPTH: [Directory; 2] = [(0, Some(b"*.c")), (0, Some(b"!x.c"))];
+/// A file sees paths below its directory.
+const SECOND: &[Directory] = &[(2, Some(b"/c\nd/e/"))];
 
-const AND_NO_FILE: [Directory; 3] = [(0, Some(b"*.c")), (0, Some(b"!x.c")), (3, None)];
-
-const LATER: [Case; 4] = [
-    (&ONE_DEPTH, b"x.c", FILE, Verdict::Included),
-    (&ONE_DEPTH, b"y.c", FILE, Verdict::Ignored),
-    (&AND_NO_FILE, b"x.c", FILE, Verdict::Included),
-    (&AND_NO_FILE, b"y.c", FILE, Verdict::Ignored),
-];
-
-#[test]
-fn a_later_file_of_one_depth_overrides(rt: HostRuntime) -> Result<(), Fail> {
-    check(&rt, rt.alloc(), &LATER)?;
-    Ok(())
-}
-
-const SECOND: [Directory; 1] = [(2, Some(b"/c\nd/e/"))];
-
-const BELOW: [Case; 3] = [
-    (&SECOND, b"a/b/c", FILE, Verdict::Ignored),
-    (&SECOND, b"a/b/x/c", FILE, Verdict::NoRule),
-    (&SECOND, b"a/b/d/e", DIR, Verdict::Ignored),
-];
-
-#[test]
-fn a_file_sees_paths_below_its_directory(rt: HostRuntime) -> Result<(), Fail> {
-    check(&rt, rt.alloc(), &BELOW)?;
-    Ok(())
-}
-
-const MANY: [Directory; 13] = [
+/// More files than stand inline.
+const MANY: &[Directory] = &[
     (0, Some(b"a\nb")),
     (0, Some(b"!b")),
     (1, Some(b"!b")),
@@ -113,13 +78,25 @@ const MANY: [Directory; 13] = [
     (11, Some(b"!b")),
 ];
 
-const DEEPEST: [Case; 2] = [
-    (&MANY, b"1/2/3/4/5/6/7/8/9/10/11/a", FILE, Verdict::Ignored),
-    (&MANY, b"1/2/3/4/5/6/7/8/9/10/11/b", FILE, Verdict::Included),
+const CASES: &[Case] = &[
+    (INNER, b"s/k.t", FILE, Verdict::Included),
+    (INNER, b"s/j.t", FILE, Verdict::Ignored),
+    (INNER, b"s/u.c", FILE, Verdict::NoRule),
+    (TOP, b"k.t", FILE, Verdict::Ignored),
+    (&[], b"k.t", FILE, Verdict::NoRule),
+    (ONE_DEPTH, b"x.c", FILE, Verdict::Included),
+    (ONE_DEPTH, b"y.c", FILE, Verdict::Ignored),
+    (AND_NO_FILE, b"x.c", FILE, Verdict::Included),
+    (AND_NO_FILE, b"y.c", FILE, Verdict::Ignored),
+    (SECOND, b"a/b/c", FILE, Verdict::Ignored),
+    (SECOND, b"a/b/x/c", FILE, Verdict::NoRule),
+    (SECOND, b"a/b/d/e", DIR, Verdict::Ignored),
+    (MANY, b"1/2/3/4/5/6/7/8/9/10/11/a", FILE, Verdict::Ignored),
+    (MANY, b"1/2/3/4/5/6/7/8/9/10/11/b", FILE, Verdict::Included),
 ];
 
 #[test]
-fn more_files_than_stand_inline(rt: HostRuntime) -> Result<(), Fail> {
-    check(&rt, rt.alloc(), &DEEPEST)?;
+fn each_case_holds(rt: HostRuntime) -> Result<(), Fail> {
+    check(&rt, rt.alloc(), CASES)?;
     Ok(())
 }

@@ -29,7 +29,8 @@ fn check(rt: &impl Abort, alloc: Global, cases: &[Case]) -> Result<(), AllocErro
     Ok(())
 }
 
-const EACH_LINE_COUNTS: &[Case] = &[
+const CASES: &[Case] = &[
+    // each line counts
     (b"a", b"a", FILE, Some((1, Verdict::Ignored))),
     (b"\n\na\n\n", b"a", FILE, Some((3, Verdict::Ignored))),
     (b"# a\n\nb\n#\na", b"a", FILE, Some((5, Verdict::Ignored))),
@@ -43,15 +44,7 @@ const EACH_LINE_COUNTS: &[Case] = &[
     // dead patterns keep their lines, and decide nothing
     (b"[a\na//\na", b"a", FILE, Some((3, Verdict::Ignored))),
     (b"a\n[a", b"a", FILE, Some((1, Verdict::Ignored))),
-];
-
-#[test]
-fn each_line_counts(rt: HostRuntime) -> Result<(), Fail> {
-    check(&rt, rt.alloc(), EACH_LINE_COUNTS)?;
-    Ok(())
-}
-
-const THE_LAST_DECIDES: &[Case] = &[
+    // the last that matches decides
     (
         b"*.log\n!keep.log\n/build/\n",
         b"a.log",
@@ -79,56 +72,84 @@ const THE_LAST_DECIDES: &[Case] = &[
 ];
 
 #[test]
-fn the_last_decides(rt: HostRuntime) -> Result<(), Fail> {
-    check(&rt, rt.alloc(), THE_LAST_DECIDES)?;
+fn each_case_holds(rt: HostRuntime) -> Result<(), Fail> {
+    check(&rt, rt.alloc(), CASES)?;
     Ok(())
 }
 
-/// A file of these bytes, to be put on a chain.
-fn shared(alloc: Global, bytes: &[u8]) -> Result<Option<Arc<IgnoreFile, Global>>, AllocError> {
-    Ok(Some(Arc::new(alloc, read(alloc, bytes)?)?))
+/// Where a file of rules is put on a chain.
+#[derive(Clone, Copy)]
+enum Put {
+    Exclude,
+    Info,
+    Below(u32),
 }
 
-/// The chain of an exclude file, of `.git/info/exclude`, and of the files at the top and in a directory.
-fn whole_chain(alloc: Global) -> Result<Chain, AllocError> {
-    let top = shared(alloc, b"\n*.t\n*.c\n")?;
-    let inner = shared(alloc, b"#\n\n\n!k.t\n/u.c\n")?;
-    let chain = Chain::top()
-        .with_exclude(shared(alloc, b"*.o\n*.t\n!*.p\n")?)
-        .below(alloc, 0, top)?
-        .with_info(shared(alloc, b"\n*.p\n*.c\n")?);
-    chain.below(alloc, 1, inner)
+fn with_file(chain: Chain, alloc: Global, (put, rules): (Put, &[u8])) -> Result<Chain, AllocError> {
+    let file = Some(Arc::new(alloc, read(alloc, rules)?)?);
+    match put {
+        Put::Exclude => Ok(chain.with_exclude(file)),
+        Put::Info => Ok(chain.with_info(file)),
+        Put::Below(depth) => chain.below(alloc, depth, file),
+    }
+}
+
+const FILES: &[(Put, &'static [u8])] = &[
+    (Put::Exclude, b"*.o\n*.t\n!*.p\n"),
+    (Put::Below(0), b"\n*.t\n*.c\n"),
+    (Put::Info, b"\n*.p\n*.c\n"),
+    (Put::Below(1), b"#\n\n\n!k.t\n/u.c\n"),
+];
+
+fn chain_of(alloc: Global, files: &[(Put, &'static [u8])]) -> Result<Chain, AllocError> {
+    let mut chain = Chain::top();
+    for file in files {
+        chain = with_file(chain, alloc, *file)?;
+    }
+    Ok(chain)
+}
+
+/// A path, and where the rule stands that decides it.
+type Place = (&'static [u8], Option<(Origin, u32)>);
+
+const NEARER: &[Place] = &[
+    (b"s/k.t", Some((Origin::Directory(1), 4))),
+    (b"s/j.t", Some((Origin::Directory(0), 2))),
+    (b"s/u.c", Some((Origin::Directory(1), 5))),
+    (b"s/v/u.c", Some((Origin::Directory(0), 3))),
+    (b"s/a.p", Some((Origin::GitInfo, 2))),
+    (b"s/a.o", Some((Origin::ExcludeFile, 1))),
+    (b"s/u", None),
+];
+
+fn check_places(rt: &impl Abort, chain: &Chain, places: &[Place]) {
+    for (path, wanted) in places {
+        let found = match chain.deciding(path, FILE) {
+            Some((origin, rule)) => Some((origin, rule.line())),
+            None => None,
+        };
+        assert!(rt; found == *wanted, "{path:?}: {found:?}");
+    }
 }
 
 #[test]
 fn a_nearer_file_decides(rt: HostRuntime) -> Result<(), Fail> {
-    let chain = whole_chain(rt.alloc())?;
-    for (path, wanted) in [
-        (b"s/k.t".as_slice(), Some((Origin::Directory(1), 4))),
-        (b"s/j.t", Some((Origin::Directory(0), 2))),
-        (b"s/u.c", Some((Origin::Directory(1), 5))),
-        (b"s/v/u.c", Some((Origin::Directory(0), 3))),
-        (b"s/a.p", Some((Origin::GitInfo, 2))),
-        (b"s/a.o", Some((Origin::ExcludeFile, 1))),
-        (b"s/u", None),
-    ] {
-        let found = chain
-            .deciding(path, FILE)
-            .map(|(origin, rule)| (origin, rule.line()));
-        assert!(rt; found == wanted, "{path:?}: {found:?}");
-    }
+    let chain = chain_of(rt.alloc(), FILES)?;
+    check_places(&rt, &chain, NEARER);
     Ok(())
 }
 
+/// The texts of some lines.
+const TEXTS: &[&'static [u8]] = &[b"!a", b"b\\ ", b"", b"#c", b" d", b""];
+
 #[test]
 fn texts_of_lines(rt: HostRuntime) -> Result<(), Fail> {
-    let wanted: [&[u8]; 6] = [b"!a", b"b\\ ", b"", b"#c", b" d", b""];
     let mut left = Lines::of(b"\xEF\xBB\xBF!a  \r\nb\\   \n \n#c\n d \n");
-    for text in wanted {
+    for text in TEXTS {
         let Some((line, others)) = left.split_first() else {
             return Err(AllocError.into());
         };
-        assert!(rt; text_of_line(line) == text, "{line:?}");
+        assert!(rt; text_of_line(line) == *text, "{line:?}");
         left = others;
     }
     assert!(rt; left.split_first().is_none());

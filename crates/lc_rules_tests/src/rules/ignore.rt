@@ -41,7 +41,7 @@ fn is_too_long(alloc: Global, bytes: &[u8]) -> bool {
     matches!(IgnoreFile::read(alloc, bytes), Err(RuleFault::TooLong))
 }
 
-static LINES: [Case; 8] = [
+const LINES: &[Case] = &[
     (b"a\nb", b"b", FILE, Verdict::Ignored),
     (b"\n\na\n\n", b"a", FILE, Verdict::Ignored),
     (b"\xEF\xBB\xBFa", b"a", FILE, Verdict::Ignored),
@@ -52,25 +52,13 @@ static LINES: [Case; 8] = [
     (b"a\0b\n", b"a", FILE, Verdict::NoRule),
 ];
 
-#[test]
-fn lines(rt: HostRuntime) -> Result<(), Fail> {
-    check(&rt, rt.alloc(), &LINES)?;
-    Ok(())
-}
-
-static COMMENTS: [Case; 3] = [
+const COMMENTS: &[Case] = &[
     (b"#a", b"#a", FILE, Verdict::NoRule),
     (b"\\#a", b"#a", FILE, Verdict::Ignored),
     (b" #a", b" #a", FILE, Verdict::Ignored),
 ];
 
-#[test]
-fn comments(rt: HostRuntime) -> Result<(), Fail> {
-    check(&rt, rt.alloc(), &COMMENTS)?;
-    Ok(())
-}
-
-static TRAILING_SPACES_QUOTED: [Case; 10] = [
+const TRAILING_SPACES_QUOTED: &[Case] = &[
     (b"a  ", b"a", FILE, Verdict::Ignored),
     (b"a\\ ", b"a ", FILE, Verdict::Ignored),
     (b"a\\ ", b"a", FILE, Verdict::NoRule),
@@ -83,40 +71,21 @@ static TRAILING_SPACES_QUOTED: [Case; 10] = [
     (b" a", b" a", FILE, Verdict::Ignored),
 ];
 
-#[test]
-fn trailing_spaces_quoted(rt: HostRuntime) -> Result<(), Fail> {
-    check(&rt, rt.alloc(), &TRAILING_SPACES_QUOTED)?;
-    check_len(&rt, rt.alloc(), b"a\\ \na\\\\ \n   \nfoo \r\n", 3)?;
-    Ok(())
-}
-
-static NEGATION: [Case; 4] = [
+const NEGATION: &[Case] = &[
     (b"!a", b"a", FILE, Verdict::Included),
     (b"\\!a", b"!a", FILE, Verdict::Ignored),
     (b"!!a", b"!a", FILE, Verdict::Included),
     (b"a\n!", b"a", FILE, Verdict::Ignored),
 ];
 
-#[test]
-fn negation(rt: HostRuntime) -> Result<(), Fail> {
-    check(&rt, rt.alloc(), &NEGATION)?;
-    Ok(())
-}
-
-static LAST_MATCH_DECIDES: [Case; 4] = [
+const LAST_MATCH_DECIDES: &[Case] = &[
     (b"*.o\n!k.o", b"k.o", FILE, Verdict::Included),
     (b"*.o\n!k.o", b"a.o", FILE, Verdict::Ignored),
     (b"!k.o\n*.o", b"k.o", FILE, Verdict::Ignored),
     (b"*.o\n!k.o", b"z", FILE, Verdict::NoRule),
 ];
 
-#[test]
-fn last_match_decides(rt: HostRuntime) -> Result<(), Fail> {
-    check(&rt, rt.alloc(), &LAST_MATCH_DECIDES)?;
-    Ok(())
-}
-
-static MANUAL_EXAMPLE_CHECK: [Case; 9] = [
+const MANUAL_EXAMPLE_CHECK: &[Case] = &[
     (
         b"/*\n!/foo\n/foo/*\n!/foo/bar",
         b"foo",
@@ -158,13 +127,7 @@ static MANUAL_EXAMPLE_CHECK: [Case; 9] = [
     (b"foo/*", b"foo/bar/hello.c", FILE, Verdict::NoRule),
 ];
 
-#[test]
-fn manual_example_check(rt: HostRuntime) -> Result<(), Fail> {
-    check(&rt, rt.alloc(), &MANUAL_EXAMPLE_CHECK)?;
-    Ok(())
-}
-
-static SEPARATORS: [Case; 14] = [
+const SEPARATORS: &[Case] = &[
     (b"frotz", b"a/b/frotz", FILE, Verdict::Ignored),
     (b"/frotz", b"frotz", FILE, Verdict::Ignored),
     (b"/frotz", b"a/frotz", FILE, Verdict::NoRule),
@@ -181,13 +144,7 @@ static SEPARATORS: [Case; 14] = [
     (b"link/", b"link", FILE, Verdict::NoRule),
 ];
 
-#[test]
-fn separators(rt: HostRuntime) -> Result<(), Fail> {
-    check(&rt, rt.alloc(), &SEPARATORS)?;
-    Ok(())
-}
-
-static WILDCARDS: [Case; 13] = [
+const WILDCARDS: &[Case] = &[
     (b"*.c", b"a.c", FILE, Verdict::Ignored),
     (b"a*c", b"ac", FILE, Verdict::Ignored),
     (b"/a*c", b"a/c", FILE, Verdict::NoRule),
@@ -203,13 +160,7 @@ static WILDCARDS: [Case; 13] = [
     (b"***/b", b"q/r/b", FILE, Verdict::NoRule),
 ];
 
-#[test]
-fn wildcards(rt: HostRuntime) -> Result<(), Fail> {
-    check(&rt, rt.alloc(), &WILDCARDS)?;
-    Ok(())
-}
-
-static DOUBLE_STARS: [Case; 9] = [
+const DOUBLE_STARS: &[Case] = &[
     (b"**/foo", b"foo", FILE, Verdict::Ignored),
     (b"**/foo", b"a/b/foo", FILE, Verdict::Ignored),
     (b"abc/**", b"abc", DIR, Verdict::NoRule),
@@ -221,13 +172,7 @@ static DOUBLE_STARS: [Case; 9] = [
     (b"/**", b"a/b", FILE, Verdict::Ignored),
 ];
 
-#[test]
-fn double_stars(rt: HostRuntime) -> Result<(), Fail> {
-    check(&rt, rt.alloc(), &DOUBLE_STARS)?;
-    Ok(())
-}
-
-static BRACKETS: [Case; 16] = [
+const BRACKETS: &[Case] = &[
     (b"[a-c]", b"b", FILE, Verdict::Ignored),
     (b"[]a]", b"]", FILE, Verdict::Ignored),
     (b"[]a]", b"b", FILE, Verdict::NoRule),
@@ -246,13 +191,7 @@ static BRACKETS: [Case; 16] = [
     (b"[[:]", b":", FILE, Verdict::Ignored),
 ];
 
-#[test]
-fn brackets(rt: HostRuntime) -> Result<(), Fail> {
-    check(&rt, rt.alloc(), &BRACKETS)?;
-    Ok(())
-}
-
-static DEAD_PATTERNS: [Case; 6] = [
+const DEAD_PATTERNS: &[Case] = &[
     (b"[[:foo:]]", b"f", FILE, Verdict::NoRule),
     (b"[ab", b"[ab", FILE, Verdict::NoRule),
     (b"a\\", b"a\\", FILE, Verdict::NoRule),
@@ -262,10 +201,33 @@ static DEAD_PATTERNS: [Case; 6] = [
 ];
 
 #[test]
-fn dead_patterns(rt: HostRuntime) -> Result<(), Fail> {
-    check(&rt, rt.alloc(), &DEAD_PATTERNS)?;
-    check_len(&rt, rt.alloc(), b"[ab\na//b\n!\n#c\n\n", 3)?;
-    check_len(&rt, rt.alloc(), b"#c\n   \n", 0)?;
+fn each_case_holds(rt: HostRuntime) -> Result<(), Fail> {
+    check(&rt, rt.alloc(), LINES)?;
+    check(&rt, rt.alloc(), COMMENTS)?;
+    check(&rt, rt.alloc(), TRAILING_SPACES_QUOTED)?;
+    check(&rt, rt.alloc(), NEGATION)?;
+    check(&rt, rt.alloc(), LAST_MATCH_DECIDES)?;
+    check(&rt, rt.alloc(), MANUAL_EXAMPLE_CHECK)?;
+    check(&rt, rt.alloc(), SEPARATORS)?;
+    check(&rt, rt.alloc(), WILDCARDS)?;
+    check(&rt, rt.alloc(), DOUBLE_STARS)?;
+    check(&rt, rt.alloc(), BRACKETS)?;
+    check(&rt, rt.alloc(), DEAD_PATTERNS)?;
+    Ok(())
+}
+
+/// Rules, and how many they are.
+const LENS: &[(&'static [u8], usize)] = &[
+    (b"a\\ \na\\\\ \n   \nfoo \r\n", 3),
+    (b"[ab\na//b\n!\n#c\n\n", 3),
+    (b"#c\n   \n", 0),
+];
+
+#[test]
+fn rules_are_counted(rt: HostRuntime) -> Result<(), Fail> {
+    for (rules, len) in LENS {
+        check_len(&rt, rt.alloc(), rules, *len)?;
+    }
     Ok(())
 }
 
@@ -274,12 +236,7 @@ fn at_most_a_mebibyte(rt: HostRuntime) -> Result<(), Fail> {
     let bytes = vec![in rt.alloc(); b'a'; 1_048_577]?;
     assert!(rt; is_too_long(rt.alloc(), &bytes));
     check_len(&rt, rt.alloc(), &bytes[1..], 1)?;
-    Ok(())
-}
-
-#[test]
-fn a_million_empty_lines(rt: HostRuntime) -> Result<(), Fail> {
-    let bytes = vec![in rt.alloc(); b'\n'; 1_048_576]?;
-    check_len(&rt, rt.alloc(), &bytes, 0)?;
+    let empty_lines = vec![in rt.alloc(); b'\n'; 1_048_576]?;
+    check_len(&rt, rt.alloc(), &empty_lines, 0)?;
     Ok(())
 }

@@ -217,11 +217,11 @@ fn compare_over<B: Shared<Job, Row>, R: Threads + Wait + Sync + AllocGlobal + Ab
 pub(super) fn compare_by<R: Threads + Wait + Sync + AllocGlobal + Abort>(
     rt: &R,
     case: &Case<'_>,
-    crews: &[u32],
+    threads_of_each: &[u32],
 ) -> Result<(), Fail> {
     let node = case.top.node(rt.alloc())?;
     let tree = MemTree::new(&node);
-    for threads in crews {
+    for threads in threads_of_each {
         let threads = *threads;
         assert!(rt; 1 <= threads && threads <= 16);
         compare(rt, &tree, case, threads)?;

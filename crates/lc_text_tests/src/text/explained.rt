@@ -197,7 +197,7 @@ fn fault_of<S: Source>(alloc: Global, file: &mut S) -> Result<Option<RulesFileFa
 #[test]
 fn files_without_text(rt: HostRuntime) -> Result<(), Fail> {
     assert!(rt;
-        fault_of(rt.alloc(), &mut Failing(b"a\n".as_slice()))? == Some(RulesFileFault::Unread)
+        fault_of(rt.alloc(), &mut Failing(b"a\n".as_slice()))? == Some(RulesFileFault::Read)
     );
     let bytes = vec![in rt.alloc(); b'a'; 1_048_577]?;
     assert!(rt; fault_of(rt.alloc(), &mut bytes.as_slice())? == Some(RulesFileFault::TooLong));

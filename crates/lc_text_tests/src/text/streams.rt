@@ -175,11 +175,7 @@ fn files_of_rules(rt: HostRuntime) -> Result<(), Fail> {
     let file = b"a\n# b\n\n!c".as_slice();
     compare_rules(&rt, &mut Bytewise(file), Ok(2))?;
     for given in 0..=file.len() {
-        compare_rules(
-            &rt,
-            &mut Failing(&file[..given]),
-            Err(RulesFileFault::Unread),
-        )?;
+        compare_rules(&rt, &mut Failing(&file[..given]), Err(RulesFileFault::Read))?;
     }
     let longest = vec![in rt.alloc(); b'a'; 1_048_576]?;
     compare_rules(&rt, &mut longest.as_slice(), Ok(1))

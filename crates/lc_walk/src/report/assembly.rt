@@ -2,7 +2,7 @@
 ghost use Rattle.std.specs.Prelude.{◌≡◌, ℕ, ◌<◌, ◌≤◌, ◌^◌, true, false, slice_get, Some, vec_len};
 ghost use Rattle.lc_walk.specs.Rows.{row_of};
 ghost use Rattle.lc_walk.specs.Assembled.{IsBrokenBy, SomeBroken, Assembles};
-ghost use Rattle.lc_walk.specs.Marks.{fault_of_tree};
+ghost use Rattle.lc_walk.specs.Links.{fault_of_tree};
 ghost use Rattle.lc_board.specs.declared.answers.Ended.{Ended};
 ghost use Rattle.lc_walk.specs.declared.row.Row.{Row};
 

@@ -4,12 +4,12 @@ ghost use Rattle.lc_walk.specs.Rows.{row_of};
 ghost use Rattle.lc_walk.specs.WalkReport.{left_line, line_of};
 ghost use Rattle.lc_walk.specs.Assembled.{fault_line, directories_by_row, entries_by_row, files_by_row, faults_by_row, left_by_row};
 ghost use Rattle.lc_walk.specs.Assembled.{AreFindings};
-ghost use Rattle.lc_level.specs.PlacePaths.{place_path};
+ghost use Rattle.lc_level.specs.SitePaths.{site_path};
 
 use crate::report::{FaultLine, FileLine, Findings, LeftLine};
 use crate::row::{FaultedRow, ListedRow, Row};
 use lc_board::Ended;
-use lc_level::{Counted, FileFault, LeftOut, Place, path_in};
+use lc_level::{Counted, FaultSite, FileFault, LeftOut, path_in};
 use std::alloc::{AllocError, Global};
 
 /// The row by which a number ended.
@@ -85,17 +85,17 @@ pub fn push_left(
 }
 
 /// The path at which a directory is at fault.
-pub fn place_path(alloc: Global, directory: &[u8], place: Place) -> Result<Vec<u8>, AllocError>
-    ensures { IfOk result (λ p. p.items ≡ place_path directory.now place) }
+pub fn site_path(alloc: Global, directory: &[u8], site: FaultSite) -> Result<Vec<u8>, AllocError>
+    ensures { IfOk result (λ p. p.items ≡ site_path directory.now site) }
 {
-    match place {
-        Place::Directory => directory.to_vec(alloc),
-        Place::Git => b".git".to_vec(alloc),
-        Place::GitInfo => b".git/info".to_vec(alloc),
-        Place::ExcludeFile => b".git/info/exclude".to_vec(alloc),
-        Place::InfoAttributes => b".git/info/attributes".to_vec(alloc),
-        Place::IgnoreFile => path_in(alloc, directory, b".gitignore"),
-        Place::AttributeFile => path_in(alloc, directory, b".gitattributes"),
+    match site {
+        FaultSite::Directory => directory.to_vec(alloc),
+        FaultSite::Git => b".git".to_vec(alloc),
+        FaultSite::GitInfo => b".git/info".to_vec(alloc),
+        FaultSite::ExcludeFile => b".git/info/exclude".to_vec(alloc),
+        FaultSite::InfoAttributes => b".git/info/attributes".to_vec(alloc),
+        FaultSite::IgnoreFile => path_in(alloc, directory, b".gitignore"),
+        FaultSite::AttributeFile => path_in(alloc, directory, b".gitattributes"),
     }
 }
 
@@ -121,7 +121,7 @@ pub fn push_row(alloc: Global, row: &Row, found: &mut Findings) -> Result<(), Al
         }
         Row::Faulted(row) => {
             found.faults.push(FaultLine {
-                path: place_path(alloc, row.job.path(), row.place)?,
+                path: site_path(alloc, row.job.path(), row.site)?,
                 word: row.word,
             })?;
         }

@@ -4,7 +4,7 @@ ghost use Rattle.std.specs.Prelude.{IfOk, IfErr, OnOk, OnErr, MatchOption};
 ghost use Rattle.lc_walk.specs.Rows.{row_of, job_of, children_in};
 ghost use Rattle.lc_glob.specs.Path.{path_in};
 ghost use Rattle.lc_walk.specs.Assembled.{IsPlaced};
-ghost use Rattle.lc_walk.specs.Marks.{Marks, IsNext, IsPathAt, RefusesTree};
+ghost use Rattle.lc_walk.specs.Links.{AreLinked, IsNext, IsPathAt, RefusesTree};
 
 use crate::report::row_lines::row_of;
 use crate::row::{Child, Row};
@@ -73,18 +73,18 @@ fn number_of(child: &Child) -> usize
     child.number as usize
 }
 
-fn is_marked(hung: &[bool], at: usize) -> bool
-    requires { at < length hung.now }
-    ensures { slice_get hung.now at ≡ Some result }
+fn is_marked(linked: &[bool], at: usize) -> bool
+    requires { at < length linked.now }
+    ensures { slice_get linked.now at ≡ Some result }
 {
-    hung[at]
+    linked[at]
 }
 
-fn mark(hung: &mut [bool], at: usize)
-    requires { at < length hung.old }
-    ensures { hung.new ≡ slice_set hung.old at true }
+fn mark(linked: &mut [bool], at: usize)
+    requires { at < length linked.old }
+    ensures { linked.new ≡ slice_set linked.old at true }
 {
-    hung[at] = true;
+    linked[at] = true;
 }
 
 /// The path of the directory of a number.
@@ -96,18 +96,18 @@ fn path_at(rows: &[Ended<Row>], at: usize) -> &[u8]
 }
 
 /// Marks the number of the next child.
-fn hang(
+fn link(
     rows: &[Ended<Row>],
     at: usize,
     place: usize,
     child: &Child,
-    hung: &mut [bool],
+    linked: &mut [bool],
 ) -> Result<(), TreeFault>
     requires at { at < length rows.now }
     requires few { length rows.now ≤ 2 ^ 32 }
     requires next { IsNext rows.now at place child.now }
-    requires marks { Marks rows.now at place hung.old }
-    ensures marks { OnOk result (Marks rows.now at (place + 1) hung.new) }
+    requires marks { AreLinked rows.now at place linked.old }
+    ensures marks { OnOk result (AreLinked rows.now at (place + 1) linked.new) }
     ensures torn { IfErr result (RefusesTree rows.now) }
 {
     let number = number_of(child);
@@ -117,7 +117,7 @@ fn hang(
     if number >= rows.len() {
         return Ok(());
     }
-    if is_marked(hung, number) {
+    if is_marked(linked, number) {
         return Err(TreeFault::Torn(number as u32));
     }
     if at >= number {
@@ -127,44 +127,44 @@ fn hang(
     if !is_child_path(path_at(rows, at), child, path) {
         return Err(TreeFault::Torn(number as u32));
     }
-    mark(hung, number);
+    mark(linked, number);
     Ok(())
 }
 
 /// Marks the numbers of all children of a row.
-fn hang_row(rows: &[Ended<Row>], at: usize, hung: &mut [bool]) -> Result<(), TreeFault>
+fn link_row(rows: &[Ended<Row>], at: usize, linked: &mut [bool]) -> Result<(), TreeFault>
     requires at { at < length rows.now }
     requires few { length rows.now ≤ 2 ^ 32 }
-    requires marks { Marks rows.now at 0 hung.old }
-    ensures marks { OnOk result (Marks rows.now (at + 1) 0 hung.new) }
+    requires marks { AreLinked rows.now at 0 linked.old }
+    ensures marks { OnOk result (AreLinked rows.now (at + 1) 0 linked.new) }
     ensures torn { IfErr result (RefusesTree rows.now) }
 {
     let children = children_of(row_of(&rows[at]));
     for place in 0..children.len() {
-        hang(rows, at, place, &children[place], hung)?;
+        link(rows, at, place, &children[place], linked)?;
     }
     Ok(())
 }
 
 fn no_marks(alloc: Global, count: usize) -> Result<Vec<bool>, AllocError>
-    ensures { IfOk result (λ hung. hung.items ≡ replicate count false) }
+    ensures { IfOk result (λ linked. linked.items ≡ replicate count false) }
 {
     Ok(vec![in alloc; false; count]?)
 }
 
 /// Marks the numbers that rows name as children.
-fn hang_all(alloc: Global, rows: &[Ended<Row>]) -> Result<Vec<bool>, TreeFault>
+fn link_all(alloc: Global, rows: &[Ended<Row>]) -> Result<Vec<bool>, TreeFault>
     requires few { length rows.now ≤ 2 ^ 32 }
-    ensures marks { IfOk result (λ hung. Marks rows.now (length rows.now) 0 hung.items) }
+    ensures marks { IfOk result (λ linked. AreLinked rows.now (length rows.now) 0 linked.items) }
     ensures torn { IfErr result (RefusesTree rows.now) }
 {
-    let Ok(mut hung) = no_marks(alloc, rows.len()) else {
+    let Ok(mut linked) = no_marks(alloc, rows.len()) else {
         return Err(TreeFault::Memory);
     };
     for at in 0..rows.len() {
-        hang_row(rows, at, &mut hung)?;
+        link_row(rows, at, &mut linked)?;
     }
-    Ok(hung)
+    Ok(linked)
 }
 
 /// Whether the rows make a tree, and else a number at which they don't.
@@ -179,9 +179,9 @@ pub fn check_tree(alloc: Global, rows: &[Ended<Row>]) -> Result<(), TreeFault>
     if path_at(rows, 0).len() > 0 {
         return Err(TreeFault::Torn(0));
     }
-    let hung = hang_all(alloc, rows)?;
+    let linked = link_all(alloc, rows)?;
     for number in 1..rows.len() {
-        if !is_marked(&hung, number) {
+        if !is_marked(&linked, number) {
             return Err(TreeFault::Torn(number as u32));
         }
     }

@@ -1,6 +1,6 @@
 //! The sums over some counted files.
 ghost use Rattle.std.specs.Prelude.{◌≡◌, true};
-ghost use Rattle.lc_walk.specs.Sums.{plus, one_file, no_files, HasRoom, IsModest};
+ghost use Rattle.lc_walk.specs.Sums.{plus, one_file, no_files, IsInRange, IsModest};
 
 use lc_census::Count;
 
@@ -49,7 +49,7 @@ impl Sums {
     }
 
     pub(crate) fn add(self, more: Sums) -> Sums
-        requires { HasRoom (plus self more) }
+        requires { IsInRange (plus self more) }
         ensures { result ≡ plus self more }
     {
         Sums {

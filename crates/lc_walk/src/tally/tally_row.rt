@@ -4,7 +4,7 @@ ghost use Rattle.std.specs.Option.{option_cmp};
 ghost use Rattle.std.specs.Ordering.{nat_cmp};
 ghost use Rattle.std.specs.Cmp.Lexicographic.{slice_cmp};
 ghost use Rattle.lc_walk.specs.Key.{key_cmp};
-ghost use Rattle.lc_walk.specs.Sums.{plus, HasRoom};
+ghost use Rattle.lc_walk.specs.Sums.{plus, IsInRange};
 
 use crate::tally::key::{KeyRef, eol_rank, text_rank};
 use crate::tally::sums::Sums;
@@ -101,7 +101,7 @@ impl TallyRow {
     }
 
     pub(crate) fn absorb(&mut self, more: Sums)
-        requires { HasRoom (plus self.old.sums more) }
+        requires { IsInRange (plus self.old.sums more) }
         ensures { self.new ≡ record { key = self.old.key; sums = plus self.old.sums more } }
     {
         self.files += more.files;

@@ -3,14 +3,14 @@ ghost use Rattle.std.specs.Prelude.{◌∷◌, [], map};
 ghost use Rattle.lc_walk.specs.Serving.{AddsFiles};
 ghost use Rattle.lc_walk.specs.WalkReport.{tallied};
 
-use crate::tally::{MOST_FILES, Tally, extension};
+use crate::tally::{MAX_FILES, Tally, extension};
 use lc_level::Counted;
 use std::alloc::AllocError;
 
 fn add_file(tally: &mut Tally, file: &Counted) -> Result<(), AllocError>
     ensures { AddsFiles (tallied file.now ∷ []) tally.old tally.new result }
 {
-    if tally.totals().files >= MOST_FILES {
+    if tally.totals().files >= MAX_FILES {
         return Err(AllocError);
     }
     tally.add(extension(&file.name), file.text, file.count)

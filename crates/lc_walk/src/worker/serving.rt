@@ -4,17 +4,18 @@ ghost use Rattle.lc_board.specs.Pass.{after_give};
 ghost use Rattle.lc_level.specs.Opens.{IsOpened};
 ghost use Rattle.lc_level.specs.TreeAnswers.{MayAnswer};
 ghost use Rattle.lc_walk.specs.BoardPasses.{HoldsClaim, IsFree, IsPassOf};
-ghost use Rattle.lc_walk.specs.Serving.{HoldsJob, GivesUp, GoesOn, Serves};
+ghost use Rattle.lc_walk.specs.Serving.{HoldsJob, GivesUp, WorksOn, Serves};
 ghost use Rattle.lc_walk.specs.WalkOptions.{asked_by};
 ghost use Rattle.lc_walk.specs.declared.row.Row.TheVariants.{Broken};
 
 use crate::given_up::GivenUp;
 use crate::row::{BrokenRow, FaultedRow, ListedParts, ListedRow, Row};
+use crate::served_job::ServedJob;
 use crate::tally::Tally;
 use crate::worker::Worker;
 use crate::worker::adding::add_files;
 use lc_board::Shared;
-use lc_level::{Counted, CountedFiles, Job, Kept, LevelReader, Opened, Scratch, Unlisted};
+use lc_level::{Counted, CountedFiles, Job, Kept, LevelReader, OpenFault, Opened, Scratch};
 use lc_tree::Tree;
 use std::alloc::AllocError;
 use std::sync::Wait;
@@ -34,7 +35,7 @@ impl<'w, B: Shared<Job, Row>, T: Tree, W: Wait> Worker<'w, B, T, W> {
     }
 
     /// Ends the claim of a directory by giving it up. It answers `Err` where that was for want of memory.
-    fn give_up(&self, pass: &mut B::Pass, job: Job, cause: GivenUp) -> Result<(), AllocError>
+    fn give_up(&self, pass: &mut B::Pass, job: ServedJob, cause: GivenUp) -> Result<(), AllocError>
         requires { IsPassOf B.owns B.Pass.view self.now.board.now HoldsClaim pass.old }
         ensures pass { IsPassOf B.owns B.Pass.view self.now.board.now IsFree pass.new }
         ensures mine { B.Pass.view pass.new ≡ after_give (B.Pass.view pass.old) (Broken (record { job = job; cause = cause })) }
@@ -64,7 +65,7 @@ impl<'w, B: Shared<Job, Row>, T: Tree, W: Wait> Worker<'w, B, T, W> {
     fn serve_opened(
         &self,
         pass: &mut B::Pass,
-        job: Job,
+        job: ServedJob,
         opened: Opened,
         scratch: &mut Scratch,
         tally: &mut Tally,
@@ -127,12 +128,19 @@ impl<'w, B: Shared<Job, Row>, T: Tree, W: Wait> Worker<'w, B, T, W> {
             (B.Pass.view pass.old) (B.Pass.view pass.new) tally.old tally.new result }
     {
         match self.levels().open(&job, scratch) {
-            Ok(opened) => self.serve_opened(pass, job, opened, scratch, tally),
-            Err(Unlisted::Faulted(place, word)) => {
-                self.board.fault(self.rt, pass, Row::Faulted(FaultedRow { job, place, word }));
+            Ok(opened) => {
+                let job = ServedJob::of(job);
+                self.serve_opened(pass, job, opened, scratch, tally)
+            }
+            Err(OpenFault::Faulted(site, word)) => {
+                let job = ServedJob::of(job);
+                self.board.fault(self.rt, pass, Row::Faulted(FaultedRow { job, site, word }));
                 Ok(())
             }
-            Err(Unlisted::Broken(cause)) => self.give_up(pass, job, GivenUp::unopened(cause)),
+            Err(OpenFault::Broken(cause)) => {
+                let job = ServedJob::of(job);
+                self.give_up(pass, job, GivenUp::unopened(cause))
+            }
         }
     }
 
@@ -147,7 +155,7 @@ impl<'w, B: Shared<Job, Row>, T: Tree, W: Wait> Worker<'w, B, T, W> {
     )
         requires { IsPassOf B.owns B.Pass.view self.now.board.now (HoldsJob job) pass.old }
         ensures pass { IsPassOf B.owns B.Pass.view self.now.board.now IsFree pass.new }
-        ensures goes_on { GoesOn (asked_by self.now.options.now) (MayAnswer (T.lists self.now.tree.now) (T.gives self.now.tree.now))
+        ensures goes_on { WorksOn (asked_by self.now.options.now) (MayAnswer (T.lists self.now.tree.now) (T.gives self.now.tree.now))
             (B.Pass.view pass.old) (B.Pass.view pass.new) tally.old tally.new }
     {
         let served = if let Some(scratch) = scratch
@@ -155,7 +163,7 @@ impl<'w, B: Shared<Job, Row>, T: Tree, W: Wait> Worker<'w, B, T, W> {
         {
             self.serve(pass, job, scratch, tally)
         } else {
-            self.give_up(pass, job, GivenUp::Memory)
+            self.give_up(pass, ServedJob::of(job), GivenUp::Memory)
         };
         if served.is_err() {
             *tally = None;

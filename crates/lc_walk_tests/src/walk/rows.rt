@@ -4,9 +4,11 @@ ghost use Rattle.lc_board.specs.Pass.{holding, new_pass};
 
 use crate::walk::walked::walk_options;
 use lc_board::{Claim, CloseFault, Closed, Ended, Locked, Shared, Words};
-use lc_level::{FaultWord, Job, Kept, LevelReader, Place, Scratch, Selection};
+use lc_level::{FaultSite, FaultWord, Job, Kept, LevelReader, Scratch, Selection};
 use lc_tree::{MemTree, Sketch, Tree};
-use lc_walk::{BrokenRow, End, GivenUp, Lists, Row, Tally, WalkFault, Worked, Worker, assemble};
+use lc_walk::{
+    BrokenRow, End, GivenUp, Lists, Row, ServedJob, Tally, WalkFault, Worked, Worker, assemble,
+};
 use std::alloc::{AllocError, Global};
 use std::process::Abort;
 use std::sync::Wait;
@@ -14,7 +16,7 @@ use std::test::Fail;
 
 /// A board of four numbers for one worker, and its pass.
 fn start_one<B: Shared<Job, Row>>(alloc: Global) -> Result<(B, B::Pass), AllocError>
-    ensures crew { IfOk result (λ b. B.workers_of b.0 ≡ 1) }
+    ensures workers { IfOk result (λ b. B.workers_of b.0 ≡ 1) }
     ensures pass { IfOk result (λ b. B.owns b.0 b.1 × (B.Pass.view b.1 ≡ new_pass 0)) }
 {
     let (board, mut passes) = B::start(alloc, 4, 1, Job::top(alloc, None)?)?;
@@ -29,7 +31,7 @@ fn close_one<B: Shared<Job, Row>>(
     board: B,
     pass: B::Pass,
 ) -> Result<Closed<Row>, AllocError>
-    requires crew { B.workers_of board ≡ 1 }
+    requires workers { B.workers_of board ≡ 1 }
     requires pass { B.owns board pass × ((B.Pass.view pass).worker ≡ 0) }
 {
     let mut passes = Vec::new(alloc);
@@ -48,7 +50,7 @@ fn close_one<B: Shared<Job, Row>>(
 enum Said {
     /// How many files and child directories it has.
     Listed(usize, usize),
-    Faulted(Place, FaultWord),
+    Faulted(FaultSite, FaultWord),
     Broken(GivenUp),
     /// It was given as no such row is.
     Amiss,
@@ -60,7 +62,7 @@ impl Said {
             Ended::Returned(Row::Listed(row)) => {
                 Said::Listed(row.files().len(), row.children().len())
             }
-            Ended::Faulted(Row::Faulted(row)) => Said::Faulted(row.place, row.word),
+            Ended::Faulted(Row::Faulted(row)) => Said::Faulted(row.site, row.word),
             Ended::Returned(Row::Broken(row)) => Said::Broken(row.cause),
             _ => Said::Amiss,
         }
@@ -85,7 +87,7 @@ fn check_rows<B: Shared<Job, Row>>(
     pass: B::Pass,
     wanted: &[Said],
 ) -> Result<Closed<Row>, AllocError>
-    requires crew { B.workers_of board ≡ 1 }
+    requires workers { B.workers_of board ≡ 1 }
     requires pass { B.owns board pass × ((B.Pass.view pass).worker ≡ 0) }
     ensures { IfOk result (λ c. vec_len c.rows ≡ length wanted.now) }
 {
@@ -130,7 +132,7 @@ fn check_each_kind<B: Shared<Job, Row>, R: Wait + Abort>(
     }
     let wanted = [
         Said::Listed(1, 3),
-        Said::Faulted(Place::Directory, FaultWord::Read),
+        Said::Faulted(FaultSite::Directory, FaultWord::Read),
         Said::Broken(GivenUp::TooDeep),
         Said::Listed(2, 0),
     ];
@@ -185,7 +187,7 @@ fn break_top<B: Shared<Job, Row>, T: Tree, W: Wait>(
     if board.post(rt, pass, child).is_err() {
         return Err(AllocError);
     }
-    let cause = GivenUp::Memory;
+    let (job, cause) = (ServedJob::of(job), GivenUp::Memory);
     board.give(rt, pass, Row::Broken(BrokenRow { job, cause }));
     Ok(())
 }

@@ -1,10 +1,16 @@
-use Rattle.std.proofs.Common.{codes}
-use Rattle.lc_arguments.specs.CommandLine.{check_rules}
-use Rattle.lc_arguments.proofs.CommandRules.{none_given, seen_with}
+use Rattle.std.proofs.Common.{codes, subst, sym}
+use Rattle.std.proofs.lemmas.Result.{IfOk-weaker}
+use Rattle.clap.specs.Built.{AddsArg, AddsInTurn}
+use Rattle.lc_arguments.specs.CommandLine.{check_app, check_rules}
+use Rattle.lc_arguments.specs.CountArgs.{AreArgsOf, IsCommandOf}
+use Rattle.lc_arguments.proofs.CommandRules.{given, seen_with}
 use Rattle.lc_arguments.proofs.check.command.Goals as goal
 
 pub returns : goal.returns
 returns c =
-    let none = none_given (codes "check") c.in_ok-command.command c.in_ok-command.ensures in
-    let explain = c.in_ok-command-2.ensures (codes "check") _ _ none c.flag.ensures in
-    seen_with (codes "check") check_rules c.in_ok-command-3.command (c.in_ok-command-3.ensures (codes "check") _ _ explain c.word.ensures)
+    let args = c.in_ok-args.args.items in
+    let bare = c.in_ok-command.command in
+    let are = subst (AreArgsOf check_rules) (sym c.in_ok-args.ensures.items) c.args-2.ensures in
+    IfOk-weaker c.args-3.result (AddsInTurn AddsArg bare args) (IsCommandOf check_app)
+    (λ command added. seen_with (codes "check") check_rules command (given (codes "check") check_rules bare args command c.in_ok-command.ensures are added))
+    c.args-3.ensures

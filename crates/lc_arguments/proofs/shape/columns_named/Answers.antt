@@ -3,7 +3,7 @@ use Rattle.std.proofs.lemmas.Bool.Decides.{Decides-eqb}
 use Rattle.std.proofs.lemmas.Slice.Eq.{slice_eq-Decides}
 use Rattle.lc_glob.specs.Pieces.{pieces_left, pieces_of}
 use Rattle.lc_arguments.specs.ShapeWords.{comma}
-use Rattle.lc_arguments.proofs.ColumnNames.{GoesOn, had, is_not, joins_eol, lacked, refuses}
+use Rattle.lc_arguments.proofs.ColumnNames.{StillNames, had, is_not, joins_eol, lacked, refuses}
 use Rattle.lc_arguments.proofs.shape.columns_named.Goals as goal
 use Rattle.lc_arguments.proofs.shape.columns_named.Goals.{else-eq-via-then-eq+else-not-columns, else-eq-via-else-eq}
 use Rattle.lc_arguments.proofs.shape.columns_named.Goals.{else-eq-2-via-then-eq-2+else-not-columns-2, else-eq-2-via-else-eq-2}
@@ -15,7 +15,7 @@ returns-else-eq-3 c d =
     let left = pieces_left comma c.cut_at_first.result.1 in
     let all = pieces_of comma c.args.names.now in
     refuses c.names.columns d name left all
-    (subst (λ (l : List (List ℕ)). GoesOn c.names.columns l all) (ap (pieces_left comma) c.in-Some.is ∙ c.cut_at_first.ensures.pieces)
+    (subst (λ (l : List (List ℕ)). StillNames c.names.columns l all) (ap (pieces_left comma) c.in-Some.is ∙ c.cut_at_first.ensures.pieces)
     c.names.invariant)
     (λ is. elim c.else-eq.branch [
       | else-eq-via-then-eq+else-not-columns w ↦ had _ w.if-not-columns.false
@@ -39,6 +39,6 @@ names-preserved c =
     let is : c.cut_at_first.result.0.now ≡ codes "eol" = (slice_eq-Decides Decides-eqb _ _ _ c.eq-else-eq-2.ensures).0 c.if-eq-3.true
     ∙ c.as_slice-else-eq-2.ensures in
     joins_eol c.names.columns _ all (lacked _ c.if-not-columns-3.true)
-    (subst (λ (l : List (List ℕ)). GoesOn c.names.columns l all)
+    (subst (λ (l : List (List ℕ)). StillNames c.names.columns l all)
     (ap (pieces_left comma) c.in-Some.is ∙ (c.cut_at_first.ensures.pieces ∙ ap (λ n. n ∷ pieces_left comma c.cut_at_first.result.1) is))
     c.names.invariant)

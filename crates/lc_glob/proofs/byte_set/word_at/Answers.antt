@@ -1,6 +1,6 @@
 use Rattle.std.proofs.Common.{get_or, false, add-zero, ◌≡◌, ◌∙◌, sym, ap, arith, ℕ, ◌-◌, ◌+◌}
 use Rattle.std.proofs.Math.Facts.{Fits-of_lt}
-use Rattle.lc_glob.specs.Words.{word_of}
+use Rattle.lc_glob.specs.Words.{bits_of}
 use Rattle.lc_glob.proofs.Masks.{word_none, word_step, word_room}
 use Rattle.lc_glob.proofs.byte_set.word_at.Goals as goal
 
@@ -32,5 +32,5 @@ bits-preserved c = record {
 pub returns : goal.returns
 returns c =
     let none : c.bits.left ≡ 0 = omega arith in
-    c.bits.invariant.word ∙ ap (λ (n : ℕ). word_of (λ b. get_or c.args.members.now b false) (c.args.low + n) (64 - n)) none
-    ∙ ap (λ (n : ℕ). word_of (λ b. get_or c.args.members.now b false) n 64) (add-zero c.args.low)
+    c.bits.invariant.word ∙ ap (λ (n : ℕ). bits_of (λ b. get_or c.args.members.now b false) (c.args.low + n) (64 - n)) none
+    ∙ ap (λ (n : ℕ). bits_of (λ b. get_or c.args.members.now b false) n 64) (add-zero c.args.low)

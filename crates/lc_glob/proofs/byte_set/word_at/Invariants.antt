@@ -1,10 +1,10 @@
 use Rattle.std.proofs.Common.{◌≡◌, ◌≤◌, ◌+◌, ◌-◌, get_or, false}
-use Rattle.lc_glob.specs.Words.{word_of}
+use Rattle.lc_glob.specs.Words.{bits_of}
 use Rattle.lc_glob.proofs.byte_set.word_at.Given as goal
 
 abbrev pub invariant-bits : goal.invariant-bits
 invariant-bits l = record {
-  word : l.word ≡ word_of (λ b. get_or l.members b false) (l.low + l.left) (64 - l.left);
+  word : l.word ≡ bits_of (λ b. get_or l.members b false) (l.low + l.left) (64 - l.left);
   within : l.left ≤ 64;
 }
 

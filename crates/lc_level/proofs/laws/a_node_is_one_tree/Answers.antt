@@ -2,7 +2,7 @@ use Rattle.lc_tree.specs.MemTrees.{mem_lists, mem_gives}
 use Rattle.lc_tree.specs.Nodes.{node_below}
 use Rattle.lc_tree.specs.Paths.{names_of_path}
 use Rattle.lc_level.specs.NodeTrees.{tree_of_node}
-use Rattle.lc_level.proofs.NodeTrees.{node_answers, tidy_at}
+use Rattle.lc_level.proofs.NodeTrees.{node_answers, well_formed_at}
 use Rattle.lc_level.proofs.OneLevel.{one_level}
 use Rattle.lc_level.proofs.laws.a_node_is_one_tree.Goals as goal
 
@@ -15,5 +15,5 @@ returns-clause-levels c =
     one_level (mem_lists top) (mem_gives top) (c.trees_of_memory_give_one.ensures top modest) s j a
     (tree_of_node top (names_of_path j.path)) may (node_answers top j.path)
 
-pub returns-clause-tidy : goal.returns-clause-tidy
-returns-clause-tidy c = λ top place. tidy_at (node_below place top)
+pub returns-clause-well_formed : goal.returns-clause-well_formed
+returns-clause-well_formed c = λ top place. well_formed_at (node_below place top)

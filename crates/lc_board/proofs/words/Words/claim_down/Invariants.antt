@@ -1,5 +1,5 @@
 use Rattle.std.proofs.Common.{◌≡◌, ◌≤◌, None}
-use Rattle.lc_board.specs.WordSteps.{Sees}
+use Rattle.lc_board.specs.WordSteps.{Extends}
 use Rattle.lc_board.specs.WordsBoard.{IsSamePass}
 use Rattle.lc_board.proofs.words.Words.claim_down.Given as goal
 
@@ -8,7 +8,7 @@ invariant-loop-end g l = record {
   same : IsSamePass l.initial.pass l.pass;
   holding : l.pass.holding ≡ None;
   near : l.end ≤ l.self.capacity;
-  sees : Sees l.initial.pass.seat.me.0 l.pass.seat.me.0;
+  sees : Extends l.initial.pass.seat.me.0 l.pass.seat.me.0;
 }
 
 abbrev pub decreases-loop-end : goal.decreases-loop-end

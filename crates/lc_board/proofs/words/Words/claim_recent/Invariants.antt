@@ -1,5 +1,5 @@
 use Rattle.std.proofs.Common.{◌≡◌, None}
-use Rattle.lc_board.specs.WordSteps.{Sees}
+use Rattle.lc_board.specs.WordSteps.{Extends}
 use Rattle.lc_board.specs.WordsBoard.{IsSamePass}
 use Rattle.lc_board.proofs.words.Words.claim_recent.Given as goal
 
@@ -7,5 +7,5 @@ abbrev pub invariant-loop : goal.invariant-loop
 invariant-loop g l = record {
   same : IsSamePass l.initial.pass l.pass;
   holding : l.pass.holding ≡ None;
-  sees : Sees l.initial.pass.seat.me.0 l.pass.seat.me.0;
+  sees : Extends l.initial.pass.seat.me.0 l.pass.seat.me.0;
 }

@@ -1,5 +1,5 @@
 use Rattle.std.proofs.Common.{sym, subst, arith}
-use Rattle.lc_board.specs.WordSteps.{Missed}
+use Rattle.lc_board.specs.WordSteps.{HasLooked}
 use Rattle.lc_board.proofs.WordClaims.{looks}
 use Rattle.lc_board.proofs.WordMarks.{marked_missed}
 use Rattle.lc_board.proofs.words.Words.look.Goals as goal
@@ -13,6 +13,6 @@ load-requires g c = let sq = c.args.self.now.square in let near = c.requires.nea
 
 pub invariant_of-pass-clause-marked : goal.invariant_of-pass-clause-marked
 invariant_of-pass-clause-marked g c = let v = c.args.pass.now.seat.me.0 in let w = c.load.new.seat.me.0 in
-    let saw = subst (λ x. Missed c.args.self.now.table.shared.table_id.slots c.args.number x v w)
+    let saw = subst (λ x. HasLooked c.args.self.now.table.shared.table_id.slots c.args.number x v w)
     (sym c.of-found.ensures) c.load.ensures.2.1 in
     marked_missed _ c.args.number c.of-found.result c.args.pass.now.taken _ v w saw c.next_taken-pass.ensures c.args.pass.now.marked

@@ -1,5 +1,5 @@
 use Rattle.std.proofs.Common.{◌≡◌, ◌-◌}
-use Rattle.lc_board.specs.WordSteps.{Sees}
+use Rattle.lc_board.specs.WordSteps.{Extends}
 use Rattle.lc_board.specs.WordsBoard.{IsSamePass}
 use Rattle.lc_board.proofs.words.Words.post.Given as goal
 
@@ -8,7 +8,7 @@ invariant-loop-pass g l = record {
   same : IsSamePass l.initial.pass l.pass;
   holding : l.pass.holding ≡ l.initial.pass.holding;
   posted : l.pass.posted ≡ l.initial.pass.posted;
-  sees : Sees l.initial.pass.seat.me.0 l.pass.seat.me.0;
+  sees : Extends l.initial.pass.seat.me.0 l.pass.seat.me.0;
   job : l.job ≡ l.initial.job;
 }
 

@@ -1,6 +1,6 @@
 use Rattle.std.proofs.Common.{rules, ◌≡◌, ℕ, Bool, List, [], ◌∷◌, ◌++◌, length, refl, sym, subst}
 use Rattle.std.proofs.lemmas.List.{nil_from_length}
-use Rattle.lc_text.specs.Lines.{lines_of}
+use Rattle.lc_text.specs.Lines.{input_lines_of}
 use Rattle.lc_explain.specs.Explain.{Explains}
 use Rattle.lc_explain.specs.Explained.{Explanation, IsExplained}
 use Rattle.lc_explain.specs.Waypoints.{Way, MayEnter}
@@ -33,7 +33,7 @@ lines-preserved g c =
       done = (
         done.0 ++ c.split_line.result.0.now ∷ [],
         c.in_ok-tell.ensures.told done.0 done.1,
-        line_done done.0 (lines_of c.args.paths.now) c.lines.rest.now c.split_line.result.0.now c.split_line.result.1.now done.2
+        line_done done.0 (input_lines_of c.args.paths.now) c.lines.rest.now c.split_line.result.0.now c.split_line.result.1.now done.2
             c.split_line.ensures.lines,
       );
     }
@@ -46,4 +46,4 @@ returns g c =
     let done = c.lines.invariant.done in
     let none : length c.lines.rest.now ≡ 0 = search rules in
     subst (λ (l : List (List ℕ)). Explains Says l c.lines.telling.text.items c.lines.telling.outcome)
-    (lines_done done.0 (lines_of c.args.paths.now) c.lines.rest.now done.2 (nil_from_length c.lines.rest.now none)) done.1
+    (lines_done done.0 (input_lines_of c.args.paths.now) c.lines.rest.now done.2 (nil_from_length c.lines.rest.now none)) done.1

@@ -1,5 +1,5 @@
 use Rattle.std.proofs.Common.{◌≡◌, ℕ, List, ◌++◌, length}
-use Rattle.lc_text.specs.Lines.{lines_of}
+use Rattle.lc_text.specs.Lines.{input_lines_of}
 use Rattle.lc_explain.specs.Explain.{Explains}
 use Rattle.lc_explain.specs.Explained.{IsExplained}
 use Rattle.lc_explain.specs.Waypoints.{MayEnter}
@@ -13,7 +13,7 @@ invariant-lines g l = record {
   done : (done : List (List ℕ)) × Explains
       (IsExplained (MayEnter (g.T.Tree.lists l.explainer.levels.tree.now) (g.T.Tree.gives l.explainer.levels.tree.now))
       l.explainer.levels.selection l.explainer.exclude.now l.explainer.top) done l.telling.text.items l.telling.outcome
-      × (done ++ lines_of l.rest ≡ lines_of l.fn.paths);
+      × (done ++ input_lines_of l.rest ≡ input_lines_of l.fn.paths);
 }
 
 abbrev pub decreases-lines : goal.decreases-lines

@@ -8,27 +8,27 @@ use Rattle.lc_level.specs.RuleFiles.{is_top}
 use Rattle.lc_level.specs.RulePairs.{ReadsBoth}
 use Rattle.lc_tree.specs.Trees.{Listings, Contents}
 use Rattle.lc_level.specs.declared.rule_pair.PairRead.{PairRead}
-use Rattle.lc_level.specs.declared.unlisted.Unlisted.{Unlisted}
-use Rattle.lc_level.specs.declared.place.Place.TheVariants.{Directory, IgnoreFile, AttributeFile}
+use Rattle.lc_level.specs.declared.open_fault.OpenFault.{OpenFault}
+use Rattle.lc_level.specs.declared.fault_site.FaultSite.TheVariants.{Directory, IgnoreFile, AttributeFile}
 use Rattle.lc_level.proofs.EnterLevels.{list_refused, info_refused, own_refused, has_read, entered}
 use Rattle.lc_level.proofs.PassedOn.{passed_on}
 use Rattle.lc_level.proofs.level_reader.LevelReader.enter.Goals as goal
 
 -- the same of a directory's path and its entries
 git_of : (lists : List ℕ → Listings) (gives : List ℕ → Contents) (texts : Bool) (p q : List ℕ) (es fs : List EntryModel)
-    (r : Result PairRead Unlisted) → p ≡ q → es ≡ fs →
+    (r : Result PairRead OpenFault) → p ≡ q → es ≡ fs →
     ReadsGit lists gives texts (is_top p && has_dir (codes ".git") es) r
     → ReadsGit lists gives texts (is_top q && has_dir (codes ".git") fs) r
 git_of lists gives texts p q es fs r a b k =
     subst (λ (d : List ℕ). ReadsGit lists gives texts (is_top d && has_dir (codes ".git") fs) r) a
     (subst (λ (l : List EntryModel). ReadsGit lists gives texts (is_top p && has_dir (codes ".git") l) r) b k)
 
-abbrev Own : (List ℕ → Contents) → Bool → List ℕ → List EntryModel → Result PairRead Unlisted → Type 0
+abbrev Own : (List ℕ → Contents) → Bool → List ℕ → List EntryModel → Result PairRead OpenFault → Type 0
 Own gives texts p es r =
     ReadsBoth texts (gives (path_in p (codes ".gitignore"))) (gives (path_in p (codes ".gitattributes")))
     (has_file (codes ".gitignore") es) (has_file (codes ".gitattributes") es) (is_top p) IgnoreFile AttributeFile r
 
-own_of : (gives : List ℕ → Contents) (texts : Bool) (p q : List ℕ) (es fs : List EntryModel) (r : Result PairRead Unlisted) → p ≡ q
+own_of : (gives : List ℕ → Contents) (texts : Bool) (p q : List ℕ) (es fs : List EntryModel) (r : Result PairRead OpenFault) → p ≡ q
     → es ≡ fs → Own gives texts p es r → Own gives texts q fs r
 own_of gives texts p q es fs r a b k =
     subst (λ (d : List ℕ). Own gives texts d fs r) a (subst (λ (l : List EntryModel). Own gives texts p l r) b k)

@@ -4,7 +4,7 @@ use Rattle.lc_level.specs.EntryLooks.{has_file, has_dir}
 use Rattle.lc_tree.specs.Listing.{EntryModel}
 use Rattle.lc_level.specs.GitInfo.{ReadsGit}
 use Rattle.lc_level.specs.RulePairs.{ReadsBoth}
-use Rattle.lc_level.specs.declared.place.Place.TheVariants.{ExcludeFile, InfoAttributes}
+use Rattle.lc_level.specs.declared.fault_site.FaultSite.TheVariants.{ExcludeFile, InfoAttributes}
 use Rattle.lc_level.proofs.GitReads.{no_git, git_refused, no_info, info_refused, both_files}
 use Rattle.lc_level.proofs.PassedOn.{passed_on}
 use Rattle.lc_level.proofs.level_reader.LevelReader.read_git_info.Goals as goal

@@ -4,7 +4,7 @@ use Rattle.lc_glob.specs.Path.{path_in}
 use Rattle.lc_level.specs.EntryLooks.{has_file}
 use Rattle.lc_level.specs.RuleFiles.{is_top}
 use Rattle.lc_level.specs.RulePairs.{ReadsBoth}
-use Rattle.lc_level.specs.declared.place.Place.TheVariants.{IgnoreFile, AttributeFile}
+use Rattle.lc_level.specs.declared.fault_site.FaultSite.TheVariants.{IgnoreFile, AttributeFile}
 use Rattle.lc_level.proofs.level_reader.LevelReader.read_own.Goals as goal
 
 top_of_length : (p : List ℕ) → (length p == 0) ≡ is_top p

@@ -1,0 +1,6 @@
+use Rattle.lc_arguments.proofs.explain.args.Goals as goal
+
+pub returns : goal.returns
+returns c =
+    let exclusions = c.exclusion_options-exclude_from.ensures in
+    (exclusions.0, (exclusions.1.0, (exclusions.1.1.0, (c.word.ensures, (c.paths.ensures, tt)))))

@@ -1,0 +1,208 @@
+//! Workers on threads, who fill a board with jobs that share what lies behind two `Arc`s.
+ghost use Rattle.std.specs.Prelude.{◌≡◌, ◌≢◌, ◌≤◌, ◌<◌, ℕ, None, IfOk, slice_index_or, vec_len};
+ghost use Rattle.lc_board.specs.Pass.{holding};
+ghost use Rattle.lc_board.specs.Limits.{capacity_limit, workers_limit};
+
+use lc_board::{Claim, CloseFault, Ended, Locked, PostFault, Shared, Token, Words};
+use std::alloc::{AllocError, Global};
+use std::process::Abort;
+use std::sync::{Arc, Wait};
+use std::test::Fail;
+use std::thread;
+use std::thread::Threads;
+
+/// How many jobs a worker posts under a claim, as long as there are numbers.
+const CHILDREN: u8 = 3;
+
+/// How many names a path has at most. A worker goes down first, and its paths would grow with the board.
+const DEPTH: usize = 16;
+
+/// What all directories share.
+#[derive(Drop)]
+struct Rules {
+    lines: Vec<u8>,
+}
+
+/// A directory to be read.
+#[derive(Drop)]
+struct Job {
+    path: Vec<u8>,
+    ignored: Arc<Rules>,
+    attributes: Arc<Rules>,
+}
+
+/// A directory that was read, under its number.
+#[derive(Drop)]
+struct Row {
+    number: u32,
+    job: Job,
+}
+
+impl Job {
+    fn top(alloc: Global) -> Result<Job, AllocError> {
+        let ignored = Arc::new(
+            alloc,
+            Rules {
+                lines: Vec::new(alloc),
+            },
+        )?;
+        let attributes = Arc::new(
+            alloc,
+            Rules {
+                lines: Vec::new(alloc),
+            },
+        )?;
+        Ok(Job {
+            path: Vec::new(alloc),
+            ignored,
+            attributes,
+        })
+    }
+
+    /// The job of the child of this name.
+    fn child(&self, name: u8) -> Result<Job, AllocError> {
+        let mut path = self.path.clone()?;
+        path.push(name)?;
+        Ok(Job {
+            path,
+            ignored: self.ignored.clone()?,
+            attributes: self.attributes.clone()?,
+        })
+    }
+}
+
+/// Posts the child of this name until there is memory for it, or no number is left.
+fn post_child<B: Shared<Job, Row>, W: Wait>(
+    rt: &W,
+    board: &B,
+    pass: &mut B::Pass,
+    job: &Job,
+    name: u8,
+)
+    requires pass { B.owns board.now pass.old }
+    requires holds { holding (B.Pass.view pass.old) ≢ None }
+    ensures pass { B.owns board.now pass.new }
+    ensures worker { (B.Pass.view pass.new).worker ≡ (B.Pass.view pass.old).worker }
+    ensures holds { holding (B.Pass.view pass.new) ≡ holding (B.Pass.view pass.old) }
+{
+    for _ in rt.forever() {
+        let Ok(child) = job.child(name) else {
+            continue;
+        };
+        match board.post(rt, pass, child) {
+            Err(PostFault::Memory(_)) => {}
+            _ => return,
+        }
+    }
+}
+
+/// Posts under the claim of the pass.
+fn post_children<B: Shared<Job, Row>, W: Wait>(rt: &W, board: &B, pass: &mut B::Pass, job: &Job)
+    requires pass { B.owns board.now pass.old }
+    requires holds { holding (B.Pass.view pass.old) ≢ None }
+    ensures pass { B.owns board.now pass.new }
+    ensures worker { (B.Pass.view pass.new).worker ≡ (B.Pass.view pass.old).worker }
+    ensures holds { holding (B.Pass.view pass.new) ≡ holding (B.Pass.view pass.old) }
+{
+    if job.path.len() == DEPTH {
+        return;
+    }
+    for name in 0..CHILDREN {
+        post_child(rt, board, pass, job, name);
+    }
+}
+
+/// One worker: it posts under each number that it gets, and returns the number with its job as its row.
+fn work<B: Shared<Job, Row>, W: Wait>(rt: &W, board: &B, pass: B::Pass) -> B::Pass
+    requires pass { B.owns board.now pass }
+    requires free { holding (B.Pass.view pass) ≡ None }
+    ensures pass { B.owns board.now result }
+    ensures worker { (B.Pass.view result).worker ≡ (B.Pass.view pass).worker }
+{
+    let mut pass = pass;
+    for _ in rt.forever() {
+        match board.claim(rt, &mut pass) {
+            Claim::Got(number, job) => {
+                post_children(rt, board, &mut pass, &job);
+                board.give(rt, &mut pass, Row { number, job });
+            }
+            Claim::Later => thread::yield_now(),
+            Claim::Memory => {}
+            Claim::Over => break,
+        }
+    }
+    pass
+}
+
+/// A thread for each pass.
+fn work_all<B: Shared<Job, Row>, R: Threads + Wait + Sync>(
+    rt: &R,
+    board: &B,
+    passes: Vec<B::Pass>,
+) -> Result<Vec<B::Pass>, AllocError>
+    requires { (i : ℕ) (p : _) → i < vec_len passes → p ≡ slice_index_or passes.items i p
+        → B.owns board.now p × (holding (B.Pass.view p) ≡ None) }
+    ensures len { IfOk result (λ v. vec_len v ≡ vec_len passes) }
+    ensures each { IfOk result (λ v. (i : ℕ) (p : _) (q : _) → i < vec_len passes
+        → B.owns board.now (slice_index_or v.items i q)
+        × ((B.Pass.view (slice_index_or v.items i q)).worker ≡ (B.Pass.view (slice_index_or passes.items i p)).worker)) }
+{
+    let run = |pass: B::Pass| -> B::Pass
+        requires { B.owns board.now pass × (holding (B.Pass.view pass) ≡ None) }
+        ensures { B.owns board.entry.now result × ((B.Pass.view result).worker ≡ (B.Pass.view pass).worker) }
+    { work(rt, board, pass) };
+    thread::map_vec(rt, passes, &run)
+}
+
+/// Each number ended with its own row, and the root alone has no path.
+fn are_own<R: Abort>(rt: &R, capacity: u32, rows: &[Ended<Row>]) {
+    assert!(rt; rows.len() == capacity as usize);
+    for (number, row) in rows.iter().enumerate() {
+        let own = match row {
+            Ended::Returned(row) => {
+                row.number as usize == number && row.job.path.is_empty() == (number == 0)
+            }
+            Ended::Faulted(_) => false,
+        };
+        assert!(rt; own, "{number}");
+    }
+}
+
+/// Fills a board by so many workers.
+fn fill<B: Shared<Job, Row>, R: Threads + Wait + Abort + Sync>(
+    rt: &R,
+    alloc: Global,
+    capacity: u32,
+    workers: u32,
+) -> Result<(), AllocError>
+    requires capacity { (1 ≤ capacity) × (capacity ≤ capacity_limit) }
+    requires workers { (1 ≤ workers) × (workers ≤ workers_limit) }
+{
+    let root = Job::top(alloc)?;
+    let (board, passes) = B::start(alloc, capacity, workers, root)?;
+    let passes = work_all(rt, &board, passes)?;
+    match board.close(passes) {
+        Ok(closed) => are_own(rt, capacity, &closed.rows),
+        Err(CloseFault::Memory) => return Err(AllocError),
+        Err(fault) => assert!(rt; false, "{fault:?}"),
+    }
+    Ok(())
+}
+
+#[test]
+fn sixteen_threads_fill_locked(rt: HostRuntime) -> Result<(), Fail> {
+    fill::<Locked<Job, Row>, HostRuntime>(&rt, rt.alloc(), 65_536, 16)?;
+    Ok(())
+}
+
+#[test]
+fn two_threads_fill_words(rt: HostRuntime) -> Result<(), Fail> {
+    fill::<Words<Job, Row>, HostRuntime>(&rt, rt.alloc(), 65_536, 2)?;
+    Ok(())
+}
+
+#[test]
+fn sixteen_threads_fill_words(rt: HostRuntime) -> Result<(), Fail> {
+    fill::<Words<Job, Row>, HostRuntime>(&rt, rt.alloc(), 65_536, 16)?;
+    Ok(())
+}

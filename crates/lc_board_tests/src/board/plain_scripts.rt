@@ -1,0 +1,73 @@
+//! The scripts on a board of one thread. Who has claimed what is remembered by the board's answers.
+ghost use Rattle.std.specs.Prelude.{◌≡◌, ◌≤◌};
+ghost use Rattle.lc_board.specs.Limits.{capacity_limit, workers_limit};
+
+use crate::board::script::{
+    Call, FULL, LAST_NUMBER, MANY, OWN_POST, RETURNED, ROOT, THREE_ROWS, TWO_ROWS, TWO_WORKERS,
+    Told, answers, filling, has_rows,
+};
+use lc_board::{Claim, CloseFault, Closed, Plain};
+use std::alloc::{AllocError, Global};
+use std::process::Abort;
+use std::test::Fail;
+
+/// Makes a call, if it is the worker's turn.
+fn tell(board: &mut Plain<u32, u32>, held: &mut Vec<Option<u32>>, call: Call) -> Told
+    requires held { board.old.held ≡ held.old.items }
+    ensures held { board.new.held ≡ held.new.items }
+{
+    let worker = call.worker() as usize;
+    if worker >= held.len() {
+        return Told::OutOfTurn;
+    }
+    match call {
+        Call::Claim(_) if held[worker].is_none() => {
+            let answer = board.claim(worker as u32);
+            if let Claim::Got(number, _) = &answer {
+                held[worker] = Some(*number);
+            }
+            Told::from(answer)
+        }
+        Call::Post(_, job) if held[worker].is_some() => Told::from(board.post(worker as u32, job)),
+        Call::Give(_, row) if held[worker].is_some() => {
+            board.give(worker as u32, row);
+            held[worker] = None;
+            Told::Done
+        }
+        _ => Told::OutOfTurn,
+    }
+}
+
+/// Makes the calls on a new board, compares the answers, and takes the rows.
+fn run<R: Abort>(
+    rt: &R,
+    alloc: Global,
+    capacity: u32,
+    workers: u32,
+    script: &[(Call, Told)],
+) -> Result<Result<Closed<u32>, CloseFault>, AllocError>
+    requires capacity { (1 ≤ capacity) × (capacity ≤ capacity_limit) }
+    requires workers { (1 ≤ workers) × (workers ≤ workers_limit) }
+{
+    let mut board = Plain::<u32, u32>::start(alloc, capacity, workers, ROOT)?;
+    let mut held = Vec::from_elem(alloc, None, workers as usize)?;
+    for (call, told) in script {
+        let was_over = board.is_over();
+        answers(rt, *call, tell(&mut board, &mut held, *call), *told)?;
+        assert!(rt; was_over == (*told == Told::Over), "{call:?}");
+    }
+    Ok(board.into_rows(alloc))
+}
+
+#[test]
+fn scripts_on_plain(rt: HostRuntime) -> Result<(), Fail> {
+    let alloc: Global = rt.alloc();
+    has_rows(&rt, run(&rt, alloc, 2, 2, &TWO_WORKERS)?, &TWO_ROWS)?;
+    has_rows(&rt, run(&rt, alloc, 3, 2, &LAST_NUMBER)?, &THREE_ROWS)?;
+    has_rows(&rt, run(&rt, alloc, 1, 1, &FULL)?, &RETURNED)?;
+    let unfinished = run(&rt, alloc, 2, 1, &OWN_POST)?;
+    assert!(rt; unfinished == Err(CloseFault::Unfinished(1)));
+    let filled = run(&rt, alloc, MANY, 1, &filling(alloc, MANY)?)?;
+    assert!(rt; filled == Err(CloseFault::Unfinished(1)));
+    Ok(())
+}

@@ -1,0 +1,175 @@
+//! Scripts: who calls what on a board, and what each call is to answer.
+use lc_board::{Claim, CloseFault, Closed, Ended, PostFault};
+use std::alloc::{AllocError, Global};
+use std::process::Abort;
+
+/// The job of the root.
+pub const ROOT: u32 = 7;
+
+/// One call, by the worker that stands first.
+#[derive(Clone, Copy, Debug, Drop)]
+pub enum Call {
+    Claim(u32),
+    Post(u32, u32),
+    Give(u32, u32),
+    Fault(u32, u32),
+}
+
+impl Call {
+    pub fn worker(self) -> u32 {
+        match self {
+            Call::Claim(worker) => worker,
+            Call::Post(worker, _) => worker,
+            Call::Give(worker, _) => worker,
+            Call::Fault(worker, _) => worker,
+        }
+    }
+}
+
+/// What a call answered.
+#[derive(Clone, Copy, PartialEq, Eq, Debug, Drop)]
+pub enum Told {
+    Got(u32, u32),
+    Later,
+    Over,
+    Posted(u32),
+    Full(u32),
+    Done,
+    /// There was no memory to claim with.
+    NoClaim,
+    /// There was no memory to post this job with.
+    NoPost(u32),
+    /// No such worker, or one that has claimed something where it should not, or the other way round.
+    OutOfTurn,
+}
+
+impl From<Claim<u32>> for Told {
+    fn from(answer: Claim<u32>) -> Told {
+        match answer {
+            Claim::Got(number, job) => Told::Got(number, job),
+            Claim::Later => Told::Later,
+            Claim::Over => Told::Over,
+            Claim::Memory => Told::NoClaim,
+        }
+    }
+}
+
+impl From<Result<u32, PostFault<u32>>> for Told {
+    fn from(answer: Result<u32, PostFault<u32>>) -> Told {
+        match answer {
+            Ok(number) => Told::Posted(number),
+            Err(PostFault::Full(job)) => Told::Full(job),
+            Err(PostFault::Memory(job)) => Told::NoPost(job),
+        }
+    }
+}
+
+/// A call answered what it is to answer.
+pub fn says<R: Abort>(rt: &R, call: Call, answer: Told, told: Told) {
+    assert!(rt; answer == told, "{call:?}");
+}
+
+/// A call answered what it is to answer, if there was memory for it.
+pub fn answers<R: Abort>(rt: &R, call: Call, answer: Told, told: Told) -> Result<(), AllocError> {
+    match answer {
+        Told::NoClaim => return Err(AllocError),
+        Told::NoPost(_) => return Err(AllocError),
+        _ => says(rt, call, answer, told),
+    }
+    Ok(())
+}
+
+/// A board was closed with these rows, if there was memory for them.
+pub fn has_rows<R: Abort>(
+    rt: &R,
+    closed: Result<Closed<u32>, CloseFault>,
+    rows: &[Ended<u32>],
+) -> Result<(), AllocError> {
+    match closed {
+        Ok(closed) => assert!(rt; closed.rows.as_slice() == rows),
+        Err(CloseFault::Memory) => return Err(AllocError),
+        Err(fault) => assert!(rt; false, "{fault:?}"),
+    }
+    Ok(())
+}
+
+/// The rows of `TWO_WORKERS`.
+pub const TWO_ROWS: [Ended<u32>; 2] = [Ended::Returned(10), Ended::Returned(11)];
+
+/// The row of `FULL`.
+pub const RETURNED: [Ended<u32>; 1] = [Ended::Returned(10)];
+
+/// The row of `FAULT`.
+pub const FAULTED: [Ended<u32>; 1] = [Ended::Faulted(10)];
+
+/// Two workers on a board of two numbers: the second waits for the first to post, and both find the end.
+pub const TWO_WORKERS: [(Call, Told); 9] = [
+    (Call::Claim(0), Told::Got(0, ROOT)),
+    (Call::Claim(1), Told::Later),
+    (Call::Post(0, 9), Told::Posted(1)),
+    (Call::Claim(1), Told::Got(1, 9)),
+    (Call::Give(0, 10), Told::Done),
+    (Call::Claim(0), Told::Later),
+    (Call::Give(1, 11), Told::Done),
+    (Call::Claim(0), Told::Over),
+    (Call::Claim(1), Told::Over),
+];
+
+/// One worker reads back what it posted.
+pub const OWN_POST: [(Call, Told); 4] = [
+    (Call::Claim(0), Told::Got(0, ROOT)),
+    (Call::Post(0, 9), Told::Posted(1)),
+    (Call::Give(0, 10), Told::Done),
+    (Call::Claim(0), Told::Got(1, 9)),
+];
+
+/// On a board of one number nothing can be posted.
+pub const FULL: [(Call, Told); 4] = [
+    (Call::Claim(0), Told::Got(0, ROOT)),
+    (Call::Post(0, 9), Told::Full(9)),
+    (Call::Give(0, 10), Told::Done),
+    (Call::Claim(0), Told::Over),
+];
+
+/// A fault ends the root.
+pub const FAULT: [(Call, Told); 3] = [
+    (Call::Claim(0), Told::Got(0, ROOT)),
+    (Call::Fault(0, 10), Told::Done),
+    (Call::Claim(0), Told::Over),
+];
+
+/// The last number is posted while another worker holds a claim: that one may post no more, and may end its claim.
+pub const LAST_NUMBER: [(Call, Told); 10] = [
+    (Call::Claim(0), Told::Got(0, ROOT)),
+    (Call::Post(0, 8), Told::Posted(1)),
+    (Call::Claim(1), Told::Got(1, 8)),
+    (Call::Post(0, 9), Told::Posted(2)),
+    (Call::Post(1, 5), Told::Full(5)),
+    (Call::Give(1, 11), Told::Done),
+    (Call::Give(0, 10), Told::Done),
+    (Call::Claim(0), Told::Got(2, 9)),
+    (Call::Give(0, 12), Told::Done),
+    (Call::Claim(1), Told::Over),
+];
+
+/// The rows of `LAST_NUMBER`.
+pub const THREE_ROWS: [Ended<u32>; 3] = [
+    Ended::Returned(10),
+    Ended::Returned(11),
+    Ended::Returned(12),
+];
+
+/// More numbers than 16 bits have.
+pub const MANY: u32 = 65_537;
+
+/// One worker posts once more than there are numbers, and ends the first alone.
+pub fn filling(alloc: Global, capacity: u32) -> Result<Vec<(Call, Told)>, AllocError> {
+    let mut script = Vec::new(alloc);
+    script.push((Call::Claim(0), Told::Got(0, ROOT)))?;
+    for number in 1..capacity {
+        script.push((Call::Post(0, number), Told::Posted(number)))?;
+    }
+    script.push((Call::Post(0, 0), Told::Full(0)))?;
+    script.push((Call::Give(0, 10), Told::Done))?;
+    Ok(script)
+}

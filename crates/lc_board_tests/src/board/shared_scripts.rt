@@ -1,0 +1,98 @@
+//! The scripts on a board that workers share.
+ghost use Rattle.std.specs.Prelude.{◌≡◌, ◌≤◌, ◌<◌, Some};
+ghost use Rattle.lc_board.specs.Limits.{capacity_limit, workers_limit};
+
+use crate::board::script::{
+    Call, FAULT, FAULTED, FULL, LAST_NUMBER, MANY, OWN_POST, RETURNED, ROOT, THREE_ROWS, TWO_ROWS,
+    TWO_WORKERS, Told, answers, filling, has_rows,
+};
+use lc_board::{CloseFault, Closed, Locked, Shared, Token, Words};
+use std::alloc::{AllocError, Global};
+use std::process::Abort;
+use std::sync::Wait;
+use std::test::Fail;
+
+/// Makes a call, if it is the pass's turn.
+pub fn tell<B: Shared<u32, u32>, W: Wait>(rt: &W, board: &B, pass: &mut B::Pass, call: Call) -> Told
+    requires { B.owns board.now pass.old }
+    ensures pass { B.owns board.now pass.new }
+    ensures worker { (B.Pass.view pass.new).worker ≡ (B.Pass.view pass.old).worker }
+{
+    let held = pass.holding().is_some();
+    match call {
+        Call::Claim(_) if !held => Told::from(board.claim(rt, pass)),
+        Call::Post(_, job) if held => Told::from(board.post(rt, pass, job)),
+        Call::Give(_, row) if held => {
+            board.give(rt, pass, row);
+            Told::Done
+        }
+        Call::Fault(_, row) if held && pass.posted() == 0 => {
+            board.fault(rt, pass, row);
+            Told::Done
+        }
+        _ => Told::OutOfTurn,
+    }
+}
+
+/// Makes a call, which answers so if there is memory for it.
+pub fn expect<B: Shared<u32, u32>, R: Wait + Abort>(
+    rt: &R,
+    board: &B,
+    pass: &mut B::Pass,
+    call: Call,
+    told: Told,
+) -> Result<(), AllocError>
+    requires { B.owns board.now pass.old }
+    ensures pass { B.owns board.now pass.new }
+    ensures worker { (B.Pass.view pass.new).worker ≡ (B.Pass.view pass.old).worker }
+{
+    answers(rt, call, tell(rt, board, pass, call), told)
+}
+
+/// Makes the calls on a new board, compares the answers, and closes the board.
+pub fn run<B: Shared<u32, u32>, R: Wait + Abort>(
+    rt: &R,
+    alloc: Global,
+    capacity: u32,
+    workers: u32,
+    script: &[(Call, Told)],
+) -> Result<Result<Closed<u32>, CloseFault>, AllocError>
+    requires capacity { (1 ≤ capacity) × (capacity ≤ capacity_limit) }
+    requires workers { (1 ≤ workers) × (workers ≤ workers_limit) }
+{
+    let (board, mut passes) = B::start(alloc, capacity, workers, ROOT)?;
+    for (call, told) in script {
+        let worker = call.worker() as usize;
+        assert!(rt; worker < passes.len());
+        expect(rt, &board, &mut passes[worker], *call, *told)?;
+    }
+    Ok(board.close(passes))
+}
+
+/// The scripts, on a board of this type.
+fn scripts_on<B: Shared<u32, u32>, R: Wait + Abort>(
+    rt: &R,
+    alloc: Global,
+) -> Result<(), AllocError> {
+    has_rows(rt, run::<B, R>(rt, alloc, 2, 2, &TWO_WORKERS)?, &TWO_ROWS)?;
+    has_rows(rt, run::<B, R>(rt, alloc, 3, 2, &LAST_NUMBER)?, &THREE_ROWS)?;
+    has_rows(rt, run::<B, R>(rt, alloc, 1, 1, &FULL)?, &RETURNED)?;
+    has_rows(rt, run::<B, R>(rt, alloc, 1, 1, &FAULT)?, &FAULTED)?;
+    let unfinished = run::<B, R>(rt, alloc, 2, 1, &OWN_POST)?;
+    assert!(rt; unfinished == Err(CloseFault::Unfinished(1)));
+    let filled = run::<B, R>(rt, alloc, MANY, 1, &filling(alloc, MANY)?)?;
+    assert!(rt; filled == Err(CloseFault::Unfinished(1)));
+    Ok(())
+}
+
+#[test]
+fn scripts_on_locked(rt: HostRuntime) -> Result<(), Fail> {
+    scripts_on::<Locked<u32, u32>, HostRuntime>(&rt, rt.alloc())?;
+    Ok(())
+}
+
+#[test]
+fn scripts_on_words(rt: HostRuntime) -> Result<(), Fail> {
+    scripts_on::<Words<u32, u32>, HostRuntime>(&rt, rt.alloc())?;
+    Ok(())
+}

@@ -1,0 +1,5 @@
+//! The tests of the boards.
+#![tactic(auto)]
+
+#[cfg(test)]
+mod board;

@@ -1,0 +1,12 @@
+//! Why a file was not read.
+
+use crate::FaultWord;
+
+/// Why a file was not read or not counted.
+#[derive(Clone, Copy, Debug, Drop, PartialEq, Eq)]
+pub(crate) enum ContentFault {
+    /// The report is to tell of it.
+    Fault(FaultWord),
+    /// Memory was refused.
+    Memory,
+}

@@ -1,7 +1,0 @@
-use Rattle.std.proofs.Common.{refl}
-use Rattle.lc_glob.specs.IsMatch as IsMatch
-use Rattle.lc_walk.proofs.laws.examples_hold.Goals as goal
-
-pub returns : goal.returns
-unfolding IsMatch.is_match
-returns c = record { counted = refl; below = refl }

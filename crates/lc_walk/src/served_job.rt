@@ -1,0 +1,50 @@
+//! A directory that was served.
+ghost use Rattle.std.specs.Prelude.{◌≡◌};
+
+use lc_level::Job;
+use std::alloc::Global;
+use std::marker::Model;
+use std::snapshot::Snapshot;
+
+/// A directory that was served. Of its job only the path is kept: its chains are given back where no other job shares them. Contracts
+/// see the job as it was.
+///
+/// ```
+/// let served = ServedJob::of(job); // served.path() is what job.path() was
+/// ```
+#[derive(Drop)]
+pub struct ServedJob {
+    path: Box<Vec<u8>, Global>,
+    job: Snapshot<Job>,
+}
+
+impl Model for ServedJob {
+    ghost use Rattle.std.specs.Prelude.{◌≡◌};
+    ghost use Rattle.lc_level.specs.Job.{JobModel};
+
+    ghost Value = { JobModel };
+
+    ghost invariant = { λ s. s.job.value.path ≡ s.path.value.items };
+
+    ghost view = { λ s. s.job.value };
+}
+
+impl ServedJob {
+    /// The job, of which nothing but the path is needed any more.
+    pub fn of(job: Job) -> ServedJob
+        ensures { result ≡ job }
+    {
+        let seen = Snapshot::of(&job);
+        ServedJob {
+            path: job.into_path(),
+            job: seen,
+        }
+    }
+
+    /// The path of the directory: at most 4,096 bytes.
+    pub fn path(&self) -> &[u8]
+        ensures { result.now ≡ self.now.path }
+    {
+        self.path.as_slice()
+    }
+}
