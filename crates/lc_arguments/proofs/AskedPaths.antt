@@ -26,7 +26,8 @@ some_bad words =
 pub one_misplaced : (words : List (Bor (List ℕ))) (k : ℕ) (d : Bor (List ℕ)) → k < length words
     → is_bad_path (path_of (slice_index_or words k d).now) ≡ true
     → list_any is_bad_path (map path_of (map (λ (word : Bor (List ℕ)). word.now) words)) ≡ true
-one_misplaced words k d low bad = sym (some_bad words) ∙ list_any_at (λ (word : Bor (List ℕ)). is_bad_path (path_of word.now)) words k d low bad
+one_misplaced words k d low bad = sym (some_bad words)
+    ∙ list_any_at (λ (word : Bor (List ℕ)). is_bad_path (path_of word.now)) words k d low bad
 
 -- they are refused for that
 pub misplaced_for : (words : List (List ℕ)) (why : NoRequest) → IsRefusal why → list_any is_bad_path (map path_of words) ≡ true

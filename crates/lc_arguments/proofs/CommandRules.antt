@@ -157,6 +157,7 @@ reads_number name rules c has apart k other within id most default is m parsed t
         let rule : rule_of (slice_index_or args k x) ≡ number_rule id most default =
         sym (get_or-map rule_of args k x other there) ∙ (ap (λ (rs : List Rule). slice_index_or rs k other) has.are ∙ is) in
         let ids : are_apart (ids_of args) ≡ true = ap are_apart (ids_by_rules args ∙ ap (map (λ (r : Rule). r.id)) has.are) ∙ apart in
-        read_in_chain has.bare c args k x m has.added has.is_bare.1 has.is_bare.2 has.is_bare.0.1 has.fits (distinct_ids args ids) there parsed
+        read_in_chain has.bare c args k x m has.added has.is_bare.1 has.is_bare.2 has.is_bare.0.1 has.fits
+        (distinct_ids args ids) there parsed
         (Signed (pos 1) (pos most)) (ap (λ (r : Rule). r.parser) rule) text
         (subst (λ (i : List ℕ). one_text (found_of m) i ≡ Some text) (sym (ap (λ (r : Rule). r.id) rule)) read)

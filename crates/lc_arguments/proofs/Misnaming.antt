@@ -10,7 +10,8 @@ use Rattle.clap.specs.Walk.{Row}
 use Rattle.lc_rules.specs.AttrWords.{is_name}
 use Rattle.lc_text.specs.declared.shape.Shape.{Shape}
 use Rattle.lc_arguments.specs.CommandLine.{count_app, explain_app}
-use Rattle.lc_arguments.specs.Explained.{AnswersCountWords, AnswersExclusions, AnswersExplainWords, AnswersNames, AnswersShape, AnswersShapeIn}
+use Rattle.lc_arguments.specs.Explained.{AnswersCountWords, AnswersExclusions, AnswersExplainWords}
+use Rattle.lc_arguments.specs.Explained.{AnswersNames, AnswersShape, AnswersShapeIn}
 use Rattle.lc_arguments.specs.Explained.{AnswersPathsIn, IsRefusal}
 use Rattle.lc_arguments.specs.Words.{AskNothing, texts_read}
 use Rattle.lc_arguments.specs.declared.request.NoRequest.{NoRequest}

@@ -39,7 +39,8 @@ no_attributes : SelectionModel
 no_attributes = record { without = []; only = [] }
 
 -- a directory at fault can't be entered
-pub fault_entered : (lists : List ℕ → Listings) (gives : List ℕ → Contents) (j : JobModel) (texts : Bool) (site : FaultSite) (word : FaultWord)
+pub fault_entered : (lists : List ℕ → Listings) (gives : List ℕ → Contents) (j : JobModel) (texts : Bool) (site : FaultSite)
+    (word : FaultWord)
     (directory : List ℕ) → directory ≡ j.path → EntersLevel lists gives j texts (Err (Faulted site word))
     → MayEnter lists gives j (Err (record { path = site_path directory site; word = word }))
 fault_entered lists gives j texts site word directory at (a, may, well_formed, is) = record {

@@ -52,7 +52,8 @@ not_both other_kind x e (inl u) = absurd (cc (sym e ∙ u))
 not_both other_kind x e (inr u) = absurd (cc (sym e ∙ u.1))
 
 module _ (law : EntryLaw) (lists : List ℕ → Listings) (gives : List ℕ → Contents) (one : GivesOne lists gives) (s : SelectionModel)
-    (whole : s.only ≡ []) (exclude : List ℕ) (x : Explanation) (top : JobModel) (at_top : top.path ≡ []) (t : Tree) (given : IsGiven lists gives s top t)
+    (whole : s.only ≡ []) (exclude : List ℕ) (x : Explanation) (top : JobModel) (at_top : top.path ≡ []) (t : Tree)
+    (given : IsGiven lists gives s top t)
     (asked : Lists) (depth : ℕ) (r : Report) (report : IsReportOf asked (walk_of s depth top t) r) (files : asked.files ≡ true)
     (lefts : asked.left_out ≡ true) (path : List ℕ) (good : is_bad_path path ≡ false)
     (said : IsExplained (MayEnter lists gives) s exclude top path false x) where
@@ -80,7 +81,8 @@ module _ (law : EntryLaw) (lists : List ℕ → Listings) (gives : List ℕ → 
     counted = counted_said;
     left = left_said;
     told = λ kind entry.
-        told lists gives one s whole exclude x top t given asked depth r report files lefts path kind taken_kept (segments_of path) [] [] top refl
+        told lists gives one s whole exclude x top t given asked depth r report files lefts path kind taken_kept
+        (segments_of path) [] [] top refl
         (omega (arith, deep)) path refl (sym (ap (λ d. path_in d path) at_top))
         (subst (λ d. LeadDown lists d (segments_of path) kind) (sym at_top) entry)
         (subst (λ b. cond b (x ≡ bad) (IsSaidBelow lists gives one s exclude x [] top (segments_of path))) good said);
@@ -96,6 +98,7 @@ explained_law law lists gives one o q r alike walks path x good said =
     subst (λ (w : SelectionModel). IsExplained (MayEnter lists gives) w exclude (top_of o) path false x) (sym alike.selection)
     (subst (λ (e : Option (List RuleModel)). IsExplained (MayEnter lists gives)
     (selection_of q.archive (map (λ name. name.now) q.without.now)) exclude (top_job e) path false x) (sym alike.exclude) said) in
-    agrees law lists gives one s (ap (λ (w : SelectionModel). w.only) alike.selection) exclude x (top_of o) refl (tree_of_rows walks.found.rows walks.found.answers)
+    agrees law lists gives one s (ap (λ (w : SelectionModel). w.only) alike.selection) exclude x (top_of o) refl
+    (tree_of_rows walks.found.rows walks.found.answers)
     (rows_given lists gives (asked_by o) o.max_dirs o.threads (top_of o) _ walks.found walks.whole) o.lists depth r
     (walks.report depth (omega arith)) alike.files alike.left_out path good same (omega arith)

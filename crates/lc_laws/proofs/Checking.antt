@@ -1,5 +1,6 @@
 -- What a check says of an entry that no rule of the report leaves out.
-use Rattle.std.proofs.Common.{◌≡◌, ◌≢◌, ℕ, ◌+◌, ◌<◌, ◌≤◌, Bool, true, false, nat_eq, ◌&&◌, cond, List, [], ◌∷◌, ◌++◌, length, take, get_or, refl}
+use Rattle.std.proofs.Common.{◌≡◌, ◌≢◌, ℕ, ◌+◌, ◌<◌, ◌≤◌, Bool, true, false, nat_eq}
+use Rattle.std.proofs.Common.{◌&&◌, cond, List, [], ◌∷◌, ◌++◌, length, take, get_or, refl}
 use Rattle.std.proofs.Common.{sym, ◌∙◌, ap, subst, arith, Option, Some, None, Result, Ok, Err, ◌⊎◌, inl, inr, length-append, append_assoc}
 use Rattle.std.proofs.Common.{append-nil, codes}
 use Rattle.std.specs.List.{Contains, AllByRecursion}
@@ -12,7 +13,8 @@ use Rattle.lc_glob.specs.Path.{path_in, segments_of}
 use Rattle.lc_level.specs.Answers.{Item, file_item, directory_item, other_item, name_of, entry_of, Tree}
 use Rattle.lc_level.specs.FaultLines.{FaultLineModel}
 use Rattle.lc_level.specs.Job.{JobModel}
-use Rattle.lc_level.specs.Level.{Reason, named_git, by_rule, other_kind, walked, left, rule_reason, reason_at, reason_of, file_fate, fate_of}
+use Rattle.lc_level.specs.Level.{Reason, named_git, by_rule, other_kind, walked}
+use Rattle.lc_level.specs.Level.{left, rule_reason, reason_at, reason_of, file_fate, fate_of}
 use Rattle.lc_level.specs.Level.{child_job}
 use Rattle.lc_level.specs.OneAnswer.{GivesOne}
 use Rattle.lc_level.specs.Selection.{SelectionModel, selection_of}
@@ -108,7 +110,8 @@ reason_ruled inside rules chain name as_dir other = at (ruled (deciding (at_dept
     path : List ℕ
     path = path_in inside.path name
 
-    shown : reason_of plain inside name as_dir ≡ option_or (rule_reason (deciding (at_depth 0 rules) (path_in inside.path name) as_dir)) None
+    shown : reason_of plain inside name as_dir ≡ option_or
+        (rule_reason (deciding (at_depth 0 rules) (path_in inside.path name) as_dir)) None
     shown =
         ap (λ b. cond b (Some named_git) (reason_at plain inside (path_in inside.path name) as_dir)) (other_bytes name (codes ".git") other)
         ∙ ap (λ rs. option_or (rule_reason (deciding rs (path_in inside.path name) as_dir)) None) chain
@@ -199,7 +202,8 @@ module _ (lists : List ℕ → Listings) (gives : List ℕ → Contents) (one : 
           let fate = fate_left plain m.inside i.item (by_rule origin line)
           (ap (λ n. reason_of plain m.inside n (is_dir (entry_of i.item).kind)) i.named
           ∙ ap (λ (d : Kind). reason_of plain m.inside name (is_dir d)) i.kind_is ∙ e) in
-          let there = left_there plain refl (top_job None) t asked depth r report place k leads shallow m.items m.inside m.listed lefts i.item
+          let there = left_there plain refl (top_job None) t asked depth r report place k leads shallow m.items m.inside m.listed lefts
+          i.item
           i.has (entry_of i.item).kind (by_rule origin line) fate in
           inl (origin, line, inl (subst (λ p. IsLeft r p (by_rule origin line)) (ap (path_in k.path) i.named ∙ sym path_is) there))
       by (inr (none, kept)) =

@@ -163,7 +163,8 @@ module _ (lists : List ℕ → Listings) (gives : List ℕ → Contents) (s : Se
   place_names [] j k t given leads = ap (λ (i : JobModel). names_of_path i.path) (sym leads) ∙ sym (append-nil (names_of_path j.path))
   place_names (n ∷ place) j k t given (inside, leaves, leads) =
       let spread : Spread leaves.items = well_formed_items (t []) (given [] j refl).1 leaves.items leaves.listed.here in
-      let good : IsGoodName n = good_name leaves.items spread (directory_item n) (in_part s j.path (directory_item n) leaves.items leaves.has) in
+      let good : IsGoodName n = good_name leaves.items spread (directory_item n)
+      (in_part s j.path (directory_item n) leaves.items leaves.has) in
       let same : inside.path ≡ j.path = ap (λ (i : JobModel). i.path) leaves.listed.is in
       place_names place (child_job inside n) k (λ p. t (n ∷ p)) (given_below j t n inside given leaves) leads
       ∙ ap (λ p. p ++ place) (names_of_path-path_in inside.path n good ∙ ap (λ p. names_of_path p ++ n ∷ []) same)

@@ -56,7 +56,8 @@ module _ (s : SelectionModel) (whole : s.only ≡ []) (top : JobModel) (t : Tree
       }
 
       -- an entry that is left out
-      pub left_there : asked.left_out ≡ true → (item : Item) → In item items → (own : Kind) (reason : Reason) → fate_of s inside item ≡ left own reason
+      pub left_there : asked.left_out ≡ true → (item : Item) → In item items → (own : Kind) (reason : Reason)
+          → fate_of s inside item ≡ left own reason
           → IsLeft r (path_in k.path (name_of item)) reason
       left_there lefts item has own reason is =
           found_is_left asked xs r report lefts k.path (record { name = name_of item; kind = own; reason = reason })
@@ -64,12 +65,16 @@ module _ (s : SelectionModel) (whole : s.only ≡ []) (top : JobModel) (t : Tree
           (refl, entry_has item has (left own reason) is))
 
       -- a file that is taken
-      pub file_there : asked.files ≡ true → (n : List ℕ) (c : Result Count FaultWord) (rules : Result (List ℕ) FaultWord) → In (file_item n c rules) items
+      pub file_there : asked.files ≡ true → (n : List ℕ) (c : Result Count FaultWord) (rules : Result (List ℕ) FaultWord)
+          → In (file_item n c rules) items
           → reason_of s inside n false ≡ None → IsKept r (path_in k.path n) File
       file_there files n (Ok count) rules has none =
           inl (found_counted asked xs r report files k.path _
-          (found (found_file k.path _)
-          (refl, entry_has (file_item n (Ok count) rules) has _ (ap (λ o. option_map_or (left File) o (file_fate inside n (Ok count))) none))))
+          (found (found_file k.path _) (
+            refl,
+            entry_has (file_item n (Ok count) rules) has _
+                (ap (λ o. option_map_or (left File) o (file_fate inside n (Ok count))) none),
+          )))
       file_there files n (Err word) rules has none =
           inr (found_at_fault asked xs r report (path_in k.path n) word
           (found (found_fault (path_in k.path n) word)

@@ -86,7 +86,8 @@ module _ (lists : Lists) (xs : List Found) (r : Report) (is : IsReportOf lists x
     pub left_found : (path : List ℕ) (reason : Reason) → IsLeft r path reason → LeftAt xs path reason
     left_found path reason (kind, has) =
         let line : LeftLineModel = record { path = path; kind = kind; reason = reason } in
-        let there : In line (left_out_of xs) = is_in line (left_out_of xs) (Contains-permutation _ _ line (IsPermutation-sym _ _ lefts) has) in
+        let there : In line (left_out_of xs) = is_in line (left_out_of xs)
+        (Contains-permutation _ _ line (IsPermutation-sym _ _ lefts) has) in
         let x = in_lists left_out_in line xs there in
         left_by xs path kind reason x.0 x.1 x.2
 

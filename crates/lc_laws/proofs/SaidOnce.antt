@@ -32,7 +32,8 @@ module _ (lists : List ℕ → Listings) (gives : List ℕ → Contents) (one : 
   same_entered j a b one_way other =
       sym one_way.gives_it ∙ one_waypoint lists gives one s j one_way.answers other.answers one_way.may other.may ∙ other.gives_it
 
-  once_entered : (j : JobModel) (IsSaidBelow Tells : WaypointModel → Type 0) → ((here : WaypointModel) → IsSaidBelow here → Tells here → x ≡ y)
+  once_entered : (j : JobModel) (IsSaidBelow Tells : WaypointModel → Type 0)
+      → ((here : WaypointModel) → IsSaidBelow here → Tells here → x ≡ y)
       → OnEntering (MayEnter lists gives) j x IsSaidBelow → OnEntering (MayEnter lists gives) j y Tells → x ≡ y
   once_entered j IsSaidBelow Tells same (Ok here, enters, said) (other, enters_too, told) =
       same here said

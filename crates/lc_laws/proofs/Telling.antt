@@ -75,7 +75,8 @@ module _ (r : Report) (path : List ℕ) (kind : Kind) (exclude : List ℕ) (way 
   taken_told (Some rule) has = has
 
 module _ (lists : List ℕ → Listings) (gives : List ℕ → Contents) (one : GivesOne lists gives) (s : SelectionModel) (whole : s.only ≡ [])
-    (exclude : List ℕ) (x : Explanation) (top : JobModel) (t : Tree) (given : IsGiven lists gives s top t) (asked : Lists) (depth : ℕ) (r : Report)
+    (exclude : List ℕ) (x : Explanation) (top : JobModel) (t : Tree) (given : IsGiven lists gives s top t) (asked : Lists) (depth : ℕ)
+    (r : Report)
     (report : IsReportOf asked (walk_of s depth top t) r) (files : asked.files ≡ true) (lefts : asked.left_out ≡ true)
     (path : List ℕ) (kind : Kind) (kept : IsTaken x → Contains (left_paths r.left.items) path → ⊥) where
   abbrev xs : List Found
@@ -110,7 +111,9 @@ module _ (lists : List ℕ → Listings) (gives : List ℕ → Contents) (one : 
             by None e =
                 subst (TellsOf r path kind) (sym (is ∙ ap (λ o. said_by (cited exclude way) o (rule_for n false)) e))
                 (taken_told r path kind exclude way (rule_for n false)
-                (subst (λ (d : Kind). IsKept r path d) (sym own) (subst (λ p. IsKept r p File) (sym at) (file_there s whole top t asked depth r report place k leads shallow items inside listed files n c rules has e))))
+                (subst (λ (d : Kind). IsKept r path d) (sym own)
+                (subst (λ p. IsKept r p File) (sym at)
+                (file_there s whole top t asked depth r report place k leads shallow items inside listed files n c rules has e))))
         entry_told (directory_item n) has at own is = by (reason_of s inside n true) refl
           where
             by : (o : Option Reason) → reason_of s inside n true ≡ o → TellsOf r path kind x
@@ -159,7 +162,8 @@ module _ (lists : List ℕ → Listings) (gives : List ℕ → Contents) (one : 
       by (waypoint k (t place)) refl (entered_by lists gives one s k (t place) entered (given place k leads).0 enters)
     where
       Holds : Result WaypointModel FaultLineModel → Type 0
-      Holds w = MatchResult w (λ here. IsSaid (MayEnter lists gives) s exclude (way ++ here ∷ []) here names false x) (λ fault. x ≡ faulted fault)
+      Holds w = MatchResult w (λ here. IsSaid (MayEnter lists gives) s exclude (way ++ here ∷ []) here names false x)
+          (λ fault. x ≡ faulted fault)
 
       by : (w : Result WaypointModel FaultLineModel) → waypoint k (t place) ≡ w → entered ≡ waypoint k (t place)
           → ((fault : FaultLineModel) × (waypoint k (t place) ≡ Err fault) × (x ≡ faulted fault)) ⊎ IsMet way place k names
@@ -226,7 +230,8 @@ module _ (lists : List ℕ → Listings) (gives : List ℕ → Contents) (one : 
           there : kind_in m.says.here.entries name ≡ Some Dir
           there = ap (λ (es : List EntryModel). kind_in es name) m.says.entries ∙ kind_found m.items spread (directory_item name) has
 
-          reason_is : reason_for s m.says.here.job name (kind_asked true (kind_in m.says.here.entries name)) ≡ reason_of s m.inside name true
+          reason_is : reason_for s m.says.here.job name
+              (kind_asked true (kind_in m.says.here.entries name)) ≡ reason_of s m.inside name true
           reason_is =
               ap (λ (o : Option Kind). reason_for s m.says.here.job name (kind_asked true o)) there
               ∙ ap (λ (j : JobModel). reason_of s j name true) m.says.job

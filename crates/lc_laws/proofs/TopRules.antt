@@ -159,7 +159,8 @@ info_items_of a there i e = at there refl (info_items there a) refl e
         by (Err word) is g = absurd (cc g)
 
     by_git : (b : Bool) → there ≡ b → (g : Items) → a.git ≡ g → (items : List Item)
-        → and_then (listing b (codes ".git") g) (λ in_git. listing (has_directory (codes "info") in_git) (codes ".git/info") a.info) ≡ Ok items
+        → and_then (listing b (codes ".git") g) (λ in_git. listing (has_directory (codes "info") in_git) (codes ".git/info") a.info) ≡
+        Ok items
         → (items ≡ []) ⊎ ((there ≡ true) × (has_directory (codes "info") (items_of a.git) ≡ true) × (a.info ≡ Ok items))
     by_git false is g git items f = let none : items ≡ [] = cc f in inl none
     by_git true is (Ok xs) git items f = after (by_info (has_directory (codes "info") xs) items f)
@@ -277,7 +278,8 @@ module _ (lists : List ℕ → Listings) (gives : List ℕ → Contents) (one : 
                 absurd (has.no_info (entry_listed (codes ".git/info") found.items (file_item (codes "exclude") f.0 (Ok text)) may_info f.1))
 
         there : IsItem items (codes ".gitignore") File
-        there = item_of lists gives one s (top_job None) t given [] (top_job None) items inside refl listed (codes ".gitignore") File has.there
+        there = item_of lists gives one s (top_job None) t given [] (top_job None) items inside refl listed
+            (codes ".gitignore") File has.there
 
         entry_is : (e : EntryModel) → e.name ≡ codes ".gitignore" → e.kind ≡ File → e ≡ record { name = codes ".gitignore"; kind = File }
         entry_is e n k =
@@ -315,7 +317,8 @@ module _ (lists : List ℕ → Listings) (gives : List ℕ → Contents) (one : 
         (at_top items inside (subst (λ (i : JobModel). IsListed i (t []) items inside) (sym leads) listed))
     rules_at (n ∷ place) k (within, leaves, leads) items inside listed =
         let spread = well_formed_items (t []) (given [] (top_job None) refl).1 leaves.items leaves.listed.here in
-        let good = good_name leaves.items spread (directory_item n) (in_part s (top_job None).path (directory_item n) leaves.items leaves.has) in
+        let good = good_name leaves.items spread (directory_item n)
+        (in_part s (top_job None).path (directory_item n) leaves.items leaves.has) in
         top_chain_rules inside.ignore (rules_of bytes)
         (lower place (child_job within n) (λ p. t (n ∷ p)) (given_below lists gives s (top_job None) t n within given leaves)
         (some_path within.path n good.0) (at_top leaves.items within leaves.listed) k leads items inside listed)

@@ -67,7 +67,8 @@ module _ (gives : List ℕ → Contents) (j : JobModel) (name : List ℕ) (old n
       IsAnswer (MayCount (gives path)) (λ c. c) answer → AddsResult j name (Ok count) old new result
       → AddsCounted gives j name old new result
   adds_file result path count answer is at may a =
-      let counted : MayCount (gives path) (Ok count) = subst (λ (x : Result Count ContentFault). IsAnswer (MayCount (gives path)) (λ c. c) x)
+      let counted : MayCount (gives path) (Ok count) = subst
+      (λ (x : Result Count ContentFault). IsAnswer (MayCount (gives path)) (λ c. c) x)
       is may in
       adds result (Ok count) (subst (λ (p : List ℕ). MayCount (gives p) (Ok count)) at counted) a
 
@@ -77,7 +78,8 @@ module _ (gives : List ℕ → Contents) (j : JobModel) (name : List ℕ) (old n
       IsAnswer (MayCount (gives path)) (λ c. c) answer → AddsResult j name (Err word) old new result
       → AddsCounted gives j name old new result
   adds_fault result path word answer is at may a =
-      let counted : MayCount (gives path) (Err word) = subst (λ (x : Result Count ContentFault). IsAnswer (MayCount (gives path)) (λ c. c) x)
+      let counted : MayCount (gives path) (Err word) = subst
+      (λ (x : Result Count ContentFault). IsAnswer (MayCount (gives path)) (λ c. c) x)
       is may in
       adds result (Err word) (subst (λ (p : List ℕ). MayCount (gives p) (Err word)) at counted) a
 

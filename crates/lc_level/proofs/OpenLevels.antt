@@ -74,7 +74,8 @@ module _ (lists : List ℕ → Listings) (gives : List ℕ → Contents) (left_o
     -- they are few
     pub few : length part < 2 ^ 32
     few =
-        let listing : IsListing (entries_of c.inside.items) = subst (λ (l : Items). IsListing (listed_in l)) c.inside.here c.inside.well_formed in
+        let listing : IsListing (entries_of c.inside.items) = subst
+        (λ (l : Items). IsListing (listed_in l)) c.inside.here c.inside.well_formed in
         omega (
           arith,
           listing.few,

@@ -77,7 +77,8 @@ held_rules c = by_length c.bytes c.fails (cases_lt (length c.bytes) 1048577)
     by_length bytes fails (inr long) = (Err Long, first_bytes bytes fails 1048577 long)
 
 -- what may be counted of a content may be counted of a file that may have it
-count_held : (gives : Contents) (c : Content) → MayHold gives c → (r : Result Count FaultWord) → MayCount (GivesContent c) r → MayCount gives r
+count_held : (gives : Contents) (c : Content) → MayHold gives c → (r : Result Count FaultWord) → MayCount (GivesContent c) r
+    → MayCount gives r
 count_held gives c holds (Ok count) m = (m.0, holds m.0 at_end m.1, m.2)
 count_held gives c holds (Err Read) m = (m.0, holds m.0 at_failure m.1)
 count_held gives c holds (Err Endless) m = (m.0, holds m.0 at_neither m.1, m.2)

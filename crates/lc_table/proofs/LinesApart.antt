@@ -25,7 +25,8 @@ input_lines_of-feed : (line rest : List ℕ) → is_one_line line ≡ true → i
 input_lines_of-feed line rest e =
     input_lines_of-first (line ++ 10 ∷ rest) line rest (slice_split_at (λ b. b == 10) line 10 rest (none_passes line e) refl)
 
-input_lines_of-lines : (lines : List (List ℕ)) → All (λ line. is_one_line line ≡ true) lines → input_lines_of (flat_map with_feed lines) ≡ lines
+input_lines_of-lines : (lines : List (List ℕ)) → All (λ line. is_one_line line ≡ true) lines
+    → input_lines_of (flat_map with_feed lines) ≡ lines
 input_lines_of-lines [] all = refl
 input_lines_of-lines (line ∷ lines) all =
     ap input_lines_of (append_assoc line (codes "\n") (flat_map with_feed lines))

@@ -366,6 +366,7 @@ counts_law r =
     let fits = (like_fit ss first more like).0 in (
       span ss ws,
       All-same (λ line. width_of line ≡ span ss ws) _ (map (shown ws) (first ∷ more))
-          (input_lines_of-lined (map (shown ws) (first ∷ more)) (lines_in ws (first ∷ more)) (lined_lines ss ws (first ∷ more) refl fits like))
+          (input_lines_of-lined (map (shown ws) (first ∷ more)) (lines_in ws (first ∷ more))
+          (lined_lines ss ws (first ∷ more) refl fits like))
           (wide_lines ss ws (first ∷ more) refl fits like),
     )

@@ -15,5 +15,6 @@ without_empty_last-cons line [] some = absurd (some refl)
 without_empty_last-cons line (p ∷ ps) some = refl
 
 -- the first line stands before the first line feed
-pub input_lines_of-first : (bytes line rest : List ℕ) → pieces_of 10 bytes ≡ line ∷ pieces_of 10 rest → input_lines_of bytes ≡ line ∷ input_lines_of rest
+pub input_lines_of-first : (bytes line rest : List ℕ) → pieces_of 10 bytes ≡ line ∷ pieces_of 10 rest
+    → input_lines_of bytes ≡ line ∷ input_lines_of rest
 input_lines_of-first bytes line rest is = ap without_empty_last is ∙ without_empty_last-cons line (pieces_of 10 rest) (some_piece rest)

@@ -337,7 +337,8 @@ module _ (ask : Asked) (MayAnswer : List ℕ → Answers → Type 0) (capacity w
     well_formed_at : (i : ℕ) → IsWellFormed (answers i)
     well_formed_at i = well_formed_or i (slice_get rows i) refl
 
-    well_formed_from : (children : ℕ → List ChildModel) (i : ℕ) (place : List (List ℕ)) → IsWellFormed (tree_from no_answers answers children i place)
+    well_formed_from : (children : ℕ → List ChildModel) (i : ℕ) (place : List (List ℕ))
+        → IsWellFormed (tree_from no_answers answers children i place)
     well_formed_from children i [] = well_formed_at i
     well_formed_from children i (n ∷ place) = at (child_number n (children i)) (λ k. well_formed_from children k place)
       where

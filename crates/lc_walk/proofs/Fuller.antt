@@ -53,7 +53,8 @@ fuller_says ask full fuller (ended.Faulted (Broken r)) a posts f s = s
 module _ (ask : Asked) (full fuller : Bool) (MayAnswer : List ℕ → Answers → Type 0) (f : full ≡ true → fuller ≡ true) where
   fuller_end : (got : Option JobModel) (posts : List (ℕ × JobModel)) (e : Ended Row) (a : Answers)
       → IsLawfulEnd ask full MayAnswer got posts e a → IsLawfulEnd ask fuller MayAnswer got posts e a
-  fuller_end got posts e a l = record { job_is = l.job_is; well_formed = l.well_formed; says = fuller_says ask full fuller e a _ f l.says; may = l.may }
+  fuller_end got posts e a l =
+      record { job_is = l.job_is; well_formed = l.well_formed; says = fuller_says ask full fuller e a _ f l.says; may = l.may }
 
   -- of all that a pass has given since
   pub fuller_since : (old m : List (Event JobModel Row)) (given : List Answers) → AreLawfulSince ask full MayAnswer old m given →

@@ -94,7 +94,8 @@ module _ (s : SelectionModel) (only : List (List ℕ)) where
 
   child_good : (j : JobModel) (a : Answers) (n : List ℕ) (inside : JobModel) → IsWellFormed a → WalksInto whole j a n inside → IsGoodName n
   child_good j a n inside well_formed l =
-      spread_good (directory_item n) l.items (well_formed_items a well_formed l.items l.listed.here) (in_whole j.path l.items (directory_item n) l.has)
+      spread_good (directory_item n) l.items (well_formed_items a well_formed l.items l.listed.here)
+      (in_whole j.path l.items (directory_item n) l.has)
 
   -- ---- the directories on the way
 
@@ -168,7 +169,8 @@ module _ (s : SelectionModel) (only : List (List ℕ)) where
 
     -- ---- the walk
 
-    module _ (depth : ℕ) (top : JobModel) (t : Tree) (at_top : top.path ≡ []) (well_formed : (place : List (List ℕ)) → IsWellFormed (t place)) where
+    module _ (depth : ℕ) (top : JobModel) (t : Tree) (at_top : top.path ≡ [])
+        (well_formed : (place : List (List ℕ)) → IsWellFormed (t place)) where
       in_whole_walk : (x : Found) → IsFoundIn whole depth top t x → Contains (whole_walk s only depth top t) x
       in_whole_walk x r = (found_law whole depth top t x).1 r
 
@@ -344,8 +346,10 @@ part_law s only some good depth top t at_top well_formed =
       has_file = λ d f c. has_file s only some good depth top t at_top well_formed d f ((found_law (narrowed s []) depth top t _).0 c);
       left = λ d l c. left_out s only some good depth top t at_top well_formed d l ((found_law (narrowed s only) depth top t _).0 c);
       has_left = λ d l c. has_left_out s only some good depth top t at_top well_formed d l ((found_law (narrowed s []) depth top t _).0 c);
-      directory = λ p c. directory s only some good depth top t at_top well_formed p c.0 ((found_law (narrowed s only) depth top t _).0 c.1);
-      has_directory = λ p c. has_directory s only some good depth top t at_top well_formed p c.0 ((found_law (narrowed s []) depth top t _).0 c.1);
+      directory = λ p c. directory s only some good depth top t at_top well_formed p c.0
+          ((found_law (narrowed s only) depth top t _).0 c.1);
+      has_directory = λ p c. has_directory s only some good depth top t at_top well_formed p c.0
+          ((found_law (narrowed s []) depth top t _).0 c.1);
       fault = λ p w c.
           let r = (found_law (narrowed s only) depth top t (found_fault p w)).0 c in
           fault s only some good depth top t at_top well_formed p w r r.gives;

@@ -47,7 +47,8 @@ apart_moved xs ys = IsDistinct-IsPermutation _ ((eq_by_cmp_equiv nat_list_cmp_to
 
 -- no path stands twice in a walk
 pub paths_once_law : PathsOnceLaw
-paths_once_law selection depth j t well_formed = apart_from_distinct (map path_of (walk_of selection depth j t)) (fine selection depth j t well_formed).1
+paths_once_law selection depth j t well_formed = apart_from_distinct (map path_of (walk_of selection depth j t))
+    (fine selection depth j t well_formed).1
 
 -- nor in what was found in another order
 pub found_apart : (xs ys : List Found) → IsPermutation xs ys → AreApart (map path_of xs) → AreApart (map path_of ys)

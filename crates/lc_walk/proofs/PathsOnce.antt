@@ -353,4 +353,5 @@ module _ (selection : SelectionModel) where
       (λ l. IsFine j.path (paths (found_of j l ++ walks_below (found_at selection) (children_at selection) (walk k) t (children_of l))))
       selection j (t [])
       (λ p w o. ((own_below j.path p o, tt), (tt, tt)))
-      (λ es e b. of_items k (extended j b) t es (well_formed_items (t []) (well_formed []) es e) (λ i u. fine k i (λ p. t (u ∷ p)) (λ p. well_formed (u ∷ p))))
+      (λ es e b. of_items k (extended j b) t es (well_formed_items (t []) (well_formed []) es e)
+      (λ i u. fine k i (λ p. t (u ∷ p)) (λ p. well_formed (u ∷ p))))

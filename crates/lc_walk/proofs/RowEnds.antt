@@ -1,5 +1,6 @@
 -- The rows by which a worker ends its claims are lawful.
-use Rattle.std.proofs.Common.{◌≡◌, ℕ, ◌<◌, false, List, [], ◌++◌, length, map, take, cond, refl, sym, ◌∙◌, ap, subst, Option, Some, None, Result, Ok}
+use Rattle.std.proofs.Common.{◌≡◌, ℕ, ◌<◌, false, List, [], ◌++◌, length, map, take}
+use Rattle.std.proofs.Common.{cond, refl, sym, ◌∙◌, ap, subst, Option, Some, None, Result, Ok}
 use Rattle.std.proofs.Common.{Err, inl, inr, arith}
 use Rattle.std.proofs.Math.Seq.{take-length}
 use Rattle.std.proofs.lemmas.List.{length-map, length-take-le}
@@ -70,7 +71,8 @@ module _ (ask : Asked) (lists : List ℕ → Listings) (gives : List ℕ → Con
   serves_unasked p j t h = works_give ask (MayAnswer lists gives) p _ no_answers t None (memory_end p j h) (λ fs s. tt) (λ e. inl refl)
 
   unopened_end : (p : Pass JobModel Row) (j : JobModel) (c : Cause) → HoldsJob j p
-      → OpensLevel lists gives ask.lists.left_out ask.selection j (Err (open_fault.Broken c)) → (a : Answers) × Lawful p j (given_up_for c) a
+      → OpensLevel lists gives ask.lists.left_out ask.selection j (Err (open_fault.Broken c))
+      → (a : Answers) × Lawful p j (given_up_for c) a
   unopened_end p j level.Memory h o = (no_answers, memory_end p j h)
   unopened_end p j level.TooDeep h o = (
     o.0,
@@ -151,7 +153,8 @@ module _ (ask : Asked) (lists : List ℕ → Listings) (gives : List ℕ → Con
         (serves_broken ask (MayAnswer lists gives) q j Memory c.inside.answers t t result (broken_end Memory x.0 x.1 tt) g (λ n. refl))
     serves_refused TooManyDirs t result x g =
         then_serves ask (MayAnswer lists gives) p q _ t t result (works_posts ask (MayAnswer lists gives) p q _ (Some t) x.1)
-        (serves_broken ask (MayAnswer lists gives) q j TooManyDirs c.inside.answers t t result (broken_end TooManyDirs x.0 x.1 (x.2, fewer x.0 x.1 x.3)) g
+        (serves_broken ask (MayAnswer lists gives) q j TooManyDirs c.inside.answers t t result
+        (broken_end TooManyDirs x.0 x.1 (x.2, fewer x.0 x.1 x.3)) g
         (λ n. refl))
     serves_refused TooDeep t result x g = absurd x
 

@@ -62,7 +62,8 @@ module _ (ask : Asked) (MayAnswer : List ℕ → Answers → Type 0) (capacity w
     rows_so keeps fed = some_rows ask MayAnswer capacity workers top promises passes rows room keeps count settled given lawful
         (λ i e is b. fed (i, (e, is, b)))
 
-    cause_here : (keeps : promises.keeps ≡ true) (c : GivenUp) (i : ℕ) (e : Ended Row) → slice_get rows i ≡ Some e → IsBrokenBy c (row_of e) →
+    cause_here : (keeps : promises.keeps ≡ true) (c : GivenUp) (i : ℕ) (e : Ended Row) → slice_get rows i ≡ Some e
+        → IsBrokenBy c (row_of e) →
         IsCause ask (list_any (λ (p : Pass JobModel Row). p.full) passes) (job_of (row_of e))
         (answers ask MayAnswer capacity workers top promises passes rows room keeps count settled given lawful i)
         (posts_under i settled.history) c

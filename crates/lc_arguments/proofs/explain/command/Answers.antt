@@ -12,5 +12,6 @@ returns c =
     let bare = c.in_ok-command.command in
     let are = subst (AreArgsOf explain_rules) (sym c.in_ok-args.ensures.items) c.args-2.ensures in
     IfOk-weaker c.args-3.result (AddsInTurn AddsArg bare args) (IsCommandOf explain_app)
-    (λ command added. seen_with (codes "explain") explain_rules command (given (codes "explain") explain_rules bare args command c.in_ok-command.ensures are added))
+    (λ command added. seen_with (codes "explain") explain_rules command
+    (given (codes "explain") explain_rules bare args command c.in_ok-command.ensures are added))
     c.args-3.ensures

@@ -6,7 +6,8 @@ use Rattle.lc_text.proofs.visible.push_each_char.Goals as goal
 
 pub returns : goal.returns
 returns c =
-    let end = YieldsList-end (YieldsList-from_chars c.args.shown.now c.utf8.shown cc) c.loop-c.yielded _ c.loop-c.yielded_by _ _ c.in-None.is
+    let end = YieldsList-end (YieldsList-from_chars c.args.shown.now c.utf8.shown cc) c.loop-c.yielded _ c.loop-c.yielded_by _
+    _ c.in-None.is
     c.next.ensures.steps in
     c.loop-c.invariant ∙ ap (λ (cs : List ℕ). string_bytes c.args.text.now ++ flat_map visible_char cs)
     (sym (map-id c.loop-c.yielded) ∙ end.0)

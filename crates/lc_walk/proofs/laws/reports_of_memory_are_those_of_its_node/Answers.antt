@@ -8,4 +8,5 @@ returns-clause-one_answer c =
 pub returns-clause-report : goal.returns-clause-report
 returns-clause-report c =
     λ top modest ask capacity workers job promises r answers keeps.
-    (answers keeps).one_answer (tree_of_node top) (λ place j leads a may. c.a_node_is_one_tree.ensures.levels top modest ask.selection j a may)
+    (answers keeps).one_answer (tree_of_node top)
+    (λ place j leads a may. c.a_node_is_one_tree.ensures.levels top modest ask.selection j a may)

@@ -41,7 +41,8 @@ returns-then-not-is_child_path-clause-torn c = λ p.
 pub returns-clause-marks : goal.returns-clause-marks
 returns-clause-marks c =
     let same = c.number_of-number.ensures.same in
-    subst (AreLinked c.args.rows.now c.args.at (c.args.place + 1)) (sym (c.mark.ensures ∙ ap (λ k. slice_set c.args.linked.now k true) same))
+    subst (AreLinked c.args.rows.now c.args.at (c.args.place + 1))
+    (sym (c.mark.ensures ∙ ap (λ k. slice_set c.args.linked.now k true) same))
     (marks_set c.args.rows.now c.args.at c.args.place c.args.child.now c.path_at.result.now c.path_at-path.result.now c.args.linked.now
     c.requires.next c.path_at.ensures
     (subst (λ k. IsPathAt c.args.rows.now k c.path_at-path.result.now) same c.path_at-path.ensures)

@@ -6,7 +6,8 @@ use Rattle.lc_walk.proofs.worker.Worker.post_child.Goals as goal
 use Rattle.lc_walk.proofs.worker.Worker.post_child.Goals.{in-Ok-push, in-Err}
 
 pub returns-in-Err-Full-clause-posts : goal.returns-in-Err-Full-clause-posts
-returns-in-Err-Full-clause-posts g c = rw (c.post.ensures.mine, c.in-Err-Full.is, c.in-Err-Full.field-0-is) (0, posted_full _, refl, omega arith)
+returns-in-Err-Full-clause-posts g c = rw (c.post.ensures.mine, c.in-Err-Full.is, c.in-Err-Full.field-0-is)
+    (0, posted_full _, refl, omega arith)
 
 pub returns-in-Err-Memory-clause-posts : goal.returns-in-Err-Memory-clause-posts
 returns-in-Err-Memory-clause-posts g c = rw (c.post.ensures.mine, c.in-Err-Memory.is, c.in-Err-Memory.field-0-is) (0, posted_none _)

@@ -18,5 +18,6 @@ returns-then-is_err-clause-goes_on g c =
           (refused_serves ask (MayAnswer lists gives) _ _ _ _ w.serve-served.result
           (ap is_err (sym w.served-is) ∙ sym c.is_err.ensures.value ∙ c.if-is_err.true) w.serve-served.ensures.serves)
       | in_default w ↦
-          rw (w.pass-is, w.give_up-served.ensures.mine, w.of.ensures) (serves_unasked ask lists gives _ c.args.job c.args.tally.now c.requires.1)
+          rw (w.pass-is, w.give_up-served.ensures.mine, w.of.ensures)
+          (serves_unasked ask lists gives _ c.args.job c.args.tally.now c.requires.1)
     ]

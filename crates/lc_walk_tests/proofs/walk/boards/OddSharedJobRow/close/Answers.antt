@@ -13,7 +13,8 @@ crowded p = record { keeps = p.keeps; compares = p.compares; fills = false }
 
 -- what closing answers, a larger board answers that promises no more than that posts may be answered Full
 module _ {J R : Type 0} (c d n : ℕ) (le : c ≤ d) (promises : Promises) (passes : List (Pass J R)) where
-  settled_larger : (root : J) (rows : List (Ended R)) → Settled c n root promises passes rows → Settled d n root (crowded promises) passes rows
+  settled_larger : (root : J) (rows : List (Ended R)) → Settled c n root promises passes rows
+      → Settled d n root (crowded promises) passes rows
   settled_larger root rows s = record {
     history = s.history;
     legal = stays_legal c d n s.history le s.legal;
@@ -53,7 +54,8 @@ module _ {J R : Type 0} (c d n : ℕ) (le : c ≤ d) (promises : Promises) (pass
 
 pub returns-in-Ok-clause-settled : goal.returns-in-Ok-clause-settled
 returns-in-Ok-clause-settled g c root is =
-    settled_larger _ c.args.self.capacity _ c.args.self.room g.B.Shared.promises _ root c.in-Ok.closed.rows.items (c.in-Ok.ensures.settled root is)
+    settled_larger _ c.args.self.capacity _ c.args.self.room g.B.Shared.promises _ root c.in-Ok.closed.rows.items
+    (c.in-Ok.ensures.settled root is)
 
 pub returns-clause-fault : goal.returns-clause-fault
 returns-clause-fault g c =
