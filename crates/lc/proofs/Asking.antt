@@ -23,6 +23,7 @@ module _ (asked : CountRequest) (exclude : Option (Arc (List RuleModel) Global))
     only = only;
   }
 
+  -- these are the options that the words ask for
   pub are_asked : (loads : Loaded) (text : Option (List ℕ)) → Excludes loads asked.exclusions.from text
       → shared exclude ≡ option_map rules_of text → without.now ≡ asked.exclusions.without.items → only.now ≡ asked.only.items
       → IsAskedBy loads asked options_of

@@ -109,6 +109,7 @@ pub record HasRules (name : List ℕ) (rules : List Rule) (c : Command) : Type 0
   pub fits : All FitsChain args
   pub are : map rule_of args ≡ rules
 
+-- a bare command that is given such arguments has their rules
 pub given : (name : List ℕ) (rules : List Rule) (bare : Command) (args : List Arg) (c : Command) → IsBare name bare → AreArgsOf rules args
     → AddsInTurn AddsArg bare args c → HasRules name rules c
 given name rules bare args c is are added = record {

@@ -227,6 +227,7 @@ module _ {J R : Type 0} (root : J) (workers : ℕ) (passes : List (Pass J R)) (w
           (λ near. absurd (r.used w p at full n near (sym (face_at n near) ∙ absent_is (word_at ws n) x)))
           (λ out. omega (arith, out, small, count))) o
 
+      -- so the rows and the passes are settled by one history
       pub settled : Settled (length xs) workers root words_promises passes rows
       settled = record {
         history = r.history;

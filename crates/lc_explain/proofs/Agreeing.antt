@@ -29,6 +29,7 @@ other : (cite : Origin → ℕ → CitedRule) (reason : Option Reason) (rule : O
 other cite None rule = refl
 other cite (Some reason) rule = refl
 
+-- for each entry of a level
 pub agree : EntryLaw
 agree s exclude way j (file_item name (Ok count) rules) =
     let rule = deciding (rules_in j.ignore) (path_in j.path name) false in
@@ -42,6 +43,7 @@ agree s exclude way j (directory_item name) =
 agree s exclude way j (other_item name) =
     other (cited exclude way) (reason_of s j name false) (deciding (rules_in j.ignore) (path_in j.path name) false)
 
+-- a directory is explained further just where it is walked
 pub into : IntoLaw
 into s j name = by (reason_of s j name true)
   where

@@ -24,6 +24,7 @@ module _ {Tr : Type 0} (lists : Tr → List ℕ → Listings) (gives : Tr → Li
   abbrev By : Tr → SelectionModel → List ℕ → JobModel → Type 0
   By t s exclude top = Explains (IsExplained (MayEnter (lists t) (gives t)) s exclude top) lines text outcome
 
+  -- what was told by the parts of a question is told by the question
   pub as_asked : (t u : Tr) (q : Question) (s : SelectionModel) (exclude : List ℕ) (top : JobModel) → t ≡ u
       → s ≡ selection_of q.archive (map (λ name. name.now) q.without.now) → top ≡ top_job (option_map rules_of q.exclude)
       → exclude ≡ text_or_none q.exclude → By t s exclude top → Explains (MaySay (lists u) (gives u) q) lines text outcome
@@ -44,6 +45,7 @@ module _ {O : Type 0} (may_take : O → List ℕ → Result ℕ Failed → O →
   lines_stop print.Memory lines text outcome out wrote told stopped = stopped
 
   module _ {I : Type 0} (may_give : I → ℕ → Answer → I → Type 0) where
+    -- nor was that of an input
     pub explain_stops : (fault : PrintFault) (input read : I) (bytes text : List ℕ) (outcome : Outcome) (out wrote : O)
         → AnswersInput may_give input (Ok tt) bytes read → Explains Says (input_lines_of bytes) text outcome
         → AnswersPrint may_take out text (Err fault) wrote

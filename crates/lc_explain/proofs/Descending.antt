@@ -46,6 +46,7 @@ module _ (s : SelectionModel) (exclude : List ℕ) (way : Way) (j : JobModel) (r
       ∙ ap (λ (o : Option Reason). said_above (cited exclude way) o (said_beside s exclude way (child_job j name)
       (segments_of others) as_dir)) is
 
+-- of the last name of a path the tree knows nothing: it is told as a name that has no kind
 pub beside_last : (s : SelectionModel) (exclude : List ℕ) (way : Way) (j : JobModel) (rest name : List ℕ) (as_dir : Bool)
     → segments_of rest ≡ name ∷ []
     → said_beside s exclude way j (segments_of rest) as_dir ≡ said_of s exclude way j name (kind_asked as_dir None)
@@ -65,6 +66,7 @@ module _ (Enters : JobModel → Result WaypointModel FaultLineModel → Type 0) 
       subst (λ (l : Way). Reaches Enters s exclude top l here) (sym end)
       (way_end Enters s exclude top [] above here (subst (λ (l : Way). IsWay Enters s exclude top l) end is))
 
+  -- the last element of a way is where what is left of the path stands
   pub at_last : (way : Way) (path rest : List ℕ) (here : WaypointModel) → IsWay Enters s exclude top way → StandsBelow way path rest
       → slice_get way (length way - 1) ≡ Some here → IsLast way path rest here
   at_last way path rest here is stands last =
@@ -77,6 +79,7 @@ module _ (Enters : JobModel → Result WaypointModel FaultLineModel → Type 0) 
 
   module _ (way : Way) (path rest : List ℕ) (here : WaypointModel) (last : IsLast way path rest here) (good : is_bad_path path ≡ false)
       (name : List ℕ) where
+    -- a path that ends in a name of the last directory is explained by what is said of that name
     pub last_explained : (as_dir : Bool) (x : Explanation) → segments_of rest ≡ name ∷ []
         → x ≡ said_of s exclude way here.job name (kind_asked as_dir (kind_in here.entries name))
         → IsExplained Enters s exclude top path as_dir x
@@ -85,6 +88,7 @@ module _ (Enters : JobModel → Result WaypointModel FaultLineModel → Type 0) 
         (last_said Enters s exclude way here rest name as_dir x cut is)
 
     module _ (others : List ℕ) (at : IsCutAt rest name others) where
+      -- a path below an entry that is left out is explained by the reason
       pub left_explained : (as_dir : Bool) (x : Explanation) (r : Reason)
           → reason_for s here.job name (kind_asked true (kind_in here.entries name)) ≡ Some r → x ≡ said_for (cited exclude way) below r
           → IsExplained Enters s exclude top path as_dir x
@@ -92,6 +96,7 @@ module _ (Enters : JobModel → Result WaypointModel FaultLineModel → Type 0) 
           reached Enters s exclude top way here path rest as_dir x last.reaches last.left good
           (left_said Enters s exclude way here rest name others as_dir x at.cut r is said)
 
+      -- a path below what is no directory is explained by the rules alone
       pub beside_explained : (as_dir : Bool) (x : Explanation)
           → reason_for s here.job name (kind_asked true (kind_in here.entries name)) ≡ None
           → is_directory (kind_in here.entries name) ≡ false
@@ -101,6 +106,7 @@ module _ (Enters : JobModel → Result WaypointModel FaultLineModel → Type 0) 
           reached Enters s exclude top way here path rest as_dir x last.reaches last.left good
           (beside_said Enters s exclude way here rest name others as_dir x at.cut is other said)
 
+      -- a path below a directory that can't be entered is explained by the fault
       pub fault_explained : (as_dir : Bool) (x : Explanation) (fault : FaultLineModel)
           → reason_for s here.job name (kind_asked true (kind_in here.entries name)) ≡ None
           → is_directory (kind_in here.entries name) ≡ true

@@ -61,6 +61,7 @@ path_of_items : (j : JobModel) (a : Answers) (items : Items) → IfOk (waypoint_
 path_of_items j a (Ok items) = path_after j items (rule_bytes j.path items a)
 path_of_items j a (Err w) = tt
 
+-- a directory is entered at the path of its job
 pub entered_path : (lists : List ℕ → Listings) (gives : List ℕ → Contents) (j : JobModel) (here : WaypointModel)
     → MayEnter lists gives j (Ok here) → here.job.path ≡ j.path
 entered_path lists gives j here entered =

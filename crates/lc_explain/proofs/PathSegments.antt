@@ -25,6 +25,7 @@ has_first_of : (parts : List (List ℕ)) → (parts ≡ [] → ⊥) → HasFirst
 has_first_of [] some = absurd (some refl)
 has_first_of (p ∷ ps) some = record { first = p; others = ps; are = refl }
 
+-- each text has a first segment
 pub has_first : (bytes : List ℕ) → HasFirst (segments_of bytes)
 has_first bytes = has_first_of (segments_of bytes) (some_segment bytes)
 
@@ -89,6 +90,7 @@ pub record IsLastName (rest name : List ℕ) : Type 0 where
   pub whole : rest ≡ name
   pub cut : segments_of rest ≡ name ∷ []
 
+-- a text in which no slash stands is its last name
 pub not_cut : (rest name : List ℕ) (after : Option (Bor (List ℕ))) → after ≡ None
     → pieces_of slash rest ≡ name ∷ pieces_left slash after
     → MatchOption after (rest ≡ name) (λ x. rest ≡ name ++ slash ∷ x.now) → IsLastName rest name
@@ -133,6 +135,7 @@ below_child [] [] left some = absurd (some refl)
 below_child [] (n ∷ ns) left some = refl
 below_child (b ∷ bs) name left some = sym (append_assoc (b ∷ bs) (slash ∷ name) (slash ∷ left))
 
+-- a name and what follows its slash are joined to a directory as the name is
 pub joined_end : (d name left : List ℕ) → path_in d (name ++ slash ∷ left) ≡ path_in d name ++ slash ∷ left
 joined_end [] name left = refl
 joined_end (b ∷ bs) name left = sym (append_assoc (b ∷ bs) (slash ∷ name) (slash ∷ left))

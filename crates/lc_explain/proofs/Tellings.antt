@@ -62,5 +62,6 @@ pub line_done : (done all : List (List ℕ)) (rest line others : List ℕ) → d
 line_done done all rest line others is split =
     append_assoc done (line ∷ []) (input_lines_of others) ∙ ap (λ (l : List (List ℕ)). done ++ l) (sym split) ∙ is
 
+-- where nothing is left of the input all its lines are done
 pub lines_done : (done all : List (List ℕ)) (rest : List ℕ) → done ++ input_lines_of rest ≡ all → rest ≡ [] → done ≡ all
 lines_done done all rest is none = sym (append-nil done) ∙ ap (λ (l : List ℕ). done ++ input_lines_of l) (sym none) ∙ is

@@ -11,6 +11,7 @@ pub record EndsIn {A : Type 0} (xs : List A) (x : A) : Type 0 where
   pub front : List A
   pub is : xs ≡ front ++ x ∷ []
 
+-- a list that has a last element ends in it
 pub last_splits : {A : Type 0} (xs : List A) (x : A) → slice_get xs (length xs - 1) ≡ Some x → EndsIn xs x
 last_splits [] x e = absurd (cc e)
 last_splits (y ∷ []) x e = record { front = []; is = ap (λ z. z ∷ []) (let h : y ≡ x = cc e in h) }
@@ -19,6 +20,7 @@ last_splits (y ∷ z ∷ zs) x e =
     let below = last_splits (z ∷ zs) x (sym (ap (slice_get (y ∷ z ∷ zs)) at) ∙ e) in
     record { front = y ∷ below.front; is = ap (λ l. y ∷ l) below.is }
 
+-- the last element of a list that ends in one is that one
 pub last_of_end : {A : Type 0} (front : List A) (x : A) → slice_get (front ++ x ∷ []) (length (front ++ x ∷ []) - 1) ≡ Some x
 last_of_end [] x = refl
 last_of_end (y ∷ []) x = refl

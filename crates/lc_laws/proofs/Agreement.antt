@@ -76,6 +76,7 @@ module _ (law : EntryLaw) (lists : List ℕ → Listings) (gives : List ℕ → 
   taken_kept : IsTaken x → Contains (left_paths r.left.items) path → ⊥
   taken_kept taken has = let l = left_somehow r path has in not_both l.0 x (left_said l.0 l.1) taken
 
+  -- a report agrees on the path with what is said of it
   pub agrees : length (segments_of path) ≤ depth → AgreesOn lists r path x
   agrees deep = record {
     counted = counted_said;

@@ -170,6 +170,7 @@ module _ (law : RuleLaw) (last : DecidingLaw) (lists : List ℕ → Listings) (g
       ∙ ap (λ (d : Kind). is_ignored (verdict_from (deciding (rules_in by.inside.ignore) path (is_dir d)))) (sym own)
       ∙ ap (λ found. is_ignored (verdict_from found)) decides ∙ ap (λ b. is_ignored (cond b Included Ignored)) by.ignores
 
+  -- what a report says to be ruled out, itself or by a directory above it, a check calls ignored or below
   pub checked_out : (path : List ℕ) (kind : Kind) → IsEntry lists path kind → is_bad_path path ≡ false → IsRuledOut r path
       → IsCheckedOut rules path kind
   checked_out path kind entry good (origin, line, inl has) =

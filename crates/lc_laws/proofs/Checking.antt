@@ -288,6 +288,7 @@ module _ (lists : List ℕ → Listings) (gives : List ℕ → Contents) (one : 
           clear (λ g. no_git (inr g))
           (subst (λ d. LeadDown lists (path_in d name) (next ∷ names) kind) (sym inside_path) down.1)
 
+  -- for each number of names below a directory
   pub decided : (names : List (List ℕ)) → Decides names
   decided [] = λ front place k leads deep rest cut at joined to no_git down. absurd down
   decided (name ∷ []) = last_decides name

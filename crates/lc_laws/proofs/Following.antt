@@ -39,6 +39,7 @@ asked_as_it_is File = refl
 asked_as_it_is Dir = refl
 asked_as_it_is Other = refl
 
+-- a directory that nothing leaves out is gone into
 pub went_into : (reason : Option Reason) (is_there : Bool) (Left : Reason → Type 0) (Into Beside : Type 0) → reason ≡ None → is_there ≡ true
     → OnTheWay reason is_there Left Into Beside → Into
 went_into None true Left Into Beside a b way = way
@@ -91,6 +92,7 @@ module _ (lists : List ℕ → Listings) (gives : List ℕ → Contents) (one : 
     pub way : Way
     pub is : x ≡ said_of s exclude way inside name (kind_asked false (kind_in (entries_of items) name))
 
+  -- what is said at the end of a path is said of its last name
   pub said_at_end : (way : Way) (items : List Item) (inside : JobModel) (name : List ℕ) → IsSaidIn way items inside (name ∷ [])
       → IsSaidOf items inside name
   said_at_end way items inside name a = record {

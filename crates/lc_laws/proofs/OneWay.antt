@@ -34,6 +34,7 @@ pub record Entered (items : List Item) (inside : JobModel) (entered : Result Way
   pub job : here.job ≡ inside
   pub entries : here.entries ≡ entries_of items
 
+-- what is listed may be entered
 pub listed_entered : (j : JobModel) (a : Answers) (items : List Item) (inside : JobModel) → IsListed j a items inside
     → Entered items inside (waypoint j a)
 listed_entered j a items inside l = record {
@@ -61,6 +62,7 @@ same_ok x y e = cc
 same_err : (x y : FaultLineModel) → as_fault x ≡ as_fault y → x ≡ y
 same_err x y e = cc
 
+-- what may be entered is listed
 pub entered_listed : (j : JobModel) (a : Answers) (here : WaypointModel) → waypoint j a ≡ Ok here → Listed j a here
 entered_listed j a here = at a.here refl
   where

@@ -275,6 +275,7 @@ module _ (lists : List ℕ → Listings) (gives : List ℕ → Contents) (one : 
               (subst (λ (j : JobModel). IsSaidBelow lists gives one s exclude x (way ++ m.says.here ∷ []) (child_job j name) (next ∷ names))
               m.says.job into)
 
+  -- for each number of names below a directory
   pub told : (names : List (List ℕ)) → Tells names
   told [] = λ way place k leads deep rest cut at down said. absurd down
   told (name ∷ []) = last_tells name

@@ -107,6 +107,7 @@ pub record ReadHere (path : List ℕ) (items : List Item) (a : Answers) (bytes :
   pub info : and_then (info_items (has_git path items) a) info_bytes ≡ Ok bytes.info
   pub own : option_map Ok bytes.own.rules ≡ file_named (codes ".gitignore") items
 
+-- what a directory's rules are read from, where all of them could be read
 pub read_here : (path : List ℕ) (items : List Item) (a : Answers) (bytes : RuleBytes) → rule_bytes path items a ≡ Ok bytes
     → ReadHere path items a bytes
 read_here path items a bytes e = at (and_then (info_items (has_git path items) a) info_bytes) refl e
@@ -186,6 +187,7 @@ info_items_of a there i e = at there refl (info_items there a) refl e
 abbrev pub top_chain : List RuleModel → ChainModel
 top_chain rules = record { exclude = None; info = None; tree = (0, rules) ∷ [] }
 
+-- its rules are those of the top, at depth 0
 pub top_chain_rules : (chain : ChainModel) (rules : List RuleModel) → chain ≡ top_chain rules → rules_in chain ≡ at_depth 0 rules
 top_chain_rules chain rules is = ap rules_in is ∙ append-nil (at_depth 0 rules)
 

@@ -167,6 +167,7 @@ whole_else (p ∷ ps) d e =
 
 -- ---- entries that take part
 
+-- two tests that answer alike keep the same elements
 pub filter_as : {X : Type 0} (p q : X → Bool) → ((x : X) → p x ≡ q x) → (xs : List X) → filter p xs ≡ filter q xs
 filter_as p q same [] = refl
 filter_as p q same (x ∷ xs) =

@@ -53,6 +53,7 @@ module _ (lists : List ℕ → Listings) (gives : List ℕ → Contents)
   may_counts : (path n : List ℕ) → MayCount (gives (path_in path n)) (any_count path n)
   may_counts path n = (some_count (gives (path_in path n)) (some_content (path_in path n))).1
 
+  -- and may be read as rules so
   pub may_rules : (path n : List ℕ) → MayReadRules (gives (path_in path n)) (any_rules path n)
   may_rules path n = (some_rules (gives (path_in path n)) (some_content (path_in path n))).1
 

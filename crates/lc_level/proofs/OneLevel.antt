@@ -84,6 +84,7 @@ module _ (lists : List ℕ → Listings) (gives : List ℕ → Contents) (one : 
 
   module _ (s : SelectionModel) (j : JobModel) (a b : Answers) (may : MayAnswer lists gives j.path a)
       (also : MayAnswer lists gives j.path b) where
+    -- two answers for one directory have the same listing
     pub here : a.here ≡ b.here
     here = same_list j.path a.here b.here may.here also.here
 
@@ -110,6 +111,7 @@ module _ (lists : List ℕ → Listings) (gives : List ℕ → Contents) (one : 
         ∙ ap (λ (g : Items). and_then (listing true (codes ".git") g)
         (λ in_git. listing (has_directory (codes "info") in_git) (codes ".git/info") b.info)) git
 
+    -- and the same rules
     pub same_rules : (items : List Item) → a.here ≡ Ok items → rule_bytes j.path items a ≡ rule_bytes j.path items b
     same_rules items e =
         ap (λ r. and_then (and_then r info_bytes) (λ i. and_then (own_bytes j.path items) (λ o. Ok (record { info = i; own = o }))))
@@ -119,5 +121,6 @@ module _ (lists : List ℕ → Listings) (gives : List ℕ → Contents) (one : 
     same_level_of (Ok items) e = ap (level_after s j items) (same_rules items e)
     same_level_of (Err word) e = refl
 
+    -- so the directory has one level
     pub one_level : level s j a ≡ level s j b
     one_level = same_level_of a.here refl ∙ ap (level_of s j b) here

@@ -47,10 +47,12 @@ module _ (whole older : List RuleModel) (r : RuleModel) (path : List ℕ) (is_di
       ∙ ap (λ l. deciding l path is_dir) (map-append (λ (x : RuleModel). (Directory 0, x)) older (r ∷ []))
       ∙ deciding-append (at_depth 0 older) ((Directory 0, r) ∷ []) path is_dir
 
+  -- where it matches
   pub newest_decides : is_match r.pattern path is_dir ≡ true → Some (Directory 0, r) ≡ deciding (at_depth 0 whole) path is_dir
   newest_decides h =
       sym (file_newest ∙ ap (λ o. option_or o (deciding (at_depth 0 older) path is_dir)) (deciding_one (Directory 0, r) path is_dir true h))
 
+  -- where it doesn't match
   pub newest_passes : is_match r.pattern path is_dir ≡ false
       → deciding (at_depth 0 whole) path is_dir ≡ deciding (at_depth 0 older) path is_dir
   newest_passes h =

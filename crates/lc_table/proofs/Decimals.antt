@@ -43,6 +43,7 @@ whole_decimal (suc n) h =
     whole_digits (decimal (suc n)) (first_digit (suc n) (omega arith) h)
     (all_digits _ (λ i l. digit_at _ i (decimal_is_IsNumeral_wide (suc n) h).0.1 l))
 
+-- a decimal that is not too long is a number of JSON
 pub IsNumber-decimal : (n : ℕ) → n < 10 ^ 64 → IsNumber (decimal n)
 unfolding after_number
 IsNumber-decimal n h =

@@ -27,6 +27,7 @@ abbrev pub AreSound : List CellModel → Type 0
 AreSound [] = Unit {0}
 AreSound (c ∷ cs) = IsSound c.side c.text × AreSound cs
 
+-- lines of sound cells are joined to sound ones
 pub sound-append : (xs ys : List CellModel) → AreSound xs → AreSound ys → AreSound (xs ++ ys)
 sound-append [] ys a b = b
 sound-append (x ∷ xs) ys a b = (a.0, sound-append xs ys a.1 b)
@@ -120,6 +121,7 @@ utf8_front_at Left w t sound = IsUtf8-append t (spaces (w - width_of t)) sound.1
 utf8_front_at Right w t sound = IsUtf8-append (spaces (w - width_of t)) t (utf8_spaces (w - width_of t)) sound.1
 utf8_front_at End w t sound = IsUtf8-nil
 
+-- all cells but the last take their columns' widths and the gaps between them
 pub width_of-front : (ws : List ℕ) (cells : List CellModel) → Fit ws cells → AreSound cells
     → width_of (front ws cells) ≡ span (sides cells) ws
 width_of-front [] [] fits sound = width_of-nil
@@ -142,6 +144,7 @@ one_line_gap : (cells : List CellModel) → is_one_line (gap cells) ≡ true
 one_line_gap [] = refl
 one_line_gap (c ∷ cs) = refl
 
+-- they stand on one line
 pub one_line_front : (ws : List ℕ) (cells : List CellModel) → AreSound cells → is_one_line (front ws cells) ≡ true
 one_line_front [] cells sound = refl
 one_line_front (w ∷ ws) [] sound = refl
@@ -154,6 +157,7 @@ one_line_end_at Left t sound = refl
 one_line_end_at Right t sound = refl
 one_line_end_at End t sound = sound
 
+-- and so does the last cell
 pub one_line_end : (cells : List CellModel) → AreSound cells → is_one_line (end_of cells) ≡ true
 one_line_end [] sound = refl
 one_line_end (c ∷ cs) sound =

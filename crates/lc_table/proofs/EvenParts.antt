@@ -55,6 +55,7 @@ has_no_end (Left ∷ ss) = has_no_end ss
 has_no_end (Right ∷ ss) = has_no_end ss
 has_no_end (End ∷ ss) = false
 
+-- sides of which none ends a line are a layout
 pub layout_from : (ss : List Side) → has_no_end ss ≡ true → is_layout ss ≡ true
 layout_from [] e = refl
 layout_from (Left ∷ ss) e = layout_from ss e
@@ -76,6 +77,7 @@ no_end [] closed = refl
 no_end (c ∷ cs) closed =
     no_end_at c.side c.text (end_of cs) (sides cs) closed (no_end cs (column_width c.side (sides cs) 0 closed).1)
 
+-- all lines of such a layout have its width
 pub wide_lines : (ss : List Side) (ws : List ℕ) (ls : List (List CellModel)) → has_no_end ss ≡ true → All (Fit ws) ls → All (IsLike ss) ls
     → All (λ line. width_of line ≡ span ss ws) (map (shown ws) ls)
 wide_lines ss ws [] closed fits like = All-nil (λ line. width_of line ≡ span ss ws)

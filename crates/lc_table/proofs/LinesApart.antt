@@ -37,12 +37,14 @@ input_lines_of-lines (line ∷ lines) all =
 pub input_lines_of-lined : (lines : List (List ℕ)) (text : List ℕ) → IsLined lines text → input_lines_of text ≡ lines
 input_lines_of-lined lines text is = ap input_lines_of is.text_is ∙ input_lines_of-lines lines is.each
 
+-- two lists of lines are written one after the other
 pub lined-append : (xs ys : List (List ℕ)) (a b : List ℕ) → IsLined xs a → IsLined ys b → IsLined (xs ++ ys) (a ++ b)
 lined-append xs ys a b first second = record {
   text_is = rw (first.text_is, second.text_is) (sym (flat_map-append with_feed xs ys));
   each = All-append (λ line. is_one_line line ≡ true) xs ys first.each second.each;
 }
 
+-- and one line by its bytes and a line feed
 pub lined-one : (line : List ℕ) → is_one_line line ≡ true → IsLined (line ∷ []) (line ++ codes "\n")
 lined-one line e = record {
   text_is = sym (append-nil (line ++ codes "\n"));

@@ -24,6 +24,7 @@ is_no_feed b = not (b == 10)
 abbrev pub is_one_line : List ℕ → Bool
 is_one_line text = list_all is_no_feed text
 
+-- what stands on one line is joined on one line
 pub one_line-append : (a b : List ℕ) → is_one_line a ≡ true → is_one_line b ≡ true → is_one_line (a ++ b) ≡ true
 one_line-append a b x y = list_all-append is_no_feed a b ∙ ap₂ (λ p q. p && q) x y
 
@@ -198,6 +199,7 @@ one_line-number n =
     let both = one_line_numeral (with_commas (decimal n)) (numeral_commas (decimal n) (decimal_digits n)) in
     (both.0, IsUtf8-are_ascii (with_commas (decimal n)) both.1)
 
+-- a number stands on one line, in UTF-8
 pub one_line-decimal : (n : ℕ) → (is_one_line (decimal n) ≡ true) × IsUtf8 (decimal n)
 one_line-decimal n =
     let both = one_line_numeral (decimal n) (all_numeral (decimal n) (decimal_digits n)) in

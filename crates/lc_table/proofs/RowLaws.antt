@@ -19,6 +19,7 @@ moved : (sort : Option SortBy) (rs sorted : List TallyRowModel) → AreSorted so
 moved None rs sorted same = subst (λ (l : List TallyRowModel). IsPermutation rs l) (sym same) (IsPermutation-refl rs)
 moved (Some n) rs sorted h = h.0
 
+-- the rows that are shown are the summed ones in some order
 pub permutation_law : PermutationLaw
 permutation_law by sort rs shown h = (h.0, h.1, moved sort h.0 shown h.2)
 
@@ -48,10 +49,12 @@ moved_totals xs ys h =
     (sum_by-IsPermutation (λ (r : TallyRowModel). r.sums.blank) xs ys h)
     (sum_by-IsPermutation (λ (r : TallyRowModel). r.sums.bytes) xs ys h)
 
+-- sums over fewer columns add up to the same totals
 pub totals_law : TotalsLaw
 totals_law by sort rs shown h =
     moved_totals h.0 shown (moved sort h.0 shown h.2) ∙ summed_totals by (keeps_all by) rs h.0 h.1
 
+-- rows of all columns add up to themselves
 pub whole_law : WholeLaw
 whole_law rs order = record {
   sums = λ k. ap (λ (l : List TallyRowModel). sums_of_rows (rows_with k l)) (sym (map-id rs));

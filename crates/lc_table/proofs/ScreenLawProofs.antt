@@ -27,6 +27,7 @@ without_commas (d ∷ ds) h =
     (ap (λ (l : List ℕ). d ∷ l) (filter-append (λ d. not (d == 44)) (comma ds) (with_commas ds)
     ∙ ap₂ (λ (x y : List ℕ). x ++ y) (gone_if (nat_lt 0 (length ds) && (length ds % 3 == 0))) rest))
 
+-- a number reads back without its commas
 pub commas_law : CommasLaw
 commas_law n small =
     let numeral = decimal_is_IsNumeral_wide n (omega arith) in
@@ -45,6 +46,7 @@ split_sums : (v : TallyRowModel → ℕ) (rs : List TallyRowModel)
 split_sums v [] = refl
 split_sums v (r ∷ rs) = split_at v r rs (is_binary r) refl (split_sums v rs)
 
+-- what is binary and what is not add up to all rows
 pub classes_law : ClassesLaw
 classes_law rs =
     same_sums _ _ (split_sums (λ r. r.sums.files) rs) (split_sums (λ r. r.sums.lines) rs) (split_sums (λ r. r.sums.blank) rs)

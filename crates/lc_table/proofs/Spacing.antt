@@ -73,6 +73,7 @@ width_of-space a b is =
 utf8_space : IsUtf8 (32 ∷ [])
 utf8_space = IsUtf8-are_ascii (32 ∷ []) refl
 
+-- spaces are UTF-8
 pub utf8_spaces : (n : ℕ) → IsUtf8 (spaces n)
 utf8_spaces zero = IsUtf8-nil
 utf8_spaces (suc n) = IsUtf8-append (32 ∷ []) (spaces n) utf8_space (utf8_spaces n)
@@ -86,6 +87,7 @@ pub width_of-after : (t : List ℕ) (n : ℕ) → IsUtf8 t → width_of (t ++ sp
 width_of-after t n is =
     ap (str_width false) (chars-append t (spaces n) is ∙ ap (λ l. chars t ++ l) (chars_spaces n)) ∙ after_spaces (chars t) n
 
+-- nothing has no width
 pub width_of-nil : width_of [] ≡ 0
 unfolding str_width
 width_of-nil = ap (str_width false) chars-nil
@@ -99,6 +101,7 @@ pub width_of-before : (n : ℕ) (t : List ℕ) → width_of (spaces n ++ t) ≡ 
 width_of-before zero t = omega arith
 width_of-before (suc n) t = width_of-next (spaces n ++ t) ∙ ap (λ m. 1 + m) (width_of-before n t) ∙ omega arith
 
+-- spaces stand on one line
 pub one_line_spaces : (n : ℕ) → is_one_line (spaces n) ≡ true
 one_line_spaces zero = refl
 one_line_spaces (suc n) = one_line_spaces n
@@ -116,10 +119,12 @@ printable_hyphens : (n : ℕ) → list_all (is_in_range 0x20 0x7E) (replicate n 
 printable_hyphens zero = refl
 printable_hyphens (suc n) = printable_hyphens n
 
+-- a hyphen is one column wide
 pub width_of-hyphens : (n : ℕ) → width_of (replicate n 45) ≡ n
 width_of-hyphens n =
     ap (str_width false) (chars_hyphens n) ∙ str_width-printable false (replicate n 45) (printable_hyphens n) ∙ length-replicate n 45
 
+-- hyphens stand on one line
 pub one_line_hyphens : (n : ℕ) → is_one_line (replicate n 45) ≡ true
 one_line_hyphens zero = refl
 one_line_hyphens (suc n) = one_line_hyphens n

@@ -78,10 +78,12 @@ object_of_parts a b c e ks ls ms =
 pub in_turn_4 : {A : Type 0} (a b c d e : List A) → (((a ++ b) ++ c) ++ d) ++ e ≡ a ++ (b ++ (c ++ (d ++ e)))
 in_turn_4 a b c d e = simp append_assoc
 
+-- seven of them
 pub in_turn_7 : {A : Type 0} (a b c d e f g h : List A)
     → ((((((a ++ b) ++ c) ++ d) ++ e) ++ f) ++ g) ++ h ≡ a ++ (b ++ (c ++ (d ++ (e ++ (f ++ (g ++ h))))))
 in_turn_7 a b c d e f g h = simp append_assoc
 
+-- eight of them
 pub in_turn_8 : {A : Type 0} (a b c d e f g h i : List A)
     → (((((((a ++ b) ++ c) ++ d) ++ e) ++ f) ++ g) ++ h) ++ i ≡ a ++ (b ++ (c ++ (d ++ (e ++ (f ++ (g ++ (h ++ i)))))))
 in_turn_8 a b c d e f g h i = simp append_assoc

@@ -31,6 +31,7 @@ wider-push [] vs v = sym (with_width-push vs v)
 wider-push (w ∷ ws) [] v = ap (λ (l : List ℕ). max w v ∷ l) (wider-nil ws)
 wider-push (w ∷ ws) (x ∷ vs) v = ap (λ (l : List ℕ). max w x ∷ l) (wider-push ws vs v)
 
+-- no column of a line is without a width
 pub length-wider : (ws vs : List ℕ) → length vs ≤ length (wider ws vs)
 length-wider [] vs = omega arith
 length-wider (w ∷ ws) [] = omega arith

@@ -121,6 +121,7 @@ one_line_left_end Other r = refl
 
 -- ---- what is listed
 
+-- the lines of files
 pub files_law : FilesWidthLaw
 files_law fs =
     let ss = Left ∷ Left ∷ Right ∷ Right ∷ Right ∷ End ∷ [] in
@@ -157,6 +158,7 @@ files_law fs =
     )
     (All-map (IsLike ss) file_cells fs (λ k d below. like _)))
 
+-- the lines of faults
 pub faults_law : FaultsWidthLaw
 faults_law fs =
     let ss = Left ∷ End ∷ [] in
@@ -166,6 +168,7 @@ faults_law fs =
     (All-cons (IsLike ss) fault_headings (map fault_cells fs) (refl, (ascii (codes "fault") refl refl, (refl, tt)))
     (All-map (IsLike ss) fault_cells fs (λ k d below. like _)))
 
+-- the lines of entries left out
 pub left_law : LeftWidthLaw
 left_law ls small =
     let ss = Left ∷ Left ∷ End ∷ [] in
@@ -334,6 +337,7 @@ rows_even ss headings rows sums closed like =
     (wide_lines ss ws rows closed rows_fits rows_like)) wide_rule) (wide_lines ss ws sums closed sums_fits sums_like) in
     (n, All-same W _ lines (input_lines_of-lined lines _ lined) wide)
 
+-- the lines of directories and entries
 pub summary_law : SummaryWidthLaw
 summary_law by r rows small =
     let L = IsLike (row_sides by) in
@@ -355,6 +359,7 @@ like_more true n =
     All-cons P (count_cells (codes "entries") n) [] (like_count (codes "entries") n (ascii (codes "entries") refl refl)) (All-nil P)
 like_more false n = All-nil (IsLike (Left ∷ Right ∷ []))
 
+-- the lines of rows and sums
 pub counts_law : CountsWidthLaw
 counts_law r =
     let ss = Left ∷ Right ∷ [] in

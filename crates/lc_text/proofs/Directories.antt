@@ -110,6 +110,7 @@ module _ (verdict : List ℕ → Bool → Verdict) where
     pub slash-within : (len : ℕ) → IsFirstByte (is_byte 47) left (Some len) → at + len < length path
     slash-within len first = omega (arith, left_length, first.0.high)
 
+    -- it is a slash
     pub slash-is : (len : ℕ) → IsFirstByte (is_byte 47) left (Some len) → nat_eq (get_or path (at + len) 0) 47 ≡ true
     slash-is len first = ap (λ b. nat_eq b 47) (sym (get_or-left len)) ∙ first.1
 

@@ -269,6 +269,7 @@ module _ (ask : Asked) (MayAnswer : List ℕ → Answers → Type 0) (capacity w
         (λ i e is. at_row tallied_in i e is ∙ sym (finds_here i e is).tally ∙ ap (files_by_end ask e) (answers_are i e is)))
         ∙ sym (spread_out tallied_in)
 
+    -- the files that the passes counted are those that the rows found, in some order
     pub files_found : IsPermutation (files_of_passes ask given passes) (tallied_of found)
     files_found = subst (IsPermutation (files_of_passes ask given passes)) tally_rows by_rows
 
@@ -356,6 +357,7 @@ module _ (ask : Asked) (MayAnswer : List ℕ → Answers → Type 0) (capacity w
 
     -- ---- the report of the walk
 
+    -- what is assembled of the rows is the report of the walk
     pub report_of_walk : top.path ≡ [] → (t : TallyModel) → StandsFor t (files_of_passes ask given passes) →
         (told : Findings) → AreFindings rows told → (r : Report) → IsReport t ask.lists told r →
         IsWalkReport MayAnswer ask capacity workers top promises r

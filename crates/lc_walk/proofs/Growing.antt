@@ -129,6 +129,7 @@ module _ (rs : List TallyRowModel) (i : ℕ) (y : TallyRowModel) where
           | inr (inr gt) ↦ rw (get_or-insert_above rs i y y k (omega arith) within, after k gt) (old_less (k - 1) k (omega arith) in')
         ]
 
+    -- so the rows are in order
     pub insert_order : IsInOrder (insert rs i y)
     insert_order =
         let keys = map (λ (r : TallyRowModel). r.key) (insert rs i y) in

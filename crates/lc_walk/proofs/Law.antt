@@ -121,6 +121,7 @@ module _ (ask : Asked) (full : Bool) (capacity workers : ℕ) (top : JobModel) (
       pub looked : Finds (λ m. child_number m (children_by_rows rows i)) (children_of_number i) (posts_under i h)
       pub named_so : AllByRecursion (IsChild (job_at i).path) (children_of_number i)
 
+    -- each number that was posted has its children
     pub fits : (i : ℕ) → status h i ≢ Absent → HasItsChildren i
     fits i a =
         let r = row_here rows i (inside i a) in
@@ -177,6 +178,7 @@ module _ (ask : Asked) (full : Bool) (capacity workers : ℕ) (top : JobModel) (
         (subst (IsPermutation (flat_map gives_number (reach h depth 0))) found_by_number
         (permuted_lists gives_number (reach h depth 0) (numbers_below (length rows)) (times_same depth deep)))
 
+    -- the walk of the tree of rows finds what the rows found
     pub of_rows : (depth : ℕ) → capacity ≤ depth
         → IsPermutation (walk_of ask.selection depth top (tree_of_rows rows answers)) (rows_found ask rows answers)
     of_rows depth deep =
@@ -207,6 +209,7 @@ module _ (ask : Asked) (full : Bool) (capacity workers : ℕ) (top : JobModel) (
     singles [] = refl
     singles (x ∷ xs) = ap (λ l. x ∷ l) (singles xs)
 
+    -- and comes to each number once
     pub of_numbers : (depth : ℕ) → capacity ≤ depth → IsPermutation (walk_numbers ask depth top rows answers) (numbers_below (length rows))
     of_numbers depth deep =
         let is : walk_numbers ask depth top rows answers ≡ reach h depth 0 =
@@ -236,9 +239,11 @@ module _ (ask : Asked) (full : Bool) (capacity workers : ℕ) (top : JobModel) (
           place_under i cs ps a.1 rest k.1,
         )
 
+    -- each child stands at the place of its name
     pub all_placed : (i : ℕ) → status h i ≢ Absent → PlacedUnder place_at i (children_of_number i) (posts_under i h)
     all_placed i a = place_under i (children_of_number i) (posts_under i h) (fits i a).named_so (fits i a).jobs (own_jobs i)
 
+    -- a tree that answers each place as the rows were answered is walked as theirs is
     pub of_one_tree : (t : Tree) → top.path ≡ [] →
         ((i : ℕ) (e : Ended Row) → slice_get rows i ≡ Some e →
         level ask.selection (job_of (row_of e)) (answers i) ≡ level ask.selection (job_of (row_of e))

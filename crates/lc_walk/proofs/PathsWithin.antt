@@ -37,6 +37,7 @@ comparable (b ∷ bs) (c ∷ cs) r s e = at (comparable bs cs r s (tail_is b c (
 abbrev pub IsAtOrBelow : List ℕ → List ℕ → Type 0
 IsAtOrBelow x c = (x ≡ c) ⊎ IsBelow x c
 
+-- of two paths at or above a third one stands at, above or below the other
 pub both_above : (x c q : List ℕ) → IsAtOrBelow x c → IsAtOrBelow x q → (c ≡ q) ⊎ (IsBelow c q ⊎ IsBelow q c)
 both_above x c q (inl e) (inl f) = inl (sym e ∙ f)
 both_above x c q (inl e) (inr f) = inr (inl (f.0, sym e ∙ f.1))

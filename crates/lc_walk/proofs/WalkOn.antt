@@ -71,6 +71,7 @@ module _ (ask : Asked) (MayAnswer : List ℕ → Answers → Type 0) (capacity w
         cause_said ask _ c e _ _ (lawful_here ask MayAnswer capacity workers top promises passes rows room keeps count settled given
         lawful i e is).0.says b
 
+    -- what is assembled of a closed board answers the walk
     pub assembled_walk : (t : TallyModel) → StandsFor t (files_of_passes ask given passes) → (result : Result Report WalkFault)
         → Assembles ask.lists t rows result →
         WalkAnswers MayAnswer ask capacity workers top promises result
