@@ -6,6 +6,7 @@ pub mod Extension
 pub mod Found
 pub mod FoundAt
 pub mod GivenUps
+pub mod KeptParts
 pub mod Key
 pub mod Lawful
 pub mod Laws

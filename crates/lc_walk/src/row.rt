@@ -1,5 +1,6 @@
 //! What a worker gives for a directory.
 ghost use Rattle.std.specs.Prelude.{◌≡◌, IfOk, IfErr};
+ghost use Rattle.lc_walk.specs.KeptParts.{listed_in};
 
 use crate::given_up::GivenUp;
 use crate::served_job::ServedJob;
@@ -54,19 +55,57 @@ impl Model for ListedParts {
     } };
 }
 
+/// What is kept of a listed directory. Most have nothing to list, and take no room for it.
+#[derive(Drop)]
+enum KeptParts {
+    Bare { job: ServedJob, entries: u32 },
+    Full(Box<ListedParts, Global>),
+}
+
+impl KeptParts {
+    /// Where memory is refused the job comes back.
+    fn new(alloc: Global, parts: ListedParts) -> Result<KeptParts, ServedJob>
+        ensures kept { IfOk result (λ k. listed_in k ≡ parts) }
+        ensures job { IfErr result (λ j. j ≡ parts.job) }
+    {
+        if parts.files.is_empty()
+            && parts.faults.is_empty()
+            && parts.left.is_empty()
+            && parts.children.is_empty()
+        {
+            let ListedParts { job, entries, .. } = parts;
+            return Ok(KeptParts::Bare { job, entries });
+        }
+        match Box::new(alloc, parts) {
+            Ok(parts) => Ok(KeptParts::Full(parts)),
+            Err(refused) => Err(refused.value.job),
+        }
+    }
+
+    fn into_job(self) -> ServedJob
+        ensures { result ≡ (listed_in self).job }
+    {
+        match self {
+            KeptParts::Bare { job, .. } => job,
+            KeptParts::Full(parts) => Box::into_inner(parts).job,
+        }
+    }
+}
+
 /// A directory that was listed. It is one word long, so that a board takes little room for a row.
 #[derive(Drop)]
 pub struct ListedRow {
-    parts: Box<ListedParts, Global>,
+    parts: Box<KeptParts, Global>,
 }
 
 impl Model for ListedRow {
     ghost use Rattle.std.specs.Box.{box_value};
+    ghost use Rattle.lc_walk.specs.KeptParts.{listed_in};
     ghost use Rattle.lc_walk.specs.RowViews.{ListedRowModel};
 
     ghost Value = { ListedRowModel };
 
-    ghost view = { λ r. box_value r.parts };
+    ghost view = { λ r. listed_in (box_value r.parts) };
 }
 
 impl ListedRow {
@@ -75,9 +114,10 @@ impl ListedRow {
         ensures row { IfOk result (λ r. r ≡ parts) }
         ensures job { IfErr result (λ j. j ≡ parts.job) }
     {
+        let parts = KeptParts::new(alloc, parts)?;
         match Box::new(alloc, parts) {
             Ok(parts) => Ok(ListedRow { parts }),
-            Err(refused) => Err(refused.value.job),
+            Err(refused) => Err(refused.value.into_job()),
         }
     }
 
@@ -85,42 +125,60 @@ impl ListedRow {
     pub fn job(&self) -> &ServedJob
         ensures { result.now ≡ self.now.job }
     {
-        &self.parts.job
+        match &*self.parts {
+            KeptParts::Bare { job, .. } => job,
+            KeptParts::Full(parts) => &parts.job,
+        }
     }
 
     /// The number of its entries that take part.
     pub fn entries(&self) -> u32
         ensures { result ≡ self.now.entries }
     {
-        self.parts.entries
+        match &*self.parts {
+            KeptParts::Bare { entries, .. } => *entries,
+            KeptParts::Full(parts) => parts.entries,
+        }
     }
 
     /// The counted files, in the order of their names, where the report is to have them.
     pub fn files(&self) -> &[Counted]
         ensures { result.now ≡ self.now.files }
     {
-        &self.parts.files
+        match &*self.parts {
+            KeptParts::Bare { .. } => &[],
+            KeptParts::Full(parts) => &parts.files,
+        }
     }
 
     /// The paths that are asked for and absent, then the files that were not counted, in the order of their names.
     pub fn faults(&self) -> &[FileFault]
         ensures { result.now ≡ self.now.faults }
     {
-        &self.parts.faults
+        match &*self.parts {
+            KeptParts::Bare { .. } => &[],
+            KeptParts::Full(parts) => &parts.faults,
+        }
     }
 
     /// The entries that were left out, in the order of their names, where the report is to have them.
     pub fn left(&self) -> &[LeftOut]
         ensures { result.now ≡ self.now.left }
     {
-        &self.parts.left
+        match &*self.parts {
+            KeptParts::Bare { .. } => &[],
+            KeptParts::Full(parts) => &parts.left,
+        }
     }
 
     /// The posted child directories, in the order of their names.
     pub fn children(&self) -> &[Child]
         ensures { result.now ≡ self.now.children }
     {
-        &self.parts.children
+        match &*self.parts {
+            KeptParts::Bare { .. } => &[],
+            KeptParts::Full(parts) => &parts.children,
+        }
     }
 }
 
