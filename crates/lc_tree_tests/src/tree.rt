@@ -3,8 +3,8 @@
 
 mod checks;
 mod given_names;
-mod interrupted_calls;
 mod listings;
 mod mem_trees;
 mod real_folders;
+mod system;
 mod trial_trees;

@@ -7,8 +7,8 @@ use lc_board::{Locked, Shared, Words};
 use lc_level::Job;
 use lc_rules::IgnoreFile;
 use lc_table::{RunFault, run, table};
-use lc_text::trials::Narrow;
-use lc_text::{Columns, Format, Outcome, Shape, Sink};
+use lc_text::trials::{Narrow, WhenFull};
+use lc_text::{Columns, Format, Outcome, Shape};
 use lc_tree::trials::BytewiseTree;
 use lc_tree::{MemTree, Sketch, Tree};
 use lc_walk::{Lists, Options, Row, WalkFault, walk_on};
@@ -105,74 +105,84 @@ fn options_of(
     })
 }
 
-/// A writer that shows what it took.
-pub(super) trait Taken {
-    fn taken(&self) -> &[u8];
+/// A writer that takes any of these tables at once.
+pub(super) fn new_writer(alloc: Global) -> Result<Narrow, AllocError> {
+    Narrow::new(alloc, 1_024, 1_024, WhenFull::Fails)
 }
 
-impl Taken for Vec<u8> {
-    fn taken(&self) -> &[u8] {
-        self
-    }
-}
-
-impl Taken for Narrow {
-    fn taken(&self) -> &[u8] {
-        &self.taken
-    }
-}
-
-/// The answer of a run over a tree, but for want of memory, where nothing is written.
-pub(super) fn answer_of<R: Threads + Wait + Sync + AllocGlobal + Abort, T: Tree, O: Sink + Taken>(
+/// The answer of a run over a tree.
+pub(super) fn answer_of<R: Threads + Wait + Sync, T: Tree>(
     rt: &R,
+    alloc: Global,
     tree: &T,
     asked: &Asked<'_>,
     threads: u32,
     max_dirs: u32,
-    out: &mut O,
-) -> Result<Result<Outcome, RunFault>, AllocError>
+    out: &mut Narrow,
+) -> Result<Outcome, RunFault>
     requires threads { (1 ≤ threads) × (threads ≤ 16) }
     requires directories { (1 ≤ max_dirs) × (max_dirs ≤ 1048576) }
 {
-    let options = options_of(rt.alloc(), asked, threads, max_dirs)?;
-    match run(rt, rt.alloc(), tree, &options, TSV, out) {
+    let Ok(options) = options_of(alloc, asked, threads, max_dirs) else {
+        return Err(RunFault::Memory);
+    };
+    run(rt, alloc, tree, &options, TSV, out)
+}
+
+/// That of a walk over boards of this type, whose table is then written.
+fn answer_over<B: Shared<Job, Row>, R: Threads + Wait + Sync, T: Tree>(
+    rt: &R,
+    alloc: Global,
+    tree: &T,
+    asked: &Asked<'_>,
+    threads: u32,
+    out: &mut Narrow,
+) -> Result<Outcome, RunFault>
+    requires { (1 ≤ threads) × (threads ≤ 16) }
+{
+    let Ok(options) = options_of(alloc, asked, threads, 16) else {
+        return Err(RunFault::Memory);
+    };
+    let report = walk_on::<B, T, R>(rt, alloc, tree, &options)?;
+    table(alloc, &report, TSV, out)?;
+    if report.faults.is_empty() {
+        Ok(Outcome::Clean)
+    } else {
+        Ok(Outcome::SomeFaults)
+    }
+}
+
+/// An answer, but for want of memory, where nothing is written.
+pub(super) fn settled<R: Abort>(
+    rt: &R,
+    answer: Result<Outcome, RunFault>,
+    out: &Narrow,
+) -> Result<Result<Outcome, RunFault>, AllocError> {
+    match answer {
         Err(RunFault::Memory | RunFault::Walk(WalkFault::Memory)) => {
-            assert!(rt; out.taken().is_empty());
+            assert!(rt; out.taken.is_empty());
             Err(AllocError)
         }
         answer => Ok(answer),
     }
 }
 
-/// The outcome of a walk over boards of this type, whose table is then written, but for want of memory, where nothing is written.
-fn outcome_over<B: Shared<Job, Row>, R: Threads + Wait + Sync + AllocGlobal + Abort, T: Tree>(
+/// An answer by so many workers, and what was written, are those of the case.
+fn check<R: Abort>(
     rt: &R,
-    tree: &T,
-    asked: &Asked<'_>,
+    answer: Result<Outcome, RunFault>,
+    out: &Narrow,
+    case: &Case<'_>,
     threads: u32,
-    out: &mut Vec<u8>,
-) -> Result<Option<Outcome>, AllocError>
-    requires { (1 ≤ threads) × (threads ≤ 16) }
-{
-    let options = options_of(rt.alloc(), asked, threads, 16)?;
-    let report = match walk_on::<B, T, R>(rt, rt.alloc(), tree, &options) {
-        Ok(report) => report,
-        Err(WalkFault::Memory) => return Err(AllocError),
-        Err(_) => return Ok(None),
-    };
-    match table(rt.alloc(), &report, TSV, out) {
-        Ok(()) if report.faults.is_empty() => Ok(Some(Outcome::Clean)),
-        Ok(()) => Ok(Some(Outcome::SomeFaults)),
-        Err(_) => {
-            assert!(rt; out.is_empty());
-            Err(AllocError)
-        }
-    }
-}
-
-/// A text has the header and these lines.
-fn is_table(text: &[u8], lines: &[u8]) -> bool {
-    text.strip_prefix(HEADER) == Some(lines)
+) -> Result<(), Fail> {
+    let answer = settled(rt, answer, out)?;
+    let lines = out.taken.as_slice().strip_prefix(HEADER);
+    assert!(rt;
+        answer == Ok(case.outcome) && lines == Some(case.lines),
+        "{} by {threads}",
+        case.name
+    );
+    Ok(())
 }
 
 /// A run by so many workers over a tree ends as the case says.
@@ -184,14 +194,9 @@ pub(super) fn compare<R: Threads + Wait + Sync + AllocGlobal + Abort, T: Tree>(
 ) -> Result<(), Fail>
     requires threads { (1 ≤ threads) × (threads ≤ 16) }
 {
-    let mut out = Vec::with_capacity(rt.alloc(), 1_024)?;
-    let answer = answer_of(rt, tree, &case.asked, threads, 16, &mut out)?;
-    assert!(rt;
-        answer == Ok(case.outcome) && is_table(&out, case.lines),
-        "{} by {threads}: {answer:?}",
-        case.name
-    );
-    Ok(())
+    let mut out = new_writer(rt.alloc())?;
+    let answer = answer_of(rt, rt.alloc(), tree, &case.asked, threads, 16, &mut out);
+    check(rt, answer, &out, case, threads)
 }
 
 /// So does a walk over boards of this type, whose table is then written.
@@ -203,17 +208,13 @@ fn compare_over<B: Shared<Job, Row>, R: Threads + Wait + Sync + AllocGlobal + Ab
 ) -> Result<(), Fail>
     requires { (1 ≤ threads) × (threads ≤ 16) }
 {
-    let mut out = Vec::with_capacity(rt.alloc(), 1_024)?;
-    let outcome = outcome_over::<B, R, T>(rt, tree, &case.asked, threads, &mut out)?;
-    assert!(rt;
-        outcome == Some(case.outcome) && is_table(&out, case.lines),
-        "{} by {threads}: {outcome:?}",
-        case.name
-    );
-    Ok(())
+    let mut out = new_writer(rt.alloc())?;
+    let answer = answer_over::<B, R, T>(rt, rt.alloc(), tree, &case.asked, threads, &mut out);
+    check(rt, answer, &out, case, threads)
 }
 
-/// So do a run over the case's own tree, and walks of it over both boards, by each of these numbers of workers.
+/// So do a run over the case's own tree, walks of it over both boards, by each of these numbers of workers, and a run however
+/// its files are read.
 pub(super) fn compare_by<R: Threads + Wait + Sync + AllocGlobal + Abort>(
     rt: &R,
     case: &Case<'_>,
@@ -228,25 +229,16 @@ pub(super) fn compare_by<R: Threads + Wait + Sync + AllocGlobal + Abort>(
         compare_over::<Words<Job, Row>, R, MemTree>(rt, &tree, case, threads)?;
         compare_over::<Locked<Job, Row>, R, MemTree>(rt, &tree, case, threads)?;
     }
-    Ok(())
+    compare(rt, &BytewiseTree(tree), case, 2)
 }
 
-/// So do they by any number of workers, and so does a run however its files are read.
-fn compare_by_all<R: Threads + Wait + Sync + AllocGlobal + Abort>(
-    rt: &R,
-    case: &Case<'_>,
-) -> Result<(), Fail> {
-    compare_by(rt, case, &[1, 2, 16])?;
-    let node = case.top.node(rt.alloc())?;
-    compare(rt, &BytewiseTree(MemTree::new(&node)), case, 2)
-}
-
+/// So do they by any number of workers.
 pub(super) fn compare_all<R: Threads + Wait + Sync + AllocGlobal + Abort>(
     rt: &R,
     cases: &[Case<'_>],
 ) -> Result<(), Fail> {
     for case in cases {
-        compare_by_all(rt, case)?;
+        compare_by(rt, case, &[1, 2, 16])?;
     }
     Ok(())
 }

@@ -10,66 +10,47 @@ use std::sync::Wait;
 use std::test::Fail;
 use std::thread::Threads;
 
-const TOP_UNREAD: Case<'static> = Case {
-    name: "the_top_is_not_listed",
-    outcome: Outcome::SomeFaults,
-    lines: b"total\t*\t*\t0\t0\t0\t0\ndirectories\t0\nfault\tread\t.\n",
-    ..FIRST_CASE
-};
+const RULES_UNREAD: &[u8] = b"total\t*\t*\t0\t0\t0\t0\ndirectories\t0\nfault\tread\t.gitignore\n";
 
-const RULES_UNREAD: Case<'static> = Case {
-    name: "a_gitignore_that_is_not_read_as_rules",
-    outcome: Outcome::SomeFaults,
-    lines: b"total\t*\t*\t0\t0\t0\t0\ndirectories\t0\nfault\tread\t.gitignore\n",
-    ..FIRST_CASE
-};
+const LOG_UNCOUNTED: &[u8] =
+    b"-\t-\tlf\t1\t3\t0\t24\n.c\t-\tcrlf\t1\t1\t0\t8\ntotal\t*\t*\t2\t4\t0\t32\ndirectories\t3\nfault\tread\tkeep.log\n";
 
-const RULES_UNCOUNTED: Case<'static> = Case {
-    name: "a_gitignore_that_is_not_counted",
-    outcome: Outcome::SomeFaults,
-    lines: b".c\t-\tcrlf\t1\t1\t0\t8\n.log\t-\tlf\t1\t1\t0\t2\ntotal\t*\t*\t2\t2\t0\t10\ndirectories\t3\nfault\tread\t.gitignore\n",
-    ..FIRST_CASE
-};
+const C_UNCOUNTED: &[u8] =
+    b"-\t-\tlf\t1\t3\t0\t24\n.log\t-\tlf\t1\t1\t0\t2\ntotal\t*\t*\t2\t4\t0\t26\ndirectories\t3\nfault\tread\tsrc/build/y.c\n";
 
-const LOG_UNCOUNTED: Case<'static> = Case {
-    name: "a_kept_file_that_is_not_counted",
-    outcome: Outcome::SomeFaults,
-    lines: b"-\t-\tlf\t1\t3\t0\t24\n.c\t-\tcrlf\t1\t1\t0\t8\ntotal\t*\t*\t2\t4\t0\t32\ndirectories\t3\nfault\tread\tkeep.log\n",
-    ..FIRST_CASE
-};
+/// Calls of the tree, from the first to the one before the last number, in which the worker does one thing, and the lines where
+/// one of them fails.
+type Step = (u64, u64, &'static str, &'static [u8]);
 
-const SRC_UNREAD: Case<'static> = Case {
-    name: "a_directory_that_is_not_listed",
-    outcome: Outcome::SomeFaults,
-    lines: b"-\t-\tlf\t1\t3\t0\t24\n.log\t-\tlf\t1\t1\t0\t2\ntotal\t*\t*\t2\t4\t0\t26\ndirectories\t1\nfault\tread\tsrc\n",
-    ..FIRST_CASE
-};
-
-const BUILD_UNREAD: Case<'static> = Case {
-    name: "a_directory_below_it_that_is_not_listed",
-    outcome: Outcome::SomeFaults,
-    lines: b"-\t-\tlf\t1\t3\t0\t24\n.log\t-\tlf\t1\t1\t0\t2\ntotal\t*\t*\t2\t4\t0\t26\ndirectories\t2\nfault\tread\tsrc/build\n",
-    ..FIRST_CASE
-};
-
-const C_UNCOUNTED: Case<'static> = Case {
-    name: "a_file_below_that_is_not_counted",
-    outcome: Outcome::SomeFaults,
-    lines: b"-\t-\tlf\t1\t3\t0\t24\n.log\t-\tlf\t1\t1\t0\t2\ntotal\t*\t*\t2\t4\t0\t26\ndirectories\t3\nfault\tread\tsrc/build/y.c\n",
-    ..FIRST_CASE
-};
-
-/// What the worker does in turn, with its first call of the tree and the one after its last, and the table where one of these fails.
 /// A listing is one call. A file is opened, read, and read to its end. The last call is the one before 15.
-const STEPS: &[(u64, u64, Case<'static>)] = &[
-    (0, 1, TOP_UNREAD),
-    (1, 4, RULES_UNREAD),
-    (4, 7, RULES_UNCOUNTED),
-    (7, 10, LOG_UNCOUNTED),
-    (10, 11, SRC_UNREAD),
-    (11, 12, BUILD_UNREAD),
-    (12, 15, C_UNCOUNTED),
-    (15, 16, FIRST_CASE),
+const STEPS: &[Step] = &[
+    (
+        0,
+        1,
+        "the_top_is_not_listed",
+        b"total\t*\t*\t0\t0\t0\t0\ndirectories\t0\nfault\tread\t.\n",
+    ),
+    (1, 4, "a_gitignore_that_is_not_read_as_rules", RULES_UNREAD),
+    (
+        4,
+        7,
+        "a_gitignore_that_is_not_counted",
+        b".c\t-\tcrlf\t1\t1\t0\t8\n.log\t-\tlf\t1\t1\t0\t2\ntotal\t*\t*\t2\t2\t0\t10\ndirectories\t3\nfault\tread\t.gitignore\n",
+    ),
+    (7, 10, "a_kept_file_that_is_not_counted", LOG_UNCOUNTED),
+    (
+        10,
+        11,
+        "a_directory_that_is_not_listed",
+        b"-\t-\tlf\t1\t3\t0\t24\n.log\t-\tlf\t1\t1\t0\t2\ntotal\t*\t*\t2\t4\t0\t26\ndirectories\t1\nfault\tread\tsrc\n",
+    ),
+    (
+        11,
+        12,
+        "a_directory_below_it_that_is_not_listed",
+        b"-\t-\tlf\t1\t3\t0\t24\n.log\t-\tlf\t1\t1\t0\t2\ntotal\t*\t*\t2\t4\t0\t26\ndirectories\t2\nfault\tread\tsrc/build\n",
+    ),
+    (12, 15, "a_file_below_that_is_not_counted", C_UNCOUNTED),
 ];
 
 /// Where one of these calls fails, whichever it is, the run ends as the case says.
@@ -90,12 +71,19 @@ fn compare_failing<R: Threads + Wait + Sync + AllocGlobal + Abort>(
 
 #[test]
 fn each_call_of_one_worker_fails(rt: HostRuntime) -> Result<(), Fail> {
-    let node = FIRST_CASE.top.node(rt.alloc())?;
+    let whole = &FIRST_CASE;
+    let node = whole.top.node(rt.alloc())?;
     let tree = MemTree::new(&node);
-    for (from, to, case) in STEPS {
-        compare_failing(&rt, &tree, *from, *to, case)?;
+    for (from, to, name, lines) in STEPS {
+        let case = Case {
+            name,
+            outcome: Outcome::SomeFaults,
+            lines,
+            ..*whole
+        };
+        compare_failing(&rt, &tree, *from, *to, &case)?;
     }
-    Ok(())
+    compare_failing(&rt, &tree, 15, 16, whole)
 }
 
 /// The tree with a file that fails, once it has given its bytes, in place of each of its files.
@@ -109,7 +97,9 @@ const FAILING_FILES: &[Case<'static>] = &[
             BUILD,
             SRC,
         ]),
-        ..RULES_UNREAD
+        outcome: Outcome::SomeFaults,
+        lines: RULES_UNREAD,
+        ..FIRST_CASE
     },
     Case {
         name: "an_ignored_file_that_fails",
@@ -131,7 +121,9 @@ const FAILING_FILES: &[Case<'static>] = &[
             BUILD,
             SRC,
         ]),
-        ..LOG_UNCOUNTED
+        outcome: Outcome::SomeFaults,
+        lines: LOG_UNCOUNTED,
+        ..FIRST_CASE
     },
     Case {
         name: "a_file_that_fails_in_an_ignored_directory",
@@ -159,7 +151,9 @@ const FAILING_FILES: &[Case<'static>] = &[
                 )]),
             ),
         ]),
-        ..C_UNCOUNTED
+        outcome: Outcome::SomeFaults,
+        lines: C_UNCOUNTED,
+        ..FIRST_CASE
     },
 ];
 

@@ -2,7 +2,7 @@
 
 ghost use Rattle.std.specs.Prelude.{◌≤◌};
 
-use crate::table::asking::{WITH_FILES, answer_of};
+use crate::table::asking::{WITH_FILES, answer_of, new_writer, settled};
 use lc_table::RunFault;
 use lc_text::Outcome;
 use lc_tree::trials::{FailingCall, FailingTree};
@@ -47,40 +47,40 @@ const PATHS: [&[u8]; 7] = [
 ];
 
 /// How many lines of a table tell of a file and of a fault.
-#[derive(Debug, Clone, Copy, PartialEq, Eq)]
+#[derive(Clone, Copy)]
 struct Told {
     files: usize,
     faults: usize,
 }
 
-/// What they tell where no call fails.
-const WHOLE: Told = Told {
-    files: 4,
-    faults: 0,
-};
+fn is_line_end(byte: &u8) -> bool {
+    *byte == b'\n'
+}
 
 fn is_counted(table: &[u8], path: &[u8]) -> bool {
-    table.split(|b| *b == b'\n').any(|line| {
-        line.starts_with(b"file\t")
-            && line
-                .strip_suffix(path)
-                .is_some_and(|front| front.ends_with(b"\t"))
-    })
+    for line in table.split(is_line_end) {
+        if let Some(front) = line.strip_suffix(path) {
+            if front.starts_with(b"file\t") && front.ends_with(b"\t") {
+                return true;
+            }
+        }
+    }
+    false
 }
 
 /// What the lines of a table tell, or nothing where one is none of the files above, or a path is at fault that was counted.
 fn lines_told(table: &[u8]) -> Option<Told> {
     let mut files = 0usize;
     let mut faults = 0usize;
-    for line in table.split(|b| *b == b'\n') {
+    for line in table.split(is_line_end) {
         if line.starts_with(b"file\t") {
-            if !FILES.iter().any(|file| *file == line) {
+            if !FILES.contains(&line) {
                 return None;
             }
             files = files.saturating_add(1);
         }
         if let Some(path) = line.strip_prefix(b"fault\tread\t") {
-            if !PATHS.iter().any(|known| *known == path) || is_counted(table, path) {
+            if !PATHS.contains(&path) || is_counted(table, path) {
                 return None;
             }
             faults = faults.saturating_add(1);
@@ -92,20 +92,41 @@ fn lines_told(table: &[u8]) -> Option<Told> {
 /// How many calls a walk makes: three listings, and six times a file is opened, read, and read to its end.
 const CALLS: u64 = 21;
 
-/// The outcome of a run of which this call fails, what its table tells, and how many calls it made.
-fn answer_at<R: Threads + Wait + Sync + AllocGlobal + Abort>(
+/// What a run answers, what its table tells, and how many calls it made.
+type Found = (Result<Outcome, RunFault>, Option<Told>, u64);
+
+fn has_one_fault((answer, told, _): &Found) -> bool {
+    *answer == Ok(Outcome::SomeFaults) && matches!(told, Some(Told { faults: 1, .. }))
+}
+
+/// No call of it failed.
+fn is_whole((answer, told, calls): &Found) -> bool {
+    *answer == Ok(Outcome::Clean)
+        && matches!(
+            told,
+            Some(Told {
+                files: 4,
+                faults: 0
+            })
+        )
+        && *calls == CALLS
+}
+
+/// Of a run of which this call fails.
+fn found_at<R: Threads + Wait + Sync + AllocGlobal + Abort>(
     rt: &R,
     tree: &MemTree<'_>,
     place: u64,
     threads: u32,
-) -> Result<(Result<Outcome, RunFault>, Option<Told>, u64), AllocError>
+) -> Result<Found, AllocError>
     requires threads { (1 ≤ threads) × (threads ≤ 16) }
 {
     let call = FailingCall::new(place);
     let failing = FailingTree { tree, call: &call };
-    let mut table = Vec::with_capacity(rt.alloc(), 1_024)?;
-    let answer = answer_of(rt, &failing, &WITH_FILES, threads, 16, &mut table)?;
-    Ok((answer, lines_told(&table), call.begun()))
+    let mut out = new_writer(rt.alloc())?;
+    let answer = answer_of(rt, rt.alloc(), &failing, &WITH_FILES, threads, 16, &mut out);
+    let answer = settled(rt, answer, &out)?;
+    Ok((answer, lines_told(&out.taken), call.begun()))
 }
 
 /// Each call of a walk fails in turn: the table then has one fault more, and each line of a file as it was or not at all.
@@ -115,18 +136,11 @@ fn compare<R: Threads + Wait + Sync + AllocGlobal + Abort>(rt: &R, threads: u32)
     let node = TOP.node(rt.alloc())?;
     let tree = MemTree::new(&node);
     for place in 0..CALLS {
-        let (answer, told, _) = answer_at(rt, &tree, place, threads)?;
-        let has_one_fault = told.is_some_and(|told| told.faults == 1);
-        assert!(rt;
-            answer == Ok(Outcome::SomeFaults) && has_one_fault,
-            "{place}: {told:?}"
-        );
+        let found = found_at(rt, &tree, place, threads)?;
+        assert!(rt; has_one_fault(&found), "at {place}");
     }
-    let found = answer_at(rt, &tree, CALLS, threads)?;
-    assert!(rt;
-        found == (Ok(Outcome::Clean), Some(WHOLE), CALLS),
-        "{found:?}"
-    );
+    let found = found_at(rt, &tree, CALLS, threads)?;
+    assert!(rt; is_whole(&found));
     Ok(())
 }
 

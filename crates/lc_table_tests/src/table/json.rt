@@ -1,13 +1,11 @@
 //! The JSON of reports.
 
 use crate::table::asking::TSV;
-use crate::table::tables::{CASES, Case, NONE, report_of};
+use crate::table::tables::{Case, NONE, TEXT_STATES, compare_all};
 use lc_census::Eol;
 use lc_level::FaultWord;
 use lc_rules::TextState;
-use lc_table::table_text;
 use lc_text::{Columns, Format, Shape, SortBy};
-use std::process::Abort;
 use std::test::Fail;
 
 const JSON: Shape = Shape {
@@ -17,6 +15,7 @@ const JSON: Shape = Shape {
 
 const SMALL: Case = Case {
     name: "files_and_faults",
+    shape: JSON,
     rows: &[
         (None, NONE, Eol::NoEnd, [1, 1, 0, 6]),
         (Some(b"c"), TextState::Set, Eol::Lf, [1, 3, 1, 16]),
@@ -33,6 +32,7 @@ const SMALL: Case = Case {
 
 const NO_TEXT: Case = Case {
     name: "names_that_are_no_text",
+    shape: JSON,
     rows: &[(Some(b"\xff"), TextState::Auto, Eol::Nul, [1, 0, 0, 0])],
     totals: [1, 0, 0, 18_446_744_073_709_551_615],
     directories: 1,
@@ -43,6 +43,7 @@ const NO_TEXT: Case = Case {
 
 const EMPTY: Case = Case {
     name: "nothing",
+    shape: JSON,
     rows: &[],
     totals: [0, 0, 0, 0],
     directories: 1,
@@ -51,38 +52,36 @@ const EMPTY: Case = Case {
     lines: b"{\"rows\":[],\"total\":{\"files\":0,\"lines\":0,\"blank\":0,\"bytes\":0},\"directories\":1,\"faults\":[]}\n",
 };
 
-/// The JSON of a report is its lines.
-fn compare<R: AllocGlobal + Abort>(rt: &R, shape: Shape, case: &Case) -> Result<(), Fail> {
-    let report = report_of(rt.alloc(), case)?;
-    let text = table_text(rt.alloc(), &report, shape)?;
-    assert!(rt; text.as_slice() == case.lines, "{}", case.name);
-    Ok(())
-}
-
-#[test]
-fn json_of_reports(rt: HostRuntime) -> Result<(), Fail> {
-    compare(&rt, JSON, &SMALL)?;
-    compare(&rt, JSON, &NO_TEXT)?;
-    compare(&rt, JSON, &EMPTY)
-}
-
-#[test]
-fn json_of_sorted_rows_without_columns(rt: HostRuntime) -> Result<(), Fail> {
-    let by = Columns {
+const BY_TEXT: Shape = Shape {
+    by: Columns {
         ext: false,
         text: true,
         eol: false,
-    };
-    let sort = Some(SortBy::Bytes);
-    let summed = Case {
-        lines: b"{\"rows\":[{\"text\":\"set\",\"files\":2,\"lines\":4,\"blank\":1,\"bytes\":9},{\"text\":\"unset\",\"files\":1,\"lines\":1,\"blank\":0,\"bytes\":2},{\"text\":null,\"files\":1,\"lines\":2,\"blank\":0,\"bytes\":20}],\"total\":{\"files\":4,\"lines\":7,\"blank\":1,\"bytes\":31},\"directories\":1,\"faults\":[]}\n",
-        files: &[],
-        ..CASES[1]
-    };
-    compare(&rt, Shape { by, ..JSON }, &summed)?;
-    let sorted = Case {
-        lines: b"{\"rows\":[{\"text\":null,\"files\":1,\"lines\":2,\"blank\":0,\"bytes\":20},{\"text\":\"set\",\"files\":2,\"lines\":4,\"blank\":1,\"bytes\":9},{\"text\":\"unset\",\"files\":1,\"lines\":1,\"blank\":0,\"bytes\":2}],\"total\":{\"files\":4,\"lines\":7,\"blank\":1,\"bytes\":31},\"directories\":1,\"faults\":[]}\n",
-        ..summed
-    };
-    compare(&rt, Shape { by, sort, ..JSON }, &sorted)
+    },
+    ..JSON
+};
+
+const SUMMED: Case = Case {
+    name: "summed_rows",
+    shape: BY_TEXT,
+    lines: b"{\"rows\":[{\"text\":\"set\",\"files\":2,\"lines\":4,\"blank\":1,\"bytes\":9},{\"text\":\"unset\",\"files\":1,\"lines\":1,\"blank\":0,\"bytes\":2},{\"text\":null,\"files\":1,\"lines\":2,\"blank\":0,\"bytes\":20}],\"total\":{\"files\":4,\"lines\":7,\"blank\":1,\"bytes\":31},\"directories\":1,\"faults\":[]}\n",
+    files: &[],
+    ..TEXT_STATES
+};
+
+const SORTED: Case = Case {
+    name: "sorted_rows",
+    shape: Shape {
+        sort: Some(SortBy::Bytes),
+        ..BY_TEXT
+    },
+    lines: b"{\"rows\":[{\"text\":null,\"files\":1,\"lines\":2,\"blank\":0,\"bytes\":20},{\"text\":\"set\",\"files\":2,\"lines\":4,\"blank\":1,\"bytes\":9},{\"text\":\"unset\",\"files\":1,\"lines\":1,\"blank\":0,\"bytes\":2}],\"total\":{\"files\":4,\"lines\":7,\"blank\":1,\"bytes\":31},\"directories\":1,\"faults\":[]}\n",
+    ..SUMMED
+};
+
+const REPORTS: &[Case] = &[SMALL, NO_TEXT, EMPTY, SUMMED, SORTED];
+
+#[test]
+fn json_of_reports(rt: HostRuntime) -> Result<(), Fail> {
+    compare_all(&rt, b"", REPORTS)
 }

@@ -1,16 +1,14 @@
 //! What was left out, in each format.
 
 use crate::table::asking::{HEADER, TSV};
-use crate::table::screens::{EMPTY, has_lines};
-use crate::table::tables::report_of;
+use crate::table::screens::EMPTY;
+use crate::table::tables::{check, report_of};
 use lc_level::Reason;
 use lc_rules::Origin;
-use lc_table::table_text;
 use lc_text::{Format, Shape};
 use lc_tree::Kind;
 use lc_walk::{LeftLine, Lists, Report};
 use std::alloc::{AllocError, Global};
-use std::process::Abort;
 use std::test::Fail;
 
 /// Why an entry was left out.
@@ -66,49 +64,37 @@ const TABS: &[u8] =
 const JSON: &[u8] =
     b"{\"rows\":[],\"total\":{\"files\":0,\"lines\":0,\"blank\":0,\"bytes\":0},\"directories\":1,\"entries\":1008,\"files\":[],\"left\":[{\"path\":\".git\",\"kind\":\"dir\",\"reason\":\"git\"},{\"path\":\"a\\n.log\",\"kind\":\"file\",\"reason\":\"rule\",\"file\":\".gitignore\",\"line\":1},{\"path\":\"docs\",\"kind\":\"dir\",\"reason\":\"attribute\",\"attribute\":\"export-ignore\"},{\"path\":\"link.c\",\"kind\":\"other\",\"reason\":\"other\"},{\"path\":\"notes.txt\",\"kind\":\"file\",\"reason\":\"rule\",\"file\":\".git/info/exclude\",\"line\":2},{\"path\":\"src/gen\",\"kind\":\"dir\",\"reason\":\"rule\",\"file\":\"src/.gitignore\",\"line\":3},{\"path\":\"x.bak\",\"kind\":\"file\",\"reason\":\"rule\",\"file\":\"--exclude-from\",\"line\":7}],\"faults\":[]}\n";
 
-const LINES: &[&str] = &[
-    "left out   by                   path",
-    "git        -                    .git",
-    "rule       .gitignore:1         a\\x0a.log",
-    "attribute  export-ignore        docs/",
-    "other      -                    link.c",
-    "rule       .git/info/exclude:2  notes.txt",
-    "rule       src/.gitignore:3     src/gen/",
-    "rule       --exclude-from:7     x.bak",
-    "",
-    "ext    text  eol  files  lines  blank  bytes",
-    "--------------------------------------------",
-    "--------------------------------------------",
-    "total                 0      0      0      0",
-    "",
-    "directories      1",
-    "entries      1,008",
-];
+const LINES: &[u8] = b"left out   by                   path\n\
+     git        -                    .git\n\
+     rule       .gitignore:1         a\\x0a.log\n\
+     attribute  export-ignore        docs/\n\
+     other      -                    link.c\n\
+     rule       .git/info/exclude:2  notes.txt\n\
+     rule       src/.gitignore:3     src/gen/\n\
+     rule       --exclude-from:7     x.bak\n\
+     \n\
+     ext    text  eol  files  lines  blank  bytes\n\
+     --------------------------------------------\n\
+     --------------------------------------------\n\
+     total                 0      0      0      0\n\
+     \n\
+     directories      1\n\
+     entries      1,008\n";
 
 fn shaped(format: Format) -> Shape {
     Shape { format, ..TSV }
 }
 
 #[test]
-fn left_out_with_tabs(rt: HostRuntime) -> Result<(), Fail> {
+fn left_out_in_each_format(rt: HostRuntime) -> Result<(), Fail> {
     let report = report_with(rt.alloc(), LEFT)?;
-    let text = table_text(rt.alloc(), &report, TSV)?;
-    assert!(rt; text.as_slice().strip_prefix(HEADER) == Some(TABS));
-    Ok(())
-}
-
-#[test]
-fn left_out_as_json(rt: HostRuntime) -> Result<(), Fail> {
-    let report = report_with(rt.alloc(), LEFT)?;
-    let text = table_text(rt.alloc(), &report, shaped(Format::Json))?;
-    assert!(rt; text.as_slice() == JSON);
-    Ok(())
-}
-
-#[test]
-fn left_out_in_columns(rt: HostRuntime) -> Result<(), Fail> {
-    let report = report_with(rt.alloc(), LEFT)?;
-    let text = table_text(rt.alloc(), &report, shaped(Format::Table))?;
-    assert!(rt; has_lines(&text, LINES));
-    Ok(())
+    check(&rt, &report, TSV, "tabs", (HEADER, b"", TABS))?;
+    check(&rt, &report, shaped(Format::Json), "json", (b"", b"", JSON))?;
+    check(
+        &rt,
+        &report,
+        shaped(Format::Table),
+        "columns",
+        (b"", b"", LINES),
+    )
 }

@@ -1,16 +1,21 @@
 //! Tables for a person, as they stand in a terminal.
 
-use crate::table::tables::{Case, NONE, report_of};
+use crate::table::asking::TSV;
+use crate::table::tables::{Case, NONE, compare_all};
 use lc_census::Eol;
 use lc_level::FaultWord;
 use lc_rules::TextState;
-use lc_table::table_text;
 use lc_text::{Columns, Format, Shape, SortBy};
-use std::process::Abort;
 use std::test::Fail;
+
+const SCREEN: Shape = Shape {
+    format: Format::Table,
+    ..TSV
+};
 
 pub(super) const EMPTY: Case = Case {
     name: "no_files",
+    shape: SCREEN,
     rows: &[],
     totals: [0, 0, 0, 0],
     directories: 1,
@@ -79,9 +84,6 @@ const LISTED: Case = Case {
     ..EMPTY
 };
 
-/// A report, the columns that are kept, the number that sorts, and the lines.
-type ScreenCase = (Case, Columns, Option<SortBy>, &'static [&'static str]);
-
 const BY_TEXT: Columns = Columns {
     ext: false,
     text: true,
@@ -94,124 +96,89 @@ const BY_EOL: Columns = Columns {
     eol: true,
 };
 
-const CASES: &[ScreenCase] = &[
-    (
-        EMPTY,
-        Columns::ALL,
-        None,
-        &[
-            "ext    text  eol  files  lines  blank  bytes",
-            "--------------------------------------------",
-            "--------------------------------------------",
-            "total                 0      0      0      0",
-            "",
-            "directories  1",
-        ],
-    ),
-    (
-        CLASSES,
-        Columns::ALL,
-        None,
-        &[
-            "ext     text   eol  files      lines  blank              bytes",
-            "--------------------------------------------------------------",
-            "-       -      lf       1          3      0                 24",
-            ".c      set    lf   1,234  1,000,000    999  1,000,000,000,000",
-            ".png    unset  nul      1          1      0                  7",
-            "--------------------------------------------------------------",
-            "total               1,236  1,000,004    999  1,000,000,000,031",
-            "text                1,235  1,000,003    999  1,000,000,000,024",
-            "binary                  1          1      0                  7",
-            "",
-            "directories  2,000",
-        ],
-    ),
-    (
-        CLASSES,
-        BY_TEXT,
-        Some(SortBy::Lines),
-        &[
-            "text    files      lines  blank              bytes",
-            "--------------------------------------------------",
-            "set     1,234  1,000,000    999  1,000,000,000,000",
-            "-           1          3      0                 24",
-            "unset       1          1      0                  7",
-            "--------------------------------------------------",
-            "total   1,236  1,000,004    999  1,000,000,000,031",
-            "text    1,235  1,000,003    999  1,000,000,000,024",
-            "binary      1          1      0                  7",
-            "",
-            "directories  2,000",
-        ],
-    ),
-    (
-        WIDE,
-        Columns::ALL,
-        None,
-        &[
-            "ext             text   eol    files  lines  blank  bytes",
-            "--------------------------------------------------------",
-            ".日本           auto   crlf       1      1      0      3",
-            ".e\u{301}              other  mixed      1      1      0      3",
-            ".a\\xe2\\x80\\xae  -      none       1      0      0      0",
-            "--------------------------------------------------------",
-            "total                             3      2      0      6",
-            "",
-            "directories  1",
-        ],
-    ),
-    (
-        LISTED,
-        BY_EOL,
-        None,
-        &[
-            "text   eol   lines  blank  bytes  file",
-            "-      lf        2      0     20  .gitattributes",
-            "set    lf   12,345      0      4  a\\xe2\\x80\\xaeb/x.c",
-            "unset  nul       1      0      2  y.b",
-            "",
-            "fault    path",
-            "read     .",
-            "endless  d/e",
-            "name     日本",
-            "",
-            "eol    files  lines  blank  bytes",
-            "---------------------------------",
-            "lf         1      2      0     20",
-            "---------------------------------",
-            "total      1      2      0     20",
-            "",
-            "directories  1",
-        ],
-    ),
+const CASES: &[Case] = &[
+    Case {
+        lines: b"ext    text  eol  files  lines  blank  bytes\n\
+              --------------------------------------------\n\
+              --------------------------------------------\n\
+              total                 0      0      0      0\n\
+              \n\
+              directories  1\n",
+        ..EMPTY
+    },
+    Case {
+        lines: b"ext     text   eol  files      lines  blank              bytes\n\
+              --------------------------------------------------------------\n\
+              -       -      lf       1          3      0                 24\n\
+              .c      set    lf   1,234  1,000,000    999  1,000,000,000,000\n\
+              .png    unset  nul      1          1      0                  7\n\
+              --------------------------------------------------------------\n\
+              total               1,236  1,000,004    999  1,000,000,000,031\n\
+              text                1,235  1,000,003    999  1,000,000,000,024\n\
+              binary                  1          1      0                  7\n\
+              \n\
+              directories  2,000\n",
+        ..CLASSES
+    },
+    Case {
+        name: "classes_by_text_sorted_by_lines",
+        shape: Shape {
+            by: BY_TEXT,
+            sort: Some(SortBy::Lines),
+            ..SCREEN
+        },
+        lines: b"text    files      lines  blank              bytes\n\
+              --------------------------------------------------\n\
+              set     1,234  1,000,000    999  1,000,000,000,000\n\
+              -           1          3      0                 24\n\
+              unset       1          1      0                  7\n\
+              --------------------------------------------------\n\
+              total   1,236  1,000,004    999  1,000,000,000,031\n\
+              text    1,235  1,000,003    999  1,000,000,000,024\n\
+              binary      1          1      0                  7\n\
+              \n\
+              directories  2,000\n",
+        ..CLASSES
+    },
+    Case {
+        lines: b"ext             text   eol    files  lines  blank  bytes\n\
+              --------------------------------------------------------\n\
+              .\xe6\x97\xa5\xe6\x9c\xac           auto   crlf       1      1      0      3\n\
+              .e\xcc\x81              other  mixed      1      1      0      3\n\
+              .a\\xe2\\x80\\xae  -      none       1      0      0      0\n\
+              --------------------------------------------------------\n\
+              total                             3      2      0      6\n\
+              \n\
+              directories  1\n",
+        ..WIDE
+    },
+    Case {
+        shape: Shape {
+            by: BY_EOL,
+            ..SCREEN
+        },
+        lines: b"text   eol   lines  blank  bytes  file\n\
+              -      lf        2      0     20  .gitattributes\n\
+              set    lf   12,345      0      4  a\\xe2\\x80\\xaeb/x.c\n\
+              unset  nul       1      0      2  y.b\n\
+              \n\
+              fault    path\n\
+              read     .\n\
+              endless  d/e\n\
+              name     \xe6\x97\xa5\xe6\x9c\xac\n\
+              \n\
+              eol    files  lines  blank  bytes\n\
+              ---------------------------------\n\
+              lf         1      2      0     20\n\
+              ---------------------------------\n\
+              total      1      2      0     20\n\
+              \n\
+              directories  1\n",
+        ..LISTED
+    },
 ];
-
-/// A text is these lines.
-pub(super) fn has_lines(text: &[u8], lines: &[&str]) -> bool {
-    let mut left = text;
-    for line in lines {
-        let Some(rest) = left.strip_prefix(line.as_bytes()) else {
-            return false;
-        };
-        let Some(rest) = rest.strip_prefix(b"\n") else {
-            return false;
-        };
-        left = rest;
-    }
-    left.is_empty()
-}
 
 #[test]
 fn tables_in_columns(rt: HostRuntime) -> Result<(), Fail> {
-    for (found, by, sort, lines) in CASES {
-        let report = report_of(rt.alloc(), found)?;
-        let shape = Shape {
-            format: Format::Table,
-            by: *by,
-            sort: *sort,
-        };
-        let text = table_text(rt.alloc(), &report, shape)?;
-        assert!(rt; has_lines(&text, lines), "{}", found.name);
-    }
-    Ok(())
+    compare_all(&rt, b"", CASES)
 }

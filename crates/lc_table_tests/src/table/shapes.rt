@@ -1,16 +1,18 @@
 //! The rows of a table by each subset of its columns, and sorted by each number.
 
-use crate::table::asking::HEADER;
-use crate::table::tables::{Case, NONE, report_of};
+use crate::table::asking::{HEADER, TSV};
+use crate::table::tables::{Case, NONE, check, compare_all, report_of};
 use lc_census::Eol;
 use lc_rules::TextState;
-use lc_table::table_text;
-use lc_text::{Columns, Format, Shape, SortBy};
-use std::process::Abort;
+use lc_text::{Columns, Shape, SortBy};
 use std::test::Fail;
+
+/// What stands below the rows.
+const TOTALS: &[u8] = b"total\t*\t*\t7\t30\t8\t157\ndirectories\t2\n";
 
 const SUMMED: Case = Case {
     name: "rows_to_be_summed",
+    shape: TSV,
     rows: &[
         (None, NONE, Eol::Lf, [1, 4, 1, 9]),
         (Some(b"c"), TextState::Set, Eol::Lf, [2, 10, 3, 70]),
@@ -22,18 +24,27 @@ const SUMMED: Case = Case {
     directories: 2,
     files: &[],
     faults: &[],
-    lines: b"total\t*\t*\t7\t30\t8\t157\ndirectories\t2\n",
+    lines: TOTALS,
 };
 
-const NO_ROWS: Case = Case {
+const NO_ROWS: &[Case] = &[Case {
     name: "no_rows",
+    shape: Shape {
+        by: Columns {
+            ext: false,
+            text: false,
+            eol: false,
+        },
+        sort: Some(SortBy::Bytes),
+        ..TSV
+    },
     rows: &[],
     totals: [0, 0, 0, 0],
     directories: 1,
     files: &[],
     faults: &[],
     lines: b"total\t*\t*\t0\t0\t0\t0\ndirectories\t1\n",
-};
+}];
 
 /// What is shown, whether the three columns are kept, the number that sorts, and the rows.
 type ShapeCase = (&'static str, [bool; 3], Option<SortBy>, &'static [u8]);
@@ -119,32 +130,19 @@ const CASES: &[ShapeCase] = &[
     ),
 ];
 
-/// The table of a report has these rows between the header and the lines below.
-fn compare<R: AllocGlobal + Abort>(rt: &R, found: &Case, case: &ShapeCase) -> Result<(), Fail> {
-    let (name, [ext, text, eol], sort, rows) = *case;
-    let report = report_of(rt.alloc(), found)?;
-    let shape = Shape {
-        format: Format::Tsv,
-        by: Columns { ext, text, eol },
-        sort,
-    };
-    let text = table_text(rt.alloc(), &report, shape)?;
-    let lines = text.as_slice().strip_prefix(HEADER);
-    let below = lines.and_then(|lines| lines.strip_prefix(rows));
-    assert!(rt; below == Some(found.lines), "{name}");
-    Ok(())
-}
-
 #[test]
 fn rows_by_columns_and_sorted(rt: HostRuntime) -> Result<(), Fail> {
+    let report = report_of(rt.alloc(), &SUMMED)?;
     for case in CASES {
-        compare(&rt, &SUMMED, case)?;
+        let (name, [ext, text, eol], sort, rows) = *case;
+        let by = Columns { ext, text, eol };
+        let shape = Shape { by, sort, ..TSV };
+        check(&rt, &report, shape, name, (HEADER, rows, TOTALS))?;
     }
     Ok(())
 }
 
 #[test]
 fn no_rows_by_no_columns(rt: HostRuntime) -> Result<(), Fail> {
-    let kept = [false, false, false];
-    compare(&rt, &NO_ROWS, &("no_rows", kept, Some(SortBy::Bytes), b""))
+    compare_all(&rt, HEADER, NO_ROWS)
 }

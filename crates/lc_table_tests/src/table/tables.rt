@@ -5,8 +5,8 @@ use lc_census::{Count, Eol};
 use lc_level::FaultWord;
 use lc_rules::TextState;
 use lc_table::{table, table_text};
-use lc_text::PrintFault;
 use lc_text::trials::{Narrow, WRITERS, WhenFull};
+use lc_text::{PrintFault, Shape};
 use lc_walk::{FaultLine, FileLine, Lists, Report, Sums, TallyRow};
 use std::alloc::{AllocError, Global};
 use std::process::Abort;
@@ -18,10 +18,11 @@ pub(super) type Row = (Option<&'static [u8]>, TextState, Eol, [u64; 4]);
 /// A path, a text state, a class, and the lines, blank lines and bytes.
 pub(super) type File = (&'static [u8], TextState, Eol, [u64; 3]);
 
-/// What is shown, the rows, the totals, the directories, the files, the faults, and the lines after the header.
+/// What is shown, the shape, the rows, the totals, the directories, the files, the faults, and the text, of tabs below the header.
 #[derive(Clone, Copy)]
 pub(super) struct Case {
     pub(super) name: &'static str,
+    pub(super) shape: Shape,
     pub(super) rows: &'static [Row],
     pub(super) totals: [u64; 4],
     pub(super) directories: u64,
@@ -32,9 +33,42 @@ pub(super) struct Case {
 
 pub(super) const NONE: TextState = TextState::Unspecified;
 
-pub(super) const CASES: &[Case] = &[
+pub(super) const TEXT_STATES: Case = Case {
+    name: "files_with_their_text_states",
+    shape: TSV,
+    rows: &[
+        (None, NONE, Eol::Lf, [1, 2, 0, 20]),
+        (Some(b"b"), TextState::Unset, Eol::Nul, [1, 1, 0, 2]),
+        (Some(b"c"), TextState::Set, Eol::Lf, [1, 2, 0, 4]),
+        (Some(b"c"), TextState::Set, Eol::CrLf, [1, 2, 1, 5]),
+    ],
+    totals: [4, 7, 1, 31],
+    directories: 1,
+    files: &[
+        (b".gitattributes", NONE, Eol::Lf, [2, 0, 20]),
+        (b"x.c", TextState::Set, Eol::Lf, [2, 0, 4]),
+        (b"y.b", TextState::Unset, Eol::Nul, [1, 0, 2]),
+        (b"z.c", TextState::Set, Eol::CrLf, [2, 1, 5]),
+    ],
+    faults: &[],
+    lines: b"-\t-\tlf\t1\t2\t0\t20\n.b\tunset\tnul\t1\t1\t0\t2\n.c\tset\tlf\t1\t2\t0\t4\n.c\tset\tcrlf\t1\t2\t1\t5\ntotal\t*\t*\t4\t7\t1\t31\ndirectories\t1\nfile\t-\tlf\t2\t0\t20\t.gitattributes\nfile\tset\tlf\t2\t0\t4\tx.c\nfile\tunset\tnul\t1\t0\t2\ty.b\nfile\tset\tcrlf\t2\t1\t5\tz.c\n",
+};
+
+const TOP_UNREAD: Case = Case {
+    name: "a_top_that_is_not_read",
+    shape: TSV,
+    rows: &[],
+    totals: [0, 0, 0, 0],
+    directories: 0,
+    files: &[],
+    faults: &[(b"", FaultWord::Read)],
+    lines: b"total\t*\t*\t0\t0\t0\t0\ndirectories\t0\nfault\tread\t.\n",
+};
+
+const CASES: &[Case] = &[
     Case {
         name: "a_line_for_each_key",
+        shape: TSV,
         rows: &[
             (None, NONE, Eol::Lf, [1, 3, 0, 24]),
             (Some(b"c"), NONE, Eol::CrLf, [1, 1, 0, 8]),
@@ -46,36 +80,11 @@ pub(super) const CASES: &[Case] = &[
         faults: &[],
         lines: b"-\t-\tlf\t1\t3\t0\t24\n.c\t-\tcrlf\t1\t1\t0\t8\n.log\t-\tlf\t1\t1\t0\t2\ntotal\t*\t*\t3\t5\t0\t34\ndirectories\t3\n",
     },
-    Case {
-        name: "files_with_their_text_states",
-        rows: &[
-            (None, NONE, Eol::Lf, [1, 2, 0, 20]),
-            (Some(b"b"), TextState::Unset, Eol::Nul, [1, 1, 0, 2]),
-            (Some(b"c"), TextState::Set, Eol::Lf, [1, 2, 0, 4]),
-            (Some(b"c"), TextState::Set, Eol::CrLf, [1, 2, 1, 5]),
-        ],
-        totals: [4, 7, 1, 31],
-        directories: 1,
-        files: &[
-            (b".gitattributes", NONE, Eol::Lf, [2, 0, 20]),
-            (b"x.c", TextState::Set, Eol::Lf, [2, 0, 4]),
-            (b"y.b", TextState::Unset, Eol::Nul, [1, 0, 2]),
-            (b"z.c", TextState::Set, Eol::CrLf, [2, 1, 5]),
-        ],
-        faults: &[],
-        lines: b"-\t-\tlf\t1\t2\t0\t20\n.b\tunset\tnul\t1\t1\t0\t2\n.c\tset\tlf\t1\t2\t0\t4\n.c\tset\tcrlf\t1\t2\t1\t5\ntotal\t*\t*\t4\t7\t1\t31\ndirectories\t1\nfile\t-\tlf\t2\t0\t20\t.gitattributes\nfile\tset\tlf\t2\t0\t4\tx.c\nfile\tunset\tnul\t1\t0\t2\ty.b\nfile\tset\tcrlf\t2\t1\t5\tz.c\n",
-    },
-    Case {
-        name: "a_top_that_is_not_read",
-        rows: &[],
-        totals: [0, 0, 0, 0],
-        directories: 0,
-        files: &[],
-        faults: &[(b"", FaultWord::Read)],
-        lines: b"total\t*\t*\t0\t0\t0\t0\ndirectories\t0\nfault\tread\t.\n",
-    },
+    TEXT_STATES,
+    TOP_UNREAD,
     Case {
         name: "faults_of_a_file_and_of_a_rule_file",
+        shape: TSV,
         rows: &[(Some(b"c"), NONE, Eol::Lf, [1, 1, 0, 2])],
         totals: [1, 1, 0, 2],
         directories: 1,
@@ -88,6 +97,7 @@ pub(super) const CASES: &[Case] = &[
     },
     Case {
         name: "every_word_and_escapes",
+        shape: TSV,
         rows: &[
             (Some(b"a\tb"), TextState::Auto, Eol::NoEnd, [1, 0, 0, 0]),
             (Some(b"c"), TextState::Other, Eol::Cr, [1, 1, 0, 2]),
@@ -186,15 +196,46 @@ pub(super) fn report_of(alloc: Global, case: &Case) -> Result<Report, AllocError
     })
 }
 
-#[test]
-fn tables(rt: HostRuntime) -> Result<(), Fail> {
-    for case in CASES {
+/// A header, rows, and what stands below them.
+type Parts<'a> = (&'a [u8], &'a [u8], &'a [u8]);
+
+/// The table of a report in a shape is these parts, one after the other.
+pub(super) fn check<R: AllocGlobal + Abort>(
+    rt: &R,
+    report: &Report,
+    shape: Shape,
+    name: &str,
+    parts: Parts<'_>,
+) -> Result<(), Fail> {
+    let text = table_text(rt.alloc(), report, shape)?;
+    assert!(rt; is_made_of(&text, parts), "{name}");
+    Ok(())
+}
+
+fn is_made_of(text: &[u8], (header, rows, below): Parts<'_>) -> bool {
+    let Some(rest) = text.strip_prefix(header) else {
+        return false;
+    };
+    rest.strip_prefix(rows) == Some(below)
+}
+
+/// The table of each report is its text.
+pub(super) fn compare_all<R: AllocGlobal + Abort>(
+    rt: &R,
+    header: &[u8],
+    cases: &[Case],
+) -> Result<(), Fail> {
+    for case in cases {
         let report = report_of(rt.alloc(), case)?;
-        let text = table_text(rt.alloc(), &report, TSV)?;
-        let lines = text.as_slice().strip_prefix(HEADER);
-        assert!(rt; lines == Some(case.lines), "{}", case.name);
+        let lines = case.lines;
+        check(rt, &report, case.shape, case.name, (header, b"", lines))?;
     }
     Ok(())
+}
+
+#[test]
+fn tables(rt: HostRuntime) -> Result<(), Fail> {
+    compare_all(&rt, HEADER, CASES)
 }
 
 fn compare_writes<R: AllocGlobal + Abort>(
@@ -224,7 +265,7 @@ fn compare_writes<R: AllocGlobal + Abort>(
 
 #[test]
 fn a_table_stops_at_every_place(rt: HostRuntime) -> Result<(), Fail> {
-    let report = report_of(rt.alloc(), &CASES[2])?;
+    let report = report_of(rt.alloc(), &TOP_UNREAD)?;
     let text = table_text(rt.alloc(), &report, TSV)?;
     for writer in WRITERS {
         compare_writes(&rt, &report, &text, *writer)?;

@@ -3,7 +3,7 @@
 use lc_census::Source;
 use lc_census::trials::{Bytewise, Failing};
 use lc_text::trials::{Narrow, WRITERS, WhenFull};
-use lc_text::{CheckFault, RuleText, RulesFileFault, check_explained, read_rule_text};
+use lc_text::{CheckFault, RuleText, check_explained, read_rule_text};
 use std::alloc::{AllocError, Global};
 use std::process::Abort;
 use std::test::Fail;
@@ -106,19 +106,14 @@ fn compare<R: Abort + AllocGlobal>(rt: &R, cases: &[Case]) -> Result<(), Fail> {
         let mut input: &[u8] = paths;
         let mut out = Narrow::new(rt.alloc(), 64, text.len(), WhenFull::Fails)?;
         let answer = explained(rt, rt.alloc(), &rules, &mut input, &mut out)?;
-        assert!(rt; answer == Ok(()), "{case}");
-        assert!(rt; out.taken.as_slice() == *text, "{case}");
+        assert!(rt; answer == Ok(()) && out.taken.as_slice() == *text, "{case}");
     }
     Ok(())
 }
 
 #[test]
-fn rules_are_named(rt: HostRuntime) -> Result<(), Fail> {
-    compare(&rt, WORDS)
-}
-
-#[test]
-fn lines_are_named(rt: HostRuntime) -> Result<(), Fail> {
+fn rules_and_lines_are_named(rt: HostRuntime) -> Result<(), Fail> {
+    compare(&rt, WORDS)?;
     compare(&rt, LINES)
 }
 
@@ -136,8 +131,9 @@ fn a_name_is_escaped(rt: HostRuntime) -> Result<(), Fail> {
     if answer == Err(CheckFault::Memory) && out.is_empty() {
         return Err(AllocError.into());
     }
-    assert!(rt; answer == Ok(()));
-    assert!(rt; out.as_slice() == b"ignored\t..\\\\x\\x0a:1/\xff:1\ta\ta\n".as_slice());
+    assert!(rt;
+        answer == Ok(()) && out.as_slice() == b"ignored\t..\\\\x\\x0a:1/\xff:1\ta\ta\n".as_slice()
+    );
     Ok(())
 }
 
@@ -182,25 +178,5 @@ fn reads_that_fail(rt: HostRuntime) -> Result<(), Fail> {
             "at {given}"
         );
     }
-    Ok(())
-}
-
-/// Why a file gives no text.
-fn fault_of<S: Source>(alloc: Global, file: &mut S) -> Result<Option<RulesFileFault>, AllocError> {
-    match read_rule_text(alloc, file) {
-        Ok(_) => Ok(None),
-        Err(RulesFileFault::Memory) => Err(AllocError),
-        Err(fault) => Ok(Some(fault)),
-    }
-}
-
-#[test]
-fn files_without_text(rt: HostRuntime) -> Result<(), Fail> {
-    assert!(rt;
-        fault_of(rt.alloc(), &mut Failing(b"a\n".as_slice()))? == Some(RulesFileFault::Read)
-    );
-    let bytes = vec![in rt.alloc(); b'a'; 1_048_577]?;
-    assert!(rt; fault_of(rt.alloc(), &mut bytes.as_slice())? == Some(RulesFileFault::TooLong));
-    assert!(rt; fault_of(rt.alloc(), &mut &bytes[1..])?.is_none());
     Ok(())
 }

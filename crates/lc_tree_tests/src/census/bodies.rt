@@ -1,3 +1,5 @@
+ghost use Rattle.std.specs.Prelude.{◌<◌};
+
 use lc_census::{Scan, scan_lanes, scan_plain};
 
 /// The bytes that a scan tells apart, and `x` for all others.
@@ -6,36 +8,41 @@ const LETTERS: [u8; 6] = [b'\n', b'\r', 0, b' ', b'\t', b'x'];
 /// How many words of six letters there are.
 const WORDS: u32 = 46_656;
 
-fn letters_of(number: u32) -> [u8; 6] {
-    let mut word = [b'x'; 6];
+/// A word of six letters between two `x`.
+fn parted_word(number: u32) -> [u8; 8] {
+    let mut parted = [b'x'; 8];
     let mut left = number;
-    for letter in &mut word {
-        *letter = LETTERS[(left % 6) as usize];
+    for at in 1..7usize {
+        parted[at] = LETTERS[(left % 6) as usize];
         left /= 6;
     }
-    word
+    parted
+}
+
+/// The scan by vectors of this word at a place, with `x` all round.
+fn scan_at(place: usize, parted: &[u8; 8]) -> Scan
+    requires { place < 64 }
+{
+    let mut bytes = [b'x'; 128];
+    bytes[place..place + 6].copy_from_slice(&parted[1..7]);
+    let end = if place < 58 { 64 } else { 128 };
+    scan_lanes(Scan::new(), &bytes[..end])
 }
 
 // The plain scan of a word between two `x`, or at the start with one after it, is what the vectors must give with `x`
 // all round, so it is made once a word. A shorter word is one of six letters that ends in `x`.
 #[test]
 fn both_bodies_agree_at_every_place_of_a_vector(rt: HostRuntime) {
-    let mut bytes = [b'x'; 128];
     for number in 0..WORDS {
-        let word = letters_of(number);
-        let mut parted = [b'x'; 8];
-        parted[1..7].copy_from_slice(&word);
-        let inside = scan_plain(Scan::new(), &parted);
+        let parted = parted_word(number);
         let first = scan_plain(Scan::new(), &parted[1..]);
-        for place in 0..64usize {
-            let want = if place == 0 { first } else { inside };
-            let end = if place < 58 { 64 } else { 128 };
-            bytes[place..place + 6].copy_from_slice(&word);
+        assert!(&rt; scan_at(0, &parted) == first, "word {number} at the start");
+        let inside = scan_plain(Scan::new(), &parted);
+        for place in 1..64usize {
             assert!(&rt;
-                scan_lanes(Scan::new(), &bytes[..end]) == want,
+                scan_at(place, &parted) == inside,
                 "word {number} at {place}"
             );
-            bytes[place..place + 6].copy_from_slice(b"xxxxxx");
         }
     }
 }

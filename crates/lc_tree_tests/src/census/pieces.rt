@@ -1,6 +1,6 @@
 ghost use Rattle.std.specs.Prelude.{◌≤◌, length};
 
-use lc_census::{Census, Count, Eol, count_in};
+use lc_census::{Census, CensusFault, Count, Eol, count_in};
 use std::process::Abort;
 
 fn counted_in_two(bytes: &[u8], place: usize) -> Count
@@ -23,10 +23,20 @@ fn counted_by_bytes(bytes: &[u8]) -> Count
     census.finish()
 }
 
-// Cut at every place, the whole among them, a byte at a time, and through a reader with a short buffer.
-fn assert_census(rt: &impl Abort, name: &str, bytes: &[u8], lines: u64, blank: u64, eol: Eol)
-    requires { length bytes.now ≤ 1000 }
-{
+/// Through a reader with a short buffer.
+fn counted_by_reads(bytes: &[u8]) -> Result<Count, CensusFault> {
+    let mut buffer = [0u8; 3];
+    let mut rest = bytes;
+    count_in(&mut buffer, &mut rest, 1_000)
+}
+
+/// What is shown, the bytes, their lines, how many of them are blank, and their class.
+type Case = (&'static str, &'static [u8], u64, u64, Eol);
+
+// Cut at every place, the whole among them, a byte at a time, and read.
+fn check(rt: &impl Abort, case: &Case) {
+    let (name, bytes, lines, blank, eol) = *case;
+    assert!(rt; bytes.len() <= 1_000);
     let want = Count {
         lines,
         blank,
@@ -40,56 +50,48 @@ fn assert_census(rt: &impl Abort, name: &str, bytes: &[u8], lines: u64, blank: u
         );
     }
     assert!(rt; counted_by_bytes(bytes) == want, "{name}, by bytes");
-    let mut buffer = [0u8; 3];
-    let mut rest = bytes;
-    assert!(rt;
-        count_in(&mut buffer, &mut rest, 1_000) == Ok(want),
-        "{name}, read"
-    );
+    assert!(rt; counted_by_reads(bytes) == Ok(want), "{name}, read");
 }
 
-#[test]
-fn counts_however_the_bytes_are_cut(rt: HostRuntime) {
-    assert_census(&rt, "no byte", b"", 0, 0, Eol::NoEnd);
-    assert_census(&rt, "a rest alone", b"x", 1, 0, Eol::NoEnd);
-    assert_census(&rt, "a blank rest", b" \t", 1, 1, Eol::NoEnd);
-    assert_census(&rt, "a NUL alone", b"\0", 1, 0, Eol::Nul);
-    assert_census(&rt, "two line feeds", b"\n\n", 2, 2, Eol::Lf);
-    assert_census(&rt, "a CR and a CR LF", b"\r\r\n", 2, 2, Eol::Mixed);
-    assert_census(&rt, "each kind of end", b"a\r\nb\rc\n", 3, 0, Eol::Mixed);
-    assert_census(&rt, "a last CR", b"x\r", 1, 0, Eol::Cr);
-    assert_census(&rt, "CR LF alone", b"a\r\n\r\n", 2, 1, Eol::CrLf);
-    assert_census(&rt, "LF and then CR", b"\n\r", 2, 2, Eol::Mixed);
-    assert_census(&rt, "a NUL beside an end", b"\0\n", 1, 0, Eol::Nul);
-    assert_census(&rt, "a rest after an end", b"a\nb", 2, 0, Eol::Lf);
-    assert_census(&rt, "an empty line", b"one\n\ntwo", 3, 1, Eol::Lf);
-    assert_census(&rt, "two lines", b"one\r\ntwo\r\n", 2, 0, Eol::CrLf);
-    assert_census(&rt, "a form feed is no space", b"\x0c\n", 1, 0, Eol::Lf);
-    assert_census(
-        &rt,
-        "a no-break space is no space",
-        b"\xc2\xa0\n",
-        1,
-        0,
-        Eol::Lf,
-    );
-}
+const CRLF_OVER_THE_EDGE: &[u8] =
+    b"012345678901234567890123456789012345678901234567890123456789012\r\n \t\r\n\t x\r\n \n\r\n0123456789012345678901234567890123456789012345678901234567890\r\n  ";
 
-#[test]
-fn counts_past_a_vector(rt: HostRuntime) {
-    let crlf_over_the_edge =
-        b"012345678901234567890123456789012345678901234567890123456789012\r\n \t\r\n\t x\r\n \n\r\n0123456789012345678901234567890123456789012345678901234567890\r\n  ";
-    assert_census(
-        &rt,
+const SPACES: &[u8] =
+    b"\n                                                                                                                                    \n";
+
+const NUL: &[u8] = b"0123456789012345678901234567890123456789012345678901234567890123456789\0\r";
+
+const CASES: [Case; 19] = [
+    ("no byte", b"", 0, 0, Eol::NoEnd),
+    ("a rest alone", b"x", 1, 0, Eol::NoEnd),
+    ("a blank rest", b" \t", 1, 1, Eol::NoEnd),
+    ("a NUL alone", b"\0", 1, 0, Eol::Nul),
+    ("two line feeds", b"\n\n", 2, 2, Eol::Lf),
+    ("a CR and a CR LF", b"\r\r\n", 2, 2, Eol::Mixed),
+    ("each kind of end", b"a\r\nb\rc\n", 3, 0, Eol::Mixed),
+    ("a last CR", b"x\r", 1, 0, Eol::Cr),
+    ("CR LF alone", b"a\r\n\r\n", 2, 1, Eol::CrLf),
+    ("LF and then CR", b"\n\r", 2, 2, Eol::Mixed),
+    ("a NUL beside an end", b"\0\n", 1, 0, Eol::Nul),
+    ("a rest after an end", b"a\nb", 2, 0, Eol::Lf),
+    ("an empty line", b"one\n\ntwo", 3, 1, Eol::Lf),
+    ("two lines", b"one\r\ntwo\r\n", 2, 0, Eol::CrLf),
+    ("a form feed is no space", b"\x0c\n", 1, 0, Eol::Lf),
+    ("a no-break space is no space", b"\xc2\xa0\n", 1, 0, Eol::Lf),
+    (
         "ends at a vector's edge",
-        crlf_over_the_edge,
+        CRLF_OVER_THE_EDGE,
         7,
         4,
         Eol::Mixed,
-    );
-    let spaces =
-        b"\n                                                                                                                                    \n";
-    assert_census(&rt, "a blank line over two vectors", spaces, 2, 2, Eol::Lf);
-    let nul = b"0123456789012345678901234567890123456789012345678901234567890123456789\0\r";
-    assert_census(&rt, "a NUL past a vector", nul, 1, 0, Eol::Nul);
+    ),
+    ("a blank line over two vectors", SPACES, 2, 2, Eol::Lf),
+    ("a NUL past a vector", NUL, 1, 0, Eol::Nul),
+];
+
+#[test]
+fn counts_however_the_bytes_are_cut(rt: HostRuntime) {
+    for case in &CASES {
+        check(&rt, case);
+    }
 }

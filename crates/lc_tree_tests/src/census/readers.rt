@@ -1,6 +1,8 @@
 use lc_census::trials::{Bytewise, Counted, Endless, Failing};
-use lc_census::{CensusFault, Count, Eol, StdSource, count, count_in, count_within};
-use std::alloc::AllocError;
+use lc_census::{
+    CensusFault, Count, Eol, MAX_TURNS, Source, StdSource, count, count_in, count_within,
+};
+use std::alloc::{AllocError, Global};
 use std::io::{Error, ErrorKind, Read, Result as IoResult};
 use std::process::Abort;
 use std::test::Fail;
@@ -19,88 +21,6 @@ const AB: Outcome = Ok(Count {
     eol: Eol::NoEnd,
 });
 
-/// A count answered so, by so many reads.
-fn says(rt: &impl Abort, name: &str, found: Outcome, made: u64, want: Outcome, reads: u64) {
-    assert!(rt; found == want, "{name}");
-    assert!(rt; made == reads, "{name}");
-}
-
-/// The same, but that want of memory is passed up, after which no read was made.
-fn answers(
-    rt: &impl Abort,
-    name: &str,
-    found: Outcome,
-    made: u64,
-    want: Outcome,
-    reads: u64,
-) -> Result<(), AllocError> {
-    if made == 0 && found == Err(CensusFault::Memory) {
-        return Err(AllocError);
-    }
-    says(rt, name, found, made, want, reads);
-    Ok(())
-}
-
-/// How many turns a count has, its answer, and its reads.
-const TURNS: [(&str, u64, Outcome, u64); 4] = [
-    ("more turns than reads", 4, AB, 3),
-    ("as many", 3, AB, 3),
-    ("one less", 2, ENDLESS, 2),
-    ("none", 0, ENDLESS, 0),
-];
-
-#[test]
-fn reads_up_to_the_end_within_its_turns(rt: HostRuntime) -> Result<(), Fail> {
-    for (name, turns, want, reads) in &TURNS {
-        let mut reader = Counted::new(Bytewise(b"ab".as_slice()));
-        let found = count_within(rt.alloc(), &mut reader, *turns);
-        answers(&rt, name, found, reader.reads, *want, *reads)?;
-        assert!(&rt; *turns == 0 || reader.longest == 65_536, "{name}");
-    }
-    Ok(())
-}
-
-#[test]
-fn an_endless_reader_is_read_1000_times(rt: HostRuntime) -> Result<(), Fail> {
-    let mut reader = Counted::new(Bytewise(Endless));
-    let found = count_within(rt.alloc(), &mut reader, 1_000);
-    answers(&rt, "1,000 turns", found, reader.reads, ENDLESS, 1_000)?;
-    Ok(())
-}
-
-/// Bytes after which a read fails, and which read that is.
-const FAILURES: [(&str, &[u8], u64); 4] = [
-    ("the first", b"", 1),
-    ("the second", b"a", 2),
-    ("in mid-stream", b"a\nb", 4),
-    ("after a CR", b"a\r", 3),
-];
-
-#[test]
-fn a_failed_read_is_the_last(rt: HostRuntime) -> Result<(), Fail> {
-    let mut buffer = [0u8; 16];
-    for (name, bytes, reads) in &FAILURES {
-        let mut reader = Counted::new(Bytewise(Failing(bytes)));
-        let found = count_in(&mut buffer, &mut reader, 1_000);
-        says(&rt, name, found, reader.reads, FAILED, *reads);
-        let mut reader = Counted::new(Bytewise(Failing(bytes)));
-        let found = count(rt.alloc(), &mut reader);
-        answers(&rt, name, found, reader.reads, FAILED, *reads)?;
-    }
-    Ok(())
-}
-
-#[test]
-fn the_end_of_a_slice_takes_a_read(rt: HostRuntime) -> Result<(), Fail> {
-    let mut reader = b"ab".as_slice();
-    let found = count_within(rt.alloc(), &mut reader, 1);
-    answers(&rt, "one turn", found, 0, ENDLESS, 0)?;
-    let mut reader = b"ab".as_slice();
-    let found = count_within(rt.alloc(), &mut reader, 2);
-    answers(&rt, "two turns", found, 0, AB, 0)?;
-    Ok(())
-}
-
 const TWO_LINES: Outcome = Ok(Count {
     lines: 2,
     blank: 0,
@@ -108,15 +28,102 @@ const TWO_LINES: Outcome = Ok(Count {
     eol: Eol::Mixed,
 });
 
+/// How many turns a count has, its answer, and its reads.
+type Case = (&'static str, u64, Outcome, u64);
+
+/// A count of this reader, in reads of 65,536 bytes, answers so by so many reads. Want of memory is passed up, after which no read
+/// was made.
+fn answers<S: Source + Drop>(
+    rt: &impl Abort,
+    alloc: Global,
+    source: S,
+    case: &Case,
+) -> Result<(), AllocError> {
+    let (name, turns, want, reads) = *case;
+    let mut reader = Counted::new(source);
+    let found = if turns < MAX_TURNS {
+        count_within(alloc, &mut reader, turns)
+    } else {
+        count(alloc, &mut reader)
+    };
+    if reader.reads == 0 && found == Err(CensusFault::Memory) {
+        return Err(AllocError);
+    }
+    assert!(rt; found == want && reader.reads == reads, "{name}");
+    assert!(rt; reads == 0 || reader.longest == 65_536, "{name}");
+    Ok(())
+}
+
+/// A count of this reader into a short buffer answers so by so many reads.
+fn answers_in<S: Source + Drop>(rt: &impl Abort, source: S, case: &Case) {
+    let (name, _, want, reads) = *case;
+    let mut buffer = [0u8; 16];
+    let mut reader = Counted::new(source);
+    let found = count_in(&mut buffer, &mut reader, 1_000);
+    assert!(rt; found == want && reader.reads == reads, "{name}");
+}
+
+const TURNS: [Case; 4] = [
+    ("more turns than reads", 4, AB, 3),
+    ("as many", 3, AB, 3),
+    ("one less", 2, ENDLESS, 2),
+    ("none", 0, ENDLESS, 0),
+];
+
+/// The end of a slice takes a read.
+const SLICE_TURNS: [Case; 2] = [("one turn", 1, ENDLESS, 1), ("two turns", 2, AB, 2)];
+
+#[test]
+fn reads_up_to_the_end_within_its_turns(rt: HostRuntime) -> Result<(), Fail> {
+    for case in &TURNS {
+        answers(&rt, rt.alloc(), Bytewise(b"ab".as_slice()), case)?;
+    }
+    for case in &SLICE_TURNS {
+        answers(&rt, rt.alloc(), b"ab".as_slice(), case)?;
+    }
+    answers(
+        &rt,
+        rt.alloc(),
+        Bytewise(Endless),
+        &("an endless reader", 1_000, ENDLESS, 1_000),
+    )?;
+    Ok(())
+}
+
+/// Bytes after which a read fails, and which read that is.
+const FAILURES: [(&[u8], Case); 4] = [
+    (b"", ("the first", MAX_TURNS, FAILED, 1)),
+    (b"a", ("the second", MAX_TURNS, FAILED, 2)),
+    (b"a\nb", ("in mid-stream", MAX_TURNS, FAILED, 4)),
+    (b"a\r", ("after a CR", MAX_TURNS, FAILED, 3)),
+];
+
+#[test]
+fn a_failed_read_is_the_last(rt: HostRuntime) -> Result<(), Fail> {
+    for (bytes, case) in &FAILURES {
+        answers_in(&rt, Bytewise(Failing(bytes)), case);
+        answers(&rt, rt.alloc(), Bytewise(Failing(bytes)), case)?;
+    }
+    Ok(())
+}
+
+/// Want of memory is passed up.
+fn with_memory(found: Outcome) -> Result<Outcome, AllocError> {
+    if found == Err(CensusFault::Memory) {
+        Err(AllocError)
+    } else {
+        Ok(found)
+    }
+}
+
 #[test]
 fn counts_a_slice_and_a_reader_of_std(rt: HostRuntime) -> Result<(), Fail> {
     let mut slice = b"a\r\nb\n".as_slice();
-    let found = count(rt.alloc(), &mut slice);
-    answers(&rt, "a slice", found, 0, TWO_LINES, 0)?;
+    let found = with_memory(count(rt.alloc(), &mut slice))?;
+    assert!(&rt; found == TWO_LINES && slice.is_empty());
     let mut reader = StdSource(b"a\r\nb\n".as_slice());
-    let found = count(rt.alloc(), &mut reader);
-    answers(&rt, "a reader of std", found, 0, TWO_LINES, 0)?;
-    assert!(&rt; (slice.len(), reader.0.len()) == (0, 0));
+    let found = with_memory(count(rt.alloc(), &mut reader))?;
+    assert!(&rt; found == TWO_LINES && reader.0.is_empty());
     Ok(())
 }
 
@@ -188,6 +195,6 @@ fn only_interrupted_reads_are_tried_again(rt: HostRuntime) {
             reads: 0,
         });
         let found = count_in(&mut buffer, &mut reader, 1_000);
-        says(&rt, name, found, reader.0.reads, *want, *reads);
+        assert!(&rt; found == *want && reader.0.reads == *reads, "{name}");
     }
 }

@@ -1,5 +1,7 @@
+ghost use Rattle.std.specs.Prelude.{◌≡◌, ◌<◌, length};
+
 use lc_census::trials::{Bytewise, Endless, Failing};
-use lc_census::{WholeFault, new_buffer, read_whole};
+use lc_census::{Source, WholeFault, new_buffer, read_whole};
 use std::alloc::AllocError;
 use std::process::Abort;
 use std::test::Fail;
@@ -36,69 +38,86 @@ const FAILING: &[Case] = &[
     ("one past it", b"abcd", 3, TOO_LONG, b"abcd"),
 ];
 
+// What is read of this reader, by a desk that others used before.
+fn check_whole<S: Source + Drop>(
+    rt: &impl Abort,
+    buffer: &mut [u8],
+    bytes: &mut Vec<u8>,
+    source: S,
+    wanted: &Case,
+) -> Result<(), AllocError>
+    requires { 0 < length buffer.old }
+    ensures { length buffer.new ≡ length buffer.old }
+{
+    let (name, _, limit, want, left) = *wanted;
+    let mut reader = source;
+    let found = read_whole(buffer, bytes, &mut reader, usize::from(limit));
+    if found == Err(WholeFault::Memory) {
+        return Err(AllocError);
+    }
+    assert!(rt; found == want && bytes.as_slice() == left, "{name}");
+    Ok(())
+}
+
 // One desk for all.
 #[test]
 fn reads_whole_up_to_the_limit(rt: HostRuntime) -> Result<(), Fail> {
     let mut buffer = [0u8; 3];
     let mut bytes = Vec::new(rt.alloc());
-    for (name, given, limit, want, left) in ENDING {
-        let mut reader = Bytewise(*given);
-        let found = read_whole(&mut buffer, &mut bytes, &mut reader, usize::from(*limit));
-        check_whole(&rt, name, found, *want, &bytes, left)?;
+    for case in ENDING {
+        check_whole(&rt, &mut buffer, &mut bytes, Bytewise(case.1), case)?;
     }
-    for (name, given, limit, want, left) in FAILING {
-        let mut reader = Bytewise(Failing(given));
-        let found = read_whole(&mut buffer, &mut bytes, &mut reader, usize::from(*limit));
-        check_whole(&rt, name, found, *want, &bytes, left)?;
+    for case in FAILING {
+        check_whole(
+            &rt,
+            &mut buffer,
+            &mut bytes,
+            Bytewise(Failing(case.1)),
+            case,
+        )?;
     }
-    let mut reader = Bytewise(Endless);
-    let found = read_whole(&mut buffer, &mut bytes, &mut reader, 3);
-    check_whole(&rt, "without an end", found, TOO_LONG, &bytes, b"xxxx")?;
+    check_whole(
+        &rt,
+        &mut buffer,
+        &mut bytes,
+        Bytewise(Endless),
+        &NEVER_ENDING,
+    )?;
     Ok(())
 }
 
-fn check_whole(
-    rt: &impl Abort,
-    name: &str,
-    found: Result<(), WholeFault>,
-    want: Result<(), WholeFault>,
-    bytes: &[u8],
-    left: &[u8],
-) -> Result<(), AllocError> {
-    if found == Err(WholeFault::Memory) {
-        return Err(AllocError);
-    }
-    assert!(rt; found == want, "{name}");
-    assert!(rt; bytes == left, "{name}");
-    Ok(())
-}
+const NEVER_ENDING: Case = ("without an end", b"", 3, TOO_LONG, b"xxxx");
 
-/// A limit, the answer, and the bytes that are left.
-const LIMITS: [(&str, usize, Result<(), WholeFault>, &[u8]); 3] = [
-    ("at the end", 8, Ok(()), b"*.o\n!a.o"),
-    ("a byte before it", 7, TOO_LONG, b"*.o\n!a.o"),
-    ("after a line", 4, TOO_LONG, b"*.o\n!"),
+// A slice, which a read gives as much of as there is room for.
+const PIECES: &[Case] = &[
+    ("at the end", b"*.o\n!a.o", 8, Ok(()), b"*.o\n!a.o"),
+    ("a byte before it", b"*.o\n!a.o", 7, TOO_LONG, b"*.o\n!a.o"),
+    ("after a line", b"*.o\n!a.o", 4, TOO_LONG, b"*.o\n!"),
 ];
 
 #[test]
 fn reads_a_slice_in_pieces(rt: HostRuntime) -> Result<(), Fail> {
     let mut buffer = [0u8; 3];
     let mut bytes = Vec::new(rt.alloc());
-    for (name, limit, want, left) in &LIMITS {
-        let mut reader = b"*.o\n!a.o".as_slice();
-        let found = read_whole(&mut buffer, &mut bytes, &mut reader, *limit);
-        check_whole(&rt, name, found, *want, &bytes, left)?;
+    for case in PIECES {
+        check_whole(&rt, &mut buffer, &mut bytes, case.1, case)?;
     }
     Ok(())
 }
+
+const BY_A_NEW_BUFFER: Case = ("a new buffer", b"*.o\n", 4, Ok(()), b"*.o\n");
 
 #[test]
 fn reads_by_a_new_buffer(rt: HostRuntime) -> Result<(), Fail> {
     let mut buffer = new_buffer(rt.alloc())?;
     assert!(&rt; buffer.len() == 65_536);
     let mut bytes = Vec::new(rt.alloc());
-    let mut reader = b"*.o\n".as_slice();
-    let found = read_whole(&mut buffer, &mut bytes, &mut reader, 4);
-    check_whole(&rt, "a new buffer", found, Ok(()), &bytes, b"*.o\n")?;
+    check_whole(
+        &rt,
+        &mut buffer,
+        &mut bytes,
+        BY_A_NEW_BUFFER.1,
+        &BY_A_NEW_BUFFER,
+    )?;
     Ok(())
 }

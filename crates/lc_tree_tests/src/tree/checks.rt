@@ -15,13 +15,20 @@ pub(super) type Listed<'a> = Result<Entries<'a>, ReadFault>;
 pub(super) type Given<'a> = Result<(&'a [u8], Result<(), WholeFault>), ReadFault>;
 
 pub(super) fn are_entries(listing: &Listing, wanted: Entries) -> bool {
-    listing.entries().len() == wanted.len()
-        && listing.entries().iter().zip(wanted).all(|(entry, (name, kind))| entry.name.as_slice()
-            == *name
-            && entry.kind == *kind)
+    let entries = listing.entries();
+    if entries.len() != wanted.len() {
+        return false;
+    }
+    for (entry, (name, kind)) in entries.iter().zip(wanted) {
+        if entry.name.as_slice() != *name || entry.kind != *kind {
+            return false;
+        }
+    }
+    true
 }
 
-fn check_listing<T: Tree>(
+/// A directory is listed so.
+pub(super) fn check_listing<T: Tree>(
     rt: &impl Abort,
     alloc: Global,
     tree: &T,
@@ -50,7 +57,8 @@ pub(super) fn check_listings<T: Tree>(
     Ok(())
 }
 
-fn check_file<T: Tree>(
+/// A file gives these bytes.
+pub(super) fn check_file<T: Tree>(
     rt: &impl Abort,
     alloc: Global,
     tree: &T,

@@ -15,94 +15,67 @@ fn listing(alloc: Global, given: Entries) -> Result<Result<Listing, ListingFault
     Ok(Listing::new(entries))
 }
 
-fn check_refused(
-    rt: &impl Abort,
-    alloc: Global,
-    cases: &[Entries],
-    fault: ListingFault,
-) -> Result<(), AllocError> {
-    for given in cases {
-        assert!(rt; listing(alloc, given)?.err() == Some(fault), "{given:?}");
-    }
-    Ok(())
-}
+/// The entries as they are given, and in order, or why they make no listing.
+type Case = (Entries<'static>, Result<Entries<'static>, ListingFault>);
 
-static BAD_NAMES: [Entries; 8] = [
-    &[(b"", Kind::File)],
-    &[(b".", Kind::Dir)],
-    &[(b"..", Kind::Dir)],
-    &[(b"x/y", Kind::File)],
-    &[(b"/", Kind::Dir)],
-    &[(b"x\0", Kind::File)],
-    &[(b"a", Kind::File), (b"b/", Kind::Dir)],
-    &[(b"", Kind::File), (b"a", Kind::Other)],
-];
+const BAD_NAME: Result<Entries<'static>, ListingFault> = Err(ListingFault::BadName);
 
-#[test]
-fn bad_names(rt: HostRuntime) -> Result<(), Fail> {
-    check_refused(&rt, rt.alloc(), &BAD_NAMES, ListingFault::BadName)?;
-    Ok(())
-}
+const TWICE: Result<Entries<'static>, ListingFault> = Err(ListingFault::Twice);
 
-static BAD_NAMES_TWICE: [Entries; 2] = [
-    &[(b"", Kind::File), (b"", Kind::File)],
-    &[(b"a", Kind::File), (b"a", Kind::File), (b"..", Kind::Dir)],
-];
-
-#[test]
-fn bad_name_goes_before_twice(rt: HostRuntime) -> Result<(), Fail> {
-    check_refused(&rt, rt.alloc(), &BAD_NAMES_TWICE, ListingFault::BadName)?;
-    Ok(())
-}
-
-static TWICE: [Entries; 3] = [
-    &[(b"a", Kind::File), (b"a", Kind::Dir)],
-    &[(b"a", Kind::File), (b"a", Kind::File)],
-    &[(b"b", Kind::File), (b"a", Kind::File), (b"b", Kind::Other)],
-];
-
-#[test]
-fn names_twice(rt: HostRuntime) -> Result<(), Fail> {
-    check_refused(&rt, rt.alloc(), &TWICE, ListingFault::Twice)?;
-    Ok(())
-}
-
-/// The entries as they are given, and in order.
-static ORDERED: [(Entries, Entries); 5] = [
-    (&[], &[]),
+static CASES: [Case; 18] = [
+    (&[(b"", Kind::File)], BAD_NAME),
+    (&[(b".", Kind::Dir)], BAD_NAME),
+    (&[(b"..", Kind::Dir)], BAD_NAME),
+    (&[(b"x/y", Kind::File)], BAD_NAME),
+    (&[(b"/", Kind::Dir)], BAD_NAME),
+    (&[(b"x\0", Kind::File)], BAD_NAME),
+    (&[(b"a", Kind::File), (b"b/", Kind::Dir)], BAD_NAME),
+    (&[(b"", Kind::File), (b"a", Kind::Other)], BAD_NAME),
+    // A bad name goes before a name that stands twice.
+    (&[(b"", Kind::File), (b"", Kind::File)], BAD_NAME),
+    (
+        &[(b"a", Kind::File), (b"a", Kind::File), (b"..", Kind::Dir)],
+        BAD_NAME,
+    ),
+    (&[(b"a", Kind::File), (b"a", Kind::Dir)], TWICE),
+    (&[(b"a", Kind::File), (b"a", Kind::File)], TWICE),
+    (
+        &[(b"b", Kind::File), (b"a", Kind::File), (b"b", Kind::Other)],
+        TWICE,
+    ),
+    (&[], Ok(&[])),
     (
         &[(b"b", Kind::File), (b"a", Kind::Dir)],
-        &[(b"a", Kind::Dir), (b"b", Kind::File)],
+        Ok(&[(b"a", Kind::Dir), (b"b", Kind::File)]),
     ),
     (
         &[(b"ab", Kind::Other), (b"a", Kind::File)],
-        &[(b"a", Kind::File), (b"ab", Kind::Other)],
+        Ok(&[(b"a", Kind::File), (b"ab", Kind::Other)]),
     ),
     (
         &[(b"\xFF", Kind::File), (b"z", Kind::File)],
-        &[(b"z", Kind::File), (b"\xFF", Kind::File)],
+        Ok(&[(b"z", Kind::File), (b"\xFF", Kind::File)]),
     ),
     (
         &[(b"...", Kind::File), (b".a", Kind::File)],
-        &[(b"...", Kind::File), (b".a", Kind::File)],
+        Ok(&[(b"...", Kind::File), (b".a", Kind::File)]),
     ),
 ];
 
-fn check_order(
-    rt: &impl Abort,
-    alloc: Global,
-    cases: &[(Entries, Entries)],
-) -> Result<(), AllocError> {
-    for (given, wanted) in cases {
-        let found = listing(alloc, given)?;
-        let same = found.is_ok_and(|listing| are_entries(&listing, wanted));
-        assert!(rt; same, "{given:?}");
-    }
+fn check(rt: &impl Abort, alloc: Global, case: &Case) -> Result<(), AllocError> {
+    let (given, wanted) = *case;
+    let same = match (listing(alloc, given)?, wanted) {
+        (Ok(listing), Ok(wanted)) => are_entries(&listing, wanted),
+        (listing, wanted) => listing.err() == wanted.err(),
+    };
+    assert!(rt; same, "{given:?}");
     Ok(())
 }
 
 #[test]
-fn entries_by_names_bytes(rt: HostRuntime) -> Result<(), Fail> {
-    check_order(&rt, rt.alloc(), &ORDERED)?;
+fn entries_make_listings(rt: HostRuntime) -> Result<(), Fail> {
+    for case in &CASES {
+        check(&rt, rt.alloc(), case)?;
+    }
     Ok(())
 }

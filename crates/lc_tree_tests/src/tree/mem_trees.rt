@@ -2,52 +2,32 @@
 
 use crate::tree::checks::{Entries, Given, Listed, check_files, check_listings};
 use lc_census::WholeFault;
-use lc_tree::{Kind, MemTree, Node, ReadFault};
-use std::alloc::{AllocError, Global};
+use lc_tree::{Kind, MemTree, Node, ReadFault, Sketch};
+use std::alloc::Global;
+use std::process::Abort;
 use std::test::Fail;
 
-type Children = Vec<(Vec<u8>, Node)>;
-
-fn add(alloc: Global, children: &mut Children, name: &[u8], node: Node) -> Result<(), AllocError> {
-    children.push((name.to_vec(alloc)?, node))?;
-    Ok(())
-}
-
-/// A directory with a node of each kind.
-fn all_kinds(alloc: Global) -> Result<Node, AllocError> {
-    let mut all = Vec::new(alloc);
-    add(alloc, &mut all, b"other", Node::Other)?;
-    add(alloc, &mut all, b"closed", Node::Closed)?;
-    add(
-        alloc,
-        &mut all,
-        b"failing",
-        Node::Failing(b"xyz".to_vec(alloc)?),
-    )?;
-    add(
-        alloc,
-        &mut all,
-        b"file",
-        Node::File(b"one\ntwo".to_vec(alloc)?),
-    )?;
-    add(alloc, &mut all, b"empty", Node::File(Vec::new(alloc)))?;
-    Ok(Node::Dir(all))
-}
-
-/// That directory, one in which a name stands twice, and one with a bad name twice.
-fn tree(alloc: Global) -> Result<Node, AllocError> {
-    let mut twice = Vec::new(alloc);
-    add(alloc, &mut twice, b"x", Node::Failing(Vec::new(alloc)))?;
-    add(alloc, &mut twice, b"x", Node::Closed)?;
-    let mut bad = Vec::new(alloc);
-    add(alloc, &mut bad, b"..", Node::Other)?;
-    add(alloc, &mut bad, b"..", Node::Other)?;
-    let mut top = Vec::new(alloc);
-    add(alloc, &mut top, b"twice", Node::Dir(twice))?;
-    add(alloc, &mut top, b"bad", Node::Dir(bad))?;
-    add(alloc, &mut top, b"all", all_kinds(alloc)?)?;
-    Ok(Node::Dir(top))
-}
+/// A directory with a node of each kind, one in which a name stands twice, and one with a bad name twice.
+const NODES: Sketch = Sketch::Dir(&[
+    (
+        b"twice",
+        Sketch::Dir(&[(b"x", Sketch::Failing(b"")), (b"x", Sketch::Closed)]),
+    ),
+    (
+        b"bad",
+        Sketch::Dir(&[(b"..", Sketch::Other), (b"..", Sketch::Other)]),
+    ),
+    (
+        b"all",
+        Sketch::Dir(&[
+            (b"other", Sketch::Other),
+            (b"closed", Sketch::Closed),
+            (b"failing", Sketch::Failing(b"xyz")),
+            (b"file", Sketch::File(b"one\ntwo")),
+            (b"empty", Sketch::File(b"")),
+        ]),
+    ),
+]);
 
 const TOP: Entries = &[
     (b"all", Kind::Dir),
@@ -63,7 +43,7 @@ const ALL: Entries = &[
     (b"other", Kind::Other),
 ];
 
-static DIRECTORIES: [(&[u8], Listed); 13] = [
+const DIRECTORIES: &[(&[u8], Listed)] = &[
     (b"", Ok(TOP)),
     (b"all", Ok(ALL)),
     (b"twice", Err(ReadFault::Twice)),
@@ -79,31 +59,7 @@ static DIRECTORIES: [(&[u8], Listed); 13] = [
     (b"al", Err(ReadFault::Failed)),
 ];
 
-#[test]
-fn directories_are_listed(rt: HostRuntime) -> Result<(), Fail> {
-    let node = tree(rt.alloc())?;
-    check_listings(&rt, rt.alloc(), &MemTree::new(&node), &DIRECTORIES)?;
-    Ok(())
-}
-
-static NOT_LISTED: [(&[u8], Listed); 1] = [(b"", Err(ReadFault::Failed))];
-
-#[test]
-fn tops_of_other_kinds_are_not_listed(rt: HostRuntime) -> Result<(), Fail> {
-    let alloc = rt.alloc();
-    let tops = [
-        Node::Closed,
-        Node::Other,
-        Node::File(Vec::new(alloc)),
-        Node::Failing(Vec::new(alloc)),
-    ];
-    for top in &tops {
-        check_listings(&rt, alloc, &MemTree::new(top), &NOT_LISTED)?;
-    }
-    Ok(())
-}
-
-static FILES: [(&[u8], Given); 9] = [
+const FILES: &[(&[u8], Given)] = &[
     (b"all/file", Ok((b"one\ntwo", Ok(())))),
     (b"all/empty", Ok((b"", Ok(())))),
     (b"all/failing", Ok((b"xyz", Err(WholeFault::Read)))),
@@ -115,18 +71,37 @@ static FILES: [(&[u8], Given); 9] = [
     (b"", Err(ReadFault::Failed)),
 ];
 
-#[test]
-fn files_give_their_bytes(rt: HostRuntime) -> Result<(), Fail> {
-    let node = tree(rt.alloc())?;
-    check_files(&rt, rt.alloc(), &MemTree::new(&node), &FILES)?;
-    Ok(())
+const NOT_LISTED: &[(&[u8], Listed)] = &[(b"", Err(ReadFault::Failed))];
+
+const TOP_FILE: &[(&[u8], Given)] = &[(b"", Ok((b"top", Ok(()))))];
+
+/// A tree, what directories of it give, and what files.
+type Case = (
+    Sketch<'static>,
+    &'static [(&'static [u8], Listed<'static>)],
+    &'static [(&'static [u8], Given<'static>)],
+);
+
+static CASES: [Case; 6] = [
+    (NODES, DIRECTORIES, FILES),
+    (Sketch::Closed, NOT_LISTED, &[]),
+    (Sketch::Other, NOT_LISTED, &[]),
+    (Sketch::File(b""), NOT_LISTED, &[]),
+    (Sketch::Failing(b""), NOT_LISTED, &[]),
+    (Sketch::File(b"top"), &[], TOP_FILE),
+];
+
+fn check(rt: &impl Abort, alloc: Global, node: &Node, case: &Case) -> Result<(), ReadFault> {
+    let tree = MemTree::new(node);
+    check_listings(rt, alloc, &tree, case.1)?;
+    check_files(rt, alloc, &tree, case.2)
 }
 
-static TOP_FILE: [(&[u8], Given); 1] = [(b"", Ok((b"top", Ok(()))))];
-
 #[test]
-fn top_may_be_a_file(rt: HostRuntime) -> Result<(), Fail> {
-    let top = Node::File(b"top".to_vec(rt.alloc())?);
-    check_files(&rt, rt.alloc(), &MemTree::new(&top), &TOP_FILE)?;
+fn nodes_are_listed_and_opened(rt: HostRuntime) -> Result<(), Fail> {
+    for case in &CASES {
+        let node = case.0.node(rt.alloc())?;
+        check(&rt, rt.alloc(), &node, case)?;
+    }
     Ok(())
 }

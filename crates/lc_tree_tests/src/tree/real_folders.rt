@@ -1,34 +1,28 @@
-//! What folders of the system give.
+//! What folders of the system give, also where signals interrupt its calls.
 
-use crate::tree::checks::{Entries, Given, Listed, check_files, check_listings};
+use crate::tree::checks::{
+    Entries, Given, Listed, check_file, check_files, check_listing, check_listings,
+};
+use crate::tree::system::{Signals, System};
 use lc_census::WholeFault;
 use lc_tree::{Kind, ReadFault, SysTree};
-use std::alloc::Global;
 use std::os::unix::fs::symlink;
 use std::process::Abort;
-use std::rt::Files;
+use std::sync::atomic::{AtomicU64, Ordering};
 use std::test::Fail;
 use std::{fs, io};
 
-fn write(rt: &HostRuntime, dir: &str, name: &str, bytes: &[u8]) -> io::Result<()> {
-    let path = format!(in rt.alloc(); "{dir}/{name}")?;
-    fs::write(rt, path.as_str(), bytes)
-}
-
-fn link(rt: &HostRuntime, dir: &str, name: &str, to: &str) -> io::Result<()> {
-    let path = format!(in rt.alloc(); "{dir}/{name}")?;
-    symlink(rt, to, path.as_str())
-}
+const FOLDER: &str = "lc_tree_folder";
 
 /// A folder with a file, a directory with a file, a link to each, and one to nothing.
-pub(super) fn make_folder(rt: &HostRuntime, dir: &str) -> io::Result<()> {
-    let _ = fs::remove_dir_all(rt, dir);
-    fs::create_dir_all(rt, format!(in rt.alloc(); "{dir}/b")?.as_str())?;
-    write(rt, dir, "a", b"one\n")?;
-    write(rt, dir, "b/c", b"")?;
-    link(rt, dir, "to_a", "a")?;
-    link(rt, dir, "to_b", "b")?;
-    link(rt, dir, "to_nothing", "missing")
+fn make_folder(rt: &HostRuntime) -> io::Result<()> {
+    let _ = fs::remove_dir_all(rt, FOLDER);
+    fs::create_dir_all(rt, "lc_tree_folder/b")?;
+    fs::write(rt, "lc_tree_folder/a", b"one\n")?;
+    fs::write(rt, "lc_tree_folder/b/c", b"")?;
+    symlink(rt, "a", "lc_tree_folder/to_a")?;
+    symlink(rt, "b", "lc_tree_folder/to_b")?;
+    symlink(rt, "missing", "lc_tree_folder/to_nothing")
 }
 
 static FILES: [(&[u8], Given); 5] = [
@@ -39,17 +33,7 @@ static FILES: [(&[u8], Given); 5] = [
     (b"a/\xFF", Err(ReadFault::Failed)),
 ];
 
-#[test]
-fn files_are_opened(rt: HostRuntime) -> Result<(), Fail> {
-    let dir = "lc_tree_files";
-    make_folder(&rt, dir)?;
-    let tree = SysTree::new(&rt, rt.alloc(), dir)?;
-    check_files(&rt, rt.alloc(), &tree, &FILES)?;
-    fs::remove_dir_all(&rt, dir)?;
-    Ok(())
-}
-
-pub(super) const TOP: Entries = &[
+const TOP: Entries = &[
     (b"a", Kind::File),
     (b"b", Kind::Dir),
     (b"to_a", Kind::Other),
@@ -66,40 +50,69 @@ static FOLDERS: [(&[u8], Listed); 6] = [
     (b"b/\xFF", Err(ReadFault::Failed)),
 ];
 
-#[test]
-fn folders_are_listed(rt: HostRuntime) -> Result<(), Fail> {
-    let dir = "lc_tree_folder";
-    make_folder(&rt, dir)?;
-    let tree = SysTree::new(&rt, rt.alloc(), dir)?;
-    check_listings(&rt, rt.alloc(), &tree, &FOLDERS)?;
-    fs::remove_dir_all(&rt, dir)?;
-    Ok(())
+fn check_folder(rt: &impl Abort, host: &HostRuntime) -> Result<(), ReadFault> {
+    let tree = SysTree::new(host, host.alloc(), FOLDER)?;
+    check_files(rt, host.alloc(), &tree, &FILES)?;
+    check_listings(rt, host.alloc(), &tree, &FOLDERS)
 }
 
-static TOPS: [(&str, &[(&[u8], Listed)]); 5] = [
-    ("lc_tree_tops/to_b", &[(b"", Ok(&[(b"c", Kind::File)]))]),
-    ("", &[(b"", Err(ReadFault::Failed))]),
-    ("lc_tree_tops/a", &[(b"", Err(ReadFault::Failed))]),
-    ("lc_tree_tops/missing", &[(b"", Err(ReadFault::Failed))]),
-    ("a\0", &[(b"", Err(ReadFault::Failed))]),
+/// A link is followed where it is the top.
+static TOPS: [(&str, Listed); 5] = [
+    ("lc_tree_folder/to_b", Ok(&[(b"c", Kind::File)])),
+    ("", Err(ReadFault::Failed)),
+    ("lc_tree_folder/a", Err(ReadFault::Failed)),
+    ("lc_tree_folder/missing", Err(ReadFault::Failed)),
+    ("a\0", Err(ReadFault::Failed)),
 ];
 
-fn check_tops<R: Files + Sync + Abort>(rt: &R, alloc: Global) -> Result<(), ReadFault>
-where
-    R::File: Send,
-    R::Dir: Send,
-{
-    for (top, wanted) in &TOPS {
-        let tree = SysTree::new(rt, alloc, top)?;
-        check_listings(rt, alloc, &tree, wanted)?;
-    }
-    Ok(())
+fn check_top(
+    rt: &impl Abort,
+    host: &HostRuntime,
+    top: &str,
+    wanted: Listed,
+) -> Result<(), ReadFault> {
+    let tree = SysTree::new(host, host.alloc(), top)?;
+    check_listing(rt, host.alloc(), &tree, b"", wanted)
+}
+
+/// Each how many-th call is not interrupted, and what the folder and its file then give. Tries of interrupted calls end.
+static PERIODS: [(u64, Listed, Given); 4] = [
+    (1, Ok(TOP), Ok((b"one\n", Ok(())))),
+    (2, Ok(TOP), Ok((b"one\n", Ok(())))),
+    (65_536, Ok(TOP), Ok((b"one\n", Ok(())))),
+    (65_537, Err(ReadFault::Failed), Err(ReadFault::Failed)),
+];
+
+fn check_period(
+    rt: &impl Abort,
+    host: &HostRuntime,
+    case: &(u64, Listed, Given),
+) -> Result<(), ReadFault> {
+    let signals = Signals {
+        calls: AtomicU64::new(0),
+        period: case.0,
+    };
+    let system = System {
+        host,
+        given: None,
+        signals: &signals,
+    };
+    let tree = SysTree::new(&system, host.alloc(), FOLDER)?;
+    check_listing(rt, host.alloc(), &tree, b"", case.1)?;
+    signals.calls.store(0, Ordering::SeqCst);
+    check_file(rt, host.alloc(), &tree, b"a", case.2)
 }
 
 #[test]
-fn tops_are_followed_where_they_are_links(rt: HostRuntime) -> Result<(), Fail> {
-    make_folder(&rt, "lc_tree_tops")?;
-    check_tops(&rt, rt.alloc())?;
-    fs::remove_dir_all(&rt, "lc_tree_tops")?;
+fn folders_are_listed_and_files_opened(rt: HostRuntime) -> Result<(), Fail> {
+    make_folder(&rt)?;
+    check_folder(&rt, &rt)?;
+    for (top, wanted) in &TOPS {
+        check_top(&rt, &rt, top, *wanted)?;
+    }
+    for case in &PERIODS {
+        check_period(&rt, &rt, case)?;
+    }
+    fs::remove_dir_all(&rt, FOLDER)?;
     Ok(())
 }

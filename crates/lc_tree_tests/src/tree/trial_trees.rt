@@ -2,7 +2,7 @@
 
 use lc_census::Source;
 use lc_tree::trials::{BytewiseTree, FailingCall, FailingTree};
-use lc_tree::{MemTree, ReadFault, Sketch, Tree};
+use lc_tree::{MemTree, Node, ReadFault, Sketch, Tree};
 use std::alloc::Global;
 use std::process::Abort;
 use std::test::Fail;
@@ -27,6 +27,17 @@ fn ask<T: Tree>(alloc: Global, tree: &T) -> Result<Answered, ReadFault> {
     Ok([listed, Some(0), first, second])
 }
 
+fn check<T: Tree>(
+    rt: &impl Abort,
+    alloc: Global,
+    tree: &T,
+    wanted: &Answered,
+) -> Result<(), ReadFault> {
+    let answered = ask(alloc, tree)?;
+    assert!(rt; answered == *wanted, "{answered:?}");
+    Ok(())
+}
+
 /// The place of the call that fails, what is answered, and how many calls are begun.
 const FAILING: [(u64, Answered, u64); 5] = [
     (0, [None, Some(0), Some(2), Some(1)], 4),
@@ -36,28 +47,35 @@ const FAILING: [(u64, Answered, u64); 5] = [
     (4, [Some(1), Some(0), Some(2), Some(1)], 4),
 ];
 
-fn check_failing(rt: &impl Abort, alloc: Global, tree: &MemTree) -> Result<(), ReadFault> {
-    for (place, wanted, begun) in FAILING {
-        let call = FailingCall::new(place);
-        let failing = FailingTree { tree, call: &call };
-        let same = ask(alloc, &failing)? == wanted && call.begun() == begun;
-        assert!(rt; same, "{place}");
+fn check_failing(rt: &impl Abort, alloc: Global, node: &Node) -> Result<(), ReadFault> {
+    let tree = MemTree::new(node);
+    for (place, wanted, begun) in &FAILING {
+        let call = FailingCall::new(*place);
+        check(
+            rt,
+            alloc,
+            &FailingTree {
+                tree: &tree,
+                call: &call,
+            },
+            wanted,
+        )?;
+        assert!(rt; call.begun() == *begun, "{place}");
     }
     Ok(())
 }
 
-#[test]
-fn one_call_fails(rt: HostRuntime) -> Result<(), Fail> {
-    let node = TOP.node(rt.alloc())?;
-    check_failing(&rt, rt.alloc(), &MemTree::new(&node))?;
-    Ok(())
-}
+const BYTEWISE: Answered = [Some(1), Some(0), Some(1), Some(1)];
 
 #[test]
-fn files_give_a_byte_a_read(rt: HostRuntime) -> Result<(), Fail> {
+fn one_call_fails_and_reads_give_a_byte(rt: HostRuntime) -> Result<(), Fail> {
     let node = TOP.node(rt.alloc())?;
-    let tree = BytewiseTree(MemTree::new(&node));
-    let answered = ask(rt.alloc(), &tree)?;
-    assert!(rt; answered == [Some(1), Some(0), Some(1), Some(1)]);
+    check_failing(&rt, rt.alloc(), &node)?;
+    check(
+        &rt,
+        rt.alloc(),
+        &BytewiseTree(MemTree::new(&node)),
+        &BYTEWISE,
+    )?;
     Ok(())
 }

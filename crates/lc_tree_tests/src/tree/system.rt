@@ -1,0 +1,156 @@
+//! A system whose calls are interrupted, and whose directories may give other names.
+ghost use Rattle.std.specs.Io.{ReadsAtMost};
+
+use std::alloc::Allocator;
+use std::fs::{File, Metadata, OpenOptions};
+use std::io::{Error, ErrorKind, Read, Result as IoResult};
+use std::rt::Files;
+use std::sync::atomic::{AtomicU64, Ordering};
+
+/// The answers of the reads of a directory, in turn: names, or a failure.
+pub(super) type Reads = &'static [Option<&'static [u8]>];
+
+/// Interrupts all calls but each so many-th.
+#[derive(Drop)]
+pub(super) struct Signals {
+    pub calls: AtomicU64,
+    pub period: u64,
+}
+
+impl Signals {
+    fn call(&self) -> IoResult<()> {
+        let before = self.calls.fetch_add(1, Ordering::SeqCst);
+        if before.wrapping_add(1) % self.period.max(1) == 0 {
+            Ok(())
+        } else {
+            Err(Error::from(ErrorKind::Interrupted))
+        }
+    }
+}
+
+/// The files of the host. Where reads are given, its one directory is `top/`, and what stands under a name there is told by its
+/// first byte: `f`, `d` and `l` are a file, a directory and a symbolic link, a name with `g` is gone, and others are not told.
+#[derive(Drop)]
+pub(super) struct System<'a> {
+    pub host: &'a HostRuntime,
+    pub given: Option<Reads>,
+    pub signals: &'a Signals,
+}
+
+/// The names of a directory: the host's, or those that are given.
+#[derive(Drop)]
+pub(super) enum Source {
+    Host(<HostRuntime as Files>::Dir),
+    Given(Reads),
+}
+
+#[derive(Drop)]
+pub(super) struct Names<'a> {
+    source: Source,
+    at: usize,
+    signals: &'a Signals,
+}
+
+/// What the read at this place gives, of those that are given.
+fn read_given(reads: Reads, at: usize, buffer: &mut [u8]) -> IoResult<usize>
+    ensures { ReadsAtMost result buffer.new }
+{
+    if at >= reads.len() {
+        return Ok(0);
+    }
+    let Some(names) = reads[at] else {
+        return Err(Error::from(ErrorKind::Other));
+    };
+    let len = names.len().min(buffer.len());
+    buffer[..len].copy_from_slice(&names[..len]);
+    Ok(len)
+}
+
+impl Read for Names<'_> {
+    fn read(&mut self, buffer: &mut [u8]) -> IoResult<usize> {
+        self.signals.call()?;
+        let at = self.at;
+        self.at = at.saturating_add(1);
+        match &mut self.source {
+            Source::Host(dir) => dir.read(buffer),
+            Source::Given(reads) => read_given(*reads, at, buffer),
+        }
+    }
+}
+
+fn unsupported<T>() -> IoResult<T> {
+    Err(Error::from(ErrorKind::Unsupported))
+}
+
+/// What stands at a path of the directory whose names are given.
+fn told_of(path: &str) -> IoResult<Metadata> {
+    match path.as_bytes() {
+        [b't', b'o', b'p', b'/', b'f', ..] => Ok(Metadata::of_file(1)),
+        [b't', b'o', b'p', b'/', b'd', ..] => Ok(Metadata::of_dir()),
+        [b't', b'o', b'p', b'/', b'l', ..] => Ok(Metadata::of_symlink(1)),
+        [b't', b'o', b'p', b'/', b'g', ..] => Err(Error::from(ErrorKind::NotFound)),
+        _ => Err(Error::from(ErrorKind::PermissionDenied)),
+    }
+}
+
+impl<'a> Files for System<'a> {
+    type File = File;
+
+    type Dir = Names<'a>;
+
+    fn open_file(&self, how: &OpenOptions, path: &str) -> IoResult<File> {
+        self.signals.call()?;
+        self.host.open_file(how, path)
+    }
+
+    fn open_dir(&self, path: &str) -> IoResult<Names<'a>> {
+        self.signals.call()?;
+        let source = match self.given {
+            None => Source::Host(self.host.open_dir(path)?),
+            Some(reads) if path == "top/" => Source::Given(reads),
+            Some(_) => return Err(Error::from(ErrorKind::NotFound)),
+        };
+        Ok(Names {
+            source,
+            at: 0,
+            signals: self.signals,
+        })
+    }
+
+    fn metadata(&self, _path: &str) -> IoResult<Metadata> {
+        unsupported()
+    }
+
+    fn symlink_metadata(&self, path: &str) -> IoResult<Metadata> {
+        self.signals.call()?;
+        if self.given.is_some() {
+            told_of(path)
+        } else {
+            self.host.symlink_metadata(path)
+        }
+    }
+
+    fn copy(&self, _from: &str, _to: &str) -> IoResult<u64> {
+        unsupported()
+    }
+
+    fn rename(&self, _from: &str, _to: &str) -> IoResult<()> {
+        unsupported()
+    }
+
+    fn remove_file(&self, _path: &str) -> IoResult<()> {
+        unsupported()
+    }
+
+    fn create_dir(&self, _path: &str) -> IoResult<()> {
+        unsupported()
+    }
+
+    fn remove_dir(&self, _path: &str) -> IoResult<()> {
+        unsupported()
+    }
+
+    fn remove_dir_all<B: Allocator>(&self, _alloc: B, _path: &str) -> IoResult<()> {
+        unsupported()
+    }
+}
