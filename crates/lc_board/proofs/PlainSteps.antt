@@ -207,7 +207,8 @@ module _ {J R : Type 0} where
     pub handed : (e : Ended R) → o ≡ Some e → job_got h k ≡ job_posted root h k
     pub shown : Shows (status h k) o
 
-  ends : (root : J) (h : List (Event J R)) (k : ℕ) (o : Option (Ended R)) → IsCellOf {R = R} root h k (option_map cell_of o) → Ends root h k o
+  ends : (root : J) (h : List (Event J R)) (k : ℕ) (o : Option (Ended R)) → IsCellOf {R = R} root h k (option_map cell_of o)
+      → Ends root h k o
   ends root h k None f = record {
     over = over_by _ Absent f.0 (λ e. absurd (cc e)) (λ w e. absurd (cc e));
     given = sym f.2;

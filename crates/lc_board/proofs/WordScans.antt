@@ -9,7 +9,8 @@ use Rattle.lc_board.specs.State.{Status, Absent, Open, status}
 use Rattle.lc_board.specs.LegalHistory.{IsLegal}
 use Rattle.lc_board.specs.Holding.{holding}
 use Rattle.lc_board.specs.Growth.{GoesOn, rank}
-use Rattle.lc_board.specs.WordSteps.{EndsAt, IsFair, AddsEvent, ExtendsFairly, Extends, OthersHeld, Waits, SomeHolds, Finds, HasLooked, low_after}
+use Rattle.lc_board.specs.WordSteps.{EndsAt, IsFair, AddsEvent, ExtendsFairly, Extends}
+use Rattle.lc_board.specs.WordSteps.{OthersHeld, Waits, SomeHolds, Finds, HasLooked, low_after}
 use Rattle.lc_board.specs.WordSteps.{is_last_word, last_look}
 use Rattle.lc_board.specs.WordCode.{is_absent, is_open, has_ended, is_busy}
 use Rattle.lc_board.specs.WordMarks.{AnswersLow, HasPassed}
@@ -305,7 +306,8 @@ module _ {J R : Type 0} where
   answer_low cap v u w h answer.Later who p x = let l = x.1 in let o = x.2 in let sees = sees_trans v u w p.0 (l.0, l.1) in (
     x.0,
     waits cap v w (sees, λ k near there. stays_taken cap u w k l.0 l.2 (p.1 k near there)) l.2
-        (λ k far. was_absent cap w.workers v w k l.2.0 sees.0 (x.3 k far)) (o.0, o.1, o.2, goes_trans o.0 u.seen v.seen o.3 p.0.0, o.4, o.5, o.6),
+        (λ k far. was_absent cap w.workers v w k l.2.0 sees.0 (x.3 k far))
+        (o.0, o.1, o.2, goes_trans o.0 u.seen v.seen o.3 p.0.0, o.4, o.5, o.6),
   )
   answer_low cap v u w h answer.Over who p x =
       (x.0, subst (λ z. AddsEvent cap v (Over z) w) who (sees_adds cap v u w (Over u.worker) p.0 x.1))
@@ -360,7 +362,8 @@ module _ {J R : Type 0} where
         again (last_look cap i u.low x) (last_look cap i v.low x) (ap (λ z. last_look cap i z x) low) (l.0, l.1) m.0.3 n.7,
       )
     where
-      again : (a b : Bool) → a ≡ b → Extends v u → u.worker ≡ v.worker → MatchBool a (AddsEvent cap u (Over u.worker) w) (ExtendsFairly cap u w)
+      again : (a b : Bool) → a ≡ b → Extends v u → u.worker ≡ v.worker
+          → MatchBool a (AddsEvent cap u (Over u.worker) w) (ExtendsFairly cap u w)
           → MatchBool b (AddsEvent cap v (Over v.worker) w) (ExtendsFairly cap v w)
       again true true e s who x = subst (λ z. AddsEvent cap v (Over z) w) who (sees_adds cap v u w (Over u.worker) s x)
       again true false e s who x = absurd cc

@@ -275,7 +275,8 @@ module _ (J R : Type 0) (root : J) (workers n : ℕ) (some_worker : 0 < workers)
         each_seat = first_seats;
       }
     where
-      first_seat : Knows (Some root) workers [] first_faces (put (λ _. None) 0 (Some 0)) 0 (view_before_split {J = J} {R = R} (Some root) workers)
+      first_seat : Knows (Some root) workers [] first_faces (put (λ _. None) 0 (Some 0)) 0
+          (view_before_split {J = J} {R = R} (Some root) workers)
       first_seat = record {
         root_is = refl;
         workers_are = refl;

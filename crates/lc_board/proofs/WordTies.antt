@@ -9,7 +9,8 @@ use Rattle.lc_board.specs.Holding.{holding, posted}
 use Rattle.lc_board.specs.WordCode.{word_of, is_absent, is_open}
 use Rattle.lc_board.specs.WordRow.{Seated}
 use Rattle.lc_board.specs.declared.words.coding.Word.{Word}
-use Rattle.lc_board.specs.WordSteps.{AddsEvent, ExtendsFairly, HasLooked, low_after, last_look, Leaves, looked, TakesJob, claimed, TriesDraw}
+use Rattle.lc_board.specs.WordSteps.{AddsEvent, ExtendsFairly, HasLooked, low_after, last_look}
+use Rattle.lc_board.specs.WordSteps.{Leaves, looked, TakesJob, claimed, TriesDraw}
 use Rattle.lc_board.specs.WordSteps.{Opens, stepped_over}
 use Rattle.lc_board.specs.WordPass.{IsTied, kind, tag, tags_as, carried_as}
 use Rattle.lc_board.specs.declared.event.Event.{Event}

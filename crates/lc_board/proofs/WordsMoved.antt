@@ -210,7 +210,8 @@ module _ {J R : Type 0} where
 
   -- what lies at a home stays where nothing of its number moves
   pub lies_stay : (root : Option J) (h h' : List (Event J R)) (hs hs' : Homes J R) (k : ℕ) → get_elem? hs' k ≡ get_elem? hs k
-      → job_at root h' k ≡ job_at root h k → row_given h' k ≡ row_given h k → (c : Word) → SlotHolds root h hs k c → SlotHolds root h' hs' k c
+      → job_at root h' k ≡ job_at root h k → row_given h' k ≡ row_given h k → (c : Word) → SlotHolds root h hs k c
+      → SlotHolds root h' hs' k c
   lies_stay root h h' hs hs' k a b d (word.Drawn w) l = tt
   lies_stay root h h' hs hs' k a b d word.Absent l = a ∙ l
   lies_stay root h h' hs hs' k a b d word.Open l = (l.0, a ∙ l.1, b ∙ l.2)

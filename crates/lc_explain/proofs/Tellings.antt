@@ -1,9 +1,9 @@
 -- The text of explanations, line by line.
 use Rattle.std.proofs.Common.{◌≡◌, ℕ, Bool, true, false, ◌||◌, cond, if◌then◌else◌, List, [], ◌∷◌, ◌++◌, refl, sym, ◌∙◌, ap}
-use Rattle.std.proofs.Common.{append_assoc, append-nil}
+use Rattle.std.proofs.Common.{append_assoc, append-nil, ◌+◌, ◌<◌, length, get_or, take, map, Bor}
 use Rattle.std.specs.List.{AllByRecursion}
 use Rattle.std.proofs.lemmas.Grind.{flat_map-append}
-use Rattle.std.proofs.lemmas.List.{map-append}
+use Rattle.std.proofs.lemmas.List.{map-append, take_more}
 use Rattle.std.proofs.lemmas.List.Folds.{list_any-append}
 use Rattle.lc_text.specs.Lines.{input_lines_of}
 use Rattle.lc_text.specs.PathLines.{path_of, is_dir_line}
@@ -65,3 +65,12 @@ line_done done all rest line others is split =
 -- where nothing is left of the input all its lines are done
 pub lines_done : (done all : List (List ℕ)) (rest : List ℕ) → done ++ input_lines_of rest ≡ all → rest ≡ [] → done ≡ all
 lines_done done all rest is none = sym (append-nil done) ∙ ap (λ (l : List ℕ). done ++ input_lines_of l) (sym none) ∙ is
+
+-- the words so far, and one more
+pub words_more : (words : List (Bor (List ℕ))) (i : ℕ) (d : Bor (List ℕ)) (line : List ℕ) → i < length words
+    → line ≡ (get_or words i d).now
+    → map (λ (w : Bor (List ℕ)). w.now) (take i words) ++ line ∷ [] ≡ map (λ (w : Bor (List ℕ)). w.now) (take (i + 1) words)
+words_more words i d line within is =
+    ap (λ (l : List ℕ). map (λ (w : Bor (List ℕ)). w.now) (take i words) ++ l ∷ []) is
+    ∙ sym (map-append (λ (w : Bor (List ℕ)). w.now) (take i words) (get_or words i d ∷ []))
+    ∙ ap (map (λ (w : Bor (List ℕ)). w.now)) (sym (take_more words i d within))

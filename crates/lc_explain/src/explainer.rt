@@ -108,11 +108,14 @@ impl<'t, T: Tree> Explainer<'t, T> {
                 })?;
                 Ok(None)
             }
-            Err(OpenFault::Faulted(site, word)) => Ok(Some(DirectoryFault {
-                directory,
-                site,
-                word,
-            })),
+            Err(OpenFault::Faulted(site, word)) => {
+                let fault = DirectoryFault {
+                    directory,
+                    site,
+                    word,
+                };
+                Ok(Some(fault))
+            }
             Err(OpenFault::Broken(_)) => Err(AllocError),
         }
     }

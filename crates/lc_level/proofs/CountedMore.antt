@@ -1,5 +1,5 @@
 -- Counting goes on, name by name.
-use Rattle.std.proofs.Common.{◌≡◌, ℕ, List, [], ◌∷◌, ◌++◌, refl, sym, ◌∙◌, ap, subst, Result, Ok, Err, Vec, append-nil, append_assoc}
+use Rattle.std.proofs.Common.{◌≡◌, false, codes, ℕ, List, [], ◌∷◌, ◌++◌, refl, sym, ◌∙◌, ap, subst, Result, Ok, Err, Vec, append-nil, append_assoc}
 use Rattle.std.specs.Global.{Global}
 use Rattle.std.specs.List.{flat_map}
 use Rattle.std.proofs.lemmas.Grind.{flat_map-append}
@@ -10,7 +10,9 @@ use Rattle.lc_level.specs.CountedNames.{AreCounted, file_fates, AddsResult, Adds
 use Rattle.lc_level.specs.FileReads.{IsAnswer}
 use Rattle.lc_level.specs.Job.{JobModel}
 use Rattle.lc_level.specs.LeftIn.{bytes_of}
-use Rattle.lc_level.specs.Level.{Fate, FileFaultModel, file_fate, counted_of, failed_of, failed_in}
+use Rattle.lc_level.specs.Level.{CountedModel, Fate, FileFaultModel, file_fate, counted_of, failed_of, failed_in, text_of}
+use Rattle.lc_rules.specs.AttrStates.{AttrChainModel, state_of, as_text}
+use Rattle.lc_rules.specs.declared.states.TextState.{TextState}
 use Rattle.lc_tree.specs.Trees.{Contents}
 use Rattle.lc_level.specs.FileReads.{MayCount}
 use Rattle.lc_level.specs.declared.counting.CountedFiles.{CountedFiles}
@@ -98,3 +100,16 @@ counted_next gives j ns n absent old new result u is c added =
     (λ (x : Result (Unit {0}) AllocError). AddsCounted gives j n.items old new x) is added in
     subst (λ (l : List (List ℕ)). IsCounted gives j l absent new) (sym (bytes_more ns n))
     (counted_more gives j n.items a.0 a.1 (bytes_of ns) absent old new c a.2 a.3)
+
+abbrev counted_file : List ℕ → Count → TextState → CountedModel
+counted_file name count text = record { name = name; text = text; count = count }
+
+-- a counted file has the attribute `text` that its path has
+pub adds_text : (j : JobModel) (name path : List ℕ) (count : Count) (attributes : AttrChainModel) (text : TextState)
+    (old new : List CountedModel) → new ≡ old ++ counted_file name count text ∷ []
+    → text ≡ as_text (state_of attributes path false (codes "text")) → attributes ≡ j.attributes → path ≡ path_in j.path name
+    → new ≡ old ++ counted_file name count (text_of j (path_in j.path name)) ∷ []
+adds_text j name path count attributes text old new pushed is by at =
+    pushed
+    ∙ ap (λ t. old ++ counted_file name count t ∷ [])
+    (is ∙ ap (λ a. as_text (state_of a path false (codes "text"))) by ∙ ap (text_of j) at)

@@ -1,6 +1,5 @@
 -- The answers of a tree for `.git` and `.git/info`, by what reading the rule files there answered.
 use Rattle.std.proofs.Common.{◌≡◌, ℕ, Bool, true, false, List, [], refl, sym, ◌∙◌, ap, subst, None, Result, Ok, Err, codes}
-use Rattle.lc_census.specs.declared.totals.Count.{Count}
 use Rattle.lc_glob.specs.Path.{path_in}
 use Rattle.lc_level.specs.Answers.{Item, Items, Answers}
 use Rattle.lc_level.specs.EntryLooks.{has_file, has_dir}

@@ -1,4 +1,5 @@
 pub mod AskedPaths
+pub mod ChainSteps
 pub mod CountedItems
 pub mod CountedLevels
 pub mod CountedMore
@@ -11,6 +12,7 @@ pub mod FileAnswers
 pub mod GitReads
 pub mod GivenItems
 pub mod GivenPairs
+pub mod Ignoring
 pub mod NodeTrees
 pub mod OneLevel
 pub mod OpenLevels

@@ -1,13 +1,14 @@
 -- Which entries of a directory are left in, and which are left out: gitignore(5), PATTERN FORMAT, and for an archive gitattributes(5),
 -- Creating an archive.
-use Rattle.std.specs.Prelude.{◌≡◌, ℕ, Bool, true, false, ◌&&◌, cond, if◌then◌else◌, is_none, List, [], ◌∷◌, ◌++◌, map, Vec, Option}
+use Rattle.std.specs.Prelude.{◌≡◌, ℕ, Bool, true, false, ◌&&◌, cond, if◌then◌else◌, is_none, List, [], ◌∷◌, ◌++◌, map, nat_lt, Vec, Option}
 use Rattle.std.specs.Prelude.{Some, None, Result, Ok, Err, unwrap_or}
 use Rattle.std.specs.List.{flat_map, list_any}
 use Rattle.std.specs.Global.{Global}
 use Rattle.lc_level.specs.Deep.{is_too_deep}
 use Rattle.lc_tree.specs.Kinds.{is_file, is_dir}
 use Rattle.lc_level.specs.Job.{JobModel}
-use Rattle.lc_level.specs.Level.{Reason, other_kind, LeftModel, reason_for, is_taken, child_job}
+use Rattle.lc_level.specs.Level.{Reason, other_kind, LeftModel, reason_for, is_taken, child_job, job_at}
+use Rattle.lc_glob.specs.Path.{depth_of, max_depth}
 use Rattle.lc_level.specs.Selection.{SelectionModel}
 use Rattle.lc_tree.specs.Listing.{EntryModel}
 use Rattle.lc_level.specs.declared.left_in.LeftIn.{LeftIn}
@@ -51,6 +52,12 @@ TakesFile left_out reason name old new (Ok _) =
     Gains old new (cond (is_none reason) (name ∷ []) []) [] (kept_left left_out name File reason)
 TakesFile left_out reason name old new (Err Memory) = Unit {0}
 TakesFile left_out reason name old new (Err TooDeep) = ⊥
+
+-- the job of a child directory at a path that may have too many segments
+abbrev pub IsChild : JobModel → List ℕ → Result JobModel Cause → Type 0
+IsChild j path (Ok child) = (child ≡ job_at j path) × (nat_lt max_depth (depth_of path) ≡ false)
+IsChild j path (Err Memory) = Unit {0}
+IsChild j path (Err TooDeep) = nat_lt max_depth (depth_of path) ≡ true
 
 -- what taking a child directory answers, which may have too many segments: one that is left in has not
 abbrev pub TakesDirectory : Bool → Option Reason → Bool → List ℕ × JobModel → LeftIn → LeftIn → Result (Unit {0}) Cause → Type 0

@@ -34,10 +34,10 @@ impl CountedFiles {
         ensures { AddsResult job.now name.items (Ok count) self.old self.new result }
     {
         let text = job.attributes().text(alloc, path)?;
-        match self.files.push(Counted { name, text, count }) {
-            Ok(()) => Ok(()),
-            Err(_) => Err(AllocError),
-        }
+        let Ok(()) = self.files.push(Counted { name, text, count }) else {
+            return Err(AllocError);
+        };
+        Ok(())
     }
 
     /// Adds a file that was not counted.

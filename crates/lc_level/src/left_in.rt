@@ -1,7 +1,7 @@
 //! The entries of a directory: those that its rules and the selection leave in, and those that are left out.
 ghost use Rattle.std.specs.Prelude.{◌≡◌, ◌≤◌, true, false, length, nat_lt};
 ghost use Rattle.lc_glob.specs.Path.{depth_of, max_depth, max_path};
-ghost use Rattle.lc_level.specs.LeftIn.{LeavesOut, TakesFile, TakesDirectory, TakesOther, Takes, LeavesIn};
+ghost use Rattle.lc_level.specs.LeftIn.{IsChild, LeavesOut, TakesFile, TakesDirectory, TakesOther, Takes, LeavesIn};
 ghost use Rattle.lc_level.specs.Level.{reason_at, job_at};
 ghost use Rattle.lc_level.specs.Reasons.{reason_ref_model};
 
@@ -10,8 +10,9 @@ use crate::job::Job;
 use crate::level_reader::LevelReader;
 use crate::path_buffer::PathBuffer;
 use crate::reason::{LeftOut, ReasonRef};
-use lc_glob::path::{is_too_deep, is_too_long};
+use lc_glob::path::is_too_deep;
 use lc_tree::{Entry, Kind, Tree};
+use std::alloc::Global;
 use std::marker::Model;
 
 /// The files and the directories that are left in, and the entries that are left out, each in the order of the listing.
@@ -38,6 +39,20 @@ impl Model for ChildDirectory {
     ghost Value = { List ℕ × JobModel };
 
     ghost view = { λ c. (c.name.items, c.job) };
+}
+
+/// The job of a child directory, where its path has not too many segments for a walk.
+fn child_job(alloc: Global, job: &Job, path: &[u8]) -> Result<Job, Cause>
+    requires { length path.now ≤ max_path }
+    ensures { IsChild job.now path.now result }
+{
+    if is_too_deep(path) {
+        return Err(Cause::TooDeep);
+    }
+    match job.at(alloc, path) {
+        Ok(job) => Ok(job),
+        Err(_) => Err(Cause::Memory),
+    }
 }
 
 impl<T: Tree> LevelReader<'_, T> {
@@ -102,12 +117,7 @@ impl<T: Tree> LevelReader<'_, T> {
             Ok(Some(reason)) => return self.leave_out(name, Kind::Dir, reason, found),
             Err(_) => return Err(Cause::Memory),
         }
-        if is_too_deep(path) {
-            return Err(Cause::TooDeep);
-        }
-        let Ok(job) = job.at(self.alloc, path) else {
-            return Err(Cause::Memory);
-        };
+        let job = child_job(self.alloc, job, path)?;
         match found.children.push(ChildDirectory { name, job }) {
             Ok(()) => Ok(()),
             Err(_) => Err(Cause::Memory),
@@ -150,12 +160,7 @@ impl<T: Tree> LevelReader<'_, T> {
         if entry.name.as_slice() == b".git".as_slice() {
             return self.leave_out(entry.name, entry.kind, ReasonRef::Git, found);
         }
-        let Ok(()) = path.set_name(&entry.name) else {
-            return Err(Cause::Memory);
-        };
-        if is_too_long(path.as_slice()) {
-            return Err(Cause::TooDeep);
-        }
+        path.set_short(&entry.name)?;
         match entry.kind {
             Kind::File => self.take_file(job, entry.name, path.as_slice(), found),
             Kind::Dir => self.take_directory(job, entry.name, path.as_slice(), found),

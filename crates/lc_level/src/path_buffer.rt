@@ -1,8 +1,10 @@
 //! A directory's path, and those of its entries one after another.
 ghost use Rattle.std.specs.Prelude.{◌≡◌, OnOk};
 ghost use Rattle.lc_glob.specs.Path.{path_in};
+ghost use Rattle.lc_level.specs.PathBuffers.{IsNamed};
 
-use lc_glob::path::push_name;
+use crate::Cause;
+use lc_glob::path::{is_too_long, push_name};
 use std::alloc::{AllocError, Global};
 use std::marker::Model;
 
@@ -52,6 +54,21 @@ impl PathBuffer {
     {
         self.bytes.truncate(self.base);
         push_name(&mut self.bytes, name)?;
+        Ok(())
+    }
+
+    /// The same where the path is not too long for a walk.
+    pub(crate) fn set_short(&mut self, name: &[u8]) -> Result<(), Cause>
+        ensures same { self.new.directory ≡ self.old.directory }
+        ensures named { IsNamed (path_in self.old.directory name.now) self.new.path result }
+    {
+        let Ok(()) = self.set_name(name) else {
+            return Err(Cause::Memory);
+        };
+        let path = self.as_slice();
+        if is_too_long(path) {
+            return Err(Cause::TooDeep);
+        }
         Ok(())
     }
 

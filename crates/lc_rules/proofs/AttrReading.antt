@@ -4,7 +4,7 @@ use Rattle.std.proofs.Common.{Some, None, refl, sym, ◌∙◌, ap, arith, appen
 use Rattle.std.proofs.lemmas.Bool.Decides.{Decides-eqb}
 use Rattle.std.proofs.lemmas.Bool.{le-ltb}
 use Rattle.std.specs.List.{position_or_len, before_first, after_first, list_all}
-use Rattle.std.proofs.lemmas.List.{take_rest, append-nil}
+use Rattle.std.proofs.lemmas.List.{take_rest}
 use Rattle.std.proofs.lemmas.Bool.{false_from_ne_true}
 use Rattle.memchr.specs.Find.{IsFirstByte, is_byte}
 use Rattle.lc_rules.specs.Attributes.{AssignmentModel, set, value}
@@ -18,15 +18,6 @@ abbrev pub onto_all : List AssignmentModel → Option (List AssignmentModel) →
 onto_all found None = None
 onto_all found (Some others) = Some (found ++ others)
 
--- what all words give is what they give after no assignment
-pub onto_none : (o : Option (List AssignmentModel)) → o ≡ onto_all [] o
-onto_none None = refl
-onto_none (Some x) = refl
-
--- at the end the assignments that were found are all
-pub onto_end : (found : List AssignmentModel) → onto_all found (Some []) ≡ Some found
-onto_end found = ap (λ l. Some l) (append-nil found)
-
 onto_more : (found : List AssignmentModel) (a : AssignmentModel) (o : Option (List AssignmentModel))
     → onto_all found (both (Some a) o) ≡ onto_all (found ++ (a ∷ [])) o
 onto_more found a None = refl
@@ -37,19 +28,10 @@ pub onto_word : (found : List AssignmentModel) (w : List ℕ) (ws : List (List �
     → onto_all found (assigns (w ∷ ws)) ≡ onto_all (found ++ (a ∷ [])) (assigns ws)
 onto_word found w ws a e = ap (λ o. onto_all found (both o (assigns ws))) e ∙ onto_more found a (assigns ws)
 
--- a word that is none spoils the line
-pub onto_bad : (found : List AssignmentModel) (w : List ℕ) (ws : List (List ℕ)) → assign w ≡ None → onto_all found (assigns (w ∷ ws)) ≡ None
-onto_bad found w ws e = ap (λ o. onto_all found (both o (assigns ws))) e
-
 -- text before the rest of a quoted text
 abbrev pub onto_text : List ℕ → Option (List ℕ × List ℕ) → Option (List ℕ × List ℕ)
 onto_text text None = None
 onto_text text (Some r) = Some (text ++ r.0, r.1)
-
--- what a quoted pattern reads as is what it reads as after no text
-pub text_start : (o : Option (List ℕ × List ℕ)) → o ≡ onto_text [] o
-text_start None = refl
-text_start (Some r) = refl
 
 -- one byte more of the text
 pub text_byte : (text : List ℕ) (b : ℕ) (o : Option (List ℕ × List ℕ)) → onto_text text (put_byte b o) ≡ onto_text (text ++ (b ∷ [])) o
@@ -85,11 +67,6 @@ text_escape text more left rest b byte taken e s k m =
     ∙ text_byte text byte (unquoted taken rest) ∙ ap (onto_text (text ++ (byte ∷ []))) (unquoted_skip taken rest)
     ∙ ap (λ t. onto_text t (unquoted 0 (drop taken rest))) (sym m)
     ∙ ap (λ l. onto_text more (unquoted 0 l)) (sym (take_rest rest taken))
-
--- a word taken up to its length is the word
-pub whole_take : (w : List ℕ) → take (length w) w ≡ w
-whole_take [] = refl
-whole_take (x ∷ xs) = ap (λ l. x ∷ l) (whole_take xs)
 
 -- a word without an equals sign is an attribute that is Set
 pub plain_none : (w : List ℕ) → IsFirstByte (is_byte 61) w None → plain_assign w ≡ named w set

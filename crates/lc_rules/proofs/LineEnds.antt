@@ -17,10 +17,6 @@ pub after_start : (left : List ℕ) → left ≡ after [] [] left
 after_start [] = refl
 after_start (x ∷ xs) = refl
 
--- at its end what is kept is the line without its spaces
-pub after_end : (kept read : List ℕ) → after kept read [] ≡ kept
-after_end kept read = refl
-
 all_kept : (read left : List ℕ) → after read read left ≡ read ++ left
 all_kept read [] = sym (append-nil read)
 all_kept read (x ∷ xs) = refl

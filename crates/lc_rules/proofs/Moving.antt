@@ -10,9 +10,7 @@ use Rattle.lc_rules.specs.Decision.{macro_of, expansion, unread}
 use Rattle.lc_rules.specs.Resolving.{marked, is_marked, answer, Moves, to_read, stacked}
 use Rattle.lc_rules.specs.KnownMacros.{expanded, matters}
 use Rattle.lc_rules.specs.Models.{seen_state}
-use Rattle.lc_rules.specs.AttrStates.{AttrChainModel, assignments_of, by_lines, macros_of, state_of}
-use Rattle.lc_rules.specs.AttrLines.{PatternLineModel}
-use Rattle.lc_rules.specs.Verdicts.{below}
+use Rattle.lc_rules.specs.AttrStates.{AttrChainModel, assignments_of, macros_of, state_of}
 use Rattle.lc_rules.specs.declared.assignment.AssignmentRef.{AssignmentRef}
 use Rattle.lc_rules.specs.declared.states.State.{State}
 use Rattle.lc_rules.proofs.DecisionLaws.{expansion_less, unread_less}
@@ -82,11 +80,6 @@ pub moves_none : (ms : List MacroModel) (w : List ℕ) (todo : List AssignmentMo
     → Moves ms w todo ns None todo ns
 moves_none ms w todo ns p = (p, λ rest. refl)
 
--- a search that goes on has not marked the name that is sought
-pub moves_open : (ms : List MacroModel) (w : List ℕ) (a b : List AssignmentModel) (ns ms' : List (List ℕ)) → Moves ms w a ns None b ms'
-    → is_marked ms' w ≡ false
-moves_open ms w a b ns after h = h.0
-
 -- two moves in a row are a move
 pub moves_then : (ms : List MacroModel) (w : List ℕ) (a b left : List AssignmentModel) (c d e : List (List ℕ))
     (found : Option StateModel) → Moves ms w a c None b d → Moves ms w b d found left e → Moves ms w a c found left e
@@ -130,12 +123,6 @@ pub moves_answer : (ms : List MacroModel) (w : List ℕ) (todo : List Assignment
     (found : Option StateModel) → Moves ms w todo [] found [] after → answer ms w todo [] ≡ found
 moves_answer ms w todo after None h = ap (λ l. answer ms w l []) (sym (append-nil todo)) ∙ h.1 [] ∙ answer_none ms w after h.0
 moves_answer ms w todo after (Some s) h = ap (λ l. answer ms w l []) (sym (append-nil todo)) ∙ h []
-
--- the code's lines of a file at its depth
-pub same_lines : (lent shown : List PatternLineModel) (depth d : ℕ) (inner path : List ℕ) (is_dir : Bool) → lent ≡ shown → d ≡ depth
-    → inner ≡ below d path → by_lines shown (below depth path) is_dir ≡ by_lines lent inner is_dir
-same_lines lent shown depth d inner path is_dir e f g =
-    ap (λ l. by_lines l (below depth path) is_dir) (sym e) ∙ ap (λ p. by_lines lent p is_dir) (sym (g ∙ ap (λ n. below n path) f))
 
 -- a search that came to its end has the state of the attribute
 pub state_is : (files : AttrChainModel) (ms : List MacroModel) (w path : List ℕ) (is_dir : Bool) (names after : List (List ℕ))

@@ -15,7 +15,7 @@ use Rattle.lc_rules.specs.AttrStates.{binary}
 use Rattle.lc_rules.specs.Models.{assignment_model}
 use Rattle.lc_rules.specs.Decision.{macro_of, later}
 use Rattle.lc_rules.specs.KnownMacros.{matters}
-use Rattle.lc_rules.specs.LineNames.{assigns_name, lines_name, has_name, HasNames, NameNone}
+use Rattle.lc_rules.specs.LineNames.{assigns_name, lines_name, has_name, NameNone}
 use Rattle.lc_rules.specs.declared.assignment.Assignment.{Assignment}
 use Rattle.lc_rules.proofs.DecisionLaws.{bytes_self, same_bytes}
 use Rattle.lc_rules.proofs.LastMacro.{macro_of-append, macro_of-both}
@@ -72,18 +72,6 @@ names_more assigns i a old new l is had keeps adds n h =
       | inl e ↦ keeps n (had n e)
       | inr e ↦ adds n e
     ]
-
--- the names of lines, one line more
-pub lines_name-append : (lines : List PatternLineModel) (l : PatternLineModel) (names : BTreeSet (Vec ℕ Global))
-    → ((n : List ℕ) → lines_name lines n ≡ true → has_name names n ≡ true)
-    → ((n : List ℕ) → assigns_name l.assigns n ≡ true → has_name names n ≡ true) → HasNames (lines ++ (l ∷ [])) names
-lines_name-append lines l names h k n e = by_cases (lines_name lines n) (assigns_name l.assigns n) refl refl
-    (sym (list_any-append (λ m. assigns_name m.assigns n) lines (l ∷ [])) ∙ e)
-  where
-    by_cases : (b c : Bool) → lines_name lines n ≡ b → assigns_name l.assigns n ≡ c → (b || (c || false)) ≡ true → has_name names n ≡ true
-    by_cases true c p q r = h n p
-    by_cases false true p q r = k n q
-    by_cases false false p q r = absurd (let s : false ≡ true = r in cc)
 
 -- no macro is named, one macro more
 pub no_macro_more : (lines : List PatternLineModel) (ms : List MacroModel) (m : MacroModel) (n : List ℕ)

@@ -8,19 +8,8 @@ use Rattle.lc_glob.specs.IsMatch.{is_match}
 use Rattle.lc_rules.specs.Attributes.{AssignmentModel}
 use Rattle.lc_rules.specs.AttrLines.{PatternLineModel}
 use Rattle.lc_rules.specs.AttrStates.{by_line, by_lines}
-use Rattle.lc_rules.specs.Models.{assignment_model, pattern_line_model}
-use Rattle.lc_rules.specs.declared.assignment.Assignment.{Assignment}
+use Rattle.lc_rules.specs.Models.{pattern_line_model}
 use Rattle.lc_rules.specs.declared.assignment.PatternLine.{PatternLine}
-
-reverse_last : {A B : Type 0} (f : A → B) (whole before : List A) (x : A) → whole ≡ before ++ (x ∷ [])
-    → reverse (map f whole) ≡ (f x ∷ []) ++ reverse (map f before)
-reverse_last f whole before x e =
-    ap (λ l. reverse (map f l)) e ∙ ap reverse (map-append f before (x ∷ [])) ∙ reverse-append (map f before) (f x ∷ [])
-
--- the last assignment of a line is read first
-pub assigns_last : (whole before : List Assignment) (x : Assignment) → whole ≡ before ++ (x ∷ [])
-    → reverse (map assignment_model whole) ≡ (assignment_model x ∷ []) ++ reverse (map assignment_model before)
-assigns_last whole before x e = reverse_last assignment_model whole before x e
 
 by_lines_more : (ls : List PatternLineModel) (l : PatternLineModel) (path : List ℕ) (is_dir : Bool)
     → by_lines (ls ++ (l ∷ [])) path is_dir ≡ by_line l path is_dir ++ by_lines ls path is_dir

@@ -1,5 +1,5 @@
--- A run that stops at a fault of its output.
-use Rattle.std.proofs.Common.{◌≡◌, Result, Ok, Err, List, ℕ}
+-- A table that is written, and one that stops at a fault of its output, and so the run.
+use Rattle.std.proofs.Common.{◌≡◌, Result, Ok, Err, List, ℕ, sym}
 use Rattle.std.specs.Result.{IsErrAnd}
 use Rattle.lc_text.specs.declared.printing.PrintFault.{PrintFault}
 use Rattle.lc_text.specs.declared.printing.PrintFault.TheVariants as print
@@ -7,6 +7,8 @@ use Rattle.lc_text.specs.declared.shape.Shape.{Shape}
 use Rattle.lc_census.specs.declared.source.Failed.{Failed}
 use Rattle.lc_walk.specs.declared.report.Report.{Report}
 use Rattle.lc_walk.specs.declared.walk_fault.WalkFault.{WalkFault}
+use Rattle.lc_text.specs.Writes.{AnswersPrint, Writes}
+use Rattle.lc_table.specs.TableText.{IsTextOf}
 use Rattle.lc_table.specs.Runs.{AnswersRun, AnswersTable, table_fault}
 use Rattle.lc_text.specs.declared.outcome.Outcome.{Outcome}
 use Rattle.lc_table.specs.declared.running.RunFault.{RunFault}
@@ -19,3 +21,18 @@ pub run_stops : {O : Type 0} (may_take : O → List ℕ → Result ℕ Failed �
 run_stops may_take walks shape r fault (Ok outcome) out wrote walked stopped is = absurd is
 run_stops may_take walks shape r print.Write (Err e) out wrote walked stopped is = rw is (r, walked, stopped)
 run_stops may_take walks shape r print.Memory (Err e) out wrote walked stopped is = rw is stopped
+
+-- a table that was written whole
+pub table_is_written : {O : Type 0} (may_take : O → List ℕ → Result ℕ Failed → O → Type 0) (shape : Shape) (r : Report)
+    (text taken : List ℕ) (out wrote : O) → IsTextOf shape r text → taken ≡ text → Writes may_take out taken wrote
+    → AnswersTable may_take shape r out (Ok tt) wrote
+table_is_written may_take shape r text taken out wrote of same written = (text, of, rw (sym same) written)
+
+-- a table of which a write stopped
+pub table_stops : {O : Type 0} (may_take : O → List ℕ → Result ℕ Failed → O → Type 0) (shape : Shape) (r : Report)
+    (text taken : List ℕ) (fault : PrintFault) (answer : Result (Unit {0}) PrintFault) (out wrote : O) → IsTextOf shape r text
+    → taken ≡ text → AnswersPrint may_take out taken (Err fault) wrote → IsErrAnd answer (λ e. e ≡ fault)
+    → AnswersTable may_take shape r out answer wrote
+table_stops may_take shape r text taken fault (Ok done) out wrote of same stopped is = absurd is
+table_stops may_take shape r text taken print.Write (Err e) out wrote of same stopped is = rw is (text, of, rw (sym same) stopped)
+table_stops may_take shape r text taken print.Memory (Err e) out wrote of same stopped is = rw is stopped

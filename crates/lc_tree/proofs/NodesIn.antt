@@ -96,7 +96,8 @@ first_found : (c : Child) (cs : List Child) → child_among c.0.items (c ∷ cs)
 first_found c cs = ap (λ b. option_map (λ (d : Child). d.1) (cond b (Some c) (find (λ (d : Child). bytes_eq d.0.items c.0.items) cs)))
     ((bytes_eq-Decides c.0.items c.0.items).1 refl)
 
-later_found : (c : Child) (cs ds : List Child) → AllByRecursion (λ k. eq_by_cmp bytes_cmp c.0.items k ≡ false) (names (map entry_of_child ds)) →
+later_found : (c : Child) (cs ds : List Child) → AllByRecursion (λ k. eq_by_cmp bytes_cmp c.0.items k ≡ false)
+    (names (map entry_of_child ds)) →
     AllByRecursion (λ (d : Child). child_among d.0.items cs ≡ Some d.1) ds
     → AllByRecursion (λ (d : Child). child_among d.0.items (c ∷ cs) ≡ Some d.1) ds
 later_found c cs [] other all = tt

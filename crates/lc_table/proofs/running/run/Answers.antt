@@ -8,3 +8,6 @@ returns-in_err-table g c =
     (g.T.Tree.gives c.args.tree.now) c.args.options.now) c.args.shape c.in_ok-report.report
     c.in_err-table.field-0.0 c.from_residual-in_err-table.result c.args.out.now c.table.new.out c.in_ok-report.ensures
     c.in_err-table.ensures c.from_residual-in_err-table.ensures.1
+
+pub returns : goal.returns
+returns g c = (c.in_ok-report.report, c.in_ok-report.ensures, c.outcome_of-outcome.ensures, c.in_ok-table.ensures)

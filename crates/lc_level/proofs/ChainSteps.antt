@@ -1,0 +1,72 @@
+-- What both chains are by a directory's rule files.
+use Rattle.std.proofs.Common.{◌≡◌, ℕ, refl, ap, ◌∙◌, Option, Some, None, subst, [], List}
+use Rattle.std.specs.Result.{IfOk}
+use Rattle.std.specs.declared.sync.Arc.{Arc}
+use Rattle.std.specs.Prelude.{Result}
+use Rattle.lc_rules.specs.AttrChains.{no_files, with_tree_file, with_info_file}
+use Rattle.lc_rules.specs.AttrLines.{AttrFileModel}
+use Rattle.lc_rules.specs.AttrStates.{AttrChainModel}
+use Rattle.lc_rules.specs.IgnoreChains.{ChainModel, no_ignore_files, with_exclude, with_info, with_own}
+use Rattle.lc_rules.specs.IgnoreRules.{RuleModel}
+use Rattle.lc_level.specs.Job.{JobModel}
+use Rattle.lc_level.specs.RuleFiles.{with_file_at, first_of}
+use Rattle.lc_level.specs.RuleReads.{shared}
+use Rattle.lc_level.specs.TopJob.{top_job}
+
+module _ {A B : Type 0} (depth : ℕ) where
+  module _ (chain below new : ChainModel) (own : Option (Arc (List RuleModel) A)) (info : Option (Arc (List RuleModel) B))
+      (is_below : below ≡ with_own chain depth own) (is_new : new ≡ with_info below info) where
+    -- the files of a tree with a directory's own
+    pub ignore_tree : new.tree ≡ with_file_at chain.tree depth (shared own)
+    ignore_tree = ap (λ (k : ChainModel). k.tree) is_new ∙ ap (λ (k : ChainModel). k.tree) is_below ∙ at own
+      where
+        at : (o : Option (Arc (List RuleModel) A)) → (with_own chain depth o).tree ≡ with_file_at chain.tree depth (shared o)
+        at None = refl
+        at (Some file) = refl
+
+    -- that of `.git/info`, or the one that was
+    pub ignore_info : new.info ≡ first_of (shared info) chain.info
+    ignore_info =
+        ap (λ (k : ChainModel). k.info) is_new ∙ ap (λ (k : ChainModel). (with_info k info).info) is_below ∙ at info
+      where
+        at : (i : Option (Arc (List RuleModel) B)) → (with_info (with_own chain depth own) i).info ≡ first_of (shared i) chain.info
+        at None = refl
+        at (Some file) = refl
+
+  module _ (chain with new : AttrChainModel) (own : Option (Arc AttrFileModel A)) (info : Option (Arc AttrFileModel B))
+      (is_with : with ≡ with_info_file chain info) (is_new : new ≡ with_tree_file with depth own) where
+    -- the same of the attribute files
+    pub attributes_tree : new.tree ≡ with_file_at chain.tree depth (shared own)
+    attributes_tree =
+        ap (λ (k : AttrChainModel). k.tree) is_new ∙ ap (λ (k : AttrChainModel). (with_tree_file k depth own).tree) is_with ∙ at own info
+      where
+        at : (o : Option (Arc AttrFileModel A)) (i : Option (Arc AttrFileModel B))
+            → (with_tree_file (with_info_file chain i) depth o).tree ≡ with_file_at chain.tree depth (shared o)
+        at None None = refl
+        at None (Some file) = refl
+        at (Some file) None = refl
+        at (Some file) (Some other) = refl
+
+    pub attributes_info : new.info ≡ first_of (shared info) chain.info
+    attributes_info = ap (λ (k : AttrChainModel). k.info) is_new ∙ ap (λ (k : AttrChainModel). k.info) is_with ∙ at info
+      where
+        at : (i : Option (Arc AttrFileModel B)) → (with_info_file chain i).info ≡ first_of (shared i) chain.info
+        at None = refl
+        at (Some file) = refl
+
+abbrev parts_of : List ℕ → ChainModel → AttrChainModel → JobModel
+parts_of path ignore attributes = record { path = path; ignore = ignore; attributes = attributes }
+
+-- where a walk begins, by its parts
+pub top_by : {A E : Type 0} (exclude : Option (Arc (List RuleModel) A)) (path : List ℕ) (ignore : ChainModel)
+    (attributes : AttrChainModel) (r : Result JobModel E) → path ≡ [] → ignore ≡ with_exclude no_ignore_files exclude
+    → attributes ≡ no_files → IfOk r (λ j. j ≡ parts_of path ignore attributes) → IfOk r (λ j. j ≡ top_job (shared exclude))
+top_by {A} exclude path ignore attributes r is_path is_ignore is_attributes made =
+    subst (λ (k : JobModel). IfOk r (λ j. j ≡ k)) (parts ∙ at exclude) made
+  where
+    parts : parts_of path ignore attributes ≡ parts_of [] (with_exclude no_ignore_files exclude) no_files
+    parts = cc
+
+    at : (e : Option (Arc (List RuleModel) A)) → parts_of [] (with_exclude no_ignore_files e) no_files ≡ top_job (shared e)
+    at None = refl
+    at (Some file) = refl
