@@ -8,7 +8,7 @@ SHELL := /bin/bash
 .PHONY: run test test-memory test-program test-git test-faults test-fuzz test-memcheck install uninstall dist deb clean rt FORCE
 
 lc: $(shell find crates -name out -prune -o -type f -print 2>/dev/null) crates.txt tools/build crates/lc/out/cpu | rt
-	@echo "make: proves lc and all that it stands on, then builds it for $(CPU): up to half an hour the first time, seconds after an edit"
+	@echo "make: proves lc and all that it stands on, then builds it for $(CPU): up to forty minutes the first time, seconds after an edit"
 	@tools/build $(CPU)
 	@echo "make: ./lc is ready; it may be copied anywhere"
 
