@@ -111,9 +111,8 @@ pub(super) fn new_writer(alloc: Global) -> Result<Narrow, AllocError> {
 }
 
 /// The answer of a run over a tree.
-pub(super) fn answer_of<R: Threads + Wait + Sync, T: Tree>(
+pub(super) fn answer_of<R: Threads + Wait + Sync + AllocGlobal, T: Tree>(
     rt: &R,
-    alloc: Global,
     tree: &T,
     asked: &Asked<'_>,
     threads: u32,
@@ -123,10 +122,10 @@ pub(super) fn answer_of<R: Threads + Wait + Sync, T: Tree>(
     requires threads { (1 ≤ threads) × (threads ≤ 16) }
     requires directories { (1 ≤ max_dirs) × (max_dirs ≤ 1048576) }
 {
-    let Ok(options) = options_of(alloc, asked, threads, max_dirs) else {
+    let Ok(options) = options_of(rt.alloc(), asked, threads, max_dirs) else {
         return Err(RunFault::Memory);
     };
-    run(rt, alloc, tree, &options, TSV, out)
+    run(rt, rt.alloc(), tree, &options, TSV, out)
 }
 
 /// That of a walk over boards of this type, whose table is then written.
@@ -195,7 +194,7 @@ pub(super) fn compare<R: Threads + Wait + Sync + AllocGlobal + Abort, T: Tree>(
     requires threads { (1 ≤ threads) × (threads ≤ 16) }
 {
     let mut out = new_writer(rt.alloc())?;
-    let answer = answer_of(rt, rt.alloc(), tree, &case.asked, threads, 16, &mut out);
+    let answer = answer_of(rt, tree, &case.asked, threads, 16, &mut out);
     check(rt, answer, &out, case, threads)
 }
 

@@ -124,7 +124,7 @@ fn found_at<R: Threads + Wait + Sync + AllocGlobal + Abort>(
     let call = FailingCall::new(place);
     let failing = FailingTree { tree, call: &call };
     let mut out = new_writer(rt.alloc())?;
-    let answer = answer_of(rt, rt.alloc(), &failing, &WITH_FILES, threads, 16, &mut out);
+    let answer = answer_of(rt, &failing, &WITH_FILES, threads, 16, &mut out);
     let answer = settled(rt, answer, &out)?;
     Ok((answer, lines_told(&out.taken), call.begun()))
 }

@@ -178,7 +178,7 @@ fn compare_writes<R: Threads + Wait + Sync + AllocGlobal + Abort>(
 ) -> Result<(), Fail> {
     for room in 0..=text.len() {
         let mut out = Narrow::new(rt.alloc(), writer.0, room, writer.1)?;
-        let answer = answer_of(rt, rt.alloc(), tree, &PLAIN, 2, 16, &mut out);
+        let answer = answer_of(rt, tree, &PLAIN, 2, 16, &mut out);
         let answer = settled(rt, answer, &out)?;
         let expected = if room == text.len() {
             Ok(Outcome::Clean)
@@ -208,15 +208,7 @@ fn a_run_stops_at_every_place(rt: HostRuntime) -> Result<(), Fail> {
 fn too_many_directories(rt: HostRuntime) -> Result<(), Fail> {
     let node = FIRST.node(rt.alloc())?;
     let mut out = new_writer(rt.alloc())?;
-    let answer = answer_of(
-        &rt,
-        rt.alloc(),
-        &MemTree::new(&node),
-        &PLAIN,
-        2,
-        2,
-        &mut out,
-    );
+    let answer = answer_of(&rt, &MemTree::new(&node), &PLAIN, 2, 2, &mut out);
     let answer = settled(&rt, answer, &out)?;
     assert!(rt; answer == Err(RunFault::Walk(WalkFault::TooManyDirs)) && out.taken.is_empty());
     Ok(())
