@@ -5,6 +5,7 @@ use Rattle.lc_census.specs.declared.source.Failed.{Failed}
 use Rattle.lc_census.specs.Reads.{Answer}
 use Rattle.lc_rules.specs.IgnoreRules.{rules_of}
 use Rattle.lc_level.specs.RuleReads.{shared}
+use Rattle.lc_level.specs.Selection.{selection_of}
 use Rattle.lc_tree.specs.SysTrees.{AnyListing, AnyContents}
 use Rattle.lc_walk.specs.declared.options.Options.{Options}
 use Rattle.lc.specs.Causes.{check_cause, explain_cause, print_cause, rules_cause, run_cause}
@@ -103,8 +104,7 @@ AnswersCount loads may_take c out reply wrote =
 
 -- a question that asks what the words of an explanation ask
 pub record IsQuestionOf (loads : Loaded) (c : ExplainRequest) (q : Question) : Type 0 where
-  pub archive : q.archive ≡ c.exclusions.archive
-  pub without : q.without.now ≡ c.exclusions.without.items
+  pub selection : q.selection ≡ selection_of c.exclusions.archive (map (λ name. name.now) c.exclusions.without.items)
   pub exclude : Excludes loads c.exclusions.from q.exclude
 
 -- what may be said of paths in a tree of the system

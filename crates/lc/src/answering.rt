@@ -13,6 +13,7 @@ use crate::rules_file::rule_text_of_file;
 use lc_arguments::{CheckRequest, CountRequest, ExplainRequest, Request};
 use lc_census::{Source, StdSource};
 use lc_explain::{Question, explain, explain_words};
+use lc_level::Selection;
 use lc_rules::IgnoreFile;
 use lc_table::run;
 use lc_text::{Outcome, RuleText, Sink, check, check_explained, check_joined};
@@ -174,8 +175,7 @@ where
     let tree = SysTree::new(rt, rt.alloc(), asked.directory)?;
     let question = Question {
         exclude: text,
-        archive: asked.exclusions.archive,
-        without: &asked.exclusions.without,
+        selection: Selection::new(asked.exclusions.archive, &asked.exclusions.without),
     };
     explain_paths(rt, &tree, &question, &asked.paths, input, out)
 }

@@ -94,13 +94,13 @@ fn limits<'a>(alloc: Global) -> (Arg<'a>, Arg<'a>)
 fn args<'a>(alloc: Global) -> [Arg<'a>; 12]
     ensures { AreArgsOf count_rules result }
 {
-    let (exclude_from, archive, without) = exclusion_options(alloc);
+    let exclusions = exclusion_options(alloc);
     let (files, left_out, format, by, sort) = table_options(alloc);
     let (threads, max_dirs) = limits(alloc);
     [
-        exclude_from,
-        archive,
-        without,
+        exclusions.0,
+        exclusions.1,
+        exclusions.2,
         only(alloc),
         files,
         left_out,

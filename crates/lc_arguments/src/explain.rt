@@ -35,11 +35,11 @@ fn paths<'a>(alloc: Global) -> Arg<'a>
 fn args<'a>(alloc: Global) -> [Arg<'a>; 5]
     ensures { AreArgsOf explain_rules result }
 {
-    let (exclude_from, archive, without) = exclusion_options(alloc);
+    let exclusions = exclusion_options(alloc);
     [
-        exclude_from,
-        archive,
-        without,
+        exclusions.0,
+        exclusions.1,
+        exclusions.2,
         word(alloc, "DIR", "The directory whose rules are asked"),
         paths(alloc),
     ]

@@ -3,7 +3,7 @@ use Rattle.std.proofs.Common.{◌≡◌, ℕ, Bool, List, map, Result, Ok, Err, 
 use Rattle.lc_census.specs.Reads.{Answer}
 use Rattle.lc_census.specs.declared.source.Failed.{Failed}
 use Rattle.lc_level.specs.Job.{JobModel}
-use Rattle.lc_level.specs.Selection.{SelectionModel, selection_of}
+use Rattle.lc_level.specs.Selection.{SelectionModel}
 use Rattle.lc_level.specs.TopJob.{top_job}
 use Rattle.lc_rules.specs.IgnoreRules.{rules_of}
 use Rattle.lc_text.specs.Check.{AnswersInput}
@@ -26,12 +26,10 @@ module _ {Tr : Type 0} (lists : Tr → List ℕ → Listings) (gives : Tr → Li
 
   -- what was told by the parts of a question is told by the question
   pub as_asked : (t u : Tr) (q : Question) (s : SelectionModel) (exclude : List ℕ) (top : JobModel) → t ≡ u
-      → s ≡ selection_of q.archive (map (λ name. name.now) q.without.now) → top ≡ top_job (option_map rules_of q.exclude)
-      → exclude ≡ text_or_none q.exclude → By t s exclude top → Explains (MaySay (lists u) (gives u) q) lines text outcome
+      → s ≡ q.selection → top ≡ top_job (option_map rules_of q.exclude) → exclude ≡ text_or_none q.exclude → By t s exclude top → Explains (MaySay (lists u) (gives u) q) lines text outcome
   as_asked t u q s exclude top tree selection at texts told =
-      let question = selection_of q.archive (map (λ name. name.now) q.without.now) in
       let start = top_job (option_map rules_of q.exclude) in
-      subst (λ (x : Tr). By x question (text_or_none q.exclude) start) tree
+      subst (λ (x : Tr). By x q.selection (text_or_none q.exclude) start) tree
       (subst (λ (x : SelectionModel). By t x (text_or_none q.exclude) start) selection
       (subst (λ (x : JobModel). By t s (text_or_none q.exclude) x) at
       (subst (λ (x : List ℕ). By t s x top) texts told)))

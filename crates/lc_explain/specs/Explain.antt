@@ -5,7 +5,6 @@ use Rattle.lc_census.specs.Reads.{Answer}
 use Rattle.lc_census.specs.declared.source.Failed.{Failed}
 use Rattle.lc_census.specs.declared.whole.WholeFault.{WholeFault}
 use Rattle.lc_census.specs.declared.whole.WholeFault.TheVariants as whole
-use Rattle.lc_level.specs.Selection.{selection_of}
 use Rattle.lc_level.specs.TopJob.{top_job}
 use Rattle.lc_rules.specs.IgnoreRules.{rules_of}
 use Rattle.lc_text.specs.Check.{AnswersInput}
@@ -27,8 +26,8 @@ use Rattle.lc_text.specs.declared.outcome.Outcome.TheVariants.{Clean, SomeFaults
 -- what may be said of a path, by what the listings and the files of a tree may answer and by what is asked
 abbrev pub MaySay : (List ℕ → Listings) → (List ℕ → Contents) → Question → List ℕ → Bool → Explanation → Type 0
 MaySay lists gives question path as_dir x =
-    IsExplained (MayEnter lists gives) (selection_of question.archive (map (λ name. name.now) question.without.now))
-    (text_or_none question.exclude) (top_job (option_map rules_of question.exclude)) path as_dir x
+    IsExplained (MayEnter lists gives) question.selection (text_or_none question.exclude) (top_job (option_map rules_of question.exclude))
+    path as_dir x
 
 abbrev pub outcome_of : List Told → Outcome
 outcome_of told = cond (has_fault told) SomeFaults Clean

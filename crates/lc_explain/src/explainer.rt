@@ -1,9 +1,8 @@
 //! What is found of a path, from the top of the tree down.
 
-ghost use Rattle.std.specs.Prelude.{◌≡◌, ℕ, List, [], true, false, map, option_map, IfOk, OnOk};
+ghost use Rattle.std.specs.Prelude.{◌≡◌, ℕ, List, [], true, false, option_map, IfOk, OnOk};
 ghost use Rattle.lc_glob.specs.Path.{path_in, segments_of};
 ghost use Rattle.lc_level.specs.Level.{reason_for};
-ghost use Rattle.lc_level.specs.Selection.{selection_of};
 ghost use Rattle.lc_level.specs.TopJob.{top_job};
 ghost use Rattle.lc_rules.specs.IgnoreChains.{rules_in};
 ghost use Rattle.lc_rules.specs.IgnoreRules.{rules_of};
@@ -65,8 +64,7 @@ impl<'t, T: Tree> Explainer<'t, T> {
         question: &'t Question<'t>,
     ) -> Result<Explainer<'t, T>, AllocError>
         ensures tree { IfOk result (λ e. e.levels.tree.now ≡ tree.entry.now) }
-        ensures selection { IfOk result (λ e. e.levels.selection
-            ≡ selection_of question.entry.now.archive (map (λ name. name.now) question.entry.now.without.now)) }
+        ensures selection { IfOk result (λ e. e.levels.selection ≡ question.entry.now.selection) }
         ensures top { IfOk result (λ e. e.top ≡ top_job (option_map rules_of question.entry.now.exclude)) }
         ensures exclude { IfOk result (λ e. e.exclude.now ≡ text_or_none question.entry.now.exclude) }
     {
@@ -76,7 +74,7 @@ impl<'t, T: Tree> Explainer<'t, T> {
         };
         Ok(Explainer {
             alloc,
-            levels: LevelReader::new(alloc, tree, question.selection(), kept),
+            levels: LevelReader::new(alloc, tree, question.selection.copy(), kept),
             top: Job::top(alloc, question.exclude_rules()?)?,
             exclude: question.exclude_text(),
         })

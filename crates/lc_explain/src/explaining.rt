@@ -80,7 +80,7 @@ impl From<PrintFault> for ExplainFault {
 ///
 /// ```
 /// let tree = SysTree::new(&rt, rt.alloc(), ".")?;
-/// let question = Question { exclude: None, archive: false, without: &[] };
+/// let question = Question { exclude: None, selection: Selection::new(false, &[]) };
 /// let outcome = explain(rt.alloc(), &tree, &question, &mut b"a.log\nsrc/\n".as_slice(), &mut out)?;
 /// ```
 pub fn explain<T: Tree, S: Source, O: Sink>(

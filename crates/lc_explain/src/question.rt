@@ -1,8 +1,7 @@
 //! What is asked of an explanation, beside the paths.
 
-ghost use Rattle.std.specs.Prelude.{◌≡◌, map, option_map, IfOk};
+ghost use Rattle.std.specs.Prelude.{◌≡◌, option_map, IfOk};
 ghost use Rattle.lc_level.specs.RuleReads.{shared};
-ghost use Rattle.lc_level.specs.Selection.{selection_of};
 ghost use Rattle.lc_rules.specs.IgnoreRules.{rules_of};
 ghost use Rattle.lc_explain.specs.Waypoints.{text_or_none};
 
@@ -15,26 +14,17 @@ use std::sync::Arc;
 /// What is asked, beside the paths: as a count is asked for it.
 ///
 /// ```
-/// let question = Question { exclude: None, archive: false, without: &[] };
+/// let question = Question { exclude: None, selection: Selection::new(false, &[]) };
 /// ```
 #[derive(Drop)]
 pub struct Question<'o> {
     /// Rules for the whole tree, which every `.gitignore` overrides, as Git's `core.excludesFile` (gitignore(5)).
     pub exclude: Option<RuleText>,
-    /// What has the attribute `export-ignore` is left out, as `git archive` does (gitattributes(5)).
-    pub archive: bool,
-    /// What has one of these attributes Set is left out, files and directories, as `linguist-vendored` (gitattributes(5)).
-    pub without: &'o [&'o str],
+    /// What is left out beside what rules ignore, by its attributes. All paths take part, whatever the selection was narrowed to.
+    pub selection: Selection<'o>,
 }
 
 impl<'o> Question<'o> {
-    /// What decides, beside the rules of the tree, which entries are left out.
-    pub(crate) fn selection(&self) -> Selection<'o>
-        ensures { result ≡ selection_of self.now.archive (map (λ name. name.now) self.now.without.now) }
-    {
-        Selection::new(self.archive, self.without)
-    }
-
     /// The rules of the exclude file, if there is one.
     pub(crate) fn exclude_rules(&self) -> Result<Option<Arc<IgnoreFile, Global>>, AllocError>
         ensures { IfOk result (λ file. shared file ≡ option_map rules_of self.now.exclude) }

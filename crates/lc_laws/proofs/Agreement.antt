@@ -10,7 +10,7 @@ use Rattle.lc_level.specs.Answers.{Tree}
 use Rattle.lc_level.specs.Job.{JobModel}
 use Rattle.lc_level.specs.Level.{Reason, named_git, by_rule, by_attribute, other_kind, counted, left}
 use Rattle.lc_level.specs.OneAnswer.{GivesOne}
-use Rattle.lc_level.specs.Selection.{SelectionModel, selection_of}
+use Rattle.lc_level.specs.Selection.{SelectionModel}
 use Rattle.lc_level.specs.TopJob.{top_job}
 use Rattle.lc_rules.specs.IgnoreRules.{RuleModel}
 use Rattle.lc_text.specs.PathLines.{is_bad_path}
@@ -98,8 +98,8 @@ explained_law law lists gives one o q r alike walks path x good said =
     let same : IsExplained (MayEnter lists gives) s exclude (top_of o) path false x =
     subst (λ (w : SelectionModel). IsExplained (MayEnter lists gives) w exclude (top_of o) path false x) (sym alike.selection)
     (subst (λ (e : Option (List RuleModel)). IsExplained (MayEnter lists gives)
-    (selection_of q.archive (map (λ name. name.now) q.without.now)) exclude (top_job e) path false x) (sym alike.exclude) said) in
-    agrees law lists gives one s (ap (λ (w : SelectionModel). w.only) alike.selection) exclude x (top_of o) refl
+    q.selection exclude (top_job e) path false x) (sym alike.exclude) said) in
+    agrees law lists gives one s (ap (λ (w : SelectionModel). w.only) alike.selection ∙ alike.whole) exclude x (top_of o) refl
     (tree_of_rows walks.found.rows walks.found.answers)
     (rows_given lists gives (asked_by o) o.max_dirs o.threads (top_of o) _ walks.found walks.whole) o.lists depth r
     (walks.report depth (omega arith)) alike.files alike.left_out path good same (omega arith)

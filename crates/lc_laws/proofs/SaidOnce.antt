@@ -1,6 +1,6 @@
 -- Of each path one thing is said, where the tree answers in one way.
 use Rattle.std.proofs.Common.{◌≡◌, ℕ, Bool, true, false, cond, List, [], ◌∷◌, ◌++◌, sym, ◌∙◌, subst, Option, Some, None, Result, Ok, Err}
-use Rattle.std.proofs.Common.{MatchResult, map, option_map}
+use Rattle.std.proofs.Common.{MatchResult, option_map}
 use Rattle.lc_explain.specs.Explained.{Explanation, bad, faulted, below, cited, said_for, said_beside, kind_asked, is_directory, OnTheWay}
 use Rattle.lc_explain.specs.Explained.{OnEntering, IsSaid, IsExplained}
 use Rattle.lc_explain.specs.Waypoints.{WaypointModel, Way, MayEnter, kind_in, text_or_none}
@@ -9,7 +9,7 @@ use Rattle.lc_level.specs.FaultLines.{FaultLineModel}
 use Rattle.lc_level.specs.Job.{JobModel}
 use Rattle.lc_level.specs.Level.{Reason, reason_for, child_job}
 use Rattle.lc_level.specs.OneAnswer.{GivesOne}
-use Rattle.lc_level.specs.Selection.{SelectionModel, selection_of}
+use Rattle.lc_level.specs.Selection.{SelectionModel}
 use Rattle.lc_level.specs.TopJob.{top_job}
 use Rattle.lc_rules.specs.IgnoreRules.{rules_of}
 use Rattle.lc_text.specs.PathLines.{is_bad_path}
@@ -76,5 +76,5 @@ module _ (lists : List ℕ → Listings) (gives : List ℕ → Contents) (one : 
 -- so it is of what may be said
 pub one_explanation : (lists : List ℕ → Listings) (gives : List ℕ → Contents) → OneExplanationLaw lists gives
 one_explanation lists gives one q path as_dir x y said told =
-    explained_once lists gives one (selection_of q.archive (map (λ name. name.now) q.without.now)) (text_or_none q.exclude) as_dir x y
+    explained_once lists gives one q.selection (text_or_none q.exclude) as_dir x y
     (top_job (option_map rules_of q.exclude)) path said told

@@ -1,6 +1,6 @@
 -- What is said of a directory's path, with and without a slash at its end.
 use Rattle.std.proofs.Common.{◌≡◌, ℕ, Bool, true, false, cond, List, [], ◌∷◌, ◌++◌, sym, ◌∙◌, ap, subst, Option, Some, None, Ok, Err}
-use Rattle.std.proofs.Common.{map, option_map}
+use Rattle.std.proofs.Common.{option_map}
 use Rattle.std.specs.List.{Contains}
 use Rattle.lc_explain.specs.Explained.{Explanation, bad, below, cited, said_for, said_of, said_beside, kind_asked, is_directory, OnTheWay}
 use Rattle.lc_explain.specs.Explained.{OnEntering, IsSaid}
@@ -10,7 +10,7 @@ use Rattle.lc_level.specs.Answers.{entry_of, entries_of, Items}
 use Rattle.lc_level.specs.Job.{JobModel}
 use Rattle.lc_level.specs.Level.{Reason, reason_for, child_job}
 use Rattle.lc_level.specs.OneAnswer.{GivesOne}
-use Rattle.lc_level.specs.Selection.{SelectionModel, selection_of}
+use Rattle.lc_level.specs.Selection.{SelectionModel}
 use Rattle.lc_level.specs.TopJob.{top_job}
 use Rattle.lc_level.specs.TreeAnswers.{MayList}
 use Rattle.lc_rules.specs.IgnoreRules.{rules_of}
@@ -89,7 +89,7 @@ pub slash_law : (lists : List ℕ → Listings) (gives : List ℕ → Contents) 
 slash_law lists gives one q path x entry = at (is_bad_path path)
   where
     s : SelectionModel
-    s = selection_of q.archive (map (λ name. name.now) q.without.now)
+    s = q.selection
 
     top : JobModel
     top = top_job (option_map rules_of q.exclude)

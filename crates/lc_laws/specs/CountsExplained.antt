@@ -1,5 +1,5 @@
 -- That a count and an explanation agree, over a tree that answers in one way.
-use Rattle.std.specs.Prelude.{◌≡◌, ◌⊎◌, ℕ, true, false, List, map, option_map, Ok}
+use Rattle.std.specs.Prelude.{◌≡◌, ◌⊎◌, ℕ, true, false, List, [], option_map, Ok}
 use Rattle.std.specs.List.{Contains}
 use Rattle.lc_explain.specs.Explain.{MaySay}
 use Rattle.lc_explain.specs.Explained.{Explanation, bad, faulted, below, ignored, included, unruled, left_out}
@@ -8,7 +8,6 @@ use Rattle.lc_explain.specs.declared.question.Question.{Question}
 use Rattle.lc_level.specs.Level.{Reason, named_git, by_rule, by_attribute, other_kind}
 use Rattle.lc_level.specs.OneAnswer.{GivesOne}
 use Rattle.lc_level.specs.RuleReads.{shared}
-use Rattle.lc_level.specs.Selection.{selection_of}
 use Rattle.lc_rules.specs.IgnoreRules.{rules_of}
 use Rattle.lc_text.specs.PathLines.{is_bad_path}
 use Rattle.lc_tree.specs.Trees.{Listings, Contents}
@@ -20,11 +19,13 @@ use Rattle.lc_walk.specs.declared.report.Report.{Report}
 use Rattle.lc_laws.specs.Entries.{IsEntry}
 use Rattle.lc_laws.specs.ReportedPaths.{IsCounted, IsLeft, IsKept, IsLeftAbove}
 
--- a count that lists its files and what it leaves out, and an explanation by the same attributes and the same exclude file
+-- a count of the whole tree that lists its files and what it leaves out, and an explanation by the same attributes and the same exclude
+-- file
 pub record AskAlike (o : Options) (q : Question) : Type 0 where
   pub files : o.lists.files ≡ true
   pub left_out : o.lists.left_out ≡ true
-  pub selection : (asked_by o).selection ≡ selection_of q.archive (map (λ name. name.now) q.without.now)
+  pub selection : (asked_by o).selection ≡ q.selection
+  pub whole : q.selection.only ≡ []
   pub exclude : shared o.exclude ≡ option_map rules_of q.exclude
 
 -- it is said to be left out for a reason: ignored by that rule, or left

@@ -63,6 +63,17 @@ impl<'o> Selection<'o> {
         }
     }
 
+    /// A copy, which lends the same names and paths.
+    pub fn copy(&self) -> Selection<'o>
+        ensures { result ≡ self.now }
+    {
+        Selection {
+            archive: self.archive,
+            without: self.without,
+            only: self.only,
+        }
+    }
+
     /// The same of these paths alone, where there are some: what stands at or below one of them takes part. They are relative to the
     /// top, with no slash at the end.
     pub fn narrowed(self, only: &'o [&'o [u8]]) -> Selection<'o>

@@ -2,6 +2,7 @@
 
 use lc_census::Source;
 use lc_explain::{ExplainFault, Question, explain, explain_words};
+use lc_level::Selection;
 use lc_text::trials::{Narrow, WhenFull};
 use lc_text::{Outcome, PrintFault, RuleText, read_rule_text};
 use lc_tree::{MemTree, Sketch, Tree};
@@ -12,11 +13,13 @@ use std::test::Fail;
 /// What is shown, the tree, lines of paths, and their text.
 pub(crate) type Case = (&'static str, Sketch<'static>, &'static [u8], &'static [u8]);
 
-pub(crate) const PLAIN: Question<'static> = Question {
-    exclude: None,
-    archive: false,
-    without: &[],
-};
+/// What is asked by the rules of the tree alone.
+pub(crate) fn plain() -> Question<'static> {
+    Question {
+        exclude: None,
+        selection: Selection::new(false, &[]),
+    }
+}
 
 /// Rules for a whole tree.
 pub(crate) fn rule_text(alloc: Global, bytes: &[u8]) -> Result<RuleText, AllocError> {
@@ -53,7 +56,7 @@ pub(crate) fn explained_words<T: Tree>(
     words: &[&str],
     out: &mut Narrow,
 ) -> Result<Result<Outcome, PrintFault>, AllocError> {
-    match explain_words(alloc, tree, &PLAIN, words, out) {
+    match explain_words(alloc, tree, &plain(), words, out) {
         Err(PrintFault::Memory) => {
             assert!(rt; out.taken.is_empty());
             Err(AllocError)

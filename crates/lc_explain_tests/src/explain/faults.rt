@@ -1,6 +1,6 @@
 //! Trees of which a directory on the way is at fault, and trees of which one call fails.
 
-use crate::explain::asking::{Case, PLAIN, check, explained};
+use crate::explain::asking::{Case, check, explained, plain};
 use lc_text::Outcome;
 use lc_text::trials::{Narrow, WhenFull};
 use lc_tree::trials::{FailingCall, FailingTree};
@@ -58,7 +58,7 @@ static CASES: [Case; 4] = [
 #[test]
 fn directories_at_fault(rt: HostRuntime) -> Result<(), Fail> {
     for case in &CASES {
-        check(&rt, case, &PLAIN, Outcome::SomeFaults)?;
+        check(&rt, case, &plain(), Outcome::SomeFaults)?;
     }
     Ok(())
 }
@@ -101,7 +101,7 @@ fn each_call_fails(rt: HostRuntime) -> Result<(), Fail> {
         };
         let mut input = PATHS;
         let mut out = Narrow::new(rt.alloc(), 64, 128, WhenFull::Fails)?;
-        let answer = explained(&rt, rt.alloc(), &failing, &PLAIN, &mut input, &mut out)?;
+        let answer = explained(&rt, rt.alloc(), &failing, &plain(), &mut input, &mut out)?;
         let outcome = if place < CALLS {
             Outcome::SomeFaults
         } else {

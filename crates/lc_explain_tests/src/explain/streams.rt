@@ -1,6 +1,6 @@
 //! Inputs that fail or are too long, and writers that stop: what is written is a prefix, and whole only on success.
 
-use crate::explain::asking::{PLAIN, explained, explained_words};
+use crate::explain::asking::{explained, explained_words, plain};
 use lc_census::trials::{Bytewise, Endless, Failing};
 use lc_explain::ExplainFault;
 use lc_text::trials::{Narrow, WRITERS, WhenFull};
@@ -25,7 +25,7 @@ fn writes_stop_at_every_place(rt: HostRuntime) -> Result<(), Fail> {
         for room in 0..=TEXT.len() {
             let mut out = Narrow::new(rt.alloc(), *step, room, *when_full)?;
             let mut input = Bytewise(PATHS);
-            let answer = explained(&rt, rt.alloc(), &tree, &PLAIN, &mut input, &mut out)?;
+            let answer = explained(&rt, rt.alloc(), &tree, &plain(), &mut input, &mut out)?;
             let wanted = if room == TEXT.len() {
                 Ok(Outcome::Clean)
             } else {
@@ -60,7 +60,7 @@ fn reads_that_fail(rt: HostRuntime) -> Result<(), Fail> {
     for given in 0..=PATHS.len() {
         let mut input = Failing(&PATHS[..given]);
         let mut out = Narrow::new(rt.alloc(), 64, 64, WhenFull::Fails)?;
-        let answer = explained(&rt, rt.alloc(), &tree, &PLAIN, &mut input, &mut out)?;
+        let answer = explained(&rt, rt.alloc(), &tree, &plain(), &mut input, &mut out)?;
         assert!(rt;
             answer == Err(ExplainFault::Read) && out.taken.is_empty(),
             "at {given}"
@@ -74,7 +74,7 @@ fn an_input_without_end_is_too_long(rt: HostRuntime) -> Result<(), Fail> {
     let node = TREE.node(rt.alloc())?;
     let tree = MemTree::new(&node);
     let mut out = Narrow::new(rt.alloc(), 64, 64, WhenFull::Fails)?;
-    let answer = explained(&rt, rt.alloc(), &tree, &PLAIN, &mut Endless, &mut out)?;
+    let answer = explained(&rt, rt.alloc(), &tree, &plain(), &mut Endless, &mut out)?;
     assert!(rt; answer == Err(ExplainFault::InputTooLong) && out.taken.is_empty());
     Ok(())
 }

@@ -1,7 +1,8 @@
 //! Trees and paths, and the text of what decides them.
 
-use crate::explain::asking::{Case, PLAIN, check, explained_words, rule_text};
+use crate::explain::asking::{Case, check, explained_words, plain, rule_text};
 use lc_explain::Question;
+use lc_level::Selection;
 use lc_text::Outcome;
 use lc_text::trials::{Narrow, WhenFull};
 use lc_tree::{MemTree, Sketch};
@@ -107,7 +108,7 @@ static CASES: [Case; 7] = [
 #[test]
 fn paths_of_trees(rt: HostRuntime) -> Result<(), Fail> {
     for case in &CASES {
-        check(&rt, case, &PLAIN, Outcome::Clean)?;
+        check(&rt, case, &plain(), Outcome::Clean)?;
     }
     Ok(())
 }
@@ -123,8 +124,7 @@ static BESIDE_THE_TREE: Case = (
 fn what_is_asked_decides(rt: HostRuntime) -> Result<(), Fail> {
     let question = Question {
         exclude: Some(rule_text(rt.alloc(), b"!a.o\n*.bak\n")?),
-        archive: true,
-        without: &["vendored"],
+        selection: Selection::new(true, &["vendored"]),
     };
     check(&rt, &BESIDE_THE_TREE, &question, Outcome::Clean)
 }
