@@ -2,7 +2,7 @@ use Rattle.lc_arguments.proofs.count.args.Goals as goal
 
 pub returns : goal.returns
 returns c =
-    let exclusions = c.exclusion_options.ensures in
+    let exclusions = c.exclusion_options-exclusions.ensures in
     let table = c.table_options-files.ensures in
     let limits = c.limits-threads.ensures in (
       exclusions.0,
