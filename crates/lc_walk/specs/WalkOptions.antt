@@ -1,5 +1,5 @@
 -- What the options of a walk ask.
-use Rattle.std.specs.Prelude.{◌≤◌, map}
+use Rattle.std.specs.Prelude.{◌≡◌, ◌≤◌, ℕ, [], false, map, None}
 use Rattle.lc_board.specs.Limits.{capacity_limit, workers_limit}
 use Rattle.lc_level.specs.Job.{JobModel}
 use Rattle.lc_level.specs.RuleReads.{shared}
@@ -25,3 +25,10 @@ asked_by o = record {
 -- where it begins
 abbrev pub top_of : Options → JobModel
 top_of o = top_job (shared o.exclude)
+
+-- a walk of all of a tree by no rules but its own, with no lists
+pub record IsOfAll (workers room : ℕ) (o : Options) : Type 0 where
+  pub threads : o.threads ≡ workers
+  pub max_dirs : o.max_dirs ≡ room
+  pub asked : asked_by o ≡ record { lists = record { files = false; left_out = false }; selection = record { without = []; only = [] } }
+  pub top : top_of o ≡ top_job None

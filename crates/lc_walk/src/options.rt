@@ -1,6 +1,6 @@
 //! What is asked of a walk.
 ghost use Rattle.std.specs.Prelude.{◌≡◌};
-ghost use Rattle.lc_walk.specs.WalkOptions.{asked_by};
+ghost use Rattle.lc_walk.specs.WalkOptions.{IsOfAll, asked_by};
 
 use lc_level::Selection;
 use lc_rules::IgnoreFile;
@@ -17,6 +17,10 @@ pub struct Lists {
 }
 
 /// What is asked of a walk.
+///
+/// ```
+/// let options = Options { without: &["linguist-vendored"], ..Options::new(4, 65_536) };
+/// ```
 #[derive(Drop)]
 pub struct Options<'o> {
     /// How many workers walk at the same time: 1 to 16.
@@ -36,6 +40,24 @@ pub struct Options<'o> {
 }
 
 impl<'o> Options<'o> {
+    /// A walk of all of a tree by so many workers, with so many directories at most: by no rules but the tree's own, and with no lists.
+    pub fn new(threads: u32, max_dirs: u32) -> Options<'o>
+        ensures { IsOfAll threads max_dirs result }
+    {
+        Options {
+            threads,
+            max_dirs,
+            lists: Lists {
+                files: false,
+                left_out: false,
+            },
+            exclude: None,
+            archive: false,
+            without: &[],
+            only: &[],
+        }
+    }
+
     /// What decides, beside the rules of the tree, which entries take part and which are left out.
     pub fn selection(&self) -> Selection<'o>
         ensures { result ≡ (asked_by self.now).selection }
