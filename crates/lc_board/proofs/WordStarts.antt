@@ -1,15 +1,42 @@
--- One more pass of a board of words that is being started.
-use Rattle.std.proofs.Common.{◌≡◌, ◌<◌, ◌+◌, ◌++◌, ◌∷◌, ◌∙◌, ℕ, false, List, [], Some, length, slice_get, slice_set, sym, ap, subst, arith}
-use Rattle.std.proofs.lemmas.List.{length-set}
+-- A board of words is started: its first pass, and one pass more.
+use Rattle.std.proofs.Common.{◌≡◌, ◌<◌, ◌≤◌, ◌+◌, ◌-◌, ◌++◌, ◌∷◌, ◌∙◌, ℕ, false, List, [], Option, Some, None, length, replicate}
+use Rattle.std.proofs.Common.{slice_get, slice_set, refl, sym, ap, subst, arith}
+use Rattle.std.proofs.lemmas.List.{length-replicate, length-set}
 use Rattle.lc_board.specs.Pass.{new_pass}
-use Rattle.lc_board.specs.WordSteps.{left_of_split, right_of_split}
+use Rattle.lc_board.specs.WordPass.{IsTied}
+use Rattle.lc_board.specs.WordRow.{Seated}
+use Rattle.lc_board.specs.WordSteps.{view_before_split, left_of_split, right_of_split}
 use Rattle.lc_board.specs.WordsBoard.{IsPassOf, Owns, IsSamePass, known, told}
 use Rattle.lc_board.specs.declared.words.Words.{Words}
 use Rattle.lc_board.specs.declared.words.pass.WordsPass.{WordsPass}
 use Rattle.lc_board.specs.declared.words.view.View.{View}
 use Rattle.lc_board.proofs.Places.{each_set, each_push, get_push_other, get_set_same}
 
+-- the words or the slots of a board are as many as its numbers
+pub row_length : {A : Type 0} (first other : A) (capacity : ℕ) (row : List A) → row ≡ first ∷ replicate (capacity - 1) other
+    → 1 ≤ capacity → length row ≡ capacity
+row_length first other capacity row is some =
+    let n = length-replicate (capacity - 1) other in omega (arith, ap length is, n)
+
 module _ {J R : Type 0} where
+  -- the first pass has claimed nothing
+  pub tied_first : (slots workers : ℕ) (root : Option J) (m : Seated J R) → m ≡ (view_before_split root workers, []) → 1 ≤ slots
+      → IsTied slots 0 None 0 1 0 m
+  tied_first slots workers root m is some = subst (λ z. IsTied slots 0 None 0 1 0 z) (sym is) (record {
+    live = refl;
+    idle = refl;
+    numbered = refl;
+    fronted = refl;
+    lowered = refl;
+    holds = refl;
+    posts_are = refl;
+    carries = refl;
+    near = omega arith;
+    within = some;
+    inside = λ i e. absurd cc;
+    lower = omega arith;
+  })
+
   abbrev IsNew : Words J R → ℕ → WordsPass J R → Type 0
   IsNew b w p = Owns b p × (told p ≡ new_pass w) × ((known p).seen ≡ [])
 

@@ -1,12 +1,20 @@
-use Rattle.std.proofs.Common.{sym, ◌∙◌, arith, ◌≡◌, false, ◌||◌, ap, subst}
+use Rattle.std.proofs.Common.{sym, refl, ◌∙◌, arith, ◌≡◌, false, ◌||◌, ap, subst}
 use Rattle.lc_board.specs.WordSteps.{AddsEvent, is_last_word}
 use Rattle.lc_board.specs.WordMarks.{HasPassed}
 use Rattle.lc_board.specs.WordsBoard.{AnswersWordsClaim}
 use Rattle.lc_board.specs.declared.event.Event.TheVariants as event
 use Rattle.lc_board.proofs.WordScans.{same_trans, scan_over, scan_next, not_last, absent_is_last, later_absent, passed_absent}
-use Rattle.lc_board.proofs.WordScans.{some_later, none_later, sees_adds}
+use Rattle.lc_board.proofs.WordScans.{some_later, none_later, scan_begin, sees_adds}
 use Rattle.lc_board.proofs.words.Words.seek.Goals as goal
 use Rattle.lc_board.proofs.words.Words.seek.Goals.{else-lowest-via-then-lowest+else-is_last, else-lowest-via-else-lowest}
+
+pub loop-number-init : goal.loop-number-init
+loop-number-init g c = let p = c.args.pass.now in record {
+  same = (refl, refl, refl, refl, refl);
+  holding = c.requires.free;
+  from = omega arith;
+  scan = scan_begin c.args.self.now.capacity p.taken p.seat.me.0 p.marked;
+}
 
 pub returns-in-Ok-clause-some : goal.returns-in-Ok-clause-some
 returns-in-Ok-clause-some g c = let told = c.in-Ok.ensures.rule in let inv = c.loop-number.invariant in
@@ -78,3 +86,6 @@ loop-number-preserved g c = let told = c.in-Err.ensures.rule in let inv = c.loop
           (not_last c.args.self.now.capacity c.loop-number.number u.low c.in-Err.found more) (t.holds ∙ c.requires.free)
           (sym c.if-is_absent.ensures) told.1 (ap (λ b. c.loop-number.busy || b) c.is_busy-busy.ensures);
     }
+
+pub loop-number-smaller : goal.loop-number-smaller
+loop-number-smaller g c = omega (arith, c.loop-number-test.true)
