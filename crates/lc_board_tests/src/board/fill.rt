@@ -196,13 +196,8 @@ fn sixteen_threads_fill_locked(rt: HostRuntime) -> Result<(), Fail> {
 }
 
 #[test]
-fn two_threads_fill_words(rt: HostRuntime) -> Result<(), Fail> {
+fn two_and_sixteen_threads_fill_words(rt: HostRuntime) -> Result<(), Fail> {
     fill::<Words<Job, Row>, HostRuntime>(&rt, rt.alloc(), 65_536, 2)?;
-    Ok(())
-}
-
-#[test]
-fn sixteen_threads_fill_words(rt: HostRuntime) -> Result<(), Fail> {
     fill::<Words<Job, Row>, HostRuntime>(&rt, rt.alloc(), 65_536, 16)?;
     Ok(())
 }

@@ -1,9 +1,7 @@
 //! How large a board may be.
 use lc_board::limits::{MAX_CAPACITY, MAX_WORKERS};
-use std::test::Fail;
 
 #[test]
-fn limits_of_a_board(rt: HostRuntime) -> Result<(), Fail> {
+fn limits_of_a_board(rt: HostRuntime) {
     assert!(rt; (MAX_CAPACITY, MAX_WORKERS) == (1_048_576, 16));
-    Ok(())
 }

@@ -1,12 +1,17 @@
 //! Which open number a claim of `Words` takes. No promise speaks of it.
+ghost use Rattle.std.specs.Prelude.{◌≤◌};
+ghost use Rattle.lc_board.specs.Limits.{capacity_limit};
+
 use crate::board::script::{Call, ROOT, Told, has_rows};
 use crate::board::shared_scripts::run;
 use lc_board::{Ended, Words};
 use std::alloc::{AllocError, Global};
+use std::process::Abort;
+use std::sync::Wait;
 use std::test::Fail;
 
 /// A worker claims what it posted last, and one that has posted nothing the lowest open number.
-const LAST_POSTED_FIRST: [(Call, Told); 19] = [
+const LAST_POSTED_FIRST: &[(Call, Told)] = &[
     (Call::Claim(0), Told::Got(0, ROOT)),
     (Call::Post(0, 1), Told::Posted(1)),
     (Call::Post(0, 2), Told::Posted(2)),
@@ -28,23 +33,6 @@ const LAST_POSTED_FIRST: [(Call, Told); 19] = [
     (Call::Claim(1), Told::Over),
 ];
 
-const ROWS: [Ended<u32>; 6] = [
-    Ended::Returned(0),
-    Ended::Returned(1),
-    Ended::Returned(2),
-    Ended::Returned(3),
-    Ended::Returned(4),
-    Ended::Returned(5),
-];
-
-#[test]
-fn what_was_posted_last_is_claimed_first(rt: HostRuntime) -> Result<(), Fail> {
-    let alloc: Global = rt.alloc();
-    let closed = run::<Words<u32, u32>, HostRuntime>(&rt, alloc, 6, 2, &LAST_POSTED_FIRST)?;
-    has_rows(&rt, closed, &ROWS)?;
-    Ok(())
-}
-
 /// Each number's row is the number.
 fn own_rows(alloc: Global, capacity: u32) -> Result<Vec<Ended<u32>>, AllocError> {
     let mut rows = Vec::with_capacity(alloc, capacity as usize)?;
@@ -54,31 +42,58 @@ fn own_rows(alloc: Global, capacity: u32) -> Result<Vec<Ended<u32>>, AllocError>
     Ok(rows)
 }
 
+/// Two workers make these calls on a board that they use up, and each number's row is the number.
+fn claims_so<R: Wait + Abort>(
+    rt: &R,
+    alloc: Global,
+    capacity: u32,
+    script: &[(Call, Told)],
+) -> Result<(), AllocError>
+    requires { (1 ≤ capacity) × (capacity ≤ capacity_limit) }
+{
+    let closed = run::<Words<u32, u32>, R>(rt, alloc, capacity, 2, script)?;
+    has_rows(rt, closed, &own_rows(alloc, capacity)?)
+}
+
+#[test]
+fn what_was_posted_last_is_claimed_first(rt: HostRuntime) -> Result<(), Fail> {
+    claims_so(&rt, rt.alloc(), 6, LAST_POSTED_FIRST)?;
+    Ok(())
+}
+
 /// How many spans of numbers a pass keeps that it posted.
 const SPANS: u32 = 32;
 
 /// How many numbers the script of `span_more` uses: each of the spans has two, and the other worker posts two.
 const SPREAD: u32 = 4 + 2 * (SPANS + 1);
 
-/// Number 3 is the other worker's. Then of each two posts the first is left open, and begins a span of its own.
+/// Number 3 is the other worker's.
+const BEFORE_SPANS: &[(Call, Told)] = &[
+    (Call::Claim(0), Told::Got(0, ROOT)),
+    (Call::Post(0, 1), Told::Posted(1)),
+    (Call::Give(0, 0), Told::Done),
+    (Call::Claim(1), Told::Got(1, 1)),
+    (Call::Post(1, 2), Told::Posted(2)),
+    (Call::Post(1, 3), Told::Posted(3)),
+    (Call::Give(1, 1), Told::Done),
+    (Call::Claim(0), Told::Got(2, 2)),
+];
+
+/// Of each two posts the first is left open, and begins a span of its own.
 fn span_more(alloc: Global) -> Result<Vec<(Call, Told)>, AllocError> {
     let mut script = Vec::new(alloc);
-    script.push((Call::Claim(0), Told::Got(0, ROOT)))?;
-    script.push((Call::Post(0, 1), Told::Posted(1)))?;
-    script.push((Call::Give(0, 0), Told::Done))?;
-    script.push((Call::Claim(1), Told::Got(1, 1)))?;
-    script.push((Call::Post(1, 2), Told::Posted(2)))?;
-    script.push((Call::Post(1, 3), Told::Posted(3)))?;
-    script.push((Call::Give(1, 1), Told::Done))?;
-    script.push((Call::Claim(0), Told::Got(2, 2)))?;
+    script.extend_from_slice(BEFORE_SPANS)?;
     let mut held = 2;
     for span in 0..=SPANS {
         let left = 4 + 2 * span;
-        script.push((Call::Post(0, left), Told::Posted(left)))?;
-        script.push((Call::Post(0, left + 1), Told::Posted(left + 1)))?;
-        script.push((Call::Give(0, held), Told::Done))?;
-        script.push((Call::Claim(0), Told::Got(left + 1, left + 1)))?;
-        held = left + 1;
+        let next = left + 1;
+        script.extend_from_slice(&[
+            (Call::Post(0, left), Told::Posted(left)),
+            (Call::Post(0, next), Told::Posted(next)),
+            (Call::Give(0, held), Told::Done),
+            (Call::Claim(0), Told::Got(next, next)),
+        ])?;
+        held = next;
     }
     script.push((Call::Give(0, held), Told::Done))?;
     Ok(script)
@@ -101,16 +116,21 @@ fn claim_down(script: &mut Vec<(Call, Told)>) -> Result<(), AllocError> {
 
 #[test]
 fn the_lowest_span_gives_way(rt: HostRuntime) -> Result<(), Fail> {
-    let alloc: Global = rt.alloc();
-    let mut script = span_more(alloc)?;
+    let mut script = span_more(rt.alloc())?;
     claim_down(&mut script)?;
-    let closed = run::<Words<u32, u32>, HostRuntime>(&rt, alloc, SPREAD, 2, &script)?;
-    has_rows(&rt, closed, &own_rows(alloc, SPREAD)?)?;
+    claims_so(&rt, rt.alloc(), SPREAD, &script)?;
     Ok(())
 }
 
 /// So many numbers that claims that looked at all that is taken would take minutes.
 const CROWD: u32 = 1 << 19;
+
+/// How the root ends once all below it have ended.
+const AFTER_CROWD: &[(Call, Told)] = &[
+    (Call::Claim(1), Told::Later),
+    (Call::Give(0, 0), Told::Done),
+    (Call::Claim(1), Told::Over),
+];
 
 /// One worker posts all numbers under the root, and the other claims and ends one after the other meanwhile.
 fn claimed_in_turn(alloc: Global) -> Result<Vec<(Call, Told)>, AllocError> {
@@ -123,17 +143,12 @@ fn claimed_in_turn(alloc: Global) -> Result<Vec<(Call, Told)>, AllocError> {
         script.push((Call::Claim(1), Told::Got(number, number)))?;
         script.push((Call::Give(1, number), Told::Done))?;
     }
-    script.push((Call::Claim(1), Told::Later))?;
-    script.push((Call::Give(0, 0), Told::Done))?;
-    script.push((Call::Claim(1), Told::Over))?;
+    script.extend_from_slice(AFTER_CROWD)?;
     Ok(script)
 }
 
 #[test]
 fn claims_begin_above_what_is_taken(rt: HostRuntime) -> Result<(), Fail> {
-    let alloc: Global = rt.alloc();
-    let script = claimed_in_turn(alloc)?;
-    let closed = run::<Words<u32, u32>, HostRuntime>(&rt, alloc, CROWD, 2, &script)?;
-    has_rows(&rt, closed, &own_rows(alloc, CROWD)?)?;
+    claims_so(&rt, rt.alloc(), CROWD, &claimed_in_turn(rt.alloc())?)?;
     Ok(())
 }

@@ -2,10 +2,8 @@
 ghost use Rattle.std.specs.Prelude.{◌≡◌, ◌≤◌};
 ghost use Rattle.lc_board.specs.Limits.{capacity_limit, workers_limit};
 
-use crate::board::script::{
-    Call, FULL, LAST_NUMBER, MANY, OWN_POST, RETURNED, ROOT, THREE_ROWS, TWO_ROWS, TWO_WORKERS,
-    Told, answers, filling, has_rows,
-};
+use crate::board::script::{Call, MANY, ROOT, SCRIPTS, Script, Told, answers, ends_so, filling};
+use lc_board::limits::{MAX_CAPACITY, MAX_WORKERS};
 use lc_board::{Claim, CloseFault, Closed, Plain};
 use std::alloc::{AllocError, Global};
 use std::process::Abort;
@@ -59,14 +57,23 @@ fn run<R: Abort>(
     Ok(board.into_rows(alloc))
 }
 
+/// The script goes through, and its board is closed as it says.
+fn check<R: Abort>(rt: &R, alloc: Global, script: &Script) -> Result<(), AllocError> {
+    let capacity = script.capacity;
+    let workers = script.workers;
+    assert!(rt;
+        1 <= capacity && capacity <= MAX_CAPACITY && 1 <= workers && workers <= MAX_WORKERS
+    );
+    let closed = run(rt, alloc, capacity, workers, script.calls)?;
+    ends_so(rt, closed, &script.end)
+}
+
 #[test]
 fn scripts_on_plain(rt: HostRuntime) -> Result<(), Fail> {
     let alloc: Global = rt.alloc();
-    has_rows(&rt, run(&rt, alloc, 2, 2, &TWO_WORKERS)?, &TWO_ROWS)?;
-    has_rows(&rt, run(&rt, alloc, 3, 2, &LAST_NUMBER)?, &THREE_ROWS)?;
-    has_rows(&rt, run(&rt, alloc, 1, 1, &FULL)?, &RETURNED)?;
-    let unfinished = run(&rt, alloc, 2, 1, &OWN_POST)?;
-    assert!(rt; unfinished == Err(CloseFault::Unfinished(1)));
+    for script in SCRIPTS {
+        check(&rt, alloc, script)?;
+    }
     let filled = run(&rt, alloc, MANY, 1, &filling(alloc, MANY)?)?;
     assert!(rt; filled == Err(CloseFault::Unfinished(1)));
     Ok(())

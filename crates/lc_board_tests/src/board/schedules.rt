@@ -15,14 +15,14 @@ const NAMED: u32 = 14;
 const CALLS: u32 = 36;
 
 /// The rows where the third number is posted under the root.
-const BY_ROOT: [Ended<u32>; 3] = [
+const BY_ROOT: &[Ended<u32>] = &[
     Ended::Returned(ROOT),
     Ended::Returned(0),
     Ended::Returned(0),
 ];
 
 /// The rows where it is posted under the second number.
-const BY_OTHER: [Ended<u32>; 3] = [
+const BY_OTHER: &[Ended<u32>] = &[
     Ended::Returned(ROOT),
     Ended::Returned(0),
     Ended::Returned(1),
@@ -101,7 +101,7 @@ fn worker_at(schedule: u32, turn: u32) -> usize
 }
 
 fn is_either(rows: &[Ended<u32>]) -> bool {
-    rows == BY_ROOT.as_slice() || rows == BY_OTHER.as_slice()
+    rows == BY_ROOT || rows == BY_OTHER
 }
 
 /// The board was closed with the root's job, a job posted under the root, and one posted under either of these.

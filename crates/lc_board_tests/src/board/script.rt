@@ -93,17 +93,32 @@ pub fn has_rows<R: Abort>(
     Ok(())
 }
 
+/// A board was closed so, if there was memory for its rows.
+pub fn ends_so<R: Abort>(
+    rt: &R,
+    closed: Result<Closed<u32>, CloseFault>,
+    end: &Result<&'static [Ended<u32>], CloseFault>,
+) -> Result<(), AllocError> {
+    match end {
+        Ok(rows) => has_rows(rt, closed, rows),
+        Err(fault) => {
+            assert!(rt; closed == Err(*fault), "{fault:?}");
+            Ok(())
+        }
+    }
+}
+
 /// The rows of `TWO_WORKERS`.
-pub const TWO_ROWS: [Ended<u32>; 2] = [Ended::Returned(10), Ended::Returned(11)];
+const TWO_ROWS: &[Ended<u32>] = &[Ended::Returned(10), Ended::Returned(11)];
 
 /// The row of `FULL`.
-pub const RETURNED: [Ended<u32>; 1] = [Ended::Returned(10)];
+const RETURNED: &[Ended<u32>] = &[Ended::Returned(10)];
 
 /// The row of `FAULT`.
-pub const FAULTED: [Ended<u32>; 1] = [Ended::Faulted(10)];
+pub const FAULTED: &[Ended<u32>] = &[Ended::Faulted(10)];
 
 /// Two workers on a board of two numbers: the second waits for the first to post, and both find the end.
-pub const TWO_WORKERS: [(Call, Told); 9] = [
+const TWO_WORKERS: &[(Call, Told)] = &[
     (Call::Claim(0), Told::Got(0, ROOT)),
     (Call::Claim(1), Told::Later),
     (Call::Post(0, 9), Told::Posted(1)),
@@ -116,7 +131,7 @@ pub const TWO_WORKERS: [(Call, Told); 9] = [
 ];
 
 /// One worker reads back what it posted.
-pub const OWN_POST: [(Call, Told); 4] = [
+const OWN_POST: &[(Call, Told)] = &[
     (Call::Claim(0), Told::Got(0, ROOT)),
     (Call::Post(0, 9), Told::Posted(1)),
     (Call::Give(0, 10), Told::Done),
@@ -124,7 +139,7 @@ pub const OWN_POST: [(Call, Told); 4] = [
 ];
 
 /// On a board of one number nothing can be posted.
-pub const FULL: [(Call, Told); 4] = [
+const FULL: &[(Call, Told)] = &[
     (Call::Claim(0), Told::Got(0, ROOT)),
     (Call::Post(0, 9), Told::Full(9)),
     (Call::Give(0, 10), Told::Done),
@@ -132,14 +147,14 @@ pub const FULL: [(Call, Told); 4] = [
 ];
 
 /// A fault ends the root.
-pub const FAULT: [(Call, Told); 3] = [
+pub const FAULT: &[(Call, Told)] = &[
     (Call::Claim(0), Told::Got(0, ROOT)),
     (Call::Fault(0, 10), Told::Done),
     (Call::Claim(0), Told::Over),
 ];
 
 /// The last number is posted while another worker holds a claim: that one may post no more, and may end its claim.
-pub const LAST_NUMBER: [(Call, Told); 10] = [
+const LAST_NUMBER: &[(Call, Told)] = &[
     (Call::Claim(0), Told::Got(0, ROOT)),
     (Call::Post(0, 8), Told::Posted(1)),
     (Call::Claim(1), Told::Got(1, 8)),
@@ -153,10 +168,46 @@ pub const LAST_NUMBER: [(Call, Told); 10] = [
 ];
 
 /// The rows of `LAST_NUMBER`.
-pub const THREE_ROWS: [Ended<u32>; 3] = [
+const THREE_ROWS: &[Ended<u32>] = &[
     Ended::Returned(10),
     Ended::Returned(11),
     Ended::Returned(12),
+];
+
+/// A script on a board of this size, and what closing the board then gives.
+pub struct Script {
+    pub capacity: u32,
+    pub workers: u32,
+    pub calls: &'static [(Call, Told)],
+    pub end: Result<&'static [Ended<u32>], CloseFault>,
+}
+
+/// The scripts for any board.
+pub const SCRIPTS: &[Script] = &[
+    Script {
+        capacity: 2,
+        workers: 2,
+        calls: TWO_WORKERS,
+        end: Ok(TWO_ROWS),
+    },
+    Script {
+        capacity: 3,
+        workers: 2,
+        calls: LAST_NUMBER,
+        end: Ok(THREE_ROWS),
+    },
+    Script {
+        capacity: 1,
+        workers: 1,
+        calls: FULL,
+        end: Ok(RETURNED),
+    },
+    Script {
+        capacity: 2,
+        workers: 1,
+        calls: OWN_POST,
+        end: Err(CloseFault::Unfinished(1)),
+    },
 ];
 
 /// More numbers than 16 bits have.

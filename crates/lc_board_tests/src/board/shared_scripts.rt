@@ -3,9 +3,9 @@ ghost use Rattle.std.specs.Prelude.{◌≡◌, ◌≤◌, ◌<◌, Some};
 ghost use Rattle.lc_board.specs.Limits.{capacity_limit, workers_limit};
 
 use crate::board::script::{
-    Call, FAULT, FAULTED, FULL, LAST_NUMBER, MANY, OWN_POST, RETURNED, ROOT, THREE_ROWS, TWO_ROWS,
-    TWO_WORKERS, Told, answers, filling, has_rows,
+    Call, FAULT, FAULTED, MANY, ROOT, SCRIPTS, Script, Told, answers, ends_so, filling, has_rows,
 };
+use lc_board::limits::{MAX_CAPACITY, MAX_WORKERS};
 use lc_board::{CloseFault, Closed, Locked, Shared, Token, Words};
 use std::alloc::{AllocError, Global};
 use std::process::Abort;
@@ -69,17 +69,30 @@ pub fn run<B: Shared<u32, u32>, R: Wait + Abort>(
     Ok(board.close(passes))
 }
 
+/// The script goes through on a board of this type, which is closed as the script says.
+fn check<B: Shared<u32, u32>, R: Wait + Abort>(
+    rt: &R,
+    alloc: Global,
+    script: &Script,
+) -> Result<(), AllocError> {
+    let capacity = script.capacity;
+    let workers = script.workers;
+    assert!(rt;
+        1 <= capacity && capacity <= MAX_CAPACITY && 1 <= workers && workers <= MAX_WORKERS
+    );
+    let closed = run::<B, R>(rt, alloc, capacity, workers, script.calls)?;
+    ends_so(rt, closed, &script.end)
+}
+
 /// The scripts, on a board of this type.
 fn scripts_on<B: Shared<u32, u32>, R: Wait + Abort>(
     rt: &R,
     alloc: Global,
 ) -> Result<(), AllocError> {
-    has_rows(rt, run::<B, R>(rt, alloc, 2, 2, &TWO_WORKERS)?, &TWO_ROWS)?;
-    has_rows(rt, run::<B, R>(rt, alloc, 3, 2, &LAST_NUMBER)?, &THREE_ROWS)?;
-    has_rows(rt, run::<B, R>(rt, alloc, 1, 1, &FULL)?, &RETURNED)?;
-    has_rows(rt, run::<B, R>(rt, alloc, 1, 1, &FAULT)?, &FAULTED)?;
-    let unfinished = run::<B, R>(rt, alloc, 2, 1, &OWN_POST)?;
-    assert!(rt; unfinished == Err(CloseFault::Unfinished(1)));
+    for script in SCRIPTS {
+        check::<B, R>(rt, alloc, script)?;
+    }
+    has_rows(rt, run::<B, R>(rt, alloc, 1, 1, FAULT)?, FAULTED)?;
     let filled = run::<B, R>(rt, alloc, MANY, 1, &filling(alloc, MANY)?)?;
     assert!(rt; filled == Err(CloseFault::Unfinished(1)));
     Ok(())
