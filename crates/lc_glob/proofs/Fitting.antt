@@ -1,5 +1,5 @@
 -- How tokens fit a segment of a path, from its front and from its end.
-use Rattle.std.proofs.Common.{take, ◌-◌, map, length, nat_eq, bytes_eq, eq-eqb, ◌∙◌, ◌≡◌, ◌↔◌, ◌⊎◌, IsTrue, IsFalse, ℕ, true, false}
+use Rattle.std.proofs.Common.{take, ◌-◌, map, length, nat_eq, bytes_eq, eq-eqb, ◌∙◌, ◌≡◌, ◌↔◌, ◌⊎◌, IsTrue, IsFalse, ℕ, false}
 use Rattle.std.proofs.Common.{List, [], ◌∷◌, ◌++◌, inl, inr, refl, sym, subst, ap}
 use Rattle.std.specs.List.{ends_with}
 use Rattle.std.proofs.lemmas.Bool.{false≢true, eqb-true}
@@ -7,7 +7,7 @@ use Rattle.std.proofs.lemmas.Bool.Decides.{Decides-eqb}
 use Rattle.std.proofs.lemmas.Slice.Eq.{bytes_eq-Decides, ends_is}
 use Rattle.lc_glob.specs.Tokens.{TokenModel, literal, any_byte, star, class, takes, is_star}
 use Rattle.lc_glob.specs.Fits.{Fits}
-use Rattle.lc_glob.proofs.After.{after_none, after_more, after_cut, after_empty, after_end}
+use Rattle.lc_glob.proofs.After.{after_empty, after_end}
 
 -- a token that is no star fits no empty name
 pub fits_one_empty : (u : TokenModel) (us : List TokenModel) → is_star u ≡ false → Fits (u ∷ us) [] → ⊥
@@ -15,15 +15,6 @@ fits_one_empty star us e h = cc
 fits_one_empty (literal c) us e h = h
 fits_one_empty any_byte us e h = h
 fits_one_empty (class n rs) us e h = h
-
--- a star takes no byte, or one and stays
-pub fits_star : (u : TokenModel) (us : List TokenModel) (x : ℕ) (xs : List ℕ) → is_star u ≡ true
-    → Fits (u ∷ us) (x ∷ xs) ↔ (Fits us (x ∷ xs) ⊎ Fits (u ∷ us) xs)
-fits_star star us x xs e =
-    (after_cut (Fits us) x xs, λ w. elim w [ inl f ↦ after_none (Fits us) (x ∷ xs) f | inr f ↦ after_more (Fits us) x xs f ])
-fits_star (literal c) us x xs e = cc
-fits_star any_byte us x xs e = cc
-fits_star (class n rs) us x xs e = cc
 
 -- another token takes one byte, and the rest fits the rest
 pub fits_one : (u : TokenModel) (us : List TokenModel) (x : ℕ) (xs : List ℕ) → is_star u ≡ false

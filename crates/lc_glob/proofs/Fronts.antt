@@ -15,12 +15,6 @@ ends_last (p ∷ []) q = refl
 ends_last (p ∷ r ∷ []) q = refl
 ends_last (p ∷ r ∷ s ∷ ps) q = ends_last (r ∷ s ∷ ps) q
 
--- what stands before the last part
-pub last_off : (ps : List (List TokenModel)) (q : List TokenModel) → without_last (ps ++ q ∷ []) ≡ ps
-last_off [] q = refl
-last_off (p ∷ []) q = refl
-last_off (p ∷ r ∷ ps) q = ap (λ (l : List (List TokenModel)). p ∷ l) (last_off (r ∷ ps) q)
-
 -- the test of the last part, asked of the parts as they were read, is that of the definition
 pub ends_of : (all rest : List (Vec Token Global)) (last : Vec Token Global) (r : Bool) → all ≡ rest ++ last ∷ []
     → (length rest ≡ 0 → ⊥) → r ≡ is_empty (part_model last) → r ≡ ends_empty (map part_model all)

@@ -15,22 +15,11 @@ pub plain_is : (b x used : ℕ) (rest : List ℕ) (found : Option (List (ℕ × 
     → range_from x used (take (length rest - used) (drop used rest)) ≡ found → plain_item b rest ≡ found
 plain_is b x used rest found e r = ap (λ (o : Option (ℕ × ℕ)). from_element o rest) e ∙ (rw take_rest at r)
 
-of_plain : (t u : Bool) (n : ℕ) (k : Option (List (ℕ × ℕ))) (plain : Option (List (ℕ × ℕ) × ℕ)) → t ≡ true → u ≡ false
-    → cond t (cond u (class_item n k) plain) None ≡ plain
-of_plain true false n k plain t u = refl
-of_plain true true n k plain t u = cc
-of_plain false u' n k plain t u = cc
-
 of_class : (t u : Bool) (n : ℕ) (k : Option (List (ℕ × ℕ))) (plain : Option (List (ℕ × ℕ) × ℕ)) → t ≡ true → u ≡ true
     → cond t (cond u (class_item n k) plain) None ≡ class_item n k
 of_class true true n k plain t u = refl
 of_class true false n k plain t u = cc
 of_class false u' n k plain t u = cc
-
-of_none : (t u : Bool) (n : ℕ) (k : Option (List (ℕ × ℕ))) (plain : Option (List (ℕ × ℕ) × ℕ)) → t ≡ false
-    → cond t (cond u (class_item n k) plain) None ≡ None
-of_none true u n k plain t = cc
-of_none false u n k plain t = refl
 
 test_lt : (a b : ℕ) → a < b → nat_lt a b ≡ true
 test_lt a b l = lt-ltb a b l
