@@ -10,7 +10,9 @@ use Rattle.lc_rules.specs.Decision.{macro_of, expansion, unread}
 use Rattle.lc_rules.specs.Resolving.{marked, is_marked, answer, Moves, to_read, stacked}
 use Rattle.lc_rules.specs.KnownMacros.{expanded, matters}
 use Rattle.lc_rules.specs.Models.{seen_state}
-use Rattle.lc_rules.specs.AttrStates.{AttrChainModel, assignments_of, macros_of, state_of}
+use Rattle.lc_rules.specs.AttrLines.{AttrFileModel}
+use Rattle.lc_rules.specs.AttrStates.{AttrChainModel, assignments_of, by_lines, macros_of, state_of, tree_assignments}
+use Rattle.lc_rules.specs.Verdicts.{below}
 use Rattle.lc_rules.specs.declared.assignment.AssignmentRef.{AssignmentRef}
 use Rattle.lc_rules.specs.declared.states.State.{State}
 use Rattle.lc_rules.proofs.DecisionLaws.{expansion_less, unread_less}
@@ -148,3 +150,26 @@ moves_past ms w (a ∷ r) ns p h =
     (moves_plain ms w a r ns p ((or_parts (bytes_eq a.0 w) (is_some (macro_of ms a.0)) here).0)
     (none_some (macro_of ms a.0) ((or_parts (bytes_eq a.0 w) (is_some (macro_of ms a.0)) here).1)))
     (moves_past ms w r ns p ((or_parts (matters ms w a.0) (list_any (λ a. matters ms w a.0) r) h).1))
+
+-- the files nearer to the path are read first, and then the file above them
+pub nearer_first : (ms : List MacroModel) (w : List ℕ) (files nearer : List (ℕ × AttrFileModel)) (depth : ℕ) (file : AttrFileModel)
+    (path inner rest : List ℕ) (is_dir : Bool) (c d e : List (List ℕ)) (found : Option StateModel)
+    → files ≡ (depth, file) ∷ nearer → inner ≡ path → rest ≡ below depth path
+    → Moves ms w (tree_assignments nearer inner is_dir) c None [] d → Moves ms w (by_lines file.lines rest is_dir) d found [] e
+    → Moves ms w (tree_assignments files path is_dir) c found [] e
+nearer_first ms w files nearer depth file path inner rest is_dir c d e found is same cut h k =
+    let last = by_lines file.lines (below depth path) is_dir in
+    let first = subst (λ p. Moves ms w (tree_assignments nearer p is_dir) c None [] d) same h in
+    let next = subst (λ p. Moves ms w (by_lines file.lines p is_dir) d found [] e) cut k in
+    subst (λ fs. Moves ms w (tree_assignments fs path is_dir) c found [] e) (sym is)
+    (moves_then ms w (tree_assignments nearer path is_dir ++ last) last [] c d e found
+    (moves_more ms w (tree_assignments nearer path is_dir) [] last c d None first) next)
+
+-- where these decide, that file is not read
+pub nearer_found : (ms : List MacroModel) (w : List ℕ) (files nearer : List (ℕ × AttrFileModel)) (depth : ℕ) (file : AttrFileModel)
+    (path inner : List ℕ) (is_dir : Bool) (c d : List (List ℕ)) (s : StateModel) → files ≡ (depth, file) ∷ nearer → inner ≡ path
+    → Moves ms w (tree_assignments nearer inner is_dir) c (Some s) [] d → Moves ms w (tree_assignments files path is_dir) c (Some s) [] d
+nearer_found ms w files nearer depth file path inner is_dir c d s is same h =
+    let first = subst (λ p. Moves ms w (tree_assignments nearer p is_dir) c (Some s) [] d) same h in
+    subst (λ fs. Moves ms w (tree_assignments fs path is_dir) c (Some s) [] d) (sym is)
+    (moves_more ms w (tree_assignments nearer path is_dir) [] (by_lines file.lines (below depth path) is_dir) c d (Some s) first)

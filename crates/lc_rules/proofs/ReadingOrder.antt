@@ -8,7 +8,8 @@ use Rattle.lc_glob.specs.IsMatch.{is_match}
 use Rattle.lc_rules.specs.Attributes.{AssignmentModel}
 use Rattle.lc_rules.specs.AttrLines.{PatternLineModel}
 use Rattle.lc_rules.specs.AttrStates.{by_line, by_lines}
-use Rattle.lc_rules.specs.Models.{pattern_line_model}
+use Rattle.lc_rules.specs.Models.{assignment_model, pattern_line_model}
+use Rattle.lc_rules.specs.declared.assignment.Assignment.{Assignment}
 use Rattle.lc_rules.specs.declared.assignment.PatternLine.{PatternLine}
 
 by_lines_more : (ls : List PatternLineModel) (l : PatternLineModel) (path : List ℕ) (is_dir : Bool)
@@ -24,6 +25,12 @@ pub lines_last : (whole before : List PatternLine) (l : PatternLine) (path : Lis
 lines_last whole before l path is_dir e = ap (λ t. by_lines (map pattern_line_model t) path is_dir) e
     ∙ ap (λ t. by_lines t path is_dir) (map-append pattern_line_model before (l ∷ [])) ∙ by_lines_more (map pattern_line_model before)
     (pattern_line_model l) path is_dir
+
+-- the last assignment is read first
+pub words_last : (whole before : List Assignment) (a : Assignment) → whole ≡ before ++ (a ∷ [])
+    → reverse (map assignment_model whole) ≡ assignment_model a ∷ reverse (map assignment_model before)
+words_last whole before a e = ap (λ l. reverse (map assignment_model l)) e
+    ∙ ap reverse (map-append assignment_model before (a ∷ [])) ∙ reverse-append (map assignment_model before) (assignment_model a ∷ [])
 
 -- where none of some assignments passes a test, none that is read does
 reverse_none : (test : AssignmentModel → Bool) (assigns : List AssignmentModel) → list_any test assigns ≡ false

@@ -68,7 +68,8 @@ fn decide_by_files<'a>(
     if let Some(state) = decide_by_files(query, nearer, inner, is_dir, resolver)? {
         return Ok(Some(state));
     }
-    decide_by_file(query, file, inner.rest, is_dir, resolver)
+    let found = decide_by_file(query, file, inner.rest, is_dir, resolver)?;
+    Ok(found)
 }
 
 /// Reads the lines of the file of `.git/info`, if there is one.

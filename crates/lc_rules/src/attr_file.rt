@@ -5,7 +5,7 @@ ghost use Rattle.lc_rules.specs.AttrLines.{attribute_file_of};
 ghost use Rattle.lc_rules.specs.Limits.{max_rule_bytes};
 
 use crate::attr_line::{AttrLine, read_line};
-use crate::faults::{MAX_RULE_BYTES, RuleFault};
+use crate::faults::{RuleFault, is_too_long};
 use crate::line_table::LineTable;
 use crate::lines::Lines;
 use crate::macro_table::MacroTable;
@@ -35,7 +35,7 @@ impl AttrFile {
         ensures ok { IfOk result (λ file. file ≡ attribute_file_of top bytes.now) }
         ensures too_long { (result ≡ Err RuleFault.TooLong) ↔ (max_rule_bytes < length bytes.now) }
     {
-        if bytes.len() > MAX_RULE_BYTES {
+        if is_too_long(bytes) {
             return Err(RuleFault::TooLong);
         }
         let file = read_file(alloc, bytes, top)?;

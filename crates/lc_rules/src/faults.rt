@@ -1,6 +1,7 @@
 //! Why a file of rules is refused.
 
-ghost use Rattle.std.specs.Prelude.{◌≡◌};
+ghost use Rattle.std.specs.Prelude.{◌≡◌, ◌↔◌, ◌<◌, length, IsTrue};
+ghost use Rattle.lc_rules.specs.Limits.{max_rule_bytes};
 ghost use Rattle.lc_rules.specs.declared.faults.RuleFault.TheVariants.{Memory};
 
 use std::alloc::AllocError;
@@ -9,6 +10,13 @@ use std::fmt;
 
 /// The most bytes of an ignore file or an attribute file.
 pub const MAX_RULE_BYTES: usize = 1_048_576;
+
+/// Whether a file has over `MAX_RULE_BYTES` bytes.
+pub(crate) fn is_too_long(bytes: &[u8]) -> bool
+    ensures { IsTrue result ↔ (max_rule_bytes < length bytes.now) }
+{
+    bytes.len() > MAX_RULE_BYTES
+}
 
 /// Why an ignore file or an attribute file was not read.
 #[derive(Clone, Copy, Debug)]

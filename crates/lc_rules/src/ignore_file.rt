@@ -6,7 +6,7 @@ ghost use Rattle.lc_rules.specs.Verdicts.{at_depth, deciding, verdict_of};
 ghost use Rattle.lc_rules.specs.Limits.{max_rule_bytes};
 ghost use Rattle.lc_rules.specs.declared.origin.Origin.TheVariants.{Directory};
 
-use crate::faults::{MAX_RULE_BYTES, RuleFault};
+use crate::faults::{RuleFault, is_too_long};
 use crate::ignore_line::{Rule, read_rule};
 use crate::lines::Lines;
 use crate::verdicts::Verdict;
@@ -35,7 +35,7 @@ impl IgnoreFile {
         ensures ok { IfOk result (λ file. file ≡ rules_of bytes.now) }
         ensures too_long { (result ≡ Err RuleFault.TooLong) ↔ (max_rule_bytes < length bytes.now) }
     {
-        if bytes.len() > MAX_RULE_BYTES {
+        if is_too_long(bytes) {
             return Err(RuleFault::TooLong);
         }
         let rules = read_rules(alloc, bytes)?;
