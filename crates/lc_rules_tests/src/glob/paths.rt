@@ -4,45 +4,33 @@ use lc_glob::cut_at_first;
 use lc_glob::path::{depth_of, is_good_name, is_good_path, is_too_deep, is_too_long, push_name};
 use std::test::Fail;
 
-const NAMES: &[(&'static [u8], bool)] = &[
-    (b"a", true),
-    (b"...", true),
-    (b".git", true),
-    (b" ", true),
-    (b"\xff", true),
-    (b"a\n", true),
-    (b"", false),
-    (b".", false),
-    (b"..", false),
-    (b"a/b", false),
-    (b"/", false),
-    (b"a\0", false),
+/// Bytes, whether a directory can have an entry of this name, and whether a tree can have one at this path.
+const GOOD: &[(&'static [u8], bool, bool)] = &[
+    (b"a", true, true),
+    (b"...", true, true),
+    (b".git", true, true),
+    (b" ", true, true),
+    (b"\xff", true, true),
+    (b"a\n", true, true),
+    (b"", false, false),
+    (b".", false, false),
+    (b"..", false, false),
+    (b"a/b", false, true),
+    (b"/", false, false),
+    (b"a\0", false, false),
+    (b"a/.../c", false, true),
+    (b"/a", false, false),
+    (b"a/", false, false),
+    (b"a//b", false, false),
+    (b"a/./b", false, false),
+    (b"a/b\0", false, false),
 ];
 
 #[test]
-fn names_that_a_directory_can_have(rt: HostRuntime) {
-    for (name, is_good) in NAMES {
-        assert!(rt; is_good_name(name) == *is_good, "{name:?}");
-    }
-}
-
-const PATHS: &[(&'static [u8], bool)] = &[
-    (b"a", true),
-    (b"a/b", true),
-    (b"a/.../c", true),
-    (b"", false),
-    (b"/a", false),
-    (b"a/", false),
-    (b"a//b", false),
-    (b"a/./b", false),
-    (b"..", false),
-    (b"a/b\0", false),
-];
-
-#[test]
-fn paths_that_a_tree_can_have(rt: HostRuntime) {
-    for (path, is_good) in PATHS {
-        assert!(rt; is_good_path(path) == *is_good, "{path:?}");
+fn names_and_paths_that_entries_can_have(rt: HostRuntime) {
+    for (bytes, is_name, is_path) in GOOD {
+        let is_good = is_good_name(bytes) == *is_name && is_good_path(bytes) == *is_path;
+        assert!(rt; is_good, "{bytes:?}");
     }
 }
 

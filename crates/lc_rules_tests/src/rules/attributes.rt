@@ -95,14 +95,6 @@ fn text_of(parts: &[Part], alloc: Global, path: &[u8]) -> Result<TextState, Allo
     Ok(chain.text(alloc, path)?)
 }
 
-fn check_texts(rt: &impl Abort, alloc: Global, cases: &[TextCase]) -> Result<(), AllocError> {
-    for (parts, path, text) in cases {
-        let found = text_of(parts, alloc, path)?;
-        assert!(rt; found == *text, "{} parts, {path:?}", parts.len());
-    }
-    Ok(())
-}
-
 // Tables are constant slices, since an array is written out in the proof of each function that lends it.
 const WORDS: &[Case] = &[
     (b"*.c text", b"a.c", b"text", State::Set),
@@ -288,7 +280,10 @@ const TEXTS: &[TextCase] = &[
 
 #[test]
 fn texts_by_a_chain(rt: HostRuntime) -> Result<(), Fail> {
-    check_texts(&rt, rt.alloc(), TEXTS)?;
+    for (parts, path, text) in TEXTS {
+        let found = text_of(parts, rt.alloc(), path)?;
+        assert!(rt; found == *text, "{} parts, {path:?}", parts.len());
+    }
     Ok(())
 }
 

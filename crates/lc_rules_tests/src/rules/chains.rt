@@ -2,7 +2,6 @@
 
 use lc_rules::{Chain, IgnoreFile, Verdict};
 use std::alloc::{AllocError, Global};
-use std::process::Abort;
 use std::sync::Arc;
 use std::test::Fail;
 
@@ -34,18 +33,6 @@ fn chain_of(alloc: Global, directories: &[Directory]) -> Result<Chain, AllocErro
         chain = below(&chain, alloc, *directory)?;
     }
     Ok(chain)
-}
-
-fn check(rt: &impl Abort, alloc: Global, cases: &[Case]) -> Result<(), AllocError> {
-    for (directories, path, is_dir, verdict) in cases {
-        let found = chain_of(alloc, directories)?.verdict(path, *is_dir);
-        assert!(rt;
-            found == *verdict,
-            "{} directories, {path:?}",
-            directories.len()
-        );
-    }
-    Ok(())
 }
 
 const TOP: &[Directory] = &[(0, Some(b"*.t"))];
@@ -97,6 +84,13 @@ const CASES: &[Case] = &[
 
 #[test]
 fn each_case_holds(rt: HostRuntime) -> Result<(), Fail> {
-    check(&rt, rt.alloc(), CASES)?;
+    for (directories, path, is_dir, verdict) in CASES {
+        let found = chain_of(rt.alloc(), directories)?.verdict(path, *is_dir);
+        assert!(rt;
+            found == *verdict,
+            "{} directories, {path:?}",
+            directories.len()
+        );
+    }
     Ok(())
 }

@@ -2,7 +2,6 @@
 
 use lc_rules::{Chain, IgnoreFile, Lines, Origin, Verdict, text_of_line};
 use std::alloc::{AllocError, Global};
-use std::process::Abort;
 use std::sync::Arc;
 use std::test::Fail;
 
@@ -15,18 +14,6 @@ type Case = (&'static [u8], &'static [u8], bool, Option<(u32, Verdict)>);
 
 fn read(alloc: Global, bytes: &[u8]) -> Result<IgnoreFile, AllocError> {
     IgnoreFile::read(alloc, bytes).map_err(|_| AllocError)
-}
-
-fn check(rt: &impl Abort, alloc: Global, cases: &[Case]) -> Result<(), AllocError> {
-    for (rules, path, is_dir, wanted) in cases {
-        let file = read(alloc, rules)?;
-        let found = match file.deciding(path, *is_dir) {
-            Some(rule) => Some((rule.line(), rule.verdict())),
-            None => None,
-        };
-        assert!(rt; found == *wanted, "{rules:?} at {path:?}: {found:?}");
-    }
-    Ok(())
 }
 
 const CASES: &[Case] = &[
@@ -73,7 +60,14 @@ const CASES: &[Case] = &[
 
 #[test]
 fn each_case_holds(rt: HostRuntime) -> Result<(), Fail> {
-    check(&rt, rt.alloc(), CASES)?;
+    for (rules, path, is_dir, wanted) in CASES {
+        let file = read(rt.alloc(), rules)?;
+        let found = match file.deciding(path, *is_dir) {
+            Some(rule) => Some((rule.line(), rule.verdict())),
+            None => None,
+        };
+        assert!(rt; found == *wanted, "{rules:?} at {path:?}: {found:?}");
+    }
     Ok(())
 }
 
@@ -122,20 +116,16 @@ const NEARER: &[Place] = &[
     (b"s/u", None),
 ];
 
-fn check_places(rt: &impl Abort, chain: &Chain, places: &[Place]) {
-    for (path, wanted) in places {
+#[test]
+fn a_nearer_file_decides(rt: HostRuntime) -> Result<(), Fail> {
+    let chain = chain_of(rt.alloc(), FILES)?;
+    for (path, wanted) in NEARER {
         let found = match chain.deciding(path, FILE) {
             Some((origin, rule)) => Some((origin, rule.line())),
             None => None,
         };
         assert!(rt; found == *wanted, "{path:?}: {found:?}");
     }
-}
-
-#[test]
-fn a_nearer_file_decides(rt: HostRuntime) -> Result<(), Fail> {
-    let chain = chain_of(rt.alloc(), FILES)?;
-    check_places(&rt, &chain, NEARER);
     Ok(())
 }
 
