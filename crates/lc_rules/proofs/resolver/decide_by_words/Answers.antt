@@ -17,7 +17,7 @@ returns-in-Some-2-clause-moves c =
     let end = names_in c.decide_by_word.new.resolver.decided in
     let found = Some (state_model c.in-Some-2.state) in
     moves_part ms c.args.query.name.now _ part rest _ _ middle end found c.words.invariant.moves
-    (words_last _ _ _ c.in-Some.ensures.cases.0)
+    (words_last c.words.left.now c.in-Some.before.now c.in-Some.last.now c.in-Some.ensures.cases.0)
     (subst (λ a. Moves ms c.args.query.name.now (a ∷ []) middle found [] end) c.lend.ensures
     (as_found ms c.args.query.name.now (assignment_ref_model c.lend.result ∷ []) middle end [] _ found
     (ap seen_state c.in-Some-2.is) c.in_ok-state.ensures.moves))
@@ -31,7 +31,7 @@ words-preserved c =
     let end = names_in c.decide_by_word.new.resolver.decided in
     record {
       moves = moves_part ms c.args.query.name.now _ part rest _ _ middle end None c.words.invariant.moves
-          (words_last _ _ _ c.in-Some.ensures.cases.0)
+          (words_last c.words.left.now c.in-Some.before.now c.in-Some.last.now c.in-Some.ensures.cases.0)
           (subst (λ a. Moves ms c.args.query.name.now (a ∷ []) middle None [] end) c.lend.ensures
           (as_found ms c.args.query.name.now (assignment_ref_model c.lend.result ∷ []) middle end [] _ None
           (ap seen_state c.in_default-2.is) c.in_ok-state.ensures.moves));
