@@ -2,9 +2,8 @@
 //! succeed.
 
 mod checks;
-mod given_names;
 mod listings;
 mod mem_trees;
-mod real_folders;
 mod system;
+mod system_trees;
 mod trial_trees;

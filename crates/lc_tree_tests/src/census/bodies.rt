@@ -29,21 +29,25 @@ fn scan_at(place: usize, parted: &[u8; 8]) -> Scan
     scan_lanes(Scan::new(), &bytes[..end])
 }
 
-// The plain scan of a word between two `x`, or at the start with one after it, is what the vectors must give with `x`
-// all round, so it is made once a word. A shorter word is one of six letters that ends in `x`.
+/// The plain scan of a word between two `x`, or at the start with one after it, is what the vectors must give with `x` all round, so it
+/// is made once a word. A shorter word is one of six letters that ends in `x`.
+fn bodies_agree(parted: &[u8; 8]) -> bool {
+    if scan_at(0, parted) != scan_plain(Scan::new(), &parted[1..]) {
+        return false;
+    }
+    let inside = scan_plain(Scan::new(), parted);
+    for place in 1..64usize {
+        if scan_at(place, parted) != inside {
+            return false;
+        }
+    }
+    true
+}
+
 #[test]
 fn both_bodies_agree_at_every_place_of_a_vector(rt: HostRuntime) {
     for number in 0..WORDS {
-        let parted = parted_word(number);
-        let first = scan_plain(Scan::new(), &parted[1..]);
-        assert!(&rt; scan_at(0, &parted) == first, "word {number} at the start");
-        let inside = scan_plain(Scan::new(), &parted);
-        for place in 1..64usize {
-            assert!(&rt;
-                scan_at(place, &parted) == inside,
-                "word {number} at {place}"
-            );
-        }
+        assert!(&rt; bodies_agree(&parted_word(number)), "word {number}");
     }
 }
 

@@ -4,7 +4,6 @@ use lc_census::{
 };
 use std::alloc::{AllocError, Global};
 use std::io::{Error, ErrorKind, Read, Result as IoResult};
-use std::process::Abort;
 use std::test::Fail;
 
 /// The answer of a count.
@@ -31,15 +30,10 @@ const TWO_LINES: Outcome = Ok(Count {
 /// How many turns a count has, its answer, and its reads.
 type Case = (&'static str, u64, Outcome, u64);
 
-/// A count of this reader, in reads of 65,536 bytes, answers so by so many reads. Want of memory is passed up, after which no read
-/// was made.
-fn answers<S: Source + Drop>(
-    rt: &impl Abort,
-    alloc: Global,
-    source: S,
-    case: &Case,
-) -> Result<(), AllocError> {
-    let (name, turns, want, reads) = *case;
+/// Whether a count of this reader, in reads of 65,536 bytes, answers so by so many reads. Want of memory is passed up, after which no
+/// read was made.
+fn answers<S: Source + Drop>(alloc: Global, source: S, case: &Case) -> Result<bool, AllocError> {
+    let (_, turns, want, reads) = *case;
     let mut reader = Counted::new(source);
     let found = if turns < MAX_TURNS {
         count_within(alloc, &mut reader, turns)
@@ -49,21 +43,20 @@ fn answers<S: Source + Drop>(
     if reader.reads == 0 && found == Err(CensusFault::Memory) {
         return Err(AllocError);
     }
-    assert!(rt; found == want && reader.reads == reads, "{name}");
-    assert!(rt; reads == 0 || reader.longest == 65_536, "{name}");
-    Ok(())
+    let longest = if reads == 0 { 0 } else { 65_536 };
+    Ok(found == want && reader.reads == reads && reader.longest == longest)
 }
 
-/// A count of this reader into a short buffer answers so by so many reads.
-fn answers_in<S: Source + Drop>(rt: &impl Abort, source: S, case: &Case) {
-    let (name, _, want, reads) = *case;
+/// Whether a count of this reader into a short buffer answers so by so many reads.
+fn answers_in<S: Source + Drop>(source: S, case: &Case) -> bool {
+    let (_, _, want, reads) = *case;
     let mut buffer = [0u8; 16];
     let mut reader = Counted::new(source);
     let found = count_in(&mut buffer, &mut reader, 1_000);
-    assert!(rt; found == want && reader.reads == reads, "{name}");
+    found == want && reader.reads == reads
 }
 
-const TURNS: [Case; 4] = [
+const TURNS: &[Case] = &[
     ("more turns than reads", 4, AB, 3),
     ("as many", 3, AB, 3),
     ("one less", 2, ENDLESS, 2),
@@ -71,27 +64,25 @@ const TURNS: [Case; 4] = [
 ];
 
 /// The end of a slice takes a read.
-const SLICE_TURNS: [Case; 2] = [("one turn", 1, ENDLESS, 1), ("two turns", 2, AB, 2)];
+const SLICE_TURNS: &[Case] = &[("one turn", 1, ENDLESS, 1), ("two turns", 2, AB, 2)];
+
+const NEVER_ENDING: Case = ("an endless reader", 1_000, ENDLESS, 1_000);
 
 #[test]
 fn reads_up_to_the_end_within_its_turns(rt: HostRuntime) -> Result<(), Fail> {
-    for case in &TURNS {
-        answers(&rt, rt.alloc(), Bytewise(b"ab".as_slice()), case)?;
+    for case in TURNS {
+        let same = answers(rt.alloc(), Bytewise(b"ab".as_slice()), case)?;
+        assert!(&rt; same, "{}", case.0);
     }
-    for case in &SLICE_TURNS {
-        answers(&rt, rt.alloc(), b"ab".as_slice(), case)?;
+    for case in SLICE_TURNS {
+        assert!(&rt; answers(rt.alloc(), b"ab".as_slice(), case)?, "{}", case.0);
     }
-    answers(
-        &rt,
-        rt.alloc(),
-        Bytewise(Endless),
-        &("an endless reader", 1_000, ENDLESS, 1_000),
-    )?;
+    assert!(&rt; answers(rt.alloc(), Bytewise(Endless), &NEVER_ENDING)?);
     Ok(())
 }
 
 /// Bytes after which a read fails, and which read that is.
-const FAILURES: [(&[u8], Case); 4] = [
+const FAILURES: &[(&[u8], Case)] = &[
     (b"", ("the first", MAX_TURNS, FAILED, 1)),
     (b"a", ("the second", MAX_TURNS, FAILED, 2)),
     (b"a\nb", ("in mid-stream", MAX_TURNS, FAILED, 4)),
@@ -100,30 +91,31 @@ const FAILURES: [(&[u8], Case); 4] = [
 
 #[test]
 fn a_failed_read_is_the_last(rt: HostRuntime) -> Result<(), Fail> {
-    for (bytes, case) in &FAILURES {
-        answers_in(&rt, Bytewise(Failing(bytes)), case);
-        answers(&rt, rt.alloc(), Bytewise(Failing(bytes)), case)?;
+    for (bytes, case) in FAILURES {
+        let same = answers(rt.alloc(), Bytewise(Failing(bytes)), case)?;
+        assert!(&rt;
+            same && answers_in(Bytewise(Failing(bytes)), case),
+            "{}",
+            case.0
+        );
     }
     Ok(())
 }
 
-/// Want of memory is passed up.
-fn with_memory(found: Outcome) -> Result<Outcome, AllocError> {
-    if found == Err(CensusFault::Memory) {
-        Err(AllocError)
-    } else {
-        Ok(found)
+/// Whether a count finds the two lines. Want of memory is passed up.
+fn has_two_lines<S: Source>(alloc: Global, reader: &mut S) -> Result<bool, AllocError> {
+    match count(alloc, reader) {
+        Err(CensusFault::Memory) => Err(AllocError),
+        found => Ok(found == TWO_LINES),
     }
 }
 
 #[test]
 fn counts_a_slice_and_a_reader_of_std(rt: HostRuntime) -> Result<(), Fail> {
     let mut slice = b"a\r\nb\n".as_slice();
-    let found = with_memory(count(rt.alloc(), &mut slice))?;
-    assert!(&rt; found == TWO_LINES && slice.is_empty());
+    assert!(&rt; has_two_lines(rt.alloc(), &mut slice)? && slice.is_empty());
     let mut reader = StdSource(b"a\r\nb\n".as_slice());
-    let found = with_memory(count(rt.alloc(), &mut reader))?;
-    assert!(&rt; found == TWO_LINES && reader.0.is_empty());
+    assert!(&rt; has_two_lines(rt.alloc(), &mut reader)? && reader.0.is_empty());
     Ok(())
 }
 
@@ -162,7 +154,7 @@ const WHOLE: Outcome = Ok(Count {
 });
 
 /// The kind of all errors, each how many-th read has none, the answer, and the reads.
-const ERRORS: [(&str, ErrorKind, u64, Outcome, u64); 7] = [
+const ERRORS: &[(&str, ErrorKind, u64, Outcome, u64)] = &[
     ("never interrupted", ErrorKind::Interrupted, 1, WHOLE, 5),
     ("once a byte", ErrorKind::Interrupted, 2, WHOLE, 10),
     ("999 times", ErrorKind::Interrupted, 1_000, WHOLE, 5_000),
@@ -187,7 +179,7 @@ const ERRORS: [(&str, ErrorKind, u64, Outcome, u64); 7] = [
 #[test]
 fn only_interrupted_reads_are_tried_again(rt: HostRuntime) {
     let mut buffer = [0u8; 16];
-    for (name, kind, period, want, reads) in &ERRORS {
+    for (name, kind, period, want, reads) in ERRORS {
         let mut reader = StdSource(Failings {
             left: b"a\r\nb",
             kind: *kind,

@@ -1,53 +1,56 @@
 //! What the readers for tests give, read by read.
-ghost use Rattle.std.specs.Prelude.{◌≤◌};
 
 use lc_census::trials::{Bytewise, Counted, Endless, Failing};
 use lc_census::{Failed, Source};
-use std::process::Abort;
 
-/// A read into so much room gives these bytes.
-fn gives<S: Source>(rt: &impl Abort, reader: &mut S, room: usize, want: &[u8])
-    requires { room ≤ 8 }
-{
+/// The room of a read, at most 8 bytes, and what it gives.
+type Read = (usize, Result<&'static [u8], Failed>);
+
+fn gives<S: Source>(reader: &mut S, reads: &[Read]) -> bool {
     let mut buffer = [0u8; 8];
-    let found = match reader.read(&mut buffer[..room]) {
-        Ok(count) => Ok(&buffer[..count]),
-        Err(failed) => Err(failed),
-    };
-    assert!(rt; found == Ok(want), "into {room}");
-}
-
-#[test]
-fn gives_a_byte_a_read(rt: HostRuntime) {
-    let mut reader = Bytewise(b"ab".as_slice());
-    gives(&rt, &mut reader, 4, b"a");
-    gives(&rt, &mut reader, 0, b"");
-    gives(&rt, &mut reader, 4, b"b");
-    gives(&rt, &mut reader, 4, b"");
-}
-
-#[test]
-fn fails_after_its_bytes(rt: HostRuntime) {
-    let mut reader = Failing(b"abc");
-    gives(&rt, &mut reader, 2, b"ab");
-    gives(&rt, &mut reader, 2, b"c");
-    for time in 1..3 {
-        assert!(&rt; reader.read(&mut [0u8; 2]) == Err(Failed), "time {time}");
+    for (room, want) in reads {
+        let room = (*room).min(8);
+        let found = match reader.read(&mut buffer[..room]) {
+            Ok(count) => Ok(&buffer[..count]),
+            Err(failed) => Err(failed),
+        };
+        if found != *want {
+            return false;
+        }
     }
+    true
 }
 
-#[test]
-fn fills_each_buffer(rt: HostRuntime) {
-    for _ in 0..5 {
-        gives(&rt, &mut Endless, 3, b"xxx");
-    }
-}
+const BY_BYTES: &[Read] = &[(4, Ok(b"a")), (0, Ok(b"")), (4, Ok(b"b")), (4, Ok(b""))];
+
+const THEN_FAILURES: &[Read] = &[
+    (2, Ok(b"ab")),
+    (2, Ok(b"c")),
+    (2, Err(Failed)),
+    (2, Err(Failed)),
+];
+
+const FULL: &[Read] = &[
+    (3, Ok(b"xxx")),
+    (3, Ok(b"xxx")),
+    (3, Ok(b"xxx")),
+    (3, Ok(b"xxx")),
+    (3, Ok(b"xxx")),
+];
+
+const WHOLE: &[Read] = &[(2, Ok(b"ab")), (7, Ok(b"cde")), (1, Ok(b""))];
 
 #[test]
-fn counts_reads(rt: HostRuntime) {
+fn readers_give_their_bytes(rt: HostRuntime) {
+    let by_bytes = gives(&mut Bytewise(b"ab".as_slice()), BY_BYTES);
+    assert!(&rt; by_bytes, "a byte a read");
+    let then_failures = gives(&mut Failing(b"abc"), THEN_FAILURES);
+    assert!(&rt; then_failures, "failures after its bytes");
+    assert!(&rt; gives(&mut Endless, FULL), "each buffer is filled");
     let mut reader = Counted::new(b"abcde".as_slice());
-    gives(&rt, &mut reader, 2, b"ab");
-    gives(&rt, &mut reader, 7, b"cde");
-    gives(&rt, &mut reader, 1, b"");
-    assert!(&rt; (reader.reads, reader.longest) == (3, 7));
+    let whole = gives(&mut reader, WHOLE);
+    assert!(&rt;
+        whole && (reader.reads, reader.longest) == (3, 7),
+        "counted reads"
+    );
 }

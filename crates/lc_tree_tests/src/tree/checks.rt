@@ -1,6 +1,6 @@
 //! What a tree answers, and what is wanted of it.
 
-use lc_census::{WholeFault, read_whole};
+use lc_census::{Source, WholeFault, read_whole};
 use lc_tree::{Kind, Listing, ReadFault, Tree};
 use std::alloc::Global;
 use std::process::Abort;
@@ -27,23 +27,6 @@ pub(super) fn are_entries(listing: &Listing, wanted: Entries) -> bool {
     true
 }
 
-/// A directory is listed so.
-pub(super) fn check_listing<T: Tree>(
-    rt: &impl Abort,
-    alloc: Global,
-    tree: &T,
-    path: &[u8],
-    wanted: Listed,
-) -> Result<(), ReadFault> {
-    let same = match (tree.list(alloc, path), wanted) {
-        (Err(ReadFault::Memory), _) => return Err(ReadFault::Memory),
-        (Ok(listing), Ok(wanted)) => are_entries(&listing, wanted),
-        (listing, wanted) => listing.err() == wanted.err(),
-    };
-    assert!(rt; same, "{path:?}");
-    Ok(())
-}
-
 /// The directory at each path is listed so.
 pub(super) fn check_listings<T: Tree>(
     rt: &impl Abort,
@@ -52,34 +35,30 @@ pub(super) fn check_listings<T: Tree>(
     cases: &[(&[u8], Listed)],
 ) -> Result<(), ReadFault> {
     for (path, wanted) in cases {
-        check_listing(rt, alloc, tree, path, *wanted)?;
+        let same = match (tree.list(alloc, path), wanted) {
+            (Err(ReadFault::Memory), _) => return Err(ReadFault::Memory),
+            (Ok(listing), Ok(wanted)) => are_entries(&listing, wanted),
+            (Err(fault), Err(wanted)) => fault == *wanted,
+            (Ok(_), Err(_)) | (Err(_), Ok(_)) => false,
+        };
+        assert!(rt; same, "{path:?}");
     }
     Ok(())
 }
 
-/// A file gives these bytes.
-pub(super) fn check_file<T: Tree>(
-    rt: &impl Abort,
+/// The bytes of an opened file, and how its reads stop.
+fn is_given<F: Source + Drop>(
     alloc: Global,
-    tree: &T,
-    path: &[u8],
-    wanted: Given,
-) -> Result<(), ReadFault> {
+    file: F,
+    (bytes, stop): &(&[u8], Result<(), WholeFault>),
+) -> Result<bool, ReadFault> {
     let mut buffer = [0; 2];
-    let mut bytes = Vec::new(alloc);
-    let given = match tree.open_file(alloc, path) {
-        Err(ReadFault::Memory) => return Err(ReadFault::Memory),
-        Err(fault) => Err(fault),
-        Ok(mut file) => Ok(read_whole(&mut buffer, &mut bytes, &mut file, 100)),
-    };
-    if given == Ok(Err(WholeFault::Memory)) {
-        return Err(ReadFault::Memory);
+    let mut found = Vec::new(alloc);
+    let mut file = file;
+    match read_whole(&mut buffer, &mut found, &mut file, 100) {
+        Err(WholeFault::Memory) => Err(ReadFault::Memory),
+        ended => Ok(ended == *stop && found.as_slice() == *bytes),
     }
-    assert!(rt;
-        given.map(|stop| (bytes.as_slice(), stop)) == wanted,
-        "{path:?}"
-    );
-    Ok(())
 }
 
 /// The file at each path gives these bytes.
@@ -90,7 +69,13 @@ pub(super) fn check_files<T: Tree>(
     cases: &[(&[u8], Given)],
 ) -> Result<(), ReadFault> {
     for (path, wanted) in cases {
-        check_file(rt, alloc, tree, path, *wanted)?;
+        let same = match (tree.open_file(alloc, path), wanted) {
+            (Err(ReadFault::Memory), _) => return Err(ReadFault::Memory),
+            (Ok(file), Ok(given)) => is_given(alloc, file, given)?,
+            (Err(fault), Err(wanted)) => fault == *wanted,
+            (Ok(_), Err(_)) | (Err(_), Ok(_)) => false,
+        };
+        assert!(rt; same, "{path:?}");
     }
     Ok(())
 }

@@ -3,7 +3,6 @@
 use crate::tree::checks::{Entries, are_entries};
 use lc_tree::{Entry, Kind, Listing, ListingFault};
 use std::alloc::{AllocError, Global};
-use std::process::Abort;
 use std::test::Fail;
 
 fn listing(alloc: Global, given: Entries) -> Result<Result<Listing, ListingFault>, AllocError> {
@@ -22,7 +21,7 @@ const BAD_NAME: Result<Entries<'static>, ListingFault> = Err(ListingFault::BadNa
 
 const TWICE: Result<Entries<'static>, ListingFault> = Err(ListingFault::Twice);
 
-static CASES: [Case; 18] = [
+const CASES: &[Case] = &[
     (&[(b"", Kind::File)], BAD_NAME),
     (&[(b".", Kind::Dir)], BAD_NAME),
     (&[(b"..", Kind::Dir)], BAD_NAME),
@@ -62,20 +61,18 @@ static CASES: [Case; 18] = [
     ),
 ];
 
-fn check(rt: &impl Abort, alloc: Global, case: &Case) -> Result<(), AllocError> {
-    let (given, wanted) = *case;
-    let same = match (listing(alloc, given)?, wanted) {
-        (Ok(listing), Ok(wanted)) => are_entries(&listing, wanted),
-        (listing, wanted) => listing.err() == wanted.err(),
-    };
-    assert!(rt; same, "{given:?}");
-    Ok(())
+fn is_so(alloc: Global, (given, wanted): &Case) -> Result<bool, AllocError> {
+    match (listing(alloc, given)?, wanted) {
+        (Ok(listing), Ok(wanted)) => Ok(are_entries(&listing, wanted)),
+        (Err(fault), Err(wanted)) => Ok(fault == *wanted),
+        (Ok(_), Err(_)) | (Err(_), Ok(_)) => Ok(false),
+    }
 }
 
 #[test]
 fn entries_make_listings(rt: HostRuntime) -> Result<(), Fail> {
-    for case in &CASES {
-        check(&rt, rt.alloc(), case)?;
+    for (at, case) in CASES.iter().enumerate() {
+        assert!(&rt; is_so(rt.alloc(), case)?, "case {at}");
     }
     Ok(())
 }

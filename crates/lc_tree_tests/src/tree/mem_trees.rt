@@ -82,7 +82,7 @@ type Case = (
     &'static [(&'static [u8], Given<'static>)],
 );
 
-static CASES: [Case; 6] = [
+const CASES: &[Case] = &[
     (NODES, DIRECTORIES, FILES),
     (Sketch::Closed, NOT_LISTED, &[]),
     (Sketch::Other, NOT_LISTED, &[]),
@@ -99,7 +99,7 @@ fn check(rt: &impl Abort, alloc: Global, node: &Node, case: &Case) -> Result<(),
 
 #[test]
 fn nodes_are_listed_and_opened(rt: HostRuntime) -> Result<(), Fail> {
-    for case in &CASES {
+    for case in CASES {
         let node = case.0.node(rt.alloc())?;
         check(&rt, rt.alloc(), &node, case)?;
     }

@@ -2,9 +2,8 @@
 
 use lc_census::Source;
 use lc_tree::trials::{BytewiseTree, FailingCall, FailingTree};
-use lc_tree::{MemTree, Node, ReadFault, Sketch, Tree};
+use lc_tree::{MemTree, ReadFault, Sketch, Tree};
 use std::alloc::Global;
-use std::process::Abort;
 use std::test::Fail;
 
 const TOP: Sketch = Sketch::Dir(&[(b"f", Sketch::File(b"one"))]);
@@ -12,30 +11,19 @@ const TOP: Sketch = Sketch::Dir(&[(b"f", Sketch::File(b"one"))]);
 /// How many entries the top has, whether its file is opened, and how many bytes two reads of it give.
 type Answered = [Option<usize>; 4];
 
-fn ask<T: Tree>(alloc: Global, tree: &T) -> Result<Answered, ReadFault> {
+fn answers<T: Tree>(alloc: Global, tree: &T, wanted: &Answered) -> Result<bool, ReadFault> {
     let listed = match tree.list(alloc, b"") {
         Ok(listing) => Some(listing.entries().len()),
         Err(ReadFault::Memory) => return Err(ReadFault::Memory),
         Err(_) => None,
     };
     let Ok(mut file) = tree.open_file(alloc, b"f") else {
-        return Ok([listed, None, None, None]);
+        return Ok(*wanted == [listed, None, None, None]);
     };
     let mut buffer = [0; 2];
     let first = file.read(&mut buffer).ok();
     let second = file.read(&mut buffer).ok();
-    Ok([listed, Some(0), first, second])
-}
-
-fn check<T: Tree>(
-    rt: &impl Abort,
-    alloc: Global,
-    tree: &T,
-    wanted: &Answered,
-) -> Result<(), ReadFault> {
-    let answered = ask(alloc, tree)?;
-    assert!(rt; answered == *wanted, "{answered:?}");
-    Ok(())
+    Ok(*wanted == [listed, Some(0), first, second])
 }
 
 /// The place of the call that fails, what is answered, and how many calls are begun.
@@ -47,35 +35,25 @@ const FAILING: [(u64, Answered, u64); 5] = [
     (4, [Some(1), Some(0), Some(2), Some(1)], 4),
 ];
 
-fn check_failing(rt: &impl Abort, alloc: Global, node: &Node) -> Result<(), ReadFault> {
-    let tree = MemTree::new(node);
-    for (place, wanted, begun) in &FAILING {
-        let call = FailingCall::new(*place);
-        check(
-            rt,
-            alloc,
-            &FailingTree {
-                tree: &tree,
-                call: &call,
-            },
-            wanted,
-        )?;
-        assert!(rt; call.begun() == *begun, "{place}");
-    }
-    Ok(())
-}
-
 const BYTEWISE: Answered = [Some(1), Some(0), Some(1), Some(1)];
+
+fn is_failing(
+    alloc: Global,
+    tree: &MemTree,
+    (place, wanted, begun): &(u64, Answered, u64),
+) -> Result<bool, ReadFault> {
+    let call = FailingCall::new(*place);
+    let failing = FailingTree { tree, call: &call };
+    Ok(answers(alloc, &failing, wanted)? && call.begun() == *begun)
+}
 
 #[test]
 fn one_call_fails_and_reads_give_a_byte(rt: HostRuntime) -> Result<(), Fail> {
     let node = TOP.node(rt.alloc())?;
-    check_failing(&rt, rt.alloc(), &node)?;
-    check(
-        &rt,
-        rt.alloc(),
-        &BytewiseTree(MemTree::new(&node)),
-        &BYTEWISE,
-    )?;
+    let tree = MemTree::new(&node);
+    for case in &FAILING {
+        assert!(&rt; is_failing(rt.alloc(), &tree, case)?, "{}", case.0);
+    }
+    assert!(&rt; answers(rt.alloc(), &BytewiseTree(tree), &BYTEWISE)?);
     Ok(())
 }

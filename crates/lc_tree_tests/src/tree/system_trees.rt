@@ -1,0 +1,210 @@
+//! What trees of a system give: of folders of the host, also where signals interrupt its calls, and of names that it may give.
+
+use crate::tree::checks::{Entries, Given, Listed, check_files, check_listings};
+use crate::tree::system::{Reads, Signals, System};
+use lc_census::WholeFault;
+use lc_tree::{Kind, ReadFault, SysTree};
+use std::os::unix::fs::symlink;
+use std::process::Abort;
+use std::sync::atomic::AtomicU64;
+use std::test::Fail;
+use std::{fs, io};
+
+const FOLDER: &str = "lc_tree_folder";
+
+/// A folder with a file, a directory with a file, a link to each, and one to nothing.
+fn make_folder(rt: &HostRuntime) -> io::Result<()> {
+    let _ = fs::remove_dir_all(rt, FOLDER);
+    fs::create_dir_all(rt, "lc_tree_folder/b")?;
+    fs::write(rt, "lc_tree_folder/a", b"one\n")?;
+    fs::write(rt, "lc_tree_folder/b/c", b"")?;
+    symlink(rt, "a", "lc_tree_folder/to_a")?;
+    symlink(rt, "b", "lc_tree_folder/to_b")?;
+    symlink(rt, "missing", "lc_tree_folder/to_nothing")
+}
+
+/// A top, the answers of its reads where they are given, each how many-th call is not interrupted, and what directories and files give.
+#[derive(Clone, Copy)]
+struct Case {
+    top: &'static str,
+    reads: Option<Reads>,
+    period: u64,
+    directories: &'static [(&'static [u8], Listed<'static>)],
+    files: &'static [(&'static [u8], Given<'static>)],
+}
+
+const TOP: Entries = &[
+    (b"a", Kind::File),
+    (b"b", Kind::Dir),
+    (b"to_a", Kind::Other),
+    (b"to_b", Kind::Other),
+    (b"to_nothing", Kind::Other),
+];
+
+const C_ALONE: Entries = &[(b"c", Kind::File)];
+
+/// The folder where no call is interrupted.
+const IN_FOLDER: Case = Case {
+    top: FOLDER,
+    reads: None,
+    period: 1,
+    directories: &[
+        (b"", Ok(TOP)),
+        (b"b", Ok(C_ALONE)),
+        (b"a", Err(ReadFault::Failed)),
+        (b"to_b", Err(ReadFault::Failed)),
+        (b"missing", Err(ReadFault::Failed)),
+        (b"b/\xFF", Err(ReadFault::Failed)),
+    ],
+    files: &[
+        (b"a", Ok((b"one\n", Ok(())))),
+        (b"b/c", Ok((b"", Ok(())))),
+        (b"b", Ok((b"", Err(WholeFault::Read)))),
+        (b"missing", Err(ReadFault::Failed)),
+        (b"a/\xFF", Err(ReadFault::Failed)),
+    ],
+};
+
+const NOT_LISTED: &[(&[u8], Listed)] = &[(b"", Err(ReadFault::Failed))];
+
+/// A top that can't be listed.
+const NO_TOP: Case = Case {
+    top: "",
+    directories: NOT_LISTED,
+    files: &[],
+    ..IN_FOLDER
+};
+
+/// The folder's listing and its file, where tries of interrupted calls end well.
+const INTERRUPTED: Case = Case {
+    directories: &[(b"", Ok(TOP))],
+    files: &[(b"a", Ok((b"one\n", Ok(()))))],
+    ..IN_FOLDER
+};
+
+/// A directory of no name.
+const GIVEN: Case = Case {
+    top: "top",
+    reads: Some(&[]),
+    directories: &[(b"", Ok(&[]))],
+    ..NO_TOP
+};
+
+const CASES: &[Case] = &[
+    IN_FOLDER,
+    // A link is followed where it is the top.
+    Case {
+        top: "lc_tree_folder/to_b",
+        directories: &[(b"", Ok(C_ALONE))],
+        ..NO_TOP
+    },
+    NO_TOP,
+    Case {
+        top: "lc_tree_folder/a",
+        ..NO_TOP
+    },
+    Case {
+        top: "lc_tree_folder/missing",
+        ..NO_TOP
+    },
+    Case {
+        top: "a\0",
+        ..NO_TOP
+    },
+    INTERRUPTED,
+    Case {
+        period: 2,
+        ..INTERRUPTED
+    },
+    Case {
+        period: 65_536,
+        ..INTERRUPTED
+    },
+    // Here they end with no answer.
+    Case {
+        period: 65_537,
+        top: FOLDER,
+        ..NO_TOP
+    },
+    Case {
+        period: 65_537,
+        directories: &[],
+        files: &[(b"a", Err(ReadFault::Failed))],
+        ..IN_FOLDER
+    },
+    GIVEN,
+    Case {
+        reads: Some(&[Some(b".\0..\0")]),
+        ..GIVEN
+    },
+    Case {
+        reads: Some(&[Some(b"f\0.\0d\0..\0")]),
+        directories: &[(b"", Ok(&[(b"d", Kind::Dir), (b"f", Kind::File)]))],
+        ..GIVEN
+    },
+    Case {
+        reads: Some(&[Some(b"l\0"), Some(b"f\0")]),
+        directories: &[(b"", Ok(&[(b"f", Kind::File), (b"l", Kind::Other)]))],
+        ..GIVEN
+    },
+    Case {
+        reads: Some(&[Some(b"f\0gone\0")]),
+        directories: &[(b"", Ok(&[(b"f", Kind::File)]))],
+        ..GIVEN
+    },
+    Case {
+        reads: Some(&[Some(b"f\0denied\0x\0")]),
+        directories: NOT_LISTED,
+        ..GIVEN
+    },
+    Case {
+        reads: Some(&[Some(b"f\0"), None]),
+        directories: NOT_LISTED,
+        ..GIVEN
+    },
+    Case {
+        reads: Some(&[Some(b"f\0f\xFF\0")]),
+        directories: &[(b"", Err(ReadFault::Unnamed))],
+        ..GIVEN
+    },
+    Case {
+        reads: Some(&[Some(b"f\0"), Some(b"f\0")]),
+        directories: &[(b"", Err(ReadFault::Twice))],
+        ..GIVEN
+    },
+    Case {
+        reads: Some(&[Some(b"f/f\0")]),
+        directories: &[(b"", Err(ReadFault::BadName))],
+        ..GIVEN
+    },
+];
+
+fn check(rt: &impl Abort, host: &HostRuntime, case: &Case) -> Result<(), ReadFault> {
+    let signals = Signals {
+        calls: AtomicU64::new(0),
+        period: case.period,
+    };
+    let system = System {
+        host,
+        given: case.reads,
+        signals: &signals,
+    };
+    let tree = SysTree::new(&system, host.alloc(), case.top)?;
+    check_listings(rt, host.alloc(), &tree, case.directories)?;
+    check_files(rt, host.alloc(), &tree, case.files)
+}
+
+fn check_all(rt: &impl Abort, host: &HostRuntime) -> Result<(), ReadFault> {
+    for case in CASES {
+        check(rt, host, case)?;
+    }
+    Ok(())
+}
+
+#[test]
+fn folders_are_listed_and_files_opened(rt: HostRuntime) -> Result<(), Fail> {
+    make_folder(&rt)?;
+    check_all(&rt, &rt)?;
+    fs::remove_dir_all(&rt, FOLDER)?;
+    Ok(())
+}
