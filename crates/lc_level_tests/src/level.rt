@@ -6,4 +6,5 @@ mod faults;
 mod left_out;
 mod levels;
 mod narrowed;
+mod repository;
 mod work;

@@ -1,10 +1,10 @@
 //! Directories that are entered: their entries, the texts of their rules, and what these decide of a path.
 
-use crate::level::left_out::{Why, is_reason};
-use crate::level::work::{Asked, NOTHING, job_of, top};
+use crate::level::work::{
+    AS_IT_IS, Case, LINE, NOTHING, Selected, TOP, Why, is_reason, job_of, selection_of,
+};
 use lc_level::{
-    Cause, Entered, FaultSite, FaultWord, Job, Kept, LevelReader, OpenFault, Scratch, Selection,
-    path_in,
+    Cause, Entered, FaultSite, FaultWord, Job, Kept, LevelReader, OpenFault, Scratch, path_in,
 };
 use lc_rules::{Origin, Verdict};
 use lc_tree::{Entry, Kind, MemTree, Sketch};
@@ -17,38 +17,31 @@ const TEXTS: Kept = Kept {
     texts: true,
 };
 
-const LINE: Sketch = Sketch::File(b"x\n");
-
 const INFO: Sketch = Sketch::Dir(&[
     (b"exclude", Sketch::File(b"*.tmp\n")),
     (b"attributes", Sketch::File(b"*.c text\n")),
 ]);
 
+const WITH_RULES: Sketch = Sketch::Dir(&[(b".gitignore", Sketch::File(b"# none\n"))]);
+
 const WITHOUT_RULES: Sketch = Sketch::Dir(&[(b"b", LINE), (b"a", Sketch::Other)]);
 
-const TREE: Sketch = Sketch::Dir(&[
-    (
-        b"s",
-        Sketch::Dir(&[(b".gitignore", Sketch::File(b"# none\n"))]),
-    ),
-    (b"t", WITHOUT_RULES),
-    (b"c", Sketch::Closed),
-    (b".gitignore", Sketch::File(b"*.log\n!keep.log\n")),
-    (b".gitattributes", Sketch::File(b"docs export-ignore\n")),
-    (b".git", Sketch::Dir(&[(b"info", INFO)])),
-]);
-
-/// What entering a directory answers, but for want of memory.
-fn enter(
-    levels: &LevelReader<MemTree>,
-    job: &Job,
-    scratch: &mut Scratch,
-) -> Result<Result<Entered, OpenFault>, AllocError> {
-    match levels.enter(job, scratch) {
-        Err(OpenFault::Broken(Cause::Memory)) => Err(AllocError),
-        answer => Ok(answer),
-    }
-}
+/// A repository without what has the attribute `export-ignore`.
+const REPOSITORY: Case = Case {
+    tree: Sketch::Dir(&[
+        (b"s", WITH_RULES),
+        (b"t", WITHOUT_RULES),
+        (b"c", Sketch::Closed),
+        (b".gitignore", Sketch::File(b"*.log\n!keep.log\n")),
+        (b".gitattributes", Sketch::File(b"docs export-ignore\n")),
+        (b".git", Sketch::Dir(&[(b"info", INFO)])),
+    ]),
+    selected: Selected {
+        without: &["export-ignore"],
+        ..AS_IT_IS
+    },
+    ..TOP
+};
 
 fn are_entries(found: &[Entry], wanted: &[&[u8]]) -> bool {
     found.len() == wanted.len()
@@ -66,181 +59,209 @@ fn is_text(found: &Option<Vec<u8>>, wanted: Option<&[u8]>) -> bool {
     }
 }
 
-/// What is wanted of a directory that is entered.
-#[derive(Clone, Copy)]
-struct Wanted<'a> {
-    entries: &'a [&'a [u8]],
-    info: Option<&'a [u8]>,
-    own: Option<&'a [u8]>,
+/// A directory that is entered, what is kept of it, and its entries and the texts of its rules, or what stops it.
+struct Entering<'a> {
+    case: Case<'a>,
+    kept: Kept,
+    wanted: Result<Wanted<'a>, OpenFault>,
 }
 
-fn check_entered(
-    rt: &impl Abort,
-    alloc: Global,
-    below: Option<&[u8]>,
-    kept: Kept,
-    wanted: Wanted,
-) -> Result<(), AllocError> {
-    let node = TREE.node(alloc)?;
+/// Its entries, the text of the rules of `.git/info`, and that of its own.
+type Wanted<'a> = (&'a [&'a [u8]], Option<&'a [u8]>, Option<&'a [u8]>);
+
+fn is_entered(found: &Entered, (entries, info, own): &Wanted) -> bool {
+    are_entries(&found.entries, entries)
+        && is_text(&found.texts.info, *info)
+        && is_text(&found.texts.own, *own)
+}
+
+/// Enters the directory of the job and compares.
+fn enters(
+    levels: &LevelReader<MemTree>,
+    job: &Job,
+    wanted: &Result<Wanted, OpenFault>,
+    scratch: &mut Scratch,
+) -> Result<bool, AllocError> {
+    match (levels.enter(job, scratch), wanted) {
+        (Ok(found), Ok(wanted)) => Ok(is_entered(&found, wanted)),
+        (Err(OpenFault::Broken(Cause::Memory)), _) => Err(AllocError),
+        (Err(found), Err(wanted)) => Ok(found == *wanted),
+        (Ok(_), Err(_)) | (Err(_), Ok(_)) => Ok(false),
+    }
+}
+
+fn check_entered(rt: &impl Abort, alloc: Global, entering: &Entering) -> Result<(), AllocError> {
+    let case = &entering.case;
+    let node = case.tree.node(alloc)?;
     let tree = MemTree::new(&node);
-    let levels = LevelReader::new(alloc, &tree, Selection::new(false, &[]), kept);
+    let levels = LevelReader::new(alloc, &tree, selection_of(&case.selected), entering.kept);
     let mut scratch = Scratch::new(alloc)?;
-    let asked = Asked { below, ..top(TREE) };
-    let Some(job) = job_of(alloc, &levels, &asked, &mut scratch)? else {
-        assert!(rt; false, "{below:?}: no such directory");
+    let Some(job) = job_of(alloc, &levels, case.exclude, case.below, &mut scratch)? else {
+        assert!(rt; false, "{}: no such directory", case.name);
         return Ok(());
     };
-    let Ok(entered) = enter(&levels, &job, &mut scratch)? else {
-        assert!(rt; false, "{below:?}: at fault");
-        return Ok(());
-    };
-    assert!(rt;
-        are_entries(&entered.entries, wanted.entries),
-        "{below:?}: the entries"
-    );
-    assert!(rt;
-        is_text(&entered.texts.info, wanted.info),
-        "{below:?}: the text of info"
-    );
-    assert!(rt;
-        is_text(&entered.texts.own, wanted.own),
-        "{below:?}: its own text"
-    );
+    let same = enters(&levels, &job, &entering.wanted, &mut scratch)?;
+    assert!(rt; same, "{}", case.name);
     Ok(())
 }
 
-const AT_TOP: Wanted = Wanted {
-    entries: &[b".git", b".gitattributes", b".gitignore", b"c", b"s", b"t"],
-    info: Some(b"*.tmp\n"),
-    own: Some(b"*.log\n!keep.log\n"),
-};
+const ENTRIES: &[&[u8]] = &[b".git", b".gitattributes", b".gitignore", b"c", b"s", b"t"];
+
+const ENTERED: &[Entering] = &[
+    Entering {
+        case: Case {
+            name: "the top",
+            ..REPOSITORY
+        },
+        kept: TEXTS,
+        wanted: Ok((ENTRIES, Some(b"*.tmp\n"), Some(b"*.log\n!keep.log\n"))),
+    },
+    Entering {
+        case: Case {
+            name: "with rules",
+            below: Some(b"s"),
+            ..REPOSITORY
+        },
+        kept: TEXTS,
+        wanted: Ok((&[b".gitignore"], None, Some(b"# none\n"))),
+    },
+    Entering {
+        case: Case {
+            name: "without rules",
+            below: Some(b"t"),
+            ..REPOSITORY
+        },
+        kept: TEXTS,
+        wanted: Ok((&[b"a", b"b"], None, None)),
+    },
+    Entering {
+        case: Case {
+            name: "no text is kept",
+            ..REPOSITORY
+        },
+        kept: NOTHING,
+        wanted: Ok((ENTRIES, None, None)),
+    },
+    Entering {
+        case: Case {
+            name: "a fault",
+            tree: Sketch::Closed,
+            ..TOP
+        },
+        kept: TEXTS,
+        wanted: Err(OpenFault::Faulted(FaultSite::Directory, FaultWord::Read)),
+    },
+];
+
+fn check_all_entered(rt: &impl Abort, alloc: Global, all: &[Entering]) -> Result<(), AllocError> {
+    for entering in all {
+        check_entered(rt, alloc, entering)?;
+    }
+    Ok(())
+}
 
 #[test]
 fn entries_and_texts(rt: HostRuntime) -> Result<(), Fail> {
-    let with_rules = Wanted {
-        entries: &[b".gitignore"],
-        info: None,
-        own: Some(b"# none\n"),
-    };
-    let without = Wanted {
-        entries: &[b"a", b"b"],
-        info: None,
-        own: None,
-    };
-    let not_kept = Wanted {
-        info: None,
-        own: None,
-        ..AT_TOP
-    };
-    check_entered(&rt, rt.alloc(), None, TEXTS, AT_TOP)?;
-    check_entered(&rt, rt.alloc(), Some(b"s"), TEXTS, with_rules)?;
-    check_entered(&rt, rt.alloc(), Some(b"t"), TEXTS, without)?;
-    check_entered(&rt, rt.alloc(), None, NOTHING, not_kept)?;
+    check_all_entered(&rt, rt.alloc(), ENTERED)?;
     Ok(())
 }
 
-/// The line and the verdict of the rule that decides.
-fn rule_of(job: &Job, path: &[u8]) -> Option<(Origin, u32, Verdict)> {
-    let (origin, rule) = job.deciding(path, false)?;
-    Some((origin, rule.line(), rule.verdict()))
+/// A path, and its rule that decides with where it stands.
+type Deciding = (&'static [u8], Option<(Origin, u32, Verdict)>);
+
+const DECIDING: &[Deciding] = &[
+    (b"a.log", Some((Origin::Directory(0), 1, Verdict::Ignored))),
+    (
+        b"s/keep.log",
+        Some((Origin::Directory(0), 2, Verdict::Included)),
+    ),
+    (b"m.c", None),
+];
+
+fn decides(inside: &Job, (path, wanted): &Deciding) -> bool {
+    match (inside.deciding(path, false), wanted) {
+        (Some((origin, rule)), Some(wanted)) => (origin, rule.line(), rule.verdict()) == *wanted,
+        (None, None) => true,
+        (Some(_), None) | (None, Some(_)) => false,
+    }
+}
+
+fn check_deciding(rt: &impl Abort, inside: &Job) {
+    for deciding in DECIDING {
+        assert!(rt; decides(inside, deciding), "{:?}", deciding.0);
+    }
+}
+
+/// An entry, and why it is left out, if it is.
+type Judged = (&'static [u8], Kind, Option<Why<'static>>);
+
+const JUDGED: &[Judged] = &[
+    (b"docs", Kind::Dir, Some(Why::Attribute(b"export-ignore"))),
+    (b"m.c", Kind::File, None),
+    (b"m.c", Kind::Other, Some(Why::OtherKind)),
+    (b".git", Kind::Dir, Some(Why::Git)),
+];
+
+const BY_RULE: Why = Why::Rule(Origin::Directory(0), 1);
+
+fn is_judged(
+    alloc: Global,
+    levels: &LevelReader<MemTree>,
+    job: &Job,
+    (name, kind, wanted): &Judged,
+) -> Result<bool, AllocError> {
+    let path = path_in(alloc, job.path(), name)?;
+    match (levels.reason(job, name, &path, *kind)?, wanted) {
+        (Some(found), Some(wanted)) => Ok(is_reason(&found, wanted)),
+        (None, None) => Ok(true),
+        (Some(_), None) | (None, Some(_)) => Ok(false),
+    }
+}
+
+fn check_inside(
+    rt: &impl Abort,
+    alloc: Global,
+    levels: &LevelReader<MemTree>,
+    inside: &Job,
+) -> Result<(), AllocError> {
+    for judged in JUDGED {
+        let same = is_judged(alloc, levels, inside, judged)?;
+        assert!(rt; same, "{:?}", judged.0);
+    }
+    let below = inside.at(alloc, b"s")?;
+    let by_rule = (b"a.log".as_slice(), Kind::File, Some(BY_RULE));
+    assert!(rt; is_judged(alloc, levels, &below, &by_rule)?, "below");
+    Ok(())
 }
 
 /// The top with its rule files.
 fn inside_of(levels: &LevelReader<MemTree>, alloc: Global) -> Result<Option<Job>, AllocError> {
     let mut scratch = Scratch::new(alloc)?;
     let top = Job::top(alloc, None)?;
-    match enter(levels, &top, &mut scratch)? {
+    match levels.enter(&top, &mut scratch) {
         Ok(entered) => Ok(Some(entered.job)),
+        Err(OpenFault::Broken(Cause::Memory)) => Err(AllocError),
         Err(_) => Ok(None),
+    }
+}
+
+fn check_top(rt: &impl Abort, alloc: Global, tree: &MemTree) -> Result<(), AllocError> {
+    let levels = LevelReader::new(alloc, tree, selection_of(&REPOSITORY.selected), NOTHING);
+    match inside_of(&levels, alloc)? {
+        Some(inside) => {
+            check_deciding(rt, &inside);
+            check_inside(rt, alloc, &levels, &inside)
+        }
+        None => {
+            assert!(rt; false, "the top is at fault");
+            Ok(())
+        }
     }
 }
 
 #[test]
 fn what_decides_inside(rt: HostRuntime) -> Result<(), Fail> {
-    let node = TREE.node(rt.alloc())?;
-    let tree = MemTree::new(&node);
-    let levels = LevelReader::new(rt.alloc(), &tree, Selection::new(true, &[]), NOTHING);
-    let Some(inside) = inside_of(&levels, rt.alloc())? else {
-        assert!(rt; false, "the top is at fault");
-        return Ok(());
-    };
-    let here = Origin::Directory(0);
-    let cases: [(&[u8], Option<(Origin, u32, Verdict)>); 3] = [
-        (b"a.log", Some((here, 1, Verdict::Ignored))),
-        (b"s/keep.log", Some((here, 2, Verdict::Included))),
-        (b"m.c", None),
-    ];
-    for (path, wanted) in cases {
-        let found = rule_of(&inside, path);
-        assert!(rt; found == wanted, "{path:?}: {found:?}");
-    }
-    Ok(())
-}
-
-/// The reason of an entry of the directory is this.
-fn check_reason(
-    rt: &impl Abort,
-    alloc: Global,
-    levels: &LevelReader<MemTree>,
-    job: &Job,
-    (name, kind): (&[u8], Kind),
-    wanted: Option<Why>,
-) -> Result<(), AllocError> {
-    let path = path_in(alloc, job.path(), name)?;
-    let found = levels.reason(job, name, &path, kind)?;
-    let is_wanted = match (&found, &wanted) {
-        (Some(found), Some(wanted)) => is_reason(found, wanted),
-        (None, None) => true,
-        (Some(_), None) | (None, Some(_)) => false,
-    };
-    assert!(rt; is_wanted, "{name:?}: {found:?}");
-    Ok(())
-}
-
-#[test]
-fn reasons_inside(rt: HostRuntime) -> Result<(), Fail> {
-    let node = TREE.node(rt.alloc())?;
-    let tree = MemTree::new(&node);
-    let levels = LevelReader::new(rt.alloc(), &tree, Selection::new(true, &[]), NOTHING);
-    let Some(inside) = inside_of(&levels, rt.alloc())? else {
-        assert!(rt; false, "the top is at fault");
-        return Ok(());
-    };
-    let cases: [((&[u8], Kind), Option<Why>); 4] = [
-        ((b"docs", Kind::Dir), Some(Why::Attribute(b"export-ignore"))),
-        ((b"m.c", Kind::File), None),
-        ((b"m.c", Kind::Other), Some(Why::OtherKind)),
-        ((b".git", Kind::Dir), Some(Why::Git)),
-    ];
-    for (entry, wanted) in cases {
-        check_reason(&rt, rt.alloc(), &levels, &inside, entry, wanted)?;
-    }
-    let below = inside.at(rt.alloc(), b"s")?;
-    let by_rule = Some(Why::Rule(Origin::Directory(0), 1));
-    check_reason(
-        &rt,
-        rt.alloc(),
-        &levels,
-        &below,
-        (b"a.log", Kind::File),
-        by_rule,
-    )?;
-    Ok(())
-}
-
-#[test]
-fn a_fault_is_answered(rt: HostRuntime) -> Result<(), Fail> {
-    let node = Sketch::Closed.node(rt.alloc())?;
-    let tree = MemTree::new(&node);
-    let levels = LevelReader::new(rt.alloc(), &tree, Selection::new(false, &[]), TEXTS);
-    let mut scratch = Scratch::new(rt.alloc())?;
-    let top = Job::top(rt.alloc(), None)?;
-    match enter(&levels, &top, &mut scratch)? {
-        Ok(_) => assert!(rt; false, "it was entered"),
-        Err(open_fault) => {
-            let wanted = OpenFault::Faulted(FaultSite::Directory, FaultWord::Read);
-            assert!(rt; open_fault == wanted, "{open_fault:?}");
-        }
-    }
+    let node = REPOSITORY.tree.node(rt.alloc())?;
+    check_top(&rt, rt.alloc(), &MemTree::new(&node))?;
     Ok(())
 }

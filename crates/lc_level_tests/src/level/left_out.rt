@@ -1,82 +1,14 @@
-//! The entries that are left out: which, of which kind and why; and how many entries there are.
+//! The entries that are left out: which, of which kind and why.
 
-use crate::level::work::{Asked, NOTHING, job_of, open, top};
-use lc_level::{Kept, LeftOut, LevelReader, Reason, Scratch, Selection};
-use lc_rules::Origin;
-use lc_tree::{Kind, MemTree, Sketch};
-use std::alloc::{AllocError, Global};
-use std::process::Abort;
-use std::test::Fail;
-
-/// Why an entry is to be left out.
-#[derive(Clone, Copy, Debug)]
-pub(crate) enum Why<'a> {
-    Git,
-    Rule(Origin, u32),
-    Attribute(&'a [u8]),
-    OtherKind,
-}
-
-/// A name, what stands under it, and why it is to be left out.
-type Wanted<'a> = (&'a [u8], Kind, Why<'a>);
-
-const LEFT_OUT: Kept = Kept {
-    left_out: true,
-    texts: false,
+use crate::level::work::{
+    AS_IT_IS, Case, EMPTY, LINE, Level, NO_ENTRY, NONE, Part, Selected, TOP, Why, check_all,
+    check_parts, is_reason,
 };
-
-pub(crate) fn is_reason(found: &Reason, wanted: &Why) -> bool {
-    match (found, wanted) {
-        (Reason::Git, Why::Git) => true,
-        (Reason::Rule { origin, line }, Why::Rule(wanted, number)) => {
-            *origin == *wanted && *line == *number
-        }
-        (Reason::Attribute(name), Why::Attribute(wanted)) => name.as_slice() == *wanted,
-        (Reason::OtherKind, Why::OtherKind) => true,
-        _ => false,
-    }
-}
-
-fn are_left(found: &[LeftOut], wanted: &[Wanted]) -> bool {
-    found.len() == wanted.len()
-        && found.iter().zip(wanted).all(|(left, (name, kind, why))| left.name.as_slice() == *name
-            && left.kind == *kind
-            && is_reason(&left.reason, why))
-}
-
-/// The entries left out of the directory are these where they are kept, and none where they aren't; either way it has so many entries.
-fn check_left(
-    rt: &impl Abort,
-    alloc: Global,
-    case: &str,
-    asked: Asked,
-    wanted: &[Wanted],
-    number: u32,
-) -> Result<(), AllocError> {
-    let node = asked.tree.node(alloc)?;
-    let tree = MemTree::new(&node);
-    let mut scratch = Scratch::new(alloc)?;
-    for (kept, wanted) in [(LEFT_OUT, wanted), (NOTHING, &[])] {
-        let selection = Selection::new(asked.archive, asked.without);
-        let levels = LevelReader::new(alloc, &tree, selection, kept);
-        let Some(job) = job_of(alloc, &levels, &asked, &mut scratch)? else {
-            assert!(rt; false, "{case}: no such directory");
-            return Ok(());
-        };
-        match open(&levels, &job, &mut scratch)? {
-            Ok(opened) => {
-                assert!(rt; are_left(&opened.left, wanted), "{case}: {:?}", opened.left);
-                assert!(rt; opened.entries == number, "{case}: {}", opened.entries);
-            }
-            Err(open_fault) => assert!(rt; false, "{case}: {open_fault:?}"),
-        }
-    }
-    Ok(())
-}
-
-const LINE: Sketch = Sketch::File(b"x\n");
-
-const EMPTY: Sketch = Sketch::Dir(&[]);
+use lc_level::Reason;
+use lc_rules::Origin;
+use lc_tree::{Kind, Sketch};
+use std::alloc::{AllocError, Global};
+use std::test::Fail;
 
 const INFO: Sketch = Sketch::Dir(&[(b"exclude", Sketch::File(b"\n# notes\nnotes.txt\n"))]);
 
@@ -95,101 +27,190 @@ const EACH: Sketch = Sketch::Dir(&[
     (b"x.bak", LINE),
 ]);
 
-const ALL_REASONS: [Wanted; 8] = [
-    (b".git", Kind::Dir, Why::Git),
-    (b"a.log", Kind::File, Why::Rule(Origin::Directory(0), 1)),
-    (b"docs", Kind::Dir, Why::Attribute(b"export-ignore")),
-    (b"gen", Kind::Dir, Why::Rule(Origin::Directory(0), 3)),
-    (b"link.c", Kind::Other, Why::OtherKind),
-    (b"notes.txt", Kind::File, Why::Rule(Origin::GitInfo, 3)),
-    (b"old.log", Kind::Other, Why::Rule(Origin::Directory(0), 1)),
-    (b"x.bak", Kind::File, Why::Rule(Origin::ExcludeFile, 2)),
-];
-
-#[test]
-fn each_reason_and_each_kind(rt: HostRuntime) -> Result<(), Fail> {
-    let asked = Asked {
-        exclude: Some(b"*.o\n*.bak\n"),
-        archive: true,
-        ..top(EACH)
-    };
-    check_left(&rt, rt.alloc(), "at the top", asked, &ALL_REASONS, 12)?;
-    Ok(())
-}
-
-static BELOW: Sketch = Sketch::Dir(&[
-    (b".gitignore", Sketch::File(b"a\n")),
-    (
-        b"s",
-        Sketch::Dir(&[
-            (b".git", LINE),
-            (b".gitignore", Sketch::File(b"# its own\nb\n")),
-            (b"a", EMPTY),
-            (b"b", LINE),
-        ]),
-    ),
+const IN_ITS_FILE: Sketch = Sketch::Dir(&[
+    (b".git", LINE),
+    (b".gitignore", Sketch::File(b"# its own\nb\n")),
+    (b"a", EMPTY),
+    (b"b", LINE),
 ]);
 
-#[test]
-fn a_rule_stands_in_its_file(rt: HostRuntime) -> Result<(), Fail> {
-    let wanted: [Wanted; 3] = [
-        (b".git", Kind::File, Why::Git),
-        (b"a", Kind::Dir, Why::Rule(Origin::Directory(0), 1)),
-        (b"b", Kind::File, Why::Rule(Origin::Directory(1), 2)),
-    ];
-    let asked = Asked {
-        below: Some(b"s"),
-        ..top(BELOW)
-    };
-    check_left(&rt, rt.alloc(), "below the top", asked, &wanted, 4)?;
-    Ok(())
-}
+const BELOW: Sketch = Sketch::Dir(&[(b".gitignore", Sketch::File(b"a\n")), (b"s", IN_ITS_FILE)]);
 
-const IGNORING: Sketch = Sketch::File(b"both\n.git\nboth\n!in\n");
-
-const SETTING: Sketch = Sketch::File(b"* first\nboth second\nin second\n");
-
-static SEVERAL: Sketch = Sketch::Dir(&[
+const SEVERAL: Sketch = Sketch::Dir(&[
     (b".git", Sketch::Other),
-    (b".gitattributes", SETTING),
-    (b".gitignore", IGNORING),
+    (
+        b".gitattributes",
+        Sketch::File(b"* first\nboth second\nin second\n"),
+    ),
+    (b".gitignore", Sketch::File(b"both\n.git\nboth\n!in\n")),
     (b"both", Sketch::Other),
     (b"in", Sketch::Other),
 ]);
 
+const EXPORT_IGNORE: &[u8] =
+    b"docs/ export-ignore\n*.tmp export-ignore\nx.tmp -export-ignore\n*.y export-ignore=1\n";
+
+const ATTRIBUTED: Case = Case {
+    tree: Sketch::Dir(&[
+        (b".gitattributes", Sketch::File(EXPORT_IGNORE)),
+        (b"a.tmp", LINE),
+        (b"b.y", LINE),
+        (b"docs", EMPTY),
+        (b"s", EMPTY),
+        (b"x.tmp", LINE),
+    ]),
+    ..TOP
+};
+
+const ALL: Level = Level {
+    files: &[
+        (b".gitattributes", NONE),
+        (b"a.tmp", NONE),
+        (b"b.y", NONE),
+        (b"x.tmp", NONE),
+    ],
+    children: &[b"docs", b"s"],
+    ..NO_ENTRY
+};
+
+const BY_EXPORT_IGNORE: Why = Why::Attribute(b"export-ignore");
+
+/// Without what has the attribute `export-ignore`.
+const EXPORTED: Level = Level {
+    files: &[(b".gitattributes", NONE), (b"b.y", NONE), (b"x.tmp", NONE)],
+    children: &[b"s"],
+    left: &[
+        (b"a.tmp", Kind::File, BY_EXPORT_IGNORE),
+        (b"docs", Kind::Dir, BY_EXPORT_IGNORE),
+    ],
+    ..NO_ENTRY
+};
+
+const BY_ATTRIBUTES: &[Part] = &[
+    (
+        "as an archive",
+        Selected {
+            archive: true,
+            ..AS_IT_IS
+        },
+        EXPORTED,
+    ),
+    ("as it is", AS_IT_IS, ALL),
+    (
+        "without a second one",
+        Selected {
+            without: &["text", "export-ignore"],
+            ..AS_IT_IS
+        },
+        EXPORTED,
+    ),
+    (
+        "without another",
+        Selected {
+            without: &["text"],
+            ..AS_IT_IS
+        },
+        ALL,
+    ),
+];
+
+const CASES: &[Case] = &[
+    Case {
+        name: "each reason and each kind",
+        tree: EACH,
+        exclude: Some(b"*.o\n*.bak\n"),
+        selected: Selected {
+            archive: true,
+            ..AS_IT_IS
+        },
+        found: Level {
+            files: &[
+                (b".gitattributes", NONE),
+                (b".gitignore", NONE),
+                (b"keep.log", NONE),
+            ],
+            children: &[b"src"],
+            left: &[
+                (b".git", Kind::Dir, Why::Git),
+                (b"a.log", Kind::File, Why::Rule(Origin::Directory(0), 1)),
+                (b"docs", Kind::Dir, BY_EXPORT_IGNORE),
+                (b"gen", Kind::Dir, Why::Rule(Origin::Directory(0), 3)),
+                (b"link.c", Kind::Other, Why::OtherKind),
+                (b"notes.txt", Kind::File, Why::Rule(Origin::GitInfo, 3)),
+                (b"old.log", Kind::Other, Why::Rule(Origin::Directory(0), 1)),
+                (b"x.bak", Kind::File, Why::Rule(Origin::ExcludeFile, 2)),
+            ],
+            ..NO_ENTRY
+        },
+        ..TOP
+    },
+    Case {
+        name: "a rule stands in its file",
+        tree: BELOW,
+        below: Some(b"s"),
+        found: Level {
+            files: &[(b".gitignore", NONE)],
+            left: &[
+                (b".git", Kind::File, Why::Git),
+                (b"a", Kind::Dir, Why::Rule(Origin::Directory(0), 1)),
+                (b"b", Kind::File, Why::Rule(Origin::Directory(1), 2)),
+            ],
+            ..NO_ENTRY
+        },
+        ..TOP
+    },
+    Case {
+        name: "the first reason holds",
+        tree: SEVERAL,
+        selected: Selected {
+            without: &["second", "first"],
+            ..AS_IT_IS
+        },
+        found: Level {
+            left: &[
+                (b".git", Kind::Other, Why::Git),
+                (b".gitattributes", Kind::File, Why::Attribute(b"first")),
+                (b".gitignore", Kind::File, Why::Attribute(b"first")),
+                (b"both", Kind::Other, Why::Rule(Origin::Directory(0), 3)),
+                (b"in", Kind::Other, Why::Attribute(b"second")),
+            ],
+            ..NO_ENTRY
+        },
+        ..TOP
+    },
+];
+
 #[test]
-fn the_first_reason_holds(rt: HostRuntime) -> Result<(), Fail> {
-    let asked = Asked {
-        without: &["second", "first"],
-        ..top(SEVERAL)
-    };
-    let wanted: [Wanted; 5] = [
-        (b".git", Kind::Other, Why::Git),
-        (b".gitattributes", Kind::File, Why::Attribute(b"first")),
-        (b".gitignore", Kind::File, Why::Attribute(b"first")),
-        (b"both", Kind::Other, Why::Rule(Origin::Directory(0), 3)),
-        (b"in", Kind::Other, Why::Attribute(b"second")),
-    ];
-    check_left(&rt, rt.alloc(), "by the selection", asked, &wanted, 5)?;
+fn entries_are_left_out(rt: HostRuntime) -> Result<(), Fail> {
+    check_all(&rt, rt.alloc(), CASES)?;
+    check_parts(&rt, rt.alloc(), &ATTRIBUTED, BY_ATTRIBUTES)?;
     Ok(())
+}
+
+const REASONS: &[Why] = &[
+    Why::Git,
+    Why::Rule(Origin::GitInfo, 7),
+    Why::Attribute(b"export-ignore"),
+    Why::OtherKind,
+];
+
+fn reason_of(alloc: Global, why: &Why) -> Result<Reason, AllocError> {
+    match why {
+        Why::Git => Ok(Reason::Git),
+        Why::Rule(origin, line) => Ok(Reason::Rule {
+            origin: *origin,
+            line: *line,
+        }),
+        Why::Attribute(name) => Ok(Reason::Attribute(name.to_vec(alloc)?)),
+        Why::OtherKind => Ok(Reason::OtherKind),
+    }
 }
 
 #[test]
 fn a_reason_is_copied(rt: HostRuntime) -> Result<(), Fail> {
-    let name = b"export-ignore".to_vec(rt.alloc())?;
-    let rule = Reason::Rule {
-        origin: Origin::GitInfo,
-        line: 7,
-    };
-    let cases: [(Reason, Why); 4] = [
-        (Reason::Git, Why::Git),
-        (rule, Why::Rule(Origin::GitInfo, 7)),
-        (Reason::Attribute(name), Why::Attribute(b"export-ignore")),
-        (Reason::OtherKind, Why::OtherKind),
-    ];
-    for (reason, wanted) in &cases {
-        let copy = reason.copy(rt.alloc())?;
-        assert!(rt; is_reason(&copy, wanted), "{copy:?}");
+    for why in REASONS {
+        let copy = reason_of(rt.alloc(), why)?.copy(rt.alloc())?;
+        assert!(rt; is_reason(&copy, why), "{copy:?}");
     }
     Ok(())
 }

@@ -1,25 +1,96 @@
 //! One directory's work on a sketch, and what is wanted of it.
 
 use lc_level::{
-    Cause, CountedFiles, FaultWord, Job, Kept, LevelReader, OpenFault, Opened, Scratch, Selection,
+    Cause, ChildDirectory, CountedFiles, FaultWord, FileFault, Job, Kept, LeftOut, LevelReader,
+    OpenFault, Opened, Reason, Scratch, Selection,
 };
-use lc_rules::{IgnoreFile, RuleFault, TextState};
-use lc_tree::{MemTree, Sketch};
+use lc_rules::{IgnoreFile, Origin, RuleFault, TextState};
+use lc_tree::{Kind, MemTree, Node, Sketch};
 use std::alloc::{AllocError, Global};
 use std::process::Abort;
 use std::sync::Arc;
 
-/// What is asked of a directory's work.
+/// A directory, what is asked of the work on it, and what stops that or is found.
 #[derive(Clone, Copy)]
-pub(crate) struct Asked<'a> {
+pub(crate) struct Case<'a> {
+    pub(crate) name: &'a str,
     /// The tree, and the name of the directory below its top, if it isn't the top.
     pub(crate) tree: Sketch<'a>,
     pub(crate) below: Option<&'a [u8]>,
+    /// Whether the tree has to answer so below the top too.
+    pub(crate) anywhere: bool,
     /// The rules of an exclude file.
     pub(crate) exclude: Option<&'a [u8]>,
+    pub(crate) selected: Selected<'a>,
+    pub(crate) stop: Option<OpenFault>,
+    pub(crate) found: Level<'a>,
+}
+
+/// What decides beside the rules.
+#[derive(Clone, Copy)]
+pub(crate) struct Selected<'a> {
     pub(crate) archive: bool,
     pub(crate) without: &'a [&'a str],
+    pub(crate) only: &'a [&'a [u8]],
 }
+
+/// The names of counted files with their text states, those of others with their faults, child directories, entries that are left out,
+/// and absent paths, each in order.
+#[derive(Clone, Copy)]
+pub(crate) struct Level<'a> {
+    pub(crate) files: &'a [(&'a [u8], TextState)],
+    pub(crate) faults: &'a [(&'a [u8], FaultWord)],
+    pub(crate) children: &'a [&'a [u8]],
+    pub(crate) left: &'a [Left<'a>],
+    pub(crate) absent: &'a [&'a [u8]],
+}
+
+/// What is found of a directory by a selection.
+pub(crate) type Part<'a> = (&'a str, Selected<'a>, Level<'a>);
+
+/// A name, what stands under it, and why it is left out.
+pub(crate) type Left<'a> = (&'a [u8], Kind, Why<'a>);
+
+/// Why an entry is left out.
+#[derive(Clone, Copy, Debug)]
+pub(crate) enum Why<'a> {
+    Git,
+    Rule(Origin, u32),
+    Attribute(&'a [u8]),
+    OtherKind,
+}
+
+pub(crate) const NONE: TextState = TextState::Unspecified;
+
+pub(crate) const LINE: Sketch = Sketch::File(b"x\n");
+
+pub(crate) const EMPTY: Sketch = Sketch::Dir(&[]);
+
+pub(crate) const AS_IT_IS: Selected = Selected {
+    archive: false,
+    without: &[],
+    only: &[],
+};
+
+pub(crate) const NO_ENTRY: Level = Level {
+    files: &[],
+    faults: &[],
+    children: &[],
+    left: &[],
+    absent: &[],
+};
+
+/// The empty top of a tree.
+pub(crate) const TOP: Case = Case {
+    name: "",
+    tree: EMPTY,
+    below: None,
+    anywhere: false,
+    exclude: None,
+    selected: AS_IT_IS,
+    stop: None,
+    found: NO_ENTRY,
+};
 
 /// Nothing beside what a count needs.
 pub(crate) const NOTHING: Kept = Kept {
@@ -27,23 +98,13 @@ pub(crate) const NOTHING: Kept = Kept {
     texts: false,
 };
 
-/// The names of the counted files with their text states, those of the others with their faults, and the child directories.
-#[derive(Clone, Copy)]
-pub(crate) struct Level<'a> {
-    pub(crate) files: &'a [(&'a [u8], TextState)],
-    pub(crate) faults: &'a [(&'a [u8], FaultWord)],
-    pub(crate) children: &'a [&'a [u8]],
-}
+pub(crate) const LEFT_OUT: Kept = Kept {
+    left_out: true,
+    texts: false,
+};
 
-/// The top itself, without an exclude file, and as it is.
-pub(crate) fn top(tree: Sketch) -> Asked {
-    Asked {
-        tree,
-        below: None,
-        exclude: None,
-        archive: false,
-        without: &[],
-    }
+pub(crate) fn selection_of<'a>(selected: &Selected<'a>) -> Selection<'a> {
+    Selection::new(selected.archive, selected.without).narrowed(selected.only)
 }
 
 fn exclude_file(
@@ -59,51 +120,58 @@ fn exclude_file(
     }
 }
 
-/// What opening a directory answers, but for want of memory.
-pub(crate) fn open(
+fn job_named(children: Vec<ChildDirectory>, name: &[u8]) -> Option<Job> {
+    for child in children {
+        if child.name.as_slice() == name {
+            return Some(child.job);
+        }
+    }
+    None
+}
+
+/// The job of the directory of this name in another, if it is there.
+pub(crate) fn child_of(
     levels: &LevelReader<MemTree>,
     job: &Job,
+    name: &[u8],
     scratch: &mut Scratch,
-) -> Result<Result<Opened, OpenFault>, AllocError> {
+) -> Result<Result<Option<Job>, OpenFault>, AllocError> {
     match levels.open(job, scratch) {
+        Ok(opened) => Ok(Ok(job_named(opened.children, name))),
         Err(OpenFault::Broken(Cause::Memory)) => Err(AllocError),
-        answer => Ok(answer),
+        Err(open_fault) => Ok(Err(open_fault)),
     }
 }
 
-/// The job of the directory that is asked about.
+/// The job of the top, or of the directory of this name below it, if it is there.
 pub(crate) fn job_of(
     alloc: Global,
     levels: &LevelReader<MemTree>,
-    asked: &Asked,
+    exclude: Option<&[u8]>,
+    below: Option<&[u8]>,
     scratch: &mut Scratch,
 ) -> Result<Option<Job>, AllocError> {
-    let top = Job::top(alloc, exclude_file(alloc, asked.exclude)?)?;
-    let Some(below) = asked.below else {
+    let top = Job::top(alloc, exclude_file(alloc, exclude)?)?;
+    let Some(below) = below else {
         return Ok(Some(top));
     };
-    let Ok(opened) = open(levels, &top, scratch)? else {
-        return Ok(None);
-    };
-    for child in opened.children {
-        if child.name.as_slice() == below {
-            return Ok(Some(child.job));
-        }
+    match child_of(levels, &top, below, scratch)? {
+        Ok(found) => Ok(found),
+        Err(_) => Ok(None),
     }
-    Ok(None)
 }
 
 /// What the work on a directory found.
 #[derive(Drop)]
-pub(crate) struct Found {
-    pub(crate) counted: CountedFiles,
-    children: Vec<Vec<u8>>,
-    left_out: usize,
+struct Found {
+    counted: CountedFiles,
+    children: Vec<ChildDirectory>,
+    left: Vec<LeftOut>,
+    entries: u32,
 }
 
 /// Opens the directory of the job and counts its files.
-pub(crate) fn work(
-    alloc: Global,
+fn work(
     levels: &LevelReader<MemTree>,
     job: &Job,
     scratch: &mut Scratch,
@@ -119,18 +187,17 @@ pub(crate) fn work(
         children,
         left,
         absent,
-        ..
+        entries,
     } = opened;
-    let mut names = Vec::new(alloc);
-    for child in children {
-        names.push(child.name)?;
+    match levels.count(&job, files, absent, scratch) {
+        Ok(counted) => Ok(Ok(Found {
+            counted,
+            children,
+            left,
+            entries,
+        })),
+        Err(_) => Err(AllocError),
     }
-    let counted = levels.count(&job, files, absent, scratch)?;
-    Ok(Ok(Found {
-        counted,
-        children: names,
-        left_out: left.len(),
-    }))
 }
 
 fn are_files(found: &CountedFiles, wanted: &[(&[u8], TextState)]) -> bool {
@@ -139,67 +206,147 @@ fn are_files(found: &CountedFiles, wanted: &[(&[u8], TextState)]) -> bool {
             && file.text == *text)
 }
 
-/// The files that were not counted have these names and faults, in order.
-pub(crate) fn are_faults(found: &CountedFiles, wanted: &[(&[u8], FaultWord)]) -> bool {
-    found.faults.len() == wanted.len()
-        && found.faults.iter().zip(wanted).all(|(fault, (name, word))| fault.name.as_slice()
-            == *name
+fn are_faults(found: &[FileFault], wanted: &[(&[u8], FaultWord)]) -> bool {
+    found.len() == wanted.len()
+        && found.iter().zip(wanted).all(|(fault, (name, word))| fault.name.as_slice() == *name
             && fault.word == *word)
 }
 
-/// These are the names, in order.
-pub(crate) fn are_names(found: &[Vec<u8>], wanted: &[&[u8]]) -> bool {
+fn are_absent(found: &[FileFault], wanted: &[&[u8]]) -> bool {
+    found.len() == wanted.len()
+        && found.iter().zip(wanted).all(|(fault, path)| fault.name.as_slice() == *path
+            && fault.word == FaultWord::Absent)
+}
+
+fn are_children(found: &[ChildDirectory], wanted: &[&[u8]]) -> bool {
     found.len() == wanted.len()
         && found
             .iter()
             .zip(wanted)
-            .all(|(child, name)| child.as_slice() == *name)
+            .all(|(child, name)| child.name.as_slice() == *name)
 }
 
-fn is_wanted(found: &Result<Found, OpenFault>, wanted: &Result<Level, OpenFault>) -> bool {
+pub(crate) fn is_reason(found: &Reason, wanted: &Why) -> bool {
     match (found, wanted) {
-        (Ok(found), Ok(level)) => {
-            are_files(&found.counted, level.files)
-                && are_faults(&found.counted, level.faults)
-                && are_names(&found.children, level.children)
-                && found.left_out == 0
+        (Reason::Git, Why::Git) => true,
+        (Reason::Rule { origin, line }, Why::Rule(wanted, number)) => {
+            *origin == *wanted && *line == *number
         }
-        (Err(open_fault), Err(wanted)) => open_fault == wanted,
-        (Ok(_), Err(_)) | (Err(_), Ok(_)) => false,
+        (Reason::Attribute(name), Why::Attribute(wanted)) => name.as_slice() == *wanted,
+        (Reason::OtherKind, Why::OtherKind) => true,
+        _ => false,
     }
 }
 
-/// Works on the directory with nothing kept, and compares.
-pub(crate) fn check(
+fn are_left(found: &[LeftOut], wanted: &[Left]) -> bool {
+    found.len() == wanted.len()
+        && found.iter().zip(wanted).all(|(left, (name, kind, why))| left.name.as_slice() == *name
+            && left.kind == *kind
+            && is_reason(&left.reason, why))
+}
+
+/// Each entry that takes part is counted, at fault, walked or left out.
+fn are_all(entries: u32, wanted: &Level) -> bool {
+    entries as usize
+        == wanted.files.len() + wanted.faults.len() + wanted.children.len() + wanted.left.len()
+}
+
+fn is_level(found: &Found, wanted: &Level, kept: Kept) -> bool {
+    let Some((absent, faults)) = found.counted.faults.split_at_checked(wanted.absent.len()) else {
+        return false;
+    };
+    let is_left = if kept.left_out {
+        are_left(&found.left, wanted.left)
+    } else {
+        found.left.is_empty()
+    };
+    is_left
+        && are_files(&found.counted, wanted.files)
+        && are_absent(absent, wanted.absent)
+        && are_faults(faults, wanted.faults)
+        && are_children(&found.children, wanted.children)
+        && are_all(found.entries, wanted)
+}
+
+/// Works on the directory of a tree, and compares what is found, or what stops it.
+pub(crate) fn is_found(
+    alloc: Global,
+    node: &Node,
+    below: Option<&[u8]>,
+    case: &Case,
+    wanted: &Level,
+    kept: Kept,
+) -> Result<bool, AllocError> {
+    let tree = MemTree::new(node);
+    let levels = LevelReader::new(alloc, &tree, selection_of(&case.selected), kept);
+    let mut scratch = Scratch::new(alloc)?;
+    let Some(job) = job_of(alloc, &levels, case.exclude, below, &mut scratch)? else {
+        return Ok(false);
+    };
+    match (work(&levels, &job, &mut scratch)?, case.stop) {
+        (Ok(found), None) => Ok(is_level(&found, wanted, kept)),
+        (Err(open_fault), Some(stop)) => Ok(open_fault == stop),
+        (Ok(_), Some(_)) | (Err(_), None) => Ok(false),
+    }
+}
+
+/// What is found is the same whether entries left out are kept or not, but for these.
+fn check_node(
     rt: &impl Abort,
     alloc: Global,
-    case: &str,
-    asked: Asked,
-    wanted: Result<Level, OpenFault>,
+    node: &Node,
+    below: Option<&[u8]>,
+    case: &Case,
 ) -> Result<(), AllocError> {
-    let node = asked.tree.node(alloc)?;
-    let tree = MemTree::new(&node);
-    let selection = Selection::new(asked.archive, asked.without);
-    let levels = LevelReader::new(alloc, &tree, selection, NOTHING);
-    let mut scratch = Scratch::new(alloc)?;
-    let Some(job) = job_of(alloc, &levels, &asked, &mut scratch)? else {
-        assert!(rt; false, "{case}: no such directory");
-        return Ok(());
-    };
-    let found = work(alloc, &levels, &job, &mut scratch)?;
-    assert!(rt; is_wanted(&found, &wanted), "{case}");
+    let plain = is_found(alloc, node, below, case, &case.found, NOTHING)?;
+    let kept = is_found(alloc, node, below, case, &case.found, LEFT_OUT)?;
+    assert!(rt; plain && kept, "{}", case.name);
     Ok(())
 }
 
-/// Each tree's top is this level.
-pub(crate) fn check_tops(
+/// A directory in which this one is named `s`.
+fn holding(alloc: Global, node: Node) -> Result<Node, AllocError> {
+    let mut children = Vec::with_capacity(alloc, 1)?;
+    children.push((b"s".to_vec(alloc)?, node))?;
+    Ok(Node::Dir(children))
+}
+
+pub(crate) fn check(rt: &impl Abort, alloc: Global, case: &Case) -> Result<(), AllocError> {
+    let node = case.tree.node(alloc)?;
+    check_node(rt, alloc, &node, case.below, case)?;
+    if case.anywhere {
+        let top = holding(alloc, node)?;
+        check_node(rt, alloc, &top, Some(b"s"), case)?;
+    }
+    Ok(())
+}
+
+/// The same of each of these.
+pub(crate) fn check_all(rt: &impl Abort, alloc: Global, cases: &[Case]) -> Result<(), AllocError> {
+    for case in cases {
+        check(rt, alloc, case)?;
+    }
+    Ok(())
+}
+
+/// The case's directory by each of these selections.
+pub(crate) fn check_parts(
     rt: &impl Abort,
     alloc: Global,
-    trees: &[(&str, Sketch)],
-    wanted: Level,
+    case: &Case,
+    parts: &[Part],
 ) -> Result<(), AllocError> {
-    for (case, tree) in trees {
-        check(rt, alloc, case, top(*tree), Ok(wanted))?;
+    for (name, selected, found) in parts {
+        check(
+            rt,
+            alloc,
+            &Case {
+                name,
+                selected: *selected,
+                found: *found,
+                ..*case
+            },
+        )?;
     }
     Ok(())
 }
