@@ -1,10 +1,10 @@
 -- The tree of a small node of memory.
-use Rattle.std.proofs.Common.{◌≡◌, ℕ, Bool, true, false, List, [], ◌∷◌, ◌++◌, map, refl, sym, ◌∙◌, ap, Some, None, Vec, Ok, Err, codes}
+use Rattle.std.proofs.Common.{◌≡◌, ℕ, List, [], ◌∷◌, ◌++◌, map, refl, sym, ◌∙◌, ap, Some, None, Vec, Ok, Err, codes}
 use Rattle.std.specs.Prelude.{option_and_then}
 use Rattle.std.specs.declared.alloc.Global.{Global}
 use Rattle.lc_level.specs.Answers.{Item, file_item, directory_item, other_item, Items, entry_of}
 use Rattle.lc_level.specs.Examples.{bad_name, entries, small_node, whole_file, small_items, vec}
-use Rattle.lc_level.specs.Examples.{Names, names_in, small_names, small_outside, small_as_it_is}
+use Rattle.lc_level.specs.Examples.{Names, names_in, as_it_is, exported, small_names, small_outside, small_as_it_is}
 use Rattle.lc_census.specs.Census.{count_of}
 use Rattle.lc_census.proofs.OneCutting.{cut, cut_is}
 use Rattle.lc_census.specs.Cutting.{lf, Cutting, IsCutting, HasOneCutting}
@@ -12,7 +12,7 @@ use Rattle.lc_census.specs.declared.totals.Eol.TheVariants.{Lf}
 use Rattle.lc_glob.specs.IsMatch as IsMatch
 use Rattle.lc_rules.specs.Decision as Decision
 use Rattle.lc_level.specs.Level.{by_attribute, level_of}
-use Rattle.lc_level.specs.Selection.{selection_of_archive}
+use Rattle.lc_level.specs.Selection.{SelectionModel}
 use Rattle.lc_level.specs.TopJob.{top_job}
 use Rattle.lc_level.specs.FileAnswers.{census}
 use Rattle.lc_level.specs.NodeTrees.{item_by, item_of, listing_within, told_items, items_at, tree_of_node}
@@ -66,20 +66,19 @@ module _ (alloc : Global) where
   top_is = items_are (Node-F.Dir (vec alloc (entries alloc) refl)) ∙ ap (λ l. told_items (listed entry_of l)) each_is
 
   -- what the directory's entries become, by its listing
-  abbrev names_of_listing : Bool → Items → Names
-  names_of_listing archive here =
-      names_in (level_of (selection_of_archive archive) (top_job None) (tree_of_node (small_node alloc) []) here)
+  abbrev names_of_listing : SelectionModel → Items → Names
+  names_of_listing s here = names_in (level_of s (top_job None) (tree_of_node (small_node alloc) []) here)
 
   -- what its level counts, fails at, walks and leaves out
-  pub names_are : small_names alloc false ≡ small_as_it_is
+  pub names_are : small_names alloc as_it_is ≡ small_as_it_is
   unfolding IsMatch.is_match
-  names_are = ap (names_of_listing false) top_is
+  names_are = ap (names_of_listing as_it_is) top_is
 
-  -- what is left out of it as an archive
-  pub archived_are : (small_names alloc true).outside
+  -- what is left out of it where it is exported
+  pub unexported_are : (small_names alloc exported).outside
       ≡ small_outside ++ record { name = codes "s"; kind = File; reason = by_attribute (codes "export-ignore") } ∷ []
   unfolding IsMatch.is_match Decision.decide
-  archived_are = ap (λ here. (names_of_listing true here).outside) top_is
+  unexported_are = ap (λ here. (names_of_listing exported here).outside) top_is
 
   -- a closed directory can't be listed
   pub closed_is : (tree_of_node (small_node alloc) (codes "b" ∷ [])).here ≡ Err Read

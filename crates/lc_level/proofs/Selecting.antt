@@ -51,36 +51,36 @@ module _ (j : JobModel) (path : List ℕ) (is_dir : Bool) where
       at true rest = refl
       at false rest = rest
 
-  -- the reason by the words' attributes, after that of an archive
+  -- the reason by the words' attributes, after that of what is exported
   abbrev reason_by : Bool → Option (Bor (List ℕ)) → Option Reason
-  reason_by archive found =
-      option_map by_attribute (cond archive (cond (is_set_at (codes "export-ignore")) (Some (codes "export-ignore"))
+  reason_by exported found =
+      option_map by_attribute (cond exported (cond (is_set_at (codes "export-ignore")) (Some (codes "export-ignore"))
       (option_map (λ (name : Bor (List ℕ)). name.now) found)) (option_map (λ (name : Bor (List ℕ)). name.now) found))
 
-  by_words : (archive : Bool) (names : List (Bor (List ℕ)))
-      → attribute_reason (selection_of archive (map (λ name. name.now) names)) j path is_dir ≡ reason_by archive (find is_set_by names)
+  by_words : (exported : Bool) (names : List (Bor (List ℕ)))
+      → attribute_reason (selection_of exported (map (λ name. name.now) names)) j path is_dir ≡ reason_by exported (find is_set_by names)
   by_words true names =
       ap (λ o. option_map by_attribute (cond (is_set_at (codes "export-ignore")) (Some (codes "export-ignore")) o)) (find_lent names)
   by_words false names = ap (option_map by_attribute) (find_lent names)
 
-  module _ (s : SelectionModel) (archive : Bool) (names : List (Bor (List ℕ))) (only : List (List ℕ))
-      (is : narrowed (selection_of archive (map (λ name. name.now) names)) only ≡ s) where
-    reason_is : attribute_reason s j path is_dir ≡ reason_by archive (find is_set_by names)
-    reason_is = ap (λ (t : SelectionModel). attribute_reason t j path is_dir) (sym is) ∙ by_words archive names
+  module _ (s : SelectionModel) (exported : Bool) (names : List (Bor (List ℕ))) (only : List (List ℕ))
+      (is : narrowed (selection_of exported (map (λ name. name.now) names)) only ≡ s) where
+    reason_is : attribute_reason s j path is_dir ≡ reason_by exported (find is_set_by names)
+    reason_is = ap (λ (t : SelectionModel). attribute_reason t j path is_dir) (sym is) ∙ by_words exported names
 
-    -- what an archive leaves out comes first
-    pub archive_first : archive ≡ true → is_set_at (codes "export-ignore") ≡ true
+    -- what is not exported comes first
+    pub unexported_first : exported ≡ true → is_set_at (codes "export-ignore") ≡ true
         → Some (by_attribute (codes "export-ignore")) ≡ attribute_reason s j path is_dir
-    archive_first asked set =
+    unexported_first asked set =
         sym (reason_is ∙ ap (λ b. reason_by b (find is_set_by names)) asked
         ∙ ap (λ b. option_map by_attribute (cond b (Some (codes "export-ignore"))
         (option_map (λ (name : Bor (List ℕ)). name.now) (find is_set_by names)))) set)
 
     -- where it has no say, the words' attributes decide
-    by_names : (archive ≡ false) ⊎ (is_set_at (codes "export-ignore") ≡ false)
+    by_names : (exported ≡ false) ⊎ (is_set_at (codes "export-ignore") ≡ false)
         → (found : Option (Bor (List ℕ)))
-        → reason_by archive found ≡ option_map by_attribute (option_map (λ (name : Bor (List ℕ)). name.now) found)
-    by_names none found = at archive (is_set_at (codes "export-ignore")) none
+        → reason_by exported found ≡ option_map by_attribute (option_map (λ (name : Bor (List ℕ)). name.now) found)
+    by_names none found = at exported (is_set_at (codes "export-ignore")) none
       where
         lent : Option (List ℕ)
         lent = option_map (λ (name : Bor (List ℕ)). name.now) found
@@ -93,7 +93,7 @@ module _ (j : JobModel) (path : List ℕ) (is_dir : Bool) where
         at true true (inr e) = cc
 
     -- the first of the words' attributes that is Set
-    pub word_first : (archive ≡ false) ⊎ (is_set_at (codes "export-ignore") ≡ false) → (i : ℕ) (d : Bor (List ℕ)) → i < length names
+    pub word_first : (exported ≡ false) ⊎ (is_set_at (codes "export-ignore") ≡ false) → (i : ℕ) (d : Bor (List ℕ)) → i < length names
         → list_any is_set_by (take i names) ≡ false → is_set_by (get_or names i d) ≡ true
         → Some (by_attribute (get_or names i d).now) ≡ attribute_reason s j path is_dir
     word_first none i d within before set =
@@ -102,7 +102,7 @@ module _ (j : JobModel) (path : List ℕ) (is_dir : Bool) where
         (find_first is_set_by names i d within before set))
 
     -- and where none is, nothing leaves out
-    pub no_word : (archive ≡ false) ⊎ (is_set_at (codes "export-ignore") ≡ false) → list_any is_set_by names ≡ false
+    pub no_word : (exported ≡ false) ⊎ (is_set_at (codes "export-ignore") ≡ false) → list_any is_set_by names ≡ false
         → None ≡ attribute_reason s j path is_dir
     no_word none any =
         sym (reason_is ∙ by_names none (find is_set_by names)

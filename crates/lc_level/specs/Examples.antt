@@ -1,5 +1,5 @@
 -- The tree of a node of memory, computed on a small node.
-use Rattle.std.specs.Prelude.{◌≡◌, ℕ, ◌^◌, nat_lt, Bool, true, false, List, [], ◌∷◌, ◌++◌, length, map, Vec, Ok, Err, None, refl, codes}
+use Rattle.std.specs.Prelude.{◌≡◌, ℕ, ◌^◌, nat_lt, true, false, List, [], ◌∷◌, ◌++◌, length, map, Vec, Ok, Err, None, refl, codes}
 use Rattle.std.specs.declared.alloc.Global.{Global}
 use Rattle.std.proofs.Math.Nat.{le_refl}
 use Rattle.std.proofs.lemmas.Bool.{ltb-true}
@@ -10,7 +10,7 @@ use Rattle.lc_rules.specs.declared.origin.Origin.TheVariants.{Directory}
 use Rattle.lc_level.specs.Level.{named_git, by_rule, by_attribute, other_kind, LeftModel, Level, faulted_level, listed_level, level}
 use Rattle.lc_level.specs.Level.{counted_in, failed_in, walked_in, left_in}
 use Rattle.lc_level.specs.NodeTrees.{tree_of_node}
-use Rattle.lc_level.specs.Selection.{selection_of_archive}
+use Rattle.lc_level.specs.Selection.{SelectionModel, selection_of}
 use Rattle.lc_level.specs.TopJob.{top_job}
 use Rattle.lc_level.specs.FileAnswers.{census}
 use Rattle.lc_tree.specs.Nodes.{Child}
@@ -102,9 +102,16 @@ names_in (listed_level fates absent) = record {
   outside = left_in fates;
 }
 
--- of the small directory, as it is or as an archive
-abbrev pub small_names : Global → Bool → Names
-small_names alloc archive = names_in (level (selection_of_archive archive) (top_job None) (tree_of_node (small_node alloc) []))
+-- a tree as it is, and as git exports it
+abbrev pub as_it_is : SelectionModel
+as_it_is = selection_of false []
+
+abbrev pub exported : SelectionModel
+exported = selection_of true []
+
+-- of the small directory, by a selection
+abbrev pub small_names : Global → SelectionModel → Names
+small_names alloc s = names_in (level s (top_job None) (tree_of_node (small_node alloc) []))
 
 -- what is left out of it in any case
 abbrev pub small_outside : List LeftModel
@@ -122,12 +129,12 @@ small_as_it_is = record {
 }
 
 -- a directory's entries stand in order of their names; the one that fails is a fault; `.git`, the ignored file and the link are left out,
--- and of an archive what has the attribute `export-ignore`; what is closed, or has a bad name in it, can't be listed
+-- and of what is exported what has the attribute `export-ignore`; what is closed, or has a bad name in it, can't be listed
 pub record LevelExamplesHold (alloc : Global) : Type 0 where
   pub top : (tree_of_node (small_node alloc) []).here ≡ Ok small_items
   pub count : census (codes "one\n") ≡ record { lines = 1; blank = 0; bytes = 4; eol = Lf }
-  pub names : small_names alloc false ≡ small_as_it_is
-  pub archived : (small_names alloc true).outside
+  pub names : small_names alloc as_it_is ≡ small_as_it_is
+  pub unexported : (small_names alloc exported).outside
       ≡ small_outside ++ record { name = codes "s"; kind = File; reason = by_attribute (codes "export-ignore") } ∷ []
   pub closed_there : (tree_of_node (small_node alloc) (codes "b" ∷ [])).here ≡ Err Read
   pub bad_name_there : (tree_of_node (small_node alloc) (codes "d" ∷ [])).here ≡ Err Name

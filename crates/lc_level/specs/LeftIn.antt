@@ -1,5 +1,4 @@
--- Which entries of a directory are left in, and which are left out: gitignore(5), PATTERN FORMAT, and for an archive gitattributes(5),
--- Creating an archive.
+-- Which entries of a directory are left in, and which are left out: gitignore(5), PATTERN FORMAT, and what the selection leaves out.
 use Rattle.std.specs.Prelude.{◌≡◌, ℕ, Bool, true, false, ◌&&◌, cond, if◌then◌else◌, is_none, List, [], ◌∷◌, ◌++◌, map, nat_lt, Vec, Option}
 use Rattle.std.specs.Prelude.{Some, None, Result, Ok, Err, unwrap_or}
 use Rattle.std.specs.List.{flat_map, list_any}

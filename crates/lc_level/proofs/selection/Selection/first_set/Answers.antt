@@ -1,13 +1,13 @@
 use Rattle.std.proofs.Common.{◌∙◌, ap, sym, inl, inr, Some, take_all}
 use Rattle.std.specs.List.{list_any}
 use Rattle.lc_level.specs.Level.{by_attribute}
-use Rattle.lc_level.proofs.Selecting.{is_set_at, is_set_by, archive_first, word_first, no_word}
+use Rattle.lc_level.proofs.Selecting.{is_set_at, is_set_by, unexported_first, word_first, no_word}
 use Rattle.lc_level.proofs.selection.Selection.first_set.Goals as goal
 use Rattle.lc_level.proofs.selection.Selection.first_set.Goals.{else-self-via-then-self+in_ok-is_set+else-branch, else-self-via-else-self}
 
 pub returns-then-branch : goal.returns-then-branch
 returns-then-branch c =
-    archive_first c.args.job.now c.args.path.now c.args.is_dir c.args.self.now c.self.inside.archive c.self.inside.without.now _
+    unexported_first c.args.job.now c.args.path.now c.args.is_dir c.args.self.now _ c.self.inside.without.now _
     c.self.view_is c.if-self.true (sym c.in_ok-is_set.ensures ∙ c.if-branch.true)
 
 pub returns-then-branch-2 : goal.returns-then-branch-2
@@ -16,7 +16,7 @@ returns-then-branch-2 c =
     let is_set_here = ap (is_set_at c.args.job.now c.args.path.now c.args.is_dir) (sym c.as_bytes.ensures.value)
     ∙ (sym c.in_ok-is_set-2.ensures ∙ c.if-branch-2.true) in
     ap (λ n. Some (by_attribute n)) c.as_bytes-then-branch-2.ensures.value
-    ∙ word_first c.args.job.now c.args.path.now c.args.is_dir c.args.self.now c.self.inside.archive names _ c.self.view_is
+    ∙ word_first c.args.job.now c.args.path.now c.args.is_dir c.args.self.now _ names _ c.self.view_is
     (elim c.else-self.branch [
       | else-self-via-then-self+in_ok-is_set+else-branch w ↦ inr (sym w.in_ok-is_set.ensures ∙ w.if-branch.false)
       | else-self-via-else-self w ↦ inl w.if-self.false
@@ -28,7 +28,7 @@ returns c =
     let names = c.self.inside.without.now in
     let passes = is_set_by c.args.job.now c.args.path.now c.args.is_dir in
     let all = take_all c.loop-attribute.attribute-index names c.loop-attribute-test.false in
-    no_word c.args.job.now c.args.path.now c.args.is_dir c.args.self.now c.self.inside.archive names _ c.self.view_is
+    no_word c.args.job.now c.args.path.now c.args.is_dir c.args.self.now _ names _ c.self.view_is
     (elim c.else-self.branch [
       | else-self-via-then-self+in_ok-is_set+else-branch w ↦ inr (sym w.in_ok-is_set.ensures ∙ w.if-branch.false)
       | else-self-via-else-self w ↦ inl w.if-self.false
