@@ -13,7 +13,3 @@ selection_of archive without = record { without = cond archive (codes "export-ig
 -- the same of these paths alone
 abbrev pub narrowed : SelectionModel → List (List ℕ) → SelectionModel
 narrowed s only = record { without = s.without; only = only }
-
--- that of an archive, or of a tree as it is
-abbrev pub selection_of_archive : Bool → SelectionModel
-selection_of_archive archive = selection_of archive []
