@@ -1,13 +1,16 @@
 -- A check that stops at a fault of its input or of its output.
-use Rattle.std.proofs.Common.{ℕ, List, Result, Err, refl}
+use Rattle.std.proofs.Common.{◌≡◌, ℕ, ◌<◌, List, length, Result, Ok, Err, refl}
 use Rattle.lc_census.specs.declared.source.Failed.{Failed}
 use Rattle.lc_census.specs.declared.whole.WholeFault.{WholeFault}
 use Rattle.lc_census.specs.declared.whole.WholeFault.TheVariants as whole
 use Rattle.lc_census.specs.Reads.{Answer}
+use Rattle.lc_rules.specs.Limits.{max_rule_bytes}
+use Rattle.lc_rules.specs.declared.faults.RuleFault.{RuleFault}
+use Rattle.lc_rules.specs.declared.faults.RuleFault.TheVariants as rule
 use Rattle.lc_text.specs.declared.printing.PrintFault.{PrintFault}
 use Rattle.lc_text.specs.declared.printing.PrintFault.TheVariants as print
 use Rattle.lc_text.specs.Check.{AnswersInput, HasRead, AnswersCheck}
-use Rattle.lc_text.specs.CheckFaults.{input_fault, print_fault}
+use Rattle.lc_text.specs.CheckFaults.{input_fault, rules_fault, print_fault}
 use Rattle.lc_text.specs.Writes.{AnswersPrint}
 
 module _ {I O : Type 0} (may_give : I → ℕ → Answer → I → Type 0) (may_take : O → List ℕ → Result ℕ Failed → O → Type 0)
@@ -18,6 +21,13 @@ module _ {I O : Type 0} (may_give : I → ℕ → Answer → I → Type 0) (may_
   input_stops whole.Read input read out bytes stopped = ((bytes, stopped), refl)
   input_stops whole.TooLong input read out bytes stopped = ((bytes, stopped), refl)
   input_stops whole.Memory input read out bytes stopped = refl
+
+  -- the rules in it are too long, or there is no memory for them
+  pub rules_stop : (fault : RuleFault) (input read : I) (out : O) (bytes : List ℕ) → AnswersInput may_give input (Ok tt) bytes read
+      → (fault ≡ rule.TooLong → max_rule_bytes < length (rules_in bytes))
+      → AnswersCheck may_give may_take rules_in text_of input out (Err (rules_fault fault)) read out
+  rules_stop rule.TooLong input read out bytes answers long = ((bytes, answers, long refl), refl)
+  rules_stop rule.Memory input read out bytes answers long = refl
 
   -- the text was not written whole
   pub output_stops : (fault : PrintFault) (input read : I) (out wrote : O) (bytes : List ℕ)

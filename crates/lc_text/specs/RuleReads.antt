@@ -1,5 +1,6 @@
--- What reading a file of rules answers, by its reads.
-use Rattle.std.specs.Prelude.{ℕ, List, Result, Ok, Err}
+-- What reading a source whole answers, and a file of rules, by its reads.
+use Rattle.std.specs.Prelude.{ℕ, List, Result, Ok, Err, Vec}
+use Rattle.std.specs.Global.{Global}
 use Rattle.lc_census.specs.Reads.{Answer}
 use Rattle.lc_census.specs.Whole.{AnswersWhole}
 use Rattle.lc_census.specs.declared.whole.WholeFault.{WholeFault}
@@ -28,3 +29,10 @@ ReadsRuleText may_give old (Err Read) new = (bytes : List ℕ) × AnswersWhole m
 ReadsRuleText may_give old (Err TooLong) new =
     (bytes : List ℕ) × AnswersWhole may_give max_rule_bytes old (Err whole.TooLong) bytes new
 ReadsRuleText may_give old (Err Memory) new = Unit {0}
+
+-- the bytes of a source that was read whole; or the reads failed, or gave more bytes than the limit
+abbrev pub ReadsWhole : {S : Type 0} → (S → ℕ → Answer → S → Type 0) → ℕ → S → Result (Vec ℕ Global) WholeFault → S → Type 0
+ReadsWhole may_give limit old (Ok bytes) new = AnswersWhole may_give limit old (Ok tt) bytes.items new
+ReadsWhole may_give limit old (Err whole.Read) new = (bytes : List ℕ) × AnswersWhole may_give limit old (Err whole.Read) bytes new
+ReadsWhole may_give limit old (Err whole.TooLong) new = (bytes : List ℕ) × AnswersWhole may_give limit old (Err whole.TooLong) bytes new
+ReadsWhole may_give limit old (Err whole.Memory) new = Unit {0}

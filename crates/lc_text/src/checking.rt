@@ -17,11 +17,12 @@ pub(crate) mod path_line;
 pub(crate) mod text;
 
 use crate::printing::{PrintFault, print};
+use crate::reading::read_bytes;
 use crate::rules::RuleText;
 use crate::sink::Sink;
 use explained::explained_text;
 use joined::split_joined;
-use lc_census::{Source, WholeFault, new_buffer, read_whole};
+use lc_census::{Source, WholeFault};
 use lc_rules::{IgnoreFile, RuleFault};
 use std::alloc::{AllocError, Global};
 use text::check_text;
@@ -103,9 +104,7 @@ pub fn check<S: Source, O: Sink>(
 ) -> Result<(), CheckFault>
     ensures { AnswersCheck S.may_give O.may_take no_rules (text_by rules.now) input.old out.old result input.new out.new }
 {
-    let mut buffer = new_buffer(alloc)?;
-    let mut paths = Vec::new(alloc);
-    read_whole(&mut buffer, &mut paths, input, MAX_INPUT)?;
+    let paths = read_bytes(alloc, input, MAX_INPUT)?;
     let text = check_text(alloc, rules, &paths)?;
     print(out, &text)?;
     Ok(())
@@ -125,9 +124,7 @@ pub fn check_explained<S: Source, O: Sink>(
     ensures { AnswersCheck S.may_give O.may_take no_rules (explained_text_of name.now rules.now) input.old out.old result
         input.new out.new }
 {
-    let mut buffer = new_buffer(alloc)?;
-    let mut paths = Vec::new(alloc);
-    read_whole(&mut buffer, &mut paths, input, MAX_INPUT)?;
+    let paths = read_bytes(alloc, input, MAX_INPUT)?;
     let text = explained_text(alloc, name, rules, &paths)?;
     print(out, &text)?;
     Ok(())
@@ -143,9 +140,7 @@ pub fn check_joined<S: Source, O: Sink>(
 ) -> Result<(), CheckFault>
     ensures { AnswersCheck S.may_give O.may_take rules_part joined_text input.old out.old result input.new out.new }
 {
-    let mut buffer = new_buffer(alloc)?;
-    let mut bytes = Vec::new(alloc);
-    read_whole(&mut buffer, &mut bytes, input, MAX_INPUT)?;
+    let bytes = read_bytes(alloc, input, MAX_INPUT)?;
     let (rules, paths) = split_joined(&bytes);
     let rules = IgnoreFile::read(alloc, rules)?;
     let text = check_text(alloc, &rules, paths)?;

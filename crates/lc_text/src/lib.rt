@@ -3,7 +3,7 @@
 //! - `sink`: where text is written; `printing`: a text is written whole, or why not
 //! - `escaping`: how paths are printed; `visible`: how they are shown in a terminal
 //! - `places`: where a rule stands
-//! - `rules`: the rules that a source gives; `checking`: what rules say of paths, a line each
+//! - `reading`: a source, read whole; `rules`: the rules that it gives; `checking`: what rules say of paths, a line each
 //! - `outcome`: whether what was written tells of a fault
 //! - `shape`: what a table is to look like
 //! - `trials`: a writer for tests
@@ -16,6 +16,7 @@ mod laws;
 mod outcome;
 mod places;
 mod printing;
+mod reading;
 mod rules;
 mod shape;
 mod sink;

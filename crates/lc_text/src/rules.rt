@@ -6,7 +6,8 @@ ghost use Rattle.lc_text.specs.RuleReads.{ReadsRuleText, file_fault, bytes_fault
 ghost use Rattle.lc_rules.specs.IgnoreRules.{rules_of};
 ghost use Rattle.lc_text.specs.declared.rules.RulesFileFault.TheVariants.{TooLong, Memory};
 
-use lc_census::{Source, WholeFault, new_buffer, read_whole};
+use crate::reading::read_bytes;
+use lc_census::{Source, WholeFault};
 use lc_rules::{IgnoreFile, MAX_RULE_BYTES, RuleFault};
 use std::alloc::{AllocError, Global};
 use std::io;
@@ -124,9 +125,7 @@ impl RuleText {
 pub fn read_rule_text<S: Source>(alloc: Global, file: &mut S) -> Result<RuleText, RulesFileFault>
     ensures { ReadsRuleText S.may_give file.old result file.new }
 {
-    let mut buffer = new_buffer(alloc)?;
-    let mut bytes = Vec::new(alloc);
-    read_whole(&mut buffer, &mut bytes, file, MAX_RULE_BYTES)?;
+    let bytes = read_bytes(alloc, file, MAX_RULE_BYTES)?;
     let rules = IgnoreFile::read(alloc, &bytes)?;
     match Arc::new(alloc, rules) {
         Ok(rules) => Ok(RuleText { bytes, rules }),

@@ -1,18 +1,15 @@
 //! Rules and paths, and the text of their explained check.
 
-use lc_census::Source;
-use lc_census::trials::{Bytewise, Failing};
-use lc_text::trials::{Narrow, WRITERS, WhenFull};
 use lc_text::{CheckFault, RuleText, check_explained, read_rule_text};
 use std::alloc::{AllocError, Global};
 use std::process::Abort;
 use std::test::Fail;
 
-/// What is shown, the file of rules, paths, and the text by a file that is called `f`.
+/// What is shown, the file of rules, paths, and the text.
 type Case = (&'static str, &'static [u8], &'static [u8], &'static [u8]);
 
-/// The lines and the rules are those that `git check-ignore -v -n` (2.39) names.
-const WORDS: &[Case] = &[
+/// By a file that is called `f`. The lines and the rules are those that `git check-ignore -v -n` (2.39) names.
+const CASES: &[Case] = &[
     (
         "each_word",
         b"*.log\n!keep.log\n/build/\n",
@@ -39,9 +36,6 @@ const WORDS: &[Case] = &[
     ),
     ("no_paths", b"*\n", b"", b""),
     ("no_rules", b"", b"a\nb", b"none\t-\t-\ta\nnone\t-\t-\tb\n"),
-];
-
-const LINES: &[Case] = &[
     (
         "each_line_counts",
         b"# a\n\na\n[\nb",
@@ -75,108 +69,46 @@ const LINES: &[Case] = &[
     ("a_dash", b"-\n", b"-\n", b"ignored\tf:1\t-\t-\n"),
 ];
 
-fn read<S: Source>(alloc: Global, file: &mut S) -> Result<RuleText, Fail> {
-    match read_rule_text(alloc, file) {
+/// By a file whose name has bytes that are escaped.
+const NAMED: &[Case] = &[(
+    "an_escaped_name",
+    b"a",
+    b"a",
+    b"ignored\t..\\\\x\\x0a:1/\xff:1\ta\ta\n",
+)];
+
+fn read_rules(alloc: Global, mut file: &[u8]) -> Result<RuleText, AllocError> {
+    match read_rule_text(alloc, &mut file) {
         Ok(rules) => Ok(rules),
-        Err(_) => Err(AllocError.into()),
+        Err(_) => Err(AllocError),
     }
 }
 
-/// An explained check, but for want of memory, where nothing is written.
-fn explained<S: Source>(
-    rt: &impl Abort,
-    alloc: Global,
-    rules: &RuleText,
-    input: &mut S,
-    out: &mut Narrow,
-) -> Result<Result<(), CheckFault>, AllocError> {
-    match check_explained(alloc, b"f", rules, input, out) {
-        Err(CheckFault::Memory) => {
-            assert!(rt; out.taken.is_empty());
-            Err(AllocError)
-        }
-        answer => Ok(answer),
+/// Whether the explained check of a case by a file of this name gives its text.
+fn has_text(alloc: Global, name: &[u8], case: &Case) -> Result<bool, AllocError> {
+    let (_, rules, mut paths, text) = *case;
+    let rules = read_rules(alloc, rules)?;
+    let mut out = Vec::with_capacity(alloc, text.len())?;
+    let answer = check_explained(alloc, name, &rules, &mut paths, &mut out);
+    if answer == Err(CheckFault::Memory) && out.is_empty() {
+        return Err(AllocError);
     }
+    Ok(answer == Ok(()) && out.as_slice() == text)
 }
 
-fn compare<R: Abort + AllocGlobal>(rt: &R, cases: &[Case]) -> Result<(), Fail> {
-    for (case, rules, paths, text) in cases {
-        let mut file: &[u8] = rules;
-        let rules = read(rt.alloc(), &mut file)?;
-        let mut input: &[u8] = paths;
-        let mut out = Narrow::new(rt.alloc(), 64, text.len(), WhenFull::Fails)?;
-        let answer = explained(rt, rt.alloc(), &rules, &mut input, &mut out)?;
-        assert!(rt; answer == Ok(()) && out.taken.as_slice() == *text, "{case}");
+fn compare<R: Abort + AllocGlobal>(rt: &R, name: &[u8], cases: &[Case]) -> Result<(), Fail> {
+    for case in cases {
+        assert!(rt; has_text(rt.alloc(), name, case)?, "{}", case.0);
     }
     Ok(())
 }
 
 #[test]
 fn rules_and_lines_are_named(rt: HostRuntime) -> Result<(), Fail> {
-    compare(&rt, WORDS)?;
-    compare(&rt, LINES)
+    compare(&rt, b"f", CASES)
 }
 
 #[test]
 fn a_name_is_escaped(rt: HostRuntime) -> Result<(), Fail> {
-    let rules = read(rt.alloc(), &mut b"a".as_slice())?;
-    let mut out = Vec::with_capacity(rt.alloc(), 64)?;
-    let answer = check_explained(
-        rt.alloc(),
-        b"..\\x\n:1/\xff",
-        &rules,
-        &mut b"a".as_slice(),
-        &mut out,
-    );
-    if answer == Err(CheckFault::Memory) && out.is_empty() {
-        return Err(AllocError.into());
-    }
-    assert!(rt;
-        answer == Ok(()) && out.as_slice() == b"ignored\t..\\\\x\\x0a:1/\xff:1\ta\ta\n".as_slice()
-    );
-    Ok(())
-}
-
-const TEXT: &[u8] = b"ignored\tf:1\ta\ta\nnone\t-\t-\tb\n";
-
-#[test]
-fn writes_stop_at_every_place(rt: HostRuntime) -> Result<(), Fail> {
-    let rules = read(rt.alloc(), &mut Bytewise(b"a\n".as_slice()))?;
-    for (step, when_full) in WRITERS {
-        for room in 0..=TEXT.len() {
-            let mut out = Narrow::new(rt.alloc(), *step, room, *when_full)?;
-            let answer = explained(
-                &rt,
-                rt.alloc(),
-                &rules,
-                &mut Bytewise(b"a\nb\n".as_slice()),
-                &mut out,
-            )?;
-            let wanted = if room == TEXT.len() {
-                Ok(())
-            } else {
-                Err(CheckFault::Write)
-            };
-            assert!(rt;
-                answer == wanted && out.taken.as_slice() == &TEXT[..room],
-                "at {room}"
-            );
-        }
-    }
-    Ok(())
-}
-
-#[test]
-fn reads_that_fail(rt: HostRuntime) -> Result<(), Fail> {
-    let rules = read(rt.alloc(), &mut b"a\n".as_slice())?;
-    for given in 0..=4 {
-        let mut input = Failing(&b"a\nb\n"[..given]);
-        let mut out = Narrow::new(rt.alloc(), 64, 64, WhenFull::Fails)?;
-        let answer = explained(&rt, rt.alloc(), &rules, &mut input, &mut out)?;
-        assert!(rt;
-            answer == Err(CheckFault::Read) && out.taken.is_empty(),
-            "at {given}"
-        );
-    }
-    Ok(())
+    compare(&rt, b"..\\x\n:1/\xff", NAMED)
 }

@@ -41,13 +41,16 @@ impl Write for Interrupted {
     }
 }
 
+/// How often each write is interrupted.
+const TIMES: &[u32] = &[0, 1, 5, MAX_TRIES - 1];
+
 #[test]
 fn what_is_interrupted_loses_nothing(rt: HostRuntime) -> Result<(), Fail> {
-    for times in [0, 1, 5, MAX_TRIES - 1] {
-        let mut out = StdSink(Interrupted::new(rt.alloc(), times)?);
-        assert!(rt; print(&mut out, b"one\ntwo\n") == Ok(()), "{times}");
+    for times in TIMES {
+        let mut out = StdSink(Interrupted::new(rt.alloc(), *times)?);
+        let answer = print(&mut out, b"one\ntwo\n");
         assert!(rt;
-            out.0.taken.as_slice() == b"one\ntwo\n".as_slice(),
+            answer == Ok(()) && out.0.taken.as_slice() == b"one\ntwo\n".as_slice(),
             "{times}"
         );
     }
@@ -57,7 +60,7 @@ fn what_is_interrupted_loses_nothing(rt: HostRuntime) -> Result<(), Fail> {
 #[test]
 fn what_is_always_interrupted_fails(rt: HostRuntime) -> Result<(), Fail> {
     let mut out = StdSink(Interrupted::new(rt.alloc(), MAX_TRIES)?);
-    assert!(rt; print(&mut out, b"one\n") == Err(PrintFault::Write));
-    assert!(rt; out.0.taken.is_empty());
+    let answer = print(&mut out, b"one\n");
+    assert!(rt; answer == Err(PrintFault::Write) && out.0.taken.is_empty());
     Ok(())
 }

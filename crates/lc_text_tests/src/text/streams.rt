@@ -4,7 +4,7 @@ use lc_census::Source;
 use lc_census::trials::{Bytewise, Counted, Endless, Failing};
 use lc_rules::IgnoreFile;
 use lc_text::trials::{Narrow, WRITERS, WhenFull};
-use lc_text::{CheckFault, RulesFileFault, check, check_joined, read_rule_text};
+use lc_text::{CheckFault, RulesFileFault, check, check_explained, check_joined, read_rule_text};
 use std::alloc::{AllocError, Global};
 use std::process::Abort;
 use std::test::Fail;
@@ -13,31 +13,60 @@ const RULES: &[u8] = b"a\n";
 
 const PATHS: &[u8] = b"a\nb\n";
 
-const JOINED: &[u8] = b"a\n--\na\nb\n";
+/// How rules and paths come, and what is told of each path.
+#[derive(Clone, Copy)]
+enum Form {
+    /// The rules are read before.
+    Paths,
+    /// The rules come before the paths.
+    Joined,
+    /// The rules are read before, and told of.
+    Explained,
+}
 
-const TEXT: &[u8] = b"ignored\ta\nnone\tb\n";
+/// A form, its input, and the text.
+type Case = (Form, &'static [u8], &'static [u8]);
 
-/// The rules with which the paths give the text.
-fn rules_of(alloc: Global) -> Result<IgnoreFile, AllocError> {
+const CASES: &[Case] = &[
+    (Form::Joined, b"a\n--\na\nb\n", b"ignored\ta\nnone\tb\n"),
+    (Form::Paths, PATHS, b"ignored\ta\nnone\tb\n"),
+    (
+        Form::Explained,
+        PATHS,
+        b"ignored\tf:1\ta\ta\nnone\t-\t-\tb\n",
+    ),
+];
+
+fn check_paths<S: Source>(
+    alloc: Global,
+    input: &mut S,
+    out: &mut Narrow,
+) -> Result<(), CheckFault> {
     match IgnoreFile::read(alloc, RULES) {
-        Ok(rules) => Ok(rules),
-        Err(_) => Err(AllocError),
+        Ok(rules) => check(alloc, &rules, input, out),
+        Err(_) => Err(CheckFault::Memory),
     }
 }
 
-/// A check of paths, or a joined one, but for want of memory, where nothing is written.
+fn check_told<S: Source>(alloc: Global, input: &mut S, out: &mut Narrow) -> Result<(), CheckFault> {
+    match read_rule_text(alloc, &mut Bytewise(RULES)) {
+        Ok(rules) => check_explained(alloc, b"f", &rules, input, out),
+        Err(_) => Err(CheckFault::Memory),
+    }
+}
+
+/// A check of this form, but for want of memory, where nothing is written.
 fn checked<S: Source>(
     rt: &impl Abort,
     alloc: Global,
-    is_joined: bool,
+    form: Form,
     input: &mut S,
     out: &mut Narrow,
 ) -> Result<Result<(), CheckFault>, AllocError> {
-    let answer = if is_joined {
-        check_joined(alloc, input, out)
-    } else {
-        let rules = rules_of(alloc)?;
-        check(alloc, &rules, input, out)
+    let answer = match form {
+        Form::Paths => check_paths(alloc, input, out),
+        Form::Joined => check_joined(alloc, input, out),
+        Form::Explained => check_told(alloc, input, out),
     };
     match answer {
         Err(CheckFault::Memory) => {
@@ -48,82 +77,90 @@ fn checked<S: Source>(
     }
 }
 
+/// Whether a writer with so much room has that much of the text, and the check says whether this is all.
+fn stops_there<R: AllocGlobal + Abort>(
+    rt: &R,
+    (form, bytes, text): &Case,
+    (step, when_full): (usize, WhenFull),
+    room: usize,
+) -> Result<bool, AllocError> {
+    let mut out = Narrow::new(rt.alloc(), step, room, when_full)?;
+    let answer = checked(rt, rt.alloc(), *form, &mut Bytewise(*bytes), &mut out)?;
+    let expected = if room == text.len() {
+        Ok(())
+    } else {
+        Err(CheckFault::Write)
+    };
+    Ok(answer == expected && text.get(..room) == Some(out.taken.as_slice()))
+}
+
 fn compare_writes<R: AllocGlobal + Abort>(
     rt: &R,
-    is_joined: bool,
-    bytes: &[u8],
+    case: &Case,
     writer: (usize, WhenFull),
 ) -> Result<(), Fail> {
-    for room in 0..=TEXT.len() {
-        let mut out = Narrow::new(rt.alloc(), writer.0, room, writer.1)?;
-        let answer = checked(rt, rt.alloc(), is_joined, &mut Bytewise(bytes), &mut out)?;
-        let expected = if room == TEXT.len() {
-            Ok(())
-        } else {
-            Err(CheckFault::Write)
-        };
-        assert!(rt;
-            answer == expected && out.taken.as_slice() == &TEXT[..room],
-            "at {room}"
-        );
+    for room in 0..=case.2.len() {
+        assert!(rt; stops_there(rt, case, writer, room)?, "at {room}");
     }
     Ok(())
 }
 
 #[test]
 fn writes_stop_at_every_place(rt: HostRuntime) -> Result<(), Fail> {
-    for writer in WRITERS {
-        compare_writes(&rt, true, JOINED, *writer)?;
-        compare_writes(&rt, false, PATHS, *writer)?;
+    for case in CASES {
+        for writer in WRITERS {
+            compare_writes(&rt, case, *writer)?;
+        }
     }
     Ok(())
 }
 
-/// An input of which a read fails is answered by that, and nothing is written.
-fn compare_failed<R: AllocGlobal + Abort, S: Source>(
+/// Whether an input of which a read fails is answered by that, and nothing is written.
+fn fails_to_read<R: AllocGlobal + Abort, S: Source>(
     rt: &R,
-    is_joined: bool,
+    form: Form,
     input: &mut S,
-    given: usize,
-) -> Result<(), Fail> {
+) -> Result<bool, AllocError> {
     let mut out = Narrow::new(rt.alloc(), 64, 64, WhenFull::Fails)?;
-    let answer = checked(rt, rt.alloc(), is_joined, input, &mut out)?;
-    assert!(rt;
-        answer == Err(CheckFault::Read) && out.taken.is_empty(),
-        "at {given}"
-    );
-    Ok(())
+    let answer = checked(rt, rt.alloc(), form, input, &mut out)?;
+    Ok(answer == Err(CheckFault::Read) && out.taken.is_empty())
 }
 
-fn compare_reads<R: AllocGlobal + Abort>(
-    rt: &R,
-    is_joined: bool,
-    bytes: &[u8],
-) -> Result<(), Fail> {
+fn compare_reads<R: AllocGlobal + Abort>(rt: &R, (form, bytes, _): &Case) -> Result<(), Fail> {
     for given in 0..=bytes.len() {
         let front = &bytes[..given];
-        compare_failed(rt, is_joined, &mut Failing(front), given)?;
-        compare_failed(rt, is_joined, &mut Bytewise(Failing(front)), given)?;
+        assert!(rt;
+            fails_to_read(rt, *form, &mut Failing(front))?,
+            "at {given}"
+        );
+        assert!(rt;
+            fails_to_read(rt, *form, &mut Bytewise(Failing(front)))?,
+            "at {given}"
+        );
     }
     Ok(())
 }
 
 #[test]
 fn reads_fail_at_every_place(rt: HostRuntime) -> Result<(), Fail> {
-    compare_reads(&rt, true, JOINED)?;
-    compare_reads(&rt, false, PATHS)
+    for case in CASES {
+        compare_reads(&rt, case)?;
+    }
+    Ok(())
 }
+
+const ENDLESS: &[Form] = &[Form::Paths, Form::Joined];
 
 #[test]
 fn an_input_without_end_is_too_long(rt: HostRuntime) -> Result<(), Fail> {
-    for is_joined in [false, true] {
+    for form in ENDLESS {
         let mut input = Counted::new(Endless);
         let mut out = Narrow::new(rt.alloc(), 64, 64, WhenFull::Fails)?;
-        let answer = checked(&rt, rt.alloc(), is_joined, &mut input, &mut out)?;
+        let answer = checked(&rt, rt.alloc(), *form, &mut input, &mut out)?;
         // 256 buffers of 65,536 bytes, and the first byte past the limit.
         assert!(rt;
             answer == Err(CheckFault::InputTooLong) && input.reads == 257 && out.taken.is_empty(),
-            "{is_joined}: {} reads",
+            "{} reads",
             input.reads
         );
     }
@@ -137,18 +174,21 @@ fn one_long_rule(alloc: Global, letters: usize) -> Result<Vec<u8>, AllocError> {
     Ok(joined)
 }
 
+/// How many letters a rule has, and what is answered. The line feed after it is one of the bytes of the rules.
+const LIMITS: &[(usize, Result<(), CheckFault>)] = &[
+    (1_048_575, Ok(())),
+    (1_048_576, Err(CheckFault::RulesTooLong)),
+];
+
 #[test]
 fn joined_rules_at_their_limit(rt: HostRuntime) -> Result<(), Fail> {
-    // The line feed after the rule is one of its bytes.
-    for (letters, wanted) in [
-        (1_048_575, Ok(())),
-        (1_048_576, Err(CheckFault::RulesTooLong)),
-    ] {
-        let joined = one_long_rule(rt.alloc(), letters)?;
+    for (letters, wanted) in LIMITS {
+        let joined = one_long_rule(rt.alloc(), *letters)?;
         let mut out = Narrow::new(rt.alloc(), 64, 64, WhenFull::Fails)?;
-        let answer = checked(&rt, rt.alloc(), true, &mut joined.as_slice(), &mut out)?;
+        let mut input = joined.as_slice();
+        let answer = checked(&rt, rt.alloc(), Form::Joined, &mut input, &mut out)?;
         assert!(rt;
-            answer == wanted && out.taken.is_empty() != answer.is_ok(),
+            answer == *wanted && out.taken.is_empty() != answer.is_ok(),
             "at {letters}"
         );
     }
@@ -170,13 +210,18 @@ fn compare_rules<R: AllocGlobal + Abort, S: Source>(
     Ok(())
 }
 
+const FILE: &[u8] = b"a\n# b\n\n!c";
+
 #[test]
 fn files_of_rules(rt: HostRuntime) -> Result<(), Fail> {
-    let file = b"a\n# b\n\n!c".as_slice();
-    compare_rules(&rt, &mut Bytewise(file), Ok(2))?;
-    for given in 0..=file.len() {
-        compare_rules(&rt, &mut Failing(&file[..given]), Err(RulesFileFault::Read))?;
+    for given in 0..=FILE.len() {
+        compare_rules(&rt, &mut Failing(&FILE[..given]), Err(RulesFileFault::Read))?;
     }
+    compare_rules(&rt, &mut Bytewise(FILE), Ok(2))
+}
+
+#[test]
+fn files_of_rules_at_their_limit(rt: HostRuntime) -> Result<(), Fail> {
     let too_long = vec![in rt.alloc(); b'a'; 1_048_577]?;
     compare_rules(&rt, &mut too_long.as_slice(), Err(RulesFileFault::TooLong))?;
     compare_rules(&rt, &mut &too_long[1..], Ok(1))

@@ -1,7 +1,10 @@
-use Rattle.std.proofs.Common.{◌<◌, [], ◌∷◌, ◌++◌, arith}
+use Rattle.std.proofs.Common.{◌<◌, [], ◌∷◌, ◌++◌, refl, arith}
 use Rattle.std.proofs.lemmas.List.{take_rest}
 use Rattle.lc_text.proofs.Taking.{takes_more}
 use Rattle.lc_text.proofs.printing.print.Goals as goal
+
+pub loop-rest-init : goal.loop-rest-init
+loop-rest-init g c = ([], (refl, refl))
 
 pub loop-rest-preserved : goal.loop-rest-preserved
 loop-rest-preserved g c =

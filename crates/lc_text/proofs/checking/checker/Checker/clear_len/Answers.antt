@@ -6,6 +6,12 @@ use Rattle.lc_text.proofs.Directories.{clear-shared, clear-more}
 use Rattle.lc_text.proofs.Ignoring.{found_above, found_none}
 use Rattle.lc_text.proofs.checking.checker.Checker.clear_len.Goals as goal
 
+pub returns-then-shared-eq0 : goal.returns-then-shared-eq0
+returns-then-shared-eq0 c =
+    let same = c.shared_len-shared.ensures in
+    clear-shared (file_verdict c.args.self.now.rules.now) c.args.self.now.directory.now c.args.path.now c.shared_len-shared.result
+    same.within_one same.within_other same.shared c.args.self.now.clear
+
 pub returns-then-is_some : goal.returns-then-is_some
 returns-then-is_some c =
     let rules = c.args.self.now.rules.now in
