@@ -180,17 +180,23 @@ const LIMITS: &[(usize, Result<(), CheckFault>)] = &[
     (1_048_576, Err(CheckFault::RulesTooLong)),
 ];
 
+/// Whether the check of so many letters is answered so, and writes only where it is answered well.
+fn is_answered<R: AllocGlobal + Abort>(
+    rt: &R,
+    letters: usize,
+    wanted: Result<(), CheckFault>,
+) -> Result<bool, AllocError> {
+    let joined = one_long_rule(rt.alloc(), letters)?;
+    let mut out = Narrow::new(rt.alloc(), 64, 64, WhenFull::Fails)?;
+    let mut input = joined.as_slice();
+    let answer = checked(rt, rt.alloc(), Form::Joined, &mut input, &mut out)?;
+    Ok(answer == wanted && out.taken.is_empty() != answer.is_ok())
+}
+
 #[test]
 fn joined_rules_at_their_limit(rt: HostRuntime) -> Result<(), Fail> {
     for (letters, wanted) in LIMITS {
-        let joined = one_long_rule(rt.alloc(), *letters)?;
-        let mut out = Narrow::new(rt.alloc(), 64, 64, WhenFull::Fails)?;
-        let mut input = joined.as_slice();
-        let answer = checked(&rt, rt.alloc(), Form::Joined, &mut input, &mut out)?;
-        assert!(rt;
-            answer == *wanted && out.taken.is_empty() != answer.is_ok(),
-            "at {letters}"
-        );
+        assert!(rt; is_answered(&rt, *letters, *wanted)?, "at {letters}");
     }
     Ok(())
 }

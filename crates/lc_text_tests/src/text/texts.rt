@@ -87,27 +87,34 @@ const RUNS: &[Case] = &[
     ),
 ];
 
+const TABLES: &[&[Case]] = &[RULES, LINES, RUNS];
+
+/// Whether the check of rules and paths, joined, gives this text.
+fn has_text(alloc: Global, mut joined: &[u8], text: &[u8]) -> Result<bool, AllocError> {
+    let mut out = Vec::with_capacity(alloc, text.len())?;
+    let answer = check_joined(alloc, &mut joined, &mut out);
+    if answer == Err(CheckFault::Memory) && out.is_empty() {
+        return Err(AllocError);
+    }
+    Ok(answer == Ok(()) && out.as_slice() == text)
+}
+
 fn compare<R: Abort + AllocGlobal>(rt: &R, cases: &[Case]) -> Result<(), Fail> {
     for (name, joined, text) in cases {
-        let mut input: &[u8] = joined;
-        let mut out = Vec::with_capacity(rt.alloc(), text.len())?;
-        let answer = check_joined(rt.alloc(), &mut input, &mut out);
-        if answer == Err(CheckFault::Memory) && out.is_empty() {
-            return Err(AllocError.into());
-        }
-        assert!(rt; answer == Ok(()) && out.as_slice() == *text, "{name}");
+        assert!(rt; has_text(rt.alloc(), joined, text)?, "{name}");
     }
     Ok(())
 }
 
 #[test]
 fn texts_of_checks(rt: HostRuntime) -> Result<(), Fail> {
-    compare(&rt, RULES)?;
-    compare(&rt, LINES)?;
-    compare(&rt, RUNS)
+    for cases in TABLES {
+        compare(&rt, cases)?;
+    }
+    Ok(())
 }
 
-/// The text of one path, which is repeated so often, with slashes between.
+/// This name so often, with a slash after each.
 fn deep(alloc: Global, name: &[u8], times: usize) -> Result<Vec<u8>, AllocError> {
     let mut path = Vec::with_capacity(alloc, 8192)?;
     for _ in 0..times {
@@ -117,17 +124,21 @@ fn deep(alloc: Global, name: &[u8], times: usize) -> Result<Vec<u8>, AllocError>
     Ok(path)
 }
 
+/// Whether the text of a path, of 2,048 directories and this name, begins so.
+fn begins(alloc: Global, name: &[u8], front: &[u8]) -> Result<bool, AllocError> {
+    let Ok(rules) = IgnoreFile::read(alloc, b"**/a/b\n") else {
+        return Err(AllocError);
+    };
+    let mut path = deep(alloc, b"a", 2048)?;
+    path.extend_from_slice(name)?;
+    Ok(check_text(alloc, &rules, &path)?.starts_with(front))
+}
+
 #[test]
 fn limits_of_a_path(rt: HostRuntime) -> Result<(), Fail> {
-    let alloc = rt.alloc();
-    let Ok(rules) = IgnoreFile::read(alloc, b"**/a/b\n") else {
-        return Err(AllocError.into());
-    };
     // 2,047 directories and a file: 4,096 bytes with the slash of a directory, which doesn't count.
-    let mut path = deep(alloc, b"a", 2048)?;
-    assert!(rt; check_text(alloc, &rules, &path)?.starts_with(b"none\ta/"));
-    path.extend_from_slice(b"bc")?;
-    assert!(rt; check_text(alloc, &rules, &path)?.starts_with(b"bad\ta/"));
+    assert!(rt; begins(rt.alloc(), b"", b"none\ta/")?);
+    assert!(rt; begins(rt.alloc(), b"bc", b"bad\ta/")?);
     Ok(())
 }
 
@@ -139,10 +150,15 @@ const ESCAPED: &[(&[u8], &[u8])] = &[
     (b"\x1f \x7f\xe4", b"\\x1f \\x7f\xe4"),
 ];
 
+fn is_escaped(alloc: Global, path: &[u8], text: &[u8]) -> Result<bool, AllocError> {
+    let escaped = escape(alloc, path)?;
+    Ok(escaped.as_slice() == text)
+}
+
 #[test]
 fn escapes(rt: HostRuntime) -> Result<(), Fail> {
     for (path, text) in ESCAPED {
-        assert!(rt; escape(rt.alloc(), path)?.as_slice() == *text);
+        assert!(rt; is_escaped(rt.alloc(), path, text)?);
     }
     Ok(())
 }

@@ -1,6 +1,7 @@
 //! Paths as a terminal shows them.
 
 use lc_text::push_visible_path;
+use std::alloc::{AllocError, Global};
 use std::process::Abort;
 use std::test::Fail;
 
@@ -45,20 +46,23 @@ const CASES: &[Case] = &[
     ),
 ];
 
+/// Whether a path is shown so.
+fn is_shown(alloc: Global, path: &[u8], expected: &str) -> Result<bool, AllocError> {
+    let mut text = String::new(alloc);
+    push_visible_path(&mut text, path)?;
+    Ok(text.as_str() == expected)
+}
+
 #[test]
 fn visible_paths(rt: HostRuntime) -> Result<(), Fail> {
     for (name, path, expected) in CASES {
-        let mut text = String::new(rt.alloc());
-        push_visible_path(&mut text, path.as_bytes())?;
-        assert!(rt; text.as_str() == *expected, "{name}");
+        assert!(rt; is_shown(rt.alloc(), path.as_bytes(), expected)?, "{name}");
     }
     Ok(())
 }
 
 #[test]
 fn a_path_that_is_no_text(rt: HostRuntime) -> Result<(), Fail> {
-    let mut text = String::new(rt.alloc());
-    push_visible_path(&mut text, b"caf\xe9\\\n")?;
-    assert!(rt; text.as_str() == "caf\\xe9\\\\\\x0a");
+    assert!(rt; is_shown(rt.alloc(), b"caf\xe9\\\n", "caf\\xe9\\\\\\x0a")?);
     Ok(())
 }
