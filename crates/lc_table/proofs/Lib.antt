@@ -16,3 +16,5 @@ pub mod LinesApart
 pub mod OneLine
 pub mod Spacing
 pub mod WidthLawProofs
+pub mod Listed
+pub mod Formats

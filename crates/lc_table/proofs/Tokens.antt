@@ -59,29 +59,28 @@ left_tokens text a b c ms =
     in_turn_6 text (begin_object ∷ []) (member_tokens a) (member_tokens b) (member_tokens c) (members_tokens_of ms) (end_object ∷ [])
     ∙ ap (λ (ts : List Token). text ++ begin_object ∷ ts) (sym (object_tokens (a ∷ b ∷ c ∷ ms)))
 
-parts : {X A : Type 0} (f : X → List A) (a b c e : X) (ks ls ms : List X) (z : List A)
-    → flat_map f (a ∷ b ∷ c ∷ (ks ++ (ls ++ (ms ++ e ∷ [])))) ++ z
-    ≡ f a ++ (f b ++ (f c ++ (flat_map f ks ++ (flat_map f ls ++ (flat_map f ms ++ (f e ++ z))))))
-parts f a b c e ks ls ms z =
-    rw (flat_map-append f ks (ls ++ (ms ++ e ∷ [])), flat_map-append f ls (ms ++ e ∷ []), flat_map-append f ms (e ∷ []))
+in_turn_5 : {A : Type 0} (t b x y z e : List A) → ((((t ++ b) ++ x) ++ y) ++ z) ++ e ≡ t ++ (b ++ ((x ++ y) ++ (z ++ e)))
+in_turn_5 t b x y z e = simp append_assoc
+
+-- an object of a member and two lists of some, appended in turn
+pub report_tokens : (text : List Token) (a : Member) (ms ns : List Member)
+    → ((((text ++ begin_object ∷ []) ++ member_tokens a) ++ members_tokens_of ms) ++ members_tokens_of ns) ++ end_object ∷ []
+    ≡ text ++ json_tokens (object_with (a ∷ (ms ++ ns)))
+report_tokens text a ms ns =
+    in_turn_5 text (begin_object ∷ []) (member_tokens a) (members_tokens_of ms) (members_tokens_of ns) (end_object ∷ [])
+    ∙ ap (λ (ts : List Token). text ++ ts) (sym (both_tokens (a ∷ ms) ns))
+
+-- two lists of members and a last one, appended in turn
+pub lists_tokens : (text : List Token) (ms ns : List Member) (e : Member)
+    → ((text ++ members_tokens_of ms) ++ members_tokens_of ns) ++ member_tokens e
+    ≡ text ++ members_tokens_of (ms ++ (ns ++ e ∷ []))
+lists_tokens text ms ns e =
+    rw (flat_map-append member_tokens ms (ns ++ e ∷ []), flat_map-append member_tokens ns (e ∷ []))
     (simp (append_assoc, append-nil))
 
--- an object of three members, three lists of some and a last one
-pub object_of_parts : (a b c e : Member) (ks ls ms : List Member)
-    → members_tokens (members_with (a ∷ b ∷ c ∷ (ks ++ (ls ++ (ms ++ e ∷ [])))))
-    ≡ member_tokens a ++ (member_tokens b ++ (member_tokens c ++ (members_tokens_of ks ++ (members_tokens_of ls
-    ++ (members_tokens_of ms ++ (member_tokens e ++ end_object ∷ []))))))
-object_of_parts a b c e ks ls ms =
-    object_tokens (a ∷ b ∷ c ∷ (ks ++ (ls ++ (ms ++ e ∷ [])))) ∙ parts member_tokens a b c e ks ls ms (end_object ∷ [])
-
 -- lists that were appended in turn
-pub in_turn_4 : {A : Type 0} (a b c d e : List A) → (((a ++ b) ++ c) ++ d) ++ e ≡ a ++ (b ++ (c ++ (d ++ e)))
-in_turn_4 a b c d e = simp append_assoc
-
--- seven of them
-pub in_turn_7 : {A : Type 0} (a b c d e f g h : List A)
-    → ((((((a ++ b) ++ c) ++ d) ++ e) ++ f) ++ g) ++ h ≡ a ++ (b ++ (c ++ (d ++ (e ++ (f ++ (g ++ h))))))
-in_turn_7 a b c d e f g h = simp append_assoc
+pub in_turn_3 : {A : Type 0} (a b c d : List A) → ((a ++ b) ++ c) ++ d ≡ a ++ (b ++ (c ++ d))
+in_turn_3 a b c d = simp append_assoc
 
 -- eight of them
 pub in_turn_8 : {A : Type 0} (a b c d e f g h i : List A)

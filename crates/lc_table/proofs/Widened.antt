@@ -1,11 +1,11 @@
 -- Widths of columns, one cell more at a time.
 use Rattle.std.proofs.Common.{◌≡◌, ℕ, zero, suc, ◌+◌, ◌<◌, ◌≤◌, max, List, [], ◌∷◌, ◌++◌, length, map, take, get_or, set, refl, sym, ap}
-use Rattle.std.proofs.Common.{◌∙◌, arith}
+use Rattle.std.proofs.Common.{◌∙◌, ◌==◌, false, codes, arith}
 use Rattle.std.proofs.Common.{append_assoc, append-nil}
 use Rattle.std.proofs.lemmas.List.{take_more, map-append, length-map, length-take-le, get_or_default}
-use Rattle.lc_table.specs.Columns.{CellModel, cell_widths, line_in, lines_in, rule_in, wider, widened, widths_of, width_at}
+use Rattle.lc_table.specs.Columns.{CellModel, cell_widths, line_in, lines_in, listing_in, rule_in, wider, widened, widths_of, width_at}
 use Rattle.lc_table.specs.CellTexts.{cell_model, cells_of}
-use Rattle.lc_table.specs.ScreenText.{rows_in_columns}
+use Rattle.lc_table.specs.ScreenText.{listing, rows_in_columns}
 use Rattle.lc_table.specs.declared.cells.Cell.{Cell}
 use Rattle.lc_table.specs.Widening.{with_width}
 
@@ -108,6 +108,22 @@ two_lines initial t1 t2 first ws a b one two e1 e2 =
     let all : ws ≡ widths_of (a ∷ b ∷ []) = two ∙ ap (λ (l : List ℕ). wider l (cell_widths b)) one in
     let joined : t2 ≡ initial ++ lines_in ws (a ∷ b ∷ []) = rw (e2, e1) (simp (append_assoc, append-nil)) in
     joined ∙ ap (λ (l : List ℕ). initial ++ lines_in l (a ∷ b ∷ [])) all
+
+-- headings and lines below them in columns that fit them all
+pub some_listed : (initial t1 t2 t3 start first ws : List ℕ) (headings : List CellModel) (lines : List (List CellModel))
+    → first ≡ wider start (cell_widths headings) → ws ≡ widened first lines → t1 ≡ initial ++ line_in ws headings
+    → t2 ≡ t1 ++ lines_in ws lines → t3 ≡ t2 ++ codes "\n"
+    → t3 ≡ initial ++ listing_in (widened start (headings ∷ lines)) headings lines
+some_listed initial t1 t2 t3 start first ws headings lines a b e1 e2 e3 =
+    let all : ws ≡ widened start (headings ∷ lines) = b ∙ ap (λ (l : List ℕ). widened l lines) a in
+    let joined : t3 ≡ initial ++ listing_in ws headings lines = rw (e3, e2, e1) (simp append_assoc) in
+    joined ∙ ap (λ (l : List ℕ). initial ++ listing_in l headings lines) all
+
+-- where something is listed, its lines stand below the headings
+pub listed_some : {A : Type 0} (headings : List CellModel) (cells : A → List CellModel) (xs : List A) → (length xs == 0) ≡ false
+    → listing headings (map cells xs) ≡ listing_in (widened [] (headings ∷ map cells xs)) headings (map cells xs)
+listed_some headings cells [] some = absurd (cc)
+listed_some headings cells (x ∷ xs) some = refl
 
 -- headings, rows and sums in columns that fit them all
 pub rows_written : (initial t1 t2 t3 t4 t5 first second ws : List ℕ) (headings : List CellModel) (rows sums : List (List CellModel))

@@ -70,6 +70,10 @@ line_in = cells_from 0
 abbrev pub lines_in : List ℕ → List (List CellModel) → List ℕ
 lines_in ws lines = flat_map (line_in ws) lines
 
+-- headings, lines below them, and an empty line, in columns of these widths
+abbrev pub listing_in : List ℕ → List CellModel → List (List CellModel) → List ℕ
+listing_in ws headings lines = lines_in ws (headings ∷ lines) ++ codes "\n"
+
 -- hyphens in the columns, and two between these
 abbrev pub rule_gap : List ℕ → List ℕ
 rule_gap [] = []

@@ -39,10 +39,11 @@ name_cells by name =
 abbrev pub sums_cells : Sums → List CellModel
 sums_cells s = integer s.files ∷ integer s.lines ∷ integer s.blank ∷ integer s.bytes ∷ []
 
+abbrev pub number_headings : List CellModel
+number_headings = number (codes "files") ∷ number (codes "lines") ∷ number (codes "blank") ∷ number (codes "bytes") ∷ []
+
 abbrev pub row_headings : Columns → List CellModel
-row_headings by =
-    key_cells by (word (codes "ext")) (word (codes "text")) (word (codes "eol"))
-    ++ (number (codes "files") ∷ number (codes "lines") ∷ number (codes "blank") ∷ number (codes "bytes") ∷ [])
+row_headings by = key_cells by (word (codes "ext")) (word (codes "text")) (word (codes "eol")) ++ number_headings
 
 abbrev pub row_cells : Columns → TallyRowModel → List CellModel
 row_cells by r =

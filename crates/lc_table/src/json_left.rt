@@ -69,8 +69,7 @@ pub(crate) fn write_left_list(
 ) -> Result<(), AllocError>
     ensures { OnOk result (text.new ≡ text.old ++ member_tokens (codes "left", array_with (map left_value lines.now))) }
 {
-    text.key("left")?;
-    text.begin_array()?;
+    text.begin_list("left")?;
     let mut file = Vec::new(alloc);
     for left in lines {
         write_left_line(text, &mut file, left)?;

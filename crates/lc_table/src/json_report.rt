@@ -7,7 +7,7 @@ ghost use Rattle.lc_table.specs.TsvText.{eol_word};
 ghost use Rattle.lc_table.specs.JsonText.{array_with, object_with, extension_member, if_kept, text_value, sums_members, key_members};
 ghost use Rattle.lc_table.specs.JsonText.{row_value, file_value, fault_value, entries_member, files_member, left_member};
 ghost use Rattle.lc_table.specs.JsonText.{json_text_of, report_value, IsDocument};
-ghost use Rattle.lc_table.specs.JsonTokens.{member_tokens, members_tokens_of};
+ghost use Rattle.lc_table.specs.JsonTokens.{list_members, member_tokens, members_tokens_of, number_members};
 
 use crate::json_left::write_left_list;
 use crate::json_text::JsonText;
@@ -18,6 +18,15 @@ use lc_text::Columns;
 use lc_walk::{FaultLine, FileLine, Report, Sums, TallyRow};
 use std::alloc::{AllocError, Global};
 
+fn set_dotted(dotted: &mut Vec<u8>, name: &[u8]) -> Result<(), AllocError>
+    ensures { OnOk result (dotted.new.items ≡ codes "." ++ name.now) }
+{
+    dotted.clear();
+    dotted.push(b'.')?;
+    dotted.extend_from_slice(name)?;
+    Ok(())
+}
+
 fn write_extension(
     text: &mut JsonText,
     dotted: &mut Vec<u8>,
@@ -27,14 +36,11 @@ fn write_extension(
 {
     match ext {
         None => {
-            text.key("ext")?;
-            text.null()?;
+            text.null_member("ext")?;
             Ok(())
         }
         Some(name) => {
-            dotted.clear();
-            dotted.push(b'.')?;
-            dotted.extend_from_slice(name)?;
+            set_dotted(dotted, name)?;
             text.bytes_member("ext", "ext_bytes", dotted)?;
             Ok(())
         }
@@ -46,8 +52,7 @@ fn write_text_state(text: &mut JsonText, state: TextState) -> Result<(), AllocEr
 {
     match state {
         TextState::Unspecified => {
-            text.key("text")?;
-            text.null()?;
+            text.null_member("text")?;
             Ok(())
         }
         TextState::Set | TextState::Unset | TextState::Auto | TextState::Other => {
@@ -160,8 +165,7 @@ fn write_rows(
 ) -> Result<(), AllocError>
     ensures { OnOk result (text.new ≡ text.old ++ member_tokens (codes "rows", array_with (map (row_value by) rows.now))) }
 {
-    text.key("rows")?;
-    text.begin_array()?;
+    text.begin_list("rows")?;
     let mut dotted = Vec::new(alloc);
     for row in rows {
         write_row(text, &mut dotted, by, row)?;
@@ -173,8 +177,7 @@ fn write_rows(
 fn write_file_list(text: &mut JsonText, files: &[FileLine]) -> Result<(), AllocError>
     ensures { OnOk result (text.new ≡ text.old ++ member_tokens (codes "files", array_with (map file_value files.now))) }
 {
-    text.key("files")?;
-    text.begin_array()?;
+    text.begin_list("files")?;
     for file in files {
         write_file(text, file)?;
     }
@@ -212,8 +215,7 @@ fn write_left(text: &mut JsonText, report: &Report, alloc: Global) -> Result<(),
 fn write_faults(text: &mut JsonText, faults: &[FaultLine]) -> Result<(), AllocError>
     ensures { OnOk result (text.new ≡ text.old ++ member_tokens (codes "faults", array_with (map fault_value faults.now))) }
 {
-    text.key("faults")?;
-    text.begin_array()?;
+    text.begin_list("faults")?;
     for fault in faults {
         write_fault(text, fault)?;
     }
@@ -231,6 +233,41 @@ fn write_total(text: &mut JsonText, totals: &Sums) -> Result<(), AllocError>
     Ok(())
 }
 
+fn write_numbers(text: &mut JsonText, report: &Report) -> Result<(), AllocError>
+    ensures { OnOk result (text.new ≡ text.old ++ members_tokens_of (number_members report.now)) }
+{
+    write_total(text, &report.totals)?;
+    text.integer_member("directories", u128::from(report.directories))?;
+    write_entries(text, report)?;
+    Ok(())
+}
+
+fn write_lists(text: &mut JsonText, alloc: Global, report: &Report) -> Result<(), AllocError>
+    ensures { OnOk result (text.new ≡ text.old ++ members_tokens_of (list_members report.now)) }
+{
+    write_files(text, report)?;
+    write_left(text, report, alloc)?;
+    write_faults(text, &report.faults)?;
+    Ok(())
+}
+
+fn write_report(
+    text: &mut JsonText,
+    alloc: Global,
+    report: &Report,
+    by: Columns,
+    rows: &[TallyRow],
+) -> Result<(), AllocError>
+    ensures { OnOk result (text.new ≡ text.old ++ json_tokens (report_value by report.now rows.now)) }
+{
+    text.begin_object()?;
+    write_rows(text, alloc, by, rows)?;
+    write_numbers(text, report)?;
+    write_lists(text, alloc, report)?;
+    text.end_object()?;
+    Ok(())
+}
+
 /// One object on one line.
 pub(crate) fn json_line(
     alloc: Global,
@@ -242,14 +279,6 @@ pub(crate) fn json_line(
     ensures document { IfOk result (λ text. IsDocument (report_value by report.now rows.now) text.items) }
 {
     let mut text = JsonText::new(alloc);
-    text.begin_object()?;
-    write_rows(&mut text, alloc, by, rows)?;
-    write_total(&mut text, &report.totals)?;
-    text.integer_member("directories", u128::from(report.directories))?;
-    write_entries(&mut text, report)?;
-    write_files(&mut text, report)?;
-    write_left(&mut text, report, alloc)?;
-    write_faults(&mut text, &report.faults)?;
-    text.end_object()?;
+    write_report(&mut text, alloc, report, by, rows)?;
     text.into_line()
 }

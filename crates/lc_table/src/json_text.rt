@@ -64,7 +64,7 @@ impl JsonText {
         self.writer.end_object()
     }
 
-    pub(crate) fn begin_array(&mut self) -> Result<(), AllocError>
+    fn begin_array(&mut self) -> Result<(), AllocError>
         ensures { OnOk result (self.new ≡ self.old ++ begin_array ∷ []) }
     {
         self.writer.begin_array()
@@ -82,7 +82,7 @@ impl JsonText {
         self.writer.key(name)
     }
 
-    pub(crate) fn null(&mut self) -> Result<(), AllocError>
+    fn null(&mut self) -> Result<(), AllocError>
         ensures { OnOk result (self.new ≡ self.old ++ null ∷ []) }
     {
         self.writer.null()
@@ -99,6 +99,24 @@ impl JsonText {
     {
         let mut buffer = itoa::Buffer::new();
         self.writer.number(buffer.format(n))
+    }
+
+    /// A name, and the start of the list that it has.
+    pub(crate) fn begin_list(&mut self, name: &str) -> Result<(), AllocError>
+        ensures { OnOk result (self.new ≡ self.old ++ key name.now ∷ begin_array ∷ []) }
+    {
+        self.key(name)?;
+        self.begin_array()?;
+        Ok(())
+    }
+
+    /// A member whose value is null.
+    pub(crate) fn null_member(&mut self, name: &str) -> Result<(), AllocError>
+        ensures { OnOk result (self.new ≡ self.old ++ key name.now ∷ null ∷ []) }
+    {
+        self.key(name)?;
+        self.null()?;
+        Ok(())
     }
 
     /// A member whose value is a number.
@@ -131,8 +149,7 @@ impl JsonText {
     fn integers_member(&mut self, name: &str, bytes: &[u8]) -> Result<(), AllocError>
         ensures { OnOk result (self.new ≡ self.old ++ member_tokens (name.now, array_with (map integer bytes.now))) }
     {
-        self.key(name)?;
-        self.begin_array()?;
+        self.begin_list(name)?;
         self.integers(bytes)?;
         self.end_array()?;
         Ok(())

@@ -1,8 +1,8 @@
 //! What a table in columns lists: files, entries left out and faults, a line for each.
 
-ghost use Rattle.std.specs.Prelude.{◌≡◌, ◌++◌, map, OnOk, string_bytes};
+ghost use Rattle.std.specs.Prelude.{◌≡◌, ◌∷◌, ◌++◌, map, OnOk, string_bytes};
 ghost use Rattle.lc_table.specs.CellTexts.{cells_of};
-ghost use Rattle.lc_table.specs.Columns.{lines_in, widened};
+ghost use Rattle.lc_table.specs.Columns.{lines_in, listing_in, widened};
 ghost use Rattle.lc_table.specs.ScreenText.{fault_cells, fault_headings, file_cells, file_headings, left_cells};
 ghost use Rattle.lc_table.specs.ScreenText.{left_headings, listing};
 
@@ -61,6 +61,23 @@ fn push_file_lines(
     Ok(())
 }
 
+fn push_some_files(
+    widths: &mut Widths,
+    files: &[FileLine],
+    text: &mut String,
+    made: &mut String,
+) -> Result<(), AllocError>
+    ensures { OnOk result (string_bytes text.new ≡ string_bytes text.old
+        ++ listing_in (widened widths.old (file_headings ∷ map file_cells files.now)) file_headings (map file_cells files.now)) }
+{
+    widths.fit(&file_headings(), made)?;
+    fit_files(widths, files, made)?;
+    widths.push_line(&file_headings(), text, made)?;
+    push_file_lines(widths, files, text, made)?;
+    text.push_str("\n")?;
+    Ok(())
+}
+
 /// Appends a line for each file below their headings, and an empty line.
 pub(crate) fn push_files(
     alloc: Global,
@@ -74,11 +91,7 @@ pub(crate) fn push_files(
         return Ok(());
     }
     let mut widths = Widths::new(alloc);
-    widths.fit(&file_headings(), made)?;
-    fit_files(&mut widths, files, made)?;
-    widths.push_line(&file_headings(), text, made)?;
-    push_file_lines(&widths, files, text, made)?;
-    text.push_str("\n")
+    push_some_files(&mut widths, files, text, made)
 }
 
 fn left_headings() -> [Cell<'static>; 3]
@@ -124,6 +137,23 @@ fn push_left_lines(
     Ok(())
 }
 
+fn push_some_left(
+    widths: &mut Widths,
+    lines: &[LeftLine],
+    text: &mut String,
+    made: &mut String,
+) -> Result<(), AllocError>
+    ensures { OnOk result (string_bytes text.new ≡ string_bytes text.old
+        ++ listing_in (widened widths.old (left_headings ∷ map left_cells lines.now)) left_headings (map left_cells lines.now)) }
+{
+    widths.fit(&left_headings(), made)?;
+    fit_left(widths, lines, made)?;
+    widths.push_line(&left_headings(), text, made)?;
+    push_left_lines(widths, lines, text, made)?;
+    text.push_str("\n")?;
+    Ok(())
+}
+
 /// Appends a line for each entry left out below their headings, and an empty line.
 pub(crate) fn push_left(
     alloc: Global,
@@ -137,11 +167,7 @@ pub(crate) fn push_left(
         return Ok(());
     }
     let mut widths = Widths::new(alloc);
-    widths.fit(&left_headings(), made)?;
-    fit_left(&mut widths, lines, made)?;
-    widths.push_line(&left_headings(), text, made)?;
-    push_left_lines(&widths, lines, text, made)?;
-    text.push_str("\n")
+    push_some_left(&mut widths, lines, text, made)
 }
 
 fn fault_headings() -> [Cell<'static>; 2]
@@ -183,6 +209,23 @@ fn push_fault_lines(
     Ok(())
 }
 
+fn push_some_faults(
+    widths: &mut Widths,
+    faults: &[FaultLine],
+    text: &mut String,
+    made: &mut String,
+) -> Result<(), AllocError>
+    ensures { OnOk result (string_bytes text.new ≡ string_bytes text.old
+        ++ listing_in (widened widths.old (fault_headings ∷ map fault_cells faults.now)) fault_headings (map fault_cells faults.now)) }
+{
+    widths.fit(&fault_headings(), made)?;
+    fit_faults(widths, faults, made)?;
+    widths.push_line(&fault_headings(), text, made)?;
+    push_fault_lines(widths, faults, text, made)?;
+    text.push_str("\n")?;
+    Ok(())
+}
+
 /// Appends a line for each fault below their headings, and an empty line.
 pub(crate) fn push_faults(
     alloc: Global,
@@ -196,9 +239,5 @@ pub(crate) fn push_faults(
         return Ok(());
     }
     let mut widths = Widths::new(alloc);
-    widths.fit(&fault_headings(), made)?;
-    fit_faults(&mut widths, faults, made)?;
-    widths.push_line(&fault_headings(), text, made)?;
-    push_fault_lines(&widths, faults, text, made)?;
-    text.push_str("\n")
+    push_some_faults(&mut widths, faults, text, made)
 }

@@ -3,7 +3,8 @@
 ghost use Rattle.std.specs.Prelude.{◌≡◌, ◌++◌, map, OnOk, string_bytes};
 ghost use Rattle.lc_table.specs.CellTexts.{cell_model, cells_of};
 ghost use Rattle.lc_table.specs.Columns.{lines_in, widened};
-ghost use Rattle.lc_table.specs.ScreenText.{cell_if, key_cells, row_cells, row_headings, sums_cells, sums_line, sums_lines, summary};
+ghost use Rattle.lc_table.specs.ScreenText.{cell_if, key_cells, number_headings, row_cells, row_headings};
+ghost use Rattle.lc_table.specs.ScreenText.{sums_cells, sums_line, sums_lines, summary};
 ghost use Rattle.lc_table.specs.Columns.{word};
 
 use crate::cells::Cell;
@@ -38,14 +39,42 @@ fn push_key<'a>(
     push_if(cells, by.eol, Cell::word(eol))
 }
 
+fn push_all<'a>(cells: &mut Vec<Cell<'a>>, more: &[Cell<'a>]) -> Result<(), AllocError>
+    ensures { OnOk result (cells_of cells.new.items ≡ cells_of cells.old.items ++ cells_of more.now) }
+{
+    for cell in more {
+        cells.push(*cell)?;
+    }
+    Ok(())
+}
+
+fn sums_cells(sums: Sums) -> [Cell<'static>; 4]
+    ensures { cells_of result ≡ sums_cells sums }
+{
+    [
+        Cell::number(u128::from(sums.files)),
+        Cell::number(sums.lines),
+        Cell::number(sums.blank),
+        Cell::number(sums.bytes),
+    ]
+}
+
 fn push_sums(cells: &mut Vec<Cell<'_>>, sums: Sums) -> Result<(), AllocError>
     ensures { OnOk result (cells_of cells.new.items ≡ cells_of cells.old.items ++ sums_cells sums) }
 {
-    cells.push(Cell::number(u128::from(sums.files)))?;
-    cells.push(Cell::number(sums.lines))?;
-    cells.push(Cell::number(sums.blank))?;
-    cells.push(Cell::number(sums.bytes))?;
+    push_all(cells, &sums_cells(sums))?;
     Ok(())
+}
+
+fn number_headings() -> [Cell<'static>; 4]
+    ensures { cells_of result ≡ number_headings }
+{
+    [
+        Cell::heading("files"),
+        Cell::heading("lines"),
+        Cell::heading("blank"),
+        Cell::heading("bytes"),
+    ]
 }
 
 fn set_headings(cells: &mut Vec<Cell<'_>>, by: Columns) -> Result<(), AllocError>
@@ -53,10 +82,7 @@ fn set_headings(cells: &mut Vec<Cell<'_>>, by: Columns) -> Result<(), AllocError
 {
     cells.clear();
     push_key(cells, by, Cell::word("ext"), "text", "eol")?;
-    cells.push(Cell::heading("files"))?;
-    cells.push(Cell::heading("lines"))?;
-    cells.push(Cell::heading("blank"))?;
-    cells.push(Cell::heading("bytes"))?;
+    push_all(cells, &number_headings())?;
     Ok(())
 }
 

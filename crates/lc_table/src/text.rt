@@ -15,10 +15,11 @@ use std::alloc::{AllocError, Global};
 pub fn table_text(alloc: Global, report: &Report, shape: Shape) -> Result<Vec<u8>, AllocError>
     ensures { IfOk result (λ text. IsTextOf shape report.now text.items) }
 {
-    let rows = shown_rows(alloc, &report.rows, shape.by, shape.sort)?;
+    let shown = shown_rows(alloc, &report.rows, shape.by, shape.sort)?;
+    let rows = shown.as_slice();
     match shape.format {
-        Format::Tsv => tsv_text(alloc, report, shape.by, rows.as_slice()),
-        Format::Table => screen_text(alloc, report, shape.by, rows.as_slice()),
-        Format::Json => json_line(alloc, report, shape.by, rows.as_slice()),
+        Format::Tsv => tsv_text(alloc, report, shape.by, rows),
+        Format::Table => screen_text(alloc, report, shape.by, rows),
+        Format::Json => json_line(alloc, report, shape.by, rows),
     }
 }

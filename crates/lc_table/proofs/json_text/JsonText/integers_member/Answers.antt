@@ -8,8 +8,7 @@ returns c =
     rw (
       c.in_ok-end_array.ensures,
       c.in_ok-integers.ensures,
-      c.in_ok-begin_array.ensures,
-      c.in_ok-key.ensures,
+      c.in_ok-begin_list.ensures,
       array_tokens integer c.args.bytes.now,
     )
     (simp append_assoc)
