@@ -3,30 +3,24 @@ ghost use Rattle.std.specs.Prelude.{◌≡◌, ℕ, ◌≤◌, Some, false, IfOk
 ghost use Rattle.lc_board.specs.ClosedBoard.{Settled, RefusesClose};
 ghost use Rattle.lc_level.specs.Job.{JobModel};
 
-use lc_board::{Claim, CloseFault, Closed, PostFault, Shared, Token};
+use lc_board::{Claim, CloseFault, Closed, PostFault, Shared};
 use lc_level::Job;
 use lc_walk::Row;
 use std::alloc::{AllocError, Global};
 use std::sync::Wait;
 use std::sync::atomic::{AtomicU32, Ordering};
 
-/// A board with room for the root alone, whatever was asked for: each post is answered Full.
-pub(super) type Crowded<B> = Odd<B, 1>;
-
-/// A board with the room that was asked for.
-pub(super) type Slow<B> = Odd<B, 1_048_576>;
-
-/// A board that answers each worker Later three times before a claim is made, and has room for at most `ROOM` directories.
+/// A board with half the room that was asked for, which answers Later to three of four claims.
 #[derive(Drop)]
-pub(super) struct Odd<B: Shared<Job, Row>, const ROOM: u32> {
+pub(super) struct Odd<B: Shared<Job, Row>> {
     board: B,
     capacity: u32,
-    /// How often each worker has asked.
-    asked: Vec<AtomicU32>,
+    /// How often workers have asked for a claim.
+    asked: AtomicU32,
     ghost room: { B.capacity_of board ≤ capacity },
 }
 
-impl<B: Shared<Job, Row>, const ROOM: u32> Shared<Job, Row> for Odd<B, ROOM> {
+impl<B: Shared<Job, Row>> Shared<Job, Row> for Odd<B> {
     type Pass = B::Pass;
 
     ghost capacity_of = { λ b. b.capacity };
@@ -45,30 +39,20 @@ impl<B: Shared<Job, Row>, const ROOM: u32> Shared<Job, Row> for Odd<B, ROOM> {
         capacity: u32,
         workers: u32,
         root: Job,
-    ) -> Result<(Odd<B, ROOM>, Vec<B::Pass>), AllocError> {
-        let mut asked = Vec::new(alloc);
-        for _ in 0..workers {
-            asked.push(AtomicU32::new(0))?;
-        }
-        let room = if 1 <= ROOM && ROOM < capacity {
-            ROOM
-        } else {
-            capacity
-        };
+    ) -> Result<(Odd<B>, Vec<B::Pass>), AllocError> {
+        let room = if capacity > 1 { capacity / 2 } else { 1 };
         let (board, passes) = B::start(alloc, room, workers, root)?;
         let odd = Odd {
             board,
             capacity,
-            asked,
+            asked: AtomicU32::new(0),
         };
         Ok((odd, passes))
     }
 
     fn claim<W: Wait>(&self, rt: &W, pass: &mut B::Pass) -> Claim<Job> {
-        if let Some(asked) = self.asked.get(pass.worker() as usize) {
-            if asked.fetch_add(1, Ordering::Relaxed) % 4 < 3 {
-                return Claim::Later;
-            }
+        if self.asked.fetch_add(1, Ordering::Relaxed) % 4 < 3 {
+            return Claim::Later;
         }
         self.board.claim(rt, pass)
     }

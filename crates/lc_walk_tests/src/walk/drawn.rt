@@ -1,12 +1,10 @@
 //! Trees of memory that are drawn from a seed, with what is known of them while they are made.
-ghost use Rattle.std.specs.Prelude.{◌<◌, ◌≤◌};
-ghost use Rattle.lc_board.specs.Limits.{workers_limit};
+ghost use Rattle.std.specs.Prelude.{◌<◌};
+ghost use Rattle.lc_walk.specs.WalkOptions.{AreWithinLimits};
 
-use crate::walk::walked::{report_of, walk_options};
-use lc_board::Shared;
-use lc_level::Job;
+use crate::walk::walked::{Board, NO_LISTS, report_of, walk_options};
 use lc_tree::{MemTree, Node};
-use lc_walk::{Report, Row, Sums, walk_on};
+use lc_walk::{Lists, Options, Report, Sums, WalkFault};
 use std::alloc::{AllocError, Global};
 use std::process::Abort;
 use std::sync::Wait;
@@ -145,35 +143,57 @@ pub(super) fn draw_tree(alloc: Global, seed: u64, directories: u32) -> Result<Dr
     })
 }
 
-/// What is known of the tree, and no fault.
-fn has_found(report: &Report, drawn: &Drawn) -> bool {
-    report.totals == drawn.sums
-        && report.directories == u64::from(drawn.directories)
-        && report.files.len() as u64 == drawn.sums.files
-        && report.faults.is_empty()
-}
+impl Drawn {
+    /// What is known of the tree, and no fault.
+    fn is_told(&self, report: &Report) -> bool {
+        report.totals == self.sums
+            && report.directories == u64::from(self.directories)
+            && report.files.len() as u64 == self.sums.files
+            && report.faults.is_empty()
+    }
 
-/// What the walk of a drawn tree finds, with room for just its directories: what is known of it, and no fault.
-pub(super) fn walk_drawn<B: Shared<Job, Row>, R: Threads + Wait + Sync + Abort>(
-    rt: &R,
-    alloc: Global,
-    drawn: &Drawn,
-    threads: u32,
-) -> Result<Report, AllocError>
-    requires { (1 ≤ threads) × (threads ≤ workers_limit) }
-{
-    let max_dirs = drawn.directories;
-    assert!(rt; 1 <= max_dirs && max_dirs <= 1_048_576);
-    let mut options = walk_options(threads, max_dirs);
-    options.lists.files = true;
-    let answer = walk_on::<B, MemTree, R>(rt, alloc, &MemTree::new(&drawn.top), &options);
-    let report = report_of(rt, answer)?;
-    assert!(rt;
-        has_found(&report, drawn),
-        "{threads}: {:?}, {} directories, {:?}",
-        report.totals,
-        report.directories,
-        report.faults
-    );
-    Ok(report)
+    /// What is asked of its walks: its files, with room for so many directories.
+    pub(super) fn options(&self, rt: &impl Abort, threads: u32, max_dirs: u32) -> Options<'static>
+        ensures { AreWithinLimits result }
+    {
+        Options {
+            lists: Lists {
+                files: true,
+                ..NO_LISTS
+            },
+            ..walk_options(rt, threads, max_dirs)
+        }
+    }
+
+    /// The report of a walk that finds what is known of the tree, and no fault.
+    pub(super) fn report_of(
+        &self,
+        rt: &impl Abort,
+        answer: Result<Report, WalkFault>,
+    ) -> Result<Report, AllocError> {
+        let report = report_of(rt, answer)?;
+        assert!(rt;
+            self.is_told(&report),
+            "{:?}, {} directories, {:?}",
+            report.totals,
+            report.directories,
+            report.faults
+        );
+        Ok(report)
+    }
+
+    /// What a walk by so many workers finds, with room for just its directories.
+    pub(super) fn walk<R: Threads + Wait + Sync + Abort>(
+        &self,
+        rt: &R,
+        alloc: Global,
+        board: Board,
+        threads: u32,
+    ) -> Result<Report, AllocError> {
+        let options = self.options(rt, threads, self.directories);
+        self.report_of(
+            rt,
+            board.walk(rt, alloc, &MemTree::new(&self.top), &options),
+        )
+    }
 }

@@ -1,23 +1,18 @@
 //! Trees one call of which fails: what that call was for is at fault, and all else is found.
-
-ghost use Rattle.std.specs.Prelude.{◌<◌, ◌≤◌, IfOk, IfSome};
-ghost use Rattle.lc_board.specs.Limits.{workers_limit};
+ghost use Rattle.std.specs.Prelude.{◌<◌, IfOk, IfSome};
 
 use crate::walk::same::is_same_file;
-use crate::walk::walked::{report_of, walk_options};
-use crate::walk::walks::WITH_INFO;
-use lc_board::{Locked, Shared, Words};
-use lc_level::{FaultWord, Job};
+use crate::walk::walked::{BOARDS, Board, NO_LISTS, report_of, walk_options};
+use crate::walk::walks::{LINE, WITH_INFO};
+use lc_level::FaultWord;
 use lc_tree::trials::{FailingCall, FailingTree};
-use lc_tree::{MemTree, Node, Sketch};
-use lc_walk::{FileLine, Report, Row, Sums, walk_on};
+use lc_tree::{MemTree, Sketch};
+use lc_walk::{FileLine, Lists, Options, Report, Sums};
 use std::alloc::{AllocError, Global};
 use std::process::Abort;
 use std::sync::Wait;
 use std::test::Fail;
 use std::thread::Threads;
-
-const LINE: Sketch = Sketch::File(b"x\n");
 
 const INFO: Sketch = Sketch::Dir(&[(b"exclude", Sketch::File(b"*.o\n"))]);
 
@@ -54,20 +49,23 @@ const OUTCOMES: [(&[u8], u64, &[u8]); 13] = [
     (b"d/e/c", 3, b"d/e/c"),
 ];
 
-fn walk_failing<B: Shared<Job, Row>, R: Threads + Wait + Sync + Abort>(
+/// The walk of a tree whose call at a place fails.
+fn walk_failing<R: Threads + Wait + Sync + Abort>(
     rt: &R,
     alloc: Global,
     tree: &MemTree,
     call: &FailingCall,
-    threads: u32,
-) -> Result<Report, AllocError>
-    requires { (1 ≤ threads) × (threads ≤ workers_limit) }
-{
-    let mut options = walk_options(threads, 3);
-    options.lists.files = true;
+    (board, threads): (Board, u32),
+) -> Result<Report, AllocError> {
+    let options = Options {
+        lists: Lists {
+            files: true,
+            ..NO_LISTS
+        },
+        ..walk_options(rt, threads, 3)
+    };
     let tree = FailingTree { tree, call };
-    let answer = walk_on::<B, FailingTree<MemTree>, R>(rt, alloc, &tree, &options);
-    report_of(rt, answer)
+    report_of(rt, board.walk(rt, alloc, &tree, &options))
 }
 
 /// The lines are those of the whole walk but for the paths that begin so, and the totals are theirs.
@@ -108,44 +106,42 @@ fn outcome_of(report: &Report, whole: &[FileLine]) -> Option<usize>
 }
 
 /// The walk whose call at this place fails has one of the outcomes. It answers which.
-fn check_call<B: Shared<Job, Row>, R: Threads + Wait + Sync + Abort>(
+fn check_call<R: Threads + Wait + Sync + Abort>(
     rt: &R,
     alloc: Global,
     tree: &MemTree,
     whole: &[FileLine],
     place: u64,
-    threads: u32,
+    run: (Board, u32),
 ) -> Result<usize, AllocError>
-    requires { (1 ≤ threads) × (threads ≤ workers_limit) }
     ensures { IfOk result (λ n. n < 13) }
 {
     let call = FailingCall::new(place);
-    let report = walk_failing::<B, R>(rt, alloc, tree, &call, threads)?;
+    let report = walk_failing(rt, alloc, tree, &call, run)?;
     let outcome = outcome_of(&report, whole);
     assert!(rt; outcome.is_some(), "{place}: {report:?}");
     Ok(outcome.unwrap_or(0))
 }
 
 /// Each call of the walk fails once. Where one worker makes them in their order, each outcome comes.
-fn check_calls<B: Shared<Job, Row>, R: Threads + Wait + Sync + Abort>(
+fn check_calls<R: Threads + Wait + Sync + Abort>(
     rt: &R,
     alloc: Global,
-    tree: &MemTree,
-    threads: u32,
-) -> Result<(), AllocError>
-    requires { (1 ≤ threads) × (threads ≤ workers_limit) }
-{
+    run: (Board, u32),
+) -> Result<(), AllocError> {
+    let node = TREE.node(alloc)?;
+    let tree = MemTree::new(&node);
     let none = FailingCall::new(u64::MAX);
-    let whole = walk_failing::<B, R>(rt, alloc, tree, &none, threads)?;
+    let whole = walk_failing(rt, alloc, &tree, &none, run)?;
     assert!(rt;
         whole.faults.is_empty() && whole.files.len() == 5,
         "{whole:?}"
     );
     let mut seen = [false; OUTCOMES.len()];
     for place in 0..none.begun() {
-        seen[check_call::<B, R>(rt, alloc, tree, &whole.files, place, threads)?] = true;
+        seen[check_call(rt, alloc, &tree, &whole.files, place, run)?] = true;
     }
-    assert!(rt; threads > 1 || !seen.contains(&false), "{seen:?}");
+    assert!(rt; run.1 > 1 || !seen.contains(&false), "{seen:?}");
     Ok(())
 }
 
@@ -176,52 +172,66 @@ macro_rules! ignoring {
 
 const IGNORING: Sketch = ignoring!(File, File, File, File, File);
 
-/// What one worker asks of a tree, in its order: the place of its first call and of the one after its last, and what is found where
-/// one of them fails. A listing is one call; a file is opened, read, and read to its end. The last line is of no call.
-type Asked<'a> = &'a [(u64, u64, Finding<'a>)];
+/// Calls of one worker that fail, each in turn: the place of the first, and of the one after the last; what is then found; and how many
+/// calls are begun, where the line is about that.
+type Step<'a> = (u64, u64, Finding<'a>, Option<u64>);
 
-const OF_IGNORING: Asked = &[
-    (0, 1, ([0, 0, 0, 0], 0, Some(b""))),
-    (1, 4, ([0, 0, 0, 0], 0, Some(b".gitignore"))),
-    (4, 7, ([2, 2, 0, 10], 3, Some(b".gitignore"))),
-    (7, 10, ([2, 4, 0, 32], 3, Some(b"keep.log"))),
-    (10, 11, ([2, 4, 0, 26], 1, Some(b"src"))),
-    (11, 12, ([2, 4, 0, 26], 2, Some(b"src/build"))),
-    (12, 15, ([2, 4, 0, 26], 3, Some(b"src/build/y.c"))),
-    (15, 16, WHOLE),
+/// What one worker asks of a tree, in its order. A listing is one call; a file is opened, read, and read to its end. The last line is of
+/// no call.
+const OF_IGNORING: &[Step] = &[
+    (0, 1, ([0, 0, 0, 0], 0, Some(b"")), None),
+    (1, 4, ([0, 0, 0, 0], 0, Some(b".gitignore")), None),
+    (4, 7, ([2, 2, 0, 10], 3, Some(b".gitignore")), None),
+    (7, 10, ([2, 4, 0, 32], 3, Some(b"keep.log")), None),
+    (10, 11, ([2, 4, 0, 26], 1, Some(b"src")), None),
+    (11, 12, ([2, 4, 0, 26], 2, Some(b"src/build")), None),
+    (12, 15, ([2, 4, 0, 26], 3, Some(b"src/build/y.c")), None),
+    (15, 16, WHOLE, Some(15)),
 ];
 
-const OF_INFO: Asked = &[
-    (0, 1, ([0, 0, 0, 0], 0, Some(b""))),
-    (1, 2, ([0, 0, 0, 0], 0, Some(b".git"))),
-    (2, 3, ([0, 0, 0, 0], 0, Some(b".git/info"))),
-    (3, 6, ([0, 0, 0, 0], 0, Some(b".git/info/exclude"))),
-    (6, 9, ([0, 0, 0, 0], 0, Some(b".git/info/attributes"))),
-    (9, 12, ([0, 0, 0, 0], 0, Some(b".gitignore"))),
-    (12, 15, ([0, 0, 0, 0], 0, Some(b".gitattributes"))),
-    (15, 18, ([2, 2, 0, 6], 1, Some(b".gitattributes"))),
-    (18, 21, ([2, 2, 0, 12], 1, Some(b".gitignore"))),
-    (21, 24, ([2, 2, 0, 14], 1, Some(b"m.c"))),
-    (24, 25, ([3, 3, 0, 16], 1, None)),
+const OF_INFO: &[Step] = &[
+    (0, 1, ([0, 0, 0, 0], 0, Some(b"")), None),
+    (1, 2, ([0, 0, 0, 0], 0, Some(b".git")), None),
+    (2, 3, ([0, 0, 0, 0], 0, Some(b".git/info")), None),
+    (3, 6, ([0, 0, 0, 0], 0, Some(b".git/info/exclude")), None),
+    (6, 9, ([0, 0, 0, 0], 0, Some(b".git/info/attributes")), None),
+    (9, 12, ([0, 0, 0, 0], 0, Some(b".gitignore")), None),
+    (12, 15, ([0, 0, 0, 0], 0, Some(b".gitattributes")), None),
+    (15, 18, ([2, 2, 0, 6], 1, Some(b".gitattributes")), None),
+    (18, 21, ([2, 2, 0, 12], 1, Some(b".gitignore")), None),
+    (21, 24, ([2, 2, 0, 14], 1, Some(b"m.c")), None),
+    (24, 25, ([3, 3, 0, 16], 1, None), Some(24)),
 ];
 
 const WHOLE: Finding = ([3, 5, 0, 34], 3, None);
 
-/// The tree with a file that can't be read, and what is then found.
-const UNREAD: &[(Sketch, Finding)] = &[
+/// A place that no call has.
+const NO_CALL: u64 = 1_000_000;
+
+/// What is found where no call fails.
+macro_rules! unfailed {
+    ($finding:expr) => {
+        &[(NO_CALL, NO_CALL + 1, $finding, None)]
+    };
+}
+
+/// Each call of a walk fails; then each file of a tree can't be read.
+const FAILING: &[(Sketch, &[Step])] = &[
+    (IGNORING, OF_IGNORING),
+    (WITH_INFO, OF_INFO),
     (
         ignoring!(Failing, File, File, File, File),
-        ([0, 0, 0, 0], 0, Some(b".gitignore")),
+        unfailed!(([0, 0, 0, 0], 0, Some(b".gitignore"))),
     ),
-    (ignoring!(File, Failing, File, File, File), WHOLE),
+    (ignoring!(File, Failing, File, File, File), unfailed!(WHOLE)),
     (
         ignoring!(File, File, Failing, File, File),
-        ([2, 4, 0, 32], 3, Some(b"keep.log")),
+        unfailed!(([2, 4, 0, 32], 3, Some(b"keep.log"))),
     ),
-    (ignoring!(File, File, File, Failing, File), WHOLE),
+    (ignoring!(File, File, File, Failing, File), unfailed!(WHOLE)),
     (
         ignoring!(File, File, File, File, Failing),
-        ([2, 4, 0, 26], 3, Some(b"src/build/y.c")),
+        unfailed!(([2, 4, 0, 26], 3, Some(b"src/build/y.c"))),
     ),
 ];
 
@@ -233,16 +243,7 @@ fn has_fault(report: &Report, path: Option<&[u8]>) -> bool {
     }
 }
 
-/// The walk by one worker, of which the call at this place fails, finds this. It answers how many calls it began.
-fn check_walk<B: Shared<Job, Row>, R: Threads + Wait + Sync + Abort>(
-    rt: &R,
-    alloc: Global,
-    top: &Node,
-    place: u64,
-    wanted: Finding,
-) -> Result<u64, AllocError> {
-    let call = FailingCall::new(place);
-    let report = walk_failing::<B, R>(rt, alloc, &MemTree::new(top), &call, 1)?;
+fn has_found(report: &Report, wanted: Finding) -> bool {
     let ([files, lines, blank, bytes], directories, path) = wanted;
     let sums = Sums {
         files,
@@ -250,75 +251,82 @@ fn check_walk<B: Shared<Job, Row>, R: Threads + Wait + Sync + Abort>(
         blank: u128::from(blank),
         bytes: u128::from(bytes),
     };
-    assert!(rt;
-        report.totals == sums && report.directories == directories && has_fault(&report, path),
-        "{place}, {path:?}: {report:?}"
-    );
-    Ok(call.begun())
+    report.totals == sums && report.directories == directories && has_fault(report, path)
 }
 
-/// Each of these calls fails; the walk that none fails begins as many.
-fn check_step<B: Shared<Job, Row>, R: Threads + Wait + Sync + Abort>(
+/// Each of these calls of the walk by one worker fails.
+fn check_step<R: Threads + Wait + Sync + Abort>(
     rt: &R,
     alloc: Global,
-    top: &Node,
-    step: (u64, u64, Finding),
+    board: Board,
+    tree: &MemTree,
+    step: Step,
 ) -> Result<(), AllocError> {
-    let (from, to, wanted) = step;
+    let (from, to, wanted, begun) = step;
     for place in from..to {
-        let begun = check_walk::<B, R>(rt, alloc, top, place, wanted)?;
-        assert!(rt; wanted.2.is_some() || begun == place, "{begun}");
+        let call = FailingCall::new(place);
+        let report = walk_failing(rt, alloc, tree, &call, (board, 1))?;
+        assert!(rt;
+            has_found(&report, wanted),
+            "{place}, {:?}: {report:?}",
+            wanted.2
+        );
+        assert!(rt;
+            begun.unwrap_or(call.begun()) == call.begun(),
+            "{}",
+            call.begun()
+        );
     }
     Ok(())
 }
 
-/// The calls of each line of the table fail, and there is no other call.
-fn check_asked<B: Shared<Job, Row>, R: Threads + Wait + Sync + Abort>(
+/// The calls of each step fail.
+fn check_steps<R: Threads + Wait + Sync + Abort>(
     rt: &R,
     alloc: Global,
-    tree: Sketch,
-    asked: Asked,
+    board: Board,
+    sketch: Sketch,
+    steps: &[Step],
 ) -> Result<(), AllocError> {
-    let top = tree.node(alloc)?;
-    for step in asked {
-        check_step::<B, R>(rt, alloc, &top, *step)?;
+    let top = sketch.node(alloc)?;
+    let tree = MemTree::new(&top);
+    for step in steps {
+        check_step(rt, alloc, board, &tree, *step)?;
     }
     Ok(())
 }
 
-/// Each file fails.
-fn check_unread<B: Shared<Job, Row>, R: Threads + Wait + Sync + Abort>(
-    rt: &R,
-    alloc: Global,
-) -> Result<(), AllocError> {
-    for (tree, wanted) in UNREAD {
-        let top = tree.node(alloc)?;
-        check_walk::<B, R>(rt, alloc, &top, u64::MAX, *wanted)?;
+/// By one worker, and by four.
+const RUNS: &[(Board, u32)] = &[
+    (Board::Words, 1),
+    (Board::Words, 4),
+    (Board::Locked, 1),
+    (Board::Locked, 4),
+];
+
+#[test]
+fn one_call_fails(rt: HostRuntime) -> Result<(), Fail> {
+    for run in RUNS {
+        check_calls(&rt, rt.alloc(), *run)?;
     }
     Ok(())
 }
 
-fn check_failures<B: Shared<Job, Row>, R: Threads + Wait + Sync + Abort>(
+fn check_failing<R: Threads + Wait + Sync + Abort>(
     rt: &R,
     alloc: Global,
+    board: Board,
 ) -> Result<(), AllocError> {
-    let node = TREE.node(alloc)?;
-    let tree = MemTree::new(&node);
-    check_calls::<B, R>(rt, alloc, &tree, 1)?;
-    check_calls::<B, R>(rt, alloc, &tree, 4)?;
-    check_asked::<B, R>(rt, alloc, IGNORING, OF_IGNORING)?;
-    check_asked::<B, R>(rt, alloc, WITH_INFO, OF_INFO)?;
-    check_unread::<B, R>(rt, alloc)
+    for (sketch, steps) in FAILING {
+        check_steps(rt, alloc, board, *sketch, steps)?;
+    }
+    Ok(())
 }
 
 #[test]
-fn one_call_fails_over_words(rt: HostRuntime) -> Result<(), Fail> {
-    check_failures::<Words<Job, Row>, HostRuntime>(&rt, rt.alloc())?;
-    Ok(())
-}
-
-#[test]
-fn one_call_fails_over_locked(rt: HostRuntime) -> Result<(), Fail> {
-    check_failures::<Locked<Job, Row>, HostRuntime>(&rt, rt.alloc())?;
+fn each_call_and_each_file_fails(rt: HostRuntime) -> Result<(), Fail> {
+    for board in BOARDS {
+        check_failing(&rt, rt.alloc(), *board)?;
+    }
     Ok(())
 }

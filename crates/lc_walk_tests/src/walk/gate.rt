@@ -1,11 +1,10 @@
 //! Several workers list directories at the same time.
 
-use crate::walk::walked::{Found, NONE, has_found, report_of, walk_options};
-use lc_board::{Locked, Shared, Words};
+use crate::walk::told::{FOUND, Found, NONE, has_told};
+use crate::walk::walked::{Board, report_of, walk_options};
 use lc_census::Eol;
-use lc_level::{FaultWord, Job};
+use lc_level::FaultWord;
 use lc_tree::{Listing, MemFile, MemTree, ReadFault, Sketch, Tree};
-use lc_walk::{Row, walk_on};
 use std::alloc::{AllocError, Global};
 use std::process::Abort;
 use std::sync::Wait;
@@ -84,49 +83,23 @@ const SIXTEEN: Sketch = Sketch::Dir(&[
     (b"p", ONE),
 ]);
 
-/// A tree, how many directories it has below the top, how many workers walk it, and what they find.
-type Case<'a> = (Sketch<'a>, usize, u32, Found<'a>);
-
-/// The walk of a tree behind its gate, over a board of this type.
-fn check_gate<B: Shared<Job, Row>, R: Threads + Wait + Sync + Abort>(
-    rt: &R,
-    alloc: Global,
-    case: Case,
-) -> Result<(), AllocError> {
-    let (sketch, directories, threads, wanted) = case;
-    assert!(rt; 1 <= threads && threads <= 16);
-    let node = sketch.node(alloc)?;
-    let gate = Gate {
-        tree: MemTree::new(&node),
-        begun: AtomicUsize::new(0),
-        directories,
-    };
-    let options = walk_options(threads, 100);
-    let report = report_of(rt, walk_on::<B, Gate, R>(rt, alloc, &gate, &options))?;
-    // A worker whose thread could not be started, for want of memory, runs after another, which finds the gate shut.
-    if wanted.faults.is_empty() && !report.faults.is_empty() {
-        return Err(AllocError);
-    }
-    assert!(rt; has_found(&report, wanted), "{threads}: {report:?}");
-    Ok(())
-}
-
 const OF_TWO: Found = Found {
     rows: &[(None, NONE, Eol::Lf, [2, 2, 0, 4])],
     directories: 3,
-    faults: &[],
+    ..FOUND
 };
 
 const OF_SIXTEEN: Found = Found {
     rows: &[(None, NONE, Eol::Lf, [16, 16, 0, 32])],
     directories: 17,
-    faults: &[],
+    ..FOUND
 };
 
 const WITHOUT_THE_FIRST: Found = Found {
     rows: &[(None, NONE, Eol::Lf, [1, 1, 0, 2])],
     directories: 2,
     faults: &[(b"a", FaultWord::Read)],
+    ..FOUND
 };
 
 const WITHOUT_THE_LAST: Found = Found {
@@ -134,29 +107,92 @@ const WITHOUT_THE_LAST: Found = Found {
     ..WITHOUT_THE_FIRST
 };
 
-/// As many workers as there are directories list them at the same time.
-const CASES: &[Case] = &[(TWO, 2, 2, OF_TWO), (SIXTEEN, 16, 16, OF_SIXTEEN)];
-
-/// One worker alone finds the gate of the directory shut that it claims before the other.
-fn check_gates<B: Shared<Job, Row>, R: Threads + Wait + Sync + Abort>(
-    rt: &R,
-    alloc: Global,
-    alone: Found,
-) -> Result<(), AllocError> {
-    for case in CASES {
-        check_gate::<B, R>(rt, alloc, *case)?;
-    }
-    check_gate::<B, R>(rt, alloc, (TWO, 2, 1, alone))
+/// A tree, how many directories it has below the top, over which board and by how many workers it is walked, and what they find.
+struct Case<'a> {
+    sketch: Sketch<'a>,
+    directories: usize,
+    board: Board,
+    threads: u32,
+    wanted: Found<'a>,
 }
 
-#[test]
-fn workers_over_words_list_at_the_same_time(rt: HostRuntime) -> Result<(), Fail> {
-    check_gates::<Words<Job, Row>, HostRuntime>(&rt, rt.alloc(), WITHOUT_THE_LAST)?;
+/// As many workers as there are directories list them at the same time. One worker alone finds the gate of the directory shut that it
+/// claims before the other.
+const CASES: &[Case] = &[
+    Case {
+        sketch: TWO,
+        directories: 2,
+        board: Board::Words,
+        threads: 2,
+        wanted: OF_TWO,
+    },
+    Case {
+        sketch: SIXTEEN,
+        directories: 16,
+        board: Board::Words,
+        threads: 16,
+        wanted: OF_SIXTEEN,
+    },
+    Case {
+        sketch: TWO,
+        directories: 2,
+        board: Board::Words,
+        threads: 1,
+        wanted: WITHOUT_THE_LAST,
+    },
+    Case {
+        sketch: TWO,
+        directories: 2,
+        board: Board::Locked,
+        threads: 2,
+        wanted: OF_TWO,
+    },
+    Case {
+        sketch: SIXTEEN,
+        directories: 16,
+        board: Board::Locked,
+        threads: 16,
+        wanted: OF_SIXTEEN,
+    },
+    Case {
+        sketch: TWO,
+        directories: 2,
+        board: Board::Locked,
+        threads: 1,
+        wanted: WITHOUT_THE_FIRST,
+    },
+];
+
+/// The walk of a tree behind its gate.
+fn check<R: Threads + Wait + Sync + Abort>(
+    rt: &R,
+    alloc: Global,
+    case: &Case,
+) -> Result<(), AllocError> {
+    let node = case.sketch.node(alloc)?;
+    let gate = Gate {
+        tree: MemTree::new(&node),
+        begun: AtomicUsize::new(0),
+        directories: case.directories,
+    };
+    let options = walk_options(rt, case.threads, 100);
+    let report = report_of(rt, case.board.walk(rt, alloc, &gate, &options))?;
+    // A worker whose thread could not be started, for want of memory, runs after another, which finds the gate shut.
+    if case.wanted.faults.is_empty() && !report.faults.is_empty() {
+        return Err(AllocError);
+    }
+    let (board, threads) = (case.board, case.threads);
+    assert!(rt;
+        has_told(&report, case.wanted),
+        "{board:?}, {threads}: {report:?}"
+    );
     Ok(())
 }
 
 #[test]
-fn workers_over_locked_list_at_the_same_time(rt: HostRuntime) -> Result<(), Fail> {
-    check_gates::<Locked<Job, Row>, HostRuntime>(&rt, rt.alloc(), WITHOUT_THE_FIRST)?;
+fn workers_list_at_the_same_time(rt: HostRuntime) -> Result<(), Fail> {
+    for case in CASES {
+        check(&rt, rt.alloc(), case)?;
+    }
     Ok(())
 }

@@ -1,14 +1,12 @@
 //! How much a walk takes: directories, segments and bytes of a path, bytes of a rule file.
 
-use crate::walk::drawn::{draw_tree, walk_drawn};
-use crate::walk::walked::{
-    ASKED, Asked, Case, FOUND, Found, NONE, Wanted, check, check_on, walk_options,
-};
-use lc_board::{Locked, Words};
+use crate::walk::drawn::draw_tree;
+use crate::walk::told::{FOUND, Found, NONE};
+use crate::walk::walked::{ASKED, Asked, BOARDS, Case, check, check_node};
 use lc_census::Eol;
-use lc_level::{FaultWord, Job};
-use lc_tree::{MemTree, Node, Sketch};
-use lc_walk::{Row, WalkFault};
+use lc_level::FaultWord;
+use lc_tree::{Node, Sketch};
+use lc_walk::WalkFault;
 use std::alloc::{AllocError, Global};
 use std::process::Abort;
 use std::sync::Wait;
@@ -25,45 +23,45 @@ const THE_FILE: Found = Found {
 };
 
 const FEW: &[Case] = &[
-    (
-        "one directory of one",
-        Asked {
+    Case {
+        name: "one directory of one",
+        asked: Asked {
             tree: ONE_FILE,
             max_dirs: 1,
             ..ASKED
         },
-        Ok(THE_FILE),
-    ),
-    (
-        "one of the most",
-        Asked {
+        wanted: Ok(THE_FILE),
+    },
+    Case {
+        name: "one of the most",
+        asked: Asked {
             tree: ONE_FILE,
             max_dirs: 1_048_576,
             ..ASKED
         },
-        Ok(THE_FILE),
-    ),
-    (
-        "two directories of one",
-        Asked {
+        wanted: Ok(THE_FILE),
+    },
+    Case {
+        name: "two directories of one",
+        asked: Asked {
             tree: ONE_DIRECTORY,
             max_dirs: 1,
             ..ASKED
         },
-        Err(WalkFault::TooManyDirs),
-    ),
-    (
-        "two of two",
-        Asked {
+        wanted: Err(WalkFault::TooManyDirs),
+    },
+    Case {
+        name: "two of two",
+        asked: Asked {
             tree: ONE_DIRECTORY,
             max_dirs: 2,
             ..ASKED
         },
-        Ok(Found {
+        wanted: Ok(Found {
             directories: 2,
             ..FOUND
         }),
-    ),
+    },
 ];
 
 #[test]
@@ -72,55 +70,41 @@ fn few_directories(rt: HostRuntime) -> Result<(), Fail> {
     Ok(())
 }
 
-/// The walk of a tree over each board finds this, by any number of workers.
-fn check_node<R: Threads + Wait + Sync + Abort>(
-    rt: &R,
-    alloc: Global,
-    name: &str,
-    top: &Node,
-    wanted: Wanted,
-) -> Result<(), AllocError> {
-    let tree = MemTree::new(top);
-    for threads in [1, 2, 16] {
-        let options = walk_options(threads, MOST);
-        check_on::<Words<Job, Row>, MemTree, R>(rt, alloc, &tree, &options, name, wanted)?;
-        check_on::<Locked<Job, Row>, MemTree, R>(rt, alloc, &tree, &options, name, wanted)?;
-    }
-    Ok(())
-}
-
 /// As many directories as `lc count` takes where it is asked for no other number.
 const MOST: u32 = 65_536;
 
+const OF_THE_MOST: Asked = Asked {
+    max_dirs: MOST,
+    ..ASKED
+};
+
 const SEED: u64 = 12_345;
+
+const ONE_MORE: Case = Case {
+    name: "one more",
+    asked: OF_THE_MOST,
+    wanted: Err(WalkFault::TooManyDirs),
+};
 
 /// The walks of a tree of the most directories, by four workers.
 fn check_most<R: Threads + Wait + Sync + Abort>(rt: &R, alloc: Global) -> Result<(), AllocError> {
     let drawn = draw_tree(alloc, SEED, MOST)?;
-    walk_drawn::<Words<Job, Row>, R>(rt, alloc, &drawn, 4)?;
-    walk_drawn::<Locked<Job, Row>, R>(rt, alloc, &drawn, 4)?;
+    for board in BOARDS {
+        drawn.walk(rt, alloc, *board, 4)?;
+    }
     Ok(())
-}
-
-/// The walks of one with a directory more.
-fn check_one_more<R: Threads + Wait + Sync + Abort>(
-    rt: &R,
-    alloc: Global,
-) -> Result<(), AllocError> {
-    let drawn = draw_tree(alloc, SEED, MOST + 1)?;
-    check_node(
-        rt,
-        alloc,
-        "one more",
-        &drawn.top,
-        Err(WalkFault::TooManyDirs),
-    )
 }
 
 #[test]
 fn as_many_directories_as_are_taken(rt: HostRuntime) -> Result<(), Fail> {
-    check_most(&rt, rt.alloc())?;
-    check_one_more(&rt, rt.alloc())?;
+    let alloc = rt.alloc();
+    check_most(&rt, alloc)?;
+    check_node(
+        &rt,
+        alloc,
+        &draw_tree(alloc, SEED, MOST + 1)?.top,
+        &ONE_MORE,
+    )?;
     Ok(())
 }
 
@@ -135,47 +119,25 @@ fn nested(alloc: Global, depth: u32, name: &[u8], inner: Node) -> Result<Node, A
     Ok(node)
 }
 
-/// A walk of nested directories: its name, how many, the name of each, what the last and what the first have beside, and what is found.
-type Nest<'a> = (&'a str, u32, &'a [u8], Entries<'a>, Entries<'a>, Wanted<'a>);
-
-type Entries<'a> = &'a [(&'a [u8], Sketch<'a>)];
-
-fn check_nests<R: Threads + Wait + Sync + Abort>(
-    rt: &R,
-    alloc: Global,
-    cases: &[Nest],
-) -> Result<(), AllocError> {
-    for (case, depth, name, last, first, wanted) in cases {
-        let mut top = nested(alloc, *depth, name, Sketch::Dir(last).node(alloc)?)?;
-        if let Node::Dir(entries) = &mut top {
-            for (name, sketch) in *first {
-                entries.push((name.to_vec(alloc)?, sketch.node(alloc)?))?;
-            }
-        }
-        check_node(rt, alloc, case, &top, *wanted)?;
-    }
-    Ok(())
+/// A walk of directories of one name, one in the other: how many stand below the first, what the last has, and what the first has
+/// beside.
+struct Nest<'a> {
+    case: Case<'a>,
+    below: u32,
+    name: &'a [u8],
+    last: Sketch<'a>,
+    first: &'a [(&'a [u8], Sketch<'a>)],
 }
 
-const DEEP: &[Nest] = &[
-    (
-        "256 segments",
-        256,
-        b"d",
-        &[],
-        &[],
-        Ok(Found {
-            directories: 257,
-            ..FOUND
-        }),
-    ),
-    ("257 segments", 257, b"d", &[], &[], Err(WalkFault::TooDeep)),
-];
-
-#[test]
-fn deep_directories(rt: HostRuntime) -> Result<(), Fail> {
-    check_nests(&rt, rt.alloc(), DEEP)?;
-    Ok(())
+impl Nest<'_> {
+    fn node(&self, alloc: Global) -> Result<Node, AllocError> {
+        let inner = nested(alloc, self.below, self.name, self.last.node(alloc)?)?;
+        let Node::Dir(mut entries) = Sketch::Dir(self.first).node(alloc)? else {
+            return Err(AllocError);
+        };
+        entries.push((self.name.to_vec(alloc)?, inner))?;
+        Ok(Node::Dir(entries))
+    }
 }
 
 const LONG: [u8; 255] = [b'a'; 255];
@@ -186,57 +148,99 @@ const LONGEST: [u8; 257] = [b'a'; 257];
 
 const EMPTY: Sketch = Sketch::File(b"");
 
-const IGNORED: (&[u8], Sketch) = (b".gitignore", Sketch::File(b"*\n!*/\n"));
-
-/// The last entry has a path of so many bytes.
-const LONG_PATHS: &[Nest] = &[
-    (
-        "4,096 bytes",
-        15,
-        &LONG,
-        &[(&LONGER, EMPTY)],
-        &[],
-        Ok(Found {
-            rows: &[(None, NONE, Eol::NoEnd, [1, 0, 0, 0])],
-            directories: 16,
-            faults: &[],
-        }),
-    ),
-    (
-        "4,097 bytes",
-        15,
-        &LONG,
-        &[(&LONGEST, EMPTY)],
-        &[],
-        Err(WalkFault::TooDeep),
-    ),
-    (
-        "4,097 bytes of a link",
-        15,
-        &LONG,
-        &[(&LONGEST, Sketch::Other)],
-        &[],
-        Err(WalkFault::TooDeep),
-    ),
-    (
-        "4,097 bytes of an ignored file",
-        15,
-        &LONG,
-        &[(&LONGEST, EMPTY)],
-        &[IGNORED],
-        Err(WalkFault::TooDeep),
-    ),
+/// Deep directories, and last entries whose paths have so many bytes.
+const NESTS: &[Nest] = &[
+    Nest {
+        case: Case {
+            name: "256 segments",
+            asked: OF_THE_MOST,
+            wanted: Ok(Found {
+                directories: 257,
+                ..FOUND
+            }),
+        },
+        below: 255,
+        name: b"d",
+        last: Sketch::Dir(&[]),
+        first: &[],
+    },
+    Nest {
+        case: Case {
+            name: "257 segments",
+            asked: OF_THE_MOST,
+            wanted: Err(WalkFault::TooDeep),
+        },
+        below: 256,
+        name: b"d",
+        last: Sketch::Dir(&[]),
+        first: &[],
+    },
+    Nest {
+        case: Case {
+            name: "4,096 bytes",
+            asked: OF_THE_MOST,
+            wanted: Ok(Found {
+                rows: &[(None, NONE, Eol::NoEnd, [1, 0, 0, 0])],
+                directories: 16,
+                ..FOUND
+            }),
+        },
+        below: 14,
+        name: &LONG,
+        last: Sketch::Dir(&[(&LONGER, EMPTY)]),
+        first: &[],
+    },
+    Nest {
+        case: Case {
+            name: "4,097 bytes",
+            asked: OF_THE_MOST,
+            wanted: Err(WalkFault::TooDeep),
+        },
+        below: 14,
+        name: &LONG,
+        last: Sketch::Dir(&[(&LONGEST, EMPTY)]),
+        first: &[],
+    },
+    Nest {
+        case: Case {
+            name: "4,097 bytes of a link",
+            asked: OF_THE_MOST,
+            wanted: Err(WalkFault::TooDeep),
+        },
+        below: 14,
+        name: &LONG,
+        last: Sketch::Dir(&[(&LONGEST, Sketch::Other)]),
+        first: &[],
+    },
+    Nest {
+        case: Case {
+            name: "4,097 bytes of an ignored file",
+            asked: OF_THE_MOST,
+            wanted: Err(WalkFault::TooDeep),
+        },
+        below: 14,
+        name: &LONG,
+        last: Sketch::Dir(&[(&LONGEST, EMPTY)]),
+        first: &[(b".gitignore", Sketch::File(b"*\n!*/\n"))],
+    },
 ];
 
 #[test]
-fn long_paths(rt: HostRuntime) -> Result<(), Fail> {
-    check_nests(&rt, rt.alloc(), LONG_PATHS)?;
+fn deep_directories_and_long_paths(rt: HostRuntime) -> Result<(), Fail> {
+    for nest in NESTS {
+        let top = nest.node(rt.alloc())?;
+        check_node(&rt, rt.alloc(), &top, &nest.case)?;
+    }
     Ok(())
 }
 
-const IN_D: Found = Found {
-    faults: &[(b"d/.gitignore", FaultWord::Long)],
-    ..FOUND
+const LONG_RULES: Case = Case {
+    name: "a rule file of 1,048,577 bytes",
+    asked: OF_THE_MOST,
+    wanted: Ok(Found {
+        faults: &[(b"d/.gitignore", FaultWord::Long)],
+        ..FOUND
+    }),
 };
 
 #[test]
@@ -245,6 +249,6 @@ fn a_rule_file_of_a_byte_too_many(rt: HostRuntime) -> Result<(), Fail> {
     let file = Node::File(vec![in alloc; b'\n'; 1_048_577]?);
     let directory = nested(alloc, 1, b".gitignore", file)?;
     let top = nested(alloc, 1, b"d", directory)?;
-    check_node(&rt, alloc, "1,048,577 bytes", &top, Ok(IN_D))?;
+    check_node(&rt, alloc, &top, &LONG_RULES)?;
     Ok(())
 }

@@ -1,20 +1,14 @@
 //! Walks of some paths of a tree alone: what they find, and how often they ask the tree.
 
-use crate::walk::left_lines::{Line, Why, has_lines};
-use crate::walk::walked::{has_faults, report_of};
-use lc_board::{Locked, Shared, Words};
-use lc_level::{FaultWord, Job};
+use crate::walk::told::{FOUND, Fault, File, Found, Left, NONE, Sum, Why};
+use crate::walk::walked::{ASKED, Asked, Case, check};
+use crate::walk::walks::LINE;
+use lc_census::Eol;
+use lc_level::FaultWord;
 use lc_rules::{Origin, TextState};
-use lc_tree::trials::{FailingCall, FailingTree};
-use lc_tree::{Kind, MemTree, Sketch};
-use lc_walk::{Lists, Options, Report, Row, walk_on};
-use std::alloc::{AllocError, Global};
-use std::process::Abort;
-use std::sync::Wait;
+use lc_tree::{Kind, Sketch};
+use lc_walk::Lists;
 use std::test::Fail;
-use std::thread::Threads;
-
-const LINE: Sketch = Sketch::File(b"x\n");
 
 /// A tree with directories and a file that can't be read beside the rest.
 const TREE: Sketch = Sketch::Dir(&[
@@ -35,181 +29,181 @@ const TREE: Sketch = Sketch::Dir(&[
     ),
 ]);
 
-/// The paths that are asked for, and what is found: files with their text states, listed directories, their entries that take part,
-/// faults, entries left out, and how often the tree was asked. A listing is one call; a file is opened, read, and read to its end.
-#[derive(Clone, Copy)]
-struct Case<'a> {
-    only: &'a [&'a [u8]],
-    files: &'a [(&'a [u8], TextState)],
-    directories: u64,
-    entries: u64,
-    faults: &'a [(&'a [u8], FaultWord)],
-    left: &'a [Line<'a>],
-    calls: u64,
-}
+/// Both lists are asked for.
+const NARROWED: Asked = Asked {
+    tree: TREE,
+    lists: Lists {
+        files: true,
+        left_out: true,
+    },
+    max_dirs: 5,
+    ..ASKED
+};
+
+const A_C: File = (b"a.c", TextState::Set, 2);
+
+const X_C: File = (b"src/deep/x.c", TextState::Set, 2);
+
+const M_C: File = (b"src/m.c", TextState::Set, 2);
+
+const B_C: Fault = (b"src/b.c", FaultWord::Read);
 
 /// The rule of `src/.gitignore` and that of the top.
-const GEN: Line = (b"src/gen", Kind::Dir, Why::Rule(Origin::Directory(1), 1));
+const GEN: Left = (b"src/gen", Kind::Dir, Why::Rule(Origin::Directory(1), 1));
 
-const Y_LOG: Line = (
+const Y_LOG: Left = (
     b"src/deep/y.log",
     Kind::File,
     Why::Rule(Origin::Directory(0), 1),
 );
 
+const ABSENT: FaultWord = FaultWord::Absent;
+
+const ONE_FILE: &[Sum] = &[(Some(b"c"), TextState::Set, Eol::Lf, [1, 1, 0, 2])];
+
+const TWO_FILES: &[Sum] = &[(Some(b"c"), TextState::Set, Eol::Lf, [2, 2, 0, 4])];
+
 const CASES: &[Case] = &[
-    // All that can't be read is met where no path is asked for.
     Case {
-        only: &[],
-        files: &[
-            (b".gitattributes", TextState::Unspecified),
-            (b".gitignore", TextState::Unspecified),
-            (b"a.c", TextState::Set),
-            (b"src/.gitignore", TextState::Unspecified),
-            (b"src/deep/x.c", TextState::Set),
-            (b"src/m.c", TextState::Set),
-        ],
-        directories: 3,
-        entries: 13,
-        faults: &[
-            (b"other", FaultWord::Read),
-            (b"src/b.c", FaultWord::Read),
-            (b"src/more", FaultWord::Read),
-        ],
-        left: &[Y_LOG, GEN],
-        calls: 35,
+        name: "no path: all that can't be read is met",
+        asked: NARROWED,
+        wanted: Ok(Found {
+            rows: &[
+                (None, NONE, Eol::Lf, [3, 3, 0, 20]),
+                (Some(b"c"), TextState::Set, Eol::Lf, [3, 3, 0, 6]),
+            ],
+            directories: 3,
+            faults: &[
+                (b"other", FaultWord::Read),
+                B_C,
+                (b"src/more", FaultWord::Read),
+            ],
+            files: &[
+                (b".gitattributes", NONE, 9),
+                (b".gitignore", NONE, 6),
+                A_C,
+                (b"src/.gitignore", NONE, 5),
+                X_C,
+                M_C,
+            ],
+            left: &[Y_LOG, GEN],
+            entries: Some(13),
+            calls: Some(35),
+        }),
     },
-    // A file: the rules above it hold, and nothing else is read.
     Case {
-        only: &[b"src/deep/x.c"],
-        files: &[(b"src/deep/x.c", TextState::Set)],
-        directories: 3,
-        entries: 3,
-        faults: &[],
-        left: &[],
-        calls: 15,
+        name: "a file: the rules above it hold, and nothing else is read",
+        asked: Asked {
+            only: &[b"src/deep/x.c"],
+            ..NARROWED
+        },
+        wanted: Ok(Found {
+            rows: ONE_FILE,
+            directories: 3,
+            files: &[X_C],
+            entries: Some(3),
+            calls: Some(15),
+            ..FOUND
+        }),
     },
-    // A directory.
     Case {
-        only: &[b"src/deep"],
-        files: &[(b"src/deep/x.c", TextState::Set)],
-        directories: 3,
-        entries: 4,
-        faults: &[],
-        left: &[Y_LOG],
-        calls: 15,
+        name: "a directory",
+        asked: Asked {
+            only: &[b"src/deep"],
+            ..NARROWED
+        },
+        wanted: Ok(Found {
+            rows: ONE_FILE,
+            directories: 3,
+            files: &[X_C],
+            left: &[Y_LOG],
+            entries: Some(4),
+            calls: Some(15),
+            ..FOUND
+        }),
     },
-    // Two paths, one of them twice.
     Case {
-        only: &[b"src/m.c", b"a.c", b"src/m.c"],
-        files: &[(b"a.c", TextState::Set), (b"src/m.c", TextState::Set)],
-        directories: 2,
-        entries: 3,
-        faults: &[],
-        left: &[],
-        calls: 17,
+        name: "two paths, one of them twice",
+        asked: Asked {
+            only: &[b"src/m.c", b"a.c", b"src/m.c"],
+            ..NARROWED
+        },
+        wanted: Ok(Found {
+            rows: TWO_FILES,
+            directories: 2,
+            files: &[A_C, M_C],
+            entries: Some(3),
+            calls: Some(17),
+            ..FOUND
+        }),
     },
-    // Absent paths, one of them twice: below a file, with the beginning of a name, in directories.
     Case {
-        only: &[b"src/deep/none", b"sr", b"a.c/b", b"none/x", b"sr"],
-        files: &[],
-        directories: 3,
-        entries: 2,
-        faults: &[
-            (b"a.c/b", FaultWord::Absent),
-            (b"none/x", FaultWord::Absent),
-            (b"sr", FaultWord::Absent),
-            (b"src/deep/none", FaultWord::Absent),
-        ],
-        left: &[],
-        calls: 12,
+        name: "absent paths, one of them twice: below a file, with the beginning of a name, in directories",
+        asked: Asked {
+            only: &[b"src/deep/none", b"sr", b"a.c/b", b"none/x", b"sr"],
+            ..NARROWED
+        },
+        wanted: Ok(Found {
+            directories: 3,
+            faults: &[
+                (b"a.c/b", ABSENT),
+                (b"none/x", ABSENT),
+                (b"sr", ABSENT),
+                (b"src/deep/none", ABSENT),
+            ],
+            entries: Some(2),
+            calls: Some(12),
+            ..FOUND
+        }),
     },
-    // A directory, and an absent path in it.
     Case {
-        only: &[b"src/deep", b"src/deep/none"],
-        files: &[(b"src/deep/x.c", TextState::Set)],
-        directories: 3,
-        entries: 4,
-        faults: &[(b"src/deep/none", FaultWord::Absent)],
-        left: &[Y_LOG],
-        calls: 15,
+        name: "a directory, and an absent path in it",
+        asked: Asked {
+            only: &[b"src/deep", b"src/deep/none"],
+            ..NARROWED
+        },
+        wanted: Ok(Found {
+            rows: ONE_FILE,
+            directories: 3,
+            faults: &[(b"src/deep/none", ABSENT)],
+            files: &[X_C],
+            left: &[Y_LOG],
+            entries: Some(4),
+            calls: Some(15),
+        }),
     },
-    // A file that is ignored, and one below a directory that is.
     Case {
-        only: &[b"src/deep/y.log", b"src/gen/g"],
-        files: &[],
-        directories: 3,
-        entries: 4,
-        faults: &[],
-        left: &[Y_LOG, GEN],
-        calls: 12,
+        name: "a file that is ignored, and one below a directory that is",
+        asked: Asked {
+            only: &[b"src/deep/y.log", b"src/gen/g"],
+            ..NARROWED
+        },
+        wanted: Ok(Found {
+            directories: 3,
+            left: &[Y_LOG, GEN],
+            entries: Some(4),
+            calls: Some(12),
+            ..FOUND
+        }),
     },
-    // A file that can't be read.
     Case {
-        only: &[b"src/b.c"],
-        files: &[],
-        directories: 2,
-        entries: 2,
-        faults: &[(b"src/b.c", FaultWord::Read)],
-        left: &[],
-        calls: 14,
+        name: "a file that can't be read",
+        asked: Asked {
+            only: &[b"src/b.c"],
+            ..NARROWED
+        },
+        wanted: Ok(Found {
+            directories: 2,
+            faults: &[B_C],
+            entries: Some(2),
+            calls: Some(14),
+            ..FOUND
+        }),
     },
 ];
 
-fn has_files(report: &Report, wanted: &[(&[u8], TextState)]) -> bool {
-    for (file, (path, text)) in report.files.iter().zip(wanted) {
-        if file.path.as_slice() != *path || file.text != *text {
-            return false;
-        }
-    }
-    report.files.len() == wanted.len()
-}
-
-fn has_told(report: &Report, case: &Case) -> bool {
-    has_files(report, case.files)
-        && report.directories == case.directories
-        && report.entries == case.entries
-        && has_faults(&report.faults, case.faults)
-        && has_lines(&report.left, case.left)
-}
-
-/// The walk of these paths finds this, by each number of workers.
-fn check_case<B: Shared<Job, Row>, R: Threads + Wait + Sync + Abort>(
-    rt: &R,
-    alloc: Global,
-    tree: &MemTree,
-    case: &Case,
-) -> Result<(), AllocError> {
-    for threads in [1, 2, 16] {
-        let options = Options {
-            threads,
-            max_dirs: 5,
-            lists: Lists {
-                files: true,
-                left_out: true,
-            },
-            exclude: None,
-            archive: false,
-            without: &[],
-            only: case.only,
-        };
-        let call = FailingCall::new(u64::MAX);
-        let tree = FailingTree { tree, call: &call };
-        let answer = walk_on::<B, FailingTree<MemTree>, R>(rt, alloc, &tree, &options);
-        let report = report_of(rt, answer)?;
-        assert!(rt; has_told(&report, case), "{report:?}");
-        assert!(rt; call.begun() == case.calls, "{}", call.begun());
-    }
-    Ok(())
-}
-
 #[test]
 fn only_what_leads_to_a_path_is_read(rt: HostRuntime) -> Result<(), Fail> {
-    let node = TREE.node(rt.alloc())?;
-    let tree = MemTree::new(&node);
-    for case in CASES {
-        check_case::<Words<Job, Row>, HostRuntime>(&rt, rt.alloc(), &tree, case)?;
-        check_case::<Locked<Job, Row>, HostRuntime>(&rt, rt.alloc(), &tree, case)?;
-    }
+    check(&rt, rt.alloc(), CASES)?;
     Ok(())
 }

@@ -1,84 +1,110 @@
 //! Walks over boards that only tests have.
-ghost use Rattle.std.specs.Prelude.{◌≤◌};
-ghost use Rattle.lc_board.specs.Limits.{workers_limit};
+ghost use Rattle.lc_walk.specs.WalkOptions.{AreWithinLimits};
 
-use crate::walk::boards::{Crowded, Slow};
-use crate::walk::drawn::{draw_tree, walk_drawn};
-use crate::walk::walked::{FOUND, Found, NONE, Wanted, check_on, walk_options};
-use lc_board::{Locked, Shared, Words};
+use crate::walk::boards::Odd;
+use crate::walk::drawn::draw_tree;
+use crate::walk::told::{FOUND, Found, NONE};
+use crate::walk::walked::{ASKED, Asked, Board, Case, check_answer, walk_options};
+use lc_board::{Locked, Words};
 use lc_census::Eol;
 use lc_level::Job;
 use lc_tree::{MemTree, Sketch};
-use lc_walk::{Row, WalkFault};
+use lc_walk::{Options, Report, Row, WalkFault, walk_on};
 use std::alloc::{AllocError, Global};
 use std::process::Abort;
 use std::sync::Wait;
 use std::test::Fail;
 use std::thread::Threads;
 
-/// The name of a walk, its tree, and what it finds.
-type Case<'a> = (&'a str, Sketch<'a>, Wanted<'a>);
+/// The walk of a tree over such a board over one of the two.
+fn walk_oddly<R: Threads + Wait + Sync>(
+    rt: &R,
+    alloc: Global,
+    board: Board,
+    tree: &MemTree,
+    options: &Options<'_>,
+) -> Result<Report, WalkFault>
+    requires { AreWithinLimits options.now }
+{
+    match board {
+        Board::Words => walk_on::<Odd<Words<Job, Row>>, MemTree, R>(rt, alloc, tree, options),
+        Board::Locked => walk_on::<Odd<Locked<Job, Row>>, MemTree, R>(rt, alloc, tree, options),
+    }
+}
+
+/// Over each board, by one worker and by four.
+const RUNS: &[(Board, u32)] = &[
+    (Board::Words, 1),
+    (Board::Words, 4),
+    (Board::Locked, 1),
+    (Board::Locked, 4),
+];
+
+/// What is asked of a board that has room for the root alone.
+const CROWDED: Asked = Asked {
+    max_dirs: 3,
+    ..ASKED
+};
 
 const CASES: &[Case] = &[
-    (
-        "the top alone",
-        Sketch::Dir(&[(b"a", Sketch::File(b"q"))]),
-        Ok(Found {
+    Case {
+        name: "the top alone",
+        asked: Asked {
+            tree: Sketch::Dir(&[(b"a", Sketch::File(b"q"))]),
+            ..CROWDED
+        },
+        wanted: Ok(Found {
             rows: &[(None, NONE, Eol::NoEnd, [1, 1, 0, 1])],
             ..FOUND
         }),
-    ),
-    (
-        "one more",
-        Sketch::Dir(&[(b"s", Sketch::Dir(&[]))]),
-        Err(WalkFault::TooManyDirs),
-    ),
+    },
+    Case {
+        name: "one more",
+        asked: Asked {
+            tree: Sketch::Dir(&[(b"s", Sketch::Dir(&[]))]),
+            ..CROWDED
+        },
+        wanted: Err(WalkFault::TooManyDirs),
+    },
 ];
 
-fn check_crowded<B: Shared<Job, Row>, R: Threads + Wait + Sync + Abort>(
+fn check_crowded<R: Threads + Wait + Sync + Abort>(
     rt: &R,
     alloc: Global,
-    threads: u32,
-) -> Result<(), AllocError>
-    requires { (1 ≤ threads) × (threads ≤ workers_limit) }
-{
-    let options = walk_options(threads, 100);
-    for (name, sketch, wanted) in CASES {
-        let node = sketch.node(alloc)?;
-        check_on::<B, MemTree, R>(rt, alloc, &MemTree::new(&node), &options, name, *wanted)?;
+    case: &Case,
+) -> Result<(), AllocError> {
+    let node = case.asked.tree.node(alloc)?;
+    let tree = MemTree::new(&node);
+    for (board, threads) in RUNS {
+        let options = walk_options(rt, *threads, case.asked.max_dirs);
+        check_answer(rt, case, walk_oddly(rt, alloc, *board, &tree, &options), 0)?;
     }
     Ok(())
 }
 
-fn check_crowds<B: Shared<Job, Row>, R: Threads + Wait + Sync + Abort>(
-    rt: &R,
-    alloc: Global,
-) -> Result<(), AllocError> {
-    check_crowded::<B, R>(rt, alloc, 1)?;
-    check_crowded::<B, R>(rt, alloc, 4)
-}
-
 #[test]
 fn a_board_that_is_full_from_the_start(rt: HostRuntime) -> Result<(), Fail> {
-    check_crowds::<Crowded<Words<Job, Row>>, HostRuntime>(&rt, rt.alloc())?;
-    check_crowds::<Crowded<Locked<Job, Row>>, HostRuntime>(&rt, rt.alloc())?;
+    for case in CASES {
+        check_crowded(&rt, rt.alloc(), case)?;
+    }
     Ok(())
 }
 
-/// A drawn tree is walked by one worker and by four.
-fn check_slow<B: Shared<Job, Row>, R: Threads + Wait + Sync + Abort>(
-    rt: &R,
-    alloc: Global,
-) -> Result<(), AllocError> {
-    let drawn = draw_tree(alloc, 31, 100)?;
-    walk_drawn::<B, R>(rt, alloc, &drawn, 1)?;
-    walk_drawn::<B, R>(rt, alloc, &drawn, 4)?;
+const DIRECTORIES: u32 = 100;
+
+/// Walks of a drawn tree, with room for just its directories.
+fn check_slow<R: Threads + Wait + Sync + Abort>(rt: &R, alloc: Global) -> Result<(), AllocError> {
+    let drawn = draw_tree(alloc, 31, DIRECTORIES)?;
+    let tree = MemTree::new(&drawn.top);
+    for (board, threads) in RUNS {
+        let options = drawn.options(rt, *threads, 2 * DIRECTORIES);
+        drawn.report_of(rt, walk_oddly(rt, alloc, *board, &tree, &options))?;
+    }
     Ok(())
 }
 
 #[test]
 fn a_board_that_puts_claims_off(rt: HostRuntime) -> Result<(), Fail> {
-    check_slow::<Slow<Words<Job, Row>>, HostRuntime>(&rt, rt.alloc())?;
-    check_slow::<Slow<Locked<Job, Row>>, HostRuntime>(&rt, rt.alloc())?;
+    check_slow(&rt, rt.alloc())?;
     Ok(())
 }

@@ -1,18 +1,56 @@
 //! The rows that one worker gives, over both shared boards.
-ghost use Rattle.std.specs.Prelude.{◌≡◌, None, IfOk, OnOk, length, vec_len};
+ghost use Rattle.std.specs.Prelude.{◌≡◌, None, IfOk, OnOk};
 ghost use Rattle.lc_board.specs.Pass.{holding, new_pass};
 
-use crate::walk::walked::walk_options;
+use crate::walk::walked::{Board, walk_options};
+use crate::walk::walks::LINE;
 use lc_board::{Claim, CloseFault, Closed, Ended, Locked, Shared, Words};
 use lc_level::{FaultSite, FaultWord, Job, Kept, LevelReader, Scratch, Selection};
-use lc_tree::{MemTree, Sketch, Tree};
+use lc_tree::{MemTree, Sketch};
 use lc_walk::{
-    BrokenRow, End, GivenUp, Lists, Row, ServedJob, Tally, WalkFault, Worked, Worker, assemble,
+    BrokenRow, End, GivenUp, Lists, Options, Row, ServedJob, Tally, WalkFault, Worked, Worker,
+    assemble,
 };
 use std::alloc::{AllocError, Global};
 use std::process::Abort;
 use std::sync::Wait;
 use std::test::Fail;
+
+/// What a row says, but for names.
+#[derive(Clone, Copy, Debug, Drop, PartialEq, Eq)]
+enum Said {
+    /// How many files and child directories it has.
+    Listed(usize, usize),
+    Faulted(FaultSite, FaultWord),
+    Broken(GivenUp),
+    /// It was given as no such row is.
+    Amiss,
+}
+
+impl Said {
+    fn by(row: &Ended<Row>) -> Said {
+        match row {
+            Ended::Returned(Row::Listed(row)) => {
+                Said::Listed(row.files().len(), row.children().len())
+            }
+            Ended::Faulted(Row::Faulted(row)) => Said::Faulted(row.site, row.word),
+            Ended::Returned(Row::Broken(row)) => Said::Broken(row.cause),
+            _ => Said::Amiss,
+        }
+    }
+}
+
+/// A tree whose top one worker serves, or was given up after a post of its last child; what the rows say, by their numbers; the order
+/// in which the worker claims them over `Words` and over `Locked`; and the files, entries and lines of what is left out of the report.
+struct Case<'a> {
+    name: &'a str,
+    tree: Sketch<'a>,
+    is_broken: bool,
+    rows: &'a [Said],
+    words: &'a [usize],
+    locked: &'a [usize],
+    report: Result<(u64, u64, usize), WalkFault>,
+}
 
 /// A board of four numbers for one worker, and its pass.
 fn start_one<B: Shared<Job, Row>>(alloc: Global) -> Result<(B, B::Pass), AllocError>
@@ -45,112 +83,8 @@ fn close_one<B: Shared<Job, Row>>(
     }
 }
 
-/// What a row says, but for names.
-#[derive(Clone, Copy, Debug, Drop, PartialEq, Eq)]
-enum Said {
-    /// How many files and child directories it has.
-    Listed(usize, usize),
-    Faulted(FaultSite, FaultWord),
-    Broken(GivenUp),
-    /// It was given as no such row is.
-    Amiss,
-}
-
-impl Said {
-    fn by(row: &Ended<Row>) -> Said {
-        match row {
-            Ended::Returned(Row::Listed(row)) => {
-                Said::Listed(row.files().len(), row.children().len())
-            }
-            Ended::Faulted(Row::Faulted(row)) => Said::Faulted(row.site, row.word),
-            Ended::Returned(Row::Broken(row)) => Said::Broken(row.cause),
-            _ => Said::Amiss,
-        }
-    }
-}
-
-/// A row says this, or that memory was refused.
-fn check_row(rt: &impl Abort, row: &Ended<Row>, wanted: Said) -> Result<(), AllocError> {
-    let said = Said::by(row);
-    if said == Said::Broken(GivenUp::Memory) && said != wanted {
-        return Err(AllocError);
-    }
-    assert!(rt; said == wanted);
-    Ok(())
-}
-
-/// The rows of the board of one worker say this.
-fn check_rows<B: Shared<Job, Row>>(
-    rt: &impl Abort,
-    alloc: Global,
-    board: B,
-    pass: B::Pass,
-    wanted: &[Said],
-) -> Result<Closed<Row>, AllocError>
-    requires workers { B.workers_of board ≡ 1 }
-    requires pass { B.owns board pass × ((B.Pass.view pass).worker ≡ 0) }
-    ensures { IfOk result (λ c. vec_len c.rows ≡ length wanted.now) }
-{
-    let closed = close_one(rt, alloc, board, pass)?;
-    for (row, wanted) in closed.rows.iter().zip(wanted) {
-        check_row(rt, row, *wanted)?;
-    }
-    assert!(rt; closed.rows.len() == wanted.len());
-    Ok(closed)
-}
-
-const LINE: Sketch = Sketch::File(b"x\n");
-
-const LONG: [u8; 4097] = [b'a'; 4097];
-
-const EACH_KIND: Sketch = Sketch::Dir(&[
-    (b"closed", Sketch::Closed),
-    (b"deep", Sketch::Dir(&[(&LONG, LINE)])),
-    (b"file", LINE),
-    (b"listed", Sketch::Dir(&[(b"a", LINE), (b"b", LINE)])),
-]);
-
-fn check_each_kind<B: Shared<Job, Row>, R: Wait + Abort>(
-    rt: &R,
-    alloc: Global,
-) -> Result<(), AllocError> {
-    let node = EACH_KIND.node(alloc)?;
-    let (board, pass) = start_one::<B>(alloc)?;
-    let tree = MemTree::new(&node);
-    let mut options = walk_options(1, 4);
-    options.lists.files = true;
-    let worker = Worker {
-        rt,
-        alloc,
-        board: &board,
-        tree: &tree,
-        options: &options,
-    };
-    let Worked { pass, end, .. } = worker.run(pass);
-    if end == End::Memory {
-        return Err(AllocError);
-    }
-    let wanted = [
-        Said::Listed(1, 3),
-        Said::Faulted(FaultSite::Directory, FaultWord::Read),
-        Said::Broken(GivenUp::TooDeep),
-        Said::Listed(2, 0),
-    ];
-    check_rows(rt, alloc, board, pass, &wanted)?;
-    Ok(())
-}
-
-#[test]
-fn a_row_of_each_kind(rt: HostRuntime) -> Result<(), Fail> {
-    check_each_kind::<Words<Job, Row>, HostRuntime>(&rt, rt.alloc())?;
-    check_each_kind::<Locked<Job, Row>, HostRuntime>(&rt, rt.alloc())?;
-    Ok(())
-}
-
-const ONE_IN_THE_OTHER: Sketch = Sketch::Dir(&[(b"d", Sketch::Dir(&[(b"e", Sketch::Dir(&[]))]))]);
-
 /// The last child directory of a job's.
-fn last_child<T: Tree>(alloc: Global, tree: &T, job: &Job) -> Result<Job, AllocError> {
+fn last_child(alloc: Global, tree: &MemTree, job: &Job) -> Result<Job, AllocError> {
     let kept = Kept {
         left_out: false,
         texts: false,
@@ -166,13 +100,14 @@ fn last_child<T: Tree>(alloc: Global, tree: &T, job: &Job) -> Result<Job, AllocE
     }
 }
 
-/// Posts a child of the top, and then gives the top up as where memory is refused.
-fn break_top<B: Shared<Job, Row>, T: Tree, W: Wait>(
+/// Posts a child of the top, and then gives the top up as where memory is refused, if it is to be broken.
+fn begin<B: Shared<Job, Row>, W: Wait>(
     rt: &W,
     alloc: Global,
     board: &B,
     pass: &mut B::Pass,
-    tree: &T,
+    tree: &MemTree,
+    is_broken: bool,
 ) -> Result<(), AllocError>
     requires pass { B.owns board.now pass.old }
     requires free { holding (B.Pass.view pass.old) ≡ None }
@@ -180,6 +115,9 @@ fn break_top<B: Shared<Job, Row>, T: Tree, W: Wait>(
     ensures free { OnOk result (holding (B.Pass.view pass.new) ≡ None) }
     ensures worker { OnOk result ((B.Pass.view pass.new).worker ≡ (B.Pass.view pass.old).worker) }
 {
+    if !is_broken {
+        return Ok(());
+    }
     let Claim::Got(_, job) = board.claim(rt, pass) else {
         return Err(AllocError);
     };
@@ -192,48 +130,57 @@ fn break_top<B: Shared<Job, Row>, T: Tree, W: Wait>(
     Ok(())
 }
 
-fn check_broken_top<B: Shared<Job, Row>, R: Wait + Abort>(
+/// What one worker leaves: its rows, and its tally where memory was not refused.
+type Left = (Closed<Row>, Option<Tally>);
+
+/// What one worker leaves of a tree on a board of this type.
+fn work<B: Shared<Job, Row>, R: Wait + Abort>(
     rt: &R,
     alloc: Global,
-) -> Result<(), AllocError> {
-    let node = ONE_IN_THE_OTHER.node(alloc)?;
+    case: &Case,
+    options: &Options<'_>,
+) -> Result<Left, AllocError> {
+    let node = case.tree.node(alloc)?;
     let tree = MemTree::new(&node);
     let (board, mut pass) = start_one::<B>(alloc)?;
-    break_top(rt, alloc, &board, &mut pass, &tree)?;
-    let options = walk_options(1, 4);
+    begin(rt, alloc, &board, &mut pass, &tree, case.is_broken)?;
     let worker = Worker {
         rt,
         alloc,
         board: &board,
         tree: &tree,
-        options: &options,
+        options,
     };
     let Worked { pass, end, tally } = worker.run(pass);
     if end == End::Memory {
         return Err(AllocError);
     }
-    let wanted = [
-        Said::Broken(GivenUp::Memory),
-        Said::Listed(0, 1),
-        Said::Listed(0, 0),
-    ];
-    let closed = check_rows(rt, alloc, board, pass, &wanted)?;
-    let Some(tally) = tally else {
-        return Err(AllocError);
-    };
-    match assemble(alloc, closed, options.lists, tally) {
-        Ok(report) => assert!(rt; false, "{report:?}"),
-        Err(fault) => assert!(rt; fault == WalkFault::Memory),
-    }
-    Ok(())
+    Ok((close_one(rt, alloc, board, pass)?, tally))
 }
 
-#[test]
-fn a_row_that_was_refused_memory_after_a_post(rt: HostRuntime) -> Result<(), Fail> {
-    check_broken_top::<Words<Job, Row>, HostRuntime>(&rt, rt.alloc())?;
-    check_broken_top::<Locked<Job, Row>, HostRuntime>(&rt, rt.alloc())?;
-    Ok(())
+fn work_over<R: Wait + Abort>(
+    rt: &R,
+    alloc: Global,
+    board: Board,
+    case: &Case,
+    options: &Options<'_>,
+) -> Result<Left, AllocError> {
+    match board {
+        Board::Words => work::<Words<Job, Row>, R>(rt, alloc, case, options),
+        Board::Locked => work::<Locked<Job, Row>, R>(rt, alloc, case, options),
+    }
 }
+
+const LONG: [u8; 4097] = [b'a'; 4097];
+
+const EACH_KIND: Sketch = Sketch::Dir(&[
+    (b"closed", Sketch::Closed),
+    (b"deep", Sketch::Dir(&[(&LONG, LINE)])),
+    (b"file", LINE),
+    (b"listed", Sketch::Dir(&[(b"a", LINE), (b"b", LINE)])),
+]);
+
+const ONE_IN_THE_OTHER: Sketch = Sketch::Dir(&[(b"d", Sketch::Dir(&[(b"e", Sketch::Dir(&[]))]))]);
 
 const TWO_BELOW: Sketch = Sketch::Dir(&[
     (b"a", LINE),
@@ -241,8 +188,44 @@ const TWO_BELOW: Sketch = Sketch::Dir(&[
     (b"e", Sketch::Dir(&[(b"c", LINE), (b"l", Sketch::Other)])),
 ]);
 
-/// Its rows where there is memory.
-const OF_TWO_BELOW: [Said; 3] = [Said::Listed(1, 2), Said::Listed(1, 0), Said::Listed(1, 0)];
+const CASES: &[Case] = &[
+    Case {
+        name: "a row of each kind",
+        tree: EACH_KIND,
+        is_broken: false,
+        rows: &[
+            Said::Listed(1, 3),
+            Said::Faulted(FaultSite::Directory, FaultWord::Read),
+            Said::Broken(GivenUp::TooDeep),
+            Said::Listed(2, 0),
+        ],
+        words: &[0, 3, 2, 1],
+        locked: &[0, 1, 2, 3],
+        report: Err(WalkFault::TooDeep),
+    },
+    Case {
+        name: "a row that was refused memory after a post",
+        tree: ONE_IN_THE_OTHER,
+        is_broken: true,
+        rows: &[
+            Said::Broken(GivenUp::Memory),
+            Said::Listed(0, 1),
+            Said::Listed(0, 0),
+        ],
+        words: &[0, 1, 2],
+        locked: &[0, 1, 2],
+        report: Err(WalkFault::Memory),
+    },
+    Case {
+        name: "two directories below the top",
+        tree: TWO_BELOW,
+        is_broken: false,
+        rows: &[Said::Listed(1, 2), Said::Listed(1, 0), Said::Listed(1, 0)],
+        words: &[0, 2, 1],
+        locked: &[0, 1, 2],
+        report: Ok((3, 6, 1)),
+    },
+];
 
 /// In this order of claims the rows of one worker say this up to the first that was refused memory, and all after it were given up for
 /// that. It answers whether one was.
@@ -254,7 +237,7 @@ fn some_refused(rt: &impl Abort, rows: &[Ended<Row>], wanted: &[Said], claims: &
             && let Some(wanted) = wanted.get(*number)
         {
             let said = Said::by(row);
-            refused = refused || said == given_up;
+            refused = refused || said == given_up && said != *wanted;
             let wanted = if refused { given_up } else { *wanted };
             assert!(rt; said == wanted, "{said:?}");
         }
@@ -262,58 +245,69 @@ fn some_refused(rt: &impl Abort, rows: &[Ended<Row>], wanted: &[Said], claims: &
     refused
 }
 
-/// Wherever memory is refused to a worker, each number that it posted has ended, so that the board closes; then there is no report.
-fn check_refused<B: Shared<Job, Row>, R: Wait + Abort>(
-    rt: &R,
+/// Both lists.
+const LISTS: Lists = Lists {
+    files: true,
+    left_out: true,
+};
+
+/// There is such a report of the rows and of their tally, and none where memory was refused.
+fn check_report(
+    rt: &impl Abort,
     alloc: Global,
-    claims: &[usize],
+    case: &Case,
+    left: Left,
+    refused: bool,
 ) -> Result<(), AllocError> {
-    let node = TWO_BELOW.node(alloc)?;
-    let (board, pass) = start_one::<B>(alloc)?;
-    let tree = MemTree::new(&node);
-    let mut options = walk_options(1, 4);
-    options.lists = Lists {
-        files: true,
-        left_out: true,
-    };
-    let worker = Worker {
-        rt,
-        alloc,
-        board: &board,
-        tree: &tree,
-        options: &options,
-    };
-    let Worked { pass, end, tally } = worker.run(pass);
-    if end == End::Memory {
-        return Err(AllocError);
-    }
-    let closed = close_one(rt, alloc, board, pass)?;
-    let refused = some_refused(rt, &closed.rows, &OF_TWO_BELOW, claims);
-    let many = closed.rows.len();
-    assert!(rt; many == 3 || refused && many < 3, "{many}");
+    let (closed, tally) = left;
+    assert!(rt; closed.rows.len() <= 4);
     let tally = match tally {
         Some(tally) => tally,
         None => Tally::new(alloc),
     };
-    match assemble(alloc, closed, options.lists, tally) {
+    let (name, wanted) = (case.name, case.report);
+    match assemble(alloc, closed, LISTS, tally) {
         Ok(report) => {
-            let accounted = report.entries == 6 && report.left.len() == 1;
-            assert!(rt;
-                !refused && report.totals.files == 3 && accounted,
-                "{report:?}"
-            );
+            let told = (report.totals.files, report.entries, report.left.len());
+            assert!(rt; !refused && wanted.ok() == Some(told), "{name}: {report:?}");
         }
         Err(fault) => {
-            assert!(rt; fault == WalkFault::Memory);
-            return Err(AllocError);
+            if fault == WalkFault::Memory && wanted.err() != Some(fault) {
+                return Err(AllocError);
+            }
+            assert!(rt; wanted.err() == Some(fault), "{name}: {fault:?}");
         }
     }
     Ok(())
 }
 
+/// Wherever memory is refused to a worker, each number that it posted has ended, so that the board closes; then there is no report.
+fn check<R: Wait + Abort>(
+    rt: &R,
+    alloc: Global,
+    board: Board,
+    case: &Case,
+) -> Result<(), AllocError> {
+    let options = Options {
+        lists: LISTS,
+        ..walk_options(rt, 1, 4)
+    };
+    let left = work_over(rt, alloc, board, case, &options)?;
+    let claims = match board {
+        Board::Words => case.words,
+        Board::Locked => case.locked,
+    };
+    let refused = some_refused(rt, &left.0.rows, case.rows, claims);
+    let (many, all) = (left.0.rows.len(), case.rows.len());
+    assert!(rt; many == all || refused && many < all, "{many}");
+    check_report(rt, alloc, case, left, refused)
+}
+
 #[test]
-fn a_worker_that_may_be_refused_memory(rt: HostRuntime) -> Result<(), Fail> {
-    check_refused::<Words<Job, Row>, HostRuntime>(&rt, rt.alloc(), &[0, 2, 1])?;
-    check_refused::<Locked<Job, Row>, HostRuntime>(&rt, rt.alloc(), &[0, 1, 2])?;
+fn rows_of_one_worker(rt: HostRuntime) -> Result<(), Fail> {
+    for case in CASES {
+        check(&rt, rt.alloc(), Board::Words, case)?;
+        check(&rt, rt.alloc(), Board::Locked, case)?;
+    }
     Ok(())
 }

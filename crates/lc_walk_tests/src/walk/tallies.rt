@@ -1,151 +1,156 @@
-//! The sums of tallies.
+//! The rows of tallies: their keys, their order and their sums.
 
+use crate::walk::told::{NONE, Sum, has_rows};
 use lc_census::{Count, Eol};
 use lc_rules::TextState;
-use lc_walk::{Sums, Tally, TallyRow};
+use lc_walk::{Sums, Tally};
 use std::alloc::{AllocError, Global};
 use std::process::Abort;
 use std::test::Fail;
 
-fn add(
-    rt: &impl Abort,
-    tally: &mut Tally,
-    ext: Option<&[u8]>,
-    text: TextState,
-    count: Count,
-) -> Result<(), AllocError> {
-    assert!(rt; tally.totals().files < 9);
-    tally.add(ext, text, count)
-}
-
-/// Adds a file of one line of one byte.
-pub(super) fn put(
-    rt: &impl Abort,
-    tally: &mut Tally,
-    ext: Option<&[u8]>,
-    text: TextState,
-    eol: Eol,
-) -> Result<(), AllocError> {
-    let count = Count {
-        lines: 1,
-        blank: 0,
-        bytes: 1,
-        eol,
-    };
-    add(rt, tally, ext, text, count)
-}
-
-/// The extension of a file, and its count.
-type File<'a> = (&'a [u8], Count);
-
-fn tally_of(rt: &impl Abort, alloc: Global, files: &[File]) -> Result<Tally, AllocError> {
+/// The tally of files, each written as a row of it alone, which are added from the last to the first.
+pub(super) fn tally_of(rt: &impl Abort, alloc: Global, files: &[Sum]) -> Result<Tally, AllocError> {
     let mut tally = Tally::new(alloc);
-    for (ext, count) in files {
-        add(rt, &mut tally, Some(ext), TextState::Set, *count)?;
+    for file in files.iter().rev() {
+        assert!(rt; tally.totals().files < 9);
+        let (ext, text, eol, [_, lines, blank, bytes]) = *file;
+        let count = Count {
+            lines,
+            blank,
+            bytes,
+            eol,
+        };
+        tally.add(ext, text, count)?;
     }
     Ok(tally)
 }
 
-fn is_row(row: &TallyRow, sums: Sums) -> bool {
-    row.files == sums.files
-        && row.lines == sums.lines
-        && row.blank == sums.blank
-        && row.bytes == sums.bytes
+/// The files of a tally, those of one that is merged with it, its rows and its totals.
+struct Case<'a> {
+    name: &'a str,
+    files: &'a [Sum<'a>],
+    others: Option<&'a [Sum<'a>]>,
+    rows: &'a [Sum<'a>],
+    totals: [u64; 4],
 }
 
-fn has_rows(rows: &[TallyRow], wanted: &[Sums]) -> bool {
-    for (row, sums) in rows.iter().zip(wanted) {
-        if !is_row(row, *sums) {
-            return false;
-        }
-    }
-    rows.len() == wanted.len()
+fn is_totals(sums: Sums, wanted: [u64; 4]) -> bool {
+    let [files, lines, blank, bytes] = wanted;
+    sums.files == files
+        && sums.lines == u128::from(lines)
+        && sums.blank == u128::from(blank)
+        && sums.bytes == u128::from(bytes)
 }
 
-/// A tally has rows of these sums, and these totals.
-fn check(rt: &impl Abort, tally: &Tally, rows: &[Sums], totals: Sums) -> Result<(), AllocError> {
-    let own = tally.rows()?;
+fn merged(
+    rt: &impl Abort,
+    alloc: Global,
+    files: &[Sum],
+    others: Option<&[Sum]>,
+) -> Result<Tally, AllocError> {
+    let tally = tally_of(rt, alloc, files)?;
+    let Some(others) = others else {
+        return Ok(tally);
+    };
+    let other = tally_of(rt, alloc, others)?;
+    assert!(rt; tally.totals().files < 9 && other.totals().files < 9);
+    tally.merge(other)
+}
+
+/// A file of one line of one byte.
+const ONE: [u64; 4] = [1, 1, 0, 1];
+
+const EXTENSIONS: &[Sum] = &[
+    (None, NONE, Eol::Nul, ONE),
+    (Some(b"b"), NONE, Eol::Nul, ONE),
+    (Some(b"c"), TextState::Unset, Eol::Mixed, ONE),
+    (Some(b"ca"), TextState::Set, Eol::NoEnd, ONE),
+    (Some(b"\xFF"), TextState::Set, Eol::NoEnd, ONE),
+];
+
+const TEXT_STATES: &[Sum] = &[
+    (Some(b"c"), TextState::Set, Eol::Nul, ONE),
+    (Some(b"c"), TextState::Unset, Eol::Mixed, ONE),
+    (Some(b"c"), TextState::Auto, Eol::Cr, ONE),
+    (Some(b"c"), TextState::Other, Eol::Lf, ONE),
+    (Some(b"c"), NONE, Eol::NoEnd, ONE),
+];
+
+const CLASSES: &[Sum] = &[
+    (None, TextState::Auto, Eol::NoEnd, ONE),
+    (None, TextState::Auto, Eol::Lf, ONE),
+    (None, TextState::Auto, Eol::CrLf, ONE),
+    (None, TextState::Auto, Eol::Cr, ONE),
+    (None, TextState::Auto, Eol::Mixed, ONE),
+    (None, TextState::Auto, Eol::Nul, ONE),
+];
+
+/// A row of this extension.
+macro_rules! set {
+    ($ext:literal, $sums:expr) => {
+        (Some($ext), TextState::Set, Eol::Lf, $sums)
+    };
+}
+
+const CASES: &[Case] = &[
+    Case {
+        name: "no extension before extensions by their bytes",
+        files: EXTENSIONS,
+        others: None,
+        rows: EXTENSIONS,
+        totals: [5, 5, 0, 5],
+    },
+    Case {
+        name: "text states of one extension",
+        files: TEXT_STATES,
+        others: None,
+        rows: TEXT_STATES,
+        totals: [5, 5, 0, 5],
+    },
+    Case {
+        name: "classes of one extension and text state",
+        files: CLASSES,
+        others: None,
+        rows: CLASSES,
+        totals: [6, 6, 0, 6],
+    },
+    Case {
+        name: "two files merged with one are one row",
+        files: &[set!(b"c", [1, 1, 0, 2]), set!(b"c", [1, 1, 0, 2])],
+        others: Some(&[set!(b"c", [1, 2, 1, 5])]),
+        rows: &[set!(b"c", [3, 4, 1, 9])],
+        totals: [3, 4, 1, 9],
+    },
+    Case {
+        name: "rows of both are kept",
+        files: &[set!(b"c", [1, 1, 0, 2])],
+        others: Some(&[set!(b"b", [1, 1, 0, 2])]),
+        rows: &[set!(b"b", [1, 1, 0, 2]), set!(b"c", [1, 1, 0, 2])],
+        totals: [2, 2, 0, 4],
+    },
+    Case {
+        name: "no files have no rows",
+        files: &[],
+        others: None,
+        rows: &[],
+        totals: [0, 0, 0, 0],
+    },
+];
+
+fn check(rt: &impl Abort, alloc: Global, case: &Case) -> Result<(), AllocError> {
+    let tally = merged(rt, alloc, case.files, case.others)?;
+    let (rows, totals, name) = (tally.rows()?, tally.totals(), case.name);
     assert!(rt;
-        has_rows(&own, rows) && tally.totals() == totals,
-        "{own:?}, {:?}",
-        tally.totals()
+        has_rows(&rows, totals.files, case.rows) && is_totals(totals, case.totals),
+        "{name}: {rows:?}, {totals:?}"
     );
     Ok(())
 }
 
-/// The tallies of some files and of others, merged, have rows of these sums, and these totals.
-fn check_merged(
-    rt: &impl Abort,
-    alloc: Global,
-    files: [&[File]; 2],
-    rows: &[Sums],
-    totals: Sums,
-) -> Result<(), AllocError> {
-    let [some, others] = files;
-    let tally = tally_of(rt, alloc, some)?;
-    let other = tally_of(rt, alloc, others)?;
-    assert!(rt; tally.totals().files < 9 && other.totals().files < 9);
-    check(rt, &tally.merge(other)?, rows, totals)
-}
-
-const SHORT: Count = Count {
-    lines: 1,
-    blank: 0,
-    bytes: 2,
-    eol: Eol::Lf,
-};
-
-const LONG: Count = Count {
-    lines: 2,
-    blank: 1,
-    bytes: 5,
-    eol: Eol::Lf,
-};
-
-const ALL_THREE: Sums = Sums {
-    files: 3,
-    lines: 4,
-    blank: 1,
-    bytes: 9,
-};
-
 #[test]
-fn two_adds_merged_with_one_are_one_row(rt: HostRuntime) -> Result<(), Fail> {
-    let files: [&[File]; 2] = [&[(b"c", SHORT), (b"c", SHORT)], &[(b"c", LONG)]];
-    check_merged(&rt, rt.alloc(), files, &[ALL_THREE], ALL_THREE)?;
-    Ok(())
-}
-
-const SHORT_ONE: Sums = Sums {
-    files: 1,
-    lines: 1,
-    blank: 0,
-    bytes: 2,
-};
-
-const BOTH: Sums = Sums {
-    files: 2,
-    lines: 2,
-    blank: 0,
-    bytes: 4,
-};
-
-#[test]
-fn rows_of_both_are_kept(rt: HostRuntime) -> Result<(), Fail> {
-    let files: [&[File]; 2] = [&[(b"c", SHORT)], &[(b"b", SHORT)]];
-    check_merged(&rt, rt.alloc(), files, &[SHORT_ONE, SHORT_ONE], BOTH)?;
-    Ok(())
-}
-
-const NONE: Sums = Sums {
-    files: 0,
-    lines: 0,
-    blank: 0,
-    bytes: 0,
-};
-
-#[test]
-fn no_files_have_no_rows(rt: HostRuntime) -> Result<(), Fail> {
-    check(&rt, &Tally::new(rt.alloc()), &[], NONE)?;
+fn rows_of_tallies(rt: HostRuntime) -> Result<(), Fail> {
+    for case in CASES {
+        check(&rt, rt.alloc(), case)?;
+    }
     Ok(())
 }

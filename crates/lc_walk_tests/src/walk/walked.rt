@@ -1,20 +1,18 @@
 //! Walks of trees of memory, over both shared boards, with 1, 2 and 16 workers.
-ghost use Rattle.std.specs.Prelude.{◌≤◌};
-ghost use Rattle.lc_board.specs.Limits.{capacity_limit, workers_limit};
+ghost use Rattle.std.specs.Prelude.{IfOk};
 ghost use Rattle.lc_walk.specs.WalkOptions.{AreWithinLimits};
 
-use lc_board::{Locked, Shared, Words};
-use lc_census::Eol;
-use lc_level::{FaultWord, Job};
-use lc_rules::{IgnoreFile, RuleFault, TextState};
-use lc_tree::{MemTree, Sketch, Tree};
-use lc_walk::{FaultLine, Lists, Options, Report, Row, TallyRow, WalkFault, walk_on};
+use crate::walk::told::{Found, has_told};
+use lc_board::Locked;
+use lc_level::Job;
+use lc_rules::{IgnoreFile, RuleFault};
+use lc_tree::trials::{FailingCall, FailingTree};
+use lc_tree::{MemTree, Node, Sketch, Tree};
+use lc_walk::{Lists, Options, Report, Row, WalkFault, walk, walk_on};
 use std::alloc::{AllocError, Global};
 use std::process::Abort;
 use std::sync::{Arc, Wait};
 use std::thread::Threads;
-
-pub(super) const NONE: TextState = TextState::Unspecified;
 
 /// Neither list.
 pub(super) const NO_LISTS: Lists = Lists {
@@ -29,6 +27,8 @@ pub(super) struct Asked<'a> {
     pub(super) exclude: Option<&'a [u8]>,
     pub(super) archive: bool,
     pub(super) without: &'a [&'a str],
+    pub(super) only: &'a [&'a [u8]],
+    pub(super) lists: Lists,
     pub(super) max_dirs: u32,
 }
 
@@ -38,38 +38,27 @@ pub(super) const ASKED: Asked = Asked {
     exclude: None,
     archive: false,
     without: &[],
+    only: &[],
+    lists: NO_LISTS,
     max_dirs: 100,
 };
 
-/// The extension, text state and line ends of a row; its files, lines, blank lines and bytes.
-pub(super) type Sum<'a> = (Option<&'a [u8]>, TextState, Eol, [u64; 4]);
-
-/// What a report has.
-#[derive(Clone, Copy)]
-pub(super) struct Found<'a> {
-    pub(super) rows: &'a [Sum<'a>],
-    pub(super) directories: u64,
-    pub(super) faults: &'a [(&'a [u8], FaultWord)],
-}
-
-/// What is found in one directory without an entry.
-pub(super) const FOUND: Found = Found {
-    rows: &[],
-    directories: 1,
-    faults: &[],
-};
-
-pub(super) type Wanted<'a> = Result<Found<'a>, WalkFault>;
+type Wanted<'a> = Result<Found<'a>, WalkFault>;
 
 /// The name of a walk, what is asked of it, and what it finds.
-pub(super) type Case<'a> = (&'a str, Asked<'a>, Wanted<'a>);
+#[derive(Clone, Copy)]
+pub(super) struct Case<'a> {
+    pub(super) name: &'a str,
+    pub(super) asked: Asked<'a>,
+    pub(super) wanted: Wanted<'a>,
+}
 
 /// A walk of the whole tree by so many workers.
-pub(super) fn walk_options(threads: u32, max_dirs: u32) -> Options<'static>
-    requires threads { (1 ≤ threads) × (threads ≤ workers_limit) }
-    requires room { (1 ≤ max_dirs) × (max_dirs ≤ capacity_limit) }
-    ensures limits { AreWithinLimits result }
+pub(super) fn walk_options(rt: &impl Abort, threads: u32, max_dirs: u32) -> Options<'static>
+    ensures { AreWithinLimits result }
 {
+    assert!(rt; 1 <= threads && threads <= 16);
+    assert!(rt; 1 <= max_dirs && max_dirs <= 1_048_576);
     Options {
         threads,
         max_dirs,
@@ -81,44 +70,78 @@ pub(super) fn walk_options(threads: u32, max_dirs: u32) -> Options<'static>
     }
 }
 
-fn is_sum(row: &TallyRow, wanted: Sum) -> bool {
-    let ext = match &row.ext {
-        Some(bytes) => Some(bytes.as_slice()),
-        None => None,
+fn exclude_file(
+    alloc: Global,
+    bytes: Option<&[u8]>,
+) -> Result<Option<Arc<IgnoreFile, Global>>, AllocError> {
+    let Some(bytes) = bytes else {
+        return Ok(None);
     };
-    let [files, lines, blank, bytes] = wanted.3;
-    ext == wanted.0
-        && row.text == wanted.1
-        && row.eol == wanted.2
-        && row.files == files
-        && row.lines == u128::from(lines)
-        && row.blank == u128::from(blank)
-        && row.bytes == u128::from(bytes)
+    match IgnoreFile::read(alloc, bytes) {
+        Ok(file) => Ok(Some(Arc::new(alloc, file)?)),
+        Err(RuleFault::Memory) => Err(AllocError),
+        Err(RuleFault::TooLong) => Ok(None),
+    }
 }
 
-fn has_rows(rows: &[TallyRow], wanted: &[Sum]) -> bool {
-    for (row, sum) in rows.iter().zip(wanted) {
-        if !is_sum(row, *sum) {
-            return false;
+impl<'a> Asked<'a> {
+    /// The same by so many workers.
+    fn options(
+        &self,
+        rt: &impl Abort,
+        alloc: Global,
+        threads: u32,
+    ) -> Result<Options<'a>, AllocError>
+        ensures { IfOk result (λ options. AreWithinLimits options) }
+    {
+        let exclude = exclude_file(alloc, self.exclude)?;
+        Ok(Options {
+            lists: self.lists,
+            exclude,
+            archive: self.archive,
+            without: self.without,
+            only: self.only,
+            ..walk_options(rt, threads, self.max_dirs)
+        })
+    }
+}
+
+/// A board over which walks are tried.
+#[derive(Clone, Copy, Debug)]
+pub(super) enum Board {
+    Words,
+    Locked,
+}
+
+impl Board {
+    /// The walk of a tree over it.
+    pub(super) fn walk<T: Tree, R: Threads + Wait + Sync>(
+        self,
+        rt: &R,
+        alloc: Global,
+        tree: &T,
+        options: &Options<'_>,
+    ) -> Result<Report, WalkFault>
+        requires { AreWithinLimits options.now }
+    {
+        match self {
+            Board::Words => walk(rt, alloc, tree, options),
+            Board::Locked => walk_on::<Locked<Job, Row>, T, R>(rt, alloc, tree, options),
         }
     }
-    rows.len() == wanted.len()
 }
 
-pub(super) fn has_faults(faults: &[FaultLine], wanted: &[(&[u8], FaultWord)]) -> bool {
-    for (fault, (path, word)) in faults.iter().zip(wanted) {
-        if fault.path.as_slice() != *path || fault.word != *word {
-            return false;
-        }
-    }
-    faults.len() == wanted.len()
-}
+pub(super) const BOARDS: &[Board] = &[Board::Words, Board::Locked];
 
-pub(super) fn has_found(report: &Report, wanted: Found) -> bool {
-    report.directories == wanted.directories
-        && has_rows(&report.rows, wanted.rows)
-        && has_faults(&report.faults, wanted.faults)
-}
+/// Over each board, by each number of workers.
+const RUNS: &[(Board, u32)] = &[
+    (Board::Words, 1),
+    (Board::Locked, 1),
+    (Board::Words, 2),
+    (Board::Locked, 2),
+    (Board::Words, 16),
+    (Board::Locked, 16),
+];
 
 /// The report of a walk that nothing can stop but a refusal of memory.
 pub(super) fn report_of(
@@ -134,76 +157,64 @@ pub(super) fn report_of(
     }
 }
 
-/// The walk of the tree finds this.
-pub(super) fn check_on<B: Shared<Job, Row>, T: Tree, R: Threads + Wait + Sync + Abort>(
-    rt: &R,
-    alloc: Global,
-    tree: &T,
-    options: &Options<'_>,
-    name: &str,
-    wanted: Wanted,
-) -> Result<(), AllocError>
-    requires { AreWithinLimits options.now }
-{
-    match (walk_on::<B, T, R>(rt, alloc, tree, options), wanted) {
-        (Err(WalkFault::Memory), _) => return Err(AllocError),
-        (Ok(report), Ok(found)) => assert!(rt; has_found(&report, found), "{name}: {report:?}"),
-        (Ok(_), Err(fault)) => assert!(rt; false, "{name}: no {fault:?}"),
-        (Err(fault), wanted) => assert!(rt; wanted.err() == Some(fault), "{name}: {fault:?}"),
-    }
-    Ok(())
-}
-
-pub(super) fn exclude_file(
-    alloc: Global,
-    bytes: Option<&[u8]>,
-) -> Result<Option<Arc<IgnoreFile, Global>>, AllocError> {
-    let Some(bytes) = bytes else {
-        return Ok(None);
-    };
-    match IgnoreFile::read(alloc, bytes) {
-        Ok(file) => Ok(Some(Arc::new(alloc, file)?)),
-        Err(RuleFault::Memory) => Err(AllocError),
-        Err(RuleFault::TooLong) => Ok(None),
+fn is_answer(answer: &Result<Report, WalkFault>, wanted: Wanted, calls: u64) -> bool {
+    match (answer, wanted) {
+        (Ok(report), Ok(found)) => {
+            has_told(report, found) && found.calls.unwrap_or(calls) == calls
+        }
+        (Err(fault), Err(wanted)) => *fault == wanted,
+        _ => false,
     }
 }
 
-/// The walk of the tree finds this, over each board and with each number of workers.
-fn check_case<R: Threads + Wait + Sync + Abort>(
-    rt: &R,
-    alloc: Global,
-    name: &str,
-    asked: Asked,
-    wanted: Wanted,
+/// A walk that asked its tree so often answers as its case says.
+pub(super) fn check_answer(
+    rt: &impl Abort,
+    case: &Case,
+    answer: Result<Report, WalkFault>,
+    calls: u64,
 ) -> Result<(), AllocError> {
-    let node = asked.tree.node(alloc)?;
-    let tree = MemTree::new(&node);
-    for threads in [1, 2, 16] {
-        let max_dirs = asked.max_dirs;
-        assert!(rt; 1 <= max_dirs && max_dirs <= 1_048_576);
-        let options = Options {
-            threads,
-            max_dirs,
-            lists: NO_LISTS,
-            exclude: exclude_file(alloc, asked.exclude)?,
-            archive: asked.archive,
-            without: asked.without,
-            only: &[],
+    if let Err(WalkFault::Memory) = &answer {
+        return Err(AllocError);
+    }
+    let name = case.name;
+    assert!(rt;
+        is_answer(&answer, case.wanted, calls),
+        "{name}: {answer:?}, {calls}"
+    );
+    Ok(())
+}
+
+/// The walk of this tree finds what its case says, over each board and by each number of workers.
+pub(super) fn check_node<R: Threads + Wait + Sync + Abort>(
+    rt: &R,
+    alloc: Global,
+    top: &Node,
+    case: &Case,
+) -> Result<(), AllocError> {
+    let tree = MemTree::new(top);
+    for (board, threads) in RUNS {
+        let options = case.asked.options(rt, alloc, *threads)?;
+        let call = FailingCall::new(u64::MAX);
+        let counted = FailingTree {
+            tree: &tree,
+            call: &call,
         };
-        check_on::<Words<Job, Row>, MemTree, R>(rt, alloc, &tree, &options, name, wanted)?;
-        check_on::<Locked<Job, Row>, MemTree, R>(rt, alloc, &tree, &options, name, wanted)?;
+        let answer = board.walk(rt, alloc, &counted, &options);
+        check_answer(rt, case, answer, call.begun())?;
     }
     Ok(())
 }
 
-/// Each walk finds what it is to find, over each board and with each number of workers.
+/// Each walk finds what its case says.
 pub(super) fn check<R: Threads + Wait + Sync + Abort>(
     rt: &R,
     alloc: Global,
     cases: &[Case],
 ) -> Result<(), AllocError> {
-    for (name, asked, wanted) in cases {
-        check_case(rt, alloc, name, *asked, *wanted)?;
+    for case in cases {
+        let top = case.asked.tree.node(alloc)?;
+        check_node(rt, alloc, &top, case)?;
     }
     Ok(())
 }

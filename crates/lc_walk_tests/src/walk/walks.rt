@@ -1,18 +1,16 @@
 //! What walks find.
 
-use crate::walk::walked::{ASKED, Asked, Case, FOUND, Found, NONE, check, report_of};
+use crate::walk::told::{FOUND, Found, NONE};
+use crate::walk::walked::{ASKED, Asked, Case, NO_LISTS, check};
+use crate::walk::{left_out, limits, narrowed};
 use lc_census::Eol;
 use lc_level::FaultWord;
 use lc_rules::TextState;
-use lc_tree::{MemTree, Sketch};
-use lc_walk::{Lists, Options, Report, walk};
-use std::alloc::{AllocError, Global};
-use std::process::Abort;
-use std::sync::Wait;
+use lc_tree::Sketch;
+use lc_walk::Lists;
 use std::test::Fail;
-use std::thread::Threads;
 
-const LINE: Sketch = Sketch::File(b"x\n");
+pub(super) const LINE: Sketch = Sketch::File(b"x\n");
 
 const IGNORING: Sketch = Sketch::Dir(&[
     (b".gitignore", Sketch::File(b"*.log\n!keep.log\n/build/\n")),
@@ -28,29 +26,6 @@ const IGNORING: Sketch = Sketch::Dir(&[
     ),
 ]);
 
-const WITH_RULES: &[Case] = &[(
-    "a tree",
-    Asked {
-        tree: IGNORING,
-        ..ASKED
-    },
-    Ok(Found {
-        rows: &[
-            (None, NONE, Eol::Lf, [1, 3, 0, 24]),
-            (Some(b"c"), NONE, Eol::CrLf, [1, 1, 0, 8]),
-            (Some(b"log"), NONE, Eol::Lf, [1, 1, 0, 2]),
-        ],
-        directories: 3,
-        faults: &[],
-    }),
-)];
-
-#[test]
-fn rules_of_the_tree_are_applied(rt: HostRuntime) -> Result<(), Fail> {
-    check(&rt, rt.alloc(), WITH_RULES)?;
-    Ok(())
-}
-
 const TEXTS: Sketch = Sketch::Dir(&[
     (b".gitattributes", Sketch::File(b"*.c text\n*.b binary\n")),
     (b"x.c", Sketch::File(b"a\nb\n")),
@@ -58,26 +33,68 @@ const TEXTS: Sketch = Sketch::Dir(&[
     (b"z.c", Sketch::File(b"a\r\n\r\n")),
 ]);
 
-const WITH_ATTRIBUTES: &[Case] = &[(
-    "a tree",
-    Asked {
-        tree: TEXTS,
-        ..ASKED
+const OF_TEXTS: Found = Found {
+    rows: &[
+        (None, NONE, Eol::Lf, [1, 2, 0, 20]),
+        (Some(b"b"), TextState::Unset, Eol::Nul, [1, 1, 0, 2]),
+        (Some(b"c"), TextState::Set, Eol::Lf, [1, 2, 0, 4]),
+        (Some(b"c"), TextState::Set, Eol::CrLf, [1, 2, 1, 5]),
+    ],
+    ..FOUND
+};
+
+/// Rules of the tree are applied, attributes say which files are text, and files that are asked for stand in order.
+const RULED: &[Case] = &[
+    Case {
+        name: "rules of the tree",
+        asked: Asked {
+            tree: IGNORING,
+            ..ASKED
+        },
+        wanted: Ok(Found {
+            rows: &[
+                (None, NONE, Eol::Lf, [1, 3, 0, 24]),
+                (Some(b"c"), NONE, Eol::CrLf, [1, 1, 0, 8]),
+                (Some(b"log"), NONE, Eol::Lf, [1, 1, 0, 2]),
+            ],
+            directories: 3,
+            ..FOUND
+        }),
     },
-    Ok(Found {
-        rows: &[
-            (None, NONE, Eol::Lf, [1, 2, 0, 20]),
-            (Some(b"b"), TextState::Unset, Eol::Nul, [1, 1, 0, 2]),
-            (Some(b"c"), TextState::Set, Eol::Lf, [1, 2, 0, 4]),
-            (Some(b"c"), TextState::Set, Eol::CrLf, [1, 2, 1, 5]),
-        ],
-        ..FOUND
-    }),
-)];
+    Case {
+        name: "attributes of the tree",
+        asked: Asked {
+            tree: TEXTS,
+            ..ASKED
+        },
+        wanted: Ok(OF_TEXTS),
+    },
+    Case {
+        name: "files that are asked for",
+        asked: Asked {
+            tree: TEXTS,
+            lists: Lists {
+                files: true,
+                ..NO_LISTS
+            },
+            max_dirs: 1,
+            ..ASKED
+        },
+        wanted: Ok(Found {
+            files: &[
+                (b".gitattributes", NONE, 20),
+                (b"x.c", TextState::Set, 4),
+                (b"y.b", TextState::Unset, 2),
+                (b"z.c", TextState::Set, 5),
+            ],
+            ..OF_TEXTS
+        }),
+    },
+];
 
 #[test]
-fn attributes_say_which_files_are_text(rt: HostRuntime) -> Result<(), Fail> {
-    check(&rt, rt.alloc(), WITH_ATTRIBUTES)?;
+fn rules_of_the_tree_are_applied(rt: HostRuntime) -> Result<(), Fail> {
+    check(&rt, rt.alloc(), RULED)?;
     Ok(())
 }
 
@@ -97,67 +114,67 @@ const PARENT: Sketch = Sketch::Dir(&[(b"d", Sketch::Dir(&[(b"..", LINE)]))]);
 const CLOSED_GIT: Sketch = Sketch::Dir(&[(b".git", Sketch::Closed), (b"a", LINE)]);
 
 const WITH_FAULTS: &[Case] = &[
-    (
-        "a closed top",
-        Asked {
+    Case {
+        name: "a closed top",
+        asked: Asked {
             tree: Sketch::Closed,
             ..ASKED
         },
-        Ok(Found {
+        wanted: Ok(Found {
             directories: 0,
             faults: &[(b"", FaultWord::Read)],
             ..FOUND
         }),
-    ),
-    (
-        "a failing rule file",
-        Asked {
+    },
+    Case {
+        name: "a failing rule file",
+        asked: Asked {
             tree: FAILING,
             ..ASKED
         },
-        Ok(Found {
+        wanted: Ok(Found {
             rows: &[(Some(b"c"), NONE, Eol::Lf, [1, 1, 0, 2])],
-            directories: 1,
             faults: &[
                 (b"b.c", FaultWord::Read),
                 (b"d/.gitignore", FaultWord::Read),
             ],
+            ..FOUND
         }),
-    ),
-    (
-        "a name twice",
-        Asked {
+    },
+    Case {
+        name: "a name twice",
+        asked: Asked {
             tree: TWICE,
             ..ASKED
         },
-        Ok(Found {
+        wanted: Ok(Found {
             faults: &[(b"d", FaultWord::Twice)],
             ..FOUND
         }),
-    ),
-    (
-        "a parent's name",
-        Asked {
+    },
+    Case {
+        name: "a parent's name",
+        asked: Asked {
             tree: PARENT,
             ..ASKED
         },
-        Ok(Found {
+        wanted: Ok(Found {
             faults: &[(b"d", FaultWord::Name)],
             ..FOUND
         }),
-    ),
-    (
-        "a closed .git",
-        Asked {
+    },
+    Case {
+        name: "a closed .git",
+        asked: Asked {
             tree: CLOSED_GIT,
             ..ASKED
         },
-        Ok(Found {
+        wanted: Ok(Found {
             directories: 0,
             faults: &[(b".git", FaultWord::Read)],
             ..FOUND
         }),
-    ),
+    },
 ];
 
 #[test]
@@ -178,43 +195,43 @@ const SELF_IGNORED: Sketch = Sketch::Dir(&[
 ]);
 
 const WITH_AN_EXCLUDE_FILE: &[Case] = &[
-    (
-        "with it",
-        Asked {
+    Case {
+        name: "with an exclude file",
+        asked: Asked {
             tree: INCLUDING,
             exclude: Some(b"*.c"),
             ..ASKED
         },
-        Ok(Found {
+        wanted: Ok(Found {
             rows: &[
                 (None, NONE, Eol::Lf, [1, 1, 0, 5]),
                 (Some(b"c"), NONE, Eol::Lf, [1, 1, 0, 2]),
             ],
             ..FOUND
         }),
-    ),
-    (
-        "without it",
-        Asked {
+    },
+    Case {
+        name: "without an exclude file",
+        asked: Asked {
             tree: INCLUDING,
             ..ASKED
         },
-        Ok(Found {
+        wanted: Ok(Found {
             rows: &[
                 (None, NONE, Eol::Lf, [1, 1, 0, 5]),
                 (Some(b"c"), NONE, Eol::Lf, [2, 2, 0, 4]),
             ],
             ..FOUND
         }),
-    ),
-    (
-        "a file that ignores itself",
-        Asked {
+    },
+    Case {
+        name: "a rule file that ignores itself",
+        asked: Asked {
             tree: SELF_IGNORED,
             ..ASKED
         },
-        Ok(FOUND),
-    ),
+        wanted: Ok(FOUND),
+    },
 ];
 
 #[test]
@@ -266,85 +283,42 @@ const BESIDE_LINK: Found = Found {
 };
 
 const WITH_GIT: &[Case] = &[
-    (
-        "its rule files",
-        Asked {
+    Case {
+        name: "rule files of .git",
+        asked: Asked {
             tree: WITH_INFO,
             ..ASKED
         },
-        Ok(OF_INFO),
-    ),
-    (
-        "its rule files over an exclude file",
-        Asked {
+        wanted: Ok(OF_INFO),
+    },
+    Case {
+        name: "rule files of .git over an exclude file",
+        asked: Asked {
             tree: WITH_INFO,
             exclude: Some(b"!a.o"),
             ..ASKED
         },
-        Ok(OF_INFO),
-    ),
-    (
-        "a directory",
-        with_link!(Sketch::Dir(&[(b"f", LINE)])),
-        Ok(BESIDE_LINK),
-    ),
-    (
-        "a file",
-        with_link!(Sketch::File(b"gitdir: x\n")),
-        Ok(BESIDE_LINK),
-    ),
-    ("a link", with_link!(Sketch::Other), Ok(BESIDE_LINK)),
+        wanted: Ok(OF_INFO),
+    },
+    Case {
+        name: "a directory .git",
+        asked: with_link!(Sketch::Dir(&[(b"f", LINE)])),
+        wanted: Ok(BESIDE_LINK),
+    },
+    Case {
+        name: "a file .git",
+        asked: with_link!(Sketch::File(b"gitdir: x\n")),
+        wanted: Ok(BESIDE_LINK),
+    },
+    Case {
+        name: "a link .git",
+        asked: with_link!(Sketch::Other),
+        wanted: Ok(BESIDE_LINK),
+    },
 ];
 
 #[test]
 fn nothing_of_git_is_counted(rt: HostRuntime) -> Result<(), Fail> {
     check(&rt, rt.alloc(), WITH_GIT)?;
-    Ok(())
-}
-
-fn has_files(report: &Report, wanted: &[(&[u8], u64)]) -> bool {
-    for (file, (path, bytes)) in report.files.iter().zip(wanted) {
-        if file.path.as_slice() != *path || file.count.bytes != *bytes {
-            return false;
-        }
-    }
-    report.files.len() == wanted.len()
-}
-
-/// A walk by two workers tells these files, with their bytes.
-fn check_files<R: Threads + Wait + Sync + Abort>(
-    rt: &R,
-    alloc: Global,
-    tree: Sketch,
-    wanted: &[(&[u8], u64)],
-) -> Result<(), AllocError> {
-    let node = tree.node(alloc)?;
-    let options = Options {
-        threads: 2,
-        max_dirs: 1,
-        lists: Lists {
-            files: true,
-            left_out: false,
-        },
-        exclude: None,
-        archive: false,
-        without: &[],
-        only: &[],
-    };
-    let report = report_of(rt, walk(rt, alloc, &MemTree::new(&node), &options))?;
-    assert!(rt; has_files(&report, wanted), "{report:?}");
-    Ok(())
-}
-
-const FILES: &[(&[u8], u64)] = &[
-    (b".gitattributes", 20),
-    (b"x.c", 4),
-    (b"y.b", 2),
-    (b"z.c", 5),
-];
-
-#[test]
-fn files_that_are_asked_for_stand_in_order(rt: HostRuntime) -> Result<(), Fail> {
-    check_files(&rt, rt.alloc(), TEXTS, FILES)?;
     Ok(())
 }
