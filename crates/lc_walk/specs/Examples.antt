@@ -6,16 +6,16 @@ use Rattle.lc_level.specs.Answers.{file_item, directory_item, other_item, Answer
 use Rattle.lc_rules.specs.IgnoreChains.{no_ignore_files}
 use Rattle.lc_walk.specs.Found.{children_at}
 use Rattle.lc_level.specs.Job.{JobModel}
-use Rattle.lc_level.specs.Selection.{SelectionModel, selection_of_archive}
+use Rattle.lc_level.specs.Selection.{SelectionModel, selection_of}
 use Rattle.lc_walk.specs.Lawful.{files_at}
 
 -- the census of an empty file with one line
 abbrev pub one_line : Count
 one_line = record { lines = 1; blank = 1; bytes = 1; eol = Lf }
 
--- the selection of a tree that is no archive
+-- the selection by which no attribute leaves anything out
 abbrev pub as_it_is : SelectionModel
-as_it_is = selection_of_archive false
+as_it_is = selection_of false []
 
 abbrev pub example_top : JobModel
 example_top = record { path = []; ignore = no_ignore_files; attributes = record { tree = []; info = None } }
