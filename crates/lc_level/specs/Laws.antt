@@ -14,9 +14,9 @@ use Rattle.lc_level.specs.TreeAnswers.{MayAnswer}
 use Rattle.lc_level.specs.declared.counting.CountedFiles.{CountedFiles}
 use Rattle.lc_level.specs.declared.opening.Opened.{Opened}
 
--- an archive leaves out as one more attribute does
-abbrev pub ArchiveLaw : Type 0
-ArchiveLaw = (names : List (List ℕ)) → selection_of true names ≡ selection_of false (codes "export-ignore" ∷ names)
+-- what is exported is without one more attribute
+abbrev pub ExportLaw : Type 0
+ExportLaw = (names : List (List ℕ)) → selection_of true names ≡ selection_of false (codes "export-ignore" ∷ names)
 
 -- what is told of a directory that was opened, whose files gave these
 abbrev pub parts_with : Opened → List CountedModel → List FileFaultModel → LevelParts

@@ -48,7 +48,7 @@ pub use fault_site::FaultSite;
 pub use fault_word::FaultWord;
 pub use job::Job;
 pub use laws::{
-    a_node_is_one_tree, an_archive_is_without_export_ignore, files_of_memory_are_read_once,
+    a_node_is_one_tree, export_ignore_is_one_more_attribute, files_of_memory_are_read_once,
     level_examples_hold, one_answer_is_one_level, trees_of_memory_give_one, work_is_a_level,
 };
 pub use left_in::ChildDirectory;

@@ -59,15 +59,7 @@ pub(super) fn walk_options(rt: &impl Abort, threads: u32, max_dirs: u32) -> Opti
 {
     assert!(rt; 1 <= threads && threads <= 16);
     assert!(rt; 1 <= max_dirs && max_dirs <= 1_048_576);
-    Options {
-        threads,
-        max_dirs,
-        lists: NO_LISTS,
-        exclude: None,
-        archive: false,
-        without: &[],
-        only: &[],
-    }
+    Options::new(threads, max_dirs)
 }
 
 fn exclude_file(
