@@ -61,7 +61,6 @@ pub fn walk_on<B: Shared<Job, Row>, T: Tree, R: Threads + Wait + Sync>(
 /// let report = walk(&rt, rt.alloc(), &tree, &options)?;
 /// assert_eq!(report.totals.files, report.files.len() as u64);
 /// ```
-#[tactic(auto, using(crate::proofs::WalkOn::by_words))]
 pub fn walk<T: Tree, R: Threads + Wait + Sync>(
     rt: &R,
     alloc: Global,
