@@ -151,37 +151,72 @@ fn answer_over<B: Shared<Job, Row>, R: Threads + Wait + Sync, T: Tree>(
     }
 }
 
-/// An answer, but for want of memory, where nothing is written.
-pub(super) fn settled<R: Abort>(
-    rt: &R,
+/// An answer, but for want of memory where nothing is written.
+pub(super) fn settled(
     answer: Result<Outcome, RunFault>,
     out: &Narrow,
 ) -> Result<Result<Outcome, RunFault>, AllocError> {
     match answer {
-        Err(RunFault::Memory | RunFault::Walk(WalkFault::Memory)) => {
-            assert!(rt; out.taken.is_empty());
+        Err(RunFault::Memory | RunFault::Walk(WalkFault::Memory)) if out.taken.is_empty() => {
             Err(AllocError)
         }
         answer => Ok(answer),
     }
 }
 
-/// An answer by so many workers, and what was written, are those of the case.
-fn check<R: Abort>(
-    rt: &R,
+/// Whether an answer, and what was written, are those of the case.
+fn is_told(
     answer: Result<Outcome, RunFault>,
     out: &Narrow,
     case: &Case<'_>,
-    threads: u32,
-) -> Result<(), Fail> {
-    let answer = settled(rt, answer, out)?;
+) -> Result<bool, AllocError> {
+    let answer = settled(answer, out)?;
     let lines = out.taken.as_slice().strip_prefix(HEADER);
-    assert!(rt;
-        answer == Ok(case.outcome) && lines == Some(case.lines),
-        "{} by {threads}",
-        case.name
-    );
-    Ok(())
+    Ok(answer == Ok(case.outcome) && lines == Some(case.lines))
+}
+
+/// Whether a run by so many workers over a tree ends as the case says.
+fn ends_so<R: Threads + Wait + Sync + AllocGlobal, T: Tree>(
+    rt: &R,
+    tree: &T,
+    case: &Case<'_>,
+    threads: u32,
+) -> Result<bool, AllocError>
+    requires { (1 ≤ threads) × (threads ≤ 16) }
+{
+    let mut out = new_writer(rt.alloc())?;
+    let answer = answer_of(rt, tree, &case.asked, threads, 16, &mut out);
+    is_told(answer, &out, case)
+}
+
+/// Whether a walk over boards of this type does, whose table is then written.
+fn ends_so_over<B: Shared<Job, Row>, R: Threads + Wait + Sync + AllocGlobal, T: Tree>(
+    rt: &R,
+    tree: &T,
+    case: &Case<'_>,
+    threads: u32,
+) -> Result<bool, AllocError>
+    requires { (1 ≤ threads) × (threads ≤ 16) }
+{
+    let mut out = new_writer(rt.alloc())?;
+    let answer = answer_over::<B, R, T>(rt, rt.alloc(), tree, &case.asked, threads, &mut out);
+    is_told(answer, &out, case)
+}
+
+/// Whether a run does, and walks over both boards.
+fn all_end_so<R: Threads + Wait + Sync + AllocGlobal>(
+    rt: &R,
+    tree: &MemTree<'_>,
+    case: &Case<'_>,
+    threads: u32,
+) -> Result<bool, AllocError>
+    requires { (1 ≤ threads) × (threads ≤ 16) }
+{
+    Ok(
+        ends_so(rt, tree, case, threads)?
+            && ends_so_over::<Words<Job, Row>, R, MemTree>(rt, tree, case, threads)?
+            && ends_so_over::<Locked<Job, Row>, R, MemTree>(rt, tree, case, threads)?,
+    )
 }
 
 /// A run by so many workers over a tree ends as the case says.
@@ -193,23 +228,12 @@ pub(super) fn compare<R: Threads + Wait + Sync + AllocGlobal + Abort, T: Tree>(
 ) -> Result<(), Fail>
     requires threads { (1 ≤ threads) × (threads ≤ 16) }
 {
-    let mut out = new_writer(rt.alloc())?;
-    let answer = answer_of(rt, tree, &case.asked, threads, 16, &mut out);
-    check(rt, answer, &out, case, threads)
-}
-
-/// So does a walk over boards of this type, whose table is then written.
-fn compare_over<B: Shared<Job, Row>, R: Threads + Wait + Sync + AllocGlobal + Abort, T: Tree>(
-    rt: &R,
-    tree: &T,
-    case: &Case<'_>,
-    threads: u32,
-) -> Result<(), Fail>
-    requires { (1 ≤ threads) × (threads ≤ 16) }
-{
-    let mut out = new_writer(rt.alloc())?;
-    let answer = answer_over::<B, R, T>(rt, rt.alloc(), tree, &case.asked, threads, &mut out);
-    check(rt, answer, &out, case, threads)
+    assert!(rt;
+        ends_so(rt, tree, case, threads)?,
+        "{} by {threads}",
+        case.name
+    );
+    Ok(())
 }
 
 /// So do a run over the case's own tree, walks of it over both boards, by each of these numbers of workers, and a run however
@@ -224,12 +248,16 @@ pub(super) fn compare_by<R: Threads + Wait + Sync + AllocGlobal + Abort>(
     for threads in threads_of_each {
         let threads = *threads;
         assert!(rt; 1 <= threads && threads <= 16);
-        compare(rt, &tree, case, threads)?;
-        compare_over::<Words<Job, Row>, R, MemTree>(rt, &tree, case, threads)?;
-        compare_over::<Locked<Job, Row>, R, MemTree>(rt, &tree, case, threads)?;
+        assert!(rt;
+            all_end_so(rt, &tree, case, threads)?,
+            "{} by {threads}",
+            case.name
+        );
     }
     compare(rt, &BytewiseTree(tree), case, 2)
 }
+
+const MANY: &[u32] = &[1, 2, 16];
 
 /// So do they by any number of workers.
 pub(super) fn compare_all<R: Threads + Wait + Sync + AllocGlobal + Abort>(
@@ -237,7 +265,7 @@ pub(super) fn compare_all<R: Threads + Wait + Sync + AllocGlobal + Abort>(
     cases: &[Case<'_>],
 ) -> Result<(), Fail> {
     for case in cases {
-        compare_by(rt, case, &[1, 2, 16])?;
+        compare_by(rt, case, MANY)?;
     }
     Ok(())
 }

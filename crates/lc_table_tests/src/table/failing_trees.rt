@@ -113,7 +113,7 @@ fn is_whole((answer, told, calls): &Found) -> bool {
 }
 
 /// Of a run of which this call fails.
-fn found_at<R: Threads + Wait + Sync + AllocGlobal + Abort>(
+fn found_at<R: Threads + Wait + Sync + AllocGlobal>(
     rt: &R,
     tree: &MemTree<'_>,
     place: u64,
@@ -125,7 +125,7 @@ fn found_at<R: Threads + Wait + Sync + AllocGlobal + Abort>(
     let failing = FailingTree { tree, call: &call };
     let mut out = new_writer(rt.alloc())?;
     let answer = answer_of(rt, &failing, &WITH_FILES, threads, 16, &mut out);
-    let answer = settled(rt, answer, &out)?;
+    let answer = settled(answer, &out)?;
     Ok((answer, lines_told(&out.taken), call.begun()))
 }
 
@@ -136,11 +136,12 @@ fn compare<R: Threads + Wait + Sync + AllocGlobal + Abort>(rt: &R, threads: u32)
     let node = TOP.node(rt.alloc())?;
     let tree = MemTree::new(&node);
     for place in 0..CALLS {
-        let found = found_at(rt, &tree, place, threads)?;
-        assert!(rt; has_one_fault(&found), "at {place}");
+        assert!(rt;
+            has_one_fault(&found_at(rt, &tree, place, threads)?),
+            "at {place}"
+        );
     }
-    let found = found_at(rt, &tree, CALLS, threads)?;
-    assert!(rt; is_whole(&found));
+    assert!(rt; is_whole(&found_at(rt, &tree, CALLS, threads)?));
     Ok(())
 }
 

@@ -2,13 +2,14 @@
 
 use crate::table::asking::{HEADER, TSV};
 use crate::table::screens::EMPTY;
-use crate::table::tables::{check, report_of};
+use crate::table::tables::{has_parts, report_of};
 use lc_level::Reason;
 use lc_rules::Origin;
 use lc_text::{Format, Shape};
 use lc_tree::Kind;
 use lc_walk::{LeftLine, Lists, Report};
 use std::alloc::{AllocError, Global};
+use std::process::Abort;
 use std::test::Fail;
 
 /// Why an entry was left out.
@@ -81,20 +82,27 @@ const LINES: &[u8] = b"left out   by                   path\n\
      directories      1\n\
      entries      1,008\n";
 
-fn shaped(format: Format) -> Shape {
-    Shape { format, ..TSV }
-}
+/// A format, the first line of its text, and the others.
+type Case = (Format, &'static [u8], &'static [u8]);
+
+const CASES: &[Case] = &[
+    (Format::Tsv, HEADER, TABS),
+    (Format::Json, b"", JSON),
+    (Format::Table, b"", LINES),
+];
 
 #[test]
 fn left_out_in_each_format(rt: HostRuntime) -> Result<(), Fail> {
     let report = report_with(rt.alloc(), LEFT)?;
-    check(&rt, &report, TSV, "tabs", (HEADER, b"", TABS))?;
-    check(&rt, &report, shaped(Format::Json), "json", (b"", b"", JSON))?;
-    check(
-        &rt,
-        &report,
-        shaped(Format::Table),
-        "columns",
-        (b"", b"", LINES),
-    )
+    for (format, header, lines) in CASES {
+        let shape = Shape {
+            format: *format,
+            ..TSV
+        };
+        assert!(rt;
+            has_parts(rt.alloc(), &report, shape, (header, b"", lines))?,
+            "{format:?}"
+        );
+    }
+    Ok(())
 }

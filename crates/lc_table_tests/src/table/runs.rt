@@ -9,6 +9,7 @@ use lc_text::Outcome;
 use lc_text::trials::{Narrow, WRITERS, WhenFull};
 use lc_tree::{MemTree, Sketch};
 use lc_walk::WalkFault;
+use std::alloc::{AllocError, Global};
 use std::process::Abort;
 use std::sync::Wait;
 use std::test::Fail;
@@ -169,7 +170,25 @@ fn excluding_rules_by_few_workers(rt: HostRuntime) -> Result<(), Fail> {
     compare_by(&rt, &EXCLUDING, FEW)
 }
 
-/// The first tree's table to a writer that stops at each place.
+/// Whether a writer with so much room has that much of the first tree's table, and the run says whether this is all.
+fn stops_there<R: Threads + Wait + Sync + AllocGlobal>(
+    rt: &R,
+    tree: &MemTree<'_>,
+    text: &[u8],
+    (step, when_full): (usize, WhenFull),
+    room: usize,
+) -> Result<bool, AllocError> {
+    let mut out = Narrow::new(rt.alloc(), step, room, when_full)?;
+    let answer = answer_of(rt, tree, &PLAIN, 2, 16, &mut out);
+    let answer = settled(answer, &out)?;
+    let expected = if room == text.len() {
+        Ok(Outcome::Clean)
+    } else {
+        Err(RunFault::Write)
+    };
+    Ok(answer == expected && text.get(..room) == Some(out.taken.as_slice()))
+}
+
 fn compare_writes<R: Threads + Wait + Sync + AllocGlobal + Abort>(
     rt: &R,
     tree: &MemTree<'_>,
@@ -177,39 +196,39 @@ fn compare_writes<R: Threads + Wait + Sync + AllocGlobal + Abort>(
     writer: (usize, WhenFull),
 ) -> Result<(), Fail> {
     for room in 0..=text.len() {
-        let mut out = Narrow::new(rt.alloc(), writer.0, room, writer.1)?;
-        let answer = answer_of(rt, tree, &PLAIN, 2, 16, &mut out);
-        let answer = settled(rt, answer, &out)?;
-        let expected = if room == text.len() {
-            Ok(Outcome::Clean)
-        } else {
-            Err(RunFault::Write)
-        };
-        assert!(rt;
-            answer == expected && out.taken.as_slice() == &text[..room],
-            "at {room}"
-        );
+        assert!(rt; stops_there(rt, tree, text, writer, room)?, "at {room}");
     }
     Ok(())
+}
+
+fn with_header(alloc: Global, lines: &[u8]) -> Result<Vec<u8>, AllocError> {
+    let mut text = HEADER.to_vec(alloc)?;
+    text.extend_from_slice(lines)?;
+    Ok(text)
 }
 
 #[test]
 fn a_run_stops_at_every_place(rt: HostRuntime) -> Result<(), Fail> {
     let node = FIRST.node(rt.alloc())?;
-    let mut text = HEADER.to_vec(rt.alloc())?;
-    text.extend_from_slice(WHOLE)?;
+    let tree = MemTree::new(&node);
+    let text = with_header(rt.alloc(), WHOLE)?;
     for writer in WRITERS {
-        compare_writes(&rt, &MemTree::new(&node), &text, *writer)?;
+        compare_writes(&rt, &tree, &text, *writer)?;
     }
     Ok(())
 }
 
-#[test]
-fn too_many_directories(rt: HostRuntime) -> Result<(), Fail> {
+/// Whether a run that may have two directories is refused, and writes nothing.
+fn is_refused<R: Threads + Wait + Sync + AllocGlobal>(rt: &R) -> Result<bool, AllocError> {
     let node = FIRST.node(rt.alloc())?;
     let mut out = new_writer(rt.alloc())?;
-    let answer = answer_of(&rt, &MemTree::new(&node), &PLAIN, 2, 2, &mut out);
-    let answer = settled(&rt, answer, &out)?;
-    assert!(rt; answer == Err(RunFault::Walk(WalkFault::TooManyDirs)) && out.taken.is_empty());
+    let answer = answer_of(rt, &MemTree::new(&node), &PLAIN, 2, 2, &mut out);
+    let answer = settled(answer, &out)?;
+    Ok(answer == Err(RunFault::Walk(WalkFault::TooManyDirs)) && out.taken.is_empty())
+}
+
+#[test]
+fn too_many_directories(rt: HostRuntime) -> Result<(), Fail> {
+    assert!(rt; is_refused(&rt)?);
     Ok(())
 }

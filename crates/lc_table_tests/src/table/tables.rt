@@ -199,24 +199,28 @@ pub(super) fn report_of(alloc: Global, case: &Case) -> Result<Report, AllocError
 /// A header, rows, and what stands below them.
 type Parts<'a> = (&'a [u8], &'a [u8], &'a [u8]);
 
-/// The table of a report in a shape is these parts, one after the other.
-pub(super) fn check<R: AllocGlobal + Abort>(
-    rt: &R,
-    report: &Report,
-    shape: Shape,
-    name: &str,
-    parts: Parts<'_>,
-) -> Result<(), Fail> {
-    let text = table_text(rt.alloc(), report, shape)?;
-    assert!(rt; is_made_of(&text, parts), "{name}");
-    Ok(())
-}
-
 fn is_made_of(text: &[u8], (header, rows, below): Parts<'_>) -> bool {
     let Some(rest) = text.strip_prefix(header) else {
         return false;
     };
     rest.strip_prefix(rows) == Some(below)
+}
+
+/// Whether the table of a report in a shape is these parts, one after the other.
+pub(super) fn has_parts(
+    alloc: Global,
+    report: &Report,
+    shape: Shape,
+    parts: Parts<'_>,
+) -> Result<bool, AllocError> {
+    let text = table_text(alloc, report, shape)?;
+    Ok(is_made_of(&text, parts))
+}
+
+/// Whether the table of a report is its text below this header.
+fn has_text(alloc: Global, header: &[u8], case: &Case) -> Result<bool, AllocError> {
+    let report = report_of(alloc, case)?;
+    has_parts(alloc, &report, case.shape, (header, b"", case.lines))
 }
 
 /// The table of each report is its text.
@@ -226,9 +230,7 @@ pub(super) fn compare_all<R: AllocGlobal + Abort>(
     cases: &[Case],
 ) -> Result<(), Fail> {
     for case in cases {
-        let report = report_of(rt.alloc(), case)?;
-        let lines = case.lines;
-        check(rt, &report, case.shape, case.name, (header, b"", lines))?;
+        assert!(rt; has_text(rt.alloc(), header, case)?, "{}", case.name);
     }
     Ok(())
 }
@@ -238,6 +240,27 @@ fn tables(rt: HostRuntime) -> Result<(), Fail> {
     compare_all(&rt, HEADER, CASES)
 }
 
+/// Whether a writer with so much room has that much of a table, and it is said whether this is all.
+fn stops_there(
+    alloc: Global,
+    report: &Report,
+    text: &[u8],
+    (step, when_full): (usize, WhenFull),
+    room: usize,
+) -> Result<bool, AllocError> {
+    let mut out = Narrow::new(alloc, step, room, when_full)?;
+    let answer = table(alloc, report, TSV, &mut out);
+    if answer == Err(PrintFault::Memory) && out.taken.is_empty() {
+        return Err(AllocError);
+    }
+    let expected = if room == text.len() {
+        Ok(())
+    } else {
+        Err(PrintFault::Write)
+    };
+    Ok(answer == expected && text.get(..room) == Some(out.taken.as_slice()))
+}
+
 fn compare_writes<R: AllocGlobal + Abort>(
     rt: &R,
     report: &Report,
@@ -245,18 +268,8 @@ fn compare_writes<R: AllocGlobal + Abort>(
     writer: (usize, WhenFull),
 ) -> Result<(), Fail> {
     for room in 0..=text.len() {
-        let mut out = Narrow::new(rt.alloc(), writer.0, room, writer.1)?;
-        let answer = table(rt.alloc(), report, TSV, &mut out);
-        if answer == Err(PrintFault::Memory) && out.taken.is_empty() {
-            return Err(AllocError.into());
-        }
-        let expected = if room == text.len() {
-            Ok(())
-        } else {
-            Err(PrintFault::Write)
-        };
         assert!(rt;
-            answer == expected && out.taken.as_slice() == &text[..room],
+            stops_there(rt.alloc(), report, text, writer, room)?,
             "at {room}"
         );
     }
