@@ -61,39 +61,60 @@ EndsShown may_take may_tell text out err Misused wrote told = ⊥
 EndsShown may_take may_tell text out err (GaveUp cause) wrote told =
     (cause ≡ Unwritten) × StopsWriting may_take out text wrote × TellsCause may_tell err cause told
 
-module _ {I O E : Type 0} (may_give : I → ℕ → Answer → I → Type 0) (loads : Loaded) (may_take : O → List ℕ → Result ℕ Failed → O → Type 0)
-    (may_tell : E → List ℕ → Result ℕ Failed → E → Type 0) where
-  -- the request of the words had this reply
-  abbrev pub Replies : List (List ℕ) → I → O → Reply → I → O → Type 0
-  Replies words input out reply read wrote =
-      (faults_in words ≡ [])
-      × ((request : Request) × Asks words request × AnswersRequest may_give loads may_take request input out reply read wrote)
+-- the input, the output and what is told beside it, at some moment
+pub record Streams (I O E : Type 0) : Type 0 where
+  pub input : I
+  pub out : O
+  pub err : E
 
-  -- it was answered so, and perhaps a hint was told
-  abbrev pub EndsAnswered : List (List ℕ) → Bool → I → O → E → Outcome → I → O → E → Type 0
-  EndsAnswered words is_seen input out err outcome read wrote told =
+-- what a read of the input may give and what loading a rule file, and what a write may take of the output and of what is told
+pub record StreamsMay (I O E : Type 0) : Type 1 where
+  pub give : I → ℕ → Answer → I → Type 0
+  pub load : Loaded
+  pub take : O → List ℕ → Result ℕ Failed → O → Type 0
+  pub tell : E → List ℕ → Result ℕ Failed → E → Type 0
+
+module _ {I O E : Type 0} where
+  abbrev pub streams : I → O → E → Streams I O E
+  streams input out err = record { input = input; out = out; err = err }
+
+  abbrev pub streams_may : (I → ℕ → Answer → I → Type 0) → Loaded → (O → List ℕ → Result ℕ Failed → O → Type 0)
+      → (E → List ℕ → Result ℕ Failed → E → Type 0) → StreamsMay I O E
+  streams_may give load take tell = record { give = give; load = load; take = take; tell = tell }
+
+module _ {I O E : Type 0} (may : StreamsMay I O E) (words : List (List ℕ)) where
+  -- the request of the words had this reply
+  abbrev pub Replies : Streams I O E → Reply → Streams I O E → Type 0
+  Replies before reply after =
       (faults_in words ≡ [])
       × ((request : Request) × Asks words request
-      × AnswersRequest may_give loads may_take request input out (Ok outcome) read wrote
-      × Hints may_tell is_seen request err told)
+      × AnswersRequest may.give may.load may.take request before.input before.out reply after.input after.out)
+
+  -- it was answered so, and perhaps a hint was told
+  abbrev pub EndsAnswered : Bool → Streams I O E → Outcome → Streams I O E → Type 0
+  EndsAnswered is_seen before outcome after =
+      (faults_in words ≡ [])
+      × ((request : Request) × Asks words request
+      × AnswersRequest may.give may.load may.take request before.input before.out (Ok outcome) after.input after.out
+      × Hints may.tell is_seen request before.err after.err)
 
   -- the words ask for a text, nothing was read, and it was shown
-  abbrev pub Shows : List (List ℕ) → I → O → E → Ending → I → O → E → Type 0
-  Shows words input out err ending read wrote told =
-      MayShow (faults_in words) × (read ≡ input) × ((text : List ℕ) × EndsShown may_take may_tell text out err ending wrote told)
+  abbrev pub Shows : Streams I O E → Ending → Streams I O E → Type 0
+  Shows before ending after =
+      MayShow (faults_in words) × (after.input ≡ before.input)
+      × ((text : List ℕ) × EndsShown may.take may.tell text before.out before.err ending after.out after.err)
 
-  abbrev pub Ends : List (List ℕ) → Bool → I → O → E → Ending → I → O → E → Type 0
+  abbrev pub Ends : Bool → Streams I O E → Ending → Streams I O E → Type 0
   -- a request was answered and all is well, or a text was shown
-  Ends words is_seen input out err Done read wrote told =
-      EndsAnswered words is_seen input out err outcome.Clean read wrote told ⊎ Shows words input out err Done read wrote told
+  Ends is_seen before Done after = EndsAnswered is_seen before outcome.Clean after ⊎ Shows before Done after
   -- an answer was written that tells of a fault
-  Ends words is_seen input out err SomeFaults read wrote told =
-      EndsAnswered words is_seen input out err outcome.SomeFaults read wrote told
+  Ends is_seen before SomeFaults after = EndsAnswered is_seen before outcome.SomeFaults after
   -- the words fail, nothing was read or written, and why was told
-  Ends words is_seen input out err Misused read wrote told =
-      AreRefused words × (read ≡ input) × (wrote ≡ out) × ((why : List ℕ) × Tells may_tell err why told)
+  Ends is_seen before Misused after =
+      AreRefused words × (after.input ≡ before.input) × (after.out ≡ before.out)
+      × ((why : List ℕ) × Tells may.tell before.err why after.err)
   -- a request was given up for this cause, or a text was not shown, or there was no memory to read the words
-  Ends words is_seen input out err (GaveUp cause) read wrote told =
-      (Replies words input out (Err cause) read wrote × TellsCause may_tell err cause told)
-      ⊎ (Shows words input out err (GaveUp cause) read wrote told
-      ⊎ ((cause ≡ Memory) × (read ≡ input) × (wrote ≡ out) × TellsCause may_tell err cause told))
+  Ends is_seen before (GaveUp cause) after =
+      (Replies before (Err cause) after × TellsCause may.tell before.err cause after.err)
+      ⊎ (Shows before (GaveUp cause) after
+      ⊎ ((cause ≡ Memory) × (after.input ≡ before.input) × (after.out ≡ before.out) × TellsCause may.tell before.err cause after.err))

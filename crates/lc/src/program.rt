@@ -1,7 +1,7 @@
 //! The program but for its streams.
 
 ghost use Rattle.std.specs.Prelude.{◌≡◌, map};
-ghost use Rattle.lc.specs.Program.{Tells, TellsCause, Introduces, Hints, EndsShown, Ends, status_of};
+ghost use Rattle.lc.specs.Program.{Tells, TellsCause, Introduces, Hints, EndsShown, Ends, status_of, streams, streams_may};
 ghost use Rattle.lc.specs.Requests.{LoadsFile};
 ghost use Rattle.lc.specs.declared.program.Ending.{Ending};
 ghost use Rattle.lc.specs.declared.program.Ending.TheVariants as ending;
@@ -118,8 +118,8 @@ fn end_of<R: Files + Threads + Wait + Sync + AllocGlobal, W: AsStr, S: Source, O
 where
     R::File: Send,
     R::Dir: Send,
-    ensures { Ends S.may_give (LoadsFile ⟦<StdSource<R::File> as Source>⟧.may_give)
-        O.may_take E.may_take (map W.text words.now) is_seen input.old out.old err.old result input.new out.new err.new }
+    ensures { Ends (streams_may S.may_give (LoadsFile ⟦<StdSource<R::File> as Source>⟧.may_give) O.may_take E.may_take)
+        (map W.text words.now) is_seen (streams input.old out.old err.old) result (streams input.new out.new err.new) }
 {
     let request = match Request::read(rt.alloc(), words) {
         Ok(request) => request,
@@ -160,8 +160,8 @@ where
     R::File: Send,
     R::Dir: Send,
     ensures { (ending : Ending) × (result ≡ status_of ending)
-        × Ends S.may_give (LoadsFile ⟦<StdSource<R::File> as Source>⟧.may_give)
-        O.may_take E.may_take (map W.text words.now) is_seen input.old out.old err.old ending input.new out.new err.new }
+        × Ends (streams_may S.may_give (LoadsFile ⟦<StdSource<R::File> as Source>⟧.may_give) O.may_take E.may_take)
+        (map W.text words.now) is_seen (streams input.old out.old err.old) ending (streams input.new out.new err.new) }
 {
     end_of(rt, words, is_seen, input, out, err).status()
 }
