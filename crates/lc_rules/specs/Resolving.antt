@@ -1,5 +1,5 @@
 -- How far the code has decided one attribute.
-use Rattle.std.specs.Prelude.{◌≡◌, ℕ, ◌+◌, Bool, false, List, [], ◌∷◌, ◌++◌, length, map, reverse, Option, Some, MatchOption}
+use Rattle.std.specs.Prelude.{◌≡◌, ℕ, ◌+◌, Bool, false, List, [], ◌∷◌, ◌++◌, length, map, reverse, Option, Some, MatchOption, IfNone}
 use Rattle.std.specs.Borrow.{Bor}
 use Rattle.std.specs.BTreeSet.{BTreeSet}
 use Rattle.lc_rules.specs.Attributes.{StateModel, set, AssignmentModel, MacroModel}
@@ -49,6 +49,16 @@ stacked words = reverse (map assignment_ref_model words)
 abbrev pub Reads : Query → List AssignmentModel → Resolver → Option State → List AssignmentModel → Resolver → Type 0
 Reads query todo old found left new =
     Moves (macros_for query) query.name.now todo (names_in old.decided) (seen_state found) left (names_in new.decided)
+
+-- the attribute is still to be decided, and nothing is left to be read
+pub record IsReady (query : Query) (r : Resolver) : Type 0 where
+  pub undecided : is_marked (names_in r.decided) query.name.now ≡ false
+  pub empty : r.pending.items ≡ []
+
+-- reading these assignments, and what they lead to, finds a state or leaves nothing to be read
+pub record Decides (query : Query) (todo : List AssignmentModel) (old : Resolver) (found : Option State) (new : Resolver) : Type 0 where
+  pub moves : Reads query todo old found [] new
+  pub empty : IfNone found (new.pending.items ≡ [])
 
 -- how many assignments a resolver may still read for a query
 abbrev pub still_to_read : Query → Resolver → ℕ

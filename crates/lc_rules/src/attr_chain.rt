@@ -1,12 +1,12 @@
 //! Chains of attribute files.
 
-ghost use Rattle.std.specs.Prelude.{◌≡◌, [], false, IfOk, IfNone, codes};
+ghost use Rattle.std.specs.Prelude.{◌≡◌, false, IfOk, codes};
 ghost use Rattle.lc_rules.specs.Models.{seen_state, state_model};
 ghost use Rattle.lc_rules.specs.AttrStates.{macros_of, top_macros, info_macros, by_lines, tree_assignments, info_assignments};
 ghost use Rattle.lc_rules.specs.AttrStates.{assignments_of, state_of, as_text};
 ghost use Rattle.lc_rules.specs.AttrChains.{no_files, with_tree_file, with_info_file};
 ghost use Rattle.lc_rules.specs.Chains.{lent};
-ghost use Rattle.lc_rules.specs.Resolving.{is_marked, Reads, names_in};
+ghost use Rattle.lc_rules.specs.Resolving.{IsReady, Decides};
 ghost use Rattle.lc_rules.specs.KnownMacros.{known_macros, defined_in, macros_for};
 
 use crate::attr_file::AttrFile;
@@ -29,10 +29,8 @@ fn decide_by_file<'a>(
     is_dir: bool,
     resolver: &mut Resolver<'a>,
 ) -> Result<Option<State<'a>>, AllocError>
-    requires open { is_marked (names_in resolver.old.decided) query.name.now ≡ false }
-    requires empty { resolver.old.pending.items ≡ [] }
-    ensures moves { IfOk result (λ r. Reads query.entry (by_lines file.now.lines path.now is_dir) resolver.old r [] resolver.new) }
-    ensures empty { IfOk result (λ r. IfNone r (resolver.new.pending.items ≡ [])) }
+    requires { IsReady query resolver.old }
+    ensures { IfOk result (λ r. Decides query.entry (by_lines file.now.lines path.now is_dir) resolver.old r resolver.new) }
 {
     let lines = file.lines();
     if !lines.can_decide(query) {
@@ -55,11 +53,8 @@ fn decide_by_files<'a>(
     is_dir: bool,
     resolver: &mut Resolver<'a>,
 ) -> Result<Option<State<'a>>, AllocError>
-    requires open { is_marked (names_in resolver.old.decided) query.name.now ≡ false }
-    requires empty { resolver.old.pending.items ≡ [] }
-    ensures moves { IfOk result
-        (λ r. Reads query.entry (tree_assignments files.entry path.entry.path.now is_dir) resolver.old r [] resolver.new) }
-    ensures empty { IfOk result (λ r. IfNone r (resolver.new.pending.items ≡ [])) }
+    requires { IsReady query resolver.old }
+    ensures { IfOk result (λ r. Decides query.entry (tree_assignments files.entry path.entry.path.now is_dir) resolver.old r resolver.new) }
 {
     let Some((depth, file, nearer)) = files.split_first() else {
         return Ok(None);
@@ -80,10 +75,8 @@ fn decide_by_info<'a>(
     is_dir: bool,
     resolver: &mut Resolver<'a>,
 ) -> Result<Option<State<'a>>, AllocError>
-    requires open { is_marked (names_in resolver.old.decided) query.name.now ≡ false }
-    requires empty { resolver.old.pending.items ≡ [] }
-    ensures moves { IfOk result (λ r. Reads query.entry (info_assignments (lent info.now) path.now is_dir) resolver.old r [] resolver.new) }
-    ensures empty { IfOk result (λ r. IfNone r (resolver.new.pending.items ≡ [])) }
+    requires { IsReady query resolver.old }
+    ensures { IfOk result (λ r. Decides query.entry (info_assignments (lent info.now) path.now is_dir) resolver.old r resolver.new) }
 {
     let Some(file) = info else {
         return Ok(None);
@@ -198,10 +191,8 @@ impl AttrChain {
         is_dir: bool,
         resolver: &mut Resolver<'a>,
     ) -> Result<Option<State<'a>>, AllocError>
-        requires open { is_marked (names_in resolver.old.decided) query.name.now ≡ false }
-        requires empty { resolver.old.pending.items ≡ [] }
-        ensures moves { IfOk result (λ r. Reads query.entry (assignments_of self.now path.now is_dir) resolver.old r [] resolver.new) }
-        ensures empty { IfOk result (λ r. IfNone r (resolver.new.pending.items ≡ [])) }
+        requires { IsReady query resolver.old }
+        ensures { IfOk result (λ r. Decides query.entry (assignments_of self.now path.now is_dir) resolver.old r resolver.new) }
     {
         if let Some(state) = decide_by_info(query, &self.info, path, is_dir, resolver)? {
             return Ok(Some(state));

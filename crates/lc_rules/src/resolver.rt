@@ -3,7 +3,7 @@
 ghost use Rattle.std.specs.Prelude.{◌≡◌, ◌≤◌, ◌+◌, ◌∷◌, [], ◌++◌, false, map, reverse, length, IfOk, IfNone, MatchOption, Some, None, List};
 ghost use Rattle.std.specs.List.{list_any};
 ghost use Rattle.lc_rules.specs.Decision.{DecidesByEquations};
-ghost use Rattle.lc_rules.specs.Resolving.{is_marked, Reads, still_to_read, names_in, stacked};
+ghost use Rattle.lc_rules.specs.Resolving.{is_marked, Reads, IsReady, Decides, still_to_read, names_in, stacked};
 ghost use Rattle.lc_rules.specs.Models.{state_model, assignment_ref_model, seen_state, assignment_model, pattern_line_model};
 ghost use Rattle.lc_rules.specs.KnownMacros.{macros_for, macro_body_model, expanded, matters};
 ghost use Rattle.lc_rules.specs.AttrStates.{by_line, by_lines};
@@ -108,8 +108,7 @@ fn decide_pending<'a>(
     resolver: &mut Resolver<'a>,
 ) -> Result<Option<State<'a>>, AllocError>
     requires { is_marked (names_in resolver.old.decided) query.name.now ≡ false }
-    ensures moves { IfOk result (λ r. Reads query.entry (stacked resolver.old.pending.items) resolver.old r [] resolver.new) }
-    ensures empty { IfOk result (λ r. IfNone r (resolver.new.pending.items ≡ [])) }
+    ensures { IfOk result (λ r. Decides query.entry (stacked resolver.old.pending.items) resolver.old r resolver.new) }
 {
     'words: while let Some(word) = resolver.pending.pop() {
         if let Some(state) = decide_at(query, word, resolver)? {
@@ -125,10 +124,8 @@ fn decide_by_word<'a>(
     word: AssignmentRef<'a>,
     resolver: &mut Resolver<'a>,
 ) -> Result<Option<State<'a>>, AllocError>
-    requires open { is_marked (names_in resolver.old.decided) query.name.now ≡ false }
-    requires empty { resolver.old.pending.items ≡ [] }
-    ensures moves { IfOk result (λ r. Reads query.entry (assignment_ref_model word.entry ∷ []) resolver.old r [] resolver.new) }
-    ensures empty { IfOk result (λ r. IfNone r (resolver.new.pending.items ≡ [])) }
+    requires { IsReady query resolver.old }
+    ensures { IfOk result (λ r. Decides query.entry (assignment_ref_model word.entry ∷ []) resolver.old r resolver.new) }
 {
     if let Some(state) = decide_at(query, word, resolver)? {
         return Ok(Some(state));
@@ -143,10 +140,8 @@ fn decide_by_words<'a>(
     assignments: &'a [Assignment],
     resolver: &mut Resolver<'a>,
 ) -> Result<Option<State<'a>>, AllocError>
-    requires open { is_marked (names_in resolver.old.decided) query.name.now ≡ false }
-    requires empty { resolver.old.pending.items ≡ [] }
-    ensures moves { IfOk result (λ r. Reads query.entry (reverse (map assignment_model assignments.now)) resolver.old r [] resolver.new) }
-    ensures empty { IfOk result (λ r. IfNone r (resolver.new.pending.items ≡ [])) }
+    requires { IsReady query resolver.old }
+    ensures { IfOk result (λ r. Decides query.entry (reverse (map assignment_model assignments.now)) resolver.old r resolver.new) }
 {
     let mut left = assignments;
     'words: while let Some((last, before)) = left.split_last() {
@@ -166,11 +161,8 @@ fn decide_by_line<'a>(
     is_dir: bool,
     resolver: &mut Resolver<'a>,
 ) -> Result<Option<State<'a>>, AllocError>
-    requires open { is_marked (names_in resolver.old.decided) query.name.now ≡ false }
-    requires empty { resolver.old.pending.items ≡ [] }
-    ensures moves { IfOk result
-        (λ r. Reads query.entry (by_line (pattern_line_model line.now) path.now is_dir) resolver.old r [] resolver.new) }
-    ensures empty { IfOk result (λ r. IfNone r (resolver.new.pending.items ≡ [])) }
+    requires { IsReady query resolver.old }
+    ensures { IfOk result (λ r. Decides query.entry (by_line (pattern_line_model line.now) path.now is_dir) resolver.old r resolver.new) }
 {
     let assignments = line.assignments.as_slice();
     if assignments.len() <= FEW_NAMES && !query.matters_in(assignments) {
@@ -190,11 +182,8 @@ pub(crate) fn decide_by_lines<'a>(
     is_dir: bool,
     resolver: &mut Resolver<'a>,
 ) -> Result<Option<State<'a>>, AllocError>
-    requires open { is_marked (names_in resolver.old.decided) query.name.now ≡ false }
-    requires empty { resolver.old.pending.items ≡ [] }
-    ensures moves { IfOk result
-        (λ r. Reads query.entry (by_lines (map pattern_line_model lines.now) path.now is_dir) resolver.old r [] resolver.new) }
-    ensures empty { IfOk result (λ r. IfNone r (resolver.new.pending.items ≡ [])) }
+    requires { IsReady query resolver.old }
+    ensures { IfOk result (λ r. Decides query.entry (by_lines (map pattern_line_model lines.now) path.now is_dir) resolver.old r resolver.new) }
 {
     let mut left = lines;
     'lines: while let Some((last, before)) = left.split_last() {

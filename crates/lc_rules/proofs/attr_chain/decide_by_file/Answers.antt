@@ -9,12 +9,15 @@ use Rattle.lc_rules.proofs.Moving.{moves_past}
 use Rattle.lc_rules.proofs.ReadingOrder.{lines_none}
 use Rattle.lc_rules.proofs.attr_chain.decide_by_file.Goals as goal
 
-pub returns-then-not-can_decide-clause-moves : goal.returns-then-not-can_decide-clause-moves
-returns-then-not-can_decide-clause-moves c =
+pub returns-then-not-can_decide : goal.returns-then-not-can_decide
+returns-then-not-can_decide c =
     let ms = macros_for c.args.query in
     let wanted = c.args.query.name.now in
-    moves_past ms wanted (by_lines c.args.file.now.lines c.args.path.now c.args.is_dir)
-    (names_in c.args.resolver.now.decided) c.requires.open
-    (lines_none (λ a. matters ms wanted a.0) c.args.file.now.lines c.args.path.now c.args.is_dir
-    (ap (list_any (λ (l : PatternLineModel). list_any (λ (a : AssignmentModel). matters ms wanted a.0) l.assigns))
-    (sym c.lines-lines.ensures) ∙ c.if-not-can_decide.ensures refl))
+    record {
+      moves = moves_past ms wanted (by_lines c.args.file.now.lines c.args.path.now c.args.is_dir)
+          (names_in c.args.resolver.now.decided) c.requires.undecided
+          (lines_none (λ a. matters ms wanted a.0) c.args.file.now.lines c.args.path.now c.args.is_dir
+          (ap (list_any (λ (l : PatternLineModel). list_any (λ (a : AssignmentModel). matters ms wanted a.0) l.assigns))
+          (sym c.lines-lines.ensures) ∙ c.if-not-can_decide.ensures refl));
+      empty = c.requires.empty;
+    }

@@ -9,13 +9,16 @@ use Rattle.lc_rules.proofs.Moving.{moves_past}
 use Rattle.lc_rules.proofs.ReadingOrder.{line_none, list_any-map}
 use Rattle.lc_rules.proofs.resolver.decide_by_line.Goals as goal
 
-pub returns-then-not-matters_in-clause-moves : goal.returns-then-not-matters_in-clause-moves
-returns-then-not-matters_in-clause-moves c =
+pub returns-then-not-matters_in : goal.returns-then-not-matters_in
+returns-then-not-matters_in c =
     let ms = macros_for c.args.query in
     let wanted = c.args.query.name.now in
-    moves_past ms wanted (by_line (pattern_line_model c.args.line.now) c.args.path.now c.args.is_dir)
-    (names_in c.args.resolver.now.decided) c.requires.open
-    (line_none (λ a. matters ms wanted a.0) (pattern_line_model c.args.line.now) c.args.path.now c.args.is_dir
-    (list_any-map (λ a. matters ms wanted a.0) assignment_model c.args.line.now.assignments.items
-    ∙ ap (list_any (λ (a : Assignment). matters ms wanted (assignment_model a).0)) (sym c.as_slice-assignments.ensures.value)
-    ∙ sym c.matters_in.ensures ∙ c.if-not-matters_in.true))
+    record {
+      moves = moves_past ms wanted (by_line (pattern_line_model c.args.line.now) c.args.path.now c.args.is_dir)
+          (names_in c.args.resolver.now.decided) c.requires.undecided
+          (line_none (λ a. matters ms wanted a.0) (pattern_line_model c.args.line.now) c.args.path.now c.args.is_dir
+          (list_any-map (λ a. matters ms wanted a.0) assignment_model c.args.line.now.assignments.items
+          ∙ ap (list_any (λ (a : Assignment). matters ms wanted (assignment_model a).0)) (sym c.as_slice-assignments.ensures.value)
+          ∙ sym c.matters_in.ensures ∙ c.if-not-matters_in.true));
+      empty = c.requires.empty;
+    }

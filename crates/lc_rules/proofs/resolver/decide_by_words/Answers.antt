@@ -8,19 +8,22 @@ use Rattle.lc_rules.proofs.Moving.{moves_part, as_found}
 use Rattle.lc_rules.proofs.ReadingOrder.{words_last}
 use Rattle.lc_rules.proofs.resolver.decide_by_words.Goals as goal
 
-pub returns-in-Some-2-clause-moves : goal.returns-in-Some-2-clause-moves
-returns-in-Some-2-clause-moves c =
+pub returns-in-Some-2 : goal.returns-in-Some-2
+returns-in-Some-2 c =
     let ms = macros_for c.args.query in
     let part = assignment_model c.in-Some.last.now ∷ [] in
     let rest = reverse (map assignment_model c.in-Some.before.now) in
     let middle = names_in c.words.resolver.decided in
     let end = names_in c.decide_by_word.new.resolver.decided in
     let found = Some (state_model c.in-Some-2.state) in
-    moves_part ms c.args.query.name.now _ part rest _ _ middle end found c.words.invariant.moves
-    (words_last c.words.left.now c.in-Some.before.now c.in-Some.last.now c.in-Some.ensures.cases.0)
-    (subst (λ a. Moves ms c.args.query.name.now (a ∷ []) middle found [] end) c.lend.ensures
-    (as_found ms c.args.query.name.now (assignment_ref_model c.lend.result ∷ []) middle end [] _ found
-    (ap seen_state c.in-Some-2.is) c.in_ok-state.ensures.moves))
+    record {
+      moves = moves_part ms c.args.query.name.now _ part rest _ _ middle end found c.words.invariant.moves
+          (words_last c.words.left.now c.in-Some.before.now c.in-Some.last.now c.in-Some.ensures.cases.0)
+          (subst (λ a. Moves ms c.args.query.name.now (a ∷ []) middle found [] end) c.lend.ensures
+          (as_found ms c.args.query.name.now (assignment_ref_model c.lend.result ∷ []) middle end [] _ found
+          (ap seen_state c.in-Some-2.is) c.in_ok-state.ensures.moves));
+      empty = tt;
+    }
 
 pub words-preserved : goal.words-preserved
 words-preserved c =
