@@ -9,6 +9,7 @@ pub mod AttrReading
 pub mod DecisionLaws
 pub mod OneName
 pub mod Moving
+pub mod Deciding
 pub mod ReadingOrder
 pub mod LastMacro
 pub mod NameKeys

@@ -1,20 +1,14 @@
 -- What reading assignments does to the search for one name.
-use Rattle.std.proofs.Common.{◌≡◌, ◌≤◌, ◌+◌, ℕ, Bool, true, false, List, [], ◌∷◌, ◌++◌, length, reverse, Option, Some, None, is_some}
-use Rattle.std.proofs.Common.{unwrap_or, refl, sym, ◌∙◌, ap, subst, arith, length-append, append_assoc}
+use Rattle.std.proofs.Common.{◌≡◌, ◌≤◌, ◌+◌, ℕ, true, false, List, [], ◌∷◌, ◌++◌, length, reverse, Option, Some, None, is_some}
+use Rattle.std.proofs.Common.{unwrap_or, refl, sym, ◌∙◌, ap, arith, length-append, append_assoc}
 use Rattle.std.proofs.lemmas.Bool.{or_parts}
 use Rattle.std.specs.Str.{bytes_eq}
 use Rattle.std.specs.List.{list_any}
 use Rattle.std.proofs.lemmas.List.{append-nil}
 use Rattle.lc_rules.specs.Attributes.{StateModel, set, unset, value, unspecified, AssignmentModel, MacroModel}
 use Rattle.lc_rules.specs.Decision.{macro_of, expansion, unread}
-use Rattle.lc_rules.specs.Resolving.{marked, is_marked, answer, Moves, to_read, stacked}
+use Rattle.lc_rules.specs.Resolving.{marked, is_marked, answer, Moves, to_read}
 use Rattle.lc_rules.specs.KnownMacros.{expanded, matters}
-use Rattle.lc_rules.specs.Models.{seen_state}
-use Rattle.lc_rules.specs.AttrLines.{AttrFileModel}
-use Rattle.lc_rules.specs.AttrStates.{AttrChainModel, assignments_of, by_lines, macros_of, state_of, tree_assignments}
-use Rattle.lc_rules.specs.Verdicts.{below}
-use Rattle.lc_rules.specs.declared.assignment.AssignmentRef.{AssignmentRef}
-use Rattle.lc_rules.specs.declared.states.State.{State}
 use Rattle.lc_rules.proofs.DecisionLaws.{expansion_less, unread_less}
 use Rattle.lc_rules.proofs.OneName.{answer_wanted, answer_seen, answer_macro, answer_plain, answer_none, mark_other, SameMarks}
 use Rattle.lc_rules.proofs.OneName.{answer_same, unread_same}
@@ -77,7 +71,7 @@ macro_to_read ms n s todo left ns after body q b e f =
       macro_less ms n s ns body q b,
     )
 
--- one after another
+-- where nothing is read, all of it is left
 pub moves_none : (ms : List MacroModel) (w : List ℕ) (todo : List AssignmentModel) (ns : List (List ℕ)) → is_marked ns w ≡ false
     → Moves ms w todo ns None todo ns
 moves_none ms w todo ns p = (p, λ rest. refl)
@@ -98,44 +92,12 @@ moves_more ms w a left more c d None h = (
 )
 moves_more ms w a left more c d (Some s) h = λ rest. ap (λ l. answer ms w l c) (append_assoc a more rest) ∙ h (more ++ rest)
 
--- a move of one assignment by the code's stack of pending ones
-pub through : (ms : List MacroModel) (w : List ℕ) (a : AssignmentModel) (pending : List AssignmentRef) (c d : List (List ℕ))
-    (left : List AssignmentModel) (o : Option State) (found : Option StateModel) → pending ≡ [] → seen_state o ≡ found
-    → Moves ms w (a ∷ stacked pending) c (seen_state o) left d → Moves ms w (a ∷ []) c found left d
-through ms w a pending c d left o found e f h =
-    subst (λ (x : Option StateModel). Moves ms w (a ∷ []) c x left d) f
-    (subst (λ (p : List AssignmentRef). Moves ms w (a ∷ stacked p) c (seen_state o) left d) e h)
-
--- the same move, with its end as the code answers it
-pub as_found : (ms : List MacroModel) (w : List ℕ) (todo : List AssignmentModel) (c d : List (List ℕ)) (left : List AssignmentModel)
-    (o : Option State) (found : Option StateModel) → seen_state o ≡ found → Moves ms w todo c (seen_state o) left d
-    → Moves ms w todo c found left d
-as_found ms w todo c d left o found f h = subst (λ (x : Option StateModel). Moves ms w todo c x left d) f h
-
--- a part that is read in front of others
-pub moves_part : (ms : List MacroModel) (w : List ℕ) (whole part rest todo : List AssignmentModel) (c d e : List (List ℕ))
-    (found : Option StateModel) → Moves ms w whole c None todo d → todo ≡ part ++ rest → Moves ms w part d found [] e
-    → Moves ms w whole c found rest e
-moves_part ms w whole part rest todo c d e found h q k =
-    moves_then ms w whole todo rest c d e found h
-    (subst (λ (l : List AssignmentModel). Moves ms w l d found rest e) (sym q) (moves_more ms w part [] rest d e found k))
-
 -- the answer once all is read
 pub moves_answer : (ms : List MacroModel) (w : List ℕ) (todo : List AssignmentModel) (after : List (List ℕ))
     (found : Option StateModel) → Moves ms w todo [] found [] after → answer ms w todo [] ≡ found
 moves_answer ms w todo after None h = ap (λ l. answer ms w l []) (sym (append-nil todo)) ∙ h.1 [] ∙ answer_none ms w after h.0
 moves_answer ms w todo after (Some s) h = ap (λ l. answer ms w l []) (sym (append-nil todo)) ∙ h []
 
--- a search that came to its end has the state of the attribute
-pub state_is : (files : AttrChainModel) (ms : List MacroModel) (w path : List ℕ) (is_dir : Bool) (names after : List (List ℕ))
-    (found : Option StateModel) → ms ≡ macros_of files → names ≡ []
-    → Moves ms w (assignments_of files path is_dir) names found [] after → state_of files path is_dir w ≡ unwrap_or found unspecified
-state_is files ms w path is_dir names after found f g h =
-    ap (λ o. unwrap_or o unspecified) (moves_answer (macros_of files) w (assignments_of files path is_dir) after found
-    (subst (λ (m : List MacroModel). Moves m w (assignments_of files path is_dir) [] found [] after) f
-    (subst (λ (n : List (List ℕ)). Moves ms w (assignments_of files path is_dir) n found [] after) g h)))
-
--- assignments none of which matters are passed over
 none_some : {A : Type 0} (o : Option A) → is_some o ≡ false → o ≡ None
 none_some None h = refl
 none_some (Some x) h = absurd (let e : true ≡ false = h in cc)
@@ -150,26 +112,3 @@ moves_past ms w (a ∷ r) ns p h =
     (moves_plain ms w a r ns p ((or_parts (bytes_eq a.0 w) (is_some (macro_of ms a.0)) here).0)
     (none_some (macro_of ms a.0) ((or_parts (bytes_eq a.0 w) (is_some (macro_of ms a.0)) here).1)))
     (moves_past ms w r ns p ((or_parts (matters ms w a.0) (list_any (λ a. matters ms w a.0) r) h).1))
-
--- the files nearer to the path are read first, and then the file above them
-pub nearer_first : (ms : List MacroModel) (w : List ℕ) (files nearer : List (ℕ × AttrFileModel)) (depth : ℕ) (file : AttrFileModel)
-    (path inner rest : List ℕ) (is_dir : Bool) (c d e : List (List ℕ)) (found : Option StateModel)
-    → files ≡ (depth, file) ∷ nearer → inner ≡ path → rest ≡ below depth path
-    → Moves ms w (tree_assignments nearer inner is_dir) c None [] d → Moves ms w (by_lines file.lines rest is_dir) d found [] e
-    → Moves ms w (tree_assignments files path is_dir) c found [] e
-nearer_first ms w files nearer depth file path inner rest is_dir c d e found is same cut h k =
-    let last = by_lines file.lines (below depth path) is_dir in
-    let first = subst (λ p. Moves ms w (tree_assignments nearer p is_dir) c None [] d) same h in
-    let next = subst (λ p. Moves ms w (by_lines file.lines p is_dir) d found [] e) cut k in
-    subst (λ fs. Moves ms w (tree_assignments fs path is_dir) c found [] e) (sym is)
-    (moves_then ms w (tree_assignments nearer path is_dir ++ last) last [] c d e found
-    (moves_more ms w (tree_assignments nearer path is_dir) [] last c d None first) next)
-
--- where these decide, that file is not read
-pub nearer_found : (ms : List MacroModel) (w : List ℕ) (files nearer : List (ℕ × AttrFileModel)) (depth : ℕ) (file : AttrFileModel)
-    (path inner : List ℕ) (is_dir : Bool) (c d : List (List ℕ)) (s : StateModel) → files ≡ (depth, file) ∷ nearer → inner ≡ path
-    → Moves ms w (tree_assignments nearer inner is_dir) c (Some s) [] d → Moves ms w (tree_assignments files path is_dir) c (Some s) [] d
-nearer_found ms w files nearer depth file path inner is_dir c d s is same h =
-    let first = subst (λ p. Moves ms w (tree_assignments nearer p is_dir) c (Some s) [] d) same h in
-    subst (λ fs. Moves ms w (tree_assignments fs path is_dir) c (Some s) [] d) (sym is)
-    (moves_more ms w (tree_assignments nearer path is_dir) [] (by_lines file.lines (below depth path) is_dir) c d (Some s) first)

@@ -1,13 +1,13 @@
 //! Chains of attribute files.
 
 ghost use Rattle.std.specs.Prelude.{◌≡◌, false, IfOk, codes};
-ghost use Rattle.lc_rules.specs.Models.{seen_state, state_model};
+ghost use Rattle.lc_rules.specs.Models.{state_model};
 ghost use Rattle.lc_rules.specs.AttrStates.{macros_of, top_macros, info_macros, by_lines, tree_assignments, info_assignments};
 ghost use Rattle.lc_rules.specs.AttrStates.{assignments_of, state_of, as_text};
 ghost use Rattle.lc_rules.specs.AttrChains.{no_files, with_tree_file, with_info_file};
 ghost use Rattle.lc_rules.specs.Chains.{lent};
 ghost use Rattle.lc_rules.specs.Resolving.{IsReady, Decides};
-ghost use Rattle.lc_rules.specs.KnownMacros.{known_macros, defined_in, macros_for};
+ghost use Rattle.lc_rules.specs.KnownMacros.{known_macros, defined_in};
 
 use crate::attr_file::AttrFile;
 use crate::chain_files::{ChainFiles, FilesLeft, share};

@@ -1,10 +1,10 @@
 //! How one attribute of a path is decided, from the assignments of the highest precedence on.
 
-ghost use Rattle.std.specs.Prelude.{◌≡◌, ◌≤◌, ◌+◌, ◌∷◌, [], ◌++◌, false, map, reverse, length, IfOk, IfNone, MatchOption, Some, None, List};
+ghost use Rattle.std.specs.Prelude.{◌≡◌, ◌≤◌, ◌∷◌, [], ◌++◌, false, map, reverse, IfOk, IfNone};
 ghost use Rattle.std.specs.List.{list_any};
 ghost use Rattle.lc_rules.specs.Decision.{DecidesByEquations};
 ghost use Rattle.lc_rules.specs.Resolving.{is_marked, Reads, IsReady, Decides, still_to_read, names_in, stacked};
-ghost use Rattle.lc_rules.specs.Models.{state_model, assignment_ref_model, seen_state, assignment_model, pattern_line_model};
+ghost use Rattle.lc_rules.specs.Models.{state_model, assignment_ref_model, assignment_model, pattern_line_model};
 ghost use Rattle.lc_rules.specs.KnownMacros.{macros_for, macro_body_model, expanded, matters};
 ghost use Rattle.lc_rules.specs.AttrStates.{by_line, by_lines};
 
@@ -183,7 +183,8 @@ pub(crate) fn decide_by_lines<'a>(
     resolver: &mut Resolver<'a>,
 ) -> Result<Option<State<'a>>, AllocError>
     requires { IsReady query resolver.old }
-    ensures { IfOk result (λ r. Decides query.entry (by_lines (map pattern_line_model lines.now) path.now is_dir) resolver.old r resolver.new) }
+    ensures { IfOk result
+        (λ r. Decides query.entry (by_lines (map pattern_line_model lines.now) path.now is_dir) resolver.old r resolver.new) }
 {
     let mut left = lines;
     'lines: while let Some((last, before)) = left.split_last() {
