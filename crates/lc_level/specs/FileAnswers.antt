@@ -3,6 +3,7 @@ use Rattle.std.specs.Prelude.{ℕ, cond, nat_lt, List, length, Result, Ok, Err}
 use Rattle.lc_census.specs.Census.{count_of}
 use Rattle.lc_census.proofs.OneCutting.{cut}
 use Rattle.lc_census.specs.declared.totals.Count.{Count}
+use Rattle.lc_rules.specs.Limits.{max_rule_bytes}
 use Rattle.lc_tree.specs.Trees.{Content}
 use Rattle.lc_level.specs.declared.fault_word.FaultWord.{FaultWord}
 use Rattle.lc_level.specs.declared.fault_word.FaultWord.TheVariants.{Read, Long}
@@ -17,4 +18,4 @@ counted file = cond file.fails (Err Read) (Ok (census file.bytes))
 
 -- reading it as rules gives its bytes, unless they are too many or it fails
 abbrev pub read_as_rules : Content → Result (List ℕ) FaultWord
-read_as_rules file = cond (nat_lt 1048576 (length file.bytes)) (Err Long) (cond file.fails (Err Read) (Ok file.bytes))
+read_as_rules file = cond (nat_lt max_rule_bytes (length file.bytes)) (Err Long) (cond file.fails (Err Read) (Ok file.bytes))

@@ -1,9 +1,10 @@
 -- What an open and a reading of one file answers.
-use Rattle.std.specs.Prelude.{◌≡◌, ℕ, ◌≤◌, ◌<◌, ◌^◌, List, length, Result, Ok, Err}
+use Rattle.std.specs.Prelude.{◌≡◌, ℕ, ◌≤◌, ◌<◌, ◌+◌, ◌^◌, List, length, Result, Ok, Err}
 use Rattle.std.specs.List.{concat}
 use Rattle.lc_census.specs.Census.{IsCensus}
 use Rattle.lc_census.specs.Reads.{at_end, at_failure, at_neither}
 use Rattle.lc_census.specs.declared.totals.Count.{Count}
+use Rattle.lc_rules.specs.Limits.{max_rule_bytes}
 use Rattle.lc_tree.specs.MemTrees.{mem_gives}
 use Rattle.lc_tree.specs.OneAnswer.{content_at}
 use Rattle.lc_tree.specs.Trees.{Contents}
@@ -32,9 +33,9 @@ MayCount gives (Err word.Absent) = ⊥
 
 -- what reading it as rules may give: its bytes, a failed read before they are too many, or one byte more than a rule file may have
 abbrev pub MayReadRules : Contents → Result (List ℕ) FaultWord → Type 0
-MayReadRules gives (Ok bytes) = (pieces : List (List ℕ)) × gives pieces at_end × (concat pieces ≡ bytes) × (length bytes ≤ 1048576)
-MayReadRules gives (Err word.Read) = (pieces : List (List ℕ)) × gives pieces at_failure × (length (concat pieces) ≤ 1048576)
-MayReadRules gives (Err word.Long) = (pieces : List (List ℕ)) × gives pieces at_neither × (length (concat pieces) ≡ 1048577)
+MayReadRules gives (Ok bytes) = (pieces : List (List ℕ)) × gives pieces at_end × (concat pieces ≡ bytes) × (length bytes ≤ max_rule_bytes)
+MayReadRules gives (Err word.Read) = (pieces : List (List ℕ)) × gives pieces at_failure × (length (concat pieces) ≤ max_rule_bytes)
+MayReadRules gives (Err word.Long) = (pieces : List (List ℕ)) × gives pieces at_neither × (length (concat pieces) ≡ max_rule_bytes + 1)
 MayReadRules gives (Err word.Endless) = ⊥
 MayReadRules gives (Err word.Name) = ⊥
 MayReadRules gives (Err word.Twice) = ⊥

@@ -1,5 +1,6 @@
 //! The end of a walk over any shared board: the board is closed, and its rows are assembled.
 ghost use Rattle.std.specs.Prelude.{◌≡◌, ℕ, ◌≤◌, [], Some, slice_get, vec_len, map};
+ghost use Rattle.lc_board.specs.Limits.{capacity_limit};
 ghost use Rattle.lc_walk.specs.Passes.{HaveWorked, asked};
 ghost use Rattle.lc_level.specs.Selection.{SelectionModel};
 ghost use Rattle.lc_level.specs.TreeAnswers.{MayAnswer};
@@ -40,7 +41,7 @@ pub fn finish<B: Shared<Job, Row>, T: Tree>(
     lists: Lists,
     tally: Tally,
 ) -> Result<Report, WalkFault>
-    requires room { (1 ≤ B.capacity_of board) × (B.capacity_of board ≤ 1048576) }
+    requires room { (1 ≤ B.capacity_of board) × (B.capacity_of board ≤ capacity_limit) }
     requires workers { 1 ≤ B.workers_of board }
     requires top { (root : JobModel) × B.is_root board root × (root.path ≡ []) }
     requires all { vec_len passes ≡ B.workers_of board }
