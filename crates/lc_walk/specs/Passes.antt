@@ -1,5 +1,6 @@
--- What the passes of a board have done by the time that it is closed.
-use Rattle.std.specs.Prelude.{◌≡◌, ℕ, List, slice_get, Some}
+-- A board that is closed: what must be so of it, and what its passes have done by then.
+use Rattle.std.specs.Prelude.{◌≡◌, ℕ, ◌≤◌, List, [], length, slice_get, Some}
+use Rattle.lc_board.specs.Limits.{capacity_limit}
 use Rattle.lc_board.specs.Pass.{Pass}
 use Rattle.lc_walk.specs.Tally.{TallyModel, StandsFor}
 use Rattle.lc_level.specs.Answers.{Answers}
@@ -9,6 +10,16 @@ use Rattle.lc_walk.specs.Lawful.{Asked}
 use Rattle.lc_walk.specs.Worked.{AreLawful, FoundOver, files_of_passes}
 use Rattle.lc_walk.specs.declared.options.Lists.{Lists}
 use Rattle.lc_walk.specs.declared.row.Row.{Row}
+
+-- a board of this capacity and number of workers may be closed with these passes: it has room, workers and the top of a tree, and they are
+-- its own, one for each worker, in order
+pub record IsClosable {P : Type 0} (capacity count : ℕ) (IsRoot : JobModel → Type 0) (Owns : P → Type 0)
+    (view : P → Pass JobModel Row) (passes : List P) : Type 0 where
+  pub room : (1 ≤ capacity) × (capacity ≤ capacity_limit)
+  pub workers : 1 ≤ count
+  pub top : (root : JobModel) × IsRoot root × (root.path ≡ [])
+  pub all : length passes ≡ count
+  pub each : (w : ℕ) (p : P) → slice_get passes w ≡ Some p → Owns p × ((view p).worker ≡ w)
 
 -- each pass gave lawful rows and has found the board over, and the tally is that of the files of all rows returned as Listed
 pub record HaveWorked (ask : Asked) (MayAnswer : List ℕ → Answers → Type 0)

@@ -1,7 +1,6 @@
 //! The end of a walk over any shared board: the board is closed, and its rows are assembled.
-ghost use Rattle.std.specs.Prelude.{◌≡◌, ℕ, ◌≤◌, [], Some, slice_get, vec_len, map};
-ghost use Rattle.lc_board.specs.Limits.{capacity_limit};
-ghost use Rattle.lc_walk.specs.Passes.{HaveWorked, asked};
+ghost use Rattle.std.specs.Prelude.{◌≡◌, [], map};
+ghost use Rattle.lc_walk.specs.Passes.{HaveWorked, IsClosable, asked};
 ghost use Rattle.lc_level.specs.Selection.{SelectionModel};
 ghost use Rattle.lc_level.specs.TreeAnswers.{MayAnswer};
 ghost use Rattle.lc_walk.specs.WalkAnswers.{WalkAnswers};
@@ -41,11 +40,7 @@ pub fn finish<B: Shared<Job, Row>, T: Tree>(
     lists: Lists,
     tally: Tally,
 ) -> Result<Report, WalkFault>
-    requires room { (1 ≤ B.capacity_of board) × (B.capacity_of board ≤ capacity_limit) }
-    requires workers { 1 ≤ B.workers_of board }
-    requires top { (root : JobModel) × B.is_root board root × (root.path ≡ []) }
-    requires all { vec_len passes ≡ B.workers_of board }
-    requires each { (w : ℕ) (p : B.Pass) → slice_get passes.items w ≡ Some p → B.owns board p × ((B.Pass.view p).worker ≡ w) }
+    requires { IsClosable (B.capacity_of board) (B.workers_of board) (B.is_root board) (B.owns board) B.Pass.view passes.items }
     ensures { (tree : T) (selection : SelectionModel) →
         HaveWorked (asked lists selection) (MayAnswer (T.lists tree) (T.gives tree)) (map (λ p. B.Pass.view p) passes.items) tally →
         (root : JobModel) → B.is_root board root → root.path ≡ [] →
