@@ -1,9 +1,10 @@
 -- What running all workers of a walk leaves.
-use Rattle.std.specs.Prelude.{◌≡◌, ℕ, List, length, slice_get, Option, Some}
+use Rattle.std.specs.Prelude.{◌≡◌, ℕ, ◌<◌, List, length, slice_get, slice_index_or, Option, Some}
 use Rattle.std.specs.List.{flat_map}
 use Rattle.lc_board.specs.Pass.{Pass}
 use Rattle.lc_level.specs.Answers.{Answers}
 use Rattle.lc_level.specs.Job.{JobModel}
+use Rattle.lc_walk.specs.BoardPasses.{IsFree, IsPassOf}
 use Rattle.lc_walk.specs.Lawful.{Asked}
 use Rattle.lc_walk.specs.Serving.{EndsAs}
 use Rattle.lc_walk.specs.Tally.{TallyModel, CountedFile, StandsFor}
@@ -19,6 +20,21 @@ pub record HasRun (ask : Asked) (MayAnswer : List ℕ → Answers → Type 0)
     (first last : Pass JobModel Row) (end : End) (tally : Option TallyModel) : Type 0 where
   pub ends : EndsAs end last
   pub worked : HasWorked ask MayAnswer first last tally
+
+-- of the passes of a board
+module _ {B P : Type 0} (owns : B → P → Type 0) (view : P → Pass JobModel Row) (board : B) where
+  -- each is the board's own and has claimed nothing
+  abbrev pub AreFree : List P → Type 0
+  AreFree passes = (i : ℕ) (p : P) → i < length passes → p ≡ slice_index_or passes i p → IsPassOf owns view board IsFree p
+
+  -- a worker that was given one has run, and leaves one that is the board's own
+  abbrev pub HasRunOn : Asked → (List ℕ → Answers → Type 0) → P → Worked P → Type 0
+  HasRunOn ask MayAnswer given left = owns board left.pass × HasRun ask MayAnswer (view given) (view left.pass) left.end left.tally
+
+  -- so has each worker that was given one of them, in order
+  abbrev pub HaveRunOn : Asked → (List ℕ → Answers → Type 0) → List P → List (Worked P) → Type 0
+  HaveRunOn ask MayAnswer passes workers = (i : ℕ) (p : P) (w : Worked P) → i < length passes →
+      HasRunOn ask MayAnswer (slice_index_or passes i p) (slice_index_or workers i w)
 
 module _ {P : Type 0} where
   -- each has found the board over

@@ -1,8 +1,8 @@
 //! All workers of a walk: they run at the same time, and their tallies become one.
-ghost use Rattle.std.specs.Prelude.{◌≡◌, ℕ, ◌<◌, ◌++◌, ◌∷◌, [], List, IfOk, IfSome, map, vec_len, slice_index_or};
+ghost use Rattle.std.specs.Prelude.{◌≡◌, ◌++◌, ◌∷◌, [], List, IfOk, IfSome, map, vec_len};
 ghost use Rattle.lc_level.specs.TreeAnswers.{MayAnswer};
 ghost use Rattle.lc_walk.specs.BoardPasses.{IsFree, IsPassOf};
-ghost use Rattle.lc_walk.specs.Running.{HasRun, AllOver, TalliesAll};
+ghost use Rattle.lc_walk.specs.Running.{AreFree, HasRunOn, HaveRunOn, AllOver, TalliesAll};
 ghost use Rattle.lc_walk.specs.Worked.{TalliesFor};
 ghost use Rattle.lc_walk.specs.declared.worker.End.TheVariants.{Over};
 ghost use Rattle.lc_walk.specs.Tally.{CountedFile, StandsFor};
@@ -36,18 +36,15 @@ pub(crate) fn run_all<B: Shared<Job, Row>, T: Tree, R: Threads + Wait + Sync>(
     passes: Vec<B::Pass>,
     options: &Options<'_>,
 ) -> Result<Vec<Worked<B::Pass>>, AllocError>
-    requires each { (i : ℕ) (p : _) → i < vec_len passes → p ≡ slice_index_or passes.items i p →
-        IsPassOf B.owns B.Pass.view board.now IsFree p }
+    requires { AreFree B.owns B.Pass.view board.now passes.items }
     ensures all { IfOk result (λ v. vec_len v ≡ vec_len passes) }
-    ensures each { IfOk result (λ v. (i : ℕ) (p : _) (w : _) → i < vec_len passes → B.owns board.now (slice_index_or v.items i w).pass
-        × HasRun (asked_by options.now) (MayAnswer (T.lists tree.now) (T.gives tree.now)) (B.Pass.view (slice_index_or passes.items i p))
-        (B.Pass.view (slice_index_or v.items i w).pass) (slice_index_or v.items i w).end (slice_index_or v.items i w).tally) }
+    ensures each { IfOk result (λ v. HaveRunOn B.owns B.Pass.view board.now (asked_by options.now)
+        (MayAnswer (T.lists tree.now) (T.gives tree.now)) passes.items v.items) }
 {
     let run = |pass: B::Pass| -> Worked<B::Pass>
         requires { IsPassOf B.owns B.Pass.view board.now IsFree pass }
-        ensures { B.owns board.entry.now result.pass
-            × HasRun (asked_by options.entry.now) (MayAnswer (T.lists tree.entry.now) (T.gives tree.entry.now)) (B.Pass.view pass)
-            (B.Pass.view result.pass) result.end result.tally }
+        ensures { HasRunOn B.owns B.Pass.view board.entry.now (asked_by options.entry.now)
+            (MayAnswer (T.lists tree.entry.now) (T.gives tree.entry.now)) pass result }
     {
         let worker = Worker {
             rt,

@@ -1,4 +1,4 @@
-use Rattle.std.proofs.Common.{rules, ◌≡◌, ◌<◌, ◌≤◌, length, map, slice_get, Some, sym, ap, ◌∙◌, subst, refl}
+use Rattle.std.proofs.Common.{rules, ◌≡◌, ◌≤◌, length, map, slice_get, Some, sym, ap, ◌∙◌, subst, refl}
 use Rattle.std.proofs.lemmas.Option.{slice_get-get_or}
 use Rattle.lc_board.proofs.ReturnedPasses.{still_in_order, taken_in_order}
 use Rattle.lc_board.specs.Limits.{capacity_limit}
@@ -10,10 +10,9 @@ use Rattle.lc_walk.proofs.AllWorked.{have_worked}
 use Rattle.lc_walk.proofs.WalkOn.{mapped}
 use Rattle.lc_walk.proofs.walking.walk_on.Goals as goal
 
-pub run_all-requires-clause-each : goal.run_all-requires-clause-each
-run_all-requires-clause-each g c κs within = λ i p low at.
-    let inside : i < length c.in-Ok-start.passes.items = subst (λ n. i < n) c.in-Ok-start.passes.ok.0 low in
-    let first = c.in-Ok-start.ensures.passes i p (slice_get-get_or c.in-Ok-start.passes.items i p inside ∙ ap Some (sym at)) in
+pub run_all-requires-after_bounds : goal.run_all-requires-after_bounds
+run_all-requires-after_bounds g c κs within = λ i p low at.
+    let first = c.in-Ok-start.ensures.passes i p (slice_get-get_or c.in-Ok-start.passes.items i p low ∙ ap Some (sym at)) in
     (first.0, rw first.1 refl)
 
 pub finish-requires-after_bounds : goal.finish-requires-after_bounds
@@ -33,8 +32,7 @@ finish-requires-after_bounds g c κs within =
       each = λ w p at. taken_in_order view owns (λ x. x.pass) c.in-Ok-run_all.workers.items
           (still_in_order view owns (λ x. x.pass) c.in-Ok-start.passes.items c.in-Ok-run_all.workers.items same
           c.in-Ok-start.ensures.passes
-          (λ i q x low. let r = c.in-Ok-run_all.ensures.each i q x (subst (λ n. i < n) (sym c.in-Ok-start.passes.ok.0) low) in
-          (r.0, r.1.worked.worker)))
+          (λ i q x low. let r = c.in-Ok-run_all.ensures.each i q x low in (r.0, r.1.worked.worker)))
           w p (ap (λ ps. slice_get ps w) (sym c.in-Some.ensures.passes) ∙ at);
     }
 
@@ -48,6 +46,6 @@ returns g c =
     (subst (λ ps. HaveWorked ask may (map view ps) c.in-Some.gathered.tally) (sym c.in-Some.ensures.passes)
     (have_worked view ask may c.in-Ok-start.passes.items c.in-Ok-run_all.workers.items same
     (λ w p is. (c.in-Ok-start.ensures.passes w p is).1)
-    (λ i q x low. (c.in-Ok-run_all.ensures.each i q x (subst (λ n. i < n) (sym c.in-Ok-start.passes.ok.0) low)).1)
+    (λ i q x low. (c.in-Ok-run_all.ensures.each i q x low).1)
     c.in-Some.ensures.over c.in-Some.gathered.tally c.in-Some.ensures.tally)) in
     search (rules, told)
