@@ -4,7 +4,7 @@ use Rattle.std.proofs.Common.{arith}
 use Rattle.std.specs.List.Sorted.{IsStrictlySortedBy}
 use Rattle.lc_glob.specs.Path.{path_in}
 use Rattle.lc_level.specs.Answers.{Item, Answers}
-use Rattle.lc_level.specs.EntryLooks.{has_file, has_dir}
+use Rattle.lc_level.specs.EntryLooks.{has_dir}
 use Rattle.lc_level.specs.GitInfo.{ListsFor, MayAnswerGit, ReadsGit}
 use Rattle.lc_level.specs.Job.{JobModel}
 use Rattle.lc_level.specs.WellFormed.{IsWellFormed}
@@ -14,7 +14,7 @@ use Rattle.lc_tree.specs.Listing.{EntryModel, IsListing}
 use Rattle.lc_level.specs.FaultLines.{FaultLineModel}
 use Rattle.lc_level.specs.Selection.{SelectionModel}
 use Rattle.lc_level.specs.RuleFiles.{Pair, has_git, is_top, and_then, info_items, info_bytes, own_bytes, rule_bytes, extended}
-use Rattle.lc_level.specs.RulePairs.{AreFilesOf, IsReadOf, ReadsBoth}
+use Rattle.lc_level.specs.RulePairs.{AreFilesOf, IsReadOf, own_asked, ReadsBoth}
 use Rattle.lc_level.specs.SitePaths.{site_path}
 use Rattle.lc_level.specs.RuleReads.{text_items}
 use Rattle.lc_level.specs.TreeAnswers.{MayAnswer}
@@ -27,7 +27,7 @@ use Rattle.lc_level.specs.declared.open_fault.OpenFault.TheVariants.{Faulted, Br
 use Rattle.lc_level.specs.declared.fault_word.FaultWord.{FaultWord}
 use Rattle.lc_level.specs.declared.cause.Cause.TheVariants.{Memory, TooDeep}
 use Rattle.lc_level.specs.declared.fault_site.FaultSite.{FaultSite}
-use Rattle.lc_level.specs.declared.fault_site.FaultSite.TheVariants.{Directory, IgnoreFile, AttributeFile}
+use Rattle.lc_level.specs.declared.fault_site.FaultSite.TheVariants.{Directory}
 use Rattle.lc_level.proofs.GitReads.{any_count, any_rules, may_rules, listed}
 use Rattle.lc_level.proofs.GivenItems.{AsRules, items_at, entries_items, directory_items}
 use Rattle.lc_level.proofs.GivenPairs.{PairGiven, pair_given}
@@ -126,20 +126,13 @@ module _ (lists : List ℕ → Listings) (gives : List ℕ → Contents)
   -- ---- the directory's own two files
 
   abbrev ReadsOwn : Result PairRead OpenFault → Type 0
-  ReadsOwn r =
-      ReadsBoth texts (gives (path_in j.path (codes ".gitignore"))) (gives (path_in j.path (codes ".gitattributes")))
-      (has_file (codes ".gitignore") es) (has_file (codes ".gitattributes") es) (is_top j.path) IgnoreFile AttributeFile r
-
-  abbrev in_directory : List ℕ → Contents
-  in_directory n = gives (path_in j.path n)
+  ReadsOwn r = ReadsBoth gives (own_asked texts j.path es) r
 
   abbrev OwnGiven : Result PairRead OpenFault → Type 0
-  OwnGiven r = PairGiven in_directory (codes ".gitignore") (codes ".gitattributes") refl es own_rules
-      (may_rules lists gives some_content j.path) texts (is_top j.path) IgnoreFile AttributeFile r
+  OwnGiven r = PairGiven gives (own_asked texts j.path es) refl own_rules (may_rules lists gives some_content j.path) r
 
   own_given : (r : Result PairRead OpenFault) → ReadsOwn r → OwnGiven r
-  own_given r reads = pair_given in_directory (codes ".gitignore") (codes ".gitattributes") refl es own_rules
-      (may_rules lists gives some_content j.path) texts (is_top j.path) IgnoreFile AttributeFile r reads
+  own_given r reads = pair_given gives (own_asked texts j.path es) refl own_rules (may_rules lists gives some_content j.path) r reads
 
   -- so is one of its own rule files
   pub own_refused : (info : PairRead) → ReadsGit lists gives texts there (Ok info) → (u : OpenFault) → ReadsOwn (Err u)

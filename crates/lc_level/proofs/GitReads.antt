@@ -2,11 +2,11 @@
 use Rattle.std.proofs.Common.{◌≡◌, ℕ, Bool, true, false, List, [], refl, sym, ◌∙◌, ap, subst, None, Result, Ok, Err, codes}
 use Rattle.lc_glob.specs.Path.{path_in}
 use Rattle.lc_level.specs.Answers.{Item, Items, Answers}
-use Rattle.lc_level.specs.EntryLooks.{has_file, has_dir}
+use Rattle.lc_level.specs.EntryLooks.{has_dir}
 use Rattle.lc_level.specs.GitInfo.{ListsFor, MayAnswerGit, ReadsGit}
 use Rattle.lc_tree.specs.Listing.{EntryModel}
 use Rattle.lc_level.specs.RuleFiles.{has_directory, and_then, listing, info_items, info_bytes}
-use Rattle.lc_level.specs.RulePairs.{IsReadOf, ReadsBoth}
+use Rattle.lc_level.specs.RulePairs.{PairAsked, IsReadOf, ReadsBoth}
 use Rattle.lc_level.specs.SitePaths.{site_path}
 use Rattle.lc_level.specs.RuleReads.{text_if}
 use Rattle.lc_level.specs.TreeAnswers.{FailsBy, MayList}
@@ -26,6 +26,17 @@ use Rattle.lc_level.proofs.WellFormed.{clash}
 
 abbrev asked : Items → Items → Answers
 asked git info = record { here = Ok []; git = git; info = info }
+
+-- the two rule files of `.git/info`, in a directory of these entries
+abbrev pub info_asked : Bool → List ℕ → List EntryModel → PairAsked
+info_asked texts directory entries = record {
+  directory = directory;
+  entries = entries;
+  rules = record { name = codes "exclude"; site = ExcludeFile };
+  attributes = record { name = codes "attributes"; site = InfoAttributes };
+  top = true;
+  texts = texts;
+}
 
 abbrev nothing_read : PairRead
 nothing_read = record { files = record { rules = None; attributes = None }; text = None }
@@ -142,28 +153,24 @@ module _ (lists : List ℕ → Listings) (gives : List ℕ → Contents)
     info_refused there es (Broken Memory) e l present m = tt
     info_refused there es (Broken TooDeep) e l present m = absurd m
 
-    abbrev in_info : List ℕ → Contents
-    in_info n = gives (path_in (codes ".git/info") n)
-
     abbrev info_of : List EntryModel → AsRules → Items
     info_of fs given = Ok (items_at (any_count (codes ".git/info")) given fs)
 
     abbrev InfoGiven : List EntryModel → Result PairRead OpenFault → Type 0
-    InfoGiven fs r = PairGiven in_info (codes "exclude") (codes "attributes") refl fs (any_rules (codes ".git/info"))
-        (may_rules (codes ".git/info")) texts true ExcludeFile InfoAttributes r
+    InfoGiven fs r = PairGiven gives (info_asked texts (codes ".git/info") fs) refl (any_rules (codes ".git/info"))
+        (may_rules (codes ".git/info")) r
 
     -- what its two files answered
     pub both_files : (there : Bool) (es fs : List EntryModel) (r : Result PairRead OpenFault) → there ≡ true
         → lists (codes ".git") (Ok es) → has_dir (codes "info") es ≡ true →
         lists (codes ".git/info") (Ok fs) →
-        ReadsBoth texts (gives (codes ".git/info/exclude")) (gives (codes ".git/info/attributes")) (has_file (codes "exclude") fs)
-        (has_file (codes "attributes") fs) true ExcludeFile InfoAttributes r →
+        ReadsBoth gives (info_asked texts (codes ".git/info") fs) r →
         ReadsGit lists gives texts there r
     both_files there es fs r e l present m reads =
-        at_true there r e (at r (pair_given in_info (codes "exclude") (codes "attributes") refl fs (any_rules (codes ".git/info"))
-        (may_rules (codes ".git/info")) texts true ExcludeFile InfoAttributes r reads))
+        at_true there r e (at r (pair_given gives (info_asked texts (codes ".git/info") fs) refl (any_rules (codes ".git/info"))
+        (may_rules (codes ".git/info")) r reads))
       where
-        may : (given : AsRules) → ((n : List ℕ) → MayReadRules (in_info n) (given n))
+        may : (given : AsRules) → ((n : List ℕ) → MayReadRules (gives (path_in (codes ".git/info") n)) (given n))
             → MayAnswerGit lists gives true (asked (Ok (git_items es)) (info_of fs given))
         may given k = record { git = λ t. may_git es l; info = λ t h. listed (codes ".git/info") fs given k m }
 

@@ -1,11 +1,12 @@
 -- The items of a directory, by what reading its two rule files answered.
-use Rattle.std.proofs.Common.{◌≡◌, ℕ, Bool, false, inl, inr, List, refl, sym, ◌∙◌, ap, Option, Some, None, Result, Ok, Err, bytes_eq}
+use Rattle.std.proofs.Common.{◌≡◌, ℕ, false, inl, inr, List, refl, sym, ◌∙◌, ap, Option, Some, None, Result, Ok, Err, bytes_eq}
 use Rattle.std.proofs.Common.{option_map}
+use Rattle.lc_glob.specs.Path.{path_in}
 use Rattle.lc_level.specs.EntryLooks.{has_file}
 use Rattle.lc_tree.specs.Listing.{EntryModel}
 use Rattle.lc_level.specs.FaultLines.{FaultLineModel}
 use Rattle.lc_level.specs.RuleFiles.{Pair, file_named, both_read}
-use Rattle.lc_level.specs.RulePairs.{IsReadOf, ReadsBoth}
+use Rattle.lc_level.specs.RulePairs.{PairAsked, IsReadOf, ReadsBoth}
 use Rattle.lc_level.specs.RuleReads.{MayGive}
 use Rattle.lc_tree.specs.Trees.{Contents}
 use Rattle.lc_level.specs.FileReads.{MayReadRules}
@@ -29,34 +30,48 @@ second_fault : (p q : List ℕ) (x : Option (List ℕ)) (word : FaultWord)
 second_fault p q None word = refl
 second_fault p q (Some x) word = refl
 
--- the answers of the tree below the directory, by name; the two names; the entries; what other files give as rules
-module _ (gives : List ℕ → Contents) (first_name second_name : List ℕ) (apart : bytes_eq first_name second_name ≡ false)
-    (es : List EntryModel)
-    (rules : AsRules) (may_read : (n : List ℕ) → MayReadRules (gives n) (rules n)) where
+-- what is asked of the files of a tree, whose two names differ, and what all files of the directory give as rules
+module _ (gives : List ℕ → Contents) (asked : PairAsked) (apart : bytes_eq asked.rules.name asked.attributes.name ≡ false)
+    (rules : AsRules) (may_read : (n : List ℕ) → MayReadRules (gives (path_in asked.directory n)) (rules n)) where
+  abbrev first_name : List ℕ
+  first_name = asked.rules.name
+
+  abbrev second_name : List ℕ
+  second_name = asked.attributes.name
+
+  abbrev es : List EntryModel
+  es = asked.entries
+
+  -- what the file of a name in the directory may give
+  abbrev here : List ℕ → Contents
+  here n = gives (path_in asked.directory n)
+
   -- what reading the two gives of these items
-  abbrev read_of : List ℕ → List ℕ → AsRules → Counted → Result Pair FaultLineModel
+  abbrev pub read_of : List ℕ → List ℕ → AsRules → Counted → Result Pair FaultLineModel
   read_of p q given counted =
       both_read p (file_named first_name (items_at counted given es)) q (file_named second_name (items_at counted given es))
 
   -- what all files give as rules, so that reading the two gives what was answered
-  abbrev pub PairGiven : Bool → Bool → FaultSite → FaultSite → Result PairRead OpenFault → Type 0
-  PairGiven texts top first second (Ok read) =
-      (given : AsRules) × ((n : List ℕ) → MayReadRules (gives n) (given n))
-      × ((bytes : Pair) × IsReadOf texts top read bytes × ((p q : List ℕ) (counted : Counted) → read_of p q given counted ≡ Ok bytes))
-  PairGiven texts top first second (Err (Faulted site word)) =
-      (given : AsRules) × ((n : List ℕ) → MayReadRules (gives n) (given n))
+  abbrev pub PairGiven : Result PairRead OpenFault → Type 0
+  PairGiven (Ok read) =
+      (given : AsRules) × ((n : List ℕ) → MayReadRules (here n) (given n))
+      × ((bytes : Pair) × IsReadOf asked.texts asked.top read bytes
+      × ((p q : List ℕ) (counted : Counted) → read_of p q given counted ≡ Ok bytes))
+  PairGiven (Err (Faulted site word)) =
+      (given : AsRules) × ((n : List ℕ) → MayReadRules (here n) (given n))
       × ((path_at : FaultSite → List ℕ) (counted : Counted)
-      → read_of (path_at first) (path_at second) given counted ≡ Err (record { path = path_at site; word = word }))
-  PairGiven texts top first second (Err (Broken Memory)) = Unit {0}
-  PairGiven texts top first second (Err (Broken TooDeep)) = ⊥
+      → read_of (path_at asked.rules.site) (path_at asked.attributes.site) given counted
+      ≡ Err (record { path = path_at site; word = word }))
+  PairGiven (Err (Broken Memory)) = Unit {0}
+  PairGiven (Err (Broken TooDeep)) = ⊥
 
   abbrev with_both : Option (Result (List ℕ) FaultWord) → Option (Result (List ℕ) FaultWord) → AsRules
   with_both x y = but second_name y (but first_name x rules)
 
-  may_both : (x y : Option (Result (List ℕ) FaultWord)) → MayGive (gives first_name) (has_file first_name es) x
-      → MayGive (gives second_name) (has_file second_name es) y → (n : List ℕ) → MayReadRules (gives n) (with_both x y n)
-  may_both x y a b = may_but gives second_name (has_file second_name es) y (but first_name x rules) b
-      (may_but gives first_name (has_file first_name es) x rules a may_read)
+  may_both : (x y : Option (Result (List ℕ) FaultWord)) → MayGive (here first_name) (has_file first_name es) x
+      → MayGive (here second_name) (has_file second_name es) y → (n : List ℕ) → MayReadRules (here n) (with_both x y n)
+  may_both x y a b = may_but here second_name (has_file second_name es) y (but first_name x rules) b
+      (may_but here first_name (has_file first_name es) x rules a may_read)
 
   first_is : (x y : Option (Result (List ℕ) FaultWord)) (v : Result (List ℕ) FaultWord) → x ≡ Some v → with_both x y first_name ≡ v
   first_is x y v e = at_other second_name first_name y (but first_name x rules) apart ∙ ap (λ o. but first_name o rules first_name) e
@@ -65,22 +80,20 @@ module _ (gives : List ℕ → Contents) (first_name second_name : List ℕ) (ap
   second_is : (x y : Option (Result (List ℕ) FaultWord)) (v : Result (List ℕ) FaultWord) → y ≡ Some v → with_both x y second_name ≡ v
   second_is x y v e = ap (λ o. but second_name o (but first_name x rules) second_name) e ∙ at_name second_name v (but first_name x rules)
 
-  both_are : (x y : Option (Result (List ℕ) FaultWord)) → MayGive (gives first_name) (has_file first_name es) x
-      → MayGive (gives second_name) (has_file second_name es) y →
+  both_are : (x y : Option (Result (List ℕ) FaultWord)) → MayGive (here first_name) (has_file first_name es) x
+      → MayGive (here second_name) (has_file second_name es) y →
       (p q : List ℕ) (counted : Counted) → read_of p q (with_both x y) counted ≡ both_read p x q y
   both_are x y a b p q counted =
       ap (λ o. both_read p o q (file_named second_name (items_at counted (with_both x y) es)))
-      (given_items (gives first_name) counted (with_both x y) first_name x es a (first_is x y))
-      ∙ ap (λ o. both_read p x q o) (given_items (gives second_name) counted (with_both x y) second_name y es b (second_is x y))
+      (given_items (here first_name) counted (with_both x y) first_name x es a (first_is x y))
+      ∙ ap (λ o. both_read p x q o) (given_items (here second_name) counted (with_both x y) second_name y es b (second_is x y))
 
   first_at : (x : Option (Result (List ℕ) FaultWord)) (v : Result (List ℕ) FaultWord) → x ≡ Some v → but first_name x rules first_name ≡ v
   first_at x v e = ap (λ o. but first_name o rules first_name) e ∙ at_name first_name v rules
 
   -- the answer for two files is one for the items
-  pub pair_given : (texts top : Bool) (first second : FaultSite) (r : Result PairRead OpenFault) →
-      ReadsBoth texts (gives first_name) (gives second_name) (has_file first_name es) (has_file second_name es) top first second r
-      → PairGiven texts top first second r
-  pair_given texts top first second (Ok read) (bytes, are, may) =
+  pub pair_given : (r : Result PairRead OpenFault) → ReadsBoth gives asked r → PairGiven r
+  pair_given (Ok read) (bytes, are, may) =
       let x : Option (Result (List ℕ) FaultWord) = option_map Ok bytes.rules in
       let y : Option (Result (List ℕ) FaultWord) = option_map Ok bytes.attributes in (
         with_both x y,
@@ -92,24 +105,25 @@ module _ (gives : List ℕ → Contents) (first_name second_name : List ℕ) (ap
               ∙ both_ok p q bytes.rules bytes.attributes,
         ),
       )
-  pair_given texts top first second (Err (Faulted site word)) (inl (is, may)) =
+  pair_given (Err (Faulted site word)) (inl (is, may)) =
       let x : Option (Result (List ℕ) FaultWord) = Some (Err word) in (
         but first_name x rules,
-        may_but gives first_name (has_file first_name es) x rules may may_read,
+        may_but here first_name (has_file first_name es) x rules may may_read,
         λ path_at counted.
-            ap (λ o. both_read (path_at first) o (path_at second) (file_named second_name (items_at counted (but first_name x rules) es)))
-            (given_items (gives first_name) counted (but first_name x rules) first_name x es may (first_at x))
+            ap (λ o. both_read (path_at asked.rules.site) o (path_at asked.attributes.site)
+            (file_named second_name (items_at counted (but first_name x rules) es)))
+            (given_items (here first_name) counted (but first_name x rules) first_name x es may (first_at x))
             ∙ ap (λ (l : FaultSite). Err (record { path = path_at l; word = word })) (sym is),
       )
-  pair_given texts top first second (Err (Faulted site word)) (inr (is, before, may)) =
+  pair_given (Err (Faulted site word)) (inr (is, before, may)) =
       let x : Option (Result (List ℕ) FaultWord) = option_map Ok before.0 in
       let y : Option (Result (List ℕ) FaultWord) = Some (Err word) in (
         with_both x y,
         may_both x y before.1 may,
         λ path_at counted.
-            both_are x y before.1 may (path_at first) (path_at second) counted
-            ∙ second_fault (path_at first) (path_at second) before.0 word
+            both_are x y before.1 may (path_at asked.rules.site) (path_at asked.attributes.site) counted
+            ∙ second_fault (path_at asked.rules.site) (path_at asked.attributes.site) before.0 word
             ∙ ap (λ (l : FaultSite). Err (record { path = path_at l; word = word })) (sym is),
       )
-  pair_given texts top first second (Err (Broken Memory)) r = tt
-  pair_given texts top first second (Err (Broken TooDeep)) r = absurd r
+  pair_given (Err (Broken Memory)) r = tt
+  pair_given (Err (Broken TooDeep)) r = absurd r

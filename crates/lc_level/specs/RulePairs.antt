@@ -1,11 +1,15 @@
 -- What reading the two rule files of one directory answers.
-use Rattle.std.specs.Prelude.{◌≡◌, ℕ, Bool, ◌⊎◌, List, Option, Some, Result, Ok, Err, option_map}
+use Rattle.std.specs.Prelude.{◌≡◌, ℕ, Bool, ◌⊎◌, List, Option, Some, Result, Ok, Err, option_map, codes}
+use Rattle.lc_glob.specs.Path.{path_in}
 use Rattle.lc_rules.specs.IgnoreRules.{rules_of}
 use Rattle.lc_rules.specs.AttrLines.{attribute_file_of}
-use Rattle.lc_level.specs.RuleFiles.{Pair}
+use Rattle.lc_level.specs.EntryLooks.{has_file}
+use Rattle.lc_level.specs.RuleFiles.{Pair, is_top}
 use Rattle.lc_level.specs.RuleReads.{shared, text_items, text_if, MayGive}
+use Rattle.lc_tree.specs.Listing.{EntryModel}
 use Rattle.lc_tree.specs.Trees.{Contents}
 use Rattle.lc_level.specs.declared.rule_pair.RulePair.{RulePair}
+use Rattle.lc_level.specs.declared.rule_pair.PairNames.{PairNames}
 use Rattle.lc_level.specs.declared.rule_pair.PairRead.{PairRead}
 use Rattle.lc_level.specs.declared.open_fault.OpenFault.{OpenFault}
 use Rattle.lc_level.specs.declared.open_fault.OpenFault.TheVariants.{Faulted, Broken}
@@ -13,6 +17,8 @@ use Rattle.lc_level.specs.declared.content_fault.ContentFault.{ContentFault}
 use Rattle.lc_level.specs.declared.content_fault.ContentFault.TheVariants as content_fault
 use Rattle.lc_level.specs.declared.cause.Cause.TheVariants.{Memory, TooDeep}
 use Rattle.lc_level.specs.declared.fault_site.FaultSite.{FaultSite}
+use Rattle.lc_level.specs.declared.fault_site.FaultSite.TheVariants.{IgnoreFile, AttributeFile}
+use Rattle.lc_level.specs.declared.fault_word.FaultWord.{FaultWord}
 
 -- what becomes of a directory whose file at a site was not read
 abbrev pub open_fault_by : FaultSite → ContentFault → OpenFault
@@ -29,18 +35,59 @@ pub record IsReadOf (texts top : Bool) (read : PairRead) (bytes : Pair) : Type 0
   pub files : AreFilesOf top read.files bytes
   pub text : text_items read.text ≡ text_if texts bytes.rules
 
--- the bytes of two files may have been read: what the file of each name gives, and whether it is there
-pub record MayGiveBoth (rules attributes : Contents) (rules_there attributes_there : Bool) (bytes : Pair) : Type 0 where
-  pub rules_given : MayGive rules rules_there (option_map Ok bytes.rules)
-  pub attributes_given : MayGive attributes attributes_there (option_map Ok bytes.attributes)
+-- a rule file by its name, and the site that is at fault where it can't be read
+pub record NameAsked : Type 0 where
+  pub name : List ℕ
+  pub site : FaultSite
 
--- the answer to reading both, the first first: what was read, or the site of the first fault, or memory was refused
-abbrev pub ReadsBoth : Bool → Contents → Contents → Bool → Bool → Bool → FaultSite → FaultSite → Result PairRead OpenFault → Type 0
-ReadsBoth texts rules attributes rules_there attributes_there top first second (Ok read) =
-    (bytes : Pair) × IsReadOf texts top read bytes × MayGiveBoth rules attributes rules_there attributes_there bytes
-ReadsBoth texts rules attributes rules_there attributes_there top first second (Err (Faulted site word)) =
-    ((site ≡ first) × MayGive rules rules_there (Some (Err word)))
-    ⊎ ((site ≡ second) × ((bytes : Option (List ℕ)) × MayGive rules rules_there (option_map Ok bytes))
-    × MayGive attributes attributes_there (Some (Err word)))
-ReadsBoth texts rules attributes rules_there attributes_there top first second (Err (Broken Memory)) = Unit {0}
-ReadsBoth texts rules attributes rules_there attributes_there top first second (Err (Broken TooDeep)) = ⊥
+-- two rule files that are asked for: in which directory, among which entries, whether its attributes may define macros, and whether the
+-- text of the rules is kept
+pub record PairAsked : Type 0 where
+  pub directory : List ℕ
+  pub entries : List EntryModel
+  pub rules : NameAsked
+  pub attributes : NameAsked
+  pub top : Bool
+  pub texts : Bool
+
+-- those of these names
+abbrev pub pair_asked : PairNames → Bool → List ℕ → List EntryModel → PairAsked
+pair_asked names texts directory entries = record {
+  directory = directory;
+  entries = entries;
+  rules = record { name = names.rules.name.now; site = names.rules.site };
+  attributes = record { name = names.attributes.name.now; site = names.attributes.site };
+  top = names.top;
+  texts = texts;
+}
+
+-- a directory's own
+abbrev pub own_asked : Bool → List ℕ → List EntryModel → PairAsked
+own_asked texts directory entries = record {
+  directory = directory;
+  entries = entries;
+  rules = record { name = codes ".gitignore"; site = IgnoreFile };
+  attributes = record { name = codes ".gitattributes"; site = AttributeFile };
+  top = is_top directory;
+  texts = texts;
+}
+
+module _ (gives : List ℕ → Contents) (asked : PairAsked) where
+  -- what one of them may have given, if it is there
+  abbrev pub MayGiveOne : NameAsked → Option (Result (List ℕ) FaultWord) → Type 0
+  MayGiveOne file read = MayGive (gives (path_in asked.directory file.name)) (has_file file.name asked.entries) read
+
+  -- the bytes of both may have been read
+  pub record MayGiveBoth (bytes : Pair) : Type 0 where
+    pub rules_given : MayGiveOne asked.rules (option_map Ok bytes.rules)
+    pub attributes_given : MayGiveOne asked.attributes (option_map Ok bytes.attributes)
+
+  -- the answer to reading both, the rules first: what was read, or the site of the first fault, or memory was refused
+  abbrev pub ReadsBoth : Result PairRead OpenFault → Type 0
+  ReadsBoth (Ok read) = (bytes : Pair) × IsReadOf asked.texts asked.top read bytes × MayGiveBoth bytes
+  ReadsBoth (Err (Faulted site word)) =
+      ((site ≡ asked.rules.site) × MayGiveOne asked.rules (Some (Err word)))
+      ⊎ ((site ≡ asked.attributes.site) × ((bytes : Option (List ℕ)) × MayGiveOne asked.rules (option_map Ok bytes))
+      × MayGiveOne asked.attributes (Some (Err word)))
+  ReadsBoth (Err (Broken Memory)) = Unit {0}
+  ReadsBoth (Err (Broken TooDeep)) = ⊥

@@ -1,12 +1,10 @@
 //! Entering a directory: its listing and its rule files, read whole.
 ghost use Rattle.std.specs.Prelude.{◌≡◌, ◌&&◌, IfOk, OnOk, true, codes};
-ghost use Rattle.lc_glob.specs.Path.{path_in};
-ghost use Rattle.lc_level.specs.EntryLooks.{has_file, has_dir};
+ghost use Rattle.lc_level.specs.EntryLooks.{has_dir};
 ghost use Rattle.lc_level.specs.Enters.{EntersLevel};
 ghost use Rattle.lc_level.specs.GitInfo.{ReadsGit};
 ghost use Rattle.lc_level.specs.RuleFiles.{Pair, is_top, extended};
-ghost use Rattle.lc_level.specs.RulePairs.{AreFilesOf, ReadsBoth};
-ghost use Rattle.lc_level.specs.declared.fault_site.FaultSite.TheVariants.{IgnoreFile, AttributeFile};
+ghost use Rattle.lc_level.specs.RulePairs.{AreFilesOf, own_asked, ReadsBoth};
 
 use crate::chains::{attributes_below, ignore_below};
 use crate::job::Job;
@@ -63,11 +61,7 @@ impl<T: Tree> LevelReader<'_, T> {
         scratch: &mut Scratch,
     ) -> Result<PairRead, OpenFault>
         ensures at { OnOk result (scratch.new.path.directory ≡ directory.now) }
-        ensures read { ReadsBoth self.now.kept.texts
-            (T.gives self.now.tree.now (path_in directory.now (codes ".gitignore")))
-            (T.gives self.now.tree.now (path_in directory.now (codes ".gitattributes")))
-            (has_file (codes ".gitignore") entries.now) (has_file (codes ".gitattributes") entries.now)
-            (is_top directory.now) IgnoreFile AttributeFile result }
+        ensures read { ReadsBoth (T.gives self.now.tree.now) (own_asked self.now.kept.texts directory.now entries.now) result }
     {
         let Ok(()) = scratch.path.enter(directory) else {
             return Err(OpenFault::Broken(Cause::Memory));

@@ -1,8 +1,6 @@
 //! The two rule files of one directory: its rules and its attributes.
 ghost use Rattle.std.specs.Prelude.{◌≡◌};
-ghost use Rattle.lc_glob.specs.Path.{path_in};
-ghost use Rattle.lc_level.specs.EntryLooks.{has_file};
-ghost use Rattle.lc_level.specs.RulePairs.{ReadsBoth};
+ghost use Rattle.lc_level.specs.RulePairs.{ReadsBoth, pair_asked};
 
 use crate::FaultSite;
 use crate::level_reader::LevelReader;
@@ -66,11 +64,8 @@ impl<T: Tree> LevelReader<'_, T> {
         scratch: &mut Scratch,
     ) -> Result<PairRead, OpenFault>
         ensures same { scratch.new.path.directory ≡ scratch.old.path.directory }
-        ensures read { ReadsBoth self.now.kept.texts
-            (T.gives self.now.tree.now (path_in scratch.old.path.directory names.entry.rules.name.now))
-            (T.gives self.now.tree.now (path_in scratch.old.path.directory names.entry.attributes.name.now))
-            (has_file names.entry.rules.name.now entries.now) (has_file names.entry.attributes.name.now entries.now)
-            names.entry.top names.entry.rules.site names.entry.attributes.site result }
+        ensures read { ReadsBoth (T.gives self.now.tree.now)
+            (pair_asked names.entry self.now.kept.texts scratch.old.path.directory entries.now) result }
     {
         let rules = match self.ignore_file(entries, names.rules.name, scratch) {
             Ok(read) => read,

@@ -1,15 +1,14 @@
 use Rattle.std.proofs.Common.{◌≡◌, ℕ, ◌&&◌, List, Bool, Result, Ok, Err, refl, subst, codes}
-use Rattle.lc_glob.specs.Path.{path_in}
-use Rattle.lc_level.specs.EntryLooks.{has_file, has_dir}
+use Rattle.lc_level.specs.EntryLooks.{has_dir}
 use Rattle.lc_level.specs.Enters.{EntersLevel}
 use Rattle.lc_level.specs.GitInfo.{ListsFor, ReadsGit}
 use Rattle.lc_tree.specs.Listing.{EntryModel, IsListing}
 use Rattle.lc_level.specs.RuleFiles.{is_top}
-use Rattle.lc_level.specs.RulePairs.{ReadsBoth}
+use Rattle.lc_level.specs.RulePairs.{own_asked, ReadsBoth}
 use Rattle.lc_tree.specs.Trees.{Listings, Contents}
 use Rattle.lc_level.specs.declared.rule_pair.PairRead.{PairRead}
 use Rattle.lc_level.specs.declared.open_fault.OpenFault.{OpenFault}
-use Rattle.lc_level.specs.declared.fault_site.FaultSite.TheVariants.{Directory, IgnoreFile, AttributeFile}
+use Rattle.lc_level.specs.declared.fault_site.FaultSite.TheVariants.{Directory}
 use Rattle.lc_level.proofs.EnterLevels.{list_refused, info_refused, own_refused, has_read, entered}
 use Rattle.lc_level.proofs.PassedOn.{passed_on}
 use Rattle.lc_level.proofs.level_reader.LevelReader.enter.Goals as goal
@@ -24,9 +23,7 @@ git_of lists gives texts p q es fs r a b k =
     (subst (λ (l : List EntryModel). ReadsGit lists gives texts (is_top p && has_dir (codes ".git") l) r) b k)
 
 abbrev Own : (List ℕ → Contents) → Bool → List ℕ → List EntryModel → Result PairRead OpenFault → Type 0
-Own gives texts p es r =
-    ReadsBoth texts (gives (path_in p (codes ".gitignore"))) (gives (path_in p (codes ".gitattributes")))
-    (has_file (codes ".gitignore") es) (has_file (codes ".gitattributes") es) (is_top p) IgnoreFile AttributeFile r
+Own gives texts p es r = ReadsBoth gives (own_asked texts p es) r
 
 own_of : (gives : List ℕ → Contents) (texts : Bool) (p q : List ℕ) (es fs : List EntryModel) (r : Result PairRead OpenFault) → p ≡ q
     → es ≡ fs → Own gives texts p es r → Own gives texts q fs r

@@ -1,11 +1,9 @@
 use Rattle.std.proofs.Common.{◌≡◌, ℕ, true, false, List, codes, subst}
-use Rattle.lc_glob.specs.Path.{path_in}
-use Rattle.lc_level.specs.EntryLooks.{has_file, has_dir}
+use Rattle.lc_level.specs.EntryLooks.{has_dir}
 use Rattle.lc_tree.specs.Listing.{EntryModel}
 use Rattle.lc_level.specs.GitInfo.{ReadsGit}
 use Rattle.lc_level.specs.RulePairs.{ReadsBoth}
-use Rattle.lc_level.specs.declared.fault_site.FaultSite.TheVariants.{ExcludeFile, InfoAttributes}
-use Rattle.lc_level.proofs.GitReads.{no_git, git_refused, no_info, info_refused, both_files}
+use Rattle.lc_level.proofs.GitReads.{info_asked, no_git, git_refused, no_info, info_refused, both_files}
 use Rattle.lc_level.proofs.PassedOn.{passed_on}
 use Rattle.lc_level.proofs.level_reader.LevelReader.read_git_info.Goals as goal
 
@@ -63,15 +61,10 @@ returns g c =
     let present : has_dir (codes "info") c.in_ok-git.git ≡ true = cc in
     let same : c.entries-2.result.now ≡ c.in_ok-info.info = cc in
     let gives = g.T.Tree.gives c.args.self.now.tree.now in
-    let in_directory : ReadsBoth texts (gives (codes ".git/info/exclude")) (gives (codes ".git/info/attributes"))
-    (has_file (codes "exclude") c.entries-2.result.now) (has_file (codes "attributes") c.entries-2.result.now) true ExcludeFile
-    InfoAttributes c.read_pair.result =
-    subst (λ (d : List ℕ). ReadsBoth texts (gives (path_in d (codes "exclude"))) (gives (path_in d (codes "attributes")))
-    (has_file (codes "exclude") c.entries-2.result.now) (has_file (codes "attributes") c.entries-2.result.now) true ExcludeFile
-    InfoAttributes c.read_pair.result)
+    let in_directory : ReadsBoth gives (info_asked texts (codes ".git/info") c.entries-2.result.now) c.read_pair.result =
+    subst (λ (d : List ℕ). ReadsBoth gives (info_asked texts d c.entries-2.result.now) c.read_pair.result)
     c.in-Ok.ensures c.read_pair.ensures.read in
     both_files (g.T.Tree.lists c.args.self.now.tree.now) gives (law.some_content c.args.self.now.tree.now)
     texts (has_dir (codes ".git") c.args.entries.now) c.in_ok-git.git c.in_ok-info.info c.read_pair.result there c.in_ok-git.ensures present
     c.in_ok-info.ensures
-    (subst (λ (l : List EntryModel). ReadsBoth texts (gives (codes ".git/info/exclude")) (gives (codes ".git/info/attributes"))
-    (has_file (codes "exclude") l) (has_file (codes "attributes") l) true ExcludeFile InfoAttributes c.read_pair.result) same in_directory)
+    (subst (λ (l : List EntryModel). ReadsBoth gives (info_asked texts (codes ".git/info") l) c.read_pair.result) same in_directory)
