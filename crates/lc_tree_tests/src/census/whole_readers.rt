@@ -111,7 +111,7 @@ const CASES: &[Case] = &[
 
 const BY_A_NEW_BUFFER: Case = ("a new buffer", Reader::Slice, b"*.o\n", 4, Ok(()), b"*.o\n");
 
-/// Whether this is read of a reader, by a desk that others used before.
+/// Whether this is read of a reader, by a buffer that others used before.
 fn is_read_of<S: Source + Drop>(
     buffer: &mut [u8],
     bytes: &mut Vec<u8>,
