@@ -7,6 +7,7 @@ pub mod Core
 pub mod Distinct
 pub mod Elements
 pub mod EntryCounts
+pub mod FewerWorkers
 pub mod Filtered
 pub mod FoundByPlace
 pub mod Fuller

@@ -1,5 +1,5 @@
 //! The walk over a tree.
-ghost use Rattle.std.specs.Prelude.{◌≡◌, IfOk};
+ghost use Rattle.std.specs.Prelude.{◌≡◌, ◌≤◌, IfOk};
 ghost use Rattle.lc_level.specs.TreeAnswers.{MayAnswer};
 ghost use Rattle.lc_walk.specs.WalkAnswers.{WalkAnswers};
 ghost use Rattle.lc_walk.specs.WalkOptions.{AreWithinLimits, asked_by, top_of};
@@ -28,21 +28,23 @@ fn top_of(alloc: Global, options: &Options<'_>) -> Result<Job, AllocError>
     }
 }
 
-/// Walks a tree over a board of this type, by a thread for each worker.
-pub fn walk_on<B: Shared<Job, Row>, T: Tree, R: Threads + Wait + Sync>(
+/// Walks a tree over a board of this type, by so many workers.
+fn walk_by<B: Shared<Job, Row>, T: Tree, R: Threads + Wait + Sync>(
     rt: &R,
     alloc: Global,
     tree: &T,
     options: &Options<'_>,
+    workers: u32,
 ) -> Result<Report, WalkFault>
     requires limits { AreWithinLimits options.now }
+    requires workers { (1 ≤ workers) × (workers ≤ options.now.threads) }
     ensures { WalkAnswers (MayAnswer (T.lists tree.now) (T.gives tree.now)) (asked_by options.now)
-        options.now.max_dirs options.now.threads (top_of options.now) B.promises result }
+        options.now.max_dirs workers (top_of options.now) B.promises result }
 {
     let Ok(top) = top_of(alloc, options) else {
         return Err(WalkFault::Memory);
     };
-    let Ok((board, passes)) = B::start(alloc, options.max_dirs, options.threads, top) else {
+    let Ok((board, passes)) = B::start(alloc, options.max_dirs, workers, top) else {
         return Err(WalkFault::Memory);
     };
     let Ok(workers) = run_all(rt, alloc, &board, tree, passes, options) else {
@@ -53,6 +55,26 @@ pub fn walk_on<B: Shared<Job, Row>, T: Tree, R: Threads + Wait + Sync>(
     };
     let Gathered { passes, tally } = gathered;
     finish::<B, T>(alloc, board, passes, options.lists, tally)
+}
+
+/// Walks a tree over a board of this type, by a thread for each worker. Where memory is refused to them, one worker walks once more, since
+/// many stacks take what one walk may need.
+pub fn walk_on<B: Shared<Job, Row>, T: Tree, R: Threads + Wait + Sync>(
+    rt: &R,
+    alloc: Global,
+    tree: &T,
+    options: &Options<'_>,
+) -> Result<Report, WalkFault>
+    requires limits { AreWithinLimits options.now }
+    ensures { WalkAnswers (MayAnswer (T.lists tree.now) (T.gives tree.now)) (asked_by options.now)
+        options.now.max_dirs options.now.threads (top_of options.now) B.promises result }
+{
+    match walk_by::<B, T, R>(rt, alloc, tree, options, options.threads) {
+        Err(WalkFault::Memory) if options.threads > 1 => {
+            walk_by::<B, T, R>(rt, alloc, tree, options, 1)
+        }
+        answer => answer,
+    }
 }
 
 /// Walks a tree: what it finds is what the recursive walk over the returned listings and censuses finds.
