@@ -95,7 +95,7 @@ front_stuck tokens us u [] e s never f = fits_one_empty u us s (subst (λ (l : L
 front_stuck tokens us u (x ∷ xs) e s never f = false≢true (sym (never x xs refl) ∙ ((when_one tokens us u (x ∷ xs) x xs e refl s).0 f).0)
 
 -- literals fit themselves alone
-fits_literals : (ls bytes : List ℕ) → Fits (map literal ls) bytes ↔ (bytes ≡ ls)
+pub fits_literals : (ls bytes : List ℕ) → Fits (map literal ls) bytes ↔ (bytes ≡ ls)
 fits_literals [] [] = (λ f. refl, λ e. tt)
 fits_literals [] (b ∷ bs) = (λ f. absurd f, λ e. cc)
 fits_literals (l ∷ ls) [] = (λ f. absurd f, λ e. cc)

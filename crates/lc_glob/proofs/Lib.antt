@@ -12,4 +12,5 @@ pub mod Bounds
 pub mod Matching
 pub mod Ends
 pub mod Leading
+pub mod Sizing
 pub mod Masks

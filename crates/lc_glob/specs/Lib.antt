@@ -15,5 +15,6 @@ pub mod BracketSteps
 pub mod Steps
 pub mod Costs
 pub mod Leads
+pub mod Lengths
 pub mod PathSteps
 pub mod Words

@@ -4,13 +4,17 @@ ghost use Rattle.std.specs.Prelude.{◌≡◌, ◌↔◌, IsTrue, [], ◌∷◌,
 ghost use Rattle.lc_glob.specs.Path.{segments_of, segments_left};
 
 use crate::cut::cut_at_first;
+use crate::lengths::Lengths;
 use crate::path_segment::PathSegment;
 use memchr::memrchr;
 use std::marker::Model;
 
+/// From how many bytes on a path is passed over for its lengths: a look at each segment of a shorter one costs less.
+const LONG_PATH: usize = 256;
+
 /// A path that is asked about many patterns: where its last segment begins is found once.
 ///
-/// It costs one look for a slash from the end of the path, and no memory.
+/// It costs one look for a slash from the end of the path, for a long path one pass over it too, and no memory.
 ///
 /// ```
 /// let candidate = Candidate::new(b"src/main.c");
@@ -21,17 +25,21 @@ pub struct Candidate<'a> {
     path: &'a [u8],
     pub(crate) above: SegmentsLeft<'a>,
     pub(crate) last: PathSegment<'a>,
+    /// Those of the segments above the last.
+    pub(crate) lengths: Lengths,
 }
 
 impl<'a> Model for Candidate<'a> {
     ghost use Rattle.std.specs.Prelude.{◌≡◌, ℕ, List, [], ◌∷◌, ◌++◌};
+    ghost use Rattle.lc_glob.specs.Lengths.{AreBetween};
     ghost use Rattle.lc_glob.specs.Path.{segments_of, segments_left};
 
     ghost Value = { List ℕ };
 
     ghost view = { λ c. c.path.now };
 
-    ghost invariant = { λ c. segments_of c.path.now ≡ segments_left c.above.rest ++ c.last.bytes.now ∷ [] };
+    ghost invariant = { λ c. (segments_of c.path.now ≡ segments_left c.above.rest ++ c.last.bytes.now ∷ [])
+        × AreBetween c.lengths (segments_left c.above.rest) };
 }
 
 impl<'a> Candidate<'a> {
@@ -40,7 +48,17 @@ impl<'a> Candidate<'a> {
         ensures { result ≡ path.now }
     {
         let (above, last) = split_last_segment(path);
-        Candidate { path, above, last }
+        let lengths = if path.len() < LONG_PATH {
+            Lengths::unknown()
+        } else {
+            Lengths::of(above)
+        };
+        Candidate {
+            path,
+            above,
+            last,
+            lengths,
+        }
     }
 }
 

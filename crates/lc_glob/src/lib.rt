@@ -18,13 +18,15 @@
 //! What a line of an ignore file has around its pattern, as negation, comments and trailing spaces, is no part of it.
 //!
 //! Reading takes memory, and matching none. For a pattern of `p` bytes and a path of `q` a match tests at most
-//! `(p + 1) * (q + 1)` bytes of the path.
+//! `(p + 1) * (q + 1)` bytes of the path. Of a long path it is known between how many bytes its segments have (`lengths`), so
+//! that a pattern none of them can fit is not looked for.
 #![tactic(auto)]
 
 mod bracket;
 mod byte_set;
 mod candidate;
 mod cut;
+mod lengths;
 mod match_path;
 mod match_segment;
 pub mod path;

@@ -5,6 +5,7 @@
 //! double star that was passed, since the shortest run that serves one serves all before it.
 
 ghost use Rattle.std.specs.Prelude.{◌↔◌, ◌≤◌, ◌+◌, ◌*◌, IsTrue, map};
+ghost use Rattle.lc_glob.specs.Lengths.{AreBetween};
 ghost use Rattle.lc_glob.specs.Matches.{MatchesPath};
 ghost use Rattle.lc_glob.specs.Path.{segments_of, segments_left};
 ghost use Rattle.lc_glob.specs.PathSteps.{PathEndStepIs, PathFrontStepIs, PathRetryIs, LeadsAt, cost_at, cost_after, front_cost_at};
@@ -12,6 +13,7 @@ ghost use Rattle.lc_glob.specs.Costs.{full_cost};
 ghost use Rattle.lc_glob.specs.Views.{segment_model};
 
 use crate::candidate::{Candidate, SegmentsLeft};
+use crate::lengths::Lengths;
 use crate::match_segment::fits;
 use crate::path_segment::ByteTests;
 use crate::segment::Segment;
@@ -21,7 +23,7 @@ pub(crate) fn matches_path(segments: &[Segment], path: &Candidate, tests: &mut B
     ensures matches_path { IsTrue result ↔ MatchesPath (map segment_model segments.now) (segments_of path.now) }
     ensures cost { tests.new.made ≤ tests.old.made + full_cost (map segment_model segments.now) (segments_of path.now) }
 {
-    let (above, name) = (path.above, path.last);
+    let (above, name, lengths) = (path.above, path.last, path.lengths);
     let Some((last, front)) = segments.split_last() else {
         return false;
     };
@@ -31,13 +33,13 @@ pub(crate) fn matches_path(segments: &[Segment], path: &Candidate, tests: &mut B
             segments,
             left: above,
         };
-        return all.leads_from_front(tests);
+        return all.leads(lengths, tests);
     };
     let before = PathPlace {
         segments: front,
         left: above,
     };
-    fits(tokens, name, tests) && before.leads_from_end(tests)
+    fits(tokens, name, tests) && before.leads(lengths, tests)
 }
 
 /// Segments of a pattern, and those of the path, or what is left of them, that they are compared with.
@@ -137,6 +139,15 @@ impl<'p, 'n> PathPlace<'p, 'n> {
             segments: self.segments,
             left,
         })
+    }
+
+    /// Whether the segments lead to the end of the path, whose own have such lengths.
+    fn leads(self, lengths: Lengths, tests: &mut ByteTests) -> bool
+        requires { AreBetween lengths (segments_left self.left.rest) }
+        ensures leads { IsTrue result ↔ LeadsAt self.entry }
+        ensures cost { tests.new.made ≤ tests.old.made + cost_at self.entry }
+    {
+        lengths.allow(self.segments) && self.leads_from_end(tests)
     }
 
     /// Whether the segments lead to the end of the path, from the last of both on.

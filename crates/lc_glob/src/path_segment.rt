@@ -52,6 +52,12 @@ impl<'a> PathSegment<'a> {
         self.bytes.is_empty()
     }
 
+    pub(crate) fn len(self) -> usize
+        ensures { result ≡ length self.entry.bytes.now }
+    {
+        self.bytes.len()
+    }
+
     /// The segment without its first byte, which is not looked at.
     pub(crate) fn skip_first(self) -> Option<Self>
         ensures { SkipsFirst self.entry.bytes.now result }

@@ -104,3 +104,52 @@ fn hostile_patterns_cost_no_more_than_the_bound(rt: HostRuntime) -> Result<(), F
     }
     Ok(())
 }
+
+/// A pattern, a path over 256 bytes long, whether it matches, and the most byte tests: none for what no name above the last
+/// is short or long enough for.
+const LONG_NAMES: &[(&'static [u8], Repeated, (bool, u64))] = &[
+    (
+        b"**/?/**",
+        (b"", b"fifteen-letters/", 20, b"a.c"),
+        (false, 0),
+    ),
+    (
+        b"**/?/**",
+        (b"", b"fifteen-letters/", 20, b"a/b"),
+        (true, 21),
+    ),
+    (
+        b"**/src/**",
+        (b"", b"fifteen-letters/", 20, b"a.c"),
+        (false, 0),
+    ),
+    (
+        b"**/src/**",
+        (b"", b"fifteen-letters/", 20, b"src/a"),
+        (true, 3),
+    ),
+    (
+        b"**/*?fifteen-letters/**",
+        (b"", b"fifteen-letters/", 20, b"a.c"),
+        (false, 0),
+    ),
+    (
+        b"**/*?fifteen-letters/**",
+        (b"not-", b"fifteen-letters/", 20, b"a.c"),
+        (true, 16),
+    ),
+    (
+        b"**/?/a.c",
+        (b"", b"fifteen-letters/", 20, b"a.c"),
+        (false, 3),
+    ),
+];
+
+#[test]
+fn names_of_other_lengths_are_rejected_at_a_look(rt: HostRuntime) -> Result<(), Fail> {
+    for (pattern, path, answer) in LONG_NAMES {
+        let path = repeated(rt.alloc(), *path)?;
+        check(&rt, rt.alloc(), pattern, &path, *answer)?;
+    }
+    Ok(())
+}

@@ -1,0 +1,12 @@
+use Rattle.std.proofs.Common.{◌≤◌, length}
+use Rattle.lc_glob.specs.Lengths.{AreBetween}
+use Rattle.lc_glob.specs.Path.{segments_left}
+use Rattle.lc_glob.specs.declared.lengths.Lengths.{Lengths}
+use Rattle.lc_glob.proofs.lengths.Lengths.of.Given as goal
+
+abbrev pub invariant-segments : goal.invariant-segments
+invariant-segments l = (lengths : Lengths) → lengths.shortest ≤ l.shortest → l.longest ≤ lengths.longest
+    → AreBetween lengths (segments_left l.left.rest) → AreBetween lengths (segments_left l.path.rest)
+
+abbrev pub decreases-segments : goal.decreases-segments
+decreases-segments l = length (segments_left l.left.rest)

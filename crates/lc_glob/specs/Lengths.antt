@@ -1,0 +1,19 @@
+-- How long names are, and which segments may fit names of such lengths.
+use Rattle.std.specs.Prelude.{ℕ, ◌≤◌, List, length}
+use Rattle.std.specs.List.{All}
+use Rattle.lc_glob.specs.Fits.{Fits}
+use Rattle.lc_glob.specs.Patterns.{SegmentModel, plain, double_star}
+use Rattle.lc_glob.specs.declared.lengths.Lengths.{Lengths}
+
+-- a name is no shorter than the shortest, and no longer than the longest
+abbrev pub IsBetween : Lengths → List ℕ → Type 0
+IsBetween lengths name = (lengths.shortest ≤ length name) × (length name ≤ lengths.longest)
+
+-- each of the names is such
+abbrev pub AreBetween : Lengths → List (List ℕ) → Type 0
+AreBetween lengths names = All (IsBetween lengths) names
+
+-- a plain segment fits some such name; a double star needs none
+abbrev pub FitsSome : Lengths → SegmentModel → Type 0
+FitsSome lengths (plain us) = (name : List ℕ) × IsBetween lengths name × Fits us name
+FitsSome lengths double_star = Unit {0}
