@@ -9,12 +9,15 @@ use crate::path_segment::PathSegment;
 use memchr::memrchr;
 use std::marker::Model;
 
-/// From how many bytes on a path is passed over for its lengths: a look at each segment of a shorter one costs less.
+/// From how many bytes on a path is measured: a look at each segment of a shorter one costs less.
 const LONG_PATH: usize = 256;
+
+/// For how many patterns: fewer cost less than to measure a path.
+const MANY_PATTERNS: usize = 64;
 
 /// A path that is asked about many patterns: where its last segment begins is found once.
 ///
-/// It costs one look for a slash from the end of the path, for a long path one pass over it too, and no memory.
+/// It costs one look for a slash from the end of the path, one pass over a path that is measured, and no memory.
 ///
 /// ```
 /// let candidate = Candidate::new(b"src/main.c");
@@ -47,8 +50,34 @@ impl<'a> Candidate<'a> {
     pub fn new(path: &'a [u8]) -> Self
         ensures { result ≡ path.now }
     {
+        Self::measured_from(path, usize::MAX)
+    }
+
+    /// The same for so many patterns: where they are many, a long path is measured, so that a pattern with a segment which is
+    /// shorter or longer than each of the path's is told at one look.
+    pub fn for_patterns(path: &'a [u8], patterns: usize) -> Self
+        ensures { result ≡ path.now }
+    {
+        if patterns < MANY_PATTERNS {
+            Self::new(path)
+        } else {
+            Self::measured(path)
+        }
+    }
+
+    /// The same, measured where it is long.
+    pub(crate) fn measured(path: &'a [u8]) -> Self
+        ensures { result ≡ path.now }
+    {
+        Self::measured_from(path, LONG_PATH)
+    }
+
+    /// The same, measured where it has so many bytes.
+    fn measured_from(path: &'a [u8], long: usize) -> Self
+        ensures { result ≡ path.now }
+    {
         let (above, last) = split_last_segment(path);
-        let lengths = if path.len() < LONG_PATH {
+        let lengths = if path.len() < long {
             Lengths::unknown()
         } else {
             Lengths::of(above)

@@ -5,7 +5,6 @@
 //! double star that was passed, since the shortest run that serves one serves all before it.
 
 ghost use Rattle.std.specs.Prelude.{◌↔◌, ◌≤◌, ◌+◌, ◌*◌, IsTrue, map};
-ghost use Rattle.lc_glob.specs.Lengths.{AreBetween};
 ghost use Rattle.lc_glob.specs.Matches.{MatchesPath};
 ghost use Rattle.lc_glob.specs.Path.{segments_of, segments_left};
 ghost use Rattle.lc_glob.specs.PathSteps.{PathEndStepIs, PathFrontStepIs, PathRetryIs, LeadsAt, cost_at, cost_after, front_cost_at};
@@ -13,7 +12,6 @@ ghost use Rattle.lc_glob.specs.Costs.{full_cost};
 ghost use Rattle.lc_glob.specs.Views.{segment_model};
 
 use crate::candidate::{Candidate, SegmentsLeft};
-use crate::lengths::Lengths;
 use crate::match_segment::fits;
 use crate::path_segment::ByteTests;
 use crate::segment::Segment;
@@ -33,13 +31,16 @@ pub(crate) fn matches_path(segments: &[Segment], path: &Candidate, tests: &mut B
             segments,
             left: above,
         };
-        return all.leads(lengths, tests);
+        return lengths.allow(segments) && all.leads_from_front(tests);
     };
+    if !fits(tokens, name, tests) {
+        return false;
+    }
     let before = PathPlace {
         segments: front,
         left: above,
     };
-    fits(tokens, name, tests) && before.leads(lengths, tests)
+    lengths.allow(front) && before.leads_from_end(tests)
 }
 
 /// Segments of a pattern, and those of the path, or what is left of them, that they are compared with.
@@ -139,15 +140,6 @@ impl<'p, 'n> PathPlace<'p, 'n> {
             segments: self.segments,
             left,
         })
-    }
-
-    /// Whether the segments lead to the end of the path, whose own have such lengths.
-    fn leads(self, lengths: Lengths, tests: &mut ByteTests) -> bool
-        requires { AreBetween lengths (segments_left self.left.rest) }
-        ensures leads { IsTrue result ↔ LeadsAt self.entry }
-        ensures cost { tests.new.made ≤ tests.old.made + cost_at self.entry }
-    {
-        lengths.allow(self.segments) && self.leads_from_end(tests)
     }
 
     /// Whether the segments lead to the end of the path, from the last of both on.

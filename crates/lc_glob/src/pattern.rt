@@ -128,7 +128,7 @@ impl Pattern {
         ensures bound { (bytes : List ℕ) → self.now ≡ pattern_of bytes → result.1 ≤ (length bytes + 1) * (length path.now + 1) }
     {
         let mut tests = ByteTests::none();
-        let found = self.matched(&Candidate::new(path), is_dir, &mut tests);
+        let found = self.matched(&Candidate::measured(path), is_dir, &mut tests);
         (found, tests.made())
     }
 

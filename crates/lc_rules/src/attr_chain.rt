@@ -36,13 +36,9 @@ fn decide_by_file<'a>(
     if !lines.can_decide(query) {
         return Ok(None);
     }
-    decide_by_lines(
-        query,
-        lines.as_slice(),
-        &Candidate::new(path),
-        is_dir,
-        resolver,
-    )
+    let lines = lines.as_slice();
+    let path = Candidate::for_patterns(path, lines.len());
+    decide_by_lines(query, lines, &path, is_dir, resolver)
 }
 
 /// Reads the lines of the files, the nearest to the path first.

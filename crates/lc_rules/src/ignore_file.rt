@@ -74,7 +74,8 @@ impl IgnoreFile {
     pub fn deciding(&self, path: &[u8], is_dir: bool) -> Option<&Rule>
         ensures { option_map (λ r. (Directory 0, r.now)) result ≡ deciding (at_depth 0 self.now) path.now is_dir }
     {
-        last_match(&self.rules, &Candidate::new(path), is_dir)
+        let path = Candidate::for_patterns(path, self.rules.len());
+        last_match(&self.rules, &path, is_dir)
     }
 }
 
