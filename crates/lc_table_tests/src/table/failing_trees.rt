@@ -112,7 +112,7 @@ fn is_whole((answer, told, calls): &Found) -> bool {
         && *calls == CALLS
 }
 
-/// Of a run of which this call fails.
+/// Of a run of which this call fails. One that makes more calls than there are began again, since several workers were refused memory.
 fn found_at<R: Threads + Wait + Sync + AllocGlobal>(
     rt: &R,
     tree: &MemTree<'_>,
@@ -126,6 +126,9 @@ fn found_at<R: Threads + Wait + Sync + AllocGlobal>(
     let mut out = new_writer(rt.alloc())?;
     let answer = answer_of(rt, &failing, &WITH_FILES, threads, 16, &mut out);
     let answer = settled(answer, &out)?;
+    if call.begun() > CALLS {
+        return Err(AllocError);
+    }
     Ok((answer, lines_told(&out.taken), call.begun()))
 }
 

@@ -105,12 +105,20 @@ fn outcome_of(report: &Report, whole: &[FileLine]) -> Option<usize>
     None
 }
 
-/// The walk whose call at this place fails has one of the outcomes. It answers which.
+/// The lines of a walk of which no call fails, and how many calls it makes.
+#[derive(Clone, Copy)]
+struct Whole<'w> {
+    files: &'w [FileLine],
+    calls: u64,
+}
+
+/// The walk whose call at this place fails has one of the outcomes. It answers which. A walk that makes more calls than there are
+/// began again, since several workers were refused memory.
 fn check_call<R: Threads + Wait + Sync + Abort>(
     rt: &R,
     alloc: Global,
     tree: &MemTree,
-    whole: &[FileLine],
+    whole: Whole,
     place: u64,
     run: (Board, u32),
 ) -> Result<usize, AllocError>
@@ -118,7 +126,10 @@ fn check_call<R: Threads + Wait + Sync + Abort>(
 {
     let call = FailingCall::new(place);
     let report = walk_failing(rt, alloc, tree, &call, run)?;
-    let outcome = outcome_of(&report, whole);
+    if call.begun() > whole.calls {
+        return Err(AllocError);
+    }
+    let outcome = outcome_of(&report, whole.files);
     assert!(rt; outcome.is_some(), "{place}: {report:?}");
     Ok(outcome.unwrap_or(0))
 }
@@ -132,14 +143,18 @@ fn check_calls<R: Threads + Wait + Sync + Abort>(
     let node = TREE.node(alloc)?;
     let tree = MemTree::new(&node);
     let none = FailingCall::new(u64::MAX);
-    let whole = walk_failing(rt, alloc, &tree, &none, run)?;
+    let whole = walk_failing(rt, alloc, &tree, &none, (run.0, 1))?;
     assert!(rt;
         whole.faults.is_empty() && whole.files.len() == 5,
         "{whole:?}"
     );
     let mut seen = [false; OUTCOMES.len()];
-    for place in 0..none.begun() {
-        seen[check_call(rt, alloc, &tree, &whole.files, place, run)?] = true;
+    let whole = Whole {
+        files: &whole.files,
+        calls: none.begun(),
+    };
+    for place in 0..whole.calls {
+        seen[check_call(rt, alloc, &tree, whole, place, run)?] = true;
     }
     assert!(rt; run.1 > 1 || !seen.contains(&false), "{seen:?}");
     Ok(())

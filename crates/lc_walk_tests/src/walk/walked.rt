@@ -159,6 +159,14 @@ fn is_answer(answer: &Result<Report, WalkFault>, wanted: Wanted, calls: u64) -> 
     }
 }
 
+/// Whether a walk asked its tree more often than its case says: it began again, since several workers were refused memory.
+fn has_begun_again(wanted: Wanted, calls: u64) -> bool {
+    match wanted {
+        Ok(found) => found.calls.unwrap_or(calls) < calls,
+        Err(_) => false,
+    }
+}
+
 /// A walk that asked its tree so often answers as its case says.
 pub(super) fn check_answer(
     rt: &impl Abort,
@@ -167,6 +175,9 @@ pub(super) fn check_answer(
     calls: u64,
 ) -> Result<(), AllocError> {
     if let Err(WalkFault::Memory) = &answer {
+        return Err(AllocError);
+    }
+    if has_begun_again(case.wanted, calls) {
         return Err(AllocError);
     }
     let name = case.name;
