@@ -150,6 +150,9 @@ fn names_of_other_lengths_are_rejected_at_a_look(rt: HostRuntime) -> Result<(), 
     for (pattern, path, answer) in LONG_NAMES {
         let path = repeated(rt.alloc(), *path)?;
         check(&rt, rt.alloc(), pattern, &path, *answer)?;
+        let candidate = Candidate::for_patterns(&path, 64);
+        let found = Pattern::read(rt.alloc(), pattern)?.matches_candidate(&candidate, false);
+        assert!(rt; found == answer.0, "{pattern:?}");
     }
     Ok(())
 }
