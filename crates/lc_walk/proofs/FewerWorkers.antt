@@ -1,12 +1,11 @@
 -- What fewer workers answer, more may answer: those who are left over make no event.
-use Rattle.std.proofs.Common.{◌≡◌, ℕ, ◌≤◌, ◌<◌, List, [], ◌∷◌, arith, Result, Ok, Err}
+use Rattle.std.proofs.Common.{ℕ, ◌≤◌, List, [], ◌∷◌, arith, Result, Ok, Err}
 use Rattle.lc_board.specs.ClosedBoard.{Promises}
 use Rattle.lc_board.specs.LegalHistory.{IsLegal}
 use Rattle.lc_board.specs.declared.event.Event.{Event}
 use Rattle.lc_level.specs.Answers.{Answers}
 use Rattle.lc_level.specs.Job.{JobModel}
 use Rattle.lc_walk.specs.Lawful.{Asked}
-use Rattle.lc_walk.specs.Walked.{Walked}
 use Rattle.lc_walk.specs.WalkAnswers.{SomeRows, IsWalkReport, IsTooDeepSomewhere, FillsAll, WalkAnswers}
 use Rattle.lc_walk.specs.declared.report.Report.{Report}
 use Rattle.lc_walk.specs.declared.row.Row.{Row}

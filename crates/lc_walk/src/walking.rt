@@ -57,8 +57,30 @@ fn walk_by<B: Shared<Job, Row>, T: Tree, R: Threads + Wait + Sync>(
     finish::<B, T>(alloc, board, passes, options.lists, tally)
 }
 
-/// Walks a tree over a board of this type, by a thread for each worker. Where memory is refused to them, one worker walks once more, since
-/// many stacks take what one walk may need.
+/// So many bytes are kept from several workers for one that walks after them: stacks and heaps of threads that ended are not all given back.
+const RESERVE: usize = 4 << 20;
+
+/// Walks a tree over a board of this type, by all workers that are asked for. The reserve is free again after their walk.
+fn walk_by_all<B: Shared<Job, Row>, T: Tree, R: Threads + Wait + Sync>(
+    rt: &R,
+    alloc: Global,
+    tree: &T,
+    options: &Options<'_>,
+) -> Result<Report, WalkFault>
+    requires limits { AreWithinLimits options.now }
+    ensures { WalkAnswers (MayAnswer (T.lists tree.now) (T.gives tree.now)) (asked_by options.now)
+        options.now.max_dirs options.now.threads (top_of options.now) B.promises result }
+{
+    let Ok(reserve) = Vec::<u8>::with_capacity(alloc, RESERVE) else {
+        return Err(WalkFault::Memory);
+    };
+    let answer = walk_by::<B, T, R>(rt, alloc, tree, options, options.threads);
+    drop(reserve);
+    answer
+}
+
+/// Walks a tree over a board of this type, by a thread for each worker. Where memory is refused to several, or there is none to keep from
+/// them, one worker walks, since many stacks take what one walk may need.
 pub fn walk_on<B: Shared<Job, Row>, T: Tree, R: Threads + Wait + Sync>(
     rt: &R,
     alloc: Global,
@@ -69,12 +91,13 @@ pub fn walk_on<B: Shared<Job, Row>, T: Tree, R: Threads + Wait + Sync>(
     ensures { WalkAnswers (MayAnswer (T.lists tree.now) (T.gives tree.now)) (asked_by options.now)
         options.now.max_dirs options.now.threads (top_of options.now) B.promises result }
 {
-    match walk_by::<B, T, R>(rt, alloc, tree, options, options.threads) {
-        Err(WalkFault::Memory) if options.threads > 1 => {
-            walk_by::<B, T, R>(rt, alloc, tree, options, 1)
+    if options.threads > 1 {
+        match walk_by_all::<B, T, R>(rt, alloc, tree, options) {
+            Err(WalkFault::Memory) => {}
+            answer => return answer,
         }
-        answer => answer,
     }
+    walk_by::<B, T, R>(rt, alloc, tree, options, 1)
 }
 
 /// Walks a tree: what it finds is what the recursive walk over the returned listings and censuses finds.

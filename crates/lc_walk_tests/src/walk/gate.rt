@@ -177,7 +177,7 @@ fn check<R: Threads + Wait + Sync + Abort>(
     };
     let options = walk_options(rt, case.threads, 100);
     let report = report_of(rt, case.board.walk(rt, alloc, &gate, &options))?;
-    // A worker whose thread could not be started, for want of memory, runs after another, which finds the gate shut.
+    // Where memory is refused, for a thread or for the reserve, one worker lists after another, which finds the gate shut.
     if case.wanted.faults.is_empty() && !report.faults.is_empty() {
         return Err(AllocError);
     }
