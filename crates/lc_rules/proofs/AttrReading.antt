@@ -7,26 +7,11 @@ use Rattle.std.specs.List.{position_or_len, before_first, after_first, list_all}
 use Rattle.std.proofs.lemmas.List.{take_rest}
 use Rattle.std.proofs.lemmas.Bool.{false_from_ne_true}
 use Rattle.memchr.specs.Find.{IsFirstByte, is_byte}
-use Rattle.lc_rules.specs.Attributes.{AssignmentModel, set, value}
-use Rattle.lc_rules.specs.AttrWords.{assign, assigns, both, plain_assign, named, is_name, is_name_byte}
+use Rattle.lc_rules.specs.Attributes.{set, value}
+use Rattle.lc_rules.specs.AttrWords.{plain_assign, named, is_name, is_name_byte}
 use Rattle.lc_rules.specs.AttrQuotes.{unquoted, put_byte, put_escape, escape}
 use Rattle.lc_glob.specs.Pieces.{is_byte as at_byte}
 use Rattle.lc_glob.proofs.FirstByte.{place_none, place_some, place_below}
-
--- assignments before others
-abbrev pub onto_all : List AssignmentModel → Option (List AssignmentModel) → Option (List AssignmentModel)
-onto_all found None = None
-onto_all found (Some others) = Some (found ++ others)
-
-onto_more : (found : List AssignmentModel) (a : AssignmentModel) (o : Option (List AssignmentModel))
-    → onto_all found (both (Some a) o) ≡ onto_all (found ++ (a ∷ [])) o
-onto_more found a None = refl
-onto_more found a (Some x) = ap (λ l. Some l) (sym (append_assoc found (a ∷ []) x))
-
--- a word that is an assignment is one more of those found
-pub onto_word : (found : List AssignmentModel) (w : List ℕ) (ws : List (List ℕ)) (a : AssignmentModel) → assign w ≡ Some a
-    → onto_all found (assigns (w ∷ ws)) ≡ onto_all (found ++ (a ∷ [])) (assigns ws)
-onto_word found w ws a e = ap (λ o. onto_all found (both o (assigns ws))) e ∙ onto_more found a (assigns ws)
 
 -- text before the rest of a quoted text
 abbrev pub onto_text : List ℕ → Option (List ℕ × List ℕ) → Option (List ℕ × List ℕ)

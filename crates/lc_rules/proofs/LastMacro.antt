@@ -6,9 +6,10 @@ use Rattle.std.proofs.lemmas.List.{map-append, length-map}
 use Rattle.std.specs.Str.{bytes_eq}
 use Rattle.lc_rules.specs.Attributes.{AssignmentModel, MacroModel}
 use Rattle.lc_rules.specs.Decision.{macro_of, later}
-use Rattle.lc_rules.specs.Models.{assignment_model, macro_model}
+use Rattle.lc_rules.specs.Models.{macro_model}
 use Rattle.lc_rules.specs.MacroPlaces.{place_behind, last_place}
-use Rattle.lc_rules.specs.declared.assignment.Macro.{Macro as CodeMacro}
+use Rattle.lc_rules.specs.WrittenLines.{assigned}
+use Rattle.lc_rules.specs.declared.macro_table.Macro.{Macro as CodeMacro}
 
 -- a macro more is the last of its name
 pub macro_of-append : (ms : List MacroModel) (m : MacroModel) (n : List ℕ)
@@ -66,7 +67,7 @@ pub record IsLast (ms : List CodeMacro) (n : List ℕ) (i : ℕ) : Type 0 where
   -- the place lies within the macros
   pub below : i < length ms
   -- what the last macro of a name stands for is what stands at its place
-  pub body : (d : CodeMacro) → macro_of (map macro_model ms) n ≡ Some (map assignment_model (get_or ms i d).assignments.items)
+  pub body : (d : CodeMacro) → macro_of (map macro_model ms) n ≡ Some (assigned (get_or ms i d).assignments.items)
 
 last_at : (m : CodeMacro) (ms : List CodeMacro) (n : List ℕ) (i : ℕ) (o : Option ℕ) (b : Bool) → last_place (map macro_model ms) n ≡ o
     → bytes_eq m.name.items n ≡ b → place_behind o (cond b (Some 0) None) ≡ Some i
@@ -78,12 +79,12 @@ last_at m ms n (suc i) (Some j) b p q h more =
     record {
       below = omega (arith, found.below);
       body = λ d. ap
-          (λ o. later o (cond (bytes_eq m.name.items n) (Some (map assignment_model m.assignments.items)) None)) (found.body d);
+          (λ o. later o (cond (bytes_eq m.name.items n) (Some (assigned m.assignments.items)) None)) (found.body d);
     }
 last_at m ms n zero None true p q h more = record {
   below = omega arith;
-  body = λ d. ap (λ o. later o (cond (bytes_eq m.name.items n) (Some (map assignment_model m.assignments.items)) None))
-      (no_place (map macro_model ms) n p) ∙ ap (λ b. cond b (Some (map assignment_model m.assignments.items)) None) q;
+  body = λ d. ap (λ o. later o (cond (bytes_eq m.name.items n) (Some (assigned m.assignments.items)) None))
+      (no_place (map macro_model ms) n p) ∙ ap (λ b. cond b (Some (assigned m.assignments.items)) None) q;
 }
 last_at m ms n (suc i) None true p q h more = absurd (let e : Some 0 ≡ Some (suc i) = h in cc)
 last_at m ms n i None false p q h more = absurd (let e : None ≡ Some i = h in cc)

@@ -14,3 +14,5 @@ pub mod ReadingOrder
 pub mod LastMacro
 pub mod NameKeys
 pub mod NamedLines
+pub mod LastWords
+pub mod LinePlaces

@@ -1,22 +1,15 @@
 -- Lines that name neither an attribute nor a macro can't decide it.
-use Rattle.std.proofs.Common.{◌≡◌, ◌<◌, ◌+◌, ◌⊎◌, ℕ, Bool, true, false, cond, ◌||◌, List, [], ◌∷◌, ◌++◌, length, map, take, get_or}
-use Rattle.std.proofs.Common.{Option, Some, None, is_some, Vec, inl, inr, refl, sym, ◌∙◌, ap, add-one}
+use Rattle.std.proofs.Common.{◌≡◌, ℕ, Bool, true, false, cond, ◌||◌, List, [], ◌∷◌, ◌++◌}
+use Rattle.std.proofs.Common.{Option, Some, None, is_some, refl, sym, ◌∙◌, ap}
 use Rattle.std.specs.List.{list_any}
 use Rattle.std.specs.Str.{bytes_eq}
-use Rattle.std.specs.BTreeSet.{BTreeSet}
-use Rattle.std.specs.Global.{Global}
-use Rattle.std.proofs.Math.Seq.{take-suc}
 use Rattle.std.proofs.lemmas.Bool.{or_parts}
-use Rattle.std.proofs.lemmas.List.{map-append}
-use Rattle.std.proofs.lemmas.List.Folds.{list_any-append}
 use Rattle.lc_rules.specs.Attributes.{AssignmentModel, MacroModel}
 use Rattle.lc_rules.specs.AttrLines.{PatternLineModel}
 use Rattle.lc_rules.specs.AttrStates.{binary}
-use Rattle.lc_rules.specs.Models.{assignment_model}
 use Rattle.lc_rules.specs.Decision.{macro_of, later}
 use Rattle.lc_rules.specs.KnownMacros.{matters}
-use Rattle.lc_rules.specs.LineNames.{assigns_name, lines_name, has_name, NameNone}
-use Rattle.lc_rules.specs.declared.assignment.Assignment.{Assignment}
+use Rattle.lc_rules.specs.LineNames.{assigns_name, lines_name, NameNone}
 use Rattle.lc_rules.proofs.DecisionLaws.{bytes_self, same_bytes}
 use Rattle.lc_rules.proofs.LastMacro.{macro_of-append, macro_of-both}
 
@@ -44,34 +37,6 @@ named_none test (l ∷ ls) h =
     ap (λ b. b || list_any (λ l. list_any (λ a. test a.0) l.assigns) ls)
     (assigns_none test l.assigns (λ n e. (or_parts (assigns_name l.assigns n) (lines_name ls n) (h n e)).0))
     ∙ named_none test ls (λ n e. (or_parts (assigns_name l.assigns n) (lines_name ls n) (h n e)).1)
-
--- the names of assignments, one more at a time
-assigns_name-append : (before : List AssignmentModel) (a : AssignmentModel) (n : List ℕ) → assigns_name (before ++ (a ∷ [])) n ≡ true
-    → (assigns_name before n ≡ true) ⊎ (bytes_eq a.0 n ≡ true)
-assigns_name-append before a n h =
-    by_cases (assigns_name before n) (bytes_eq a.0 n) (sym (list_any-append (λ b. bytes_eq b.0 n) before (a ∷ [])) ∙ h)
-  where
-    by_cases : (b c : Bool) → (b || (c || false)) ≡ true → (b ≡ true) ⊎ (c ≡ true)
-    by_cases true c e = inl refl
-    by_cases false true e = inr refl
-    by_cases false false e = absurd (let q : false ≡ true = e in cc)
-
--- one assignment more, and its name, among those of the lines so far
-pub names_more : (assigns : List Assignment) (i : ℕ) (a : Assignment) (old new : BTreeSet (Vec ℕ Global)) → i < length assigns
-    → a ≡ get_or assigns i a
-    → ((n : List ℕ) → assigns_name (map assignment_model (take i assigns)) n ≡ true → has_name old n ≡ true)
-    → ((n : List ℕ) → has_name old n ≡ true → has_name new n ≡ true)
-    → ((n : List ℕ) → bytes_eq a.name.items n ≡ true → has_name new n ≡ true)
-    → (n : List ℕ) → assigns_name (map assignment_model (take (i + 1) assigns)) n ≡ true → has_name new n ≡ true
-names_more assigns i a old new l is had keeps adds n h =
-    let more : map assignment_model (take (i + 1) assigns) ≡ map assignment_model (take i assigns) ++ (assignment_model a ∷ []) =
-    ap (λ k. map assignment_model (take k assigns)) (add-one i) ∙ ap (map assignment_model) (take-suc assigns i a l)
-    ∙ map-append assignment_model (take i assigns) (get_or assigns i a ∷ [])
-    ∙ ap (λ b. map assignment_model (take i assigns) ++ (assignment_model b ∷ [])) (sym is) in
-    elim (assigns_name-append (map assignment_model (take i assigns)) (assignment_model a) n (ap (λ x. assigns_name x n) (sym more) ∙ h)) [
-      | inl e ↦ keeps n (had n e)
-      | inr e ↦ adds n e
-    ]
 
 -- no macro is named, one macro more
 pub no_macro_more : (lines : List PatternLineModel) (ms : List MacroModel) (m : MacroModel) (n : List ℕ)

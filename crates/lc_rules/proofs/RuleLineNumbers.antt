@@ -11,7 +11,7 @@ use Rattle.lc_rules.specs.IgnoreLaws.{IsOnLine, LinesLaw}
 use Rattle.lc_rules.specs.RuleLines.{without_mark, lines_of}
 
 -- a file without its mark is no longer
-without_mark_le : (bytes : List ℕ) → length (without_mark bytes) ≤ length bytes
+pub without_mark_le : (bytes : List ℕ) → length (without_mark bytes) ≤ length bytes
 without_mark_le [] = omega arith
 without_mark_le (a ∷ []) = omega arith
 without_mark_le (a ∷ b ∷ []) = omega arith

@@ -1,5 +1,5 @@
 -- The words of an attribute line: gitattributes(5), DESCRIPTION.
-use Rattle.std.specs.Prelude.{ℕ, Bool, false, not, ◌==◌, ◌&&◌, ◌||◌, nat_lt, nat_le, if◌then◌else◌, List, [], ◌∷◌, length, filter}
+use Rattle.std.specs.Prelude.{◌≡◌, ℕ, Bool, false, not, ◌==◌, ◌&&◌, ◌||◌, nat_lt, nat_le, if◌then◌else◌, List, [], ◌∷◌, ◌++◌, length, filter}
 use Rattle.std.specs.Prelude.{Option, Some, None}
 use Rattle.std.specs.List.{slice_split, list_all, before_first, after_first, position_or_len}
 use Rattle.lc_glob.specs.Bytes.{exclamation_mark, hyphen}
@@ -27,6 +27,10 @@ is_name_byte b = nat_le 65 b && nat_le b 90 || nat_le 97 b && nat_le b 122 || na
 abbrev pub is_name : List ℕ → Bool
 is_name [] = false
 is_name (b ∷ bs) = not (b == hyphen) && list_all is_name_byte (b ∷ bs)
+
+-- these bytes stand at the end of others
+abbrev pub IsEndOf : List ℕ → List ℕ → Type 0
+IsEndOf rest whole = (front : List ℕ) × (whole ≡ front ++ rest)
 
 -- an assignment, if the name is one
 abbrev pub named : List ℕ → StateModel → Option AssignmentModel

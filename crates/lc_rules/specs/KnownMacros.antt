@@ -1,12 +1,12 @@
 -- The macros that the code knows while it decides one attribute.
-use Rattle.std.specs.Prelude.{ℕ, Bool, ◌||◌, List, [], ◌∷◌, ◌++◌, map, reverse, Option, Some, None, is_some}
+use Rattle.std.specs.Prelude.{ℕ, Bool, ◌||◌, List, [], ◌∷◌, ◌++◌, reverse, Option, Some, None, is_some}
 use Rattle.std.specs.Str.{bytes_eq}
 use Rattle.std.specs.List.{list_any}
 use Rattle.std.specs.Borrow.{Bor}
 use Rattle.lc_rules.specs.Attributes.{StateModel, set, unset, value, unspecified, AssignmentModel, MacroModel}
 use Rattle.lc_rules.specs.AttrLines.{PatternLineModel}
 use Rattle.lc_rules.specs.AttrStates.{binary}
-use Rattle.lc_rules.specs.Models.{assignment_model}
+use Rattle.lc_rules.specs.WrittenLines.{assigned}
 use Rattle.lc_rules.specs.Decision.{macro_of}
 use Rattle.lc_rules.specs.declared.known_macros.KnownMacros.{KnownMacros}
 use Rattle.lc_rules.specs.declared.known_macros.MacroBody.{MacroBody}
@@ -24,7 +24,7 @@ known_macros m = binary ∷ defined_in m.top ++ defined_in m.info
 
 -- the assignments of a macro
 abbrev pub macro_body_model : MacroBody → List AssignmentModel
-macro_body_model (Defined assignments) = map assignment_model assignments.now
+macro_body_model (Defined assignments) = assigned assignments.now
 macro_body_model Binary = binary.1
 
 -- what is read of a macro's assignments where its name is decided as this state

@@ -8,11 +8,13 @@ pub mod Chains
 pub mod IgnoreChains
 pub mod Attributes
 pub mod AttrWords
+pub mod LastWord
 pub mod AttrQuotes
 pub mod AttrLines
 pub mod Decision
 pub mod AttrStates
 pub mod AttrChains
+pub mod WrittenLines
 pub mod Models
 pub mod MacroPlaces
 pub mod LineNames

@@ -1,49 +1,48 @@
 -- What definitions see of the code's types.
-use Rattle.std.specs.Prelude.{map, Option, Some, None}
+use Rattle.std.specs.Prelude.{ℕ, List, Option, Some, None}
+use Rattle.lc_glob.specs.Reading.{pattern_of}
 use Rattle.lc_rules.specs.Attributes.{StateModel, set, unset, value, unspecified, AssignmentModel, MacroModel}
 use Rattle.lc_rules.specs.AttrLines.{PatternLineModel, AttrLineModel, macro_line, pattern_line}
+use Rattle.lc_rules.specs.WrittenLines.{assigned}
 use Rattle.lc_rules.specs.declared.states.State.{State}
 use Rattle.lc_rules.specs.declared.states.State.TheVariants.{Set, Unset, Value, Unspecified}
-use Rattle.lc_rules.specs.declared.assignment.OwnedState.{OwnedState}
-use Rattle.lc_rules.specs.declared.assignment.OwnedState.TheVariants.{Set as OwnedSet, Unset as OwnedUnset, Value as OwnedValue}
-use Rattle.lc_rules.specs.declared.assignment.OwnedState.TheVariants.{Unspecified as OwnedUnspecified}
 use Rattle.lc_rules.specs.declared.assignment.Assignment.{Assignment}
-use Rattle.lc_rules.specs.declared.assignment.AssignmentRef.{AssignmentRef}
-use Rattle.lc_rules.specs.declared.assignment.Macro.{Macro as CodeMacro}
-use Rattle.lc_rules.specs.declared.assignment.PatternLine.{PatternLine}
 use Rattle.lc_rules.specs.declared.attr_line.AttrLine.{AttrLine}
 use Rattle.lc_rules.specs.declared.attr_line.AttrLine.TheVariants.{Macro, Pattern}
+use Rattle.lc_rules.specs.declared.attr_line.MacroLine.{MacroLine}
+use Rattle.lc_rules.specs.declared.attr_line.PatternLine.{PatternLine}
+use Rattle.lc_rules.specs.declared.attr_line.PatternText.{PatternText}
+use Rattle.lc_rules.specs.declared.attr_line.PatternText.TheVariants.{Written, Unquoted}
+use Rattle.lc_rules.specs.declared.macro_table.Macro.{Macro as CodeMacro}
 
--- what a state that is lent shows
+-- what a state shows
 abbrev pub state_model : State → StateModel
 state_model Set = set
 state_model Unset = unset
 state_model (Value v) = value v.now
 state_model Unspecified = unspecified
 
--- the state that an assignment gives
-abbrev pub owned_state_model : OwnedState → StateModel
-owned_state_model OwnedSet = set
-owned_state_model OwnedUnset = unset
-owned_state_model (OwnedValue v) = value v.items
-owned_state_model OwnedUnspecified = unspecified
-
--- an assignment, one that is lent, a macro, and a line with a pattern
+-- an assignment, and a macro
 abbrev pub assignment_model : Assignment → AssignmentModel
-assignment_model a = (a.name.items, owned_state_model a.state)
-
-abbrev pub assignment_ref_model : AssignmentRef → AssignmentModel
-assignment_ref_model w = (w.name.now, state_model w.state)
+assignment_model a = (a.name.now, state_model a.state)
 
 abbrev pub macro_model : CodeMacro → MacroModel
-macro_model m = (m.name.items, map assignment_model m.assignments.items)
+macro_model m = (m.name.items, assigned m.assignments.items)
 
-abbrev pub pattern_line_model : PatternLine → PatternLineModel
-pattern_line_model l = record { pattern = l.pattern; assigns = map assignment_model l.assignments.items }
+-- the bytes of a pattern
+abbrev pub pattern_bytes : PatternText → List ℕ
+pattern_bytes (Written bytes) = bytes.now
+pattern_bytes (Unquoted bytes) = bytes.items
 
 -- what a line of an attribute file gives
+abbrev pub macro_line_model : MacroLine → MacroModel
+macro_line_model l = (l.name.now, assigned l.assignments.now)
+
+abbrev pub pattern_line_model : PatternLine → PatternLineModel
+pattern_line_model l = record { pattern = pattern_of (pattern_bytes l.pattern); assigns = assigned l.assignments.now }
+
 abbrev pub attr_line_model : AttrLine → AttrLineModel
-attr_line_model (Macro m) = macro_line (macro_model m)
+attr_line_model (Macro l) = macro_line (macro_line_model l)
 attr_line_model (Pattern l) = pattern_line (pattern_line_model l)
 
 -- what may have been found, as the definitions see it
@@ -54,6 +53,10 @@ seen_state (Some s) = Some (state_model s)
 abbrev pub seen_assign : Option Assignment → Option AssignmentModel
 seen_assign None = None
 seen_assign (Some a) = Some (assignment_model a)
+
+abbrev pub seen_halves : Option PatternLine → Option (List ℕ × List ℕ)
+seen_halves None = None
+seen_halves (Some l) = Some (pattern_bytes l.pattern, l.assignments.now)
 
 abbrev pub seen_line : Option AttrLine → Option AttrLineModel
 seen_line None = None

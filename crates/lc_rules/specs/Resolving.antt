@@ -4,12 +4,12 @@ use Rattle.std.specs.Borrow.{Bor}
 use Rattle.std.specs.BTreeSet.{BTreeSet}
 use Rattle.lc_rules.specs.Attributes.{StateModel, set, AssignmentModel, MacroModel}
 use Rattle.lc_rules.specs.Decision.{decided, has, unread, decide}
-use Rattle.lc_rules.specs.Models.{assignment_ref_model, seen_state}
+use Rattle.lc_rules.specs.Models.{assignment_model, seen_state}
 use Rattle.lc_rules.specs.KnownMacros.{macros_for}
 use Rattle.lc_rules.specs.declared.resolver.Query.{Query}
 use Rattle.lc_rules.specs.declared.resolver.Resolver.{Resolver}
 use Rattle.lc_rules.specs.declared.states.State.{State}
-use Rattle.lc_rules.specs.declared.assignment.AssignmentRef.{AssignmentRef}
+use Rattle.lc_rules.specs.declared.assignment.Assignment.{Assignment}
 
 -- these names are decided, in whatever state
 abbrev pub marked : List (List ℕ) → List AssignmentModel
@@ -42,8 +42,8 @@ abbrev pub names_in : BTreeSet (Bor (List ℕ)) → List (List ℕ)
 names_in names = map (λ n. n.now) names.keys
 
 -- what a stack of assignments leaves to be read
-abbrev pub stacked : List AssignmentRef → List AssignmentModel
-stacked words = reverse (map assignment_ref_model words)
+abbrev pub stacked : List Assignment → List AssignmentModel
+stacked words = reverse (map assignment_model words)
 
 -- reading these assignments for a query takes one resolver to another, finds a state or not, and leaves others to be read
 abbrev pub Reads : Query → List AssignmentModel → Resolver → Option State → List AssignmentModel → Resolver → Type 0

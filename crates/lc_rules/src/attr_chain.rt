@@ -16,7 +16,6 @@ use crate::macro_table::MacroTable;
 use crate::paths::PathBelow;
 use crate::resolver::{Query, Resolver, decide_by_lines};
 use crate::states::{State, TextState};
-use lc_glob::Candidate;
 use std::alloc::{AllocError, Global};
 use std::marker::Model;
 use std::sync::Arc;
@@ -36,9 +35,7 @@ fn decide_by_file<'a>(
     if !lines.can_decide(query) {
         return Ok(None);
     }
-    let lines = lines.as_slice();
-    let path = Candidate::for_patterns(path, lines.len());
-    decide_by_lines(query, lines, &path, is_dir, resolver)
+    decide_by_lines(query, lines, path, is_dir, resolver)
 }
 
 /// Reads the lines of the files, the nearest to the path first.

@@ -1,14 +1,16 @@
 //! Attribute files.
 
-ghost use Rattle.std.specs.Prelude.{◌≡◌, ◌↔◌, ◌<◌, length, IfOk};
+ghost use Rattle.std.specs.Prelude.{◌≡◌, ◌↔◌, ◌<◌, ◌≤◌, length, IfOk};
 ghost use Rattle.lc_rules.specs.AttrLines.{attribute_file_of};
 ghost use Rattle.lc_rules.specs.Limits.{max_rule_bytes};
 
 use crate::attr_line::{AttrLine, read_line};
+use crate::attr_words::trimmed;
 use crate::faults::{RuleFault, is_too_long};
 use crate::line_table::LineTable;
-use crate::lines::Lines;
+use crate::lines::without_mark;
 use crate::macro_table::MacroTable;
+use lc_glob::cut_at_first;
 use std::alloc::{AllocError, Global};
 use std::marker::Model;
 
@@ -25,7 +27,7 @@ impl Model for AttrFile {
 
     ghost Value = { AttrFileModel };
 
-    ghost view = { λ f. record { is_top = f.is_top; macros = f.macros; lines = f.lines } };
+    ghost view = { λ f. record { is_top = f.is_top; macros = f.macros; lines = f.lines.lines } };
 }
 
 impl AttrFile {
@@ -56,23 +58,28 @@ impl AttrFile {
     }
 
     pub(crate) fn lines(&self) -> &LineTable
-        ensures { result.now ≡ self.now.lines }
+        ensures { result.now.lines ≡ self.now.lines }
     {
         &self.lines
     }
 }
 
 fn read_file(alloc: Global, bytes: &[u8], top: bool) -> Result<AttrFile, AllocError>
+    requires { length bytes.now ≤ max_rule_bytes }
     ensures { IfOk result (λ file. file ≡ attribute_file_of top bytes.now) }
 {
+    let text = without_mark(bytes);
     let mut macros = MacroTable::new(alloc);
-    let mut lines = LineTable::new(alloc);
-    let mut left = Lines::of(bytes);
-    'lines: while let Some((line, others)) = left.split_first() {
+    let mut lines = LineTable::new(alloc, text)?;
+    let mut left = Some(text);
+    'lines: while let Some(rest) = left {
+        let (whole, others) = cut_at_first(b'\n', rest);
+        let line = trimmed(whole);
+        let start = text.len() - rest.len() + (whole.len() - line.len());
         match read_line(alloc, top, line)? {
             None => {}
-            Some(AttrLine::Macro(found)) => macros.push(found)?,
-            Some(AttrLine::Pattern(found)) => lines.push(found)?,
+            Some(AttrLine::Macro(found)) => macros.push(alloc, found)?,
+            Some(AttrLine::Pattern(found)) => lines.push(alloc, &found, start as u32)?,
         }
         left = others;
     }

@@ -4,32 +4,62 @@ ghost use Rattle.std.specs.Prelude.{◌≡◌, IfOk, MatchOption, Some, None};
 ghost use Rattle.lc_rules.specs.AttrLines.{as_macro, by_pattern, is_negated, macro_word, by_words, by_quote, trimmed, given_by};
 ghost use Rattle.lc_rules.specs.AttrWords.{assigns, words};
 ghost use Rattle.lc_rules.specs.AttrQuotes.{unquoted};
-ghost use Rattle.lc_rules.specs.Models.{seen_line};
+ghost use Rattle.lc_rules.specs.Models.{pattern_bytes, seen_halves, seen_line};
+ghost use Rattle.lc_rules.specs.WrittenLines.{halves};
 
-use crate::assignment::{Macro, PatternLine};
 use crate::attr_quotes::unquoted;
-use crate::attr_words::{is_attribute_name, read_assignments, split_word, trimmed};
-use lc_glob::Pattern;
+use crate::attr_words::{are_assignments, is_attribute_name, split_word, word_end};
 use std::alloc::{AllocError, Global};
+
+/// The bytes of a line's pattern.
+#[derive(Drop)]
+pub(crate) enum PatternText<'a> {
+    /// As they stand in the line.
+    Written(&'a [u8]),
+    /// Without the quotation marks and the escapes that the line has.
+    Unquoted(Vec<u8>),
+}
+
+impl<'a> PatternText<'a> {
+    pub(crate) fn as_slice(&self) -> &[u8]
+        ensures { result.now ≡ pattern_bytes self.now }
+    {
+        match self {
+            PatternText::Written(bytes) => *bytes,
+            PatternText::Unquoted(bytes) => bytes.as_slice(),
+        }
+    }
+}
+
+/// A line with a pattern, and the words of its assignments.
+#[derive(Drop)]
+pub(crate) struct PatternLine<'a> {
+    pub(crate) pattern: PatternText<'a>,
+    pub(crate) assignments: &'a [u8],
+}
+
+/// A line that defines a macro, and the words of its assignments.
+#[derive(Clone, Copy)]
+pub(crate) struct MacroLine<'a> {
+    pub(crate) name: &'a [u8],
+    pub(crate) assignments: &'a [u8],
+}
 
 /// What a line gives.
 #[derive(Drop)]
-pub(crate) enum AttrLine {
-    Macro(Macro),
-    Pattern(PatternLine),
+pub(crate) enum AttrLine<'a> {
+    Macro(MacroLine<'a>),
+    Pattern(PatternLine<'a>),
 }
 
-fn read_macro(alloc: Global, name: &[u8], rest: &[u8]) -> Result<Option<AttrLine>, AllocError>
-    ensures { IfOk result (λ r. seen_line r ≡ as_macro name.now (assigns (words rest.now))) }
+fn read_macro<'a>(name: &'a [u8], assignments: &'a [u8]) -> Option<AttrLine<'a>>
+    ensures { seen_line result ≡ as_macro name.now (assigns (words assignments.now)) }
 {
-    let Some(assignments) = read_assignments(alloc, rest)? else {
-        return Ok(None);
-    };
-    if !is_attribute_name(name) {
-        return Ok(None);
+    if are_assignments(assignments) && is_attribute_name(name) {
+        Some(AttrLine::Macro(MacroLine { name, assignments }))
+    } else {
+        None
     }
-    let name = name.to_vec(alloc)?;
-    Ok(Some(AttrLine::Macro(Macro { name, assignments })))
 }
 
 fn is_negated(pattern: &[u8]) -> bool
@@ -41,24 +71,16 @@ fn is_negated(pattern: &[u8]) -> bool
     *first == b'!'
 }
 
-fn read_pattern_line(
-    alloc: Global,
-    pattern: &[u8],
-    rest: &[u8],
-) -> Result<Option<AttrLine>, AllocError>
-    ensures { IfOk result (λ r. seen_line r ≡ by_pattern pattern.now (assigns (words rest.now))) }
+fn read_pattern_line<'a>(pattern: PatternText<'a>, assignments: &'a [u8]) -> Option<AttrLine<'a>>
+    ensures { seen_line result ≡ by_pattern (pattern_bytes pattern.entry) (assigns (words assignments.now)) }
 {
-    if is_negated(pattern) {
-        return Ok(None);
+    if is_negated(pattern.as_slice()) || !are_assignments(assignments) {
+        return None;
     }
-    let Some(assignments) = read_assignments(alloc, rest)? else {
-        return Ok(None);
-    };
-    let pattern = Pattern::read(alloc, pattern)?;
-    Ok(Some(AttrLine::Pattern(PatternLine {
+    Some(AttrLine::Pattern(PatternLine {
         pattern,
         assignments,
-    })))
+    }))
 }
 
 /// The name of the macro that a first word defines.
@@ -71,47 +93,69 @@ fn macro_word<'a>(word: &'a [u8]) -> Option<&'a [u8]>
     if name.is_empty() { None } else { Some(name) }
 }
 
-fn read_words(alloc: Global, is_top: bool, line: &[u8]) -> Result<Option<AttrLine>, AllocError>
-    ensures { IfOk result (λ r. seen_line r ≡ by_words is_top (words line.now)) }
+fn read_words<'a>(is_top: bool, line: &'a [u8]) -> Option<AttrLine<'a>>
+    ensures { seen_line result ≡ by_words is_top (words line.now) }
 {
-    let Some((first, rest)) = split_word(line) else {
-        return Ok(None);
-    };
+    let (first, rest) = split_word(line)?;
     let Some(name) = macro_word(first) else {
-        return read_pattern_line(alloc, first, rest);
+        return read_pattern_line(PatternText::Written(first), rest);
     };
     if !is_top {
-        return Ok(None);
+        return None;
     }
-    read_macro(alloc, name, rest)
+    read_macro(name, rest)
 }
 
-fn read_quoted(alloc: Global, bytes: &[u8]) -> Result<Option<AttrLine>, AllocError>
+fn read_quoted<'a>(alloc: Global, bytes: &'a [u8]) -> Result<Option<AttrLine<'a>>, AllocError>
     ensures { IfOk result (λ r. seen_line r ≡ by_quote (unquoted 0 bytes.now)) }
 {
     let Some((pattern, rest)) = unquoted(alloc, bytes)? else {
         return Ok(None);
     };
-    read_pattern_line(alloc, pattern.as_slice(), rest)
+    Ok(read_pattern_line(PatternText::Unquoted(pattern), rest))
 }
 
-/// What a line gives, if anything. A macro line gives something in a top-level file alone.
-pub(crate) fn read_line(
+/// What a line without white space at its start gives, if anything. A macro line gives something in a top-level file alone.
+pub(crate) fn read_line<'a>(
     alloc: Global,
     is_top: bool,
-    line: &[u8],
-) -> Result<Option<AttrLine>, AllocError>
-    ensures { IfOk result (λ r. seen_line r ≡ given_by is_top (trimmed line.now)) }
+    line: &'a [u8],
+) -> Result<Option<AttrLine<'a>>, AllocError>
+    ensures { IfOk result (λ r. seen_line r ≡ given_by is_top line.now) }
 {
-    let line = trimmed(line);
     let Some((first, rest)) = line.split_first() else {
         return Ok(None);
     };
-    if *first == b'#' {
+    match first {
+        b'#' => Ok(None),
+        b'"' => read_quoted(alloc, rest),
+        _ => Ok(read_words(is_top, line)),
+    }
+}
+
+/// The pattern of a line that has one, and what follows it.
+pub(crate) fn split_line<'a>(
+    alloc: Global,
+    line: &'a [u8],
+) -> Result<Option<PatternLine<'a>>, AllocError>
+    ensures { IfOk result (λ r. seen_halves r ≡ halves line.now) }
+{
+    let Some((first, rest)) = line.split_first() else {
         return Ok(None);
-    }
+    };
     if *first == b'"' {
-        return read_quoted(alloc, rest);
+        let Some((pattern, assignments)) = unquoted(alloc, rest)? else {
+            return Ok(None);
+        };
+        let pattern = PatternText::Unquoted(pattern);
+        return Ok(Some(PatternLine {
+            pattern,
+            assignments,
+        }));
     }
-    read_words(alloc, is_top, line)
+    let end = word_end(line);
+    Ok(Some(PatternLine {
+        pattern: PatternText::Written(&line[..end]),
+        assignments: &line[end..],
+    }))
 }

@@ -1,19 +1,20 @@
 //! The words of an attribute line, and their assignments.
 
-ghost use Rattle.std.specs.Prelude.{◌≡◌, ◌≤◌, ◌<◌, ◌∷◌, [], length, map, IfOk, IfSome, MatchOption, Some, None};
+ghost use Rattle.std.specs.Prelude.{◌≡◌, ◌≤◌, ◌<◌, ◌∷◌, [], length, IfSome, MatchOption};
 ghost use Rattle.std.specs.List.{before_first, list_all, position_or_len};
 ghost use Rattle.lc_glob.specs.Pieces.{is_byte};
 ghost use Rattle.lc_rules.specs.Bytes.{equals_sign};
 ghost use Rattle.lc_rules.specs.AttrLines.{trimmed};
-ghost use Rattle.lc_rules.specs.AttrWords.{is_white, words, is_name_byte, is_name, named, assign, assigns, plain_assign};
-ghost use Rattle.lc_rules.specs.Models.{assignment_model, owned_state_model, seen_assign};
+ghost use Rattle.lc_rules.specs.AttrWords.{is_white, words, IsEndOf, is_name_byte, is_name, named, assign, assigns, plain_assign};
+ghost use Rattle.lc_rules.specs.Models.{assignment_model, seen_assign, state_model};
+ghost use Rattle.lc_rules.specs.WrittenLines.{all_assigned, assigned};
 
-use crate::assignment::{Assignment, OwnedState};
+use crate::assignment::Assignment;
+use crate::states::State;
 use lc_glob::cut_at_first;
 use memchr::memchr;
-use std::alloc::{AllocError, Global};
 
-fn is_white(b: u8) -> bool
+pub(crate) fn is_white(b: u8) -> bool
     ensures { result ≡ is_white b }
 {
     b == b' ' || b == b'\t' || b == b'\r'
@@ -23,6 +24,7 @@ fn is_white(b: u8) -> bool
 pub(crate) fn trimmed<'a>(line: &'a [u8]) -> &'a [u8]
     ensures is { result.now ≡ trimmed line.now }
     ensures shorter { length result.now ≤ length line.now }
+    ensures end { IsEndOf result.now line.now }
 {
     let mut left = line;
     'bytes: while let Some((b, rest)) = left.split_first() {
@@ -35,7 +37,7 @@ pub(crate) fn trimmed<'a>(line: &'a [u8]) -> &'a [u8]
 }
 
 /// The place of the first white byte, or the length.
-fn word_end(bytes: &[u8]) -> usize
+pub(crate) fn word_end(bytes: &[u8]) -> usize
     ensures is { result ≡ position_or_len is_white bytes.now }
     ensures within { result ≤ length bytes.now }
 {
@@ -89,14 +91,14 @@ fn has_name_bytes(name: &[u8]) -> bool
 }
 
 /// An assignment, where its name is one.
-fn named(alloc: Global, name: &[u8], state: OwnedState) -> Result<Option<Assignment>, AllocError>
-    ensures { IfOk result (λ r. seen_assign r ≡ named name.now (owned_state_model state)) }
+fn named<'a>(name: &'a [u8], state: State<'a>) -> Option<Assignment<'a>>
+    ensures { seen_assign result ≡ named name.now (state_model state.entry) }
 {
-    if !is_attribute_name(name) {
-        return Ok(None);
+    if is_attribute_name(name) {
+        Some(Assignment { name, state })
+    } else {
+        None
     }
-    let name = name.to_vec(alloc)?;
-    Ok(Some(Assignment { name, state }))
 }
 
 fn before_equals<'a>(word: &'a [u8]) -> &'a [u8]
@@ -105,49 +107,52 @@ fn before_equals<'a>(word: &'a [u8]) -> &'a [u8]
     cut_at_first(b'=', word).0
 }
 
-fn read_plain(alloc: Global, word: &[u8]) -> Result<Option<Assignment>, AllocError>
-    ensures { IfOk result (λ r. seen_assign r ≡ plain_assign word.now) }
+fn read_plain<'a>(word: &'a [u8]) -> Option<Assignment<'a>>
+    ensures { seen_assign result ≡ plain_assign word.now }
 {
     let Some(i) = memchr(b'=', word) else {
-        let found = named(alloc, word, OwnedState::Set)?;
-        return Ok(found);
+        return named(word, State::Set);
     };
-    let value = (&word[i + 1..]).to_vec(alloc)?;
-    let found = named(alloc, &word[..i], OwnedState::Value(value))?;
-    Ok(found)
+    named(&word[..i], State::Value(&word[i + 1..]))
 }
 
-fn read_assignment(alloc: Global, word: &[u8]) -> Result<Option<Assignment>, AllocError>
-    ensures { IfOk result (λ r. seen_assign r ≡ assign word.now) }
+/// The assignment of a word.
+pub(crate) fn read_assignment<'a>(word: &'a [u8]) -> Option<Assignment<'a>>
+    ensures { seen_assign result ≡ assign word.now }
 {
-    let Some((first, rest)) = word.split_first() else {
-        return Ok(None);
-    };
+    let (first, rest) = word.split_first()?;
     match first {
-        b'-' => named(alloc, before_equals(rest), OwnedState::Unset),
-        b'!' => named(alloc, before_equals(rest), OwnedState::Unspecified),
-        _ => read_plain(alloc, word),
+        b'-' => named(before_equals(rest), State::Unset),
+        b'!' => named(before_equals(rest), State::Unspecified),
+        _ => read_plain(word),
     }
 }
 
-/// The assignments of all words, where each is one.
-pub(crate) fn read_assignments(
-    alloc: Global,
-    bytes: &[u8],
-) -> Result<Option<Vec<Assignment>>, AllocError>
-    ensures { IfOk result
-        (λ r. MatchOption r (assigns (words bytes.now) ≡ None) (λ v. assigns (words bytes.now) ≡ Some (map assignment_model v.items))) }
+/// Whether all words are assignments.
+pub(crate) fn are_assignments(bytes: &[u8]) -> bool
+    ensures { assigns (words bytes.now) ≡ all_assigned result bytes.now }
 {
-    let mut found = Vec::new(alloc);
     let mut left = bytes;
     'words: while let Some((word, rest)) = split_word(left) {
-        let Some(assignment) = read_assignment(alloc, word)? else {
-            return Ok(None);
+        let Some(_) = read_assignment(word) else {
+            return false;
         };
-        found.push(assignment)?;
         left = rest;
     }
-    // Most lines have one or two, and a vector begins with room for more.
-    found.shrink_to_fit();
-    Ok(Some(found))
+    true
+}
+
+/// The first assignment, and what follows it.
+pub(crate) fn split_assignment<'a>(bytes: &'a [u8]) -> Option<(Assignment<'a>, &'a [u8])>
+    ensures cases { MatchOption result (assigned bytes.now ≡ []) (λ p. assigned bytes.now ≡ assignment_model p.0 ∷ assigned p.1.now) }
+    ensures smaller { IfSome result (λ p. length p.1.now < length bytes.now) }
+{
+    let mut left = bytes;
+    'words: while let Some((word, rest)) = split_word(left) {
+        if let Some(assignment) = read_assignment(word) {
+            return Some((assignment, rest));
+        }
+        left = rest;
+    }
+    None
 }

@@ -1,20 +1,23 @@
 //! The macros that a chain of attribute files knows.
 
 ghost use Rattle.std.specs.Prelude.{◌≡◌, ◌++◌, map, MatchOption, Some, None, IfOk};
-ghost use Rattle.lc_rules.specs.Models.{assignment_model, macro_model, assignment_ref_model};
+ghost use Rattle.lc_rules.specs.Models.{assignment_model, macro_model};
 ghost use Rattle.lc_rules.specs.AttrStates.{binary};
 ghost use Rattle.lc_rules.specs.Decision.{macro_of};
 ghost use Rattle.lc_rules.specs.KnownMacros.{macro_body_model, defined_in, known_macros};
+ghost use Rattle.lc_rules.specs.WrittenLines.{assigned};
 
-use crate::assignment::{Assignment, AssignmentRef, Macro};
-use crate::macro_table::MacroTable;
+use crate::assignment::Assignment;
+use crate::attr_words::split_assignment;
+use crate::macro_table::{Macro, MacroTable};
 use crate::states::State;
 use std::alloc::AllocError;
 
 /// What a macro stands for.
 #[derive(Clone, Copy)]
 pub(crate) enum MacroBody<'a> {
-    Defined(&'a [Assignment]),
+    /// The words of its assignments.
+    Defined(&'a [u8]),
     Binary,
 }
 
@@ -44,9 +47,9 @@ impl<'a> KnownMacros<'a> {
     }
 }
 
-fn find_in<'a>(table: Option<&'a MacroTable>, name: &[u8]) -> Option<&'a [Assignment]>
+fn find_in<'a>(table: Option<&'a MacroTable>, name: &[u8]) -> Option<&'a [u8]>
     ensures { MatchOption result (macro_of (defined_in table.entry) name.now ≡ None)
-        (λ body. macro_of (defined_in table.entry) name.now ≡ Some (map assignment_model body.now)) }
+        (λ body. macro_of (defined_in table.entry) name.now ≡ Some (assigned body.now)) }
 {
     match table {
         None => None,
@@ -66,9 +69,9 @@ pub(crate) fn macros_in<'a>(table: Option<&'a MacroTable>) -> &'a [Macro]
 
 impl<'a> MacroBody<'a> {
     /// Puts the assignments on a stack, the last on top.
-    pub(crate) fn stack(self, words: &mut Vec<AssignmentRef<'a>>) -> Result<(), AllocError>
+    pub(crate) fn stack(self, words: &mut Vec<Assignment<'a>>) -> Result<(), AllocError>
         ensures { IfOk result
-            (λ _. map assignment_ref_model words.new.items ≡ map assignment_ref_model words.old.items ++ macro_body_model self.entry) }
+            (λ _. map assignment_model words.new.items ≡ map assignment_model words.old.items ++ macro_body_model self.entry) }
     {
         match self {
             MacroBody::Defined(assignments) => stack_all(assignments, words),
@@ -77,33 +80,31 @@ impl<'a> MacroBody<'a> {
     }
 }
 
-fn stack_all<'a>(
-    assignments: &'a [Assignment],
-    words: &mut Vec<AssignmentRef<'a>>,
-) -> Result<(), AllocError>
+fn stack_all<'a>(bytes: &'a [u8], words: &mut Vec<Assignment<'a>>) -> Result<(), AllocError>
     ensures { IfOk result
-        (λ _. map assignment_ref_model words.new.items ≡ map assignment_ref_model words.old.items
-        ++ map assignment_model assignments.now) }
+        (λ _. map assignment_model words.new.items ≡ map assignment_model words.old.items ++ assigned bytes.now) }
 {
-    for assignment in assignments {
-        words.push(assignment.lend())?;
+    let mut left = bytes;
+    'words: while let Some((assignment, rest)) = split_assignment(left) {
+        words.push(assignment)?;
+        left = rest;
     }
     Ok(())
 }
 
-fn stack_binary<'a>(words: &mut Vec<AssignmentRef<'a>>) -> Result<(), AllocError>
-    ensures { IfOk result (λ _. map assignment_ref_model words.new.items ≡ map assignment_ref_model words.old.items ++ binary.1) }
+fn stack_binary<'a>(words: &mut Vec<Assignment<'a>>) -> Result<(), AllocError>
+    ensures { IfOk result (λ _. map assignment_model words.new.items ≡ map assignment_model words.old.items ++ binary.1) }
 {
     words.extend_from_slice(&[
-        AssignmentRef {
+        Assignment {
             name: b"diff",
             state: State::Unset,
         },
-        AssignmentRef {
+        Assignment {
             name: b"merge",
             state: State::Unset,
         },
-        AssignmentRef {
+        Assignment {
             name: b"text",
             state: State::Unset,
         },

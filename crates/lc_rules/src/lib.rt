@@ -15,6 +15,7 @@ mod ignore_chain;
 mod ignore_file;
 mod ignore_line;
 mod known_macros;
+mod last_word;
 mod laws;
 mod line_table;
 mod lines;

@@ -1,54 +1,97 @@
 //! The lines of an attribute file that have a pattern.
 
-ghost use Rattle.std.specs.Prelude.{◌≡◌, ◌∷◌, [], ◌++◌, true, false, ℕ, List, length, map, is_some, IfOk, OnOk};
-ghost use Rattle.std.specs.List.{list_any};
-ghost use Rattle.lc_rules.specs.Models.{assignment_model, pattern_line_model, macro_model};
+ghost use Rattle.std.specs.Prelude.{◌≡◌, ◌∷◌, [], ◌++◌, true, false, ℕ, List, length, map, IfOk, OnOk};
+ghost use Rattle.lc_rules.specs.Models.{macro_model, pattern_line_model, seen_halves};
 ghost use Rattle.lc_rules.specs.KnownMacros.{known_macros, macros_for, some_matters};
 ghost use Rattle.lc_rules.specs.LineNames.{assigns_name, lines_name, has_name, NameNone};
+ghost use Rattle.lc_rules.specs.WrittenLines.{LineTableModel, assigned, halves, line_from, lines_in, with_line, without_lines, written_line};
 
-use crate::assignment::{Assignment, Macro, PatternLine, copied};
+use crate::attr_line::{PatternLine, split_line};
+use crate::attr_words::split_assignment;
 use crate::known_macros::{KnownMacros, macros_in};
+use crate::macro_table::Macro;
 use crate::resolver::Query;
+use lc_glob::{Pattern, cut_at_first};
 use std::alloc::{AllocError, Global};
 use std::collections::BTreeSet;
 use std::marker::Model;
 
+/// How many bytes patterns that were read may take in any file.
+const FIRST_BYTES: usize = 1 << 19;
+
+/// How many more, for a byte of the text before them.
+const BYTES_A_BYTE: usize = 8;
+
+/// A line whose pattern was read, by where it begins in the text.
+#[derive(Drop)]
+pub(crate) struct ReadLine {
+    pub(crate) pattern: Pattern,
+    pub(crate) start: u32,
+}
+
 /// Lines in their order, and the names that they assign, so that a file that can't decide an attribute is skipped whole.
+///
+/// Of a line no more is kept than where it begins in the text and, of the first ones, the pattern: so many lines of a few
+/// bytes take a few bytes each. The pattern of a later one is read whenever it is asked.
 #[derive(Drop)]
 pub(crate) struct LineTable {
-    lines: Vec<PatternLine>,
+    text: Vec<u8>,
+    read: Vec<ReadLine>,
+    /// About how many bytes those patterns take.
+    read_bytes: usize,
+    /// Where the lines after those begin.
+    written: Vec<u32>,
     names: BTreeSet<Vec<u8>>,
 }
 
 impl Model for LineTable {
-    ghost use Rattle.std.specs.Prelude.{List, map};
-    ghost use Rattle.lc_rules.specs.AttrLines.{PatternLineModel};
-    ghost use Rattle.lc_rules.specs.Models.{pattern_line_model};
     ghost use Rattle.lc_rules.specs.LineNames.{HasNames};
+    ghost use Rattle.lc_rules.specs.WrittenLines.{LineTableModel, lines_in};
 
-    ghost Value = { List PatternLineModel };
+    ghost Value = { LineTableModel };
 
-    ghost view = { λ t. map pattern_line_model t.lines.items };
+    ghost view = { λ t. record { text = t.text.items; lines = lines_in t.text.items t.read.items t.written.items } };
 
-    ghost invariant = { λ t. HasNames (map pattern_line_model t.lines.items) t.names };
+    ghost invariant = { λ t. HasNames (lines_in t.text.items t.read.items t.written.items) t.names };
 }
 
 impl LineTable {
-    pub(crate) fn new(alloc: Global) -> LineTable
-        ensures { result ≡ [] }
+    /// A text of which no line is taken yet.
+    pub(crate) fn new(alloc: Global, text: &[u8]) -> Result<LineTable, AllocError>
+        ensures { IfOk result (λ table. table ≡ without_lines text.now) }
     {
-        LineTable {
-            lines: Vec::new(alloc),
+        Ok(LineTable {
+            text: text.to_vec(alloc)?,
+            read: Vec::new(alloc),
+            read_bytes: 0,
+            written: Vec::new(alloc),
             names: BTreeSet::new(alloc),
-        }
+        })
     }
 
-    pub(crate) fn push(&mut self, line: PatternLine) -> Result<(), AllocError>
-        ensures { OnOk result (self.new ≡ self.old ++ pattern_line_model line ∷ []) }
+    /// Takes the line that begins at a place of the text.
+    pub(crate) fn push(
+        &mut self,
+        alloc: Global,
+        line: &PatternLine,
+        start: u32,
+    ) -> Result<(), AllocError>
+        requires { pattern_line_model line.now ≡ written_line self.old.text start }
+        ensures { OnOk result (self.new ≡ with_line self.old (pattern_line_model line.now)) }
     {
-        self.lines.reserve(1)?;
-        add_names(&mut self.names, line.assignments.as_slice())?;
-        self.lines.push_reserved(line);
+        add_names(alloc, &mut self.names, line.assignments)?;
+        let pattern = line.pattern.as_slice();
+        let bytes = self.read_bytes.saturating_add(bytes_of(pattern));
+        let most = (start as usize)
+            .saturating_mul(BYTES_A_BYTE)
+            .saturating_add(FIRST_BYTES);
+        if self.written.is_empty() && bytes <= most {
+            self.read_bytes = bytes;
+            let pattern = Pattern::read(alloc, pattern)?;
+            self.read.push(ReadLine { pattern, start })?;
+        } else {
+            self.written.push(start)?;
+        }
         Ok(())
     }
 
@@ -56,31 +99,47 @@ impl LineTable {
     pub(crate) fn shrink_to_fit(&mut self)
         ensures { self.new ≡ self.old }
     {
-        self.lines.shrink_to_fit();
+        self.read.shrink_to_fit();
+        self.written.shrink_to_fit();
     }
 
-    pub(crate) fn as_slice(&self) -> &[PatternLine]
-        ensures { map pattern_line_model result.now ≡ self.now }
+    /// The lines whose pattern was read, and where those after them begin.
+    pub(crate) fn parts(&self) -> (&[ReadLine], &[u32])
+        ensures { self.now.lines ≡ lines_in self.now.text result.0.now result.1.now }
     {
-        self.lines.as_slice()
+        (self.read.as_slice(), self.written.as_slice())
+    }
+
+    /// The pattern of the line that begins at a place of the text, and the words of its assignments.
+    pub(crate) fn line_from<'a>(
+        &'a self,
+        alloc: Global,
+        start: u32,
+    ) -> Result<Option<PatternLine<'a>>, AllocError>
+        ensures { IfOk result (λ r. seen_halves r ≡ halves (line_from self.now.text start)) }
+    {
+        let text = self.text.as_slice();
+        let start = (start as usize).min(text.len());
+        let (line, _) = cut_at_first(b'\n', &text[start..]);
+        split_line(alloc, line)
     }
 
     /// Whether some line may decide the attribute, by its name or by a macro.
     pub(crate) fn can_decide(&self, query: Query) -> bool
-        ensures { result ≡ false → some_matters (macros_for query.entry) query.entry.name.now self.now ≡ false }
+        ensures { result ≡ false → some_matters (macros_for query.entry) query.entry.name.now self.now.lines ≡ false }
     {
         self.may_name(query.name) || self.may_name_some(query.macros)
     }
 
     fn may_name(&self, name: &[u8]) -> bool
-        ensures { result ≡ false → lines_name self.now name.now ≡ false }
+        ensures { result ≡ false → lines_name self.now.lines name.now ≡ false }
     {
         self.names.contains(name)
     }
 
     /// Whether some line may name a macro.
     fn may_name_some(&self, macros: KnownMacros) -> bool
-        ensures { result ≡ false → NameNone self.now (known_macros macros.entry) }
+        ensures { result ≡ false → NameNone self.now.lines (known_macros macros.entry) }
     {
         if self.may_name(b"binary") {
             return true;
@@ -93,7 +152,7 @@ impl LineTable {
 
     /// Whether some line may name one of these macros. They are not looked for where they are more than the names.
     fn may_name_some_in(&self, defined: &[Macro]) -> bool
-        ensures { result ≡ false → NameNone self.now (map macro_model defined.now) }
+        ensures { result ≡ false → NameNone self.now.lines (map macro_model defined.now) }
     {
         if defined.len() > self.names.len() {
             return true;
@@ -107,16 +166,49 @@ impl LineTable {
     }
 }
 
-/// Adds the names of assignments to a set of names.
-fn add_names(names: &mut BTreeSet<Vec<u8>>, assignments: &[Assignment]) -> Result<(), AllocError>
+/// About how many bytes a line takes whose pattern was read: a segment takes 40, but the one of a short pattern, and a byte
+/// of a pattern that is no plain text up to 64.
+fn bytes_of(pattern: &[u8]) -> usize {
+    let separators = pattern.iter().filter(|b| **b == b'/').count();
+    let rest = pattern.strip_prefix(b"*").unwrap_or(pattern);
+    let marks = rest
+        .iter()
+        .filter(|b| matches!(**b, b'*' | b'?' | b'[' | b'\\'))
+        .count();
+    let tokens = if marks == 0 {
+        0
+    } else {
+        pattern.len().saturating_mul(64)
+    };
+    separators
+        .saturating_mul(40)
+        .saturating_add(tokens)
+        .saturating_add(64)
+}
+
+/// Adds the names of the assignments that these words are to a set of names.
+fn add_names(alloc: Global, names: &mut BTreeSet<Vec<u8>>, words: &[u8]) -> Result<(), AllocError>
     ensures keeps { (name : List ℕ) → has_name names.old name ≡ true → has_name names.new name ≡ true }
     ensures adds { OnOk result
-        ((name : List ℕ) → assigns_name (map assignment_model assignments.now) name ≡ true → has_name names.new name ≡ true) }
+        ((name : List ℕ) → assigns_name (assigned words.now) name ≡ true → has_name names.new name ≡ true) }
 {
-    for assignment in assignments {
-        if !names.contains(assignment.name.as_slice()) {
-            names.insert(copied(&assignment.name)?)?;
-        }
+    let mut left = words;
+    'words: while let Some((assignment, rest)) = split_assignment(left) {
+        add_name(alloc, names, assignment.name)?;
+        left = rest;
     }
+    Ok(())
+}
+
+/// Adds a name to a set that may have it.
+fn add_name(alloc: Global, names: &mut BTreeSet<Vec<u8>>, name: &[u8]) -> Result<(), AllocError>
+    ensures keeps { (other : List ℕ) → has_name names.old other ≡ true → has_name names.new other ≡ true }
+    ensures adds { OnOk result (has_name names.new name.now ≡ true) }
+{
+    if names.contains(name) {
+        return Ok(());
+    }
+    let added = name.to_vec(alloc)?;
+    names.insert(added)?;
     Ok(())
 }

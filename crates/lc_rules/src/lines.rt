@@ -44,7 +44,8 @@ impl<'a> Lines<'a> {
     }
 }
 
-fn without_mark<'a>(bytes: &'a [u8]) -> &'a [u8]
+/// The bytes of a file without its byte order mark.
+pub(crate) fn without_mark<'a>(bytes: &'a [u8]) -> &'a [u8]
     ensures { result.now ≡ without_mark bytes.now }
 {
     match bytes {

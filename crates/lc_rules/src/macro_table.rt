@@ -1,13 +1,21 @@
 //! The macros of a top-level attribute file.
 
 ghost use Rattle.std.specs.Prelude.{◌≡◌, ◌∷◌, [], ◌++◌, length, map, OnOk, MatchOption, Some, None};
-ghost use Rattle.lc_rules.specs.Models.{assignment_model, macro_model};
+ghost use Rattle.lc_rules.specs.Models.{macro_model, macro_line_model};
 ghost use Rattle.lc_rules.specs.Decision.{macro_of};
+ghost use Rattle.lc_rules.specs.WrittenLines.{assigned};
 
-use crate::assignment::{Assignment, Macro, copied};
+use crate::attr_line::MacroLine;
 use std::alloc::{AllocError, Global};
 use std::collections::BTreeMap;
 use std::marker::Model;
+
+/// A name that stands for assignments, and their words.
+#[derive(Drop)]
+pub(crate) struct Macro {
+    pub(crate) name: Vec<u8>,
+    pub(crate) assignments: Vec<u8>,
+}
 
 /// Macros in the order of their lines, and of each name the place of its last macro, so that a file of many macros is
 /// searched in the logarithm of their number.
@@ -40,20 +48,22 @@ impl MacroTable {
         }
     }
 
-    pub(crate) fn push(&mut self, added: Macro) -> Result<(), AllocError>
-        ensures { OnOk result (self.new ≡ self.old ++ macro_model added ∷ []) }
+    pub(crate) fn push(&mut self, alloc: Global, line: MacroLine) -> Result<(), AllocError>
+        ensures { OnOk result (self.new ≡ self.old ++ macro_line_model line.entry ∷ []) }
     {
-        let name = copied(&added.name)?;
+        let name = line.name.to_vec(alloc)?;
+        let assignments = line.assignments.to_vec(alloc)?;
+        let key = line.name.to_vec(alloc)?;
         self.defined.reserve(1)?;
-        self.places.insert(name, self.defined.len())?;
-        self.defined.push_reserved(added);
+        self.places.insert(key, self.defined.len())?;
+        self.defined.push_reserved(Macro { name, assignments });
         Ok(())
     }
 
-    /// What the last macro of this name stands for.
-    pub(crate) fn find(&self, name: &[u8]) -> Option<&[Assignment]>
+    /// The words of the assignments that the last macro of this name stands for.
+    pub(crate) fn find(&self, name: &[u8]) -> Option<&[u8]>
         ensures { MatchOption result (macro_of self.now name.now ≡ None)
-            (λ body. macro_of self.now name.now ≡ Some (map assignment_model body.now)) }
+            (λ body. macro_of self.now name.now ≡ Some (assigned body.now)) }
     {
         match self.places.get(name) {
             None => None,

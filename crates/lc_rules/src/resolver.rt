@@ -1,17 +1,19 @@
 //! How one attribute of a path is decided, from the assignments of the highest precedence on.
 
 ghost use Rattle.std.specs.Prelude.{◌≡◌, ◌≤◌, ◌∷◌, [], ◌++◌, false, map, reverse, IfOk, IfNone};
-ghost use Rattle.std.specs.List.{list_any};
 ghost use Rattle.lc_rules.specs.Decision.{DecidesByEquations};
 ghost use Rattle.lc_rules.specs.Resolving.{is_marked, Reads, IsReady, Decides, still_to_read, names_in, stacked};
-ghost use Rattle.lc_rules.specs.Models.{state_model, assignment_ref_model, assignment_model, pattern_line_model};
-ghost use Rattle.lc_rules.specs.KnownMacros.{macros_for, macro_body_model, expanded, matters};
+ghost use Rattle.lc_rules.specs.Models.{state_model, assignment_model};
+ghost use Rattle.lc_rules.specs.KnownMacros.{macro_body_model, expanded};
 ghost use Rattle.lc_rules.specs.AttrStates.{by_line, by_lines};
+ghost use Rattle.lc_rules.specs.WrittenLines.{assigned, read_line, written_line};
 
-use crate::assignment::{Assignment, AssignmentRef, PatternLine};
+use crate::assignment::Assignment;
 use crate::known_macros::{KnownMacros, MacroBody};
+use crate::last_word::split_last_assignment;
+use crate::line_table::{LineTable, ReadLine};
 use crate::states::State;
-use lc_glob::Candidate;
+use lc_glob::{Candidate, Pattern};
 use std::alloc::{AllocError, Global};
 use std::collections::BTreeSet;
 
@@ -22,31 +24,13 @@ pub(crate) struct Query<'q, 'a> {
     pub(crate) macros: KnownMacros<'a>,
 }
 
-impl<'q, 'a> Query<'q, 'a> {
-    /// Whether an assignment of this name may decide the attribute.
-    fn matters(self, name: &[u8]) -> bool
-        ensures { result ≡ matters (macros_for self.entry) self.entry.name.now name.now }
-    {
-        name == self.name || self.macros.find(name).is_some()
-    }
-
-    /// Whether some of these assignments may decide the attribute.
-    fn matters_in(self, assignments: &[Assignment]) -> bool
-        ensures { result ≡ list_any (λ a. matters (macros_for self.entry) self.entry.name.now (assignment_model a).0) assignments.now }
-    {
-        assignments.iter().any(|a| self.matters(a.name.as_slice()))
-    }
-}
-
-/// How many names a line may have that are looked at before its pattern.
-const FEW_NAMES: usize = 8;
-
 /// The macros that are decided, in whatever state, and the assignments of macros that are still to be read, the next on
 /// top. Names that are no macros decide nothing else, so they aren't kept; no memory is taken until a macro is met.
 #[derive(Drop)]
 pub(crate) struct Resolver<'a> {
+    alloc: Global,
     pub(crate) decided: BTreeSet<&'a [u8]>,
-    pub(crate) pending: Vec<AssignmentRef<'a>>,
+    pub(crate) pending: Vec<Assignment<'a>>,
 }
 
 impl<'a> Resolver<'a> {
@@ -55,6 +39,7 @@ impl<'a> Resolver<'a> {
         ensures pending { result.pending.items ≡ [] }
     {
         Resolver {
+            alloc,
             decided: BTreeSet::new(alloc),
             pending: Vec::new(alloc),
         }
@@ -65,7 +50,7 @@ impl<'a> Resolver<'a> {
 fn expand<'a>(
     body: MacroBody<'a>,
     state: State<'a>,
-    pending: &mut Vec<AssignmentRef<'a>>,
+    pending: &mut Vec<Assignment<'a>>,
 ) -> Result<(), AllocError>
     ensures { IfOk result
         (λ _. stacked pending.new.items ≡ expanded (macro_body_model body.entry) (state_model state.entry) ++ stacked pending.old.items) }
@@ -79,12 +64,12 @@ fn expand<'a>(
 /// Reads one assignment: it decides the name that is query, or puts a macro's assignments on the stack.
 fn decide_at<'a>(
     query: Query<'_, 'a>,
-    word: AssignmentRef<'a>,
+    word: Assignment<'a>,
     resolver: &mut Resolver<'a>,
 ) -> Result<Option<State<'a>>, AllocError>
     requires { is_marked (names_in resolver.old.decided) query.name.now ≡ false }
     ensures moves { IfOk result
-        (λ r. Reads query.entry (assignment_ref_model word.entry ∷ stacked resolver.old.pending.items) resolver.old r
+        (λ r. Reads query.entry (assignment_model word.entry ∷ stacked resolver.old.pending.items) resolver.old r
         (stacked resolver.new.pending.items) resolver.new) }
     ensures smaller { IfOk result (λ r. IfNone r (still_to_read query.entry resolver.new ≤ still_to_read query.entry resolver.old)) }
 {
@@ -121,11 +106,11 @@ fn decide_pending<'a>(
 /// Reads one assignment of a line, and those of macros that it leads to.
 fn decide_by_word<'a>(
     query: Query<'_, 'a>,
-    word: AssignmentRef<'a>,
+    word: Assignment<'a>,
     resolver: &mut Resolver<'a>,
 ) -> Result<Option<State<'a>>, AllocError>
     requires { IsReady query resolver.old }
-    ensures { IfOk result (λ r. Decides query.entry (assignment_ref_model word.entry ∷ []) resolver.old r resolver.new) }
+    ensures { IfOk result (λ r. Decides query.entry (assignment_model word.entry ∷ []) resolver.old r resolver.new) }
 {
     if let Some(state) = decide_at(query, word, resolver)? {
         return Ok(Some(state));
@@ -134,18 +119,18 @@ fn decide_by_word<'a>(
     Ok(found)
 }
 
-/// Reads the assignments of a line from right to left.
+/// Reads the assignments that these words are from right to left.
 fn decide_by_words<'a>(
     query: Query<'_, 'a>,
-    assignments: &'a [Assignment],
+    words: &'a [u8],
     resolver: &mut Resolver<'a>,
 ) -> Result<Option<State<'a>>, AllocError>
     requires { IsReady query resolver.old }
-    ensures { IfOk result (λ r. Decides query.entry (reverse (map assignment_model assignments.now)) resolver.old r resolver.new) }
+    ensures { IfOk result (λ r. Decides query.entry (reverse (assigned words.now)) resolver.old r resolver.new) }
 {
-    let mut left = assignments;
-    'words: while let Some((last, before)) = left.split_last() {
-        if let Some(state) = decide_by_word(query, last.lend(), resolver)? {
+    let mut left = words;
+    'words: while let Some((assignment, before)) = split_last_assignment(left) {
+        if let Some(state) = decide_by_word(query, assignment, resolver)? {
             return Ok(Some(state));
         }
         left = before;
@@ -153,47 +138,115 @@ fn decide_by_words<'a>(
     Ok(None)
 }
 
-/// Reads a line. A look at a few names costs less than one at the pattern, and may spare it.
-fn decide_by_line<'a>(
+/// Reads a line whose pattern was read.
+fn decide_by_read<'a>(
     query: Query<'_, 'a>,
-    line: &'a PatternLine,
-    path: &Candidate,
-    is_dir: bool,
-    resolver: &mut Resolver<'a>,
-) -> Result<Option<State<'a>>, AllocError>
-    requires { IsReady query resolver.old }
-    ensures { IfOk result (λ r. Decides query.entry (by_line (pattern_line_model line.now) path.now is_dir) resolver.old r resolver.new) }
-{
-    let assignments = line.assignments.as_slice();
-    if assignments.len() <= FEW_NAMES && !query.matters_in(assignments) {
-        return Ok(None);
-    }
-    if !line.pattern.matches_candidate(path, is_dir) {
-        return Ok(None);
-    }
-    decide_by_words(query, assignments, resolver)
-}
-
-/// Reads lines from the last to the first.
-pub(crate) fn decide_by_lines<'a>(
-    query: Query<'_, 'a>,
-    lines: &'a [PatternLine],
+    table: &'a LineTable,
+    line: &'a ReadLine,
     path: &Candidate,
     is_dir: bool,
     resolver: &mut Resolver<'a>,
 ) -> Result<Option<State<'a>>, AllocError>
     requires { IsReady query resolver.old }
     ensures { IfOk result
-        (λ r. Decides query.entry (by_lines (map pattern_line_model lines.now) path.now is_dir) resolver.old r resolver.new) }
+        (λ r. Decides query.entry (by_line (read_line table.now.text line.now) path.now is_dir) resolver.old r resolver.new) }
+{
+    if !line.pattern.matches_candidate(path, is_dir) {
+        return Ok(None);
+    }
+    let Some(written) = table.line_from(resolver.alloc, line.start)? else {
+        return Ok(None);
+    };
+    decide_by_words(query, written.assignments, resolver)
+}
+
+/// Reads the line that begins at a place of the text.
+fn decide_by_written<'a>(
+    query: Query<'_, 'a>,
+    table: &'a LineTable,
+    start: u32,
+    path: &Candidate,
+    is_dir: bool,
+    resolver: &mut Resolver<'a>,
+) -> Result<Option<State<'a>>, AllocError>
+    requires { IsReady query resolver.old }
+    ensures { IfOk result
+        (λ r. Decides query.entry (by_line (written_line table.now.text start) path.now is_dir) resolver.old r resolver.new) }
+{
+    let Some(line) = table.line_from(resolver.alloc, start)? else {
+        return Ok(None);
+    };
+    let pattern = Pattern::read(resolver.alloc, line.pattern.as_slice())?;
+    if !pattern.matches_candidate(path, is_dir) {
+        return Ok(None);
+    }
+    decide_by_words(query, line.assignments, resolver)
+}
+
+/// Reads lines whose patterns were read, from the last to the first.
+fn decide_by_all_read<'a>(
+    query: Query<'_, 'a>,
+    table: &'a LineTable,
+    lines: &'a [ReadLine],
+    path: &Candidate,
+    is_dir: bool,
+    resolver: &mut Resolver<'a>,
+) -> Result<Option<State<'a>>, AllocError>
+    requires { IsReady query resolver.old }
+    ensures { IfOk result
+        (λ r. Decides query.entry (by_lines (map (read_line table.now.text) lines.now) path.now is_dir) resolver.old r resolver.new) }
 {
     let mut left = lines;
     'lines: while let Some((last, before)) = left.split_last() {
-        if let Some(state) = decide_by_line(query, last, path, is_dir, resolver)? {
+        if let Some(state) = decide_by_read(query, table, last, path, is_dir, resolver)? {
             return Ok(Some(state));
         }
         left = before;
     }
     Ok(None)
+}
+
+/// Reads lines that begin at these places, from the last to the first.
+fn decide_by_all_written<'a>(
+    query: Query<'_, 'a>,
+    table: &'a LineTable,
+    starts: &[u32],
+    path: &Candidate,
+    is_dir: bool,
+    resolver: &mut Resolver<'a>,
+) -> Result<Option<State<'a>>, AllocError>
+    requires { IsReady query resolver.old }
+    ensures { IfOk result
+        (λ r. Decides query.entry (by_lines (map (written_line table.now.text) starts.now) path.now is_dir) resolver.old r resolver.new) }
+{
+    let mut left = starts;
+    'lines: while let Some((last, before)) = left.split_last() {
+        if let Some(state) = decide_by_written(query, table, *last, path, is_dir, resolver)? {
+            return Ok(Some(state));
+        }
+        left = before;
+    }
+    Ok(None)
+}
+
+/// Reads the lines of a file, the last first.
+pub(crate) fn decide_by_lines<'a>(
+    query: Query<'_, 'a>,
+    table: &'a LineTable,
+    path: &[u8],
+    is_dir: bool,
+    resolver: &mut Resolver<'a>,
+) -> Result<Option<State<'a>>, AllocError>
+    requires { IsReady query resolver.old }
+    ensures { IfOk result (λ r. Decides query.entry (by_lines table.now.lines path.now is_dir) resolver.old r resolver.new) }
+{
+    let (read, written) = table.parts();
+    let path = Candidate::for_patterns(path, read.len().saturating_add(written.len()));
+    if let Some(state) = decide_by_all_written(query, table, written, &path, is_dir, resolver)? {
+        return Ok(Some(state));
+    }
+    let found = decide_by_all_read(query, table, read, &path, is_dir, resolver)?;
+    Ok(found)
 }
 
 /// The law that the decision, of which `AttrChain::state` tells one name, keeps its equations, and that nothing else does:

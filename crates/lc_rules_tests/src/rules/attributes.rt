@@ -213,6 +213,41 @@ fn each_case_holds(rt: HostRuntime) -> Result<(), Fail> {
     Ok(())
 }
 
+/// Lines that take all room for patterns, so that the pattern of each line after them is read whenever it is asked.
+fn many_lines(alloc: Global) -> Result<Vec<u8>, AllocError> {
+    let mut lines = Vec::new(alloc);
+    for _ in 0..20_000 {
+        lines.extend_from_slice(b"x y\n")?;
+    }
+    Ok(lines)
+}
+
+fn check_after(
+    rt: &impl Abort,
+    alloc: Global,
+    before: &[u8],
+    cases: &[Case],
+) -> Result<(), AllocError> {
+    for (lines, path, name, state) in cases {
+        let mut bytes = before.to_vec(alloc)?;
+        bytes.extend_from_slice(lines)?;
+        let chain = AttrChain::top().below(alloc, 0, Some(file(alloc, &bytes, true)?))?;
+        let holds = is_same(chain.state(alloc, path, FILE, name)?, *state);
+        assert!(rt; holds, "{lines:?} at {path:?}: {name:?}");
+    }
+    Ok(())
+}
+
+#[test]
+fn each_case_holds_after_many_lines(rt: HostRuntime) -> Result<(), Fail> {
+    let before = many_lines(rt.alloc())?;
+    check_after(&rt, rt.alloc(), &before, WORDS)?;
+    check_after(&rt, rt.alloc(), &before, QUOTED_PATTERNS)?;
+    check_after(&rt, rt.alloc(), &before, MACROS)?;
+    check_after(&rt, rt.alloc(), &before, LATER_ASSIGNMENTS_DECIDE)?;
+    Ok(())
+}
+
 const TEXT_LINES: &[Part] = &[Part::File(
     0,
     b"*.t text=auto\n*.u text=crlf\n*.s text\n*.n -text\n*.v text\n*.v !text\nd/ text",

@@ -1,9 +1,14 @@
 use Rattle.std.proofs.Common.{◌≡◌, ◌≤◌, length}
 use Rattle.lc_rules.specs.AttrLines.{trimmed}
+use Rattle.lc_rules.specs.AttrWords.{IsEndOf}
 use Rattle.lc_rules.proofs.attr_words.trimmed.Given as goal
 
 abbrev pub invariant-bytes : goal.invariant-bytes
-invariant-bytes l = record { same : trimmed l.line ≡ trimmed l.left; shorter : length l.left ≤ length l.line }
+invariant-bytes l = record {
+  same : trimmed l.line ≡ trimmed l.left;
+  shorter : length l.left ≤ length l.line;
+  end : IsEndOf l.left l.line;
+}
 
 abbrev pub decreases-bytes : goal.decreases-bytes
 decreases-bytes l = length l.left

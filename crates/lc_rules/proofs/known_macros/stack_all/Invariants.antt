@@ -1,7 +1,10 @@
-use Rattle.std.proofs.Common.{◌≡◌, take, map, ◌++◌}
-use Rattle.lc_rules.specs.Models.{assignment_ref_model, assignment_model}
+use Rattle.std.proofs.Common.{◌≡◌, map, ◌++◌, length}
+use Rattle.lc_rules.specs.Models.{assignment_model}
+use Rattle.lc_rules.specs.WrittenLines.{assigned}
 use Rattle.lc_rules.proofs.known_macros.stack_all.Given as goal
 
-abbrev pub invariant-loop-assignment : goal.invariant-loop-assignment
-invariant-loop-assignment l = map assignment_ref_model l.words.items ≡ map assignment_ref_model l.initial.words.items
-    ++ map assignment_model (take l.assignment-index l.assignments)
+abbrev pub invariant-words : goal.invariant-words
+invariant-words l = map assignment_model l.initial.words.items ++ assigned l.bytes ≡ map assignment_model l.words.items ++ assigned l.left
+
+abbrev pub decreases-words : goal.decreases-words
+decreases-words l = length l.left

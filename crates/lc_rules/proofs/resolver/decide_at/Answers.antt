@@ -1,5 +1,5 @@
 use Rattle.std.proofs.Common.{◌∙◌, sym}
-use Rattle.lc_rules.specs.Models.{state_model, assignment_ref_model}
+use Rattle.lc_rules.specs.Models.{state_model, assignment_model}
 use Rattle.lc_rules.specs.Resolving.{names_in, stacked}
 use Rattle.lc_rules.specs.KnownMacros.{macros_for, macro_body_model}
 use Rattle.lc_rules.proofs.Moving.{moves_found, moves_plain, moves_seen, moves_macro, macro_to_read}
@@ -10,21 +10,21 @@ pub returns-then-eq-clause-moves : goal.returns-then-eq-clause-moves
 returns-then-eq-clause-moves c =
     let names = names_in c.args.resolver.now.decided in
     let todo = stacked c.args.resolver.now.pending.items in
-    moves_found (macros_for c.args.query) c.args.query.name.now (assignment_ref_model c.args.word) todo names todo names c.requires
+    moves_found (macros_for c.args.query) c.args.query.name.now (assignment_model c.args.word) todo names todo names c.requires
     (sym c.eq.ensures ∙ c.if-eq.true)
 
 pub returns-in_default-clause-moves : goal.returns-in_default-clause-moves
 returns-in_default-clause-moves c =
     let names = names_in c.args.resolver.now.decided in
     let todo = stacked c.args.resolver.now.pending.items in
-    moves_plain (macros_for c.args.query) c.args.query.name.now (assignment_ref_model c.args.word) todo names c.requires
+    moves_plain (macros_for c.args.query) c.args.query.name.now (assignment_model c.args.word) todo names c.requires
     (sym c.eq.ensures ∙ c.if-eq.false) c.in_default.ensures
 
 pub returns-then-contains-clause-moves : goal.returns-then-contains-clause-moves
 returns-then-contains-clause-moves c =
     let names = names_in c.args.resolver.now.decided in
     let todo = stacked c.args.resolver.now.pending.items in
-    moves_seen (macros_for c.args.query) c.args.query.name.now (assignment_ref_model c.args.word) todo names c.requires
+    moves_seen (macros_for c.args.query) c.args.query.name.now (assignment_model c.args.word) todo names c.requires
     (names_in-contains c.args.resolver.now.decided c.args.word.name.now ∙ sym c.contains.ensures ∙ c.if-contains.true)
 
 pub returns-clause-moves : goal.returns-clause-moves

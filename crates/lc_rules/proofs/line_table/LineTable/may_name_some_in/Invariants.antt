@@ -4,4 +4,4 @@ use Rattle.lc_rules.specs.LineNames.{NameNone}
 use Rattle.lc_rules.proofs.line_table.LineTable.may_name_some_in.Given as goal
 
 abbrev pub invariant-loop-found : goal.invariant-loop-found
-invariant-loop-found l = NameNone l.self (map macro_model (take l.found-index l.defined))
+invariant-loop-found l = NameNone l.self.lines (map macro_model (take l.found-index l.defined))

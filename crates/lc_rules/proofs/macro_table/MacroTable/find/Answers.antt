@@ -1,8 +1,8 @@
-use Rattle.std.proofs.Common.{◌≡◌, ◌<◌, ◌∙◌, sym, ap, List, Some, map, length, get_or, rules}
+use Rattle.std.proofs.Common.{◌≡◌, ◌<◌, ◌∙◌, sym, ap, ℕ, List, Some, map, length, get_or, rules}
 use Rattle.lc_rules.specs.Attributes.{MacroModel}
-use Rattle.lc_rules.specs.Models.{assignment_model, macro_model}
+use Rattle.lc_rules.specs.Models.{macro_model}
+use Rattle.lc_rules.specs.WrittenLines.{assigned}
 use Rattle.lc_rules.specs.Decision.{macro_of}
-use Rattle.lc_rules.specs.declared.assignment.Assignment.{Assignment}
 use Rattle.lc_rules.proofs.LastMacro.{at_last_place, no_place}
 use Rattle.lc_rules.proofs.macro_table.MacroTable.find.Goals as goal
 
@@ -25,4 +25,4 @@ returns-in-Some c =
     let same : (get_or c.self.inside.defined.items c.in-Some.place.now c.index.result.now).assignments.items
     ≡ c.as_slice.result.now = search rules in
     ap (λ (l : List MacroModel). macro_of l c.args.name.now) (sym c.self.view_is) ∙ at.body c.index.result.now
-    ∙ ap (λ (l : List Assignment). Some (map assignment_model l)) same
+    ∙ ap (λ (l : List ℕ). Some (assigned l)) same
