@@ -14,3 +14,4 @@ pub mod Ends
 pub mod Leading
 pub mod Sizing
 pub mod Masks
+pub mod Above

@@ -17,4 +17,5 @@ pub mod Costs
 pub mod Leads
 pub mod Lengths
 pub mod PathSteps
+pub mod Above
 pub mod Words

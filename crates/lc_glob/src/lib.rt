@@ -19,7 +19,8 @@
 //!
 //! Reading takes memory, and matching none. For a pattern of `p` bytes and a path of `q` a match tests at most
 //! `(p + 1) * (q + 1)` bytes of the path. Of a long path it is known between how many bytes its segments have (`lengths`), so
-//! that a pattern none of them can fit is not looked for.
+//! that a pattern none of them can fit is not looked for. `Pattern::match_directories` asks about all directories above a path
+//! for no more than that.
 #![tactic(auto)]
 
 mod bracket;
@@ -27,6 +28,7 @@ mod byte_set;
 mod candidate;
 mod cut;
 mod lengths;
+mod match_above;
 mod match_path;
 mod match_segment;
 pub mod path;

@@ -1,6 +1,7 @@
 //! A pattern, and whether it matches a path.
 
 ghost use Rattle.std.specs.Prelude.{◌≡◌, ◌↔◌, ◌≤◌, ◌+◌, ◌*◌, IsTrue, length, List, ℕ, IfOk, map};
+ghost use Rattle.lc_glob.specs.Above.{names_of, TellMatches, searches};
 ghost use Rattle.lc_glob.specs.IsMatch.{is_match, IsMatchDecides};
 ghost use Rattle.lc_glob.specs.Matches.{Matches};
 ghost use Rattle.lc_glob.specs.Path.{segments_of};
@@ -8,6 +9,7 @@ ghost use Rattle.lc_glob.specs.Reading.{pattern_of};
 ghost use Rattle.lc_glob.specs.Costs.{full_cost};
 
 use crate::candidate::Candidate;
+use crate::match_above::{keep, match_above, searches};
 use crate::match_path::matches_path;
 use crate::match_segment::fits;
 use crate::path_segment::ByteTests;
@@ -130,6 +132,68 @@ impl Pattern {
         let mut tests = ByteTests::none();
         let found = self.matched(&Candidate::measured(path), is_dir, &mut tests);
         (found, tests.made())
+    }
+
+    /// Which of the directories above a path it matches, by one pass for all: the flag of each name tells of the directory
+    /// whose path has the names up to that one. It takes no memory.
+    ///
+    /// ```
+    /// let mut flags = [false; 3];
+    /// Pattern::read(alloc, b"a/**/c")?.match_directories(&[b"a", b"b", b"c"], &mut flags);
+    /// assert!(rt; flags == [false, false, true]);
+    /// ```
+    pub fn match_directories(&self, names: &[&[u8]], flags: &mut [bool])
+        requires { length names.now ≡ length flags.old }
+        ensures len { length flags.new ≡ length flags.old }
+        ensures told { TellMatches self.now (names_of names.now) flags.new }
+    {
+        self.flag_directories(names, flags, &mut ByteTests::none());
+    }
+
+    /// The same, and how many byte tests it took: no more than one match with the whole path may take, for all of them.
+    ///
+    /// ```
+    /// let mut flags = [false; 2];
+    /// let tests = Pattern::read(alloc, b"**/b/**")?.match_directories_counted(&[b"b", b"c"], &mut flags);
+    /// assert!(rt; flags == [false, true] && tests == 2);
+    /// ```
+    pub fn match_directories_counted(&self, names: &[&[u8]], flags: &mut [bool]) -> u64
+        requires { length names.now ≡ length flags.old }
+        ensures len { length flags.new ≡ length flags.old }
+        ensures told { TellMatches self.now (names_of names.now) flags.new }
+        ensures bound { (bytes path : List ℕ) → self.now ≡ pattern_of bytes → names_of names.now ≡ segments_of path
+            → result ≤ (length bytes + 1) * (length path + 1) }
+    {
+        let mut tests = ByteTests::none();
+        self.flag_directories(names, flags, &mut tests);
+        tests.made()
+    }
+
+    fn flag_directories(&self, names: &[&[u8]], flags: &mut [bool], tests: &mut ByteTests)
+        requires { length names.now ≡ length flags.old }
+        ensures len { length flags.new ≡ length flags.old }
+        ensures told { TellMatches self.now (names_of names.now) flags.new }
+        ensures cost { tests.new.made ≤ tests.old.made + full_cost self.now.segments (names_of names.now) }
+    {
+        match &self.kind {
+            PatternKind::Dead => flags.fill(false),
+            PatternKind::LastSegment(tokens) => {
+                flags.fill(true);
+                keep(flags, names, tokens, tests);
+            }
+            PatternKind::WholePath(segments) => match_above(segments, names, flags, tests),
+        }
+    }
+
+    /// Whether it searches the names above a directory, so that directories above one path had better be asked about at once by
+    /// `match_directories`: a double star comes after another one or after a segment with a star, as in `**/a/**`.
+    pub fn searches(&self) -> bool
+        ensures { result ≡ searches self.now }
+    {
+        match &self.kind {
+            PatternKind::WholePath(segments) => searches(segments),
+            _ => false,
+        }
     }
 
     fn matched(&self, path: &Candidate, is_dir: bool, tests: &mut ByteTests) -> bool

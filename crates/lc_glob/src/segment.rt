@@ -1,9 +1,11 @@
 //! The segments of a pattern.
 
 ghost use Rattle.std.specs.Prelude.{◌≡◌, IfOk, IfSome, map};
+ghost use Rattle.std.specs.List.{list_any};
+ghost use Rattle.lc_glob.specs.Above.{is_double, is_wide};
 ghost use Rattle.lc_glob.specs.Reading.{is_double_star};
-ghost use Rattle.lc_glob.specs.Tokens.{literal};
-ghost use Rattle.lc_glob.specs.Views.{token_model, tokens_model, part_model};
+ghost use Rattle.lc_glob.specs.Tokens.{literal, is_star};
+ghost use Rattle.lc_glob.specs.Views.{token_model, tokens_model, segment_model, part_model};
 
 use crate::token::Token;
 use smallvec::SmallVec;
@@ -19,6 +21,24 @@ pub(crate) enum Segment {
     Plain(Tokens),
     /// `**`: any run of a path's segments.
     DoubleStar,
+}
+
+impl Segment {
+    pub(crate) fn is_double(&self) -> bool
+        ensures { result ≡ is_double (segment_model self.now) }
+    {
+        matches!(self, Segment::DoubleStar)
+    }
+
+    /// Whether it is a double star or has a star.
+    pub(crate) fn is_wide(&self) -> bool
+        ensures { result ≡ is_wide (segment_model self.now) }
+    {
+        match self {
+            Segment::Plain(tokens) => tokens.has_star(),
+            Segment::DoubleStar => true,
+        }
+    }
 }
 
 /// The tokens of a segment, by their shape. The two most usual ones are compared as bytes.
@@ -47,6 +67,16 @@ impl Tokens {
         }
         Ok(Tokens::Mixed(part))
     }
+
+    fn has_star(&self) -> bool
+        ensures { result ≡ list_any is_star (tokens_model self.now) }
+    {
+        match self {
+            Tokens::Literal(_) => false,
+            Tokens::Suffix(_) => true,
+            Tokens::Mixed(tokens) => has_star(tokens),
+        }
+    }
 }
 
 /// The literals, where the tokens are literals alone.
@@ -61,6 +91,20 @@ fn literals_of(alloc: Global, tokens: &[Token]) -> Result<Option<Literals>, Allo
         literals.push(*b)?;
     }
     Ok(Some(literals))
+}
+
+/// Whether a star is among the tokens.
+fn has_star(tokens: &[Token]) -> bool
+    ensures { result ≡ list_any is_star (map token_model tokens.now) }
+{
+    let mut left = tokens;
+    'tokens: while let Some((token, others)) = left.split_first() {
+        if token.is_star() {
+            return true;
+        }
+        left = others;
+    }
+    false
 }
 
 /// Whether a part is two stars and nothing else.

@@ -16,3 +16,4 @@ pub mod NameKeys
 pub mod NamedLines
 pub mod LastWords
 pub mod LinePlaces
+pub mod AboveRules

@@ -3,6 +3,7 @@ pub mod Limits
 pub mod RuleLines
 pub mod IgnoreRules
 pub mod Verdicts
+pub mod Above
 pub mod IgnoreLaws
 pub mod Chains
 pub mod IgnoreChains

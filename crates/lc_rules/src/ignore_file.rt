@@ -1,6 +1,8 @@
 //! Ignore files.
 
 ghost use Rattle.std.specs.Prelude.{◌≡◌, ◌↔◌, ◌<◌, ◌≤◌, [], length, option_map, IfOk, IsTrue};
+ghost use Rattle.std.specs.List.{list_any};
+ghost use Rattle.lc_glob.specs.Above.{searches};
 ghost use Rattle.lc_rules.specs.IgnoreRules.{rules_of};
 ghost use Rattle.lc_rules.specs.Verdicts.{at_depth, deciding, verdict_of};
 ghost use Rattle.lc_rules.specs.Limits.{max_rule_bytes};
@@ -42,6 +44,12 @@ impl IgnoreFile {
         Ok(IgnoreFile { rules })
     }
 
+    pub(crate) fn rules(&self) -> &[Rule]
+        ensures { result.now ≡ self.now }
+    {
+        &self.rules
+    }
+
     /// The number of rules, those with a dead pattern included.
     pub fn len(&self) -> usize
         ensures { result ≡ length self.now }
@@ -53,6 +61,20 @@ impl IgnoreFile {
         ensures { IsTrue result ↔ (self.now ≡ []) }
     {
         self.rules.is_empty()
+    }
+
+    /// Whether some pattern of it searches, so that the directories above one path had better be asked about at once.
+    pub fn searches(&self) -> bool
+        ensures { result ≡ list_any (λ rule. searches rule.pattern) self.now }
+    {
+        let mut left = self.rules.as_slice();
+        'rules: while let Some((rule, others)) = left.split_first() {
+            if rule.searches() {
+                return true;
+            }
+            left = others;
+        }
+        false
     }
 
     /// What the file alone says of a path below its directory.

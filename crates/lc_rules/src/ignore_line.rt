@@ -1,6 +1,7 @@
 //! How a line of an ignore file gives a rule.
 
-ghost use Rattle.std.specs.Prelude.{◌≡◌, IfOk};
+ghost use Rattle.std.specs.Prelude.{◌≡◌, not, length, IfOk};
+ghost use Rattle.lc_glob.specs.Above.{names_of, TellMatches, searches};
 ghost use Rattle.lc_glob.specs.IsMatch.{is_match};
 ghost use Rattle.lc_rules.specs.IgnoreRules.{without_return, without_spaces, text_of_line, rule_of_line};
 ghost use Rattle.lc_rules.specs.Verdicts.{verdict_by};
@@ -43,6 +44,29 @@ impl Rule {
         } else {
             Verdict::Ignored
         }
+    }
+
+    /// Whether it ignores what its pattern matches.
+    pub(crate) fn ignores(&self) -> bool
+        ensures { result ≡ not self.now.is_negated }
+    {
+        !self.is_negated
+    }
+
+    /// Whether its pattern searches.
+    pub(crate) fn searches(&self) -> bool
+        ensures { result ≡ searches self.now.pattern }
+    {
+        self.pattern.searches()
+    }
+
+    /// Flags the directories of these names that its pattern matches.
+    pub(crate) fn match_directories(&self, names: &[&[u8]], flags: &mut [bool])
+        requires { length names.now ≡ length flags.old }
+        ensures len { length flags.new ≡ length flags.old }
+        ensures told { TellMatches self.now.pattern (names_of names.now) flags.new }
+    {
+        self.pattern.match_directories(names, flags);
     }
 
     pub(crate) fn matches(&self, path: &Candidate, is_dir: bool) -> bool

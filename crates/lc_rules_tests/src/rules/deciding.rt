@@ -1,6 +1,6 @@
 //! Which rule decides, by the line that it stands on.
 
-use lc_rules::{Chain, IgnoreFile, Lines, Origin, Verdict, text_of_line};
+use lc_rules::{Chain, DirectoriesAbove, IgnoreFile, Lines, Origin, Verdict, text_of_line};
 use std::alloc::{AllocError, Global};
 use std::sync::Arc;
 use std::test::Fail;
@@ -143,5 +143,44 @@ fn texts_of_lines(rt: HostRuntime) -> Result<(), Fail> {
         left = others;
     }
     assert!(rt; left.split_first().is_none());
+    Ok(())
+}
+
+/// Rules, a path, and the line of the rule that decides each directory above it.
+const ABOVE: &[(&'static [u8], &'static [u8], &'static [Option<u32>])] = &[
+    (b"**/q/**\nb/\n", b"a/b/c/d", &[None, Some(2), None]),
+    (b"b/\n**/q/**\n", b"a/b/c/d", &[None, Some(1), None]),
+    (
+        b"**/b/**\n!/a/b/c/\n",
+        b"a/b/c/d/e",
+        &[None, None, Some(2), Some(1)],
+    ),
+    (b"/a*/**/d\n", b"ab/x/d/e", &[None, None, Some(1)]),
+    (b"*\n!a\n", b"a/b/a/c", &[Some(2), Some(1), Some(2)]),
+    (b"*\n", b"a", &[]),
+    (b"", b"a/b/c", &[None, None]),
+];
+
+#[test]
+fn directories_above_a_path_are_decided_at_once(rt: HostRuntime) -> Result<(), Fail> {
+    for (rules, path, lines) in ABOVE {
+        let file = read(rt.alloc(), rules)?;
+        let above = DirectoriesAbove::of(&file, path);
+        let mut found = Vec::new(rt.alloc());
+        for len in 0..path.len() {
+            if path[len] == b'/' {
+                let rule = above.deciding(found.len(), len);
+                found.push(rule.map(|rule| rule.line()))?;
+            }
+        }
+        assert!(rt; found.as_slice() == *lines, "{rules:?} above {path:?}");
+    }
+    Ok(())
+}
+
+#[test]
+fn a_file_searches_by_one_of_its_rules(rt: HostRuntime) -> Result<(), Fail> {
+    assert!(rt; read(rt.alloc(), b"*.o\n**/a/**\nb/\n")?.searches());
+    assert!(rt; !read(rt.alloc(), b"*.o\n/a/**\n**/b\n")?.searches());
     Ok(())
 }

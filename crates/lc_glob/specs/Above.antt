@@ -1,0 +1,53 @@
+-- What is told of the directories above a path at once, by the names on the way down to them.
+use Rattle.std.specs.Prelude.{ℕ, ◌≡◌, ◌<◌, ◌≤◌, ◌+◌, ◌↔◌, Bool, false, true, ◌&&◌, ◌||◌, List, [], ◌∷◌, length, map, take, slice_index_or, IsTrue}
+use Rattle.std.specs.Borrow.{Bor}
+use Rattle.std.specs.List.{list_any}
+use Rattle.lc_glob.specs.Tokens.{is_star}
+use Rattle.lc_glob.specs.Patterns.{SegmentModel, plain, double_star, PatternModel}
+use Rattle.lc_glob.specs.Path.{segments_of}
+use Rattle.lc_glob.specs.IsMatch.{is_match}
+
+-- names that are lent
+abbrev pub names_of : List (Bor (List ℕ)) → List (List ℕ)
+names_of names = map (λ name. name.now) names
+
+-- whether the flag of a place is set
+abbrev pub IsSet : List Bool → ℕ → Type 0
+IsSet flags k = IsTrue (slice_index_or flags k false)
+
+-- the flag of each place is set exactly where this holds of the place
+abbrev pub AreSet : List Bool → (ℕ → Type 0) → Type 0
+AreSet flags P = (k : ℕ) → k < length flags → IsSet flags k ↔ P k
+
+-- the place before has this
+abbrev pub Before : (ℕ → Type 0) → ℕ → Type 0
+Before P k = (i : ℕ) × (k ≡ i + 1) × P i
+
+-- the place or one before it has this
+abbrev pub UpTo : (ℕ → Type 0) → ℕ → Type 0
+UpTo P k = (i : ℕ) × (i ≤ k) × P i
+
+-- the flag of each name is set exactly where the pattern matches a directory whose path has the names up to it
+abbrev pub TellMatches : PatternModel → List (List ℕ) → List Bool → Type 0
+TellMatches p names flags =
+    (k : ℕ) (path : List ℕ) → k < length names → segments_of path ≡ take (k + 1) names → slice_index_or flags k false ≡ is_match p path Bool.true
+
+-- whether a segment is a double star
+abbrev pub is_double : SegmentModel → Bool
+is_double (plain us) = false
+is_double double_star = true
+
+-- whether a segment is a double star or has a star
+abbrev pub is_wide : SegmentModel → Bool
+is_wide (plain us) = list_any is_star us
+is_wide double_star = true
+
+-- whether a double star comes after a wide segment, which may have come before these
+abbrev pub searches_after : Bool → List SegmentModel → Bool
+searches_after wide [] = false
+searches_after wide (s ∷ r) = wide && is_double s || searches_after (wide || is_wide s) r
+
+-- whether a double star comes after a wide segment, so that what a match with a directory looks for a match with one below
+-- it looks for again
+abbrev pub searches : PatternModel → Bool
+searches p = searches_after false p.segments

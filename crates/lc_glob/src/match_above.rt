@@ -1,0 +1,133 @@
+//! Which of the directories above a path a pattern matches, told by one pass over its segments.
+//!
+//! A flag for each name on the way down tells whether the segments that were passed lead to what stands above the name.
+//! So no segment is tried twice at a name, however many double stars stand before it.
+
+ghost use Rattle.std.specs.Prelude.{◌≡◌, ◌↔◌, ◌≤◌, ◌+◌, ◌*◌, IsTrue, false, length, map, take, slice_index_or, []};
+ghost use Rattle.lc_glob.specs.Above.{names_of, IsSet, AreSet, Before, UpTo, searches_after};
+ghost use Rattle.lc_glob.specs.Costs.{bytes_with_ends, full_cost};
+ghost use Rattle.lc_glob.specs.Fits.{Fits};
+ghost use Rattle.lc_glob.specs.Leads.{Leads};
+ghost use Rattle.lc_glob.specs.Matches.{MatchesPath};
+ghost use Rattle.lc_glob.specs.Views.{segment_model, tokens_model};
+
+use crate::match_segment::fits;
+use crate::path_segment::{ByteTests, PathSegment};
+use crate::segment::{Segment, Tokens};
+
+/// Flags the names of the directories that the segments match.
+pub(crate) fn match_above(
+    segments: &[Segment],
+    names: &[&[u8]],
+    flags: &mut [bool],
+    tests: &mut ByteTests,
+)
+    requires { length names.now ≡ length flags.old }
+    ensures len { length flags.new ≡ length flags.old }
+    ensures cost { tests.new.made ≤ tests.old.made + full_cost (map segment_model segments.now) (names_of names.now) }
+    ensures set { AreSet flags.new (λ k. MatchesPath (map segment_model segments.now) (take (k + 1) (names_of names.now))) }
+{
+    let Some((last, front)) = segments.split_last() else {
+        flags.fill(false);
+        return;
+    };
+    lead_above(front, names, flags, tests);
+    match last {
+        // It gives at least the name itself.
+        Segment::DoubleStar => spread(flags),
+        Segment::Plain(tokens) => keep(flags, names, tokens, tests),
+    }
+}
+
+/// Flags the names of which the segments lead to what stands above.
+fn lead_above(segments: &[Segment], names: &[&[u8]], flags: &mut [bool], tests: &mut ByteTests)
+    requires { length names.now ≡ length flags.old }
+    ensures len { length flags.new ≡ length flags.old }
+    ensures cost { tests.new.made ≤ tests.old.made + full_cost (map segment_model segments.now) (names_of names.now) }
+    ensures set { AreSet flags.new (λ k. Leads (map segment_model segments.now) (take k (names_of names.now))) }
+{
+    flag_first(flags);
+    for segment in segments {
+        match segment {
+            Segment::DoubleStar => spread(flags),
+            Segment::Plain(tokens) => {
+                keep(flags, names, tokens, tests);
+                shift(flags);
+            }
+        }
+    }
+}
+
+/// Flags the first name alone.
+fn flag_first(flags: &mut [bool])
+    ensures len { length flags.new ≡ length flags.old }
+    ensures set { AreSet flags.new (λ k. k ≡ 0) }
+{
+    flags.fill(false);
+    if !flags.is_empty() {
+        flags[0] = true;
+    }
+}
+
+/// Keeps the flags of the names that the tokens fit, each of which is compared at most once.
+pub(crate) fn keep(flags: &mut [bool], names: &[&[u8]], tokens: &Tokens, tests: &mut ByteTests)
+    requires { length names.now ≡ length flags.old }
+    ensures len { length flags.new ≡ length flags.old }
+    ensures set { AreSet flags.new (λ k. IsSet flags.old k × Fits (tokens_model tokens.now) (slice_index_or (names_of names.now) k [])) }
+    ensures cost { tests.new.made ≤ tests.old.made
+        + (length (tokens_model tokens.now) + 1) * bytes_with_ends (names_of names.now) }
+{
+    for k in 0..flags.len() {
+        flags[k] = keeps(flags[k], tokens, PathSegment::new(names[k]), tests);
+    }
+}
+
+/// Whether a flag is kept: it is set, and the tokens fit the name.
+#[inline]
+fn keeps(is_set: bool, tokens: &Tokens, name: PathSegment, tests: &mut ByteTests) -> bool
+    ensures kept { IsTrue result ↔ (IsTrue is_set × Fits (tokens_model tokens.now) name.entry.bytes.now) }
+    ensures cost { tests.new.made ≤ tests.old.made + (length (tokens_model tokens.now) + 1) * (length name.entry.bytes.now + 1) }
+{
+    is_set && fits(tokens, name, tests)
+}
+
+/// Moves each flag to the next name; the last is lost.
+fn shift(flags: &mut [bool])
+    ensures len { length flags.new ≡ length flags.old }
+    ensures set { AreSet flags.new (Before (IsSet flags.old)) }
+{
+    let mut before = false;
+    for k in 0..flags.len() {
+        let here = flags[k];
+        flags[k] = before;
+        before = here;
+    }
+}
+
+/// Flags all names from the first that is flagged on.
+fn spread(flags: &mut [bool])
+    ensures len { length flags.new ≡ length flags.old }
+    ensures set { AreSet flags.new (UpTo (IsSet flags.old)) }
+{
+    let mut is_any = false;
+    for k in 0..flags.len() {
+        is_any = is_any || flags[k];
+        flags[k] = is_any;
+    }
+}
+
+/// Whether a double star comes after another one or after a segment with a star.
+pub(crate) fn searches(segments: &[Segment]) -> bool
+    ensures { result ≡ searches_after false (map segment_model segments.now) }
+{
+    let mut is_wide = false;
+    let mut left = segments;
+    'segments: while let Some((segment, others)) = left.split_first() {
+        if is_wide && segment.is_double() {
+            return true;
+        }
+        is_wide = is_wide || segment.is_wide();
+        left = others;
+    }
+    false
+}

@@ -1,0 +1,36 @@
+use Rattle.std.proofs.Common.{◌∙◌, ◌∷◌, ◌++◌, [], append_assoc, ap, arith, length}
+use Rattle.lc_glob.specs.Above.{names_of}
+use Rattle.lc_glob.proofs.Above.{names_length}
+use Rattle.lc_rules.proofs.AboveRules.{decided_more, decided_early}
+use Rattle.lc_rules.proofs.directories_above.decide.Goals as goal
+
+pub returns-in-Some-told_count-clause-decided : goal.returns-in-Some-told_count-clause-decided
+returns-in-Some-told_count-clause-decided c =
+    let inv = c.rules.invariant in
+    let names = names_of c.args.names.now in
+    let len = names_length c.args.names.now in
+    decided_early c.args.rules.now c.in-Some.older.now (c.in-Some.rule.now ∷ inv.newer) names c.in-Some-told_count.count
+    (length c.args.names.now) c.settle.new.found
+    (inv.whole ∙ ap (λ l. l ++ inv.newer) c.in-Some.ensures.cases.0 ∙ append_assoc c.in-Some.older.now (c.in-Some.rule.now ∷ []) inv.newer)
+    (omega (arith, c.requires.room, inv.found_len, c.settle.ensures.len)) c.in-Some-told_count.ensures
+    (decided_more inv.newer c.in-Some.rule.now names (length c.args.names.now) c.match_directories.new.flags c.rules.found
+    c.settle.new.found (omega (arith, len)) c.match_directories.ensures.told
+    (λ k low. c.settle.ensures.settled k (omega (arith, low, c.requires.flags, inv.flags_len, c.match_directories.ensures.len)))
+    inv.decided)
+
+pub rules-preserved : goal.rules-preserved
+rules-preserved c =
+    let inv = c.rules.invariant in
+    let names = names_of c.args.names.now in
+    let len = names_length c.args.names.now in
+    record {
+      newer = c.in-Some.rule.now ∷ inv.newer;
+      whole = inv.whole ∙ ap (λ l. l ++ inv.newer) c.in-Some.ensures.cases.0
+          ∙ append_assoc c.in-Some.older.now (c.in-Some.rule.now ∷ []) inv.newer;
+      flags_len = c.match_directories.ensures.len ∙ inv.flags_len;
+      found_len = c.settle.ensures.len ∙ inv.found_len;
+      decided = decided_more inv.newer c.in-Some.rule.now names (length c.args.names.now) c.match_directories.new.flags c.rules.found
+          c.settle.new.found (omega (arith, len)) c.match_directories.ensures.told
+          (λ k low. c.settle.ensures.settled k (omega (arith, low, c.requires.flags, inv.flags_len, c.match_directories.ensures.len)))
+          inv.decided;
+    }
