@@ -2,15 +2,19 @@
 //!
 //! Paths come in runs that share their directories, so what the rules say of these is asked once for a run.
 
-ghost use Rattle.std.specs.Prelude.{◌≡◌, ℕ, ◌<◌, ◌≤◌, length, take, option_map, false, MatchOption};
+ghost use Rattle.std.specs.Prelude.{◌≡◌, ℕ, ◌<◌, ◌≤◌, length, take, option_map, false, IfSome, MatchOption};
 ghost use Rattle.lc_text.specs.CheckText.{file_verdict, is_ignored, is_ignored_parent, IsClearTo, path_word};
 ghost use Rattle.lc_text.specs.ExplainedText.{path_rule};
 ghost use Rattle.lc_text.specs.Findings.{finding_word, finding_rule, ignoring_rule, IsIgnoringAbove};
 
 use crate::checking::finding::Finding;
 use crate::checking::path_line::is_bad_path;
-use lc_rules::{IgnoreFile, Rule, Verdict};
+use lc_glob::path::depth_of;
+use lc_rules::{DirectoriesAbove, IgnoreFile, Rule, Verdict};
 use memchr::memchr;
+
+/// Of so many names of which nothing is known, the directories are asked about one by one even where a rule searches.
+const FEW_NAMES: usize = 2;
 
 /// How many bytes two paths share at their front.
 fn shared_len(one: &[u8], other: &[u8]) -> usize
@@ -43,12 +47,38 @@ fn ignoring<'a>(rules: &'a IgnoreFile, directory: &[u8]) -> Option<&'a Rule>
     }
 }
 
+/// The rule that ignores the directory of so many bytes of a path, if it is ignored: by what was told of all directories above the
+/// path at once, where they were asked so. `place` of them stand above this one.
+fn ignoring_among<'a>(
+    rules: &'a IgnoreFile,
+    above: Option<&DirectoriesAbove<'a>>,
+    place: usize,
+    path: &[u8],
+    len: usize,
+) -> Option<&'a Rule>
+    requires within { len ≤ length path.now }
+    requires above { IfSome above (λ a. (a.now.rules ≡ rules.now) × (a.now.path ≡ path.now)) }
+    ensures { option_map (λ r. r.now) result ≡ ignoring_rule rules.now (take len path.now) }
+{
+    let Some(above) = above else {
+        return ignoring(rules, &path[..len]);
+    };
+    let rule = above.deciding(place, len)?;
+    if is_ignored(rule.verdict()) {
+        Some(rule)
+    } else {
+        None
+    }
+}
+
 /// Rules, and what is known of the directories above the path that was asked about last.
 #[derive(Drop)]
 pub(crate) struct Checker<'a> {
     rules: &'a IgnoreFile,
     directory: &'a [u8],
     excluded_by: Option<&'a Rule>,
+    /// Whether some rule searches.
+    searches: bool,
     // no directory above this one is ignored, and the rule is the one that ignores this one
     ghost clear: { (k : ℕ) → k < length directory.now → is_ignored_parent (file_verdict rules.now) directory.now k ≡ false },
     ghost told: { 0 < length directory.now → option_map (λ r. r.now) excluded_by ≡ ignoring_rule rules.now directory.now },
@@ -63,6 +93,7 @@ impl<'a> Checker<'a> {
             rules,
             directory: &[],
             excluded_by: None,
+            searches: rules.searches(),
         }
     }
 
@@ -105,21 +136,55 @@ impl<'a> Checker<'a> {
         ensures above { IsIgnoringAbove self.old.rules.now path.now result }
         ensures rules { self.new.rules.now ≡ self.old.rules.now }
     {
-        let Some(mut at) = self.clear_len(path) else {
+        let Some(known) = self.clear_len(path) else {
             return self.excluded_by;
         };
+        if self.searches && depth_of(&path[known..]) > FEW_NAMES {
+            return self.ignoring_at_once(path, known);
+        }
+        self.ignoring_from(path, known, None, 0)
+    }
+
+    /// The same, where so many bytes are known to stand below no ignored directory, and the directories are asked about at once.
+    #[inline(never)]
+    fn ignoring_at_once(&mut self, path: &'a [u8], known: usize) -> Option<&'a Rule>
+        requires { IsClearTo (file_verdict self.old.rules.now) path.now known }
+        ensures above { IsIgnoringAbove self.old.rules.now path.now result }
+        ensures rules { self.new.rules.now ≡ self.old.rules.now }
+    {
+        let above = DirectoriesAbove::of(self.rules, path);
+        let place = path[..known].iter().filter(|b| **b == b'/').count();
+        self.ignoring_from(path, known, Some(&above), place)
+    }
+
+    /// The same, where they were asked so or are now asked about one by one. `place` of them are known.
+    fn ignoring_from(
+        &mut self,
+        path: &'a [u8],
+        known: usize,
+        above: Option<&DirectoriesAbove<'a>>,
+        place: usize,
+    ) -> Option<&'a Rule>
+        requires known { IsClearTo (file_verdict self.old.rules.now) path.now known }
+        requires above { IfSome above (λ a. (a.now.rules ≡ self.old.rules.now) × (a.now.path ≡ path.now)) }
+        ensures above { IsIgnoringAbove self.old.rules.now path.now result }
+        ensures rules { self.new.rules.now ≡ self.old.rules.now }
+    {
+        let mut at = known;
+        let mut place = place;
         'directories: while let Some(len) = memchr(b'/', &path[at..]) {
-            let directory = &path[..at + len];
-            let excluded_by = ignoring(self.rules, directory);
+            let excluded_by = ignoring_among(self.rules, above, place, path, at + len);
             *self = Checker {
                 rules: self.rules,
-                directory,
+                directory: &path[..at + len],
                 excluded_by,
+                searches: self.searches,
             };
             if excluded_by.is_some() {
                 return excluded_by;
             }
             at += len + 1;
+            place = place.saturating_add(1);
         }
         None
     }

@@ -34,6 +34,36 @@ const CASES: &[Case] = &[
         b"a\nb\n",
         b"included\tf:4\t!a\ta\nignored\tf:1\t*\tb\n",
     ),
+    (
+        "directories_at_once_by_a_late_rule",
+        b"**/q/**\nb/\n",
+        b"a/b/c/d\na/b/c/e\na/x\n",
+        b"below\tf:2\tb/\ta/b/c/d\nbelow\tf:2\tb/\ta/b/c/e\nnone\t-\t-\ta/x\n",
+    ),
+    (
+        "directories_at_once_by_an_early_rule",
+        b"b/\n**/q/**\n",
+        b"a/b/c/d\nx/y/z\n",
+        b"below\tf:1\tb/\ta/b/c/d\nnone\t-\t-\tx/y/z\n",
+    ),
+    (
+        "double_stars_in_front_and_at_the_end",
+        b"**/b/**\n!/a/b/c/\n",
+        b"a/b/c/d/e\na/b/c/f\na/b/d/e\n",
+        b"below\tf:1\t**/b/**\ta/b/c/d/e\nignored\tf:1\t**/b/**\ta/b/c/f\nbelow\tf:1\t**/b/**\ta/b/d/e\n",
+    ),
+    (
+        "a_double_star_between",
+        b"/a*/**/d\n",
+        b"ab/x/y/d/e\nab/d/e\nab/x/e/f\nb/x/d/e\n",
+        b"below\tf:1\t/a*/**/d\tab/x/y/d/e\nbelow\tf:1\t/a*/**/d\tab/d/e\nnone\t-\t-\tab/x/e/f\nnone\t-\t-\tb/x/d/e\n",
+    ),
+    (
+        "included_again_and_ignored_below",
+        b"**/*b/**/c\n!c/\n**/c/**\n",
+        b"x/b/y/c/z/w\nx/ab/c/d\nx/c/y/z\n",
+        b"below\tf:3\t**/c/**\tx/b/y/c/z/w\nignored\tf:3\t**/c/**\tx/ab/c/d\nbelow\tf:3\t**/c/**\tx/c/y/z\n",
+    ),
     ("no_paths", b"*\n", b"", b""),
     ("no_rules", b"", b"a\nb", b"none\t-\t-\ta\nnone\t-\t-\tb\n"),
     (

@@ -142,6 +142,17 @@ fn limits_of_a_path(rt: HostRuntime) -> Result<(), Fail> {
     Ok(())
 }
 
+#[test]
+fn directories_deeper_than_those_asked_at_once(rt: HostRuntime) -> Result<(), Fail> {
+    let Ok(rules) = IgnoreFile::read(rt.alloc(), b"**/q/**\n**/a/b/\n") else {
+        return Err(AllocError.into());
+    };
+    let mut path = deep(rt.alloc(), b"a", 300)?;
+    path.extend_from_slice(b"b/c")?;
+    assert!(rt; check_text(rt.alloc(), &rules, &path)?.starts_with(b"below\ta/"));
+    Ok(())
+}
+
 /// Paths, and their text.
 const ESCAPED: &[(&[u8], &[u8])] = &[
     (b"t\x01.c", b"t\\x01.c"),

@@ -1,6 +1,6 @@
 use Rattle.std.proofs.Common.{◌≡◌, ◌-◌, length}
 use Rattle.lc_text.specs.CheckText.{file_verdict, IsClearTo}
-use Rattle.lc_text.proofs.checking.checker.Checker.ignoring_above.Given as goal
+use Rattle.lc_text.proofs.checking.checker.Checker.ignoring_from.Given as goal
 
 abbrev pub decreases-directories : goal.decreases-directories
 decreases-directories l = length l.path - l.at

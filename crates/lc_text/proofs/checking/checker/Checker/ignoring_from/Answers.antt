@@ -3,14 +3,14 @@ use Rattle.lc_text.specs.CheckText.{file_verdict, is_ignored_parent, IsClearTo}
 use Rattle.lc_text.specs.Findings.{ignoring_rule}
 use Rattle.lc_text.proofs.Directories.{has_ignored_parent-clear, clear-more, clear-take, clear-slash, clear-end, slash-within, slash-is}
 use Rattle.lc_text.proofs.Ignoring.{found_above, found_none}
-use Rattle.lc_text.proofs.checking.checker.Checker.ignoring_above.Goals as goal
+use Rattle.lc_text.proofs.checking.checker.Checker.ignoring_from.Goals as goal
 
 pub invariant_of-self-clause-clear : goal.invariant_of-self-clause-clear
 invariant_of-self-clause-clear c =
     let verdict = file_verdict c.args.self.now.rules.now in
     let path = c.args.path.now in
-    let place = c.directories.at + c.in-Some-memchr.len in
-    let to = clear-slash verdict path c.directories.at c.directories.invariant.clear c.in-Some-memchr.len c.in-Some-memchr.ensures in
+    let place = c.directories.at + c.in-Some.len in
+    let to = clear-slash verdict path c.directories.at c.directories.invariant.clear c.in-Some.len c.in-Some.ensures in
     λ k low. ap (λ r. is_ignored_parent (file_verdict r) (take place path) k) c.directories.invariant.rules
     ∙ clear-take verdict path place to k low
 
@@ -19,13 +19,13 @@ returns-then-is_some-clause-above c =
     let rules = c.args.self.now.rules.now in
     let path = c.args.path.now in
     let at = c.directories.at in
-    let len = c.in-Some-memchr.len in
+    let len = c.in-Some.len in
     let clear = c.directories.invariant.clear in
-    let first = c.in-Some-memchr.ensures in
+    let first = c.in-Some.ensures in
     found_above rules path (at + len) (clear-slash (file_verdict rules) path at clear len first)
     (slash-within (file_verdict rules) path at clear len first) (slash-is (file_verdict rules) path at clear len first)
-    c.ignoring-excluded_by.result (sym c.is_some.ensures ∙ c.if-is_some.true)
-    (c.ignoring-excluded_by.ensures ∙ ap (λ r. ignoring_rule r (take (at + len) path)) c.directories.invariant.rules)
+    c.ignoring_among-excluded_by.result (sym c.is_some.ensures ∙ c.if-is_some.true)
+    (c.ignoring_among-excluded_by.ensures ∙ ap (λ r. ignoring_rule r (take (at + len) path)) c.directories.invariant.rules)
 
 pub directories-preserved : goal.directories-preserved
 directories-preserved c =
@@ -33,15 +33,15 @@ directories-preserved c =
     let verdict = file_verdict rules in
     let path = c.args.path.now in
     let at = c.directories.at in
-    let len = c.in-Some-memchr.len in
+    let len = c.in-Some.len in
     let clear = c.directories.invariant.clear in
-    let first = c.in-Some-memchr.ensures in
+    let first = c.in-Some.ensures in
     let to = clear-slash verdict path at clear len first in
     let within = slash-within verdict path at clear len first in
     let more = clear-more verdict path (at + len) within to
-    (found_none rules path (at + len) to within (slash-is verdict path at clear len first) c.ignoring-excluded_by.result
+    (found_none rules path (at + len) to within (slash-is verdict path at clear len first) c.ignoring_among-excluded_by.result
     (sym c.is_some.ensures ∙ c.if-is_some.false)
-    (c.ignoring-excluded_by.ensures ∙ ap (λ r. ignoring_rule r (take (at + len) path)) c.directories.invariant.rules)) in
+    (c.ignoring_among-excluded_by.ensures ∙ ap (λ r. ignoring_rule r (take (at + len) path)) c.directories.invariant.rules)) in
     let same : at + len + 1 ≡ at + (len + 1) = omega arith in
     record {
       rules = c.directories.invariant.rules;
@@ -52,4 +52,4 @@ pub returns-clause-above : goal.returns-clause-above
 returns-clause-above c =
     let verdict = file_verdict c.args.self.now.rules.now in
     has_ignored_parent-clear verdict c.args.path.now
-    (clear-end verdict c.args.path.now c.directories.at c.directories.invariant.clear c.in_default-memchr.ensures)
+    (clear-end verdict c.args.path.now c.directories.at c.directories.invariant.clear c.in_default.ensures)
