@@ -1,17 +1,20 @@
 -- The rules that decide the directories above a path, and their names.
 use Rattle.std.proofs.Common.{◌≡◌, ◌≢◌, ◌≤◌, ◌<◌, ◌+◌, ◌-◌, ℕ, suc, Bool, true, false, cond, List, [], ◌∷◌, ◌++◌, length, take, get_or}
 use Rattle.std.proofs.Common.{Option, Some, None, Bor, is_some, nat_eq, refl, sym, ◌∙◌, ap, ap₂, subst, arith, append_assoc, ⊎_elim, set, take-take}
-use Rattle.std.specs.Prelude.{option_map}
+use Rattle.std.specs.Prelude.{option_map, IfSome}
 use Rattle.std.specs.Option.{option_or}
 use Rattle.std.specs.List.{onto_first}
-use Rattle.std.proofs.Math.Seq.{take-suc-set, take-append_seam}
+use Rattle.std.proofs.Common.{not, ◌&&◌, ◌||◌}
+use Rattle.std.proofs.Math.Seq.{take-suc-set, take-append_seam, take-length}
 use Rattle.std.proofs.lemmas.Bool.{cases_lt}
 use Rattle.std.proofs.lemmas.List.{append_cancel_right, map-append, take-set-le, get_or-set_other, get_or-set_same, length-append, length-take-le, get_or-take, take-map}
 use Rattle.std.proofs.lemmas.List.Splits.{slice_split-cons_yes, slice_split-cons_no}
 use Rattle.lc_glob.specs.Above.{names_of, TellMatches}
+use Rattle.lc_glob.specs.IsMatch.{is_match, segments_match}
 use Rattle.lc_glob.specs.Path.{segments_of}
+use Rattle.lc_glob.specs.Patterns.{PatternModel}
 use Rattle.lc_glob.proofs.Naming.{some_segment}
-use Rattle.lc_rules.specs.Above.{AreDecided, AreCut, AreFound}
+use Rattle.lc_rules.specs.Above.{AreDecided, AreCut, AreFound, IsOwn}
 use Rattle.lc_rules.specs.IgnoreRules.{RuleModel}
 use Rattle.lc_rules.specs.Verdicts.{at_depth, deciding}
 use Rattle.lc_rules.specs.declared.origin.Origin.{Origin}
@@ -120,6 +123,16 @@ decided_more newer r names count flags old new within told settled before k dir 
     ∙ sym (deciding_one (Directory 0, r) dir true (get_or flags k false) (sym (told k dir (omega (arith, within, low)) is))))
     ∙ sym (deciding-append ((Directory 0, r) ∷ []) (at_depth 0 newer) dir true)
 
+-- what the first flags settle
+pub settled_front : (r : RuleModel) (count : ℕ) (flags : List Bool) (old new : List (Option (Bor RuleModel))) → count ≤ length flags
+    → ((k : ℕ) → k < length (take count flags) → option_map (λ x. x.now) (get_or new k None)
+    ≡ option_or (option_map (λ x. x.now) (get_or old k None)) (cond (get_or (take count flags) k false) (Some r) None))
+    → (k : ℕ) → k < count → option_map (λ x. x.now) (get_or new k None)
+    ≡ option_or (option_map (λ x. x.now) (get_or old k None)) (cond (get_or flags k false) (Some r) None)
+settled_front r count flags old new within settled k low =
+    settled k (omega (arith, low, length-take-le count flags within))
+    ∙ ap (λ (b : Bool). option_or (option_map (λ x. x.now) (get_or old k None)) (cond b (Some r) None)) (get_or-take count flags k false low)
+
 -- what newer rules decide is decided, whatever the older ones say
 pub decided_early : (rules older newer : List RuleModel) (names : List (List ℕ)) (count all : ℕ) (found : List (Option (Bor RuleModel)))
     → rules ≡ older ++ newer → all ≤ length found → AreFound (take all found) count → AreDecided newer names all found
@@ -138,12 +151,69 @@ decided_early rules older newer names count all found whole room some before k d
     at None some e = absurd (cc)
     at (Some r) some e = ap (λ o. option_or o (deciding (at_depth 0 older) dir true)) e
 
+-- a name put after those of the first directories leaves them
+pub cut_kept : (path ends : List ℕ) (names : List (Bor (List ℕ))) (count : ℕ) (name : Bor (List ℕ)) → AreCut path ends names count
+    → AreCut path ends (set names count name) count
+cut_kept path ends names count name before k low =
+    before k low ∙ ap names_of (sym (take-set-le (k + 1) names count name (omega (arith, low))))
+
+-- the last name
+pub names_all : (path front left : List ℕ) (name : Bor (List ℕ)) (names : List (Bor (List ℕ))) (count : ℕ) → path ≡ front ++ left
+    → segments_of left ≡ name.now ∷ [] → ((more : List ℕ) → segments_of (front ++ more) ≡ names_of (take count names) ++ segments_of more)
+    → count < length names → segments_of path ≡ names_of (take (count + 1) (set names count name))
+names_all path front left name names count whole one closed low =
+    let next : count + 1 ≡ suc count = omega arith in
+    ap segments_of whole ∙ closed left ∙ ap (λ (l : List (List ℕ)). names_of (take count names) ++ l) one
+    ∙ sym (ap (λ (n : ℕ). names_of (take n (set names count name))) next ∙ ap names_of (take-suc-set names count name low)
+    ∙ map-append (λ n. n.now) (take count names) (name ∷ []))
+
+-- a pattern matches what is no directory where it matches directories and isn't for them only
+kinds : (dead only is_dir told : Bool) → (not dead && (not only || is_dir) && told)
+    ≡ ((not dead && (not only || true) && told) && (not only || is_dir))
+kinds true only is_dir told = refl
+kinds false false is_dir true = refl
+kinds false false is_dir false = refl
+kinds false true true true = refl
+kinds false true true false = refl
+kinds false true false true = refl
+kinds false true false false = refl
+
+match_kind : (p : PatternModel) (path : List ℕ) (is_dir : Bool) → is_match p path is_dir ≡ (is_match p path true && (not p.is_dir_only || is_dir))
+unfolding is_match
+match_kind p path is_dir = kinds p.is_dead p.is_dir_only is_dir (segments_match p.is_anchored p.segments (segments_of path))
+
+-- one older rule decides the path, where no newer one does
+pub own_more : (newer : List RuleModel) (r : RuleModel) (names : List (List ℕ)) (n : ℕ) (is_dir : Bool) (flags : List Bool)
+    (old new : Option (Bor RuleModel)) → n + 1 ≡ length names → TellMatches r.pattern names flags
+    → option_map (λ x. x.now) new ≡ option_or (option_map (λ x. x.now) old)
+    (cond (get_or flags n false && (not r.pattern.is_dir_only || is_dir)) (Some r) None)
+    → IsOwn newer names is_dir old → IsOwn (r ∷ newer) names is_dir new
+own_more newer r names n is_dir flags old new last told settled before path is =
+    let flag = told n path (omega (arith, last)) (is ∙ sym (ap (λ (k : ℕ). take k names) last ∙ take-length names)) in
+    let matched : is_match r.pattern path is_dir ≡ (get_or flags n false && (not r.pattern.is_dir_only || is_dir)) =
+    match_kind r.pattern path is_dir ∙ ap (λ (b : Bool). b && (not r.pattern.is_dir_only || is_dir)) (sym flag) in
+    tagged new ∙ ap tag settled
+    ∙ tag_or (option_map (λ x. x.now) old) (cond (get_or flags n false && (not r.pattern.is_dir_only || is_dir)) (Some r) None)
+    ∙ ap₂ option_or (sym (tagged old) ∙ before path is) (tag_cond (get_or flags n false && (not r.pattern.is_dir_only || is_dir)) r
+    ∙ sym (deciding_one (Directory 0, r) path is_dir (get_or flags n false && (not r.pattern.is_dir_only || is_dir)) matched))
+    ∙ sym (deciding-append ((Directory 0, r) ∷ []) (at_depth 0 newer) path is_dir)
+
 -- the directories that end at these places are decided
-pub decided_ends : (rules : List RuleModel) (path ends : List ℕ) (names : List (Bor (List ℕ))) (all count : ℕ)
-    (found : List (Option (Bor RuleModel))) → all ≤ length names → count ≤ all → AreCut path ends names all
+pub decided_above : (rules : List RuleModel) (path ends : List ℕ) (names : List (Bor (List ℕ))) (all count : ℕ)
+    (found : List (Option (Bor RuleModel))) → all ≤ length names → count < all → AreCut path ends names (all - 1)
     → AreDecided rules (names_of (take all names)) count found → (k : ℕ) → k < count
     → option_map (λ r. (Directory 0, r.now)) (get_or found k None) ≡ deciding (at_depth 0 rules) (take (get_or ends k 0) path) true
-decided_ends rules path ends names all count found room within cut decided k low =
+decided_above rules path ends names all count found room within cut decided k low =
     decided k (take (get_or ends k 0) path) low
     (cut k (omega (arith, low, within)) ∙ ap names_of (sym (take-take (k + 1) all names (omega (arith, low, within))))
     ∙ sym (take-map (λ n. n.now) (k + 1) (take all names)))
+
+-- the path is decided
+pub decided_own : (rules : List RuleModel) (path : List ℕ) (names : List (List ℕ)) (is_dir : Bool) (own : Option (Option (Bor RuleModel)))
+    → segments_of path ≡ names → IfSome own (λ o. IsOwn rules names is_dir o) → (o : Option (Bor RuleModel)) → own ≡ Some o
+    → option_map (λ r. (Directory 0, r.now)) o ≡ deciding (at_depth 0 rules) path is_dir
+decided_own rules path names is_dir None all told o is = absurd (cc)
+decided_own rules path names is_dir (Some x) all told o is =
+    let same : x ≡ o = cc in
+    subst (λ (y : Option (Bor RuleModel)). option_map (λ r. (Directory 0, r.now)) y ≡ deciding (at_depth 0 rules) path is_dir) same
+    (told path all)

@@ -1,9 +1,12 @@
 //! What an ignore file alone says of all directories above a path, told by one pass over its rules.
 
-ghost use Rattle.std.specs.Prelude.{◌≡◌, ◌<◌, ◌≤◌, ℕ, true, false, None, Some, IfSome, cond, length, take, option_map, slice_index_or};
+ghost use Rattle.std.specs.Prelude.{◌≡◌, ◌<◌, ◌≤◌, ◌-◌, ◌&&◌, ◌||◌, ℕ, true, false, not, IsTrue, Option, None, Some, IfSome, cond, length, take, option_map, slice_index_or};
+ghost use Rattle.std.specs.Borrow.{Bor};
 ghost use Rattle.std.specs.Option.{option_or};
 ghost use Rattle.lc_glob.specs.Above.{names_of};
-ghost use Rattle.lc_rules.specs.Above.{AreDecided, AreCut, AreFound};
+ghost use Rattle.lc_glob.specs.Path.{segments_of};
+ghost use Rattle.lc_rules.specs.Above.{AreDecided, AreCut, AreFound, IsOwn};
+ghost use Rattle.lc_rules.specs.IgnoreRules.{RuleModel};
 ghost use Rattle.lc_rules.specs.Verdicts.{at_depth, deciding};
 ghost use Rattle.lc_rules.specs.declared.origin.Origin.TheVariants.{Directory};
 
@@ -13,29 +16,36 @@ use lc_glob::cut_at_first;
 use lc_glob::path::MAX_DEPTH;
 use std::marker::Model;
 
-/// The directories above a path, of which a file was asked at once.
+/// A path and the directories above it, of which a file was asked at once.
 ///
 /// Each rule is compared with all of them in one pass, from the newest on, until it is told which is the highest that is
 /// ignored. Those below that one, and below the first `MAX_DEPTH`, are asked about one by one.
 ///
 /// ```
 /// let file = IgnoreFile::read(alloc, b"**/b/\n!/a\n")?;
-/// let above = DirectoriesAbove::of(&file, b"a/b/c");
+/// let above = DirectoriesAbove::of(&file, b"a/b/c", false);
 /// assert!(rt; above.deciding(1, 3).map(|rule| rule.line()) == Some(1));
 /// ```
 #[derive(Drop)]
 pub struct DirectoriesAbove<'a> {
     file: &'a IgnoreFile,
     path: &'a [u8],
-    /// Where in the path each ends, the highest first.
+    is_dir: bool,
+    /// Where in the path each directory ends, the highest first.
     ends: [usize; MAX_DEPTH],
     /// The rule that was found of each.
     found: [Option<&'a Rule>; MAX_DEPTH],
     /// Of how many it is known.
     count: usize,
+    /// Whether the path was asked with them.
+    is_whole: bool,
+    /// The rule that was found of the path, where it is known.
+    own: Option<Option<&'a Rule>>,
     ghost within: { count ≤ 256 },
     ghost decided: { (k : ℕ) → k < count → option_map (λ r. (Directory 0, r.now)) (slice_index_or found k None)
         ≡ deciding (at_depth 0 file.now) (take (slice_index_or ends k 0) path.now) true },
+    ghost own_decided: { IsTrue is_whole → (o : Option (Bor RuleModel)) → own ≡ Some o
+        → option_map (λ r. (Directory 0, r.now)) o ≡ deciding (at_depth 0 file.now) path.now is_dir },
 }
 
 impl<'a> Model for DirectoriesAbove<'a> {
@@ -43,32 +53,37 @@ impl<'a> Model for DirectoriesAbove<'a> {
 
     ghost Value = { AboveModel };
 
-    ghost view = { λ above. record { rules = above.file.now; path = above.path.now } };
+    ghost view = { λ above. record { rules = above.file.now; path = above.path.now; is_dir = above.is_dir } };
 }
 
 impl<'a> DirectoriesAbove<'a> {
-    pub fn of(file: &'a IgnoreFile, path: &'a [u8]) -> Self
+    pub fn of(file: &'a IgnoreFile, path: &'a [u8], is_dir: bool) -> Self
         ensures rules { result.rules ≡ file.now }
         ensures path { result.path ≡ path.now }
+        ensures kind { result.is_dir ≡ is_dir }
     {
         let empty: &[u8] = &[];
         let mut names = [empty; MAX_DEPTH];
         let mut ends = [0; MAX_DEPTH];
-        let count = cut_names(path, &mut names, &mut ends);
+        let (len, is_whole) = cut_names(path, &mut names, &mut ends);
         let mut flags = [false; MAX_DEPTH];
         let mut found = [None; MAX_DEPTH];
-        let count = decide(
+        let (count, own) = decide(
             file.rules(),
-            &names[..count],
-            &mut flags[..count],
+            &names[..len],
+            is_dir,
+            &mut flags[..len],
             &mut found,
         );
         DirectoriesAbove {
             file,
             path,
+            is_dir,
             ends,
             found,
             count,
+            is_whole,
+            own,
         }
     }
 
@@ -83,56 +98,95 @@ impl<'a> DirectoriesAbove<'a> {
         }
         self.file.deciding(&self.path[..len], true)
     }
+
+    /// The rule by which the file alone decides the path itself.
+    pub fn deciding_path(&self) -> Option<&'a Rule>
+        ensures { option_map (λ r. (Directory 0, r.now)) result ≡ deciding (at_depth 0 self.now.rules) self.now.path self.now.is_dir }
+    {
+        if self.is_whole {
+            if let Some(own) = self.own {
+                return own;
+            }
+        }
+        self.file.deciding(self.path, self.is_dir)
+    }
 }
 
-/// Cuts the names of the directories above a path, as many as there is room for, and tells where each directory ends.
-fn cut_names<'p>(path: &'p [u8], names: &mut [&'p [u8]], ends: &mut [usize]) -> usize
-    requires { length ends.old ≡ length names.old }
+/// Cuts the names of a path, as many as there is room for, and tells where the directories above the last of them end. It answers
+/// how many there are, and whether they are all.
+fn cut_names<'p>(path: &'p [u8], names: &mut [&'p [u8]], ends: &mut [usize]) -> (usize, bool)
+    requires same { length ends.old ≡ length names.old }
+    requires room { 0 < length names.old }
     ensures names_len { length names.new ≡ length names.old }
     ensures ends_len { length ends.new ≡ length ends.old }
-    ensures within { result ≤ length names.old }
-    ensures cut { AreCut path.now ends.new names.new result }
+    ensures some { 0 < result.0 }
+    ensures within { result.0 ≤ length names.old }
+    ensures cut { AreCut path.now ends.new names.new (result.0 - 1) }
+    ensures all { IsTrue result.1 → segments_of path.now ≡ names_of (take result.0 names.new) }
 {
     let mut count = 0;
     let mut left = path;
     'names: while count < names.len() {
         let (name, others) = cut_at_first(b'/', left);
-        let Some(rest) = others else {
-            return count;
-        };
         names[count] = name;
+        let Some(rest) = others else {
+            return (count + 1, true);
+        };
         ends[count] = path.len() - rest.len() - 1;
         count += 1;
         left = rest;
     }
-    count
+    (count, false)
 }
 
-/// Finds the rules that decide directories, from the newest rule to the oldest, until they tell which is the highest that is
-/// ignored. It answers of how many, the highest first, they are found.
+/// Finds the rules that decide the directories above the last of these names, and the last itself, from the newest rule to the
+/// oldest, until they tell which directory is the highest that is ignored. It answers of how many directories, the highest first,
+/// they are found, and where all rules were asked, what was found of the last.
 fn decide<'a>(
     rules: &'a [Rule],
     names: &[&[u8]],
+    is_dir: bool,
     flags: &mut [bool],
     found: &mut [Option<&'a Rule>],
-) -> usize
+) -> (usize, Option<Option<&'a Rule>>)
+    requires some { 0 < length names.now }
     requires flags { length names.now ≡ length flags.old }
     requires room { length names.now ≤ length found.old }
     requires unknown { (k : ℕ) → k < length names.now → slice_index_or found.old k None ≡ None }
     ensures len { length found.new ≡ length found.old }
-    ensures within { result ≤ length names.now }
-    ensures decided { AreDecided rules.now (names_of names.now) result found.new }
+    ensures within { result.0 < length names.now }
+    ensures decided { AreDecided rules.now (names_of names.now) result.0 found.new }
+    ensures own { IfSome result.1 (λ o. IsOwn rules.now (names_of names.now) is_dir o) }
 {
+    let above = names.len() - 1;
+    let mut own = None;
     let mut left = rules;
     'rules: while let Some((rule, older)) = left.split_last() {
         rule.match_directories(names, flags);
-        settle(rule, flags, found);
-        if let Some(count) = told_count(&found[..names.len()]) {
-            return count;
+        settle(rule, &flags[..above], found);
+        own = settle_own(rule, flags[above], is_dir, own);
+        if let Some(count) = told_count(&found[..above]) {
+            return (count, None);
         }
         left = older;
     }
-    names.len()
+    (above, Some(own))
+}
+
+/// Lets a rule that matches a path, as a directory, decide it, where no newer one does.
+fn settle_own<'a>(
+    rule: &'a Rule,
+    is_matched: bool,
+    is_dir: bool,
+    own: Option<&'a Rule>,
+) -> Option<&'a Rule>
+    ensures { option_map (λ r. r.now) result ≡ option_or (option_map (λ r. r.now) own.entry)
+        (cond (is_matched && (not rule.now.pattern.is_dir_only || is_dir)) (Some rule.now) None) }
+{
+    if own.is_some() || !is_matched || (rule.is_dir_only() && !is_dir) {
+        return own;
+    }
+    Some(rule)
 }
 
 /// Lets a rule decide the directories that it matches, where no newer one does.

@@ -53,6 +53,12 @@ impl Rule {
         !self.is_negated
     }
 
+    pub(crate) fn is_dir_only(&self) -> bool
+        ensures { result ≡ self.now.pattern.is_dir_only }
+    {
+        self.pattern.is_dir_only()
+    }
+
     /// Whether its pattern searches.
     pub(crate) fn searches(&self) -> bool
         ensures { result ≡ searches self.now.pattern }

@@ -146,26 +146,40 @@ fn texts_of_lines(rt: HostRuntime) -> Result<(), Fail> {
     Ok(())
 }
 
-/// Rules, a path, and the line of the rule that decides each directory above it.
-const ABOVE: &[(&'static [u8], &'static [u8], &'static [Option<u32>])] = &[
-    (b"**/q/**\nb/\n", b"a/b/c/d", &[None, Some(2), None]),
-    (b"b/\n**/q/**\n", b"a/b/c/d", &[None, Some(1), None]),
+/// Rules, a path, and the lines of the rules that decide each directory above it, and itself as a file.
+type Above = (
+    &'static [u8],
+    &'static [u8],
+    &'static [Option<u32>],
+    Option<u32>,
+);
+
+const ABOVE: &[Above] = &[
+    (b"**/q/**\nb/\n", b"a/b/c/d", &[None, Some(2), None], None),
+    (b"b/\n**/q/**\n", b"a/b/c/d", &[None, Some(1), None], None),
     (
         b"**/b/**\n!/a/b/c/\n",
         b"a/b/c/d/e",
         &[None, None, Some(2), Some(1)],
+        Some(1),
     ),
-    (b"/a*/**/d\n", b"ab/x/d/e", &[None, None, Some(1)]),
-    (b"*\n!a\n", b"a/b/a/c", &[Some(2), Some(1), Some(2)]),
-    (b"*\n", b"a", &[]),
-    (b"", b"a/b/c", &[None, None]),
+    (b"/a*/**/d\n", b"ab/x/d/e", &[None, None, Some(1)], None),
+    (
+        b"*\n!a\n",
+        b"a/b/a/c",
+        &[Some(2), Some(1), Some(2)],
+        Some(1),
+    ),
+    (b"a/**/b\na/**/b/\n", b"a/x/b", &[None, None], Some(1)),
+    (b"*\n", b"a", &[], Some(1)),
+    (b"", b"a/b/c", &[None, None], None),
 ];
 
 #[test]
-fn directories_above_a_path_are_decided_at_once(rt: HostRuntime) -> Result<(), Fail> {
-    for (rules, path, lines) in ABOVE {
+fn a_path_is_decided_at_once_with_the_directories_above_it(rt: HostRuntime) -> Result<(), Fail> {
+    for (rules, path, lines, own) in ABOVE {
         let file = read(rt.alloc(), rules)?;
-        let above = DirectoriesAbove::of(&file, path);
+        let above = DirectoriesAbove::of(&file, path, FILE);
         let mut found = Vec::new(rt.alloc());
         for len in 0..path.len() {
             if path[len] == b'/' {
@@ -174,6 +188,10 @@ fn directories_above_a_path_are_decided_at_once(rt: HostRuntime) -> Result<(), F
             }
         }
         assert!(rt; found.as_slice() == *lines, "{rules:?} above {path:?}");
+        assert!(rt;
+            above.deciding_path().map(|rule| rule.line()) == *own,
+            "{rules:?} at {path:?}"
+        );
     }
     Ok(())
 }

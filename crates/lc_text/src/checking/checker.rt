@@ -5,6 +5,7 @@
 ghost use Rattle.std.specs.Prelude.{◌≡◌, ℕ, ◌<◌, ◌≤◌, length, take, option_map, false, IfSome, MatchOption};
 ghost use Rattle.lc_text.specs.CheckText.{file_verdict, is_ignored, is_ignored_parent, IsClearTo, path_word};
 ghost use Rattle.lc_text.specs.ExplainedText.{path_rule};
+ghost use Rattle.lc_text.specs.PathLines.{is_bad_path};
 ghost use Rattle.lc_text.specs.Findings.{finding_word, finding_rule, ignoring_rule, IsIgnoringAbove};
 
 use crate::checking::finding::Finding;
@@ -71,6 +72,24 @@ fn ignoring_among<'a>(
     }
 }
 
+/// What is found of a path by the rule that ignores the highest ignored directory above it.
+fn found_below<'a>(
+    rules: &'a IgnoreFile,
+    above: Option<&'a Rule>,
+    path: &[u8],
+    is_dir: bool,
+) -> Finding<'a>
+    requires good { is_bad_path path.now ≡ false }
+    requires above { IsIgnoringAbove rules.now path.now above }
+    ensures word { finding_word result ≡ path_word (file_verdict rules.now) path.now is_dir }
+    ensures rule { finding_rule result ≡ path_rule rules.now path.now is_dir }
+{
+    match above {
+        Some(rule) => Finding::Below(rule),
+        None => Finding::Decided(rules.deciding(path, is_dir)),
+    }
+}
+
 /// Rules, and what is known of the directories above the path that was asked about last.
 #[derive(Drop)]
 pub(crate) struct Checker<'a> {
@@ -105,9 +124,31 @@ impl<'a> Checker<'a> {
         if is_bad_path(path) {
             return Finding::Bad;
         }
-        match self.ignoring_above(path) {
+        let Some(known) = self.clear_len(path) else {
+            return found_below(self.rules, self.excluded_by, path, is_dir);
+        };
+        if self.searches && depth_of(&path[known..]) > FEW_NAMES {
+            return self.find_at_once(path, is_dir, known);
+        }
+        let above = self.ignoring_from(path, known, None, 0);
+        found_below(self.rules, above, path, is_dir)
+    }
+
+    /// The same, where so many bytes are known to stand below no ignored directory, and the path is asked about at once with the
+    /// directories above it.
+    #[inline(never)]
+    fn find_at_once(&mut self, path: &'a [u8], is_dir: bool, known: usize) -> Finding<'a>
+        requires good { is_bad_path path.now ≡ false }
+        requires known { IsClearTo (file_verdict self.old.rules.now) path.now known }
+        ensures word { finding_word result ≡ path_word (file_verdict self.old.rules.now) path.now is_dir }
+        ensures rule { finding_rule result ≡ path_rule self.old.rules.now path.now is_dir }
+        ensures rules { self.new.rules.now ≡ self.old.rules.now }
+    {
+        let above = DirectoriesAbove::of(self.rules, path, is_dir);
+        let place = path[..known].iter().filter(|b| **b == b'/').count();
+        match self.ignoring_from(path, known, Some(&above), place) {
             Some(rule) => Finding::Below(rule),
-            None => Finding::Decided(self.rules.deciding(path, is_dir)),
+            None => Finding::Decided(above.deciding_path()),
         }
     }
 
@@ -131,33 +172,8 @@ impl<'a> Checker<'a> {
         Some(shared + 1)
     }
 
-    /// The rule that ignores the highest ignored directory above the path, if one above it is ignored.
-    fn ignoring_above(&mut self, path: &'a [u8]) -> Option<&'a Rule>
-        ensures above { IsIgnoringAbove self.old.rules.now path.now result }
-        ensures rules { self.new.rules.now ≡ self.old.rules.now }
-    {
-        let Some(known) = self.clear_len(path) else {
-            return self.excluded_by;
-        };
-        if self.searches && depth_of(&path[known..]) > FEW_NAMES {
-            return self.ignoring_at_once(path, known);
-        }
-        self.ignoring_from(path, known, None, 0)
-    }
-
-    /// The same, where so many bytes are known to stand below no ignored directory, and the directories are asked about at once.
-    #[inline(never)]
-    fn ignoring_at_once(&mut self, path: &'a [u8], known: usize) -> Option<&'a Rule>
-        requires { IsClearTo (file_verdict self.old.rules.now) path.now known }
-        ensures above { IsIgnoringAbove self.old.rules.now path.now result }
-        ensures rules { self.new.rules.now ≡ self.old.rules.now }
-    {
-        let above = DirectoriesAbove::of(self.rules, path);
-        let place = path[..known].iter().filter(|b| **b == b'/').count();
-        self.ignoring_from(path, known, Some(&above), place)
-    }
-
-    /// The same, where they were asked so or are now asked about one by one. `place` of them are known.
+    /// The rule that ignores the highest ignored directory above the path, if one above it is ignored, where so many bytes are known
+    /// to stand below none. They were asked about at once or are now asked about one by one; `place` of them are known.
     fn ignoring_from(
         &mut self,
         path: &'a [u8],

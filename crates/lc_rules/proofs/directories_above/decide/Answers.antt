@@ -1,7 +1,7 @@
-use Rattle.std.proofs.Common.{◌∙◌, ◌∷◌, ◌++◌, [], append_assoc, ap, arith, length}
+use Rattle.std.proofs.Common.{◌∙◌, ◌∷◌, ◌++◌, ◌-◌, [], append_assoc, ap, arith, length}
 use Rattle.lc_glob.specs.Above.{names_of}
 use Rattle.lc_glob.proofs.Above.{names_length}
-use Rattle.lc_rules.proofs.AboveRules.{decided_more, decided_early}
+use Rattle.lc_rules.proofs.AboveRules.{decided_more, decided_early, own_more, settled_front}
 use Rattle.lc_rules.proofs.directories_above.decide.Goals as goal
 
 pub returns-in-Some-told_count-clause-decided : goal.returns-in-Some-told_count-clause-decided
@@ -9,13 +9,15 @@ returns-in-Some-told_count-clause-decided c =
     let inv = c.rules.invariant in
     let names = names_of c.args.names.now in
     let len = names_length c.args.names.now in
-    decided_early c.args.rules.now c.in-Some.older.now (c.in-Some.rule.now ∷ inv.newer) names c.in-Some-told_count.count
-    (length c.args.names.now) c.settle.new.found
+    let above = length c.args.names.now - 1 in
+    decided_early c.args.rules.now c.in-Some.older.now (c.in-Some.rule.now ∷ inv.newer) names c.in-Some-told_count.count above
+    c.settle.new.found
     (inv.whole ∙ ap (λ l. l ++ inv.newer) c.in-Some.ensures.cases.0 ∙ append_assoc c.in-Some.older.now (c.in-Some.rule.now ∷ []) inv.newer)
     (omega (arith, c.requires.room, inv.found_len, c.settle.ensures.len)) c.in-Some-told_count.ensures
-    (decided_more inv.newer c.in-Some.rule.now names (length c.args.names.now) c.match_directories.new.flags c.rules.found
-    c.settle.new.found (omega (arith, len)) c.match_directories.ensures.told
-    (λ k low. c.settle.ensures.settled k (omega (arith, low, c.requires.flags, inv.flags_len, c.match_directories.ensures.len)))
+    (decided_more inv.newer c.in-Some.rule.now names above c.match_directories.new.flags c.rules.found c.settle.new.found
+    (omega (arith, len)) c.match_directories.ensures.told
+    (settled_front c.in-Some.rule.now above c.match_directories.new.flags c.rules.found c.settle.new.found
+    (omega (arith, c.requires.flags, inv.flags_len, c.match_directories.ensures.len)) c.settle.ensures.settled)
     inv.decided)
 
 pub rules-preserved : goal.rules-preserved
@@ -23,14 +25,18 @@ rules-preserved c =
     let inv = c.rules.invariant in
     let names = names_of c.args.names.now in
     let len = names_length c.args.names.now in
+    let above = length c.args.names.now - 1 in
     record {
       newer = c.in-Some.rule.now ∷ inv.newer;
       whole = inv.whole ∙ ap (λ l. l ++ inv.newer) c.in-Some.ensures.cases.0
           ∙ append_assoc c.in-Some.older.now (c.in-Some.rule.now ∷ []) inv.newer;
       flags_len = c.match_directories.ensures.len ∙ inv.flags_len;
       found_len = c.settle.ensures.len ∙ inv.found_len;
-      decided = decided_more inv.newer c.in-Some.rule.now names (length c.args.names.now) c.match_directories.new.flags c.rules.found
-          c.settle.new.found (omega (arith, len)) c.match_directories.ensures.told
-          (λ k low. c.settle.ensures.settled k (omega (arith, low, c.requires.flags, inv.flags_len, c.match_directories.ensures.len)))
+      decided = decided_more inv.newer c.in-Some.rule.now names above c.match_directories.new.flags c.rules.found c.settle.new.found
+          (omega (arith, len)) c.match_directories.ensures.told
+          (settled_front c.in-Some.rule.now above c.match_directories.new.flags c.rules.found c.settle.new.found
+          (omega (arith, c.requires.flags, inv.flags_len, c.match_directories.ensures.len)) c.settle.ensures.settled)
           inv.decided;
+      own = own_more inv.newer c.in-Some.rule.now names above c.args.is_dir c.match_directories.new.flags c.rules.own
+          c.settle_own-own.result (omega (arith, c.requires.some, len)) c.match_directories.ensures.told c.settle_own-own.ensures inv.own;
     }

@@ -1,6 +1,6 @@
-use Rattle.std.proofs.Common.{◌≡◌, ◌++◌, length, List}
+use Rattle.std.proofs.Common.{◌≡◌, ◌++◌, ◌-◌, length, List}
 use Rattle.lc_glob.specs.Above.{names_of}
-use Rattle.lc_rules.specs.Above.{AreDecided}
+use Rattle.lc_rules.specs.Above.{AreDecided, IsOwn}
 use Rattle.lc_rules.specs.IgnoreRules.{RuleModel}
 use Rattle.lc_rules.proofs.directories_above.decide.Given as goal
 
@@ -10,7 +10,8 @@ invariant-rules l = record {
   whole : l.rules ≡ l.left ++ newer;
   flags_len : length l.flags ≡ length l.initial.flags;
   found_len : length l.found ≡ length l.initial.found;
-  decided : AreDecided newer (names_of l.names) (length l.names) l.found;
+  decided : AreDecided newer (names_of l.names) (length l.names - 1) l.found;
+  own : IsOwn newer (names_of l.names) l.is_dir l.own;
 }
 
 abbrev pub decreases-rules : goal.decreases-rules

@@ -1,6 +1,7 @@
-use Rattle.std.proofs.Common.{◌≤◌, arith, length, None}
+use Rattle.std.proofs.Common.{◌≤◌, arith, length, take, None}
 use Rattle.std.proofs.lemmas.List.{length-take-le, get_or-replicate}
-use Rattle.lc_rules.proofs.AboveRules.{decided_ends}
+use Rattle.lc_glob.specs.Above.{names_of}
+use Rattle.lc_rules.proofs.AboveRules.{decided_above, decided_own}
 use Rattle.lc_rules.proofs.directories_above.DirectoriesAbove.of.Goals as goal
 
 pub decide-count-requires-clause-unknown : goal.decide-count-requires-clause-unknown
@@ -9,20 +10,25 @@ decide-count-requires-clause-unknown c = λ k low.
     (omega (
       arith,
       low,
-      length-take-le c.cut_names-count.result c.cut_names-count.new.names
-          (omega (arith, c.cut_names-count.ensures.within, c.cut_names-count.ensures.names_len)),
-      c.cut_names-count.ensures.within,
+      length-take-le c.cut_names-len.result.0 c.cut_names-len.new.names
+          (omega (arith, c.cut_names-len.ensures.within, c.cut_names-len.ensures.names_len)),
+      c.cut_names-len.ensures.within,
     ))
 
 pub invariant_of-result : goal.invariant_of-result
 invariant_of-result c =
-    let room : c.cut_names-count.result ≤ length c.cut_names-count.new.names = omega (arith, c.cut_names-count.ensures.within, c.cut_names-count.ensures.names_len) in
-    let few = length-take-le c.cut_names-count.result c.cut_names-count.new.names room in (
-      omega (arith, c.decide-count.ensures.within, c.cut_names-count.ensures.within, few),
+    let len = c.cut_names-len.result.0 in
+    let names = c.cut_names-len.new.names in
+    let room : len ≤ length names = omega (arith, c.cut_names-len.ensures.within, c.cut_names-len.ensures.names_len) in
+    let few = length-take-le len names room in (
+      omega (arith, c.decide-count.ensures.within, c.cut_names-len.ensures.within, few),
       (
-        decided_ends _ c.args.path.now c.cut_names-count.new.ends c.cut_names-count.new.names c.cut_names-count.result
-            c.decide-count.result c.decide-count.new.found room (omega (arith, c.decide-count.ensures.within, few)) c.cut_names-count.ensures.cut
-            (rw c.rules.ensures at c.decide-count.ensures.decided),
-        tt,
+        decided_above _ c.args.path.now c.cut_names-len.new.ends names len c.decide-count.result.0 c.decide-count.new.found room
+            (omega (arith, c.decide-count.ensures.within, few)) c.cut_names-len.ensures.cut (rw c.rules.ensures at c.decide-count.ensures.decided),
+        (
+          λ whole. decided_own _ c.args.path.now (names_of (take len names)) c.args.is_dir c.decide-count.result.1 (c.cut_names-len.ensures.all whole)
+              (rw c.rules.ensures at c.decide-count.ensures.own),
+          tt,
+        ),
       ),
     )
