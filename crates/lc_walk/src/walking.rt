@@ -57,8 +57,9 @@ fn walk_by<B: Shared<Job, Row>, T: Tree, R: Threads + Wait + Sync>(
     finish::<B, T>(alloc, board, passes, options.lists, tally)
 }
 
-/// So many bytes are kept from several workers for one that walks after them: stacks and heaps of threads that ended are not all given back.
-const RESERVE: usize = 4 << 20;
+/// So many bytes are kept from several workers for one that walks after them: the C library keeps up to 40 MB of stacks of threads that
+/// ended. Given back a block of up to 32 MB, it maps no later one of that size by itself, and a vector that grows is copied.
+const RESERVE: usize = 64 << 20;
 
 /// Walks a tree over a board of this type, by all workers that are asked for. The reserve is free again after their walk.
 fn walk_by_all<B: Shared<Job, Row>, T: Tree, R: Threads + Wait + Sync>(
