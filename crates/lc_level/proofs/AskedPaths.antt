@@ -15,8 +15,12 @@ use Rattle.lc_level.specs.Level.{FileFaultModel, absent_faults}
 use Rattle.lc_level.specs.Narrowing.{after, stands_below, rest_from, each_once, leads_to, is_whole, rests, takes_part, part_of, absent_from}
 use Rattle.lc_level.specs.PathSteps.{leads_on, is_led_to, unled, if_seen}
 use Rattle.lc_level.proofs.WellFormed.{same_bytes}
-use Rattle.lc_rules.proofs.ReadingOrder.{list_any-map}
 use Rattle.lc_tree.specs.Listing.{EntryModel}
+
+-- a test of mapped elements
+pub list_any-map : {A B : Type 0} (test : B → Bool) (f : A → B) (xs : List A) → list_any test (map f xs) ≡ list_any (λ x. test (f x)) xs
+list_any-map test f [] = refl
+list_any-map test f (x ∷ xs) = ap (λ b. test (f x) || b) (list_any-map test f xs)
 
 -- ---- what follows the first bytes of a text
 

@@ -1,7 +1,7 @@
 use Rattle.std.proofs.Common.{◌∙◌, sym, ap, bytes_eq, take_all, Bor, List, ℕ}
 use Rattle.std.specs.List.{list_any}
 use Rattle.std.proofs.lemmas.List.Folds.{list_any_at}
-use Rattle.lc_rules.proofs.ReadingOrder.{list_any-map}
+use Rattle.lc_level.proofs.AskedPaths.{list_any-map}
 use Rattle.lc_level.proofs.narrowing.is_among.Goals as goal
 
 pub returns-then-eq : goal.returns-then-eq
