@@ -1,3 +1,4 @@
+pub mod Crossing
 pub mod Places
 pub mod NumbersOnce
 pub mod PartsOfWhole

@@ -13,8 +13,6 @@ use Rattle.lc_glob.specs.Fits.{Fits}
 use Rattle.lc_glob.specs.Patterns.{SegmentModel, plain, double_star, PatternModel}
 use Rattle.lc_glob.specs.Matches.{MatchesPath, FitsLast, SegmentsMatch}
 use Rattle.lc_glob.specs.Leads.{Leads}
-use Rattle.lc_glob.specs.Views.{segment_model}
-use Rattle.lc_glob.specs.declared.segment.Segment.{Segment}
 use Rattle.lc_glob.proofs.Ends.{bytes_with_ends-end, tokens_with_ends-end}
 use Rattle.lc_glob.proofs.Leading.{none_spelled, plain_none, plain_end, plain_spelled, double_spelled}
 use Rattle.lc_glob.proofs.Matching.{decided}
@@ -150,13 +148,22 @@ module _ (r : List SegmentModel) (names : List (List ℕ)) (old new : List Bool)
         λ h. let both = at.0 h in (set k low).1 (here.1 both.0, both.1),
       )
 
--- the segments up to a place, and the one there
-pub models_more : (all : List Segment) (i : ℕ) (s : Segment) → i < length all → s ≡ get_or all i s
-    → map segment_model (take (i + 1) all) ≡ map segment_model (take i all) ++ segment_model s ∷ []
-models_more all i s low is =
-    ap (map segment_model) (take_more all i s low)
-    ∙ map-append segment_model (take i all) (get_or all i s ∷ [])
-    ∙ ap (λ (t : Segment). map segment_model (take i all) ++ segment_model t ∷ []) (sym is)
+-- before any segment only the first name is led to
+pub led_first : (names : List (List ℕ)) (flags : List Bool) → length flags ≡ length names → AreSet flags (λ k. k ≡ 0) → AreLed [] names flags
+led_first names flags len set =
+    told_as flags _ _ set (λ k low.
+    (λ is. subst (λ (i : ℕ). Leads [] (take i names)) (sym is) tt, λ l. none_taken k names (omega (arith, len, low)) l))
+  where
+    none_taken : (k : ℕ) (names : List (List ℕ)) → k < length names → Leads [] (take k names) → k ≡ 0
+    none_taken zero names low l = refl
+    none_taken (suc k) [] low l = absurd (omega arith)
+    none_taken (suc k) (n ∷ ns) low l = absurd l
+
+-- one segment more is passed
+pub passed : (all done left others : List SegmentModel) (s t : SegmentModel) → all ≡ done ++ left → left ≡ s ∷ others → s ≡ t
+    → all ≡ (done ++ t ∷ []) ++ others
+passed all done left others s t e cut is =
+    e ∙ ap (λ (l : List SegmentModel). done ++ l) (cut ∙ ap (λ (u : SegmentModel). u ∷ others) is) ∙ sym (append_assoc done (t ∷ []) others)
 
 -- as many names as are lent
 pub names_length : (names : List (Bor (List ℕ))) → length (names_of names) ≡ length names

@@ -1,12 +1,11 @@
 -- The sizes of what stands before the last of a list, and of that last.
-use Rattle.std.proofs.Common.{refl, ◌≡◌, ◌≤◌, ◌+◌, ◌*◌, ℕ, List, [], ◌∷◌, ◌++◌, length, map, ap, ◌∙◌, arith}
+use Rattle.std.proofs.Common.{refl, ◌≡◌, ◌≤◌, ◌+◌, ◌*◌, ℕ, List, [], ◌∷◌, ◌++◌, length, ap, ◌∙◌, arith}
 use Rattle.lc_glob.specs.Tokens.{TokenModel}
 use Rattle.lc_glob.specs.Patterns.{SegmentModel, plain, double_star}
-use Rattle.std.proofs.lemmas.List.{map-append}
-use Rattle.lc_glob.specs.Views.{tokens_model, segment_model}
-use Rattle.lc_glob.specs.declared.segment.Segment.{Segment}
-use Rattle.lc_glob.specs.declared.segment.Segment.TheVariants.{Plain, DoubleStar}
-use Rattle.lc_glob.specs.declared.segment.Tokens.{Tokens}
+use Rattle.lc_glob.specs.Views.{tokens_ref_model, segment_ref_model}
+use Rattle.lc_glob.specs.declared.segment_ref.SegmentRef.{SegmentRef}
+use Rattle.lc_glob.specs.declared.segment_ref.SegmentRef.TheVariants.{Plain, DoubleStar}
+use Rattle.lc_glob.specs.declared.segment_ref.TokensRef.{TokensRef}
 use Rattle.lc_glob.specs.Costs.{tokens_with_ends, bytes_with_ends, full_cost}
 
 -- one name more adds its bytes and its end
@@ -49,26 +48,18 @@ above_cost s path above name t t' q paid =
     product : (w a n z t t' : ℕ) → z ≡ a + (n + 1) → t' ≤ t + w * a → t' ≤ t + w * z
     product w a n z t t' f h = rw f (omega arith)
 
--- the models of segments that end with a plain one
-pub end_segment : (all rest : List Segment) (s : Segment) (tokens : Tokens) → all ≡ rest ++ s ∷ [] → s ≡ Plain tokens
-    → map segment_model all ≡ map segment_model rest ++ plain (tokens_model tokens) ∷ []
-end_segment all rest s tokens e is =
-    ap (map segment_model) e ∙ map-append segment_model rest (s ∷ [])
-    ∙ ap (λ (t : Segment). map segment_model rest ++ segment_model t ∷ []) is
+-- segments that end with a plain one
+pub end_segment : (all rest : List SegmentModel) (s : SegmentRef) (tokens : TokensRef) → all ≡ rest ++ segment_ref_model s ∷ []
+    → s ≡ Plain tokens → all ≡ rest ++ plain (tokens_ref_model tokens) ∷ []
+end_segment all rest s tokens e is = e ∙ ap (λ t. rest ++ segment_ref_model t ∷ []) is
 
--- the models of segments that end with a double star
-pub end_double : (all rest : List Segment) (s : Segment) → all ≡ rest ++ s ∷ [] → s ≡ DoubleStar
-    → map segment_model all ≡ map segment_model rest ++ double_star ∷ []
-end_double all rest s e is = ap (map segment_model) e ∙ map-append segment_model rest (s ∷ [])
-    ∙ ap (λ (t : Segment). map segment_model rest ++ segment_model t ∷ []) is
+-- segments that end with a double star
+pub end_double : (all rest : List SegmentModel) (s : SegmentRef) → all ≡ rest ++ segment_ref_model s ∷ [] → s ≡ DoubleStar
+    → all ≡ rest ++ double_star ∷ []
+end_double all rest s e is = e ∙ ap (λ t. rest ++ segment_ref_model t ∷ []) is
 
 -- the last segment at the path's last, and then what is before it at the segments above
 pub spell_cost : (s r : List SegmentModel) (path above : List (List ℕ)) (us : List TokenModel) (name : List ℕ) (t m t' : ℕ)
     → s ≡ r ++ plain us ∷ [] → path ≡ above ++ name ∷ [] → m ≤ t + (length us + 1) * (length name + 1) → t' ≤ m + full_cost r above
     → t' ≤ t + full_cost s path
 spell_cost s r path above us name t m t' e q paid more = omega (arith, end_cost s r path above us name t m e q paid)
-
--- no segments have no models
-pub no_segment : (all : List Segment) → length all ≡ 0 → map segment_model all ≡ []
-no_segment [] e = refl
-no_segment (s ∷ all) e = absurd (omega arith)

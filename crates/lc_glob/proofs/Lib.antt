@@ -14,4 +14,7 @@ pub mod Ends
 pub mod Leading
 pub mod Sizing
 pub mod Masks
+pub mod Mixed
 pub mod Above
+pub mod SimpleBytes
+pub mod ExactPaths

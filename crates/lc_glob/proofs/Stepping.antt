@@ -1,16 +1,13 @@
 -- Trying a star's cuts from the shortest on, with one place to go back to.
-use Rattle.std.proofs.Common.{◌≤◌, ◌+◌, ◌*◌, arith, length, Some, None, Option, ◌≡◌, ◌↔◌, ◌⊎◌, IsTrue, map, ℕ, true, false, List, []}
+use Rattle.std.proofs.Common.{◌≤◌, ◌+◌, ◌*◌, arith, length, Some, None, Option, ◌≡◌, ◌↔◌, ◌⊎◌, IsTrue, ℕ, true, false, List, []}
 use Rattle.std.proofs.Common.{◌∷◌, inl, inr, refl, sym, ◌∙◌, subst, ap}
 use Rattle.lc_glob.specs.Tokens.{TokenModel, literal, any_byte, star, class, takes, is_star}
 use Rattle.lc_glob.specs.Fits.{Fits}
-use Rattle.std.proofs.lemmas.List.{length-map}
 use Rattle.std.proofs.Common.{length-append, ◌++◌}
 use Rattle.std.proofs.Math.Nat.{mul-le-mul_right}
-use Rattle.lc_glob.specs.declared.token.Token.{Token}
 use Rattle.lc_glob.proofs.Fitting.{fits_one, fits_one_empty, when_one}
 use Rattle.lc_glob.proofs.After.{Later, later_after, after_split, after_join, after_after, after_drop}
-use Rattle.lc_glob.specs.Views.{token_model}
-use Rattle.lc_glob.specs.declared.match_segment.Place.{Place}
+use Rattle.lc_glob.specs.declared.place.Place.{Place}
 
 -- what comes after a byte that is taken
 star_drop : (us : List TokenModel) (u : TokenModel) (x : ℕ) (xs : List ℕ) → is_star u ≡ false → Fits (star ∷ u ∷ us) (x ∷ xs)
@@ -24,58 +21,59 @@ star_is (literal c) e = cc
 star_is any_byte e = cc
 star_is (class n rs) e = cc
 
--- what is still to be tried where the tokens here don't fit
-abbrev pub LaterOf : Option Place → Type 0
-LaterOf None = ⊥
-LaterOf (Some b) = Later (Fits (map token_model b.tokens.now)) b.segment.bytes.now
+module _ {T : Type 0} (tokens_in : T → List TokenModel) where
+  -- what is still to be tried where the tokens here don't fit
+  abbrev pub LaterOf : Option (Place T) → Type 0
+  LaterOf None = ⊥
+  LaterOf (Some b) = Later (Fits (tokens_in b.tokens)) b.segment.bytes.now
 
--- whatever cut the star is given, the tokens here come at what is left or after it
-abbrev pub Covers : Option Place → List TokenModel → List ℕ → Type 0
-Covers None us name = Unit {0}
-Covers (Some b) us name = Fits (star ∷ map token_model b.tokens.now) b.segment.bytes.now → Fits (star ∷ us) name
+  -- whatever cut the star is given, the tokens here come at what is left or after it
+  abbrev pub Covers : Option (Place T) → List TokenModel → List ℕ → Type 0
+  Covers None us name = Unit {0}
+  Covers (Some b) us name = Fits (star ∷ tokens_in b.tokens) b.segment.bytes.now → Fits (star ∷ us) name
 
--- how long the name was where the star was tried last
-abbrev pub span : Option Place → ℕ → ℕ
-span None n = n
-span (Some b) n = length b.segment.bytes.now
+  -- how long the name was where the star was tried last
+  abbrev pub span : Option (Place T) → ℕ → ℕ
+  span None n = n
+  span (Some b) n = length b.segment.bytes.now
 
-abbrev pub IsWithin : Option Place → ℕ → Type 0
-IsWithin None n = Unit {0}
-IsWithin (Some b) n = length b.tokens.now ≤ n
+  abbrev pub IsWithin : Option (Place T) → ℕ → Type 0
+  IsWithin None n = Unit {0}
+  IsWithin (Some b) n = length (tokens_in b.tokens) ≤ n
 
-later_fits : (back : Option Place) (us : List TokenModel) (name : List ℕ) → Covers back (star ∷ us) name → LaterOf back
-    → Fits (star ∷ us) name
-later_fits None us name c l = absurd l
-later_fits (Some b) us name c l = after_after (Fits us) name (c (later_after (Fits (map token_model b.tokens.now)) b.segment.bytes.now l))
+  later_fits : (back : Option (Place T)) (us : List TokenModel) (name : List ℕ) → Covers back (star ∷ us) name → LaterOf back
+      → Fits (star ∷ us) name
+  later_fits None us name c l = absurd l
+  later_fits (Some b) us name c l = after_after (Fits us) name (c (later_after (Fits (tokens_in b.tokens)) b.segment.bytes.now l))
 
--- at a star: it becomes the place to go back to
-pub at_star : (T : Type 0) (back : Option Place) (tokens us : List TokenModel) (u : TokenModel) (name : List ℕ) → tokens ≡ u ∷ us
-    → is_star u ≡ true → Covers back tokens name → T ↔ (Fits tokens name ⊎ LaterOf back) → T ↔ (Fits us name ⊎ Later (Fits us) name)
-at_star T back tokens us u name e s c t =
-    let is : tokens ≡ star ∷ us = e ∙ ap (λ (v : TokenModel). v ∷ us) (star_is u s) in
-    let t' : T ↔ (Fits (star ∷ us) name ⊎ LaterOf back) = subst (λ (l : List TokenModel). T ↔ (Fits l name ⊎ LaterOf back)) is t in
-    let c' : Covers back (star ∷ us) name = subst (λ (l : List TokenModel). Covers back l name) is c in (
-      λ h. after_split (Fits us) name (elim (t'.0 h) [ inl f ↦ f | inr l ↦ later_fits back us name c' l ]),
-      λ w. t'.1 (inl (after_join (Fits us) name w)),
-    )
+  -- at a star: it becomes the place to go back to
+  pub at_star : (H : Type 0) (back : Option (Place T)) (tokens us : List TokenModel) (u : TokenModel) (name : List ℕ) → tokens ≡ u ∷ us
+      → is_star u ≡ true → Covers back tokens name → H ↔ (Fits tokens name ⊎ LaterOf back) → H ↔ (Fits us name ⊎ Later (Fits us) name)
+  at_star H back tokens us u name e s c t =
+      let is : tokens ≡ star ∷ us = e ∙ ap (λ (v : TokenModel). v ∷ us) (star_is u s) in
+      let t' : H ↔ (Fits (star ∷ us) name ⊎ LaterOf back) = subst (λ (l : List TokenModel). H ↔ (Fits l name ⊎ LaterOf back)) is t in
+      let c' : Covers back (star ∷ us) name = subst (λ (l : List TokenModel). Covers back l name) is c in (
+        λ h. after_split (Fits us) name (elim (t'.0 h) [ inl f ↦ f | inr l ↦ later_fits back us name c' l ]),
+        λ w. t'.1 (inl (after_join (Fits us) name w)),
+      )
 
--- at a byte that is taken
-pub at_byte : (T : Type 0) (back : Option Place) (tokens us : List TokenModel) (u : TokenModel) (name : List ℕ) (x : ℕ) (xs : List ℕ)
-    → tokens ≡ u ∷ us → name ≡ x ∷ xs → is_star u ≡ false → IsTrue (takes u x) → T ↔ (Fits tokens name ⊎ LaterOf back)
-    → T ↔ (Fits us xs ⊎ LaterOf back)
-at_byte T back tokens us u name x xs e n s k t =
-    let one = when_one tokens us u name x xs e n s in (
-      λ h. elim (t.0 h) [ inl f ↦ inl (one.0 f).1 | inr l ↦ inr l ],
-      λ w. t.1 (elim w [ inl f ↦ inl (one.1 (k, f)) | inr l ↦ inr l ]),
-    )
+  -- at a byte that is taken
+  pub at_byte : (H : Type 0) (back : Option (Place T)) (tokens us : List TokenModel) (u : TokenModel) (name : List ℕ) (x : ℕ) (xs : List ℕ)
+      → tokens ≡ u ∷ us → name ≡ x ∷ xs → is_star u ≡ false → IsTrue (takes u x) → H ↔ (Fits tokens name ⊎ LaterOf back)
+      → H ↔ (Fits us xs ⊎ LaterOf back)
+  at_byte H back tokens us u name x xs e n s k t =
+      let one = when_one tokens us u name x xs e n s in (
+        λ h. elim (t.0 h) [ inl f ↦ inl (one.0 f).1 | inr l ↦ inr l ],
+        λ w. t.1 (elim w [ inl f ↦ inl (one.1 (k, f)) | inr l ↦ inr l ]),
+      )
 
--- a byte that its token takes leaves tokens and name that fit where they did
-pub covers_byte : (back : Option Place) (tokens us : List TokenModel) (u : TokenModel) (name : List ℕ) (x : ℕ) (xs : List ℕ)
-    → tokens ≡ u ∷ us → name ≡ x ∷ xs → is_star u ≡ false → Covers back tokens name → Covers back us xs
-covers_byte None tokens us u name x xs e n s c = tt
-covers_byte (Some b) tokens us u name x xs e n s c =
-    λ f. star_drop us u x xs s (subst (λ (l : List ℕ). Fits (star ∷ u ∷ us) l) n
-    (subst (λ (l : List TokenModel). Fits (star ∷ l) name) e (c f)))
+  -- a byte that its token takes leaves tokens and name that fit where they did
+  pub covers_byte : (back : Option (Place T)) (tokens us : List TokenModel) (u : TokenModel) (name : List ℕ) (x : ℕ) (xs : List ℕ)
+      → tokens ≡ u ∷ us → name ≡ x ∷ xs → is_star u ≡ false → Covers back tokens name → Covers back us xs
+  covers_byte None tokens us u name x xs e n s c = tt
+  covers_byte (Some b) tokens us u name x xs e n s c =
+      λ f. star_drop us u x xs s (subst (λ (l : List ℕ). Fits (star ∷ u ∷ us) l) n
+      (subst (λ (l : List TokenModel). Fits (star ∷ l) name) e (c f)))
 
 -- where the tokens here don't fit
 pub at_back : (T : Type 0) (us ts : List TokenModel) (b : List ℕ) (name : List ℕ) (x : ℕ) (H : Type 0) → name ≡ x ∷ b → ts ≡ us
@@ -88,10 +86,8 @@ at_back T us ts b name x H n e never t =
     )
 
 -- what is left is shorter by the token
-pub shorter : (here rest : List Token) (u : TokenModel) → map token_model here ≡ u ∷ map token_model rest → length here ≡ length rest + 1
-shorter here rest u e =
-    let l : length (map token_model here) ≡ length (u ∷ map token_model rest) = ap length e in
-    let h = length-map here token_model in let r = length-map rest token_model in omega (arith, l, h, r)
+pub shorter : (here rest : List TokenModel) (u : TokenModel) → here ≡ u ∷ rest → length here ≡ length rest + 1
+shorter here rest u e = let l = ap length e in omega (arith, l)
 
 -- what was paid and what may still be paid, where the tokens get fewer or the name that a star is tried at shorter
 pub paid_forward : (a b p h g t s all : ℕ) → a ≤ b → h + 1 ≤ g → s ≤ t + 1 → t + (b * (p + 1) + g) ≤ all → s + (a * (p + 1) + h) ≤ all
@@ -104,12 +100,8 @@ paid_back a b p h g t s all ab hp st paid =
     omega (arith, e)
 
 -- from the end
-pub shorter_end : (here before : List Token) (u : TokenModel) → map token_model here ≡ map token_model before ++ u ∷ []
-    → length here ≡ length before + 1
-shorter_end here before u e =
-    let l : length (map token_model here) ≡ length (map token_model before ++ u ∷ []) = ap length e in
-    let h = length-map here token_model in let b = length-map before token_model in let a = length-append (map token_model before)
-    (u ∷ []) in omega (arith, l, h, b, a)
+pub shorter_end : (here before : List TokenModel) (u : TokenModel) → here ≡ before ++ u ∷ [] → length here ≡ length before + 1
+shorter_end here before u e = ap length e ∙ length-append before (u ∷ [])
 
 -- a byte more makes the name longer by one
 pub length_end : (bytes before : List ℕ) (x : ℕ) → bytes ≡ before ++ x ∷ [] → length bytes ≡ length before + 1

@@ -1,14 +1,13 @@
 -- Trying a double star's runs from the shortest on, with one place to go back to.
-use Rattle.std.proofs.Common.{◌≡◌, ◌↔◌, ◌⊎◌, ◌≤◌, ◌+◌, IsTrue, map, ℕ, true, List, [], ◌∷◌, inl, inr, refl, sym, subst, ap, length}
+use Rattle.std.proofs.Common.{◌≡◌, ◌↔◌, ◌⊎◌, ◌≤◌, ◌+◌, IsTrue, ℕ, true, List, [], ◌∷◌, inl, inr, refl, sym, subst, ap, length}
 use Rattle.std.proofs.Common.{Option, Some, None, arith}
-use Rattle.std.proofs.lemmas.List.{length-map, append-nil}
+use Rattle.std.proofs.lemmas.List.{append-nil}
 use Rattle.lc_glob.specs.Tokens.{TokenModel}
 use Rattle.lc_glob.specs.Fits.{Fits}
 use Rattle.lc_glob.specs.Patterns.{SegmentModel, plain, double_star}
 use Rattle.lc_glob.specs.Leads.{Leads}
-use Rattle.lc_glob.specs.Views.{segment_model}
+use Rattle.lc_glob.specs.Views.{segments_ref_model}
 use Rattle.lc_glob.specs.Path.{segments_left}
-use Rattle.lc_glob.specs.declared.segment.Segment.{Segment}
 use Rattle.lc_glob.specs.declared.match_path.PathPlace.{PathPlace}
 use Rattle.lc_glob.proofs.After.{After, Later, later_after, after_split, after_join, after_after, after_drop}
 use Rattle.lc_glob.proofs.Cost.{again}
@@ -16,12 +15,12 @@ use Rattle.lc_glob.proofs.Cost.{again}
 -- what is still to be tried where the segments here don't match the segments that are left
 abbrev pub LaterOf : Option PathPlace → Type 0
 LaterOf None = ⊥
-LaterOf (Some b) = Later (Leads (map segment_model b.segments.now)) (segments_left b.left.rest)
+LaterOf (Some b) = Later (Leads (segments_ref_model b.segments)) (segments_left b.left.rest)
 
 -- whatever run the double star is given, the segments here come at the segments left or after them
 abbrev pub Covers : Option PathPlace → List SegmentModel → List (List ℕ) → Type 0
 Covers None s path = Unit {0}
-Covers (Some b) s path = After (Leads (map segment_model b.segments.now)) (segments_left b.left.rest) → After (Leads s) path
+Covers (Some b) s path = After (Leads (segments_ref_model b.segments)) (segments_left b.left.rest) → After (Leads s) path
 
 abbrev pub span : Option PathPlace → ℕ → ℕ
 span None n = n
@@ -29,17 +28,17 @@ span (Some b) n = length (segments_left b.left.rest)
 
 abbrev pub IsWithin : Option PathPlace → ℕ → Type 0
 IsWithin None n = Unit {0}
-IsWithin (Some b) n = length b.segments.now ≤ n
+IsWithin (Some b) n = length (segments_ref_model b.segments) ≤ n
 
 -- what a later start may still cost; at first all but the straight try
 abbrev pub reserve : Option PathPlace → ℕ → ℕ
 reserve None n = n
-reserve (Some b) n = again (map segment_model b.segments.now) (segments_left b.left.rest)
+reserve (Some b) n = again (segments_ref_model b.segments) (segments_left b.left.rest)
 
 later_comes : (back : Option PathPlace) (s : List SegmentModel) (path : List (List ℕ)) → Covers back s path → LaterOf back
     → After (Leads s) path
 later_comes None s path c l = absurd l
-later_comes (Some b) s path c l = c (later_after (Leads (map segment_model b.segments.now)) (segments_left b.left.rest) l)
+later_comes (Some b) s path c l = c (later_after (Leads (segments_ref_model b.segments)) (segments_left b.left.rest) l)
 
 -- at a double star: it becomes the place to go back to
 pub at_double : (T : Type 0) (back : Option PathPlace) (segments rest : List SegmentModel) (path : List (List ℕ))
@@ -83,11 +82,8 @@ at_block T H s r path n ns e q never t =
     )
 
 -- what is left is shorter by the segment
-pub shorter : (here rest : List Segment) (s : SegmentModel) → map segment_model here ≡ s ∷ map segment_model rest
-    → length here ≡ length rest + 1
-shorter here rest s e =
-    let l : length (map segment_model here) ≡ length (s ∷ map segment_model rest) = ap length e in
-    let h = length-map here segment_model in let r = length-map rest segment_model in omega (arith, l, h, r)
+pub shorter : (here rest : List SegmentModel) (s : SegmentModel) → here ≡ s ∷ rest → length here ≡ length rest + 1
+shorter here rest s e = let l = ap length e in omega (arith, l)
 
 -- at a double star that is last: it takes what is left
 pub at_last : (T L : Type 0) (s : List SegmentModel) (path : List (List ℕ)) → s ≡ double_star ∷ [] → T ↔ (Leads s path ⊎ L)

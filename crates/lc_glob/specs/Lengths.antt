@@ -1,6 +1,7 @@
 -- How long names are, and which segments may fit names of such lengths.
-use Rattle.std.specs.Prelude.{ℕ, ◌≤◌, List, length}
+use Rattle.std.specs.Prelude.{ℕ, ◌≤◌, ◌+◌, not, List, [], ◌∷◌, length, if◌then◌else◌}
 use Rattle.std.specs.List.{All}
+use Rattle.lc_glob.specs.Tokens.{TokenModel, is_star}
 use Rattle.lc_glob.specs.Fits.{Fits}
 use Rattle.lc_glob.specs.Patterns.{SegmentModel, plain, double_star}
 use Rattle.lc_glob.specs.declared.lengths.Lengths.{Lengths}
@@ -17,3 +18,8 @@ AreBetween lengths names = All (IsBetween lengths) names
 abbrev pub FitsSome : Lengths → SegmentModel → Type 0
 FitsSome lengths (plain us) = (name : List ℕ) × IsBetween lengths name × Fits us name
 FitsSome lengths double_star = Unit {0}
+
+-- how many of the tokens are no star: so many bytes a name that they fit has at least
+abbrev pub least_bytes : List TokenModel → ℕ
+least_bytes [] = 0
+least_bytes (u ∷ us) = if not (is_star u) then 1 + least_bytes us else least_bytes us

@@ -1,6 +1,7 @@
 pub mod Bytes
 pub mod Lists
 pub mod Tokens
+pub mod Mixed
 pub mod Fits
 pub mod Patterns
 pub mod Pieces
@@ -9,7 +10,9 @@ pub mod Matches
 pub mod IsMatch
 pub mod Brackets
 pub mod Reading
+pub mod Simple
 pub mod Views
+pub mod Sources
 pub mod ByteTests
 pub mod BracketSteps
 pub mod Steps

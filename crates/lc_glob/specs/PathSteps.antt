@@ -1,10 +1,10 @@
 -- What one step along the segments of a pattern and of a path found, and what it may cost.
-use Rattle.std.specs.Prelude.{ℕ, ◌≡◌, ◌+◌, ◌*◌, List, [], ◌∷◌, ◌++◌, map, length, Option, Some, None}
+use Rattle.std.specs.Prelude.{ℕ, ◌≡◌, ◌+◌, ◌*◌, List, [], ◌∷◌, ◌++◌, length, Option, Some, None}
 use Rattle.lc_glob.specs.Tokens.{TokenModel}
 use Rattle.lc_glob.specs.Fits.{Fits}
 use Rattle.lc_glob.specs.Patterns.{SegmentModel, plain, double_star}
 use Rattle.lc_glob.specs.Leads.{Leads}
-use Rattle.lc_glob.specs.Views.{segment_model}
+use Rattle.lc_glob.specs.Views.{segments_ref_model}
 use Rattle.lc_glob.specs.Path.{segments_left}
 use Rattle.lc_glob.specs.Costs.{full_cost}
 use Rattle.lc_glob.specs.declared.match_path.PathPlace.{PathPlace}
@@ -15,18 +15,18 @@ use Rattle.lc_glob.specs.declared.match_path.PathEndStep.TheVariants as end
 
 -- the segments of a place lead to the end of the path
 abbrev pub LeadsAt : PathPlace → Type 0
-LeadsAt place = Leads (map segment_model place.segments.now) (segments_left place.left.rest)
+LeadsAt place = Leads (segments_ref_model place.segments) (segments_left place.left.rest)
 
 -- the most byte tests of a place
 abbrev pub cost_at : PathPlace → ℕ
-cost_at place = full_cost (map segment_model place.segments.now) (segments_left place.left.rest)
+cost_at place = full_cost (segments_ref_model place.segments) (segments_left place.left.rest)
 
 -- a double star is last; or the last segment fits the path's last, and what is before them is left; or neither has any; or
 -- the segments don't lead to the end
 abbrev pub PathEndStepIs : PathEndStep → List SegmentModel → List (List ℕ) → Type 0
 PathEndStepIs end.DoubleStar segments path = Unit {0}
 PathEndStepIs (end.Taken before) segments path = (us : List TokenModel) × (n : List ℕ)
-    × (segments ≡ map segment_model before.segments.now ++ plain us ∷ []) × (path ≡ segments_left before.left.rest ++ n ∷ []) × Fits us n
+    × (segments ≡ segments_ref_model before.segments ++ plain us ∷ []) × (path ≡ segments_left before.left.rest ++ n ∷ []) × Fits us n
 PathEndStepIs end.Arrived segments path = (segments ≡ []) × (path ≡ [])
 PathEndStepIs end.Stuck segments path = Leads segments path → ⊥
 
@@ -40,10 +40,10 @@ cost_after end.Stuck all = 0
 -- a double star stands in front, and perhaps alone; or the first segment fits the path's first, and what is after them is
 -- left; or neither has any; or the segments don't lead to the end
 abbrev pub PathFrontStepIs : PathFrontStep → List SegmentModel → List (List ℕ) → Type 0
-PathFrontStepIs (front.DoubleStar rest) segments path = segments ≡ double_star ∷ map segment_model rest.now
+PathFrontStepIs (front.DoubleStar rest) segments path = segments ≡ double_star ∷ segments_ref_model rest
 PathFrontStepIs front.LastDoubleStar segments path = segments ≡ double_star ∷ []
 PathFrontStepIs (front.Taken after) segments path = (us : List TokenModel) × (n : List ℕ)
-    × (segments ≡ plain us ∷ map segment_model after.segments.now) × (path ≡ n ∷ segments_left after.left.rest) × Fits us n
+    × (segments ≡ plain us ∷ segments_ref_model after.segments) × (path ≡ n ∷ segments_left after.left.rest) × Fits us n
 PathFrontStepIs front.Arrived segments path = (segments ≡ []) × (path ≡ [])
 PathFrontStepIs front.Stuck segments path = Leads segments path → ⊥
 
@@ -51,7 +51,7 @@ PathFrontStepIs front.Stuck segments path = Leads segments path → ⊥
 abbrev pub PathRetryIs : PathPlace → Option PathPlace → Type 0
 PathRetryIs here None = segments_left here.left.rest ≡ []
 PathRetryIs here (Some next) = (n : List ℕ) × (segments_left here.left.rest ≡ n ∷ segments_left next.left.rest)
-    × (next.segments.now ≡ here.segments.now)
+    × (next.segments ≡ here.segments)
 
 -- the most byte tests of the first segment at the path's first
 abbrev pub front_cost : List SegmentModel → List (List ℕ) → ℕ
@@ -62,4 +62,4 @@ front_cost (plain us ∷ r) (n ∷ ns) = (length us + 1) * (length n + 1)
 
 -- of a place
 abbrev pub front_cost_at : PathPlace → ℕ
-front_cost_at place = front_cost (map segment_model place.segments.now) (segments_left place.left.rest)
+front_cost_at place = front_cost (segments_ref_model place.segments) (segments_left place.left.rest)

@@ -1,15 +1,11 @@
 -- How bytes are read as a pattern: gitignore(5), PATTERN FORMAT.
-use Rattle.std.specs.Prelude.{ℕ, zero, suc, Bool, false, not, ◌&&◌, ◌||◌, ◌==◌, nat_lt, if◌then◌else◌, List, [], ◌∷◌, length, map}
+use Rattle.std.specs.Prelude.{ℕ, zero, suc, Bool, false, ◌&&◌, ◌||◌, ◌==◌, nat_lt, if◌then◌else◌, List, [], ◌∷◌, length, map}
 use Rattle.std.specs.Prelude.{Option, Some, None}
 use Rattle.lc_glob.specs.Lists.{is_empty}
 use Rattle.lc_glob.specs.Bytes.{slash, backslash, asterisk, question_mark, opening}
 use Rattle.lc_glob.specs.Tokens.{TokenModel, literal, any_byte, star, is_star}
 use Rattle.lc_glob.specs.Patterns.{SegmentModel, plain, double_star, PatternModel, dead}
 use Rattle.lc_glob.specs.Brackets.{bracket}
-
--- whether a byte means itself wherever it stands
-abbrev pub is_ordinary : ℕ → Bool
-is_ordinary b = not (b == slash) && (not (b == backslash) && (not (b == opening) && (not (b == asterisk) && not (b == question_mark))))
 
 -- what the bytes are read as, one after the other: a separator, or a token of a segment
 pub data LexemeModel : Type 0 where

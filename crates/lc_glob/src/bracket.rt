@@ -210,7 +210,7 @@ pub(crate) fn read_bracket(
     bytes: &[u8],
 ) -> Result<Option<(ByteSet, usize)>, AllocError>
     ensures is { IfOk result
-        (λ r. MatchOption r (bracket bytes.now ≡ None) (λ p. bracket bytes.now ≡ Some (class p.0.negated p.0.ranges.items, p.1))) }
+        (λ r. MatchOption r (bracket bytes.now ≡ None) (λ p. bracket bytes.now ≡ Some (class p.0.negated p.0.ranges.value.items, p.1))) }
     ensures within { IfOk result (λ r. IfSome r (λ p. p.1 ≤ length bytes.now)) }
 {
     let Some((b, rest)) = bytes.split_first() else {

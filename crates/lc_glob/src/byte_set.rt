@@ -4,22 +4,24 @@ ghost use Rattle.std.specs.Prelude.{◌≡◌, ◌≤◌, ◌<◌, ◌&&◌, ◌
 ghost use Rattle.lc_glob.specs.Tokens.{in_ranges, takes, class};
 ghost use Rattle.lc_glob.specs.Words.{AreMembers, GainsRange, bits_of, words_of};
 
+use std::snapshot::Snapshot;
+
 /// The bytes of some ranges, or all but those and the slash.
 #[derive(Drop)]
 pub(crate) struct ByteSet {
     pub(crate) negated: bool,
-    /// The first and the last byte of each range.
-    pub(crate) ranges: Vec<(u8, u8)>,
+    /// The first and the last byte of each range, which contracts alone see.
+    pub(crate) ranges: Snapshot<Vec<(u8, u8)>>,
     /// A bit for each byte of the ranges, so that one look tells whether a byte is among them.
     words: [u64; 4],
-    ghost shown: { words ≡ words_of ranges.items },
+    ghost shown: { words ≡ words_of ranges.value.items },
 }
 
 impl ByteSet {
-    /// It goes once over the ranges.
+    /// It goes once over the ranges, and needs them no more.
     pub(crate) fn new(negated: bool, ranges: Vec<(u8, u8)>) -> Self
         ensures negated { result.negated ≡ negated }
-        ensures ranges { result.ranges ≡ ranges }
+        ensures ranges { result.ranges.value ≡ ranges }
     {
         let members = members_of(&ranges);
         let words = [
@@ -30,19 +32,19 @@ impl ByteSet {
         ];
         ByteSet {
             negated,
-            ranges,
+            ranges: Snapshot::of(&ranges),
             words,
         }
     }
 
     pub(crate) fn takes(&self, b: u8) -> bool
-        ensures { result ≡ takes (class self.now.negated self.now.ranges.items) b }
+        ensures { result ≡ takes (class self.now.negated self.now.ranges.value.items) b }
     {
         b != b'/' && self.negated != self.has(b)
     }
 
     fn has(&self, b: u8) -> bool
-        ensures { result ≡ in_ranges self.now.ranges.items b }
+        ensures { result ≡ in_ranges self.now.ranges.value.items b }
     {
         let word = self.words[(b / 64) as usize];
         (word >> (b % 64)) & 1 == 1

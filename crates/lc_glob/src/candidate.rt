@@ -1,12 +1,11 @@
-//! A path that patterns are asked about, and its segments, found one by one from either end.
+//! A path that patterns are asked about.
 
-ghost use Rattle.std.specs.Prelude.{◌≡◌, ◌↔◌, IsTrue, [], ◌∷◌, ◌++◌, MatchOption};
-ghost use Rattle.lc_glob.specs.Path.{segments_of, segments_left};
+ghost use Rattle.std.specs.Prelude.{◌≡◌, ◌==◌, length, bytes_eq};
+ghost use Rattle.lc_glob.specs.ByteTests.{tests_if};
 
-use crate::cut::cut_at_first;
 use crate::lengths::Lengths;
-use crate::path_segment::PathSegment;
-use memchr::memrchr;
+use crate::path_segment::{ByteTests, PathSegment};
+use crate::segments_left::{SegmentsLeft, split_last_segment};
 use std::marker::Model;
 
 /// From how many bytes on a path is measured: a look at each segment of a shorter one costs less.
@@ -85,59 +84,17 @@ impl<'a> Candidate<'a> {
         Candidate {
             path,
             above,
-            last,
+            last: PathSegment::new(last),
             lengths,
         }
     }
-}
 
-/// The segments of a path that are left: none, or those of the bytes.
-#[derive(Clone, Copy)]
-pub(crate) struct SegmentsLeft<'a> {
-    rest: Option<&'a [u8]>,
-}
-
-impl<'a> SegmentsLeft<'a> {
-    /// Whether none is left.
-    pub(crate) fn is_over(self) -> bool
-        ensures { IsTrue result ↔ (segments_left self.entry.rest ≡ []) }
+    /// Whether it is these bytes: a test for each, where there are as many.
+    #[inline]
+    pub(crate) fn is(&self, bytes: &[u8], tests: &mut ByteTests) -> bool
+        ensures same { result ≡ bytes_eq self.now bytes.now }
+        ensures counted { tests.new.made ≡ tests_if (length self.now == length bytes.now) tests.old.made (length bytes.now) }
     {
-        match self.rest {
-            None => true,
-            Some(_) => false,
-        }
-    }
-
-    /// The first of the segments, and the others.
-    pub(crate) fn split_first(self) -> Option<(PathSegment<'a>, SegmentsLeft<'a>)>
-        ensures { MatchOption result (segments_left self.entry.rest ≡ [])
-            (λ p. segments_left self.entry.rest ≡ p.0.bytes.now ∷ segments_left p.1.rest) }
-    {
-        let (first, rest) = cut_at_first(b'/', self.rest?);
-        Some((PathSegment::new(first), SegmentsLeft { rest }))
-    }
-
-    /// The segments above the last, and the last.
-    pub(crate) fn split_last(self) -> Option<(SegmentsLeft<'a>, PathSegment<'a>)>
-        ensures { MatchOption result (segments_left self.entry.rest ≡ [])
-            (λ p. segments_left self.entry.rest ≡ segments_left p.0.rest ++ p.1.bytes.now ∷ []) }
-    {
-        let bytes = self.rest?;
-        Some(split_last_segment(bytes))
-    }
-}
-
-/// The segments of a path above the last, and the last, which each path has.
-fn split_last_segment<'a>(path: &'a [u8]) -> (SegmentsLeft<'a>, PathSegment<'a>)
-    ensures { segments_of path.now ≡ segments_left result.0.rest ++ result.1.bytes.now ∷ [] }
-{
-    match memrchr(b'/', path) {
-        None => (SegmentsLeft { rest: None }, PathSegment::new(path)),
-        Some(place) => (
-            SegmentsLeft {
-                rest: Some(&path[..place]),
-            },
-            PathSegment::new(&path[place + 1..]),
-        ),
+        PathSegment::new(self.path).is(bytes, tests)
     }
 }

@@ -1,17 +1,16 @@
 //! How long the segments of a path are, by which a pattern is told at one look that none of them can fit.
 
-ghost use Rattle.std.specs.Prelude.{◌≡◌, ◌≤◌, ℕ, List, IsTrue, length, map, not, count_by};
+ghost use Rattle.std.specs.Prelude.{◌≡◌, ◌≤◌, ℕ, List, IsTrue, length};
 ghost use Rattle.std.specs.List.{All};
 ghost use Rattle.lc_glob.specs.Leads.{Leads};
 ghost use Rattle.lc_glob.specs.Lengths.{AreBetween, FitsSome};
 ghost use Rattle.lc_glob.specs.Path.{segments_left};
 ghost use Rattle.lc_glob.specs.Patterns.{plain};
-ghost use Rattle.lc_glob.specs.Tokens.{is_star};
-ghost use Rattle.lc_glob.specs.Views.{segment_model, token_model, tokens_model};
+ghost use Rattle.lc_glob.specs.Views.{segment_ref_model, segments_ref_model, tokens_left_model, tokens_ref_model};
 
-use crate::candidate::SegmentsLeft;
-use crate::segment::{Segment, Tokens};
-use crate::token::Token;
+use crate::segment_ref::{SegmentRef, SegmentsRef, TokensRef};
+use crate::segments_left::SegmentsLeft;
+use crate::tokens_left::TokensLeft;
 
 /// Between how many bytes the segments of a path have, as far as that is known.
 #[derive(Clone, Copy)]
@@ -49,52 +48,54 @@ impl Lengths {
     /// Whether a pattern's segments may lead to the end of names of such lengths. It looks at no byte of a name, and where
     /// nothing is known at no segment.
     #[inline]
-    pub(crate) fn allow(self, segments: &[Segment]) -> bool
-        ensures { (names : List (List ℕ)) → AreBetween self names → Leads (map segment_model segments.now) names → IsTrue result }
+    pub(crate) fn allow(self, segments: SegmentsRef) -> bool
+        ensures { (names : List (List ℕ)) → AreBetween self names → Leads (segments_ref_model segments.entry) names → IsTrue result }
     {
         self.longest == usize::MAX || self.allow_each(segments)
     }
 
     /// The same by a look at each segment.
     #[inline(never)]
-    fn allow_each(self, segments: &[Segment]) -> bool
-        ensures { (names : List (List ℕ)) → AreBetween self names → Leads (map segment_model segments.now) names → IsTrue result }
+    fn allow_each(self, segments: SegmentsRef) -> bool
+        ensures { (names : List (List ℕ)) → AreBetween self names → Leads (segments_ref_model segments.entry) names → IsTrue result }
     {
-        for segment in segments {
+        let mut left = segments;
+        'segments: while let Some((segment, others)) = left.split_first() {
             if !self.allow_segment(segment) {
                 return false;
             }
+            left = others;
         }
         true
     }
 
     /// Whether a segment may fit a name of such a length.
-    fn allow_segment(self, segment: &Segment) -> bool
-        ensures { FitsSome self (segment_model segment.now) → IsTrue result }
+    fn allow_segment(self, segment: SegmentRef) -> bool
+        ensures { FitsSome self (segment_ref_model segment.entry) → IsTrue result }
     {
         match segment {
-            Segment::Plain(tokens) => self.allow_tokens(tokens),
-            Segment::DoubleStar => true,
+            SegmentRef::Plain(tokens) => self.allow_tokens(tokens),
+            SegmentRef::DoubleStar => true,
         }
     }
 
     /// Whether tokens may.
-    fn allow_tokens(self, tokens: &Tokens) -> bool
-        ensures { FitsSome self (plain (tokens_model tokens.now)) → IsTrue result }
+    fn allow_tokens(self, tokens: TokensRef) -> bool
+        ensures { FitsSome self (plain (tokens_ref_model tokens.entry)) → IsTrue result }
     {
         match tokens {
-            Tokens::Literal(literals) => self.has(literals.len()),
-            Tokens::Suffix(literals) => literals.len() <= self.longest,
-            Tokens::Mixed(tokens) => self.allow_mixed(tokens),
+            TokensRef::Literal(literals) => self.has(literals.len()),
+            TokensRef::Suffix(literals) => literals.len() <= self.longest,
+            TokensRef::Mixed(tokens) => self.allow_mixed(tokens),
         }
     }
 
     /// Whether tokens of no other shape may.
-    fn allow_mixed(self, tokens: &[Token]) -> bool
-        ensures { FitsSome self (plain (map token_model tokens.now)) → IsTrue result }
+    fn allow_mixed(self, tokens: TokensLeft) -> bool
+        ensures { FitsSome self (plain (tokens_left_model tokens.entry)) → IsTrue result }
     {
-        let least = least_bytes(tokens);
-        if least < tokens.len() {
+        let least = tokens.least_bytes();
+        if tokens.has_star() {
             least <= self.longest
         } else {
             self.has(least)
@@ -107,11 +108,4 @@ impl Lengths {
     {
         self.shortest <= length && length <= self.longest
     }
-}
-
-/// How many bytes names that fit the tokens have at least: one for each token that is no star.
-fn least_bytes(tokens: &[Token]) -> usize
-    ensures { result ≡ count_by (λ token. not (is_star (token_model token))) tokens.now }
-{
-    tokens.iter().filter(|token| !token.is_star()).count()
 }

@@ -3,29 +3,29 @@
 //! A flag for each name on the way down tells whether the segments that were passed lead to what stands above the name.
 //! So no segment is tried twice at a name, however many double stars stand before it.
 
-ghost use Rattle.std.specs.Prelude.{◌≡◌, ◌↔◌, ◌≤◌, ◌+◌, ◌*◌, IsTrue, false, length, map, take, slice_index_or, []};
+ghost use Rattle.std.specs.Prelude.{◌≡◌, ◌↔◌, ◌≤◌, ◌+◌, ◌*◌, IsTrue, false, length, take, slice_index_or, []};
 ghost use Rattle.lc_glob.specs.Above.{names_of, IsSet, AreSet, Before, UpTo, searches_after};
 ghost use Rattle.lc_glob.specs.Costs.{bytes_with_ends, full_cost};
 ghost use Rattle.lc_glob.specs.Fits.{Fits};
 ghost use Rattle.lc_glob.specs.Leads.{Leads};
 ghost use Rattle.lc_glob.specs.Matches.{MatchesPath};
-ghost use Rattle.lc_glob.specs.Views.{segment_model, tokens_model};
+ghost use Rattle.lc_glob.specs.Views.{segments_ref_model, tokens_ref_model};
 
 use crate::match_segment::fits;
 use crate::path_segment::{ByteTests, PathSegment};
-use crate::segment::{Segment, Tokens};
+use crate::segment_ref::{SegmentRef, SegmentsRef, TokensRef};
 
 /// Flags the names of the directories that the segments match.
 pub(crate) fn match_above(
-    segments: &[Segment],
+    segments: SegmentsRef,
     names: &[&[u8]],
     flags: &mut [bool],
     tests: &mut ByteTests,
 )
     requires { length names.now ≡ length flags.old }
     ensures len { length flags.new ≡ length flags.old }
-    ensures cost { tests.new.made ≤ tests.old.made + full_cost (map segment_model segments.now) (names_of names.now) }
-    ensures set { AreSet flags.new (λ k. MatchesPath (map segment_model segments.now) (take (k + 1) (names_of names.now))) }
+    ensures cost { tests.new.made ≤ tests.old.made + full_cost (segments_ref_model segments.entry) (names_of names.now) }
+    ensures set { AreSet flags.new (λ k. MatchesPath (segments_ref_model segments.entry) (take (k + 1) (names_of names.now))) }
 {
     let Some((last, front)) = segments.split_last() else {
         flags.fill(false);
@@ -34,27 +34,29 @@ pub(crate) fn match_above(
     lead_above(front, names, flags, tests);
     match last {
         // It gives at least the name itself.
-        Segment::DoubleStar => spread(flags),
-        Segment::Plain(tokens) => keep(flags, names, tokens, tests),
+        SegmentRef::DoubleStar => spread(flags),
+        SegmentRef::Plain(tokens) => keep(flags, names, tokens, tests),
     }
 }
 
 /// Flags the names of which the segments lead to what stands above.
-fn lead_above(segments: &[Segment], names: &[&[u8]], flags: &mut [bool], tests: &mut ByteTests)
+fn lead_above(segments: SegmentsRef, names: &[&[u8]], flags: &mut [bool], tests: &mut ByteTests)
     requires { length names.now ≡ length flags.old }
     ensures len { length flags.new ≡ length flags.old }
-    ensures cost { tests.new.made ≤ tests.old.made + full_cost (map segment_model segments.now) (names_of names.now) }
-    ensures set { AreSet flags.new (λ k. Leads (map segment_model segments.now) (take k (names_of names.now))) }
+    ensures cost { tests.new.made ≤ tests.old.made + full_cost (segments_ref_model segments.entry) (names_of names.now) }
+    ensures set { AreSet flags.new (λ k. Leads (segments_ref_model segments.entry) (take k (names_of names.now))) }
 {
     flag_first(flags);
-    for segment in segments {
+    let mut left = segments;
+    'segments: while let Some((segment, others)) = left.split_first() {
         match segment {
-            Segment::DoubleStar => spread(flags),
-            Segment::Plain(tokens) => {
+            SegmentRef::DoubleStar => spread(flags),
+            SegmentRef::Plain(tokens) => {
                 keep(flags, names, tokens, tests);
                 shift(flags);
             }
         }
+        left = others;
     }
 }
 
@@ -70,12 +72,12 @@ fn flag_first(flags: &mut [bool])
 }
 
 /// Keeps the flags of the names that the tokens fit, each of which is compared at most once.
-pub(crate) fn keep(flags: &mut [bool], names: &[&[u8]], tokens: &Tokens, tests: &mut ByteTests)
+pub(crate) fn keep(flags: &mut [bool], names: &[&[u8]], tokens: TokensRef, tests: &mut ByteTests)
     requires { length names.now ≡ length flags.old }
     ensures len { length flags.new ≡ length flags.old }
-    ensures set { AreSet flags.new (λ k. IsSet flags.old k × Fits (tokens_model tokens.now) (slice_index_or (names_of names.now) k [])) }
+    ensures set { AreSet flags.new (λ k. IsSet flags.old k × Fits (tokens_ref_model tokens.entry) (slice_index_or (names_of names.now) k [])) }
     ensures cost { tests.new.made ≤ tests.old.made
-        + (length (tokens_model tokens.now) + 1) * bytes_with_ends (names_of names.now) }
+        + (length (tokens_ref_model tokens.entry) + 1) * bytes_with_ends (names_of names.now) }
 {
     for k in 0..flags.len() {
         flags[k] = keeps(flags[k], tokens, PathSegment::new(names[k]), tests);
@@ -84,9 +86,9 @@ pub(crate) fn keep(flags: &mut [bool], names: &[&[u8]], tokens: &Tokens, tests: 
 
 /// Whether a flag is kept: it is set, and the tokens fit the name.
 #[inline]
-fn keeps(is_set: bool, tokens: &Tokens, name: PathSegment, tests: &mut ByteTests) -> bool
-    ensures kept { IsTrue result ↔ (IsTrue is_set × Fits (tokens_model tokens.now) name.entry.bytes.now) }
-    ensures cost { tests.new.made ≤ tests.old.made + (length (tokens_model tokens.now) + 1) * (length name.entry.bytes.now + 1) }
+fn keeps(is_set: bool, tokens: TokensRef, name: PathSegment, tests: &mut ByteTests) -> bool
+    ensures kept { IsTrue result ↔ (IsTrue is_set × Fits (tokens_ref_model tokens.entry) name.entry.bytes.now) }
+    ensures cost { tests.new.made ≤ tests.old.made + (length (tokens_ref_model tokens.entry) + 1) * (length name.entry.bytes.now + 1) }
 {
     is_set && fits(tokens, name, tests)
 }
@@ -117,8 +119,8 @@ fn spread(flags: &mut [bool])
 }
 
 /// Whether a double star comes after another one or after a segment with a star.
-pub(crate) fn searches(segments: &[Segment]) -> bool
-    ensures { result ≡ searches_after false (map segment_model segments.now) }
+pub(crate) fn searches(segments: SegmentsRef) -> bool
+    ensures { result ≡ searches_after false (segments_ref_model segments.entry) }
 {
     let mut is_wide = false;
     let mut left = segments;

@@ -4,28 +4,29 @@
 //! pattern is long. Only what stands before it is looked for, from the front, with one place to go back to: the last
 //! double star that was passed, since the shortest run that serves one serves all before it.
 
-ghost use Rattle.std.specs.Prelude.{◌↔◌, ◌≤◌, ◌+◌, ◌*◌, IsTrue, map};
+ghost use Rattle.std.specs.Prelude.{◌↔◌, ◌≤◌, ◌+◌, ◌*◌, IsTrue};
 ghost use Rattle.lc_glob.specs.Matches.{MatchesPath};
 ghost use Rattle.lc_glob.specs.Path.{segments_of, segments_left};
 ghost use Rattle.lc_glob.specs.PathSteps.{PathEndStepIs, PathFrontStepIs, PathRetryIs, LeadsAt, cost_at, cost_after, front_cost_at};
 ghost use Rattle.lc_glob.specs.Costs.{full_cost};
-ghost use Rattle.lc_glob.specs.Views.{segment_model};
+ghost use Rattle.lc_glob.specs.Views.{segments_ref_model};
 
-use crate::candidate::{Candidate, SegmentsLeft};
+use crate::candidate::Candidate;
 use crate::match_segment::fits;
-use crate::path_segment::ByteTests;
-use crate::segment::Segment;
+use crate::path_segment::{ByteTests, PathSegment};
+use crate::segment_ref::{SegmentRef, SegmentsRef};
+use crate::segments_left::SegmentsLeft;
 
 /// Whether the segments match the path's.
-pub(crate) fn matches_path(segments: &[Segment], path: &Candidate, tests: &mut ByteTests) -> bool
-    ensures matches_path { IsTrue result ↔ MatchesPath (map segment_model segments.now) (segments_of path.now) }
-    ensures cost { tests.new.made ≤ tests.old.made + full_cost (map segment_model segments.now) (segments_of path.now) }
+pub(crate) fn matches_path(segments: SegmentsRef, path: &Candidate, tests: &mut ByteTests) -> bool
+    ensures matches_path { IsTrue result ↔ MatchesPath (segments_ref_model segments.entry) (segments_of path.now) }
+    ensures cost { tests.new.made ≤ tests.old.made + full_cost (segments_ref_model segments.entry) (segments_of path.now) }
 {
     let (above, name, lengths) = (path.above, path.last, path.lengths);
     let Some((last, front)) = segments.split_last() else {
         return false;
     };
-    let Segment::Plain(tokens) = last else {
+    let SegmentRef::Plain(tokens) = last else {
         // This double star gives at least one segment, which may as well be the last.
         let all = PathPlace {
             segments,
@@ -46,7 +47,7 @@ pub(crate) fn matches_path(segments: &[Segment], path: &Candidate, tests: &mut B
 /// Segments of a pattern, and those of the path, or what is left of them, that they are compared with.
 #[derive(Clone, Copy)]
 struct PathPlace<'p, 'n> {
-    segments: &'p [Segment],
+    segments: SegmentsRef<'p>,
     left: SegmentsLeft<'n>,
 }
 
@@ -65,7 +66,7 @@ enum PathEndStep<'p, 'n> {
 /// What the first of a pattern's segments does with a path's.
 enum PathFrontStep<'p, 'n> {
     /// It is a double star, and these segments are after it.
-    DoubleStar(&'p [Segment]),
+    DoubleStar(SegmentsRef<'p>),
     /// It is a double star, and no segment is after it.
     LastDoubleStar,
     /// It fits the first, and these are after them.
@@ -79,7 +80,7 @@ enum PathFrontStep<'p, 'n> {
 impl<'p, 'n> PathPlace<'p, 'n> {
     /// One step from the end.
     fn step_end(self, tests: &mut ByteTests) -> PathEndStep<'p, 'n>
-        ensures is { PathEndStepIs result (map segment_model self.entry.segments.now) (segments_left self.entry.left.rest) }
+        ensures is { PathEndStepIs result (segments_ref_model self.entry.segments) (segments_left self.entry.left.rest) }
         ensures cost { tests.new.made + cost_after result (cost_at self.entry) ≤ tests.old.made + cost_at self.entry }
     {
         let Some((segment, segments)) = self.segments.split_last() else {
@@ -89,13 +90,13 @@ impl<'p, 'n> PathPlace<'p, 'n> {
                 PathEndStep::Stuck
             };
         };
-        let Segment::Plain(tokens) = segment else {
+        let SegmentRef::Plain(tokens) = segment else {
             return PathEndStep::DoubleStar;
         };
         let Some((left, name)) = self.left.split_last() else {
             return PathEndStep::Stuck;
         };
-        if fits(tokens, name, tests) {
+        if fits(tokens, PathSegment::new(name), tests) {
             PathEndStep::Taken(PathPlace { segments, left })
         } else {
             PathEndStep::Stuck
@@ -104,7 +105,7 @@ impl<'p, 'n> PathPlace<'p, 'n> {
 
     /// One step from the front.
     fn step_front(self, tests: &mut ByteTests) -> PathFrontStep<'p, 'n>
-        ensures is { PathFrontStepIs result (map segment_model self.entry.segments.now) (segments_left self.entry.left.rest) }
+        ensures is { PathFrontStepIs result (segments_ref_model self.entry.segments) (segments_left self.entry.left.rest) }
         ensures cost { tests.new.made ≤ tests.old.made + front_cost_at self.entry }
     {
         let Some((segment, segments)) = self.segments.split_first() else {
@@ -114,7 +115,7 @@ impl<'p, 'n> PathPlace<'p, 'n> {
                 PathFrontStep::Stuck
             };
         };
-        let Segment::Plain(tokens) = segment else {
+        let SegmentRef::Plain(tokens) = segment else {
             return if segments.is_empty() {
                 PathFrontStep::LastDoubleStar
             } else {
@@ -124,7 +125,7 @@ impl<'p, 'n> PathPlace<'p, 'n> {
         let Some((name, left)) = self.left.split_first() else {
             return PathFrontStep::Stuck;
         };
-        if fits(tokens, name, tests) {
+        if fits(tokens, PathSegment::new(name), tests) {
             PathFrontStep::Taken(PathPlace { segments, left })
         } else {
             PathFrontStep::Stuck

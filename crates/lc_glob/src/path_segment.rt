@@ -3,9 +3,9 @@
 ghost use Rattle.std.specs.Prelude.{◌≡◌, ◌↔◌, ◌==◌, nat_le, nat_lt, IsTrue, length, bytes_eq, nat_eq};
 ghost use Rattle.std.specs.List.{ends_with};
 ghost use Rattle.lc_glob.specs.ByteTests.{tests_after, tests_if, SkipsFirst, StripsFirst, StripsLast};
-ghost use Rattle.lc_glob.specs.Views.{token_model};
+ghost use Rattle.lc_glob.specs.Views.{token_ref_model};
 
-use crate::token::Token;
+use crate::token::TokenRef;
 
 /// How many bytes were tested. The number stops at the greatest `u64`.
 #[derive(Drop)]
@@ -67,8 +67,8 @@ impl<'a> PathSegment<'a> {
     }
 
     /// The segment without its first byte, where a token that is no star stands for that one.
-    pub(crate) fn strip_first(self, token: &Token, tests: &mut ByteTests) -> Option<Self>
-        ensures strips { StripsFirst (token_model token.now) self.entry.bytes.now result }
+    pub(crate) fn strip_first(self, token: TokenRef, tests: &mut ByteTests) -> Option<Self>
+        ensures strips { StripsFirst (token_ref_model token.entry) self.entry.bytes.now result }
         ensures counted { tests.new.made ≡ tests_if (nat_lt 0 (length self.entry.bytes.now)) tests.old.made 1 }
     {
         let (b, bytes) = self.bytes.split_first()?;
@@ -81,8 +81,8 @@ impl<'a> PathSegment<'a> {
     }
 
     /// The segment without its last byte, where a token that is no star stands for that one.
-    pub(crate) fn strip_last(self, token: &Token, tests: &mut ByteTests) -> Option<Self>
-        ensures strips { StripsLast (token_model token.now) self.entry.bytes.now result }
+    pub(crate) fn strip_last(self, token: TokenRef, tests: &mut ByteTests) -> Option<Self>
+        ensures strips { StripsLast (token_ref_model token.entry) self.entry.bytes.now result }
         ensures counted { tests.new.made ≡ tests_if (nat_lt 0 (length self.entry.bytes.now)) tests.old.made 1 }
     {
         let (b, bytes) = self.bytes.split_last()?;

@@ -1,20 +1,24 @@
 //! A pattern, and whether it matches a path.
 
-ghost use Rattle.std.specs.Prelude.{◌≡◌, ◌↔◌, ◌≤◌, ◌+◌, ◌*◌, IsTrue, length, List, ℕ, IfOk, map};
+ghost use Rattle.std.specs.Prelude.{◌≡◌, ◌↔◌, ◌≤◌, ◌+◌, ◌*◌, IsTrue, length, List, ℕ, IfOk, IfSome};
 ghost use Rattle.lc_glob.specs.Above.{names_of, TellMatches, searches};
+ghost use Rattle.lc_glob.specs.Costs.{full_cost};
 ghost use Rattle.lc_glob.specs.IsMatch.{is_match, IsMatchDecides};
 ghost use Rattle.lc_glob.specs.Matches.{Matches};
 ghost use Rattle.lc_glob.specs.Path.{segments_of};
 ghost use Rattle.lc_glob.specs.Reading.{pattern_of};
-ghost use Rattle.lc_glob.specs.Costs.{full_cost};
+ghost use Rattle.lc_glob.specs.Views.{form_model};
 
 use crate::candidate::Candidate;
-use crate::match_above::{keep, match_above, searches};
 use crate::match_path::matches_path;
 use crate::match_segment::fits;
 use crate::path_segment::ByteTests;
+use crate::pattern_ref::PatternRef;
+use crate::pattern_view::{KindRef, PatternView};
 use crate::reading::read_pattern;
-use crate::segment::{Segment, Tokens};
+use crate::segment::{Literals, Segment, Tokens};
+use crate::segment_ref::SegmentsRef;
+use crate::simple_pattern::{Shape, SimplePattern};
 use std::alloc::{AllocError, Global};
 use std::marker::Model;
 
@@ -36,6 +40,8 @@ pub struct Pattern {
 pub(crate) enum PatternKind {
     /// Nothing, since it couldn't be read.
     Dead,
+    /// What the bytes of a simple pattern say by themselves.
+    Simple(Shape, Literals),
     /// The last segment alone.
     LastSegment(Tokens),
     /// All segments.
@@ -71,7 +77,7 @@ impl Pattern {
     pub fn is_dead(&self) -> bool
         ensures { result ≡ self.now.is_dead }
     {
-        matches!(self.kind, PatternKind::Dead)
+        self.view().is_dead()
     }
 
     /// Whether the pattern matches directories only, as `build/`. A dead pattern answers false.
@@ -86,7 +92,7 @@ impl Pattern {
     pub fn is_anchored(&self) -> bool
         ensures { result ≡ self.now.is_anchored }
     {
-        matches!(self.kind, PatternKind::WholePath(_))
+        self.view().is_anchored()
     }
 
     /// Whether the pattern matches the path.
@@ -147,7 +153,8 @@ impl Pattern {
         ensures len { length flags.new ≡ length flags.old }
         ensures told { TellMatches self.now (names_of names.now) flags.new }
     {
-        self.flag_directories(names, flags, &mut ByteTests::none());
+        self.view()
+            .flag_directories(names, flags, &mut ByteTests::none());
     }
 
     /// The same, and how many byte tests it took: no more than one match with the whole path may take, for all of them.
@@ -165,38 +172,64 @@ impl Pattern {
             → result ≤ (length bytes + 1) * (length path + 1) }
     {
         let mut tests = ByteTests::none();
-        self.flag_directories(names, flags, &mut tests);
+        self.view().flag_directories(names, flags, &mut tests);
         tests.made()
     }
 
-    fn flag_directories(&self, names: &[&[u8]], flags: &mut [bool], tests: &mut ByteTests)
-        requires { length names.now ≡ length flags.old }
-        ensures len { length flags.new ≡ length flags.old }
-        ensures told { TellMatches self.now (names_of names.now) flags.new }
-        ensures cost { tests.new.made ≤ tests.old.made + full_cost self.now.segments (names_of names.now) }
-    {
-        match &self.kind {
-            PatternKind::Dead => flags.fill(false),
-            PatternKind::LastSegment(tokens) => {
-                flags.fill(true);
-                keep(flags, names, tokens, tests);
-            }
-            PatternKind::WholePath(segments) => match_above(segments, names, flags, tests),
-        }
-    }
-
-    /// Whether it searches the names above a directory, so that directories above one path had better be asked about at once by
-    /// `match_directories`: a double star comes after another one or after a segment with a star, as in `**/a/**`.
+    /// Whether it searches, as `PatternRef::searches` says.
     pub fn searches(&self) -> bool
         ensures { result ≡ searches self.now }
     {
-        match &self.kind {
-            PatternKind::WholePath(segments) => searches(segments),
-            _ => false,
+        self.view().searches()
+    }
+
+    /// Its form and bytes, where these are all that it is matched by: where it is simple or dead, or where it has one segment of literals
+    /// and quoted bytes, perhaps after a star. Whoever keeps many patterns keeps those in little memory.
+    ///
+    /// ```
+    /// let Some(simple) = Pattern::read(alloc, b"/build/")?.simple() else { .. };
+    /// assert!(rt; simple.bytes == b"build".as_slice());
+    /// assert!(rt; PatternRef::simple(simple.form, simple.bytes).matches_candidate(&Candidate::new(b"build"), true));
+    /// ```
+    pub fn simple<'p>(&'p self) -> Option<SimplePattern<'p>>
+        ensures { IfSome result (λ s. form_model s.form s.bytes.now ≡ self.now) }
+    {
+        let (shape, bytes): (Shape, &[u8]) = match &self.kind {
+            PatternKind::Dead => (Shape::Dead, &[]),
+            PatternKind::Simple(shape, bytes) => (*shape, bytes),
+            PatternKind::LastSegment(Tokens::Literal(literals)) => (Shape::Literal, literals),
+            PatternKind::LastSegment(Tokens::Suffix(literals)) => (Shape::Suffix, literals),
+            _ => return None,
+        };
+        Some(SimplePattern::new(self.is_dir_only, shape, bytes))
+    }
+
+    /// What it is matched by.
+    pub fn as_ref<'p>(&'p self) -> PatternRef<'p>
+        ensures { result ≡ self.now }
+    {
+        PatternRef::of(self)
+    }
+
+    fn view<'p>(&'p self) -> PatternView<'p>
+        ensures { result ≡ self.now }
+    {
+        let kind = match &self.kind {
+            PatternKind::Dead => KindRef::Dead,
+            PatternKind::Simple(shape, bytes) => {
+                return PatternView::of_shape(self.is_dir_only, *shape, bytes);
+            }
+            PatternKind::LastSegment(tokens) => KindRef::LastSegment(tokens.as_ref()),
+            PatternKind::WholePath(segments) => KindRef::WholePath(SegmentsRef::Read(segments)),
+        };
+        PatternView {
+            is_dir_only: self.is_dir_only,
+            kind,
         }
     }
 
-    fn matched(&self, path: &Candidate, is_dir: bool, tests: &mut ByteTests) -> bool
+    #[inline]
+    pub(crate) fn matched(&self, path: &Candidate, is_dir: bool, tests: &mut ByteTests) -> bool
         ensures meaning { IsTrue result ↔ Matches self.now path.now is_dir }
         ensures cost { tests.new.made ≤ tests.old.made + full_cost self.now.segments (segments_of path.now) }
     {
@@ -205,8 +238,13 @@ impl Pattern {
         }
         match &self.kind {
             PatternKind::Dead => false,
-            PatternKind::LastSegment(tokens) => fits(tokens, path.last, tests),
-            PatternKind::WholePath(segments) => matches_path(segments, path, tests),
+            PatternKind::Simple(shape, bytes) => {
+                SimplePattern::new(self.is_dir_only, *shape, bytes).matched(path, is_dir, tests)
+            }
+            PatternKind::LastSegment(tokens) => fits(tokens.as_ref(), path.last, tests),
+            PatternKind::WholePath(segments) => {
+                matches_path(SegmentsRef::Read(segments), path, tests)
+            }
         }
     }
 }

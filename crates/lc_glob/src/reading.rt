@@ -5,22 +5,23 @@ ghost use Rattle.std.specs.List.{list_all};
 ghost use Rattle.lc_glob.specs.Lists.{is_empty};
 ghost use Rattle.lc_glob.specs.Patterns.{dead};
 ghost use Rattle.lc_glob.specs.Reading.{lexeme, literal_lexeme, parts, segment_from, ends_empty, without_last, begins_empty};
-ghost use Rattle.lc_glob.specs.Reading.{is_ordinary, some_empty, cut_at_front, pattern_of};
-ghost use Rattle.lc_glob.specs.Views.{lexeme_model, token_model, part_model, tokens_model, segment_model};
+ghost use Rattle.lc_glob.specs.Reading.{some_empty, cut_at_front, pattern_of};
+ghost use Rattle.lc_glob.specs.Views.{lexeme_model, part_model, tokens_model, segment_model, form_model};
 
 use crate::bracket::read_bracket;
+use crate::mixed_tokens::MixedTokens;
 use crate::pattern::{Pattern, PatternKind};
-use crate::segment::{Segment, Tokens, is_double};
-use crate::token::Token;
+use crate::segment::{Segment, Tokens};
+use crate::simple_pattern::SimplePattern;
+use crate::token::ReadToken;
 use smallvec::SmallVec;
 use std::alloc::{AllocError, Global};
-use std::mem;
 
 /// What the bytes are read as, one after the other.
 #[derive(Drop)]
 enum Lexeme {
     Separator,
-    One(Token),
+    One(ReadToken),
 }
 
 /// A byte that means itself: a slash separates, quoted or not.
@@ -30,7 +31,7 @@ fn own_lexeme(b: u8) -> Lexeme
     if b == b'/' {
         Lexeme::Separator
     } else {
-        Lexeme::One(Token::Literal(b))
+        Lexeme::One(ReadToken::Literal(b))
     }
 }
 
@@ -49,13 +50,12 @@ fn read_lexeme(alloc: Global, b: u8, rest: &[u8]) -> Result<Option<(Lexeme, usiz
         let Some((found, taken)) = read_bracket(alloc, rest)? else {
             return Ok(None);
         };
-        let found = Box::new(alloc, found)?;
-        return Ok(Some((Lexeme::One(Token::Class(found)), taken)));
+        return Ok(Some((Lexeme::One(ReadToken::Class(found)), taken)));
     }
     Ok(Some((
         match b {
-            b'*' => Lexeme::One(Token::Star),
-            b'?' => Lexeme::One(Token::AnyByte),
+            b'*' => Lexeme::One(ReadToken::Star),
+            b'?' => Lexeme::One(ReadToken::AnyByte),
             _ => own_lexeme(b),
         },
         0,
@@ -63,31 +63,34 @@ fn read_lexeme(alloc: Global, b: u8, rest: &[u8]) -> Result<Option<(Lexeme, usiz
 }
 
 /// The tokens of the parts that separators cut, or `None` where the pattern is dead.
-fn read_parts(alloc: Global, bytes: &[u8]) -> Result<Option<Vec<Vec<Token>>>, AllocError>
+fn read_parts(alloc: Global, bytes: &[u8]) -> Result<Option<Vec<MixedTokens>>, AllocError>
     ensures parts { IfOk result (λ r. MatchOption r (parts 0 bytes.now ≡ None) (λ v. parts 0 bytes.now ≡ Some (map part_model v.items))) }
     ensures some { IfOk result (λ r. IfSome r (λ v. 0 < length v.items)) }
 {
     let mut done = Vec::new(alloc);
-    let mut current = Vec::new(alloc);
+    let mut current = MixedTokens::new(alloc);
     let mut left = bytes;
     'tokens: loop {
         let Some((b, rest)) = left.split_first() else {
-            done.push(current)?;
+            done.push(current.shrunk())?;
             return Ok(Some(done));
         };
         let Some((lexeme, taken)) = read_lexeme(alloc, *b, rest)? else {
             return Ok(None);
         };
         match lexeme {
-            Lexeme::Separator => done.push(mem::replace(&mut current, Vec::new(alloc)))?,
-            Lexeme::One(token) => current.push(token)?,
+            Lexeme::Separator => {
+                done.push(current.shrunk())?;
+                current = MixedTokens::new(alloc);
+            }
+            Lexeme::One(token) => current = current.with(token)?,
         }
         left = &rest[taken..];
     }
 }
 
 /// Makes the segments of an anchored pattern's parts.
-fn segments_from(alloc: Global, parts: Vec<Vec<Token>>) -> Result<Vec<Segment>, AllocError>
+fn segments_from(alloc: Global, parts: Vec<MixedTokens>) -> Result<Vec<Segment>, AllocError>
     ensures { IfOk result (λ v. map segment_model v.items ≡ map (segment_from true) (map part_model parts.items)) }
 {
     let mut segments = Vec::with_capacity(alloc, parts.len())?;
@@ -101,10 +104,10 @@ fn segments_from(alloc: Global, parts: Vec<Vec<Token>>) -> Result<Vec<Segment>, 
 }
 
 /// In an anchored pattern two stars alone are a double star.
-fn segment_from(alloc: Global, part: Vec<Token>) -> Result<Segment, AllocError>
+fn segment_from(alloc: Global, part: MixedTokens) -> Result<Segment, AllocError>
     ensures { IfOk result (λ segment. segment_model segment ≡ segment_from true (part_model part)) }
 {
-    if is_double(&part) {
+    if part.is_double() {
         return Ok(Segment::DoubleStar);
     }
     let tokens = Tokens::of(alloc, part)?;
@@ -112,27 +115,18 @@ fn segment_from(alloc: Global, part: Vec<Token>) -> Result<Segment, AllocError>
 }
 
 /// Whether the last lexeme is a separator.
-fn ends_in_empty(parts: &[Vec<Token>]) -> bool
+fn ends_in_empty(parts: &[MixedTokens]) -> bool
     ensures ends { result ≡ ends_empty (map part_model parts.now) }
     ensures some { IsTrue result → 1 < length parts.now }
 {
     let Some((last, rest)) = parts.split_last() else {
         return false;
     };
-    !rest.is_empty() && is_empty_part(last)
-}
-
-fn is_empty_part(part: &[Token]) -> bool
-    ensures { result ≡ is_empty (map token_model part.now) }
-{
-    match part.split_first() {
-        None => true,
-        Some(_) => false,
-    }
+    !rest.is_empty() && last.is_empty()
 }
 
 /// Whether the first lexeme is a separator.
-fn begins_with_empty(parts: &[Vec<Token>]) -> bool
+fn begins_with_empty(parts: &[MixedTokens]) -> bool
     ensures { result ≡ begins_empty (map part_model parts.now) }
 {
     let Some((first, rest)) = parts.split_first() else {
@@ -142,7 +136,7 @@ fn begins_with_empty(parts: &[Vec<Token>]) -> bool
 }
 
 /// Whether a part is empty, which makes the pattern dead.
-fn has_empty(parts: &[Vec<Token>]) -> bool
+fn has_empty(parts: &[MixedTokens]) -> bool
     ensures { result ≡ some_empty (map part_model parts.now) }
 {
     for part in parts {
@@ -153,30 +147,12 @@ fn has_empty(parts: &[Vec<Token>]) -> bool
     false
 }
 
-/// Whether a byte means itself wherever it stands.
-fn is_ordinary(b: u8) -> bool
-    ensures { result ≡ is_ordinary b }
-{
-    b != b'/' && b != b'\\' && b != b'[' && b != b'*' && b != b'?'
-}
-
-/// Whether the bytes are literals alone, with no separator.
-fn are_literals(bytes: &[u8]) -> bool
-    ensures { result ≡ list_all is_ordinary bytes.now }
-{
-    bytes.iter().all(|b| is_ordinary(*b))
-}
-
 /// Reads bytes as a pattern. Any bytes are one, perhaps a dead one.
 pub(crate) fn read_pattern(alloc: Global, bytes: &[u8]) -> Result<Pattern, AllocError>
     ensures { IfOk result (λ p. p ≡ pattern_of bytes.now) }
 {
-    if !bytes.is_empty() && are_literals(bytes) {
-        let literals = SmallVec::from_slice(alloc, bytes)?;
-        return Ok(Pattern {
-            is_dir_only: false,
-            kind: PatternKind::LastSegment(Tokens::Literal(literals)),
-        });
+    if let Some(simple) = SimplePattern::read(bytes) {
+        return keep_simple(alloc, simple);
     }
     let Some(parts) = read_parts(alloc, bytes)? else {
         return Ok(dead_pattern());
@@ -187,8 +163,19 @@ pub(crate) fn read_pattern(alloc: Global, bytes: &[u8]) -> Result<Pattern, Alloc
     read_front(alloc, parts, false)
 }
 
+/// The pattern with bytes of its own.
+fn keep_simple(alloc: Global, simple: SimplePattern) -> Result<Pattern, AllocError>
+    ensures { IfOk result (λ p. p ≡ form_model simple.entry.form simple.entry.bytes.now) }
+{
+    let bytes = SmallVec::from_slice(alloc, simple.bytes)?;
+    Ok(Pattern {
+        is_dir_only: simple.form.is_dir_only,
+        kind: PatternKind::Simple(simple.form.shape, bytes),
+    })
+}
+
 /// The parts without the last, so without the separator before it.
-fn without_last_part(parts: Vec<Vec<Token>>) -> Vec<Vec<Token>>
+fn without_last_part(parts: Vec<MixedTokens>) -> Vec<MixedTokens>
     ensures parts { map part_model result.items ≡ without_last (map part_model parts.items) }
     ensures len { length result.items ≡ length parts.items - 1 }
 {
@@ -201,7 +188,7 @@ fn without_last_part(parts: Vec<Vec<Token>>) -> Vec<Vec<Token>>
 /// Reads the parts of a pattern without a last separator.
 fn read_front(
     alloc: Global,
-    parts: Vec<Vec<Token>>,
+    parts: Vec<MixedTokens>,
     is_dir_only: bool,
 ) -> Result<Pattern, AllocError>
     requires { 0 < length parts.items }

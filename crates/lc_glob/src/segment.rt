@@ -1,13 +1,13 @@
-//! The segments of a pattern.
+//! The segments of a pattern, as they were read.
 
-ghost use Rattle.std.specs.Prelude.{◌≡◌, IfOk, IfSome, map};
-ghost use Rattle.std.specs.List.{list_any};
-ghost use Rattle.lc_glob.specs.Above.{is_double, is_wide};
-ghost use Rattle.lc_glob.specs.Reading.{is_double_star};
-ghost use Rattle.lc_glob.specs.Tokens.{literal, is_star};
-ghost use Rattle.lc_glob.specs.Views.{token_model, tokens_model, segment_model, part_model};
+ghost use Rattle.std.specs.Prelude.{◌≡◌, IfOk, IfSome};
+ghost use Rattle.lc_glob.specs.Mixed.{literal_tokens};
+ghost use Rattle.lc_glob.specs.Views.{tokens_model, tokens_ref_model, segment_model, segment_ref_model, part_model};
 
+use crate::mixed_tokens::MixedTokens;
+use crate::segment_ref::{SegmentRef, TokensRef};
 use crate::token::Token;
+use crate::tokens_left::TokensLeft;
 use smallvec::SmallVec;
 use std::alloc::{AllocError, Global};
 
@@ -24,19 +24,12 @@ pub(crate) enum Segment {
 }
 
 impl Segment {
-    pub(crate) fn is_double(&self) -> bool
-        ensures { result ≡ is_double (segment_model self.now) }
-    {
-        matches!(self, Segment::DoubleStar)
-    }
-
-    /// Whether it is a double star or has a star.
-    pub(crate) fn is_wide(&self) -> bool
-        ensures { result ≡ is_wide (segment_model self.now) }
+    pub(crate) fn as_ref<'p>(&'p self) -> SegmentRef<'p>
+        ensures { segment_ref_model result ≡ segment_model self.now }
     {
         match self {
-            Segment::Plain(tokens) => tokens.has_star(),
-            Segment::DoubleStar => true,
+            Segment::Plain(tokens) => SegmentRef::Plain(tokens.as_ref()),
+            Segment::DoubleStar => SegmentRef::DoubleStar,
         }
     }
 }
@@ -49,39 +42,39 @@ pub(crate) enum Tokens {
     /// A star and then literals alone, as `*.o`.
     Suffix(Literals),
     /// Any others.
-    Mixed(Vec<Token>),
+    Mixed(MixedTokens),
 }
 
 impl Tokens {
+    pub(crate) fn as_ref<'p>(&'p self) -> TokensRef<'p>
+        ensures { tokens_ref_model result ≡ tokens_model self.now }
+    {
+        match self {
+            Tokens::Literal(literals) => TokensRef::Literal(literals),
+            Tokens::Suffix(literals) => TokensRef::Suffix(literals),
+            Tokens::Mixed(tokens) => TokensRef::Mixed(TokensLeft::Read(tokens.left())),
+        }
+    }
+
     /// The tokens of a part, by their shape.
-    pub(crate) fn of(alloc: Global, part: Vec<Token>) -> Result<Tokens, AllocError>
+    pub(crate) fn of(alloc: Global, part: MixedTokens) -> Result<Tokens, AllocError>
         ensures { IfOk result (λ tokens. tokens_model tokens ≡ part_model part) }
     {
-        if let Some(literals) = literals_of(alloc, &part)? {
+        if let Some(literals) = literals_of(alloc, &part.tokens)? {
             return Ok(Tokens::Literal(literals));
         }
-        if let [Token::Star, rest @ ..] = part.as_slice() {
+        if let Some((Token::Star, rest)) = part.tokens.split_first() {
             if let Some(literals) = literals_of(alloc, rest)? {
                 return Ok(Tokens::Suffix(literals));
             }
         }
         Ok(Tokens::Mixed(part))
     }
-
-    fn has_star(&self) -> bool
-        ensures { result ≡ list_any is_star (tokens_model self.now) }
-    {
-        match self {
-            Tokens::Literal(_) => false,
-            Tokens::Suffix(_) => true,
-            Tokens::Mixed(tokens) => has_star(tokens),
-        }
-    }
 }
 
 /// The literals, where the tokens are literals alone.
 fn literals_of(alloc: Global, tokens: &[Token]) -> Result<Option<Literals>, AllocError>
-    ensures { IfOk result (λ r. IfSome r (λ literals. map token_model tokens.now ≡ map literal literals.items)) }
+    ensures { IfOk result (λ r. IfSome r (λ literals. tokens.now ≡ literal_tokens literals.items)) }
 {
     let mut literals = SmallVec::new(alloc);
     for token in tokens {
@@ -91,28 +84,4 @@ fn literals_of(alloc: Global, tokens: &[Token]) -> Result<Option<Literals>, Allo
         literals.push(*b)?;
     }
     Ok(Some(literals))
-}
-
-/// Whether a star is among the tokens.
-fn has_star(tokens: &[Token]) -> bool
-    ensures { result ≡ list_any is_star (map token_model tokens.now) }
-{
-    let mut left = tokens;
-    'tokens: while let Some((token, others)) = left.split_first() {
-        if token.is_star() {
-            return true;
-        }
-        left = others;
-    }
-    false
-}
-
-/// Whether a part is two stars and nothing else.
-pub(crate) fn is_double(part: &[Token]) -> bool
-    ensures { result ≡ is_double_star (map token_model part.now) }
-{
-    match part {
-        [Token::Star, Token::Star] => true,
-        _ => false,
-    }
 }

@@ -1,5 +1,6 @@
 pub mod AskedPaths
 pub mod ChainSteps
+pub mod Crossing
 pub mod CountedItems
 pub mod CountedLevels
 pub mod CountedMore

@@ -1,4 +1,5 @@
 pub mod ChainOrder
+pub mod Crossing
 pub mod Cuts
 pub mod LineEnds
 pub mod LastRule
@@ -17,3 +18,5 @@ pub mod NamedLines
 pub mod LastWords
 pub mod LinePlaces
 pub mod AboveRules
+pub mod KeepingPatterns
+pub mod RulePlaces

@@ -21,3 +21,4 @@ pub mod MacroPlaces
 pub mod LineNames
 pub mod KnownMacros
 pub mod Resolving
+pub mod KeptPatterns

@@ -12,8 +12,8 @@ ghost use Rattle.lc_rules.specs.declared.origin.Origin.TheVariants.{Directory};
 
 use crate::ignore_file::IgnoreFile;
 use crate::ignore_line::Rule;
-use lc_glob::cut_at_first;
 use lc_glob::path::MAX_DEPTH;
+use lc_glob::{PatternRef, cut_at_first};
 use std::marker::Model;
 
 /// A path and the directories above it, of which a file was asked at once.
@@ -68,13 +68,7 @@ impl<'a> DirectoriesAbove<'a> {
         let (len, is_whole) = cut_names(path, &mut names, &mut ends);
         let mut flags = [false; MAX_DEPTH];
         let mut found = [None; MAX_DEPTH];
-        let (count, own) = decide(
-            file.rules(),
-            &names[..len],
-            is_dir,
-            &mut flags[..len],
-            &mut found,
-        );
+        let (count, own) = decide(file, &names[..len], is_dir, &mut flags[..len], &mut found);
         DirectoriesAbove {
             file,
             path,
@@ -143,7 +137,7 @@ fn cut_names<'p>(path: &'p [u8], names: &mut [&'p [u8]], ends: &mut [usize]) -> 
 /// oldest, until they tell which directory is the highest that is ignored. It answers of how many directories, the highest first,
 /// they are found, and where all rules were asked, what was found of the last.
 fn decide<'a>(
-    rules: &'a [Rule],
+    file: &'a IgnoreFile,
     names: &[&[u8]],
     is_dir: bool,
     flags: &mut [bool],
@@ -155,16 +149,18 @@ fn decide<'a>(
     requires unknown { (k : ℕ) → k < length names.now → slice_index_or found.old k None ≡ None }
     ensures len { length found.new ≡ length found.old }
     ensures within { result.0 < length names.now }
-    ensures decided { AreDecided rules.now (names_of names.now) result.0 found.new }
-    ensures own { IfSome result.1 (λ o. IsOwn rules.now (names_of names.now) is_dir o) }
+    ensures decided { AreDecided file.now (names_of names.now) result.0 found.new }
+    ensures own { IfSome result.1 (λ o. IsOwn file.now (names_of names.now) is_dir o) }
 {
     let above = names.len() - 1;
     let mut own = None;
-    let mut left = rules;
+    let mut left = file.rules();
     'rules: while let Some((rule, older)) = left.split_last() {
-        rule.match_directories(names, flags);
+        let pattern = file.pattern(older.len());
+        pattern.match_directories(names, flags);
         settle(rule, &flags[..above], found);
-        own = settle_own(rule, flags[above], is_dir, own);
+        let is_own = is_told(&pattern, flags[above], is_dir);
+        own = settle_own(rule, is_own, own);
         if let Some(count) = told_count(&found[..above]) {
             return (count, None);
         }
@@ -173,17 +169,18 @@ fn decide<'a>(
     (above, Some(own))
 }
 
-/// Lets a rule that matches a path, as a directory, decide it, where no newer one does.
-fn settle_own<'a>(
-    rule: &'a Rule,
-    is_matched: bool,
-    is_dir: bool,
-    own: Option<&'a Rule>,
-) -> Option<&'a Rule>
-    ensures { option_map (λ r. r.now) result ≡ option_or (option_map (λ r. r.now) own.entry)
-        (cond (is_matched && (not rule.now.pattern.is_dir_only || is_dir)) (Some rule.now) None) }
+/// Whether a pattern matches a path, where it is told of the directory of that path.
+fn is_told(pattern: &PatternRef, is_matched: bool, is_dir: bool) -> bool
+    ensures { result ≡ (is_matched && (not pattern.now.is_dir_only || is_dir)) }
 {
-    if own.is_some() || !is_matched || (rule.is_dir_only() && !is_dir) {
+    is_matched && (!pattern.is_dir_only() || is_dir)
+}
+
+/// Lets a rule that matches a path decide it, where no newer one does.
+fn settle_own<'a>(rule: &'a Rule, is_matched: bool, own: Option<&'a Rule>) -> Option<&'a Rule>
+    ensures { option_map (λ r. r.now) result ≡ option_or (option_map (λ r. r.now) own.entry) (cond is_matched (Some rule.now) None) }
+{
+    if own.is_some() || !is_matched {
         return own;
     }
     Some(rule)

@@ -1,34 +1,39 @@
 //! Ignore files.
 
-ghost use Rattle.std.specs.Prelude.{◌≡◌, ◌↔◌, ◌<◌, ◌≤◌, [], length, option_map, IfOk, IsTrue};
+ghost use Rattle.std.specs.Prelude.{◌≡◌, ◌↔◌, ◌<◌, ◌≤◌, [], length, map, option_map, slice_index_or, IfOk, IsTrue};
 ghost use Rattle.std.specs.List.{list_any};
 ghost use Rattle.lc_glob.specs.Above.{searches};
-ghost use Rattle.lc_rules.specs.IgnoreRules.{rules_of};
+ghost use Rattle.lc_rules.specs.IgnoreRules.{RuleModel, rules_of};
 ghost use Rattle.lc_rules.specs.Verdicts.{at_depth, deciding, verdict_of};
 ghost use Rattle.lc_rules.specs.Limits.{max_rule_bytes};
 ghost use Rattle.lc_rules.specs.declared.origin.Origin.TheVariants.{Directory};
 
 use crate::faults::{RuleFault, is_too_long};
 use crate::ignore_line::{Rule, read_rule};
+use crate::kept_patterns::KeptPatterns;
 use crate::lines::Lines;
 use crate::verdicts::Verdict;
-use lc_glob::Candidate;
+use lc_glob::{Candidate, PatternRef};
 use std::alloc::{AllocError, Global};
 use std::marker::Model;
 
-/// An ignore file, as a `.gitignore`: its rules in the order of its lines.
+/// An ignore file, as a `.gitignore`: its rules in the order of its lines, each with its pattern. A rule takes 20 bytes, and most
+/// patterns take no more than their own ones.
 #[derive(Drop)]
 pub struct IgnoreFile {
     rules: Vec<Rule>,
+    patterns: KeptPatterns,
 }
 
 impl Model for IgnoreFile {
-    ghost use Rattle.std.specs.Prelude.{List};
+    ghost use Rattle.std.specs.Prelude.{◌≡◌, List, map};
     ghost use Rattle.lc_rules.specs.IgnoreRules.{RuleModel};
 
     ghost Value = { List RuleModel };
 
     ghost view = { λ f. f.rules.items };
+
+    ghost invariant = { λ f. f.patterns ≡ map (λ rule. rule.pattern) f.rules.items };
 }
 
 impl IgnoreFile {
@@ -40,8 +45,8 @@ impl IgnoreFile {
         if is_too_long(bytes) {
             return Err(RuleFault::TooLong);
         }
-        let rules = read_rules(alloc, bytes)?;
-        Ok(IgnoreFile { rules })
+        let (rules, patterns) = read_rules(alloc, bytes)?;
+        Ok(IgnoreFile { rules, patterns })
     }
 
     pub(crate) fn rules(&self) -> &[Rule]
@@ -67,14 +72,22 @@ impl IgnoreFile {
     pub fn searches(&self) -> bool
         ensures { result ≡ list_any (λ rule. searches rule.pattern) self.now }
     {
-        let mut left = self.rules.as_slice();
-        'rules: while let Some((rule, others)) = left.split_first() {
-            if rule.searches() {
+        let mut left = self.rules();
+        'rules: while let Some((_rule, older)) = left.split_last() {
+            if self.pattern(older.len()).searches() {
                 return true;
             }
-            left = others;
+            left = older;
         }
         false
+    }
+
+    /// The pattern of the rule at a place.
+    pub(crate) fn pattern<'f>(&'f self, index: usize) -> PatternRef<'f>
+        requires { index < length self.now }
+        ensures { (rule : RuleModel) → result ≡ (slice_index_or self.now index rule).pattern }
+    {
+        self.patterns.pattern(index)
     }
 
     /// What the file alone says of a path below its directory.
@@ -97,38 +110,43 @@ impl IgnoreFile {
         ensures { option_map (λ r. (Directory 0, r.now)) result ≡ deciding (at_depth 0 self.now) path.now is_dir }
     {
         let path = Candidate::for_patterns(path, self.rules.len());
-        last_match(&self.rules, &path, is_dir)
+        self.last_match(&path, is_dir)
+    }
+
+    /// The last rule that matches a path, looked for from the newest to the oldest.
+    fn last_match<'f>(&'f self, path: &Candidate, is_dir: bool) -> Option<&'f Rule>
+        ensures { option_map (λ r. (Directory 0, r.now)) result ≡ deciding (at_depth 0 self.now) path.now is_dir }
+    {
+        let mut left = self.rules();
+        'rules: while let Some((rule, older)) = left.split_last() {
+            if self.pattern(older.len()).matches_candidate(path, is_dir) {
+                return Some(rule);
+            }
+            left = older;
+        }
+        None
     }
 }
 
-fn read_rules(alloc: Global, bytes: &[u8]) -> Result<Vec<Rule>, AllocError>
+/// The rules of the lines, and their patterns.
+fn read_rules(alloc: Global, bytes: &[u8]) -> Result<(Vec<Rule>, KeptPatterns), AllocError>
     requires { length bytes.now ≤ max_rule_bytes }
-    ensures { IfOk result (λ rules. rules.items ≡ rules_of bytes.now) }
+    ensures rules { IfOk result (λ r. r.0.items ≡ rules_of bytes.now) }
+    ensures patterns { IfOk result (λ r. r.1 ≡ map (λ rule. rule.pattern) r.0.items) }
 {
     let mut rules = Vec::new(alloc);
+    let mut patterns = KeptPatterns::new(alloc);
     let mut number = 1;
     let mut left = Lines::of(bytes);
     'lines: while let Some((line, others)) = left.split_first() {
-        if let Some(rule) = read_rule(alloc, number, line)? {
+        if let Some((rule, pattern)) = read_rule(alloc, number, line)? {
             rules.push(rule)?;
+            patterns.push(pattern)?;
         }
         number += 1;
         left = others;
     }
     rules.shrink_to_fit();
-    Ok(rules)
-}
-
-/// The last of the rules that matches a path, looked for from the newest to the oldest.
-fn last_match<'a>(rules: &'a [Rule], path: &Candidate, is_dir: bool) -> Option<&'a Rule>
-    ensures { option_map (λ r. (Directory 0, r.now)) result ≡ deciding (at_depth 0 rules.now) path.now is_dir }
-{
-    let mut left = rules;
-    'rules: while let Some((rule, older)) = left.split_last() {
-        if rule.matches(path, is_dir) {
-            return Some(rule);
-        }
-        left = older;
-    }
-    None
+    patterns.shrink_to_fit();
+    Ok((rules, patterns))
 }

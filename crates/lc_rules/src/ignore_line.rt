@@ -1,30 +1,32 @@
 //! How a line of an ignore file gives a rule.
 
-ghost use Rattle.std.specs.Prelude.{◌≡◌, not, length, IfOk};
-ghost use Rattle.lc_glob.specs.Above.{names_of, TellMatches, searches};
-ghost use Rattle.lc_glob.specs.IsMatch.{is_match};
+ghost use Rattle.std.specs.Prelude.{◌≡◌, not, IfOk, IfSome, option_map};
 ghost use Rattle.lc_rules.specs.IgnoreRules.{without_return, without_spaces, text_of_line, rule_of_line};
 ghost use Rattle.lc_rules.specs.Verdicts.{verdict_by};
 
 use crate::verdicts::Verdict;
-use lc_glob::{Candidate, Pattern};
+use lc_glob::Pattern;
 use std::alloc::{AllocError, Global};
 use std::marker::Model;
+use std::snapshot::Snapshot;
 
-/// A rule of an ignore file.
+/// A rule of an ignore file, which keeps its pattern.
 #[derive(Drop)]
 pub struct Rule {
     line: u32,
     is_negated: bool,
-    pattern: Pattern,
+    /// What contracts see of it.
+    pattern: Snapshot<Pattern>,
 }
+
+const _: () = prove!(size_of::<Rule>() == 8);
 
 impl Model for Rule {
     ghost use Rattle.lc_rules.specs.IgnoreRules.{RuleModel};
 
     ghost Value = { RuleModel };
 
-    ghost view = { λ r. record { line = r.line; is_negated = r.is_negated; pattern = r.pattern } };
+    ghost view = { λ r. record { line = r.line; is_negated = r.is_negated; pattern = r.pattern.value } };
 }
 
 impl Rule {
@@ -51,34 +53,6 @@ impl Rule {
         ensures { result ≡ not self.now.is_negated }
     {
         !self.is_negated
-    }
-
-    pub(crate) fn is_dir_only(&self) -> bool
-        ensures { result ≡ self.now.pattern.is_dir_only }
-    {
-        self.pattern.is_dir_only()
-    }
-
-    /// Whether its pattern searches.
-    pub(crate) fn searches(&self) -> bool
-        ensures { result ≡ searches self.now.pattern }
-    {
-        self.pattern.searches()
-    }
-
-    /// Flags the directories of these names that its pattern matches.
-    pub(crate) fn match_directories(&self, names: &[&[u8]], flags: &mut [bool])
-        requires { length names.now ≡ length flags.old }
-        ensures len { length flags.new ≡ length flags.old }
-        ensures told { TellMatches self.now.pattern (names_of names.now) flags.new }
-    {
-        self.pattern.match_directories(names, flags);
-    }
-
-    pub(crate) fn matches(&self, path: &Candidate, is_dir: bool) -> bool
-        ensures { result ≡ is_match self.now.pattern path.now is_dir }
-    {
-        self.pattern.matches_candidate(path, is_dir)
     }
 }
 
@@ -124,9 +98,14 @@ pub fn text_of_line<'a>(line: &'a [u8]) -> &'a [u8]
     without_spaces(without_return(line))
 }
 
-/// The rule of a line with this number, or none of an empty line or a comment.
-pub(crate) fn read_rule(alloc: Global, number: u32, line: &[u8]) -> Result<Option<Rule>, AllocError>
-    ensures { IfOk result (λ rule. rule ≡ rule_of_line (number, line.now)) }
+/// The rule of a line with this number and its pattern, or none of an empty line or a comment.
+pub(crate) fn read_rule(
+    alloc: Global,
+    number: u32,
+    line: &[u8],
+) -> Result<Option<(Rule, Pattern)>, AllocError>
+    ensures rule { IfOk result (λ r. option_map (λ p. p.0) r ≡ rule_of_line (number, line.now)) }
+    ensures pattern { IfOk result (λ r. IfSome r (λ p. p.1 ≡ p.0.pattern)) }
 {
     let text = text_of_line(line);
     let Some((first, rest)) = text.split_first() else {
@@ -138,9 +117,10 @@ pub(crate) fn read_rule(alloc: Global, number: u32, line: &[u8]) -> Result<Optio
         _ => (false, text),
     };
     let pattern = Pattern::read(alloc, pattern)?;
-    Ok(Some(Rule {
+    let rule = Rule {
         line: number,
         is_negated,
-        pattern,
-    }))
+        pattern: Snapshot::of(&pattern),
+    };
+    Ok(Some((rule, pattern)))
 }

@@ -15,6 +15,7 @@ mod faults;
 mod ignore_chain;
 mod ignore_file;
 mod ignore_line;
+mod kept_patterns;
 mod known_macros;
 mod last_word;
 mod laws;

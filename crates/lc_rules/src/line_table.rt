@@ -166,23 +166,17 @@ impl LineTable {
     }
 }
 
-/// About how many bytes a line takes whose pattern was read: a segment takes 40, but the one of a short pattern, and a byte
-/// of a pattern that is no plain text up to 64.
+/// About how many bytes a line takes whose pattern was read: 64, and one for each byte of the pattern; where some byte is quoted or opens a
+/// bracket, up to 16 for each byte and 64 for each segment.
 fn bytes_of(pattern: &[u8]) -> usize {
-    let separators = pattern.iter().filter(|b| **b == b'/').count();
-    let rest = pattern.strip_prefix(b"*").unwrap_or(pattern);
-    let marks = rest
-        .iter()
-        .filter(|b| matches!(**b, b'*' | b'?' | b'[' | b'\\'))
-        .count();
-    let tokens = if marks == 0 {
-        0
-    } else {
-        pattern.len().saturating_mul(64)
-    };
-    separators
-        .saturating_mul(40)
-        .saturating_add(tokens)
+    if !pattern.iter().any(|b| *b == b'[' || *b == b'\\') {
+        return pattern.len().saturating_add(64);
+    }
+    let segments = pattern.iter().filter(|b| **b == b'/').count();
+    pattern
+        .len()
+        .saturating_mul(16)
+        .saturating_add(segments.saturating_mul(64))
         .saturating_add(64)
 }
 

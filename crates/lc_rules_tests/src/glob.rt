@@ -4,3 +4,4 @@ mod above;
 mod cost;
 mod meaning;
 mod paths;
+mod simple;

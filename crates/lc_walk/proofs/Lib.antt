@@ -1,3 +1,4 @@
+pub mod Crossing
 pub mod AbsentPaths
 pub mod AllWorked
 pub mod Broken

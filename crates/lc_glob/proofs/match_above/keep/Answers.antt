@@ -1,5 +1,5 @@
 use Rattle.std.proofs.Common.{rules, ◌<◌, ◌+◌, length, arith}
-use Rattle.lc_glob.specs.Views.{tokens_model}
+use Rattle.lc_glob.specs.Views.{tokens_ref_model}
 use Rattle.lc_glob.proofs.Above.{name_cost, kept_more}
 use Rattle.lc_glob.proofs.match_above.keep.Goals as goal
 
@@ -11,9 +11,9 @@ loop-k-preserved c =
     let low : k < length c.loop-k.flags = omega (arith, c.loop-k-test.true, inv.len) in
     record {
       len = search rules;
-      done = kept_more (tokens_model c.args.tokens.now) c.args.names.now c.args.flags.now c.loop-k.flags k c.keeps.result
+      done = kept_more (tokens_ref_model c.args.tokens) c.args.names.now c.args.flags.now c.loop-k.flags k c.keeps.result
           c.new.result.bytes.now _ low within c.new.ensures (inv.left k (omega arith)) c.keeps.ensures.kept inv.done;
       left = search rules;
-      cost = name_cost (length (tokens_model c.args.tokens.now) + 1) c.args.names.now k c.new.result.bytes.now _ _ _ _ within
+      cost = name_cost (length (tokens_ref_model c.args.tokens) + 1) c.args.names.now k c.new.result.bytes.now _ _ _ _ within
           c.new.ensures inv.cost c.keeps.ensures.cost;
     }

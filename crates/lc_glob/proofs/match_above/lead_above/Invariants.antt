@@ -1,13 +1,16 @@
-use Rattle.std.proofs.Common.{◌≡◌, ◌≤◌, ◌+◌, length, map, take}
-use Rattle.lc_glob.specs.Above.{names_of, AreSet}
+use Rattle.std.proofs.Common.{◌≡◌, ◌≤◌, ◌+◌, length, List, ◌++◌}
+use Rattle.lc_glob.specs.Above.{names_of}
 use Rattle.lc_glob.specs.Costs.{full_cost}
-use Rattle.lc_glob.specs.Leads.{Leads}
-use Rattle.lc_glob.specs.Views.{segment_model}
+use Rattle.lc_glob.specs.Patterns.{SegmentModel}
+use Rattle.lc_glob.specs.Views.{segments_ref_model}
+use Rattle.lc_glob.proofs.Above.{AreLed}
 use Rattle.lc_glob.proofs.match_above.lead_above.Given as goal
 
-abbrev pub invariant-loop-segment : goal.invariant-loop-segment
-invariant-loop-segment l = record {
-  len : length l.flags ≡ length l.initial.flags;
-  set : AreSet l.flags (λ k. Leads (map segment_model (take l.segment-index l.segments)) (take k (names_of l.names)));
-  cost : l.tests.made ≤ l.initial.tests.made + full_cost (map segment_model (take l.segment-index l.segments)) (names_of l.names);
-}
+abbrev pub invariant-segments : goal.invariant-segments
+invariant-segments l =
+    (length l.flags ≡ length l.initial.flags) × (done : List SegmentModel)
+    × (segments_ref_model l.segments ≡ done ++ segments_ref_model l.left) × AreLed done (names_of l.names) l.flags
+    × (l.tests.made ≤ l.initial.tests.made + full_cost done (names_of l.names))
+
+abbrev pub decreases-segments : goal.decreases-segments
+decreases-segments l = length (segments_ref_model l.left)

@@ -1,7 +1,10 @@
-use Rattle.std.proofs.Common.{◌∙◌, ◌∷◌, ◌++◌, ◌-◌, [], append_assoc, ap, arith, length}
-use Rattle.lc_glob.specs.Above.{names_of}
+use Rattle.std.proofs.Common.{◌∙◌, ◌∷◌, ◌++◌, ◌-◌, [], append_assoc, ap, arith, length, subst, Bool, cond, Some, None, get_or, false, not, ◌&&◌, ◌||◌}
+use Rattle.std.specs.Prelude.{option_map}
+use Rattle.std.specs.Option.{option_or}
+use Rattle.lc_glob.specs.Above.{names_of, TellMatches}
 use Rattle.lc_glob.proofs.Above.{names_length}
 use Rattle.lc_rules.proofs.AboveRules.{decided_more, decided_early, own_more, settled_front}
+use Rattle.lc_rules.proofs.RulePlaces.{place_below, stands_at}
 use Rattle.lc_rules.proofs.directories_above.decide.Goals as goal
 
 pub returns-in-Some-told_count-clause-decided : goal.returns-in-Some-told_count-clause-decided
@@ -10,12 +13,15 @@ returns-in-Some-told_count-clause-decided c =
     let names = names_of c.args.names.now in
     let len = names_length c.args.names.now in
     let above = length c.args.names.now - 1 in
-    decided_early c.args.rules.now c.in-Some.older.now (c.in-Some.rule.now ∷ inv.newer) names c.in-Some-told_count.count above
+    let pattern = c.pattern-pattern.ensures c.in-Some.rule.now
+    ∙ ap (λ r. r.pattern) (stands_at _ _ inv.newer _ c.in-Some.rule.now inv.whole c.in-Some.ensures.cases.0 c.in-Some.rule.now) in
+    let told = subst (λ p. TellMatches p names c.match_directories.new.flags) pattern c.match_directories.ensures.told in
+    decided_early c.args.file.now c.in-Some.older.now (c.in-Some.rule.now ∷ inv.newer) names c.in-Some-told_count.count above
     c.settle.new.found
     (inv.whole ∙ ap (λ l. l ++ inv.newer) c.in-Some.ensures.cases.0 ∙ append_assoc c.in-Some.older.now (c.in-Some.rule.now ∷ []) inv.newer)
     (omega (arith, c.requires.room, inv.found_len, c.settle.ensures.len)) c.in-Some-told_count.ensures
     (decided_more inv.newer c.in-Some.rule.now names above c.match_directories.new.flags c.rules.found c.settle.new.found
-    (omega (arith, len)) c.match_directories.ensures.told
+    (omega (arith, len)) told
     (settled_front c.in-Some.rule.now above c.match_directories.new.flags c.rules.found c.settle.new.found
     (omega (arith, c.requires.flags, inv.flags_len, c.match_directories.ensures.len)) c.settle.ensures.settled)
     inv.decided)
@@ -26,6 +32,9 @@ rules-preserved c =
     let names = names_of c.args.names.now in
     let len = names_length c.args.names.now in
     let above = length c.args.names.now - 1 in
+    let pattern = c.pattern-pattern.ensures c.in-Some.rule.now
+    ∙ ap (λ r. r.pattern) (stands_at _ _ inv.newer _ c.in-Some.rule.now inv.whole c.in-Some.ensures.cases.0 c.in-Some.rule.now) in
+    let told = subst (λ p. TellMatches p names c.match_directories.new.flags) pattern c.match_directories.ensures.told in
     record {
       newer = c.in-Some.rule.now ∷ inv.newer;
       whole = inv.whole ∙ ap (λ l. l ++ inv.newer) c.in-Some.ensures.cases.0
@@ -33,10 +42,17 @@ rules-preserved c =
       flags_len = c.match_directories.ensures.len ∙ inv.flags_len;
       found_len = c.settle.ensures.len ∙ inv.found_len;
       decided = decided_more inv.newer c.in-Some.rule.now names above c.match_directories.new.flags c.rules.found c.settle.new.found
-          (omega (arith, len)) c.match_directories.ensures.told
+          (omega (arith, len)) told
           (settled_front c.in-Some.rule.now above c.match_directories.new.flags c.rules.found c.settle.new.found
           (omega (arith, c.requires.flags, inv.flags_len, c.match_directories.ensures.len)) c.settle.ensures.settled)
           inv.decided;
       own = own_more inv.newer c.in-Some.rule.now names above c.args.is_dir c.match_directories.new.flags c.rules.own
-          c.settle_own-own.result (omega (arith, c.requires.some, len)) c.match_directories.ensures.told c.settle_own-own.ensures inv.own;
+          c.settle_own-own.result (omega (arith, c.requires.some, len)) told
+          (c.settle_own-own.ensures ∙ ap (λ (b : Bool). option_or (option_map (λ r. r.now) c.rules.own) (cond b (Some c.in-Some.rule.now) None))
+          (c.is_told-is_own.ensures ∙ ap (λ p. get_or c.match_directories.new.flags above false && (not p.is_dir_only || c.args.is_dir)) pattern))
+          inv.own;
     }
+
+pub pattern-pattern-requires : goal.pattern-pattern-requires
+pattern-pattern-requires c =
+    let inv = c.rules.invariant in place_below _ _ inv.newer _ c.in-Some.rule.now inv.whole c.in-Some.ensures.cases.0

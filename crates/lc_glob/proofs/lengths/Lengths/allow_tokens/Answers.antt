@@ -6,11 +6,9 @@ use Rattle.lc_glob.proofs.lengths.Lengths.allow_tokens.Goals as goal
 pub returns-in-Literal : goal.returns-in-Literal
 returns-in-Literal c = λ f.
     let both = literals_between _ _ (rw c.in-Literal.is at f) in
-    let len = c.len.ensures.value in
-    c.has.ensures (omega (arith, both.0, len)) (omega (arith, both.1, len))
+    c.has.ensures (omega (arith, both.0)) (omega (arith, both.1))
 
 pub returns-in-Suffix : goal.returns-in-Suffix
 returns-in-Suffix c = λ f.
     let most = suffix_between _ _ (rw c.in-Suffix.is at f) in
-    let len = c.len-in-Suffix.ensures.value in
-    le-leb _ _ (omega (arith, most, len))
+    le-leb _ _ (omega (arith, most))

@@ -9,8 +9,6 @@ pub segments-preserved : goal.segments-preserved
 segments-preserved c = λ lengths short long rest.
     let first = c.min-shortest.ensures in
     let last = c.max-longest.ensures in
-    let one = c.len.ensures in
-    let two = c.len-in-Some.ensures in
     c.segments.invariant lengths (omega arith) (omega arith)
     (more_between lengths _ _ _ c.in-Some.ensures (omega arith, omega arith) rest)
 

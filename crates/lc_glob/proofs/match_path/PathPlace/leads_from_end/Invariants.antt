@@ -1,17 +1,17 @@
-use Rattle.std.proofs.Common.{◌↔◌, ◌≤◌, ◌+◌, map, length}
+use Rattle.std.proofs.Common.{◌↔◌, ◌≤◌, ◌+◌, length}
 use Rattle.lc_glob.specs.Leads.{Leads}
 use Rattle.lc_glob.specs.Path.{segments_left}
 use Rattle.lc_glob.specs.Costs.{full_cost}
-use Rattle.lc_glob.specs.Views.{segment_model}
+use Rattle.lc_glob.specs.Views.{segments_ref_model}
 use Rattle.lc_glob.proofs.match_path.PathPlace.leads_from_end.Given as goal
 
 abbrev pub invariant-ends : goal.invariant-ends
 invariant-ends l = record {
-  same : Leads (map segment_model l.self.segments.now) (segments_left l.self.left.rest) ↔ Leads (map segment_model l.here.segments.now)
+  same : Leads (segments_ref_model l.self.segments) (segments_left l.self.left.rest) ↔ Leads (segments_ref_model l.here.segments)
       (segments_left l.here.left.rest);
-  cost : l.tests.made + full_cost (map segment_model l.here.segments.now) (segments_left l.here.left.rest)
-      ≤ l.initial.tests.made + full_cost (map segment_model l.self.segments.now) (segments_left l.self.left.rest);
+  cost : l.tests.made + full_cost (segments_ref_model l.here.segments) (segments_left l.here.left.rest)
+      ≤ l.initial.tests.made + full_cost (segments_ref_model l.self.segments) (segments_left l.self.left.rest);
 }
 
 abbrev pub decreases-ends : goal.decreases-ends
-decreases-ends l = length l.here.segments.now
+decreases-ends l = length (segments_ref_model l.here.segments)

@@ -1,5 +1,5 @@
-use Rattle.std.proofs.Common.{inl, inr, map, ap, ◌≤◌, arith, length}
-use Rattle.lc_glob.specs.Views.{segment_model}
+use Rattle.std.proofs.Common.{inl, inr, ap, ◌≤◌, arith, length}
+use Rattle.lc_glob.specs.Views.{segments_ref_model}
 use Rattle.lc_glob.specs.Path.{segments_left}
 use Rattle.lc_glob.proofs.Cost.{full_parts, across_cost, name_cost, name_reserve, block_cost, end_cost}
 use Rattle.lc_glob.proofs.Striding.{at_double, at_name, at_block, at_last, covers_name, shorter}
@@ -13,7 +13,7 @@ steps-init c = record {
   double_within = tt;
   left_within = omega arith;
   within_reserve = omega arith;
-  cost = omega (arith, full_parts (map segment_model c.args.self.segments.now) (segments_left c.args.self.left.rest));
+  cost = omega (arith, full_parts (segments_ref_model c.args.self.segments) (segments_left c.args.self.left.rest));
 }
 
 pub steps-preserved-in-DoubleStar : goal.steps-preserved-in-DoubleStar
@@ -21,7 +21,7 @@ steps-preserved-in-DoubleStar c =
     let inv = c.steps.invariant in
     let is = c.in-DoubleStar.ensures.is in
     let len = shorter _ _ _ is in
-    let within : length c.in-DoubleStar.segments.now ≤ length c.args.self.segments.now = omega (arith, len) in
+    let within : length (segments_ref_model c.in-DoubleStar.segments) ≤ length (segments_ref_model c.args.self.segments) = omega (arith, len) in
     record {
       same = at_double _ _ _ _ _ is inv.covers inv.same;
       covers = λ f. f;
@@ -56,9 +56,9 @@ steps-preserved c =
     let cost = rw c.in-Some.is at inv.cost in
     let next = c.in-Some-retry.ensures in
     let len = ap length next.1 in
-    let segments_len = ap length next.2 in
+    let segments_len = ap (λ s. length (segments_ref_model s)) next.2 in
     record {
-      same = at_block _ _ _ _ _ _ _ next.1 (ap (map segment_model) next.2) c.in-Stuck.ensures.is same;
+      same = at_block _ _ _ _ _ _ _ next.1 (ap segments_ref_model next.2) c.in-Stuck.ensures.is same;
       covers = λ f. f;
       here_within = omega (arith, within, segments_len);
       double_within = omega (arith, within, segments_len);
@@ -71,17 +71,17 @@ pub returns-in-LastDoubleStar-clause-leads : goal.returns-in-LastDoubleStar-clau
 returns-in-LastDoubleStar-clause-leads c = at_last _ _ _ _ c.in-LastDoubleStar.ensures.is c.steps.invariant.same
 
 pub returns-in-LastDoubleStar-clause-cost : goal.returns-in-LastDoubleStar-clause-cost
-returns-in-LastDoubleStar-clause-cost c = end_cost _ (map segment_model c.args.self.segments.now) _
+returns-in-LastDoubleStar-clause-cost c = end_cost _ (segments_ref_model c.args.self.segments) _
     (segments_left c.args.self.left.rest) _ _ _ _ c.in-LastDoubleStar.ensures.cost c.steps.invariant.cost
 
 pub returns-in-Arrived-clause-cost : goal.returns-in-Arrived-clause-cost
-returns-in-Arrived-clause-cost c = end_cost _ (map segment_model c.args.self.segments.now) _
+returns-in-Arrived-clause-cost c = end_cost _ (segments_ref_model c.args.self.segments) _
     (segments_left c.args.self.left.rest) _ _ _ _ c.in-Arrived.ensures.cost c.steps.invariant.cost
 
 pub returns-in_default-clause-cost : goal.returns-in_default-clause-cost
-returns-in_default-clause-cost c = end_cost _ (map segment_model c.args.self.segments.now) _
+returns-in_default-clause-cost c = end_cost _ (segments_ref_model c.args.self.segments) _
     (segments_left c.args.self.left.rest) _ _ _ _ c.in-Stuck.ensures.cost c.steps.invariant.cost
 
 pub returns-in_default-retry-clause-cost : goal.returns-in_default-retry-clause-cost
-returns-in_default-retry-clause-cost c = end_cost _ (map segment_model c.args.self.segments.now) _
+returns-in_default-retry-clause-cost c = end_cost _ (segments_ref_model c.args.self.segments) _
     (segments_left c.args.self.left.rest) _ _ _ _ c.in-Stuck.ensures.cost c.steps.invariant.cost

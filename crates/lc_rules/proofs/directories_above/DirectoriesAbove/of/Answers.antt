@@ -24,10 +24,10 @@ invariant_of-result c =
       omega (arith, c.decide-count.ensures.within, c.cut_names-len.ensures.within, few),
       (
         decided_above _ c.args.path.now c.cut_names-len.new.ends names len c.decide-count.result.0 c.decide-count.new.found room
-            (omega (arith, c.decide-count.ensures.within, few)) c.cut_names-len.ensures.cut (rw c.rules.ensures at c.decide-count.ensures.decided),
+            (omega (arith, c.decide-count.ensures.within, few)) c.cut_names-len.ensures.cut c.decide-count.ensures.decided,
         (
           λ whole. decided_own _ c.args.path.now (names_of (take len names)) c.args.is_dir c.decide-count.result.1 (c.cut_names-len.ensures.all whole)
-              (rw c.rules.ensures at c.decide-count.ensures.own),
+              c.decide-count.ensures.own,
           tt,
         ),
       ),

@@ -1,9 +1,0 @@
-use Rattle.std.proofs.Common.{map, ap, ◌∙◌, sym}
-use Rattle.lc_glob.specs.Views.{token_model}
-use Rattle.lc_glob.proofs.Fitting.{front_stuck}
-use Rattle.lc_glob.proofs.match_segment.Place.step_front.Goals as goal
-
-pub returns-in-None-clause-is : goal.returns-in-None-clause-is
-returns-in-None-clause-is c =
-    front_stuck _ _ _ _ (ap (map token_model) c.in-Some.ensures.cases.0)
-    (sym c.is_star.ensures ∙ c.if-is_star.false) c.in-None.ensures.strips

@@ -1,0 +1,24 @@
+use Rattle.std.proofs.Common.{ap, ◌∙◌, map, sym}
+use Rattle.lc_glob.specs.Simple.{bytes_segment, literals_segment, exact_segment}
+use Rattle.lc_glob.specs.Views.{segments_ref_model}
+use Rattle.lc_glob.proofs.SimpleBytes.{none_mapped}
+use Rattle.lc_glob.proofs.segment_ref.SegmentsRef.is_empty.Goals as goal
+
+pub returns-in-Bytes : goal.returns-in-Bytes
+returns-in-Bytes c =
+    let is = ap segments_ref_model c.in-Bytes.is in
+    (λ h. is ∙ ap (map bytes_segment) (c.is_over.ensures.0 h), λ h. c.is_over.ensures.1 (none_mapped bytes_segment _ (sym is ∙ h)))
+
+pub returns-in-Literals : goal.returns-in-Literals
+returns-in-Literals c =
+    let is = ap segments_ref_model c.in-Literals.is in (
+      λ h. is ∙ ap (map literals_segment) (c.is_over-in-Literals.ensures.0 h),
+      λ h. c.is_over-in-Literals.ensures.1 (none_mapped literals_segment _ (sym is ∙ h)),
+    )
+
+pub returns-in-Exact : goal.returns-in-Exact
+returns-in-Exact c =
+    let is = ap segments_ref_model c.in-Exact.is in (
+      λ h. is ∙ ap (map exact_segment) (c.is_over-in-Exact.ensures.0 h),
+      λ h. c.is_over-in-Exact.ensures.1 (none_mapped exact_segment _ (sym is ∙ h)),
+    )

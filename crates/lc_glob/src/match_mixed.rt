@@ -1,0 +1,107 @@
+//! Whether tokens that were read fit a segment of a path, in the steps of `match_bytes`.
+//!
+//! What stands after the last star is compared from the end, once. Only what stands before it is looked for, from the
+//! front, with one place to go back to: the last star that was passed, since the fewest bytes that serve one star serve
+//! all before it.
+
+ghost use Rattle.std.specs.Prelude.{◌≡◌, ◌↔◌, ◌≤◌, ◌+◌, IsTrue, length};
+ghost use Rattle.lc_glob.specs.Views.{left_model};
+ghost use Rattle.lc_glob.specs.Steps.{FitsAt, cost_from_end, cost_from_front, FrontStepIs, EndStepIs};
+
+use crate::mixed_left::MixedLeft;
+use crate::path_segment::ByteTests;
+use crate::place::{EndStep, FrontStep, Place};
+
+impl<'p, 'n> Place<'n, MixedLeft<'p>> {
+    /// One step from the end, with one byte test at most.
+    fn step_end(self, tests: &mut ByteTests) -> EndStep<'n, MixedLeft<'p>>
+        ensures is { EndStepIs left_model result (left_model self.entry.tokens) self.entry.segment.bytes.now }
+        ensures cost { tests.new.made ≤ tests.old.made + 1 }
+        ensures free { length (left_model self.entry.tokens) ≡ 0 → tests.new.made ≡ tests.old.made }
+    {
+        let Some((token, tokens)) = self.tokens.split_last() else {
+            return if self.segment.is_empty() {
+                EndStep::Fitted
+            } else {
+                EndStep::Stuck
+            };
+        };
+        if token.is_star() {
+            return EndStep::Star;
+        }
+        match self.segment.strip_last(token, tests) {
+            Some(segment) => EndStep::Taken(Place { tokens, segment }),
+            None => EndStep::Stuck,
+        }
+    }
+
+    /// One step from the front, with one byte test at most.
+    fn step_front(self, tests: &mut ByteTests) -> FrontStep<'n, MixedLeft<'p>>
+        ensures is { FrontStepIs left_model result (left_model self.entry.tokens) self.entry.segment.bytes.now }
+        ensures cost { tests.new.made ≤ tests.old.made + 1 }
+        ensures free { length (left_model self.entry.tokens) ≡ 0 → tests.new.made ≡ tests.old.made }
+    {
+        let Some((token, tokens)) = self.tokens.split_first() else {
+            return if self.segment.is_empty() {
+                FrontStep::Fitted
+            } else {
+                FrontStep::Stuck
+            };
+        };
+        if token.is_star() {
+            return FrontStep::Star(tokens);
+        }
+        match self.segment.strip_first(token, tests) {
+            Some(segment) => FrontStep::Taken(Place { tokens, segment }),
+            None => FrontStep::Stuck,
+        }
+    }
+
+    /// Whether the tokens fit the segment, from the last of both on.
+    #[inline(never)]
+    pub(crate) fn fits(self, tests: &mut ByteTests) -> bool
+        ensures fits { IsTrue result ↔ FitsAt left_model self.entry }
+        ensures cost { tests.new.made ≤ tests.old.made + cost_from_end left_model self.entry }
+    {
+        let mut here = self;
+        'ends: loop {
+            match here.step_end(tests) {
+                EndStep::Star => return here.fits_from_front(tests),
+                EndStep::Taken(before) => here = before,
+                EndStep::Fitted => return true,
+                EndStep::Stuck => return false,
+            }
+        }
+    }
+
+    /// Whether the tokens fit the segment, from the first of both on.
+    #[inline(never)]
+    fn fits_from_front(self, tests: &mut ByteTests) -> bool
+        ensures fits { IsTrue result ↔ FitsAt left_model self.entry }
+        ensures cost { tests.new.made ≤ tests.old.made + cost_from_front left_model self.entry }
+    {
+        let mut here = self;
+        let mut star: Option<Place<MixedLeft>> = None;
+        'steps: loop {
+            match here.step_front(tests) {
+                FrontStep::Star(tokens) => {
+                    here = Place {
+                        tokens,
+                        segment: here.segment,
+                    };
+                    star = Some(here);
+                }
+                FrontStep::Taken(after) => here = after,
+                FrontStep::Fitted => return true,
+                FrontStep::Stuck => {
+                    let Some(back) = star else { return false };
+                    let Some(next) = back.retry() else {
+                        return false
+                    };
+                    here = next;
+                    star = Some(next);
+                }
+            }
+        }
+    }
+}

@@ -1,0 +1,179 @@
+//! The segments of a pattern, as they are matched.
+
+ghost use Rattle.std.specs.Prelude.{◌≡◌, ◌∷◌, ◌++◌, [], MatchOption, map, ◌↔◌, IsTrue};
+ghost use Rattle.std.specs.List.{list_any};
+ghost use Rattle.lc_glob.specs.Above.{is_double, is_wide};
+ghost use Rattle.lc_glob.specs.Reading.{is_double_star};
+ghost use Rattle.lc_glob.specs.Simple.{byte_token, bytes_segment, literals_segment};
+ghost use Rattle.lc_glob.specs.Tokens.{is_star};
+ghost use Rattle.lc_glob.specs.Views.{tokens_ref_model, segment_ref_model, segments_ref_model};
+
+use crate::segment::Segment;
+use crate::segments_left::SegmentsLeft;
+use crate::tokens_left::TokensLeft;
+
+/// The tokens of a segment, by their shape.
+#[derive(Clone, Copy)]
+pub(crate) enum TokensRef<'p> {
+    /// Literals alone.
+    Literal(&'p [u8]),
+    /// A star and then literals alone.
+    Suffix(&'p [u8]),
+    /// Any others.
+    Mixed(TokensLeft<'p>),
+}
+
+impl<'p> TokensRef<'p> {
+    fn has_star(self) -> bool
+        ensures { result ≡ list_any is_star (tokens_ref_model self.entry) }
+    {
+        match self {
+            TokensRef::Literal(_) => false,
+            TokensRef::Suffix(_) => true,
+            TokensRef::Mixed(tokens) => tokens.has_star(),
+        }
+    }
+}
+
+/// What stands between two separators of a pattern.
+#[derive(Clone, Copy)]
+pub(crate) enum SegmentRef<'p> {
+    /// Tokens that one segment of a path must fit.
+    Plain(TokensRef<'p>),
+    /// `**`: any run of a path's segments.
+    DoubleStar,
+}
+
+impl<'p> SegmentRef<'p> {
+    /// That of the bytes between two separators of a simple pattern.
+    fn of_bytes(bytes: &'p [u8]) -> Self
+        ensures { segment_ref_model result ≡ bytes_segment bytes.now }
+    {
+        if are_two_stars(bytes) {
+            SegmentRef::DoubleStar
+        } else {
+            SegmentRef::Plain(TokensRef::Mixed(TokensLeft::Bytes(bytes)))
+        }
+    }
+
+    /// The same where it is literals alone or a double star.
+    fn of_literals(bytes: &'p [u8]) -> Self
+        ensures { segment_ref_model result ≡ literals_segment bytes.now }
+    {
+        if are_two_stars(bytes) {
+            SegmentRef::DoubleStar
+        } else {
+            SegmentRef::Plain(TokensRef::Literal(bytes))
+        }
+    }
+
+    pub(crate) fn is_double(self) -> bool
+        ensures { result ≡ is_double (segment_ref_model self.entry) }
+    {
+        matches!(self, SegmentRef::DoubleStar)
+    }
+
+    /// Whether it is a double star or has a star.
+    pub(crate) fn is_wide(self) -> bool
+        ensures { result ≡ is_wide (segment_ref_model self.entry) }
+    {
+        match self {
+            SegmentRef::Plain(tokens) => tokens.has_star(),
+            SegmentRef::DoubleStar => true,
+        }
+    }
+}
+
+pub(crate) fn are_two_stars(bytes: &[u8]) -> bool
+    ensures { result ≡ is_double_star (map byte_token bytes.now) }
+{
+    match bytes {
+        [b'*', b'*'] => true,
+        _ => false,
+    }
+}
+
+/// Segments of a pattern that are left to match.
+#[derive(Clone, Copy)]
+pub(crate) enum SegmentsRef<'p> {
+    /// Those of a simple pattern.
+    Bytes(SegmentsLeft<'p>),
+    /// The same where each is literals alone or a double star.
+    Literals(SegmentsLeft<'p>),
+    /// The same where each is literals alone.
+    Exact(SegmentsLeft<'p>),
+    /// As they were read.
+    Read(&'p [Segment]),
+}
+
+impl<'p> SegmentsRef<'p> {
+    /// Whether none is left.
+    pub(crate) fn is_empty(self) -> bool
+        ensures { IsTrue result ↔ (segments_ref_model self.entry ≡ []) }
+    {
+        match self {
+            SegmentsRef::Bytes(left) => left.is_over(),
+            SegmentsRef::Literals(left) => left.is_over(),
+            SegmentsRef::Exact(left) => left.is_over(),
+            SegmentsRef::Read(segments) => segments.is_empty(),
+        }
+    }
+
+    /// The first segment, and the others.
+    pub(crate) fn split_first(self) -> Option<(SegmentRef<'p>, SegmentsRef<'p>)>
+        ensures { MatchOption result (segments_ref_model self.entry ≡ [])
+            (λ p. segments_ref_model self.entry ≡ segment_ref_model p.0 ∷ segments_ref_model p.1) }
+    {
+        match self {
+            SegmentsRef::Bytes(left) => {
+                let (bytes, others) = left.split_first()?;
+                Some((SegmentRef::of_bytes(bytes), SegmentsRef::Bytes(others)))
+            }
+            SegmentsRef::Literals(left) => {
+                let (bytes, others) = left.split_first()?;
+                Some((
+                    SegmentRef::of_literals(bytes),
+                    SegmentsRef::Literals(others),
+                ))
+            }
+            SegmentsRef::Exact(left) => {
+                let (bytes, others) = left.split_first()?;
+                let segment = SegmentRef::Plain(TokensRef::Literal(bytes));
+                Some((segment, SegmentsRef::Exact(others)))
+            }
+            SegmentsRef::Read(segments) => {
+                let (segment, others) = segments.split_first()?;
+                Some((segment.as_ref(), SegmentsRef::Read(others)))
+            }
+        }
+    }
+
+    /// The last segment, and the others.
+    pub(crate) fn split_last(self) -> Option<(SegmentRef<'p>, SegmentsRef<'p>)>
+        ensures { MatchOption result (segments_ref_model self.entry ≡ [])
+            (λ p. segments_ref_model self.entry ≡ segments_ref_model p.1 ++ segment_ref_model p.0 ∷ []) }
+    {
+        match self {
+            SegmentsRef::Bytes(left) => {
+                let (others, bytes) = left.split_last()?;
+                Some((SegmentRef::of_bytes(bytes), SegmentsRef::Bytes(others)))
+            }
+            SegmentsRef::Literals(left) => {
+                let (others, bytes) = left.split_last()?;
+                Some((
+                    SegmentRef::of_literals(bytes),
+                    SegmentsRef::Literals(others),
+                ))
+            }
+            SegmentsRef::Exact(left) => {
+                let (others, bytes) = left.split_last()?;
+                let segment = SegmentRef::Plain(TokensRef::Literal(bytes));
+                Some((segment, SegmentsRef::Exact(others)))
+            }
+            SegmentsRef::Read(segments) => {
+                let (segment, others) = segments.split_last()?;
+                Some((segment.as_ref(), SegmentsRef::Read(others)))
+            }
+        }
+    }
+}

@@ -1,0 +1,260 @@
+//! Simple patterns, which are matched from their bytes: each byte is a token or a separator, since none is quoted and none opens a
+//! bracket. Most patterns are simple.
+
+ghost use Rattle.std.specs.Prelude.{◌≡◌, true, if◌then◌else◌, length, map, nat_lt, false, Bool, MatchOption, [], ◌∷◌, ◌≤◌, ◌+◌, ◌↔◌, IsTrue};
+ghost use Rattle.std.specs.List.{list_all};
+ghost use Rattle.lc_glob.specs.Costs.{full_cost};
+ghost use Rattle.lc_glob.specs.Matches.{Matches, MatchesPath};
+ghost use Rattle.lc_glob.specs.Path.{segments_of};
+ghost use Rattle.lc_glob.specs.Patterns.{plain};
+ghost use Rattle.lc_glob.specs.Reading.{begins_empty, ends_empty, pattern_of, some_empty, without_first, without_last};
+ghost use Rattle.lc_glob.specs.Simple.{byte_parts, byte_token, bytes_segment, exact_segment, is_literal, is_literal_segment, is_simple};
+ghost use Rattle.lc_glob.specs.Views.{form_model, live_model, simple_model};
+
+use crate::candidate::Candidate;
+use crate::cut::cut_at_first;
+use crate::match_path::matches_path;
+use crate::match_segment::{fits_bytes, fits_literals, fits_suffix};
+use crate::path_segment::ByteTests;
+use crate::pattern_view::PatternView;
+use crate::segment_ref::{SegmentsRef, are_two_stars};
+use crate::segments_left::SegmentsLeft;
+
+/// What of a path a simple pattern is matched with, and by which tokens.
+#[derive(Clone, Copy)]
+pub(crate) enum Shape {
+    /// Nothing: it is dead, since a segment of it is empty, as in `a//b`.
+    Dead,
+    /// The last segment, by literals alone, as `Makefile`.
+    Literal,
+    /// The last segment, by a star and then literals alone, as `*.o`.
+    Suffix,
+    /// The last segment, by any others, as `core.*`.
+    LastSegment,
+    /// All segments by literals alone, as `/build` and `docs/out`.
+    Exact,
+    /// All segments, each by literals alone where it is no double star, as `a/**/b`.
+    LiteralPath,
+    /// All segments, by any others, as `src/*.o`.
+    WholePath,
+}
+
+/// What is known of a simple pattern beside its bytes, so that it can be matched from them: two bytes.
+#[derive(Clone, Copy)]
+pub struct SimpleForm {
+    pub(crate) is_dir_only: bool,
+    pub(crate) shape: Shape,
+}
+
+/// A simple pattern: its form, and those of its bytes that are kept, without the separators at its ends and, where it is a suffix,
+/// without the star.
+#[derive(Clone, Copy)]
+pub struct SimplePattern<'p> {
+    pub form: SimpleForm,
+    pub bytes: &'p [u8],
+}
+
+impl<'p> SimplePattern<'p> {
+    /// Reads bytes as a simple pattern, perhaps a dead one. It gives `None` where a byte is quoted or opens a bracket, and takes no
+    /// memory.
+    pub(crate) fn read(bytes: &'p [u8]) -> Option<Self>
+        ensures { MatchOption result (list_all is_simple bytes.now ≡ false) (λ p. form_model p.form p.bytes.now ≡ pattern_of bytes.now) }
+    {
+        if are_simple(bytes) {
+            Some(Self::of_simple(bytes))
+        } else {
+            None
+        }
+    }
+
+    fn of_simple(bytes: &'p [u8]) -> Self
+        requires { list_all is_simple bytes.now ≡ true }
+        ensures { form_model result.form result.bytes.now ≡ pattern_of bytes.now }
+    {
+        let (front, is_dir_only) = without_last_separator(bytes);
+        let (segments, leads) = without_first_separator(front);
+        if has_empty(segments) {
+            return Self::new(false, Shape::Dead, &[]);
+        }
+        if leads || has_separator(segments) {
+            return Self::new(is_dir_only, path_shape(segments), segments);
+        }
+        let (shape, kept) = shaped(segments);
+        Self::new(is_dir_only, shape, kept)
+    }
+
+    pub(crate) fn new(is_dir_only: bool, shape: Shape, bytes: &'p [u8]) -> Self
+        ensures { form_model result.form result.bytes.now ≡ simple_model is_dir_only shape bytes.now }
+    {
+        let form = SimpleForm { is_dir_only, shape };
+        SimplePattern { form, bytes }
+    }
+
+    pub(crate) fn view(self) -> PatternView<'p>
+        ensures { result ≡ form_model self.entry.form self.entry.bytes.now }
+    {
+        PatternView::of_shape(self.form.is_dir_only, self.form.shape, self.bytes)
+    }
+
+    /// Whether it matches. No view of it is made, since that would cost more than most matches.
+    #[inline]
+    pub(crate) fn matched(self, path: &Candidate, is_dir: bool, tests: &mut ByteTests) -> bool
+        ensures meaning { IsTrue result ↔ Matches (form_model self.entry.form self.entry.bytes.now) path.now is_dir }
+        ensures cost { tests.new.made
+            ≤ tests.old.made + full_cost (form_model self.entry.form self.entry.bytes.now).segments (segments_of path.now) }
+    {
+        if self.form.is_dir_only && !is_dir {
+            return false;
+        }
+        let bytes = self.bytes;
+        match self.form.shape {
+            Shape::Dead => false,
+            Shape::Literal => fits_literals(bytes, path.last, tests),
+            Shape::Suffix => fits_suffix(bytes, path.last, tests),
+            Shape::LastSegment => fits_bytes(bytes, path.last, tests),
+            Shape::Exact => matches_exactly(bytes, path, tests),
+            Shape::LiteralPath => {
+                matches_path(SegmentsRef::Literals(SegmentsLeft::of(bytes)), path, tests)
+            }
+            Shape::WholePath => {
+                matches_path(SegmentsRef::Bytes(SegmentsLeft::of(bytes)), path, tests)
+            }
+        }
+    }
+}
+
+/// Whether segments of literals alone match a path: it has the same bytes.
+#[inline]
+fn matches_exactly(bytes: &[u8], path: &Candidate, tests: &mut ByteTests) -> bool
+    ensures same { IsTrue result ↔ MatchesPath (map exact_segment (segments_of bytes.now)) (segments_of path.now) }
+    ensures cost { tests.new.made ≤ tests.old.made + full_cost (map exact_segment (segments_of bytes.now)) (segments_of path.now) }
+{
+    path.is(bytes, tests)
+}
+
+/// Whether no byte is quoted, and none opens a bracket.
+fn are_simple(bytes: &[u8]) -> bool
+    ensures { result ≡ list_all is_simple bytes.now }
+{
+    bytes.iter().all(|b| is_simple(*b))
+}
+
+fn is_simple(b: u8) -> bool
+    ensures { result ≡ is_simple b }
+{
+    b != b'\\' && b != b'['
+}
+
+/// The bytes without the separator that is last, and whether it was there.
+fn without_last_separator<'p>(bytes: &'p [u8]) -> (&'p [u8], bool)
+    ensures ends { result.1 ≡ ends_empty (byte_parts bytes.now) }
+    ensures parts { byte_parts result.0.now
+        ≡ (if ends_empty (byte_parts bytes.now) then without_last (byte_parts bytes.now) else byte_parts bytes.now) }
+{
+    let Some((last, front)) = bytes.split_last() else {
+        return (bytes, false);
+    };
+    if *last == b'/' {
+        (front, true)
+    } else {
+        (bytes, false)
+    }
+}
+
+/// The bytes without the separator that is first, and whether it was there.
+fn without_first_separator<'p>(bytes: &'p [u8]) -> (&'p [u8], bool)
+    ensures begins { result.1 ≡ begins_empty (byte_parts bytes.now) }
+    ensures parts { byte_parts result.0.now
+        ≡ (if begins_empty (byte_parts bytes.now) then without_first (byte_parts bytes.now) else byte_parts bytes.now) }
+{
+    let Some((first, rest)) = bytes.split_first() else {
+        return (bytes, false);
+    };
+    if *first == b'/' {
+        (rest, true)
+    } else {
+        (bytes, false)
+    }
+}
+
+/// Whether a segment is empty, which makes the pattern dead.
+fn has_empty(bytes: &[u8]) -> bool
+    ensures { result ≡ some_empty (byte_parts bytes.now) }
+{
+    let mut left = SegmentsLeft::of(bytes);
+    'segments: while let Some((segment, others)) = left.split_first() {
+        if segment.is_empty() {
+            return true;
+        }
+        left = others;
+    }
+    false
+}
+
+fn has_separator(bytes: &[u8]) -> bool
+    ensures { result ≡ nat_lt 1 (length (byte_parts bytes.now)) }
+{
+    let (_, after) = cut_at_first(b'/', bytes);
+    match after {
+        None => false,
+        Some(_) => true,
+    }
+}
+
+/// Whether each segment is literals alone or a double star.
+fn has_literal_segments(bytes: &[u8]) -> bool
+    ensures { result ≡ list_all is_literal_segment (segments_of bytes.now) }
+{
+    let mut left = SegmentsLeft::of(bytes);
+    'segments: while let Some((segment, others)) = left.split_first() {
+        if !are_two_stars(segment) && !are_literals(segment) {
+            return false;
+        }
+        left = others;
+    }
+    true
+}
+
+/// The shape of the bytes of all segments.
+fn path_shape(bytes: &[u8]) -> Shape
+    ensures { (is_dir_only : Bool) → simple_model is_dir_only result bytes.now
+        ≡ live_model is_dir_only true (map bytes_segment (segments_of bytes.now)) }
+{
+    if are_literals(bytes) {
+        Shape::Exact
+    } else if has_literal_segments(bytes) {
+        Shape::LiteralPath
+    } else {
+        Shape::WholePath
+    }
+}
+
+/// The shape of the bytes of the one segment, and those of them that it keeps.
+fn shaped<'p>(bytes: &'p [u8]) -> (Shape, &'p [u8])
+    ensures { (is_dir_only : Bool) → simple_model is_dir_only result.0 result.1.now
+        ≡ live_model is_dir_only false (plain (map byte_token bytes.now) ∷ []) }
+{
+    if are_literals(bytes) {
+        return (Shape::Literal, bytes);
+    }
+    let Some((first, rest)) = bytes.split_first() else {
+        return (Shape::LastSegment, bytes);
+    };
+    if *first == b'*' && are_literals(rest) {
+        (Shape::Suffix, rest)
+    } else {
+        (Shape::LastSegment, bytes)
+    }
+}
+
+fn are_literals(bytes: &[u8]) -> bool
+    ensures { result ≡ list_all is_literal bytes.now }
+{
+    bytes.iter().all(|b| is_literal(*b))
+}
+
+fn is_literal(b: u8) -> bool
+    ensures { result ≡ is_literal b }
+{
+    b != b'*' && b != b'?'
+}
