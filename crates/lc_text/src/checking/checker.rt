@@ -17,6 +17,9 @@ use memchr::memchr;
 /// Of so many names of which nothing is known, the directories are asked about one by one even where a rule searches.
 const FEW_NAMES: usize = 2;
 
+/// And of so many where none does: of more, most rules tell all at once sooner than one after another.
+const SOME_NAMES: usize = 8;
+
 /// How many bytes two paths share at their front.
 fn shared_len(one: &[u8], other: &[u8]) -> usize
     ensures within_one { result ≤ length one.now }
@@ -96,8 +99,8 @@ pub(crate) struct Checker<'a> {
     rules: &'a IgnoreFile,
     directory: &'a [u8],
     excluded_by: Option<&'a Rule>,
-    /// Whether some rule searches.
-    searches: bool,
+    /// Of so many names of which nothing is known, the directories are asked about one by one.
+    few_names: usize,
     // no directory above this one is ignored, and the rule is the one that ignores this one
     ghost clear: { (k : ℕ) → k < length directory.now → is_ignored_parent (file_verdict rules.now) directory.now k ≡ false },
     ghost told: { 0 < length directory.now → option_map (λ r. r.now) excluded_by ≡ ignoring_rule rules.now directory.now },
@@ -112,7 +115,11 @@ impl<'a> Checker<'a> {
             rules,
             directory: &[],
             excluded_by: None,
-            searches: rules.searches(),
+            few_names: if rules.searches() {
+                FEW_NAMES
+            } else {
+                SOME_NAMES
+            },
         }
     }
 
@@ -127,7 +134,7 @@ impl<'a> Checker<'a> {
         let Some(known) = self.clear_len(path) else {
             return found_below(self.rules, self.excluded_by, path, is_dir);
         };
-        if self.searches && depth_of(&path[known..]) > FEW_NAMES {
+        if depth_of(&path[known..]) > self.few_names {
             return self.find_at_once(path, is_dir, known);
         }
         let above = self.ignoring_from(path, known, None, 0);
@@ -194,7 +201,7 @@ impl<'a> Checker<'a> {
                 rules: self.rules,
                 directory: &path[..at + len],
                 excluded_by,
-                searches: self.searches,
+                few_names: self.few_names,
             };
             if excluded_by.is_some() {
                 return excluded_by;
