@@ -8,6 +8,8 @@ use Rattle.std.proofs.Math.Nat.{mul-le-mul_right}
 use Rattle.lc_glob.proofs.Fitting.{fits_one, fits_one_empty, when_one}
 use Rattle.lc_glob.proofs.After.{Later, later_after, after_split, after_join, after_after, after_drop}
 use Rattle.lc_glob.specs.declared.place.Place.{Place}
+use Rattle.lc_glob.specs.declared.place.FrontStep.TheVariants as front
+use Rattle.lc_glob.specs.Steps.{FrontStepIs, RetryIs}
 
 -- what comes after a byte that is taken
 star_drop : (us : List TokenModel) (u : TokenModel) (x : ℕ) (xs : List ℕ) → is_star u ≡ false → Fits (star ∷ u ∷ us) (x ∷ xs)
@@ -110,3 +112,66 @@ length_end bytes before x e = ap length e ∙ length-append before (x ∷ [])
 -- a step from the end costs no more than what is left
 pub paid_end : (h b n m t s all : ℕ) → h ≡ b + 1 → n ≡ m + 1 → s ≤ t + 1 → t + (h + 1) * (n + 1) ≤ all → s + (b + 1) * (m + 1) ≤ all
 paid_end h b n m t s all hb nm st paid = omega (arith, rw (hb, nm) at paid)
+
+module _ {T : Type 0} (tokens_in : T → List TokenModel) where
+  -- what holds between two steps from the front: the tokens here fit, or those after the star do later, just where the tokens of the
+  -- whole fit; and the tests that were made, with those that may still be, are no more than were allowed
+  abbrev pub StepsHold : Place T → Place T → Option (Place T) → ℕ → ℕ → Type 0
+  StepsHold all here back made before = record {
+    same : Fits (tokens_in all.tokens) all.segment.bytes.now ↔ (Fits (tokens_in here.tokens) here.segment.bytes.now ⊎ LaterOf tokens_in back);
+    covers : Covers tokens_in back (tokens_in here.tokens) here.segment.bytes.now;
+    here_within : length (tokens_in here.tokens) ≤ length (tokens_in all.tokens);
+    star_within : IsWithin tokens_in back (length (tokens_in all.tokens));
+    left_within : length here.segment.bytes.now ≤ span tokens_in back (length all.segment.bytes.now);
+    cost : made + (span tokens_in back (length all.segment.bytes.now) * (length (tokens_in all.tokens) + 1) + length (tokens_in here.tokens))
+        ≤ before + (length all.segment.bytes.now * (length (tokens_in all.tokens) + 1) + length (tokens_in all.tokens));
+  }
+
+  -- after a star, which becomes the place to go back to
+  pub hold_after_star : (all here next : Place T) (back : Option (Place T)) (m made before : ℕ)
+      → FrontStepIs tokens_in (front.Star next.tokens) (tokens_in here.tokens) here.segment.bytes.now → next.segment ≡ here.segment
+      → made ≤ m + 1 → StepsHold all here back m before → StepsHold all next (Some next) made before
+  hold_after_star all here next back m made before is e paid inv =
+      let len = shorter _ _ _ is.1 in
+      let segment_len = ap (λ s. length s.bytes.now) e in
+      record {
+        same = subst (λ s. Fits (tokens_in all.tokens) all.segment.bytes.now ↔ (Fits (tokens_in next.tokens) s.bytes.now ⊎ Later (Fits (tokens_in next.tokens)) s.bytes.now)) (sym e)
+            (at_star tokens_in _ _ _ _ _ _ is.1 is.2 inv.covers inv.same);
+        covers = λ f. f;
+        here_within = omega (arith, len, inv.here_within);
+        star_within = omega (arith, len, inv.here_within);
+        left_within = omega arith;
+        cost = paid_forward _ _ _ _ _ _ _ _ (omega (arith, inv.left_within, segment_len)) (omega (arith, len)) paid inv.cost;
+      }
+
+  -- after a byte that is taken
+  pub hold_after_byte : (all here next : Place T) (back : Option (Place T)) (m made before : ℕ)
+      → FrontStepIs tokens_in (front.Taken next) (tokens_in here.tokens) here.segment.bytes.now
+      → made ≤ m + 1 → StepsHold all here back m before → StepsHold all next back made before
+  hold_after_byte all here next back m made before is paid inv =
+      let len = shorter _ _ _ is.2 in
+      let left_len = ap length is.3 in
+      record {
+        same = at_byte tokens_in _ _ _ _ _ _ _ _ is.2 is.3 is.4 is.5 inv.same;
+        covers = covers_byte tokens_in _ _ _ _ _ _ _ is.2 is.3 is.4 inv.covers;
+        here_within = omega (arith, len, inv.here_within);
+        star_within = inv.star_within;
+        left_within = omega (arith, left_len, inv.left_within);
+        cost = paid_forward _ _ _ _ _ _ _ _ (omega arith) (omega (arith, len)) paid inv.cost;
+      }
+
+  -- after the way back
+  pub hold_after_retry : (all here back next : Place T) (m made before : ℕ)
+      → (Fits (tokens_in here.tokens) here.segment.bytes.now → ⊥) → RetryIs back (Some next)
+      → made ≤ m + 1 → StepsHold all here (Some back) m before → StepsHold all next (Some next) made before
+  hold_after_retry all here back next m made before never is paid inv =
+      let len = ap length is.1 in
+      let tokens_len = ap (λ t. length (tokens_in t)) is.2 in
+      record {
+        same = at_back _ _ _ _ _ _ _ is.1 (ap tokens_in is.2) never inv.same;
+        covers = λ f. f;
+        here_within = omega (arith, inv.star_within, tokens_len);
+        star_within = omega (arith, inv.star_within, tokens_len);
+        left_within = omega arith;
+        cost = paid_back _ _ _ _ _ _ _ _ (omega (arith, len)) (omega (arith, inv.star_within, tokens_len)) paid inv.cost;
+      }

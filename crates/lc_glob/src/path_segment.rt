@@ -95,27 +95,41 @@ impl<'a> PathSegment<'a> {
     }
 
     /// Whether its bytes are these literals: a test for each, where there are as many.
+    #[inline]
     pub(crate) fn is(self, literals: &[u8], tests: &mut ByteTests) -> bool
         ensures same { result ≡ bytes_eq self.entry.bytes.now literals.now }
         ensures counted { tests.new.made ≡ tests_if (length self.entry.bytes.now == length literals.now) tests.old.made
             (length literals.now) }
     {
-        if self.bytes.len() != literals.len() {
-            return false;
-        }
+        self.bytes.len() == literals.len() && self.is_all(literals, tests)
+    }
+
+    /// The same, with a test for each literal in any case.
+    #[inline(never)]
+    fn is_all(self, literals: &[u8], tests: &mut ByteTests) -> bool
+        ensures same { result ≡ bytes_eq self.entry.bytes.now literals.now }
+        ensures counted { tests.new.made ≡ tests_after tests.old.made (length literals.now) }
+    {
         tests.add(literals.len());
         self.bytes == literals
     }
 
     /// Whether its bytes end with these literals: a test for each, where there are enough.
+    #[inline]
     pub(crate) fn ends_with(self, literals: &[u8], tests: &mut ByteTests) -> bool
         ensures ends { result ≡ ends_with nat_eq self.entry.bytes.now literals.now }
         ensures counted { tests.new.made ≡ tests_if (nat_le (length literals.now) (length self.entry.bytes.now)) tests.old.made
             (length literals.now) }
     {
-        if self.bytes.len() < literals.len() {
-            return false;
-        }
+        literals.len() <= self.bytes.len() && self.ends_with_all(literals, tests)
+    }
+
+    /// The same, with a test for each literal in any case.
+    #[inline(never)]
+    fn ends_with_all(self, literals: &[u8], tests: &mut ByteTests) -> bool
+        ensures ends { result ≡ ends_with nat_eq self.entry.bytes.now literals.now }
+        ensures counted { tests.new.made ≡ tests_after tests.old.made (length literals.now) }
+    {
         tests.add(literals.len());
         self.bytes.ends_with(literals)
     }

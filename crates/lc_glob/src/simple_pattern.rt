@@ -96,9 +96,29 @@ impl<'p> SimplePattern<'p> {
         PatternView::of_shape(self.form.is_dir_only, self.form.shape, self.bytes)
     }
 
-    /// Whether it matches. No view of it is made, since that would cost more than most matches.
+    /// Whether it matches. The two most usual shapes are matched where it is called, so that most patterns aren't handed on in memory,
+    /// and no view of it is made: either would cost more than most matches.
     #[inline]
     pub(crate) fn matched(self, path: &Candidate, is_dir: bool, tests: &mut ByteTests) -> bool
+        ensures meaning { IsTrue result ↔ Matches (form_model self.entry.form self.entry.bytes.now) path.now is_dir }
+        ensures cost { tests.new.made
+            ≤ tests.old.made + full_cost (form_model self.entry.form self.entry.bytes.now).segments (segments_of path.now) }
+    {
+        if self.form.is_dir_only && !is_dir {
+            return false;
+        }
+        if let Shape::Literal = self.form.shape {
+            return fits_literals(self.bytes, path.last, tests);
+        }
+        if let Shape::Suffix = self.form.shape {
+            return fits_suffix(self.bytes, path.last, tests);
+        }
+        self.matched_by_shape(path, is_dir, tests)
+    }
+
+    /// The same, whatever the shape.
+    #[inline(never)]
+    fn matched_by_shape(self, path: &Candidate, is_dir: bool, tests: &mut ByteTests) -> bool
         ensures meaning { IsTrue result ↔ Matches (form_model self.entry.form self.entry.bytes.now) path.now is_dir }
         ensures cost { tests.new.made
             ≤ tests.old.made + full_cost (form_model self.entry.form self.entry.bytes.now).segments (segments_of path.now) }

@@ -1,51 +1,20 @@
-use Rattle.std.proofs.Common.{ap, arith, length}
+use Rattle.std.proofs.Common.{refl}
 use Rattle.lc_glob.specs.Views.{left_model}
-use Rattle.lc_glob.proofs.Stepping.{at_star, at_byte, at_back, covers_byte, shorter, paid_forward, paid_back}
+use Rattle.lc_glob.proofs.Stepping.{hold_after_star, hold_after_byte, hold_after_retry}
 use Rattle.lc_glob.proofs.match_mixed.Place+MixedLeft.fits_from_front.Goals as goal
 
 pub steps-preserved-in-Star : goal.steps-preserved-in-Star
 steps-preserved-in-Star c =
-    let inv = c.steps.invariant in
-    let is = c.in-Star.ensures.is in
-    let len = shorter _ _ _ is.1 in
-    record {
-      same = at_star left_model _ _ _ _ _ _ is.1 is.2 inv.covers inv.same;
-      covers = λ f. f;
-      here_within = omega (arith, len);
-      star_within = omega (arith, len);
-      left_within = omega arith;
-      cost = paid_forward _ _ _ _ _ _ _ _ inv.left_within (omega (arith, len)) c.in-Star.ensures.cost inv.cost;
-    }
+    let here = c.steps.here in
+    hold_after_star left_model c.args.self here record { tokens = c.in-Star.tokens; segment = here.segment } c.steps.star _ _ _
+    c.in-Star.ensures.is refl c.in-Star.ensures.cost c.steps.invariant
 
 pub steps-preserved-in-Taken : goal.steps-preserved-in-Taken
 steps-preserved-in-Taken c =
-    let inv = c.steps.invariant in
-    let is = c.in-Taken.ensures.is in
-    let len = shorter _ _ _ is.2 in
-    let left_len = ap length is.3 in
-    record {
-      same = at_byte left_model _ _ _ _ _ _ _ _ is.2 is.3 is.4 is.5 inv.same;
-      covers = covers_byte left_model _ _ _ _ _ _ _ is.2 is.3 is.4 inv.covers;
-      here_within = omega (arith, len);
-      star_within = inv.star_within;
-      left_within = omega (arith, left_len);
-      cost = paid_forward _ _ _ _ _ _ _ _ (omega arith) (omega (arith, len)) c.in-Taken.ensures.cost inv.cost;
-    }
+    hold_after_byte left_model c.args.self c.steps.here c.in-Taken.after c.steps.star _ _ _ c.in-Taken.ensures.is c.in-Taken.ensures.cost c.steps.invariant
 
 pub steps-preserved : goal.steps-preserved
 steps-preserved c =
-    let inv = c.steps.invariant in
-    let same = rw c.in-Some.is at inv.same in
-    let within = rw c.in-Some.is at inv.star_within in
-    let cost = rw c.in-Some.is at inv.cost in
-    let next = c.in-Some-retry.ensures in
-    let len = ap length next.1 in
-    let tokens_len = ap (λ t. length (left_model t)) next.2 in
-    record {
-      same = at_back _ _ _ _ _ _ _ next.1 (ap left_model next.2) c.in-Stuck.ensures.is same;
-      covers = λ f. f;
-      here_within = omega (arith, within, tokens_len);
-      star_within = omega (arith, within, tokens_len);
-      left_within = omega arith;
-      cost = paid_back _ _ _ _ _ _ _ _ (omega (arith, len)) (omega (arith, within, tokens_len)) c.in-Stuck.ensures.cost cost;
-    }
+    let inv = rw c.in-Some.is at c.steps.invariant in
+    let next = c.in-Some-retry.next in
+    hold_after_retry left_model c.args.self c.steps.here c.in-Some.back next _ _ _ c.in-Stuck.ensures.is c.in-Some-retry.ensures c.in-Stuck.ensures.cost inv
