@@ -5,7 +5,7 @@ import re
 
 TOP = pathlib.Path(__file__).resolve().parent.parent
 # The head of an impl or of a trait, whose type parameters have bounds with arguments of their own: which of both it is, and of what.
-OWNER = r"^(?:pub )?(trait|impl)\b(?:<(?:[^<>]|<[^<>]*>)*>)?\s*([^{]*)"
+OWNER = r"^(?:pub(?:\(crate\))? )?(trait|impl)\b(?:<(?:[^<>]|<[^<>]*>)*>)?\s*([^{]*)"
 
 
 def crates():

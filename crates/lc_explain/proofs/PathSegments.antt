@@ -9,7 +9,7 @@ use Rattle.std.proofs.lemmas.List.Folds.{list_all-append}
 use Rattle.std.proofs.lemmas.List.Splits.{slice_split-cons_yes, slice_split-cons_no}
 use Rattle.std.proofs.Math.Seq.{take-append_seam}
 use Rattle.lc_glob.specs.Bytes.{slash}
-use Rattle.lc_glob.proofs.Naming.{some_segment}
+use Rattle.lc_glob.proofs.Naming.{some_part}
 use Rattle.lc_glob.specs.Pieces.{pieces_of, pieces_left}
 use Rattle.lc_glob.specs.Path.{path_in, segments_of, is_good_name, is_good_path, max_path}
 use Rattle.lc_text.specs.PathLines.{is_bad_path}
@@ -27,7 +27,7 @@ has_first_of (p ∷ ps) some = record { first = p; others = ps; are = refl }
 
 -- each text has a first segment
 pub has_first : (bytes : List ℕ) → HasFirst (segments_of bytes)
-has_first bytes = has_first_of (segments_of bytes) (some_segment bytes)
+has_first bytes = has_first_of (segments_of bytes) (some_part (λ (b : ℕ). nat_eq b 47) bytes)
 
 onto_first-append : (x : ℕ) (ps qs : List (List ℕ)) → (ps ≡ [] → ⊥) → onto_first x (ps ++ qs) ≡ onto_first x ps ++ qs
 onto_first-append x [] qs some = absurd (some refl)
@@ -45,7 +45,7 @@ cut_at_slash (x ∷ xs) ys = at (nat_eq x 47) refl (cut_at_slash xs ys)
         ∙ ap (λ (l : List (List ℕ)). l ++ segments_of ys) (sym (slice_split-cons_yes (λ (b : ℕ). nat_eq b 47) x xs s))
     at false s before =
         slice_split-cons_no (λ (b : ℕ). nat_eq b 47) x (xs ++ slash ∷ ys) s ∙ ap (onto_first x) before
-        ∙ onto_first-append x (segments_of xs) (segments_of ys) (some_segment xs)
+        ∙ onto_first-append x (segments_of xs) (segments_of ys) (some_part (λ (b : ℕ). nat_eq b 47) xs)
         ∙ ap (λ (l : List (List ℕ)). l ++ segments_of ys) (sym (slice_split-cons_no (λ (b : ℕ). nat_eq b 47) x xs s))
 
 -- the segments of a path are the names of its directory and what is left

@@ -1,5 +1,5 @@
 -- How tokens fit a segment of a path, from its front and from its end.
-use Rattle.std.proofs.Common.{take, ◌-◌, map, length, nat_eq, bytes_eq, eq-eqb, ◌∙◌, ◌≡◌, ◌↔◌, ◌⊎◌, IsTrue, IsFalse, ℕ, false}
+use Rattle.std.proofs.Common.{take, ◌-◌, map, length, nat_eq, bytes_eq, eq-eqb, ◌∙◌, ◌≡◌, ◌↔◌, ◌⊎◌, IsTrue, IsFalse, ℕ, Bool, true, false, arith}
 use Rattle.std.proofs.Common.{List, [], ◌∷◌, ◌++◌, inl, inr, refl, sym, subst, ap}
 use Rattle.std.specs.List.{ends_with}
 use Rattle.std.proofs.lemmas.Bool.{false≢true, eqb-true}
@@ -7,6 +7,7 @@ use Rattle.std.proofs.lemmas.Bool.Decides.{Decides-eqb}
 use Rattle.std.proofs.lemmas.Slice.Eq.{bytes_eq-Decides, ends_is}
 use Rattle.lc_glob.specs.Tokens.{TokenModel, literal, any_byte, star, class, takes, is_star}
 use Rattle.lc_glob.specs.Fits.{Fits}
+use Rattle.lc_glob.specs.Simple.{end_tokens}
 use Rattle.lc_glob.proofs.After.{after_empty, after_end}
 
 -- a token that is no star fits no empty name
@@ -118,3 +119,22 @@ suffix_decides ls bytes =
       λ t. (take (length bytes - length ls) bytes, ls, ends.0 t, (fits_literals ls ls).1 refl),
       λ f. ends.1 f.0 (f.2 ∙ ap (λ (l : List ℕ). f.0 ++ l) ((fits_literals ls f.1).0 f.3)),
     )
+
+-- literals fit as many bytes where these end with them
+pub whole_decides : (ls bytes : List ℕ) → length bytes ≡ length ls → IsTrue (ends_with nat_eq bytes ls) ↔ Fits (map literal ls) bytes
+whole_decides ls bytes e =
+    let ends = ends_is Decides-eqb bytes ls (ends_with nat_eq bytes ls) refl in
+    let fits = fits_literals ls bytes in
+    let none : length bytes - length ls ≡ 0 = omega (arith, e) in (
+      λ t. fits.1 (ends.0 t ∙ ap (λ (n : ℕ). take n bytes ++ ls) none),
+      λ f. ends.1 [] (fits.0 f),
+    )
+
+-- and no other number of bytes
+pub fits_as_many : (ls bytes : List ℕ) → Fits (map literal ls) bytes → length bytes ≡ length ls
+fits_as_many ls bytes f = ap length ((fits_literals ls bytes).0 f)
+
+pub ends_decide : (is_alone : Bool) (ls bytes : List ℕ) → (is_alone ≡ true → length bytes ≡ length ls)
+    → IsTrue (ends_with nat_eq bytes ls) ↔ Fits (end_tokens is_alone ls) bytes
+ends_decide true ls bytes e = whole_decides ls bytes (e refl)
+ends_decide false ls bytes e = suffix_decides ls bytes

@@ -7,13 +7,13 @@ pub mod Cost
 pub mod Striding
 pub mod Items
 pub mod Parts
+pub mod Lexemes
 pub mod Fronts
 pub mod Bounds
 pub mod Matching
 pub mod Ends
 pub mod Leading
 pub mod Sizing
-pub mod Masks
 pub mod Mixed
 pub mod Above
 pub mod SimpleBytes

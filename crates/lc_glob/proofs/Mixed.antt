@@ -1,152 +1,111 @@
--- Tokens as they are kept, and the sets of their brackets.
-use Rattle.std.proofs.Common.{◌≡◌, ◌+◌, ℕ, suc, false, not, nat_eq, List, [], ◌∷◌, ◌++◌, length, map, Some, None, if◌then◌else◌}
-use Rattle.std.proofs.Common.{refl, sym, ◌∙◌, ap, arith, length-append}
-use Rattle.std.proofs.lemmas.List.{append-nil}
+-- Tokens as they are kept, with the ranges of brackets among them.
+use Rattle.std.proofs.Common.{◌≡◌, ◌+◌, ℕ, Bool, true, false, List, [], ◌∷◌, ◌++◌, length, map, if◌then◌else◌}
+use Rattle.std.proofs.Common.{refl, sym, ◌∙◌, ap, ap₂, subst, arith, append_assoc, take, drop, ◌-◌}
+use Rattle.std.proofs.lemmas.List.Elements.{All-nil, All-cons}
 use Rattle.std.proofs.lemmas.List.Recursion.{is_count_by}
-use Rattle.std.proofs.lemmas.Bool.{false_from_ne_true, eqb-true}
-use Rattle.std.specs.List.{count_by}
+use Rattle.std.specs.List.{All, count_by}
+use Rattle.lc_glob.proofs.Naming.{left_off}
 use Rattle.lc_glob.specs.Lengths.{least_bytes}
-use Rattle.lc_glob.specs.Lists.{is_empty}
-use Rattle.lc_glob.specs.Reading.{is_double_star}
-use Rattle.lc_glob.specs.Tokens.{TokenModel, literal, any_byte, star}
-use Rattle.lc_glob.specs.Mixed.{set_model, plain_model, is_star_token, brackets_among, mixed_model, literal_tokens}
-use Rattle.lc_glob.specs.declared.byte_set.ByteSet.{ByteSet}
+use Rattle.lc_glob.specs.Tokens.{TokenModel, literal, any_byte, star, class}
+use Rattle.lc_glob.specs.Mixed.{ranges_first, mixed_model, is_separator, is_for_byte, literal_tokens, range_tokens}
 use Rattle.lc_glob.specs.declared.token.Token.{Token}
-use Rattle.lc_glob.specs.declared.token.Token.TheVariants.{Literal, AnyByte, Star, Class}
+use Rattle.lc_glob.specs.declared.token.Token.TheVariants.{Literal, AnyByte, Star, Open, Range, Separator}
 
--- tokens and then others, where the first have their sets
-mixed_append : (ts us : List Token) (ss rs : List ByteSet) → brackets_among ts ≡ length ss
-    → mixed_model (ts ++ us) (ss ++ rs) ≡ mixed_model ts ss ++ mixed_model us rs
-mixed_append [] us [] rs e = refl
-mixed_append [] us (s ∷ ss) rs e = absurd (omega (arith, e))
-mixed_append (Literal c ∷ ts) us ss rs e = ap (λ (l : List TokenModel). literal c ∷ l) (mixed_append ts us ss rs e)
-mixed_append (AnyByte ∷ ts) us ss rs e = ap (λ (l : List TokenModel). any_byte ∷ l) (mixed_append ts us ss rs e)
-mixed_append (Star ∷ ts) us ss rs e = ap (λ (l : List TokenModel). star ∷ l) (mixed_append ts us ss rs e)
-mixed_append (Class ∷ ts) us [] rs e = absurd (omega (arith, e))
-mixed_append (Class ∷ ts) us (s ∷ ss) rs e =
-    ap (λ (l : List TokenModel). set_model s ∷ l) (mixed_append ts us ss rs (omega (arith, e)))
+abbrev pub is_range : Token → Bool
+is_range (Literal c) = false
+is_range AnyByte = false
+is_range Star = false
+is_range (Open n) = false
+is_range (Range f l) = true
+is_range Separator = false
 
-brackets_append : (ts us : List Token) → brackets_among (ts ++ us) ≡ brackets_among ts + brackets_among us
-brackets_append [] us = omega arith
-brackets_append (Literal c ∷ ts) us = brackets_append ts us
-brackets_append (AnyByte ∷ ts) us = brackets_append ts us
-brackets_append (Star ∷ ts) us = brackets_append ts us
-brackets_append (Class ∷ ts) us = omega (arith, brackets_append ts us)
+-- what comes after a token that is no range adds none to the ranges before it
+ranges_end : (xs : List Token) (t : Token) (after : List Token) → is_range t ≡ false → ranges_first (xs ++ t ∷ after) ≡ ranges_first xs
+ranges_end [] (Literal c) after e = refl
+ranges_end [] AnyByte after e = refl
+ranges_end [] Star after e = refl
+ranges_end [] (Open n) after e = refl
+ranges_end [] (Range f l) after e = cc
+ranges_end [] Separator after e = refl
+ranges_end (Literal c ∷ xs) t after e = refl
+ranges_end (AnyByte ∷ xs) t after e = refl
+ranges_end (Star ∷ xs) t after e = refl
+ranges_end (Open n ∷ xs) t after e = refl
+ranges_end (Range f l ∷ xs) t after e = ap (λ (rs : List (ℕ × ℕ)). (f, l) ∷ rs) (ranges_end xs t after e)
+ranges_end (Separator ∷ xs) t after e = refl
 
-plain_needs : (t : Token) (u : TokenModel) → plain_model t ≡ Some u → brackets_among (t ∷ []) ≡ 0
-plain_needs (Literal c) u e = refl
-plain_needs AnyByte u e = refl
-plain_needs Star u e = refl
-plain_needs Class u e = cc
+-- so it changes nothing of what those before it stand for
+pub mixed_before : (xs : List Token) (t : Token) (after : List Token) → is_range t ≡ false
+    → mixed_model (xs ++ t ∷ after) ≡ mixed_model xs ++ mixed_model (t ∷ after)
+mixed_before [] t after e = refl
+mixed_before (Literal c ∷ xs) t after e = ap (λ (l : List TokenModel). literal c ∷ l) (mixed_before xs t after e)
+mixed_before (AnyByte ∷ xs) t after e = ap (λ (l : List TokenModel). any_byte ∷ l) (mixed_before xs t after e)
+mixed_before (Star ∷ xs) t after e = ap (λ (l : List TokenModel). star ∷ l) (mixed_before xs t after e)
+mixed_before (Open n ∷ xs) t after e =
+    ap₂ (λ (rs : List (ℕ × ℕ)) (l : List TokenModel). class n rs ∷ l) (ranges_end xs t after e) (mixed_before xs t after e)
+mixed_before (Range f l ∷ xs) t after e = mixed_before xs t after e
+mixed_before (Separator ∷ xs) t after e = mixed_before xs t after e
 
-class_needs : (t : Token) → plain_model t ≡ None → brackets_among (t ∷ []) ≡ 1
-class_needs (Literal c) e = cc
-class_needs AnyByte e = cc
-class_needs Star e = cc
-class_needs Class e = refl
+longer : (us : List TokenModel) (u : TokenModel) → us ≡ u ∷ us → ⊥
+longer us u e = let len = ap length e in omega (arith, len)
 
--- a last token that is no bracket needs no set
-pub brackets_plain : (all ts : List Token) (t : Token) (u : TokenModel) → all ≡ ts ++ t ∷ [] → plain_model t ≡ Some u
-    → brackets_among all ≡ brackets_among ts
-brackets_plain all ts t u e p = omega (arith, ap brackets_among e, brackets_append ts (t ∷ []), plain_needs t u p)
+no_range : (t : Token) (after : List Token) (u : TokenModel) → mixed_model (t ∷ after) ≡ u ∷ mixed_model after → is_range t ≡ false
+no_range (Literal c) after u e = refl
+no_range AnyByte after u e = refl
+no_range Star after u e = refl
+no_range (Open n) after u e = refl
+no_range (Range f l) after u e = absurd (longer (mixed_model after) u e)
+no_range Separator after u e = refl
 
--- and one that is a bracket needs one more
-pub brackets_class : (all ts : List Token) (t : Token) → all ≡ ts ++ t ∷ [] → plain_model t ≡ None
-    → brackets_among all ≡ suc (brackets_among ts)
-brackets_class all ts t e p = omega (arith, ap brackets_among e, brackets_append ts (t ∷ []), class_needs t p)
+-- the last token that stands for something, where what is after it stands for nothing
+pub mixed_last : (all left before after : List Token) (t : Token) (u : TokenModel) → all ≡ left ++ after → left ≡ before ++ t ∷ []
+    → mixed_model (t ∷ take (length all - length left) (drop (length left) all))
+    ≡ u ∷ mixed_model (take (length all - length left) (drop (length left) all))
+    → mixed_model after ≡ [] → mixed_model all ≡ mixed_model before ++ u ∷ []
+mixed_last all left before after t u e end is none =
+    let rest = left_off all left after e in
+    let is' : mixed_model (t ∷ after) ≡ u ∷ mixed_model after =
+    subst (λ (l : List Token). mixed_model (t ∷ l) ≡ u ∷ mixed_model l) rest is in
+    ap mixed_model (e ∙ ap (λ (l : List Token). l ++ after) end ∙ append_assoc before (t ∷ []) after)
+    ∙ mixed_before before t after (no_range t after u is')
+    ∙ ap (λ (l : List TokenModel). mixed_model before ++ l) (is' ∙ ap (λ (l : List TokenModel). u ∷ l) none)
 
-plain_alone : (t : Token) (u : TokenModel) → plain_model t ≡ Some u → mixed_model (t ∷ []) [] ≡ u ∷ []
-plain_alone (Literal c) u e = cc
-plain_alone AnyByte u e = cc
-plain_alone Star u e = cc
-plain_alone Class u e = cc
+-- ranges by themselves stand for nothing, and none of them separates
+ranges_none : (ranges : List (ℕ × ℕ)) → mixed_model (range_tokens ranges) ≡ []
+ranges_none [] = refl
+ranges_none (r ∷ ranges) = ranges_none ranges
 
-class_alone : (t : Token) (s : ByteSet) → plain_model t ≡ None → mixed_model (t ∷ []) (s ∷ []) ≡ set_model s ∷ []
-class_alone (Literal c) s e = cc
-class_alone AnyByte s e = cc
-class_alone Star s e = cc
-class_alone Class s e = refl
+ranges_all : (ranges : List (ℕ × ℕ)) → ranges_first (range_tokens ranges) ≡ ranges
+ranges_all [] = refl
+ranges_all (r ∷ ranges) = ap (λ (rs : List (ℕ × ℕ)). r ∷ rs) (ranges_all ranges)
 
--- the sets are as many as the brackets after one token more
-pub balanced_more : (all ts : List Token) (sets ss : List ByteSet) (t : Token) → all ≡ ts ++ t ∷ [] → brackets_among ts ≡ length ss
-    → length sets ≡ length ss + brackets_among (t ∷ []) → brackets_among all ≡ length sets
-balanced_more all ts sets ss t e b more = omega (arith, ap brackets_among e, brackets_append ts (t ∷ []), b, more)
+pub ranges_inside : (ranges : List (ℕ × ℕ)) → All (λ t. is_separator t ≡ false) (range_tokens ranges)
+ranges_inside [] = All-nil (λ t. is_separator t ≡ false)
+ranges_inside (r ∷ ranges) = All-cons (λ t. is_separator t ≡ false) (Range r.0 r.1) (range_tokens ranges) refl (ranges_inside ranges)
 
--- and as many after one bracket and one set less
-pub balanced_less : (all ts : List Token) (sets ss : List ByteSet) (t : Token) (s : ByteSet) → all ≡ ts ++ t ∷ [] → plain_model t ≡ None
-    → sets ≡ ss ++ s ∷ [] → brackets_among all ≡ length sets → brackets_among ts ≡ length ss
-balanced_less all ts sets ss t s e p d b = omega (arith, brackets_class all ts t e p, ap length d, length-append ss (s ∷ []), b)
+-- a bracket and its ranges
+pub bracket_alone : (n : Bool) (ranges : List (ℕ × ℕ)) → mixed_model (Open n ∷ range_tokens ranges) ≡ class n ranges ∷ []
+bracket_alone n ranges =
+    ap₂ (λ (rs : List (ℕ × ℕ)) (l : List TokenModel). class n rs ∷ l) (ranges_all ranges) (ranges_none ranges)
 
--- one token more that needs no set
-pub mixed_more : (all ts : List Token) (ss : List ByteSet) (t : Token) → all ≡ ts ++ t ∷ [] → brackets_among ts ≡ length ss
-    → mixed_model all ss ≡ mixed_model ts ss ++ mixed_model (t ∷ []) []
-mixed_more all ts ss t e b =
-    ap (λ (l : List Token). mixed_model l ss) e ∙ ap (mixed_model (ts ++ t ∷ [])) (sym (append-nil ss))
-    ∙ mixed_append ts (t ∷ []) ss [] b
-
--- a last token that is no bracket stands for itself
-pub mixed_plain : (all ts : List Token) (ss : List ByteSet) (t : Token) (u : TokenModel) → all ≡ ts ++ t ∷ [] → plain_model t ≡ Some u
-    → brackets_among ts ≡ length ss → mixed_model all ss ≡ mixed_model ts ss ++ u ∷ []
-mixed_plain all ts ss t u e p b =
-    mixed_more all ts ss t e b ∙ ap (λ (l : List TokenModel). mixed_model ts ss ++ l) (plain_alone t u p)
-
--- and one that is a bracket for the last set
-pub mixed_class : (all ts : List Token) (sets ss : List ByteSet) (t : Token) (s : ByteSet) → all ≡ ts ++ t ∷ [] → plain_model t ≡ None
-    → sets ≡ ss ++ s ∷ [] → brackets_among ts ≡ length ss → mixed_model all sets ≡ mixed_model ts ss ++ set_model s ∷ []
-mixed_class all ts sets ss t s e p d b =
-    ap (λ (l : List Token). mixed_model l sets) e ∙ ap (mixed_model (ts ++ t ∷ [])) d ∙ mixed_append ts (t ∷ []) ss (s ∷ []) b
-    ∙ ap (λ (l : List TokenModel). mixed_model ts ss ++ l) (class_alone t s p)
-
--- where each bracket has its set, each token has a model
-mixed_len : (ts : List Token) (ss : List ByteSet) → brackets_among ts ≡ length ss → length (mixed_model ts ss) ≡ length ts
-mixed_len [] ss e = refl
-mixed_len (Literal c ∷ ts) ss e = ap suc (mixed_len ts ss e)
-mixed_len (AnyByte ∷ ts) ss e = ap suc (mixed_len ts ss e)
-mixed_len (Star ∷ ts) ss e = ap suc (mixed_len ts ss e)
-mixed_len (Class ∷ ts) [] e = absurd (omega (arith, e))
-mixed_len (Class ∷ ts) (s ∷ ss) e = ap suc (mixed_len ts ss (omega (arith, e)))
-
-empty_len : (us : List TokenModel) → nat_eq (length us) 0 ≡ is_empty us
-empty_len [] = refl
-empty_len (u ∷ us) = false_from_ne_true _ (λ e. none_suc (eqb-true (length (u ∷ us)) 0 e))
-  where
-    none_suc : suc (length us) ≡ 0 → ⊥
-    none_suc e = omega (arith, e)
-
--- and there is no model where there is no token
-pub mixed_empty : (ts : List Token) (ss : List ByteSet) → brackets_among ts ≡ length ss
-    → nat_eq (length ts) 0 ≡ is_empty (mixed_model ts ss)
-mixed_empty ts ss e = ap (λ (n : ℕ). nat_eq n 0) (sym (mixed_len ts ss e)) ∙ empty_len (mixed_model ts ss)
-
-not_double : (us : List TokenModel) → (length us ≡ 2 → ⊥) → false ≡ is_double_star us
-not_double [] other = refl
-not_double (u ∷ []) other = refl
-not_double (u ∷ v ∷ []) other = absurd (other refl)
-not_double (u ∷ v ∷ w ∷ us) other = refl
-
--- two stars are two tokens
-pub mixed_not_double : (ts : List Token) (ss : List ByteSet) → brackets_among ts ≡ length ss → (length ts ≡ 2 → ⊥)
-    → false ≡ is_double_star (mixed_model ts ss)
-mixed_not_double ts ss e other = not_double (mixed_model ts ss) (λ two. other (sym (mixed_len ts ss e) ∙ two))
-
--- literals need no set
-pub mixed_literals : (bytes : List ℕ) (ss : List ByteSet) → mixed_model (literal_tokens bytes) ss ≡ map literal bytes
-mixed_literals [] ss = refl
-mixed_literals (b ∷ bs) ss = ap (λ (l : List TokenModel). literal b ∷ l) (mixed_literals bs ss)
+-- literals
+pub mixed_literals : (bytes : List ℕ) → mixed_model (literal_tokens bytes) ≡ map literal bytes
+mixed_literals [] = refl
+mixed_literals (b ∷ bs) = ap (λ (l : List TokenModel). literal b ∷ l) (mixed_literals bs)
 
 abbrev least_of : List Token → ℕ
 least_of [] = 0
-least_of (t ∷ ts) = if not (is_star_token t) then 1 + least_of ts else least_of ts
+least_of (t ∷ ts) = if is_for_byte t then 1 + least_of ts else least_of ts
 
-least_same : (ts : List Token) (ss : List ByteSet) → brackets_among ts ≡ length ss → least_of ts ≡ least_bytes (mixed_model ts ss)
-least_same [] ss e = refl
-least_same (Literal c ∷ ts) ss e = ap (λ (n : ℕ). 1 + n) (least_same ts ss e)
-least_same (AnyByte ∷ ts) ss e = ap (λ (n : ℕ). 1 + n) (least_same ts ss e)
-least_same (Star ∷ ts) ss e = least_same ts ss e
-least_same (Class ∷ ts) [] e = absurd (omega (arith, e))
-least_same (Class ∷ ts) (s ∷ ss) e = ap (λ (n : ℕ). 1 + n) (least_same ts ss (omega (arith, e)))
+least_same : (ts : List Token) → least_of ts ≡ least_bytes (mixed_model ts)
+least_same [] = refl
+least_same (Literal c ∷ ts) = ap (λ (n : ℕ). 1 + n) (least_same ts)
+least_same (AnyByte ∷ ts) = ap (λ (n : ℕ). 1 + n) (least_same ts)
+least_same (Star ∷ ts) = least_same ts
+least_same (Open n ∷ ts) = ap (λ (n : ℕ). 1 + n) (least_same ts)
+least_same (Range f l ∷ ts) = least_same ts
+least_same (Separator ∷ ts) = least_same ts
 
--- the tokens that are no star may be counted without the sets
-pub mixed_least : (ts : List Token) (ss : List ByteSet) → brackets_among ts ≡ length ss
-    → count_by (λ t. not (is_star_token t)) ts ≡ least_bytes (mixed_model ts ss)
-mixed_least ts ss e = sym (is_count_by least_of _ refl (λ _ _. refl) ts) ∙ least_same ts ss e
+-- those that stand for one byte are as many as the tokens that are no star
+pub mixed_least : (ts : List Token) → count_by is_for_byte ts ≡ least_bytes (mixed_model ts)
+mixed_least ts = sym (is_count_by least_of _ refl (λ _ _. refl) ts) ∙ least_same ts

@@ -23,33 +23,33 @@ star_is (literal c) e = cc
 star_is any_byte e = cc
 star_is (class n rs) e = cc
 
-module _ {T : Type 0} (tokens_in : T → List TokenModel) where
+module _ {A : Type 0} (tokens_in : List A → List TokenModel) where
   -- what is still to be tried where the tokens here don't fit
-  abbrev pub LaterOf : Option (Place T) → Type 0
+  abbrev pub LaterOf : Option (Place A) → Type 0
   LaterOf None = ⊥
-  LaterOf (Some b) = Later (Fits (tokens_in b.tokens)) b.segment.bytes.now
+  LaterOf (Some b) = Later (Fits (tokens_in b.tokens.now)) b.segment.bytes.now
 
   -- whatever cut the star is given, the tokens here come at what is left or after it
-  abbrev pub Covers : Option (Place T) → List TokenModel → List ℕ → Type 0
+  abbrev pub Covers : Option (Place A) → List TokenModel → List ℕ → Type 0
   Covers None us name = Unit {0}
-  Covers (Some b) us name = Fits (star ∷ tokens_in b.tokens) b.segment.bytes.now → Fits (star ∷ us) name
+  Covers (Some b) us name = Fits (star ∷ tokens_in b.tokens.now) b.segment.bytes.now → Fits (star ∷ us) name
 
   -- how long the name was where the star was tried last
-  abbrev pub span : Option (Place T) → ℕ → ℕ
+  abbrev pub span : Option (Place A) → ℕ → ℕ
   span None n = n
   span (Some b) n = length b.segment.bytes.now
 
-  abbrev pub IsWithin : Option (Place T) → ℕ → Type 0
+  abbrev pub IsWithin : Option (Place A) → ℕ → Type 0
   IsWithin None n = Unit {0}
-  IsWithin (Some b) n = length (tokens_in b.tokens) ≤ n
+  IsWithin (Some b) n = length (tokens_in b.tokens.now) ≤ n
 
-  later_fits : (back : Option (Place T)) (us : List TokenModel) (name : List ℕ) → Covers back (star ∷ us) name → LaterOf back
+  later_fits : (back : Option (Place A)) (us : List TokenModel) (name : List ℕ) → Covers back (star ∷ us) name → LaterOf back
       → Fits (star ∷ us) name
   later_fits None us name c l = absurd l
-  later_fits (Some b) us name c l = after_after (Fits us) name (c (later_after (Fits (tokens_in b.tokens)) b.segment.bytes.now l))
+  later_fits (Some b) us name c l = after_after (Fits us) name (c (later_after (Fits (tokens_in b.tokens.now)) b.segment.bytes.now l))
 
   -- at a star: it becomes the place to go back to
-  pub at_star : (H : Type 0) (back : Option (Place T)) (tokens us : List TokenModel) (u : TokenModel) (name : List ℕ) → tokens ≡ u ∷ us
+  pub at_star : (H : Type 0) (back : Option (Place A)) (tokens us : List TokenModel) (u : TokenModel) (name : List ℕ) → tokens ≡ u ∷ us
       → is_star u ≡ true → Covers back tokens name → H ↔ (Fits tokens name ⊎ LaterOf back) → H ↔ (Fits us name ⊎ Later (Fits us) name)
   at_star H back tokens us u name e s c t =
       let is : tokens ≡ star ∷ us = e ∙ ap (λ (v : TokenModel). v ∷ us) (star_is u s) in
@@ -60,7 +60,7 @@ module _ {T : Type 0} (tokens_in : T → List TokenModel) where
       )
 
   -- at a byte that is taken
-  pub at_byte : (H : Type 0) (back : Option (Place T)) (tokens us : List TokenModel) (u : TokenModel) (name : List ℕ) (x : ℕ) (xs : List ℕ)
+  pub at_byte : (H : Type 0) (back : Option (Place A)) (tokens us : List TokenModel) (u : TokenModel) (name : List ℕ) (x : ℕ) (xs : List ℕ)
       → tokens ≡ u ∷ us → name ≡ x ∷ xs → is_star u ≡ false → IsTrue (takes u x) → H ↔ (Fits tokens name ⊎ LaterOf back)
       → H ↔ (Fits us xs ⊎ LaterOf back)
   at_byte H back tokens us u name x xs e n s k t =
@@ -70,7 +70,7 @@ module _ {T : Type 0} (tokens_in : T → List TokenModel) where
       )
 
   -- a byte that its token takes leaves tokens and name that fit where they did
-  pub covers_byte : (back : Option (Place T)) (tokens us : List TokenModel) (u : TokenModel) (name : List ℕ) (x : ℕ) (xs : List ℕ)
+  pub covers_byte : (back : Option (Place A)) (tokens us : List TokenModel) (u : TokenModel) (name : List ℕ) (x : ℕ) (xs : List ℕ)
       → tokens ≡ u ∷ us → name ≡ x ∷ xs → is_star u ≡ false → Covers back tokens name → Covers back us xs
   covers_byte None tokens us u name x xs e n s c = tt
   covers_byte (Some b) tokens us u name x xs e n s c =
@@ -113,29 +113,29 @@ length_end bytes before x e = ap length e ∙ length-append before (x ∷ [])
 pub paid_end : (h b n m t s all : ℕ) → h ≡ b + 1 → n ≡ m + 1 → s ≤ t + 1 → t + (h + 1) * (n + 1) ≤ all → s + (b + 1) * (m + 1) ≤ all
 paid_end h b n m t s all hb nm st paid = omega (arith, rw (hb, nm) at paid)
 
-module _ {T : Type 0} (tokens_in : T → List TokenModel) where
+module _ {A : Type 0} (tokens_in : List A → List TokenModel) where
   -- what holds between two steps from the front: the tokens here fit, or those after the star do later, just where the tokens of the
   -- whole fit; and the tests that were made, with those that may still be, are no more than were allowed
-  abbrev pub StepsHold : Place T → Place T → Option (Place T) → ℕ → ℕ → Type 0
+  abbrev pub StepsHold : Place A → Place A → Option (Place A) → ℕ → ℕ → Type 0
   StepsHold all here back made before = record {
-    same : Fits (tokens_in all.tokens) all.segment.bytes.now ↔ (Fits (tokens_in here.tokens) here.segment.bytes.now ⊎ LaterOf tokens_in back);
-    covers : Covers tokens_in back (tokens_in here.tokens) here.segment.bytes.now;
-    here_within : length (tokens_in here.tokens) ≤ length (tokens_in all.tokens);
-    star_within : IsWithin tokens_in back (length (tokens_in all.tokens));
+    same : Fits (tokens_in all.tokens.now) all.segment.bytes.now ↔ (Fits (tokens_in here.tokens.now) here.segment.bytes.now ⊎ LaterOf tokens_in back);
+    covers : Covers tokens_in back (tokens_in here.tokens.now) here.segment.bytes.now;
+    here_within : length (tokens_in here.tokens.now) ≤ length (tokens_in all.tokens.now);
+    star_within : IsWithin tokens_in back (length (tokens_in all.tokens.now));
     left_within : length here.segment.bytes.now ≤ span tokens_in back (length all.segment.bytes.now);
-    cost : made + (span tokens_in back (length all.segment.bytes.now) * (length (tokens_in all.tokens) + 1) + length (tokens_in here.tokens))
-        ≤ before + (length all.segment.bytes.now * (length (tokens_in all.tokens) + 1) + length (tokens_in all.tokens));
+    cost : made + (span tokens_in back (length all.segment.bytes.now) * (length (tokens_in all.tokens.now) + 1) + length (tokens_in here.tokens.now))
+        ≤ before + (length all.segment.bytes.now * (length (tokens_in all.tokens.now) + 1) + length (tokens_in all.tokens.now));
   }
 
   -- after a star, which becomes the place to go back to
-  pub hold_after_star : (all here next : Place T) (back : Option (Place T)) (m made before : ℕ)
-      → FrontStepIs tokens_in (front.Star next.tokens) (tokens_in here.tokens) here.segment.bytes.now → next.segment ≡ here.segment
+  pub hold_after_star : (all here next : Place A) (back : Option (Place A)) (m made before : ℕ)
+      → FrontStepIs tokens_in (front.Star next.tokens) (tokens_in here.tokens.now) here.segment.bytes.now → next.segment ≡ here.segment
       → made ≤ m + 1 → StepsHold all here back m before → StepsHold all next (Some next) made before
   hold_after_star all here next back m made before is e paid inv =
       let len = shorter _ _ _ is.1 in
       let segment_len = ap (λ s. length s.bytes.now) e in
       record {
-        same = subst (λ s. Fits (tokens_in all.tokens) all.segment.bytes.now ↔ (Fits (tokens_in next.tokens) s.bytes.now ⊎ Later (Fits (tokens_in next.tokens)) s.bytes.now)) (sym e)
+        same = subst (λ s. Fits (tokens_in all.tokens.now) all.segment.bytes.now ↔ (Fits (tokens_in next.tokens.now) s.bytes.now ⊎ Later (Fits (tokens_in next.tokens.now)) s.bytes.now)) (sym e)
             (at_star tokens_in _ _ _ _ _ _ is.1 is.2 inv.covers inv.same);
         covers = λ f. f;
         here_within = omega (arith, len, inv.here_within);
@@ -145,8 +145,8 @@ module _ {T : Type 0} (tokens_in : T → List TokenModel) where
       }
 
   -- after a byte that is taken
-  pub hold_after_byte : (all here next : Place T) (back : Option (Place T)) (m made before : ℕ)
-      → FrontStepIs tokens_in (front.Taken next) (tokens_in here.tokens) here.segment.bytes.now
+  pub hold_after_byte : (all here next : Place A) (back : Option (Place A)) (m made before : ℕ)
+      → FrontStepIs tokens_in (front.Taken next) (tokens_in here.tokens.now) here.segment.bytes.now
       → made ≤ m + 1 → StepsHold all here back m before → StepsHold all next back made before
   hold_after_byte all here next back m made before is paid inv =
       let len = shorter _ _ _ is.2 in
@@ -161,14 +161,14 @@ module _ {T : Type 0} (tokens_in : T → List TokenModel) where
       }
 
   -- after the way back
-  pub hold_after_retry : (all here back next : Place T) (m made before : ℕ)
-      → (Fits (tokens_in here.tokens) here.segment.bytes.now → ⊥) → RetryIs back (Some next)
+  pub hold_after_retry : (all here back next : Place A) (m made before : ℕ)
+      → (Fits (tokens_in here.tokens.now) here.segment.bytes.now → ⊥) → RetryIs back (Some next)
       → made ≤ m + 1 → StepsHold all here (Some back) m before → StepsHold all next (Some next) made before
   hold_after_retry all here back next m made before never is paid inv =
       let len = ap length is.1 in
-      let tokens_len = ap (λ t. length (tokens_in t)) is.2 in
+      let tokens_len = ap (λ t. length (tokens_in t.now)) is.2 in
       record {
-        same = at_back _ _ _ _ _ _ _ is.1 (ap tokens_in is.2) never inv.same;
+        same = at_back _ _ _ _ _ _ _ is.1 (ap (λ t. tokens_in t.now) is.2) never inv.same;
         covers = λ f. f;
         here_within = omega (arith, inv.star_within, tokens_len);
         star_within = omega (arith, inv.star_within, tokens_len);

@@ -10,8 +10,10 @@ pub mod Matches
 pub mod IsMatch
 pub mod Brackets
 pub mod Reading
+pub mod Elements
 pub mod Simple
 pub mod Views
+pub mod Lexemes
 pub mod Sources
 pub mod ByteTests
 pub mod BracketSteps
@@ -21,4 +23,3 @@ pub mod Leads
 pub mod Lengths
 pub mod PathSteps
 pub mod Above
-pub mod Words

@@ -1,45 +1,50 @@
--- Tokens as they are kept: the sets of the brackets among them stand beside them, in the same order.
-use Rattle.std.specs.Prelude.{ℕ, suc, Bool, true, false, List, [], ◌∷◌, map, Option, Some, None}
+-- Tokens as they are kept: the ranges of a bracket follow the token that opens it.
+use Rattle.std.specs.Prelude.{ℕ, Bool, true, false, List, [], ◌∷◌, map}
 use Rattle.lc_glob.specs.Tokens.{TokenModel, literal, any_byte, star, class}
-use Rattle.lc_glob.specs.declared.byte_set.ByteSet.{ByteSet}
 use Rattle.lc_glob.specs.declared.token.Token.{Token}
-use Rattle.lc_glob.specs.declared.token.Token.TheVariants.{Literal, AnyByte, Star, Class}
+use Rattle.lc_glob.specs.declared.token.Token.TheVariants.{Literal, AnyByte, Star, Open, Range, Separator}
 
--- a bracket, by its set
-abbrev pub set_model : ByteSet → TokenModel
-set_model s = class s.negated s.ranges.value.items
+-- the ranges that come first
+abbrev pub ranges_first : List Token → List (ℕ × ℕ)
+ranges_first [] = []
+ranges_first (Literal c ∷ ts) = []
+ranges_first (AnyByte ∷ ts) = []
+ranges_first (Star ∷ ts) = []
+ranges_first (Open negated ∷ ts) = []
+ranges_first (Range first last ∷ ts) = (first, last) ∷ ranges_first ts
+ranges_first (Separator ∷ ts) = []
 
--- a token that stands for itself, which a bracket does not
-abbrev pub plain_model : Token → Option TokenModel
-plain_model (Literal c) = Some (literal c)
-plain_model AnyByte = Some any_byte
-plain_model Star = Some star
-plain_model Class = None
+-- what tokens between two separators stand for: a bracket takes the ranges that follow it, which stand for nothing by themselves
+abbrev pub mixed_model : List Token → List TokenModel
+mixed_model [] = []
+mixed_model (Literal c ∷ ts) = literal c ∷ mixed_model ts
+mixed_model (AnyByte ∷ ts) = any_byte ∷ mixed_model ts
+mixed_model (Star ∷ ts) = star ∷ mixed_model ts
+mixed_model (Open negated ∷ ts) = class negated (ranges_first ts) ∷ mixed_model ts
+mixed_model (Range first last ∷ ts) = mixed_model ts
+mixed_model (Separator ∷ ts) = mixed_model ts
 
--- whether a token is a star
-abbrev pub is_star_token : Token → Bool
-is_star_token (Literal c) = false
-is_star_token AnyByte = false
-is_star_token Star = true
-is_star_token Class = false
+-- whether a token is a separator
+abbrev pub is_separator : Token → Bool
+is_separator (Literal c) = false
+is_separator AnyByte = false
+is_separator Star = false
+is_separator (Open negated) = false
+is_separator (Range first last) = false
+is_separator Separator = true
 
--- how many of the tokens are brackets
-abbrev pub brackets_among : List Token → ℕ
-brackets_among [] = 0
-brackets_among (Literal c ∷ ts) = brackets_among ts
-brackets_among (AnyByte ∷ ts) = brackets_among ts
-brackets_among (Star ∷ ts) = brackets_among ts
-brackets_among (Class ∷ ts) = suc (brackets_among ts)
+-- whether it stands for one byte
+abbrev pub is_for_byte : Token → Bool
+is_for_byte (Literal c) = true
+is_for_byte AnyByte = true
+is_for_byte Star = false
+is_for_byte (Open negated) = true
+is_for_byte (Range first last) = false
+is_for_byte Separator = false
 
--- the tokens, each bracket with the next of the sets; without a set for each they stand for nothing sensible
-abbrev pub mixed_model : List Token → List ByteSet → List TokenModel
-mixed_model [] ss = []
-mixed_model (Literal c ∷ ts) ss = literal c ∷ mixed_model ts ss
-mixed_model (AnyByte ∷ ts) ss = any_byte ∷ mixed_model ts ss
-mixed_model (Star ∷ ts) ss = star ∷ mixed_model ts ss
-mixed_model (Class ∷ ts) [] = []
-mixed_model (Class ∷ ts) (s ∷ ss) = set_model s ∷ mixed_model ts ss
-
--- these literals, as tokens
+-- these literals, as tokens, and these ranges
 abbrev pub literal_tokens : List ℕ → List Token
 literal_tokens bytes = map Literal bytes
+
+abbrev pub range_tokens : List (ℕ × ℕ) → List Token
+range_tokens ranges = map (λ r. Range r.0 r.1) ranges

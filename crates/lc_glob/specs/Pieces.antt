@@ -1,4 +1,4 @@
--- Bytes cut at each of a byte.
+-- Lists cut at each element of a kind.
 use Rattle.std.specs.Prelude.{ℕ, ◌==◌, Bool, List, [], Option, Some, None}
 use Rattle.std.specs.Borrow.{Bor}
 use Rattle.std.specs.List.{slice_split}
@@ -11,7 +11,11 @@ is_byte byte b = b == byte
 abbrev pub pieces_of : ℕ → List ℕ → List (List ℕ)
 pieces_of byte bytes = slice_split (λ b. b == byte) bytes
 
+-- none, or what the elements that pass cut what is left into
+abbrev pub cuts_left : {A : Type 0} → (A → Bool) → Option (Bor (List A)) → List (List A)
+cuts_left separates None = []
+cuts_left separates (Some rest) = slice_split separates rest.now
+
 -- none, or the tokens of what is left
 abbrev pub pieces_left : ℕ → Option (Bor (List ℕ)) → List (List ℕ)
-pieces_left byte None = []
-pieces_left byte (Some rest) = pieces_of byte rest.now
+pieces_left byte rest = cuts_left (λ b. b == byte) rest

@@ -1,6 +1,5 @@
 -- Simple patterns: each byte is a token or a separator, since none is quoted and none opens a bracket.
-use Rattle.std.specs.Prelude.{ℕ, Bool, true, not, ◌&&◌, ◌||◌, ◌==◌, if◌then◌else◌, List, map}
-use Rattle.std.specs.Borrow.{Bor}
+use Rattle.std.specs.Prelude.{ℕ, Bool, true, not, ◌&&◌, ◌||◌, ◌==◌, if◌then◌else◌, List, ◌∷◌, map}
 use Rattle.std.specs.List.{list_all}
 use Rattle.lc_glob.specs.Bytes.{backslash, asterisk, question_mark, opening}
 use Rattle.lc_glob.specs.Tokens.{TokenModel, literal, any_byte, star}
@@ -15,10 +14,6 @@ is_simple b = not (b == backslash) && not (b == opening)
 -- the token that such a byte is, where it is no separator
 abbrev pub byte_token : ℕ → TokenModel
 byte_token b = if b == asterisk then star else if b == question_mark then any_byte else literal b
-
--- the tokens of such bytes
-abbrev pub bytes_model : Bor (List ℕ) → List TokenModel
-bytes_model bytes = map byte_token bytes.now
 
 -- whether that is a literal
 abbrev pub is_literal : ℕ → Bool
@@ -43,3 +38,7 @@ literals_segment bytes = if is_double_star (map byte_token bytes) then double_st
 -- and of literals alone
 abbrev pub exact_segment : List ℕ → SegmentModel
 exact_segment bytes = plain (map literal bytes)
+
+-- literals, alone or after a star
+abbrev pub end_tokens : Bool → List ℕ → List TokenModel
+end_tokens is_alone bytes = if is_alone then map literal bytes else star ∷ map literal bytes

@@ -8,37 +8,37 @@ use Rattle.lc_glob.specs.declared.place.FrontStep.TheVariants as front
 use Rattle.lc_glob.specs.declared.place.EndStep.{EndStep}
 use Rattle.lc_glob.specs.declared.place.EndStep.TheVariants as end
 
-module _ {T : Type 0} (tokens_in : T → List TokenModel) where
+module _ {A : Type 0} (tokens_in : List A → List TokenModel) where
   -- the tokens of a place fit what is left of the segment
-  abbrev pub FitsAt : Place T → Type 0
-  FitsAt place = Fits (tokens_in place.tokens) place.segment.bytes.now
+  abbrev pub FitsAt : Place A → Type 0
+  FitsAt place = Fits (tokens_in place.tokens.now) place.segment.bytes.now
 
   -- the most byte tests of a place from its end, and from its front
-  abbrev pub cost_from_end : Place T → ℕ
-  cost_from_end place = (length (tokens_in place.tokens) + 1) * (length place.segment.bytes.now + 1)
+  abbrev pub cost_from_end : Place A → ℕ
+  cost_from_end place = (length (tokens_in place.tokens.now) + 1) * (length place.segment.bytes.now + 1)
 
-  abbrev pub cost_from_front : Place T → ℕ
-  cost_from_front place = length place.segment.bytes.now * (length (tokens_in place.tokens) + 1) + length (tokens_in place.tokens)
+  abbrev pub cost_from_front : Place A → ℕ
+  cost_from_front place = length place.segment.bytes.now * (length (tokens_in place.tokens.now) + 1) + length (tokens_in place.tokens.now)
 
   -- the last token is a star; or it stands for the last byte, and what is before both is left; or neither tokens nor bytes
   -- are left; or the tokens don't fit the segment
-  abbrev pub EndStepIs : EndStep T → List TokenModel → List ℕ → Type 0
+  abbrev pub EndStepIs : EndStep A → List TokenModel → List ℕ → Type 0
   EndStepIs end.Star tokens segment = Unit {0}
-  EndStepIs (end.Taken before) tokens segment = (u : TokenModel) × (x : ℕ) × (tokens ≡ tokens_in before.tokens ++ u ∷ [])
+  EndStepIs (end.Taken before) tokens segment = (u : TokenModel) × (x : ℕ) × (tokens ≡ tokens_in before.tokens.now ++ u ∷ [])
       × (segment ≡ before.segment.bytes.now ++ x ∷ []) × (is_star u ≡ false) × IsTrue (takes u x)
   EndStepIs end.Fitted tokens segment = (tokens ≡ []) × (segment ≡ [])
   EndStepIs end.Stuck tokens segment = Fits tokens segment → ⊥
 
   -- the first token is a star, and what is after it is left; or it stands for the first byte, and what is after both is left;
   -- or neither tokens nor bytes are left; or the tokens don't fit the segment
-  abbrev pub FrontStepIs : FrontStep T → List TokenModel → List ℕ → Type 0
-  FrontStepIs (front.Star rest) tokens segment = (u : TokenModel) × (tokens ≡ u ∷ tokens_in rest) × (is_star u ≡ true)
-  FrontStepIs (front.Taken after) tokens segment = (u : TokenModel) × (x : ℕ) × (tokens ≡ u ∷ tokens_in after.tokens)
+  abbrev pub FrontStepIs : FrontStep A → List TokenModel → List ℕ → Type 0
+  FrontStepIs (front.Star rest) tokens segment = (u : TokenModel) × (tokens ≡ u ∷ tokens_in rest.now) × (is_star u ≡ true)
+  FrontStepIs (front.Taken after) tokens segment = (u : TokenModel) × (x : ℕ) × (tokens ≡ u ∷ tokens_in after.tokens.now)
       × (segment ≡ x ∷ after.segment.bytes.now) × (is_star u ≡ false) × IsTrue (takes u x)
   FrontStepIs front.Fitted tokens segment = (tokens ≡ []) × (segment ≡ [])
   FrontStepIs front.Stuck tokens segment = Fits tokens segment → ⊥
 
 -- the same tokens one byte later, where there is one
-abbrev pub RetryIs : {T : Type 0} → Place T → Option (Place T) → Type 0
+abbrev pub RetryIs : {A : Type 0} → Place A → Option (Place A) → Type 0
 RetryIs here None = here.segment.bytes.now ≡ []
 RetryIs here (Some next) = (x : ℕ) × (here.segment.bytes.now ≡ x ∷ next.segment.bytes.now) × (next.tokens ≡ here.tokens)

@@ -5,11 +5,18 @@ ghost use Rattle.lc_glob.specs.Bytes.{closing};
 ghost use Rattle.lc_glob.specs.Brackets.{class_of, other_class_of};
 ghost use Rattle.lc_glob.specs.Brackets.{element, first_close, range_from, item, plain_item, colon_of, items, bracket};
 ghost use Rattle.lc_glob.specs.BracketSteps.{ColonIs, PushesItem};
-ghost use Rattle.lc_glob.specs.Tokens.{class};
+ghost use Rattle.lc_glob.specs.Views.{bracket_model};
 
-use crate::byte_set::ByteSet;
 use memchr::memchr;
 use std::alloc::{AllocError, Global};
+
+/// A bracket as it was read.
+#[derive(Drop)]
+pub(crate) struct Bracket {
+    pub(crate) negated: bool,
+    /// The first and the last byte of each range.
+    pub(crate) ranges: Vec<(u8, u8)>,
+}
 
 /// An element that begins with the byte `b`, and how many of the bytes after it are taken.
 fn element_at(b: u8, rest: &[u8]) -> Option<(u8, usize)>
@@ -204,13 +211,12 @@ fn read_items(alloc: Global, bytes: &[u8]) -> Result<Option<(Vec<(u8, u8)>, usiz
     }
 }
 
-/// The set whose bracket opened before these bytes, and how many of them are taken.
+/// The bracket that opened before these bytes, and how many of them are taken.
 pub(crate) fn read_bracket(
     alloc: Global,
     bytes: &[u8],
-) -> Result<Option<(ByteSet, usize)>, AllocError>
-    ensures is { IfOk result
-        (λ r. MatchOption r (bracket bytes.now ≡ None) (λ p. bracket bytes.now ≡ Some (class p.0.negated p.0.ranges.value.items, p.1))) }
+) -> Result<Option<(Bracket, usize)>, AllocError>
+    ensures is { IfOk result (λ r. MatchOption r (bracket bytes.now ≡ None) (λ p. bracket bytes.now ≡ Some (bracket_model p.0, p.1))) }
     ensures within { IfOk result (λ r. IfSome r (λ p. p.1 ≤ length bytes.now)) }
 {
     let Some((b, rest)) = bytes.split_first() else {
@@ -220,5 +226,5 @@ pub(crate) fn read_bracket(
     let Some((ranges, taken)) = read_items(alloc, if negated { rest } else { bytes })? else {
         return Ok(None);
     };
-    Ok(Some((ByteSet::new(negated, ranges), taken + usize::from(negated))))
+    Ok(Some((Bracket { negated, ranges }, taken + usize::from(negated))))
 }

@@ -3,9 +3,10 @@
 ghost use Rattle.std.specs.Prelude.{◌≡◌, ◌==◌, length, bytes_eq};
 ghost use Rattle.lc_glob.specs.ByteTests.{tests_if};
 
+use crate::element::Element;
 use crate::lengths::Lengths;
 use crate::path_segment::{ByteTests, PathSegment};
-use crate::segments_left::{SegmentsLeft, split_last_segment};
+use crate::segments_left::SegmentsLeft;
 use std::marker::Model;
 
 /// From how many bytes on a path is measured: a look at each segment of a shorter one costs less.
@@ -25,7 +26,7 @@ const MANY_PATTERNS: usize = 64;
 #[derive(Drop)]
 pub struct Candidate<'a> {
     path: &'a [u8],
-    pub(crate) above: SegmentsLeft<'a>,
+    pub(crate) above: SegmentsLeft<'a, u8>,
     pub(crate) last: PathSegment<'a>,
     /// Those of the segments above the last.
     pub(crate) lengths: Lengths,
@@ -75,7 +76,8 @@ impl<'a> Candidate<'a> {
     fn measured_from(path: &'a [u8], long: usize) -> Self
         ensures { result ≡ path.now }
     {
-        let (above, last) = split_last_segment(path);
+        let (rest, last) = u8::cut_at_last_separator(path);
+        let above = SegmentsLeft { rest };
         let lengths = if path.len() < long {
             Lengths::unknown()
         } else {

@@ -6,11 +6,11 @@ ghost use Rattle.lc_glob.specs.Leads.{Leads};
 ghost use Rattle.lc_glob.specs.Lengths.{AreBetween, FitsSome};
 ghost use Rattle.lc_glob.specs.Path.{segments_left};
 ghost use Rattle.lc_glob.specs.Patterns.{plain};
-ghost use Rattle.lc_glob.specs.Views.{segment_ref_model, segments_ref_model, tokens_left_model, tokens_ref_model};
+ghost use Rattle.lc_glob.specs.Views.{segment_ref_model, segments_ref_model, tokens_ref_model};
 
+use crate::element::{Element, has_star};
 use crate::segment_ref::{SegmentRef, SegmentsRef, TokensRef};
 use crate::segments_left::SegmentsLeft;
-use crate::tokens_left::TokensLeft;
 
 /// Between how many bytes the segments of a path have, as far as that is known.
 #[derive(Clone, Copy)]
@@ -31,7 +31,7 @@ impl Lengths {
     }
 
     /// Those of the segments, by one pass over them.
-    pub(crate) fn of(path: SegmentsLeft) -> Self
+    pub(crate) fn of(path: SegmentsLeft<u8>) -> Self
         ensures { AreBetween result (segments_left path.entry.rest) }
     {
         let mut left = path;
@@ -86,16 +86,17 @@ impl Lengths {
         match tokens {
             TokensRef::Literal(literals) => self.has(literals.len()),
             TokensRef::Suffix(literals) => literals.len() <= self.longest,
-            TokensRef::Mixed(tokens) => self.allow_mixed(tokens),
+            TokensRef::Bytes(bytes) => self.allow_elements(bytes),
+            TokensRef::Tokens(tokens) => self.allow_elements(tokens),
         }
     }
 
     /// Whether tokens of no other shape may.
-    fn allow_mixed(self, tokens: TokensLeft) -> bool
-        ensures { FitsSome self (plain (tokens_left_model tokens.entry)) → IsTrue result }
+    fn allow_elements<E: Element>(self, elements: &[E]) -> bool
+        ensures { FitsSome self (plain (E.tokens_in elements.now)) → IsTrue result }
     {
-        let least = tokens.least_bytes();
-        if tokens.has_star() {
+        let least = E::least_bytes(elements);
+        if has_star(elements) {
             least <= self.longest
         } else {
             self.has(least)

@@ -48,7 +48,7 @@ pub(crate) fn matches_path(segments: SegmentsRef, path: &Candidate, tests: &mut 
 #[derive(Clone, Copy)]
 struct PathPlace<'p, 'n> {
     segments: SegmentsRef<'p>,
-    left: SegmentsLeft<'n>,
+    left: SegmentsLeft<'n, u8>,
 }
 
 /// What the last of a pattern's segments does with the last of a path's.

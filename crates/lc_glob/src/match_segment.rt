@@ -6,14 +6,14 @@
 
 ghost use Rattle.std.specs.Prelude.{◌≡◌, ◌↔◌, ◌≤◌, ◌+◌, ◌*◌, ◌∷◌, IsTrue, length, map};
 ghost use Rattle.lc_glob.specs.Fits.{Fits};
-ghost use Rattle.lc_glob.specs.Simple.{byte_token};
+ghost use Rattle.lc_glob.specs.Simple.{end_tokens};
 ghost use Rattle.lc_glob.specs.Views.{tokens_ref_model};
 ghost use Rattle.lc_glob.specs.Tokens.{literal, star};
 
+use crate::element::Element;
 use crate::path_segment::{ByteTests, PathSegment};
 use crate::place::Place;
 use crate::segment_ref::TokensRef;
-use crate::tokens_left::TokensLeft;
 
 /// Whether the tokens fit the segment.
 #[inline]
@@ -24,8 +24,8 @@ pub(crate) fn fits(tokens: TokensRef, segment: PathSegment, tests: &mut ByteTest
     match tokens {
         TokensRef::Literal(literals) => fits_literals(literals, segment, tests),
         TokensRef::Suffix(literals) => fits_suffix(literals, segment, tests),
-        TokensRef::Mixed(TokensLeft::Bytes(bytes)) => fits_bytes(bytes, segment, tests),
-        TokensRef::Mixed(TokensLeft::Read(tokens)) => Place { tokens, segment }.fits(tests),
+        TokensRef::Bytes(bytes) => fits_elements(bytes, segment, tests),
+        TokensRef::Tokens(tokens) => fits_elements(tokens, segment, tests),
     }
 }
 
@@ -47,12 +47,32 @@ pub(crate) fn fits_suffix(literals: &[u8], segment: PathSegment, tests: &mut Byt
     segment.ends_with(literals, tests)
 }
 
-/// Whether the bytes of a simple pattern do.
-#[inline(never)]
-pub(crate) fn fits_bytes(bytes: &[u8], segment: PathSegment, tests: &mut ByteTests) -> bool
-    ensures fits { IsTrue result ↔ Fits (map byte_token bytes.now) segment.entry.bytes.now }
-    ensures cost { tests.new.made ≤ tests.old.made + (length (map byte_token bytes.now) + 1) * (length segment.entry.bytes.now + 1) }
+/// Whether literals do, alone or after a star. Where both are asked it costs less than a jump to either.
+#[inline]
+pub(crate) fn fits_end(
+    literals: &[u8],
+    is_alone: bool,
+    segment: PathSegment,
+    tests: &mut ByteTests,
+) -> bool
+    ensures fits { IsTrue result ↔ Fits (end_tokens is_alone literals.now) segment.entry.bytes.now }
+    ensures cost { tests.new.made ≤ tests.old.made + (length (end_tokens is_alone literals.now) + 1) * (length segment.entry.bytes.now + 1) }
 {
-    let tokens = bytes;
+    if is_alone && segment.len() != literals.len() {
+        return false;
+    }
+    segment.ends_with(literals, tests)
+}
+
+/// Whether any others do.
+#[inline(never)]
+pub(crate) fn fits_elements<E: Element>(
+    tokens: &[E],
+    segment: PathSegment,
+    tests: &mut ByteTests,
+) -> bool
+    ensures fits { IsTrue result ↔ Fits (E.tokens_in tokens.now) segment.entry.bytes.now }
+    ensures cost { tests.new.made ≤ tests.old.made + (length (E.tokens_in tokens.now) + 1) * (length segment.entry.bytes.now + 1) }
+{
     Place { tokens, segment }.fits(tests)
 }

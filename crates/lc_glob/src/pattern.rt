@@ -1,24 +1,21 @@
 //! A pattern, and whether it matches a path.
 
-ghost use Rattle.std.specs.Prelude.{◌≡◌, ◌↔◌, ◌≤◌, ◌+◌, ◌*◌, IsTrue, length, List, ℕ, IfOk, IfSome};
+ghost use Rattle.std.specs.Prelude.{◌≡◌, ◌↔◌, ◌≤◌, ◌+◌, ◌*◌, IsTrue, length, List, ℕ, IfOk};
 ghost use Rattle.lc_glob.specs.Above.{names_of, TellMatches, searches};
-ghost use Rattle.lc_glob.specs.Costs.{full_cost};
 ghost use Rattle.lc_glob.specs.IsMatch.{is_match, IsMatchDecides};
 ghost use Rattle.lc_glob.specs.Matches.{Matches};
 ghost use Rattle.lc_glob.specs.Path.{segments_of};
 ghost use Rattle.lc_glob.specs.Reading.{pattern_of};
-ghost use Rattle.lc_glob.specs.Views.{form_model};
 
 use crate::candidate::Candidate;
-use crate::match_path::matches_path;
-use crate::match_segment::fits;
+use crate::mixed_pattern::MixedPattern;
 use crate::path_segment::ByteTests;
-use crate::pattern_ref::PatternRef;
-use crate::pattern_view::{KindRef, PatternView};
+use crate::pattern_ref::{PatternRef, Source};
 use crate::reading::read_pattern;
-use crate::segment::{Literals, Segment, Tokens};
-use crate::segment_ref::SegmentsRef;
-use crate::simple_pattern::{Shape, SimplePattern};
+use crate::scope::Scope;
+use crate::simple_pattern::{SimpleForm, SimplePattern};
+use crate::token::Token;
+use smallvec::SmallVec;
 use std::alloc::{AllocError, Global};
 use std::marker::Model;
 
@@ -31,21 +28,14 @@ use std::marker::Model;
 /// ```
 #[derive(Drop)]
 pub struct Pattern {
-    pub(crate) is_dir_only: bool,
-    pub(crate) kind: PatternKind,
+    pub(crate) kept: Kept,
 }
 
-/// What of a path a pattern is matched with.
+/// What it is matched from. That of a short simple pattern takes no memory of its own.
 #[derive(Drop)]
-pub(crate) enum PatternKind {
-    /// Nothing, since it couldn't be read.
-    Dead,
-    /// What the bytes of a simple pattern say by themselves.
-    Simple(Shape, Literals),
-    /// The last segment alone.
-    LastSegment(Tokens),
-    /// All segments.
-    WholePath(Vec<Segment>),
+pub(crate) enum Kept {
+    Simple(SimpleForm, SmallVec<u8, 16>),
+    Mixed(Scope, Vec<Token>),
 }
 
 impl Model for Pattern {
@@ -53,9 +43,9 @@ impl Model for Pattern {
 
     ghost Value = { PatternModel };
 
-    ghost use Rattle.lc_glob.specs.Views.{pattern_model};
+    ghost use Rattle.lc_glob.specs.Views.{kept_model};
 
-    ghost view = { λ p. pattern_model p.is_dir_only p.kind };
+    ghost view = { λ p. kept_model p.kept };
 }
 
 impl Pattern {
@@ -77,14 +67,14 @@ impl Pattern {
     pub fn is_dead(&self) -> bool
         ensures { result ≡ self.now.is_dead }
     {
-        self.view().is_dead()
+        self.as_ref().is_dead()
     }
 
     /// Whether the pattern matches directories only, as `build/`. A dead pattern answers false.
     pub fn is_dir_only(&self) -> bool
         ensures { result ≡ self.now.is_dir_only }
     {
-        self.is_dir_only
+        self.as_ref().is_dir_only()
     }
 
     /// Whether the pattern is matched with a whole path, as `/a` and `a/b`, and not with a path's last segment alone, as
@@ -92,7 +82,7 @@ impl Pattern {
     pub fn is_anchored(&self) -> bool
         ensures { result ≡ self.now.is_anchored }
     {
-        self.view().is_anchored()
+        self.as_ref().is_anchored()
     }
 
     /// Whether the pattern matches the path.
@@ -120,7 +110,7 @@ impl Pattern {
         ensures meaning { IsTrue result ↔ Matches self.now path.now is_dir }
         ensures computed { result ≡ is_match self.now path.now is_dir }
     {
-        self.matched(path, is_dir, &mut ByteTests::none())
+        self.as_ref().matches_candidate(path, is_dir)
     }
 
     /// The same, and how many times a literal, a `?` or a bracket was compared with one byte of the path. The number stops
@@ -136,7 +126,9 @@ impl Pattern {
         ensures bound { (bytes : List ℕ) → self.now ≡ pattern_of bytes → result.1 ≤ (length bytes + 1) * (length path.now + 1) }
     {
         let mut tests = ByteTests::none();
-        let found = self.matched(&Candidate::measured(path), is_dir, &mut tests);
+        let found = self
+            .as_ref()
+            .matched(&Candidate::measured(path), is_dir, &mut tests);
         (found, tests.made())
     }
 
@@ -153,8 +145,7 @@ impl Pattern {
         ensures len { length flags.new ≡ length flags.old }
         ensures told { TellMatches self.now (names_of names.now) flags.new }
     {
-        self.view()
-            .flag_directories(names, flags, &mut ByteTests::none());
+        self.as_ref().match_directories(names, flags);
     }
 
     /// The same, and how many byte tests it took: no more than one match with the whole path may take, for all of them.
@@ -172,7 +163,7 @@ impl Pattern {
             → result ≤ (length bytes + 1) * (length path + 1) }
     {
         let mut tests = ByteTests::none();
-        self.view().flag_directories(names, flags, &mut tests);
+        self.as_ref().flag_directories(names, flags, &mut tests);
         tests.made()
     }
 
@@ -180,72 +171,20 @@ impl Pattern {
     pub fn searches(&self) -> bool
         ensures { result ≡ searches self.now }
     {
-        self.view().searches()
-    }
-
-    /// Its form and bytes, where these are all that it is matched by: where it is simple or dead, or where it has one segment of literals
-    /// and quoted bytes, perhaps after a star. Whoever keeps many patterns keeps those in little memory.
-    ///
-    /// ```
-    /// let Some(simple) = Pattern::read(alloc, b"/build/")?.simple() else { .. };
-    /// assert!(rt; simple.bytes == b"build".as_slice());
-    /// assert!(rt; PatternRef::simple(simple.form, simple.bytes).matches_candidate(&Candidate::new(b"build"), true));
-    /// ```
-    pub fn simple<'p>(&'p self) -> Option<SimplePattern<'p>>
-        ensures { IfSome result (λ s. form_model s.form s.bytes.now ≡ self.now) }
-    {
-        let (shape, bytes): (Shape, &[u8]) = match &self.kind {
-            PatternKind::Dead => (Shape::Dead, &[]),
-            PatternKind::Simple(shape, bytes) => (*shape, bytes),
-            PatternKind::LastSegment(Tokens::Literal(literals)) => (Shape::Literal, literals),
-            PatternKind::LastSegment(Tokens::Suffix(literals)) => (Shape::Suffix, literals),
-            _ => return None,
-        };
-        Some(SimplePattern::new(self.is_dir_only, shape, bytes))
+        self.as_ref().searches()
     }
 
     /// What it is matched by.
     pub fn as_ref<'p>(&'p self) -> PatternRef<'p>
         ensures { result ≡ self.now }
     {
-        PatternRef::of(self)
-    }
-
-    fn view<'p>(&'p self) -> PatternView<'p>
-        ensures { result ≡ self.now }
-    {
-        let kind = match &self.kind {
-            PatternKind::Dead => KindRef::Dead,
-            PatternKind::Simple(shape, bytes) => {
-                return PatternView::of_shape(self.is_dir_only, *shape, bytes);
-            }
-            PatternKind::LastSegment(tokens) => KindRef::LastSegment(tokens.as_ref()),
-            PatternKind::WholePath(segments) => KindRef::WholePath(SegmentsRef::Read(segments)),
-        };
-        PatternView {
-            is_dir_only: self.is_dir_only,
-            kind,
-        }
-    }
-
-    #[inline]
-    pub(crate) fn matched(&self, path: &Candidate, is_dir: bool, tests: &mut ByteTests) -> bool
-        ensures meaning { IsTrue result ↔ Matches self.now path.now is_dir }
-        ensures cost { tests.new.made ≤ tests.old.made + full_cost self.now.segments (segments_of path.now) }
-    {
-        if self.is_dir_only && !is_dir {
-            return false;
-        }
-        match &self.kind {
-            PatternKind::Dead => false,
-            PatternKind::Simple(shape, bytes) => {
-                SimplePattern::new(self.is_dir_only, *shape, bytes).matched(path, is_dir, tests)
-            }
-            PatternKind::LastSegment(tokens) => fits(tokens.as_ref(), path.last, tests),
-            PatternKind::WholePath(segments) => {
-                matches_path(SegmentsRef::Read(segments), path, tests)
-            }
-        }
+        PatternRef::new(match &self.kept {
+            Kept::Simple(form, bytes) => Source::Simple(SimplePattern { form: *form, bytes }),
+            Kept::Mixed(scope, tokens) => Source::Mixed(MixedPattern {
+                scope: *scope,
+                tokens,
+            }),
+        })
     }
 }
 

@@ -1,16 +1,16 @@
 //! A pattern seen by what of a path it is matched with.
 
-ghost use Rattle.std.specs.Prelude.{◌≡◌, ◌≤◌, ◌+◌, length};
+ghost use Rattle.std.specs.Prelude.{◌≡◌, ◌≤◌, ◌+◌, Bool, length};
 ghost use Rattle.lc_glob.specs.Above.{names_of, TellMatches, searches};
 ghost use Rattle.lc_glob.specs.Costs.{full_cost};
-ghost use Rattle.lc_glob.specs.Views.{simple_model};
+ghost use Rattle.lc_glob.specs.Views.{pattern_view_model, simple_model};
+ghost use Rattle.lc_glob.specs.declared.simple_pattern.Shape.TheVariants.{More};
 
 use crate::match_above::{keep, match_above, searches};
 use crate::path_segment::ByteTests;
 use crate::segment_ref::{SegmentsRef, TokensRef};
 use crate::segments_left::SegmentsLeft;
-use crate::simple_pattern::Shape;
-use crate::tokens_left::TokensLeft;
+use crate::simple_pattern::{Extent, Shape};
 use std::marker::Model;
 
 /// A pattern, by what of a path it is matched with.
@@ -41,23 +41,30 @@ impl<'p> Model for PatternView<'p> {
     ghost view = { λ p. pattern_view_model p.is_dir_only p.kind };
 }
 
+impl<'p> KindRef<'p> {
+    fn of_extent(extent: Extent, bytes: &'p [u8]) -> Self
+        ensures { (is_dir_only : Bool) → pattern_view_model is_dir_only result ≡ simple_model is_dir_only (More extent) bytes.now }
+    {
+        let left = SegmentsLeft::of(bytes);
+        match extent {
+            Extent::Dead => KindRef::Dead,
+            Extent::LastSegment => KindRef::LastSegment(TokensRef::Bytes(bytes)),
+            Extent::Exact => KindRef::WholePath(SegmentsRef::Exact(left)),
+            Extent::LiteralPath => KindRef::WholePath(SegmentsRef::Literals(left)),
+            Extent::WholePath => KindRef::WholePath(SegmentsRef::Bytes(left)),
+        }
+    }
+}
+
 impl<'p> PatternView<'p> {
     /// That of the bytes of a simple pattern, by its shape.
     pub(crate) fn of_shape(is_dir_only: bool, shape: Shape, bytes: &'p [u8]) -> Self
         ensures { result ≡ simple_model is_dir_only shape bytes.now }
     {
         let kind = match shape {
-            Shape::Dead => KindRef::Dead,
-            Shape::Literal => KindRef::LastSegment(TokensRef::Literal(bytes)),
-            Shape::Suffix => KindRef::LastSegment(TokensRef::Suffix(bytes)),
-            Shape::LastSegment => {
-                KindRef::LastSegment(TokensRef::Mixed(TokensLeft::Bytes(bytes)))
-            }
-            Shape::Exact => KindRef::WholePath(SegmentsRef::Exact(SegmentsLeft::of(bytes))),
-            Shape::LiteralPath => KindRef::WholePath(SegmentsRef::Literals(SegmentsLeft::of(
-                bytes,
-            ))),
-            Shape::WholePath => KindRef::WholePath(SegmentsRef::Bytes(SegmentsLeft::of(bytes))),
+            Shape::End(true) => KindRef::LastSegment(TokensRef::Literal(bytes)),
+            Shape::End(false) => KindRef::LastSegment(TokensRef::Suffix(bytes)),
+            Shape::More(extent) => KindRef::of_extent(extent, bytes),
         };
         PatternView { is_dir_only, kind }
     }

@@ -1,22 +1,23 @@
-//! Where a match of a segment stands, whatever kind its tokens are of.
+//! Where a match of a segment stands, whatever its tokens are kept as.
 
 ghost use Rattle.lc_glob.specs.Steps.{RetryIs};
 
+use crate::element::Element;
 use crate::path_segment::PathSegment;
 
 /// Tokens, and the segment or what is left of it that they are compared with.
 #[derive(Clone, Copy)]
-pub(crate) struct Place<'n, T> {
-    pub(crate) tokens: T,
+pub(crate) struct Place<'p, 'n, E> {
+    pub(crate) tokens: &'p [E],
     pub(crate) segment: PathSegment<'n>,
 }
 
 /// What the last of the tokens does with the end of the segment.
-pub(crate) enum EndStep<'n, T> {
+pub(crate) enum EndStep<'p, 'n, E> {
     /// It is a star.
     Star,
     /// It stands for the last byte, and these are before them.
-    Taken(Place<'n, T>),
+    Taken(Place<'p, 'n, E>),
     /// There are neither tokens nor bytes.
     Fitted,
     /// The tokens don't fit the segment.
@@ -24,18 +25,18 @@ pub(crate) enum EndStep<'n, T> {
 }
 
 /// What the first of the tokens does with the front of the segment.
-pub(crate) enum FrontStep<'n, T> {
+pub(crate) enum FrontStep<'p, 'n, E> {
     /// It is a star, and these tokens are after it.
-    Star(T),
+    Star(&'p [E]),
     /// It stands for the first byte, and these are after them.
-    Taken(Place<'n, T>),
+    Taken(Place<'p, 'n, E>),
     /// There are neither tokens nor bytes.
     Fitted,
     /// The tokens don't fit the segment from here.
     Stuck,
 }
 
-impl<'n, T: Drop> Place<'n, T> {
+impl<'p, 'n, E: Element> Place<'p, 'n, E> {
     /// The same tokens, with one byte more for the star before them, where there is one.
     pub(crate) fn retry(self) -> Option<Self>
         ensures { RetryIs self.entry result }

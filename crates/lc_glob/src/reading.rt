@@ -1,19 +1,18 @@
-//! Bytes read as a pattern: their tokens, the parts that separators cut, and what those make.
+//! Bytes read as a pattern: their tokens, and what those are kept as.
 
-ghost use Rattle.std.specs.Prelude.{◌≡◌, ◌<◌, ◌≤◌, ◌-◌, IsTrue, true, length, MatchOption, IfOk, IfSome, Some, None, map};
-ghost use Rattle.std.specs.List.{list_all};
-ghost use Rattle.lc_glob.specs.Lists.{is_empty};
-ghost use Rattle.lc_glob.specs.Patterns.{dead};
-ghost use Rattle.lc_glob.specs.Reading.{lexeme, literal_lexeme, parts, segment_from, ends_empty, without_last, begins_empty};
-ghost use Rattle.lc_glob.specs.Reading.{some_empty, cut_at_front, pattern_of};
-ghost use Rattle.lc_glob.specs.Views.{lexeme_model, part_model, tokens_model, segment_model, form_model};
+ghost use Rattle.std.specs.Prelude.{◌≡◌, ◌≤◌, ◌++◌, ◌∷◌, [], length, false, MatchOption, IfOk, IfSome, Some, None};
+ghost use Rattle.lc_glob.specs.Elements.{parts_in};
+ghost use Rattle.lc_glob.specs.Lexemes.{tokens_of};
+ghost use Rattle.lc_glob.specs.Mixed.{is_separator, literal_tokens, mixed_model, range_tokens};
+ghost use Rattle.lc_glob.specs.Patterns.{dead, plain};
+ghost use Rattle.lc_glob.specs.Reading.{lexeme, literal_lexeme, parts, pattern_of};
+ghost use Rattle.lc_glob.specs.Views.{form_model, lexeme_model, live_model, mixed_form_model, simple_model};
 
 use crate::bracket::read_bracket;
-use crate::mixed_tokens::MixedTokens;
-use crate::pattern::{Pattern, PatternKind};
-use crate::segment::{Segment, Tokens};
-use crate::simple_pattern::SimplePattern;
-use crate::token::ReadToken;
+use crate::pattern::{Kept, Pattern};
+use crate::scope::{Scope, trim};
+use crate::simple_pattern::{Extent, Shape, SimpleForm, SimplePattern};
+use crate::token::{ReadToken, Token};
 use smallvec::SmallVec;
 use std::alloc::{AllocError, Global};
 
@@ -62,89 +61,47 @@ fn read_lexeme(alloc: Global, b: u8, rest: &[u8]) -> Result<Option<(Lexeme, usiz
     )))
 }
 
-/// The tokens of the parts that separators cut, or `None` where the pattern is dead.
-fn read_parts(alloc: Global, bytes: &[u8]) -> Result<Option<Vec<MixedTokens>>, AllocError>
-    ensures parts { IfOk result (λ r. MatchOption r (parts 0 bytes.now ≡ None) (λ v. parts 0 bytes.now ≡ Some (map part_model v.items))) }
-    ensures some { IfOk result (λ r. IfSome r (λ v. 0 < length v.items)) }
+/// The tokens of the bytes, or `None` where the pattern is dead.
+fn read_tokens(alloc: Global, bytes: &[u8]) -> Result<Option<Vec<Token>>, AllocError>
+    ensures { IfOk result (λ r. MatchOption r (parts 0 bytes.now ≡ None)
+        (λ tokens. parts 0 bytes.now ≡ Some (parts_in mixed_model is_separator tokens.items))) }
 {
-    let mut done = Vec::new(alloc);
-    let mut current = MixedTokens::new(alloc);
+    let mut tokens = Vec::new(alloc);
     let mut left = bytes;
-    'tokens: loop {
-        let Some((b, rest)) = left.split_first() else {
-            done.push(current.shrunk())?;
-            return Ok(Some(done));
-        };
+    'tokens: while let Some((b, rest)) = left.split_first() {
         let Some((lexeme, taken)) = read_lexeme(alloc, *b, rest)? else {
             return Ok(None);
         };
-        match lexeme {
-            Lexeme::Separator => {
-                done.push(current.shrunk())?;
-                current = MixedTokens::new(alloc);
-            }
-            Lexeme::One(token) => current = current.with(token)?,
-        }
+        push_lexeme(&mut tokens, lexeme)?;
         left = &rest[taken..];
     }
+    Ok(Some(tokens))
 }
 
-/// Makes the segments of an anchored pattern's parts.
-fn segments_from(alloc: Global, parts: Vec<MixedTokens>) -> Result<Vec<Segment>, AllocError>
-    ensures { IfOk result (λ v. map segment_model v.items ≡ map (segment_from true) (map part_model parts.items)) }
+/// Pushes what a lexeme is kept as.
+fn push_lexeme(tokens: &mut Vec<Token>, lexeme: Lexeme) -> Result<(), AllocError>
+    ensures { IfOk result (λ _. tokens.new.items ≡ tokens.old.items ++ tokens_of lexeme) }
 {
-    let mut segments = Vec::with_capacity(alloc, parts.len())?;
-    let mut parts = parts;
-    parts.reverse();
-    'parts: while let Some(part) = parts.pop() {
-        let segment = segment_from(alloc, part)?;
-        segments.push(segment)?;
-    }
-    Ok(segments)
-}
-
-/// In an anchored pattern two stars alone are a double star.
-fn segment_from(alloc: Global, part: MixedTokens) -> Result<Segment, AllocError>
-    ensures { IfOk result (λ segment. segment_model segment ≡ segment_from true (part_model part)) }
-{
-    if part.is_double() {
-        return Ok(Segment::DoubleStar);
-    }
-    let tokens = Tokens::of(alloc, part)?;
-    Ok(Segment::Plain(tokens))
-}
-
-/// Whether the last lexeme is a separator.
-fn ends_in_empty(parts: &[MixedTokens]) -> bool
-    ensures ends { result ≡ ends_empty (map part_model parts.now) }
-    ensures some { IsTrue result → 1 < length parts.now }
-{
-    let Some((last, rest)) = parts.split_last() else {
-        return false;
-    };
-    !rest.is_empty() && last.is_empty()
-}
-
-/// Whether the first lexeme is a separator.
-fn begins_with_empty(parts: &[MixedTokens]) -> bool
-    ensures { result ≡ begins_empty (map part_model parts.now) }
-{
-    let Some((first, rest)) = parts.split_first() else {
-        return false;
-    };
-    !rest.is_empty() && first.is_empty()
-}
-
-/// Whether a part is empty, which makes the pattern dead.
-fn has_empty(parts: &[MixedTokens]) -> bool
-    ensures { result ≡ some_empty (map part_model parts.now) }
-{
-    for part in parts {
-        if part.is_empty() {
-            return true;
+    match lexeme {
+        Lexeme::Separator => tokens.push(Token::Separator)?,
+        Lexeme::One(ReadToken::Literal(b)) => tokens.push(Token::Literal(b))?,
+        Lexeme::One(ReadToken::AnyByte) => tokens.push(Token::AnyByte)?,
+        Lexeme::One(ReadToken::Star) => tokens.push(Token::Star)?,
+        Lexeme::One(ReadToken::Class(bracket)) => {
+            tokens.push(Token::Open(bracket.negated))?;
+            push_ranges(tokens, &bracket.ranges)?;
         }
     }
-    false
+    Ok(())
+}
+
+fn push_ranges(tokens: &mut Vec<Token>, ranges: &[(u8, u8)]) -> Result<(), AllocError>
+    ensures { IfOk result (λ _. tokens.new.items ≡ tokens.old.items ++ range_tokens ranges.now) }
+{
+    for (first, last) in ranges {
+        tokens.push(Token::Range(*first, *last))?;
+    }
+    Ok(())
 }
 
 /// Reads bytes as a pattern. Any bytes are one, perhaps a dead one.
@@ -154,13 +111,16 @@ pub(crate) fn read_pattern(alloc: Global, bytes: &[u8]) -> Result<Pattern, Alloc
     if let Some(simple) = SimplePattern::read(bytes) {
         return keep_simple(alloc, simple);
     }
-    let Some(parts) = read_parts(alloc, bytes)? else {
-        return Ok(dead_pattern());
+    let Some(tokens) = read_tokens(alloc, bytes)? else {
+        return Ok(dead_pattern(alloc));
     };
-    if ends_in_empty(&parts) {
-        return read_front(alloc, without_last_part(parts), true);
+    let Some((scope, tokens)) = trim(&tokens) else {
+        return Ok(dead_pattern(alloc));
+    };
+    if scope.is_anchored {
+        return keep_mixed(alloc, scope, tokens);
     }
-    read_front(alloc, parts, false)
+    keep_last(alloc, scope.is_dir_only, tokens)
 }
 
 /// The pattern with bytes of its own.
@@ -169,62 +129,63 @@ fn keep_simple(alloc: Global, simple: SimplePattern) -> Result<Pattern, AllocErr
 {
     let bytes = SmallVec::from_slice(alloc, simple.bytes)?;
     Ok(Pattern {
-        is_dir_only: simple.form.is_dir_only,
-        kind: PatternKind::Simple(simple.form.shape, bytes),
+        kept: Kept::Simple(simple.form, bytes),
     })
 }
 
-/// The parts without the last, so without the separator before it.
-fn without_last_part(parts: Vec<MixedTokens>) -> Vec<MixedTokens>
-    ensures parts { map part_model result.items ≡ without_last (map part_model parts.items) }
-    ensures len { length result.items ≡ length parts.items - 1 }
+/// The same with tokens.
+fn keep_mixed(alloc: Global, scope: Scope, tokens: &[Token]) -> Result<Pattern, AllocError>
+    ensures { IfOk result (λ p. p ≡ mixed_form_model scope tokens.now) }
 {
-    let mut parts = parts;
-    let kept = parts.len().saturating_sub(1);
-    parts.truncate(kept);
-    parts
-}
-
-/// Reads the parts of a pattern without a last separator.
-fn read_front(
-    alloc: Global,
-    parts: Vec<MixedTokens>,
-    is_dir_only: bool,
-) -> Result<Pattern, AllocError>
-    requires { 0 < length parts.items }
-    ensures { IfOk result (λ p. p ≡ cut_at_front is_dir_only (map part_model parts.items)) }
-{
-    let mut parts = parts;
-    let leads = begins_with_empty(&parts);
-    let is_anchored = leads || parts.len() > 1;
-    if leads {
-        let _ = parts.remove(0);
-    }
-    if has_empty(&parts) {
-        return Ok(dead_pattern());
-    }
-    if is_anchored {
-        let segments = segments_from(alloc, parts)?;
-        return Ok(Pattern {
-            is_dir_only,
-            kind: PatternKind::WholePath(segments),
-        });
-    }
-    let Some(part) = parts.pop() else {
-        return Ok(dead_pattern());
-    };
-    let tokens = Tokens::of(alloc, part)?;
     Ok(Pattern {
-        is_dir_only,
-        kind: PatternKind::LastSegment(tokens),
+        kept: Kept::Mixed(scope, tokens.to_vec(alloc)?),
     })
 }
 
-fn dead_pattern() -> Pattern
+/// The same where it has one segment: of literals alone, as `\\#a`, and a star before them, as `*\\ `, the bytes are kept.
+fn keep_last(alloc: Global, is_dir_only: bool, tokens: &[Token]) -> Result<Pattern, AllocError>
+    ensures { IfOk result (λ p. p ≡ live_model is_dir_only false (plain (mixed_model tokens.now) ∷ [])) }
+{
+    if let Some(literals) = literals_of(alloc, tokens)? {
+        return Ok(of_literals(is_dir_only, Shape::End(true), literals));
+    }
+    if let Some((Token::Star, rest)) = tokens.split_first() {
+        if let Some(literals) = literals_of(alloc, rest)? {
+            return Ok(of_literals(is_dir_only, Shape::End(false), literals));
+        }
+    }
+    let scope = Scope {
+        is_dir_only,
+        is_anchored: false,
+    };
+    keep_mixed(alloc, scope, tokens)
+}
+
+fn of_literals(is_dir_only: bool, shape: Shape, literals: SmallVec<u8, 16>) -> Pattern
+    ensures { result ≡ simple_model is_dir_only shape literals.items }
+{
+    let form = SimpleForm { is_dir_only, shape };
+    Pattern {
+        kept: Kept::Simple(form, literals),
+    }
+}
+
+/// The literals, where the tokens are literals alone.
+fn literals_of(alloc: Global, tokens: &[Token]) -> Result<Option<SmallVec<u8, 16>>, AllocError>
+    ensures { IfOk result (λ r. IfSome r (λ literals. tokens.now ≡ literal_tokens literals.items)) }
+{
+    let mut literals = SmallVec::new(alloc);
+    for token in tokens {
+        let Token::Literal(b) = token else {
+            return Ok(None);
+        };
+        literals.push(*b)?;
+    }
+    Ok(Some(literals))
+}
+
+fn dead_pattern(alloc: Global) -> Pattern
     ensures { result ≡ dead }
 {
-    Pattern {
-        is_dir_only: false,
-        kind: PatternKind::Dead,
-    }
+    of_literals(false, Shape::More(Extent::Dead), SmallVec::new(alloc))
 }

@@ -1,16 +1,17 @@
 //! The segments of a pattern, as they are matched.
 
-ghost use Rattle.std.specs.Prelude.{◌≡◌, ◌∷◌, ◌++◌, [], MatchOption, map, ◌↔◌, IsTrue};
+ghost use Rattle.std.specs.Prelude.{◌≡◌, ◌∷◌, ◌++◌, [], MatchOption, true, ◌↔◌, IsTrue};
 ghost use Rattle.std.specs.List.{list_any};
 ghost use Rattle.lc_glob.specs.Above.{is_double, is_wide};
-ghost use Rattle.lc_glob.specs.Reading.{is_double_star};
-ghost use Rattle.lc_glob.specs.Simple.{byte_token, bytes_segment, literals_segment};
+ghost use Rattle.lc_glob.specs.Mixed.{mixed_model};
+ghost use Rattle.lc_glob.specs.Reading.{segment_from};
+ghost use Rattle.lc_glob.specs.Simple.{bytes_segment, literals_segment};
 ghost use Rattle.lc_glob.specs.Tokens.{is_star};
 ghost use Rattle.lc_glob.specs.Views.{tokens_ref_model, segment_ref_model, segments_ref_model};
 
-use crate::segment::Segment;
+use crate::element::{are_two_stars, has_star};
 use crate::segments_left::SegmentsLeft;
-use crate::tokens_left::TokensLeft;
+use crate::token::Token;
 
 /// The tokens of a segment, by their shape.
 #[derive(Clone, Copy)]
@@ -19,8 +20,10 @@ pub(crate) enum TokensRef<'p> {
     Literal(&'p [u8]),
     /// A star and then literals alone.
     Suffix(&'p [u8]),
-    /// Any others.
-    Mixed(TokensLeft<'p>),
+    /// Any others of a simple pattern.
+    Bytes(&'p [u8]),
+    /// Those of any other.
+    Tokens(&'p [Token]),
 }
 
 impl<'p> TokensRef<'p> {
@@ -30,7 +33,8 @@ impl<'p> TokensRef<'p> {
         match self {
             TokensRef::Literal(_) => false,
             TokensRef::Suffix(_) => true,
-            TokensRef::Mixed(tokens) => tokens.has_star(),
+            TokensRef::Bytes(bytes) => has_star(bytes),
+            TokensRef::Tokens(tokens) => has_star(tokens),
         }
     }
 }
@@ -49,10 +53,22 @@ impl<'p> SegmentRef<'p> {
     fn of_bytes(bytes: &'p [u8]) -> Self
         ensures { segment_ref_model result ≡ bytes_segment bytes.now }
     {
-        if are_two_stars(bytes) {
+        match bytes {
+            [b'*', b'*'] => SegmentRef::DoubleStar,
+            // Any name fits it, which a suffix tells at one look.
+            [b'*'] => SegmentRef::Plain(TokensRef::Suffix(&[])),
+            _ => SegmentRef::Plain(TokensRef::Bytes(bytes)),
+        }
+    }
+
+    /// That of tokens.
+    fn of_tokens(tokens: &'p [Token]) -> Self
+        ensures { segment_ref_model result ≡ segment_from true (mixed_model tokens.now) }
+    {
+        if are_two_stars(tokens) {
             SegmentRef::DoubleStar
         } else {
-            SegmentRef::Plain(TokensRef::Mixed(TokensLeft::Bytes(bytes)))
+            SegmentRef::Plain(TokensRef::Tokens(tokens))
         }
     }
 
@@ -84,26 +100,17 @@ impl<'p> SegmentRef<'p> {
     }
 }
 
-pub(crate) fn are_two_stars(bytes: &[u8]) -> bool
-    ensures { result ≡ is_double_star (map byte_token bytes.now) }
-{
-    match bytes {
-        [b'*', b'*'] => true,
-        _ => false,
-    }
-}
-
 /// Segments of a pattern that are left to match.
 #[derive(Clone, Copy)]
 pub(crate) enum SegmentsRef<'p> {
     /// Those of a simple pattern.
-    Bytes(SegmentsLeft<'p>),
+    Bytes(SegmentsLeft<'p, u8>),
     /// The same where each is literals alone or a double star.
-    Literals(SegmentsLeft<'p>),
+    Literals(SegmentsLeft<'p, u8>),
     /// The same where each is literals alone.
-    Exact(SegmentsLeft<'p>),
-    /// As they were read.
-    Read(&'p [Segment]),
+    Exact(SegmentsLeft<'p, u8>),
+    /// Those of any other.
+    Tokens(SegmentsLeft<'p, Token>),
 }
 
 impl<'p> SegmentsRef<'p> {
@@ -115,7 +122,7 @@ impl<'p> SegmentsRef<'p> {
             SegmentsRef::Bytes(left) => left.is_over(),
             SegmentsRef::Literals(left) => left.is_over(),
             SegmentsRef::Exact(left) => left.is_over(),
-            SegmentsRef::Read(segments) => segments.is_empty(),
+            SegmentsRef::Tokens(left) => left.is_over(),
         }
     }
 
@@ -141,9 +148,9 @@ impl<'p> SegmentsRef<'p> {
                 let segment = SegmentRef::Plain(TokensRef::Literal(bytes));
                 Some((segment, SegmentsRef::Exact(others)))
             }
-            SegmentsRef::Read(segments) => {
-                let (segment, others) = segments.split_first()?;
-                Some((segment.as_ref(), SegmentsRef::Read(others)))
+            SegmentsRef::Tokens(left) => {
+                let (tokens, others) = left.split_first()?;
+                Some((SegmentRef::of_tokens(tokens), SegmentsRef::Tokens(others)))
             }
         }
     }
@@ -170,9 +177,9 @@ impl<'p> SegmentsRef<'p> {
                 let segment = SegmentRef::Plain(TokensRef::Literal(bytes));
                 Some((segment, SegmentsRef::Exact(others)))
             }
-            SegmentsRef::Read(segments) => {
-                let (segment, others) = segments.split_last()?;
-                Some((segment.as_ref(), SegmentsRef::Read(others)))
+            SegmentsRef::Tokens(left) => {
+                let (others, tokens) = left.split_last()?;
+                Some((SegmentRef::of_tokens(tokens), SegmentsRef::Tokens(others)))
             }
         }
     }

@@ -1,28 +1,30 @@
-//! Segments, cut by slashes, that are found one by one from either end.
+//! Segments, cut by separators, that are found one by one from either end.
 
 ghost use Rattle.std.specs.Prelude.{◌≡◌, ◌↔◌, IsTrue, [], ◌∷◌, ◌++◌, MatchOption};
-ghost use Rattle.lc_glob.specs.Path.{segments_of, segments_left};
+ghost use Rattle.std.specs.List.{slice_split};
+ghost use Rattle.lc_glob.specs.Pieces.{cuts_left};
 
-use crate::cut::cut_at_first;
-use memchr::memrchr;
+use crate::element::Element;
 
-/// The segments that are left: none, or those of the bytes.
+/// The segments that are left: none, or those of the elements.
 #[derive(Clone, Copy)]
-pub(crate) struct SegmentsLeft<'a> {
-    rest: Option<&'a [u8]>,
+pub(crate) struct SegmentsLeft<'a, E> {
+    pub(crate) rest: Option<&'a [E]>,
 }
 
-impl<'a> SegmentsLeft<'a> {
-    /// All those of the bytes.
-    pub(crate) fn of(bytes: &'a [u8]) -> Self
-        ensures { segments_left result.rest ≡ segments_of bytes.now }
+impl<'a, E: Element> SegmentsLeft<'a, E> {
+    /// All those of the elements.
+    pub(crate) fn of(elements: &'a [E]) -> Self
+        ensures { cuts_left E.separates result.rest ≡ slice_split E.separates elements.now }
     {
-        SegmentsLeft { rest: Some(bytes) }
+        SegmentsLeft {
+            rest: Some(elements),
+        }
     }
 
     /// Whether none is left.
     pub(crate) fn is_over(self) -> bool
-        ensures { IsTrue result ↔ (segments_left self.entry.rest ≡ []) }
+        ensures { IsTrue result ↔ (cuts_left E.separates self.entry.rest ≡ []) }
     {
         match self.rest {
             None => true,
@@ -31,35 +33,20 @@ impl<'a> SegmentsLeft<'a> {
     }
 
     /// The first of the segments, and the others.
-    pub(crate) fn split_first(self) -> Option<(&'a [u8], SegmentsLeft<'a>)>
-        ensures { MatchOption result (segments_left self.entry.rest ≡ [])
-            (λ p. segments_left self.entry.rest ≡ p.0.now ∷ segments_left p.1.rest) }
+    pub(crate) fn split_first(self) -> Option<(&'a [E], SegmentsLeft<'a, E>)>
+        ensures { MatchOption result (cuts_left E.separates self.entry.rest ≡ [])
+            (λ p. cuts_left E.separates self.entry.rest ≡ p.0.now ∷ cuts_left E.separates p.1.rest) }
     {
-        let (first, rest) = cut_at_first(b'/', self.rest?);
+        let (first, rest) = E::cut_at_first_separator(self.rest?);
         Some((first, SegmentsLeft { rest }))
     }
 
     /// The segments before the last, and the last.
-    pub(crate) fn split_last(self) -> Option<(SegmentsLeft<'a>, &'a [u8])>
-        ensures { MatchOption result (segments_left self.entry.rest ≡ [])
-            (λ p. segments_left self.entry.rest ≡ segments_left p.0.rest ++ p.1.now ∷ []) }
+    pub(crate) fn split_last(self) -> Option<(SegmentsLeft<'a, E>, &'a [E])>
+        ensures { MatchOption result (cuts_left E.separates self.entry.rest ≡ [])
+            (λ p. cuts_left E.separates self.entry.rest ≡ cuts_left E.separates p.0.rest ++ p.1.now ∷ []) }
     {
-        let bytes = self.rest?;
-        Some(split_last_segment(bytes))
-    }
-}
-
-/// The segments of some bytes before the last, and the last, which all bytes have.
-pub(crate) fn split_last_segment<'a>(bytes: &'a [u8]) -> (SegmentsLeft<'a>, &'a [u8])
-    ensures { segments_of bytes.now ≡ segments_left result.0.rest ++ result.1.now ∷ [] }
-{
-    match memrchr(b'/', bytes) {
-        None => (SegmentsLeft { rest: None }, bytes),
-        Some(place) => (
-            SegmentsLeft {
-                rest: Some(&bytes[..place]),
-            },
-            &bytes[place + 1..],
-        ),
+        let (rest, last) = E::cut_at_last_separator(self.rest?);
+        Some((SegmentsLeft { rest }, last))
     }
 }

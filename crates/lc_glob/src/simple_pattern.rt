@@ -1,35 +1,42 @@
 //! Simple patterns, which are matched from their bytes: each byte is a token or a separator, since none is quoted and none opens a
 //! bracket. Most patterns are simple.
 
-ghost use Rattle.std.specs.Prelude.{◌≡◌, true, if◌then◌else◌, length, map, nat_lt, false, Bool, MatchOption, [], ◌∷◌, ◌≤◌, ◌+◌, ◌↔◌, IsTrue};
+ghost use Rattle.std.specs.Prelude.{◌≡◌, true, length, map, false, Bool, MatchOption, [], ◌∷◌, ◌≤◌, ◌+◌, ◌↔◌, IsTrue};
 ghost use Rattle.std.specs.List.{list_all};
 ghost use Rattle.lc_glob.specs.Costs.{full_cost};
 ghost use Rattle.lc_glob.specs.Matches.{Matches, MatchesPath};
 ghost use Rattle.lc_glob.specs.Path.{segments_of};
 ghost use Rattle.lc_glob.specs.Patterns.{plain};
-ghost use Rattle.lc_glob.specs.Reading.{begins_empty, ends_empty, pattern_of, some_empty, without_first, without_last};
-ghost use Rattle.lc_glob.specs.Simple.{byte_parts, byte_token, bytes_segment, exact_segment, is_literal, is_literal_segment, is_simple};
+ghost use Rattle.lc_glob.specs.Reading.{pattern_of};
+ghost use Rattle.lc_glob.specs.Simple.{byte_token, bytes_segment, exact_segment, is_literal, is_literal_segment, is_simple};
 ghost use Rattle.lc_glob.specs.Views.{form_model, live_model, simple_model};
+ghost use Rattle.lc_glob.specs.declared.simple_pattern.Shape.TheVariants.{More};
 
 use crate::candidate::Candidate;
-use crate::cut::cut_at_first;
+use crate::element::are_two_stars;
 use crate::match_path::matches_path;
-use crate::match_segment::{fits_bytes, fits_literals, fits_suffix};
+use crate::match_segment::{fits_elements, fits_end};
 use crate::path_segment::ByteTests;
 use crate::pattern_view::PatternView;
-use crate::segment_ref::{SegmentsRef, are_two_stars};
+use crate::scope::trim;
+use crate::segment_ref::SegmentsRef;
 use crate::segments_left::SegmentsLeft;
 
 /// What of a path a simple pattern is matched with, and by which tokens.
 #[derive(Clone, Copy)]
 pub(crate) enum Shape {
+    /// The end of the last segment, by literals: alone, so by the whole, as `Makefile`, or after a star, as `*.o`.
+    End(bool),
+    /// More than that end. It stands one level below, since to ask one thing first costs less than to ask which of all shapes it is.
+    More(Extent),
+}
+
+/// What else it is matched with.
+#[derive(Clone, Copy)]
+pub(crate) enum Extent {
     /// Nothing: it is dead, since a segment of it is empty, as in `a//b`.
     Dead,
-    /// The last segment, by literals alone, as `Makefile`.
-    Literal,
-    /// The last segment, by a star and then literals alone, as `*.o`.
-    Suffix,
-    /// The last segment, by any others, as `core.*`.
+    /// The last segment, by any tokens, as `core.*`.
     LastSegment,
     /// All segments by literals alone, as `/build` and `docs/out`.
     Exact,
@@ -39,7 +46,7 @@ pub(crate) enum Shape {
     WholePath,
 }
 
-/// What is known of a simple pattern beside its bytes, so that it can be matched from them: two bytes.
+/// What is known of a simple pattern beside its bytes, so that it can be matched from them: three bytes.
 #[derive(Clone, Copy)]
 pub struct SimpleForm {
     pub(crate) is_dir_only: bool,
@@ -71,16 +78,14 @@ impl<'p> SimplePattern<'p> {
         requires { list_all is_simple bytes.now ≡ true }
         ensures { form_model result.form result.bytes.now ≡ pattern_of bytes.now }
     {
-        let (front, is_dir_only) = without_last_separator(bytes);
-        let (segments, leads) = without_first_separator(front);
-        if has_empty(segments) {
-            return Self::new(false, Shape::Dead, &[]);
-        }
-        if leads || has_separator(segments) {
-            return Self::new(is_dir_only, path_shape(segments), segments);
+        let Some((scope, segments)) = trim(bytes) else {
+            return Self::new(false, Shape::More(Extent::Dead), &[]);
+        };
+        if scope.is_anchored {
+            return Self::new(scope.is_dir_only, path_shape(segments), segments);
         }
         let (shape, kept) = shaped(segments);
-        Self::new(is_dir_only, shape, kept)
+        Self::new(scope.is_dir_only, shape, kept)
     }
 
     pub(crate) fn new(is_dir_only: bool, shape: Shape, bytes: &'p [u8]) -> Self
@@ -96,8 +101,8 @@ impl<'p> SimplePattern<'p> {
         PatternView::of_shape(self.form.is_dir_only, self.form.shape, self.bytes)
     }
 
-    /// Whether it matches. The two most usual shapes are matched where it is called, so that most patterns aren't handed on in memory,
-    /// and no view of it is made: either would cost more than most matches.
+    /// Whether it matches. The most usual shape is matched where it is called, so that most patterns aren't handed on in memory, and no
+    /// view of it is made: either would cost more than most matches.
     #[inline]
     pub(crate) fn matched(self, path: &Candidate, is_dir: bool, tests: &mut ByteTests) -> bool
         ensures meaning { IsTrue result ↔ Matches (form_model self.entry.form self.entry.bytes.now) path.now is_dir }
@@ -107,36 +112,28 @@ impl<'p> SimplePattern<'p> {
         if self.form.is_dir_only && !is_dir {
             return false;
         }
-        if let Shape::Literal = self.form.shape {
-            return fits_literals(self.bytes, path.last, tests);
+        match self.form.shape {
+            Shape::End(is_alone) => fits_end(self.bytes, is_alone, path.last, tests),
+            Shape::More(extent) => self.matched_by(extent, path, tests),
         }
-        if let Shape::Suffix = self.form.shape {
-            return fits_suffix(self.bytes, path.last, tests);
-        }
-        self.matched_by_shape(path, is_dir, tests)
     }
 
-    /// The same, whatever the shape.
+    /// The same by its extent, of a path that is a directory where it asks for one.
     #[inline(never)]
-    fn matched_by_shape(self, path: &Candidate, is_dir: bool, tests: &mut ByteTests) -> bool
-        ensures meaning { IsTrue result ↔ Matches (form_model self.entry.form self.entry.bytes.now) path.now is_dir }
+    fn matched_by(self, extent: Extent, path: &Candidate, tests: &mut ByteTests) -> bool
+        ensures meaning { IsTrue result ↔ Matches (simple_model false (More extent) self.entry.bytes.now) path.now false }
         ensures cost { tests.new.made
-            ≤ tests.old.made + full_cost (form_model self.entry.form self.entry.bytes.now).segments (segments_of path.now) }
+            ≤ tests.old.made + full_cost (simple_model false (More extent) self.entry.bytes.now).segments (segments_of path.now) }
     {
-        if self.form.is_dir_only && !is_dir {
-            return false;
-        }
         let bytes = self.bytes;
-        match self.form.shape {
-            Shape::Dead => false,
-            Shape::Literal => fits_literals(bytes, path.last, tests),
-            Shape::Suffix => fits_suffix(bytes, path.last, tests),
-            Shape::LastSegment => fits_bytes(bytes, path.last, tests),
-            Shape::Exact => matches_exactly(bytes, path, tests),
-            Shape::LiteralPath => {
+        match extent {
+            Extent::Dead => false,
+            Extent::LastSegment => fits_elements(bytes, path.last, tests),
+            Extent::Exact => matches_exactly(bytes, path, tests),
+            Extent::LiteralPath => {
                 matches_path(SegmentsRef::Literals(SegmentsLeft::of(bytes)), path, tests)
             }
-            Shape::WholePath => {
+            Extent::WholePath => {
                 matches_path(SegmentsRef::Bytes(SegmentsLeft::of(bytes)), path, tests)
             }
         }
@@ -165,62 +162,6 @@ fn is_simple(b: u8) -> bool
     b != b'\\' && b != b'['
 }
 
-/// The bytes without the separator that is last, and whether it was there.
-fn without_last_separator<'p>(bytes: &'p [u8]) -> (&'p [u8], bool)
-    ensures ends { result.1 ≡ ends_empty (byte_parts bytes.now) }
-    ensures parts { byte_parts result.0.now
-        ≡ (if ends_empty (byte_parts bytes.now) then without_last (byte_parts bytes.now) else byte_parts bytes.now) }
-{
-    let Some((last, front)) = bytes.split_last() else {
-        return (bytes, false);
-    };
-    if *last == b'/' {
-        (front, true)
-    } else {
-        (bytes, false)
-    }
-}
-
-/// The bytes without the separator that is first, and whether it was there.
-fn without_first_separator<'p>(bytes: &'p [u8]) -> (&'p [u8], bool)
-    ensures begins { result.1 ≡ begins_empty (byte_parts bytes.now) }
-    ensures parts { byte_parts result.0.now
-        ≡ (if begins_empty (byte_parts bytes.now) then without_first (byte_parts bytes.now) else byte_parts bytes.now) }
-{
-    let Some((first, rest)) = bytes.split_first() else {
-        return (bytes, false);
-    };
-    if *first == b'/' {
-        (rest, true)
-    } else {
-        (bytes, false)
-    }
-}
-
-/// Whether a segment is empty, which makes the pattern dead.
-fn has_empty(bytes: &[u8]) -> bool
-    ensures { result ≡ some_empty (byte_parts bytes.now) }
-{
-    let mut left = SegmentsLeft::of(bytes);
-    'segments: while let Some((segment, others)) = left.split_first() {
-        if segment.is_empty() {
-            return true;
-        }
-        left = others;
-    }
-    false
-}
-
-fn has_separator(bytes: &[u8]) -> bool
-    ensures { result ≡ nat_lt 1 (length (byte_parts bytes.now)) }
-{
-    let (_, after) = cut_at_first(b'/', bytes);
-    match after {
-        None => false,
-        Some(_) => true,
-    }
-}
-
 /// Whether each segment is literals alone or a double star.
 fn has_literal_segments(bytes: &[u8]) -> bool
     ensures { result ≡ list_all is_literal_segment (segments_of bytes.now) }
@@ -241,11 +182,11 @@ fn path_shape(bytes: &[u8]) -> Shape
         ≡ live_model is_dir_only true (map bytes_segment (segments_of bytes.now)) }
 {
     if are_literals(bytes) {
-        Shape::Exact
+        Shape::More(Extent::Exact)
     } else if has_literal_segments(bytes) {
-        Shape::LiteralPath
+        Shape::More(Extent::LiteralPath)
     } else {
-        Shape::WholePath
+        Shape::More(Extent::WholePath)
     }
 }
 
@@ -255,15 +196,15 @@ fn shaped<'p>(bytes: &'p [u8]) -> (Shape, &'p [u8])
         ≡ live_model is_dir_only false (plain (map byte_token bytes.now) ∷ []) }
 {
     if are_literals(bytes) {
-        return (Shape::Literal, bytes);
+        return (Shape::End(true), bytes);
     }
     let Some((first, rest)) = bytes.split_first() else {
-        return (Shape::LastSegment, bytes);
+        return (Shape::More(Extent::LastSegment), bytes);
     };
     if *first == b'*' && are_literals(rest) {
-        (Shape::Suffix, rest)
+        (Shape::End(false), rest)
     } else {
-        (Shape::LastSegment, bytes)
+        (Shape::More(Extent::LastSegment), bytes)
     }
 }
 

@@ -1,11 +1,12 @@
 //! The tokens of a segment.
 
-ghost use Rattle.std.specs.Prelude.{◌≡◌, MatchOption, Some, None};
-ghost use Rattle.lc_glob.specs.Mixed.{is_star_token, plain_model};
+ghost use Rattle.std.specs.Prelude.{◌≡◌, ◌∷◌, MatchOption};
+ghost use Rattle.lc_glob.specs.Mixed.{is_for_byte, is_separator, mixed_model};
 ghost use Rattle.lc_glob.specs.Simple.{byte_token};
 ghost use Rattle.lc_glob.specs.Tokens.{takes, is_star};
 ghost use Rattle.lc_glob.specs.Views.{token_ref_model};
 
+use crate::bracket::Bracket;
 use crate::byte_set::ByteSet;
 
 /// One token of a segment, as it was read.
@@ -18,23 +19,37 @@ pub(crate) enum ReadToken {
     /// `*`: any bytes, but no slash.
     Star,
     /// A bracket: one byte of a set.
-    Class(ByteSet),
+    Class(Bracket),
 }
 
-/// One token, as it is kept. It takes two bytes, since the set of a bracket stands elsewhere.
+/// One token of a pattern that isn't simple, as it is kept, in three bytes.
 #[derive(Clone, Copy)]
-pub(crate) enum Token {
+pub enum Token {
     Literal(u8),
     AnyByte,
     Star,
-    Class,
+    /// A bracket, perhaps a negated one. Its ranges follow.
+    Open(bool),
+    /// The first and the last byte of a bracket's range.
+    Range(u8, u8),
+    /// What stands between two segments.
+    Separator,
 }
 
+const _: () = prove!(size_of::<Token>() == 3);
+
 impl Token {
-    pub(crate) fn is_star(self) -> bool
-        ensures { result ≡ is_star_token self }
+    pub(crate) fn is_separator(self) -> bool
+        ensures { result ≡ is_separator self }
     {
-        matches!(self, Token::Star)
+        matches!(self, Token::Separator)
+    }
+
+    /// Whether it stands for one byte.
+    pub(crate) fn is_for_byte(self) -> bool
+        ensures { result ≡ is_for_byte self }
+    {
+        matches!(self, Token::Literal(_) | Token::AnyByte | Token::Open(_))
     }
 }
 
@@ -44,7 +59,7 @@ pub(crate) enum TokenRef<'p> {
     Literal(u8),
     AnyByte,
     Star,
-    Class(&'p ByteSet),
+    Class(ByteSet<'p>),
 }
 
 impl<'p> TokenRef<'p> {
@@ -59,15 +74,17 @@ impl<'p> TokenRef<'p> {
         }
     }
 
-    /// That of a token that is no bracket.
-    pub(crate) fn of_plain(token: Token) -> Option<Self>
-        ensures { MatchOption result (plain_model token ≡ None) (λ found. plain_model token ≡ Some (token_ref_model found)) }
+    /// That of a token that was read, by those after it. A range and a separator are none.
+    pub(crate) fn of_token(token: Token, after: &'p [Token]) -> Option<Self>
+        ensures { MatchOption result (mixed_model (token ∷ after.now) ≡ mixed_model after.now)
+            (λ found. mixed_model (token ∷ after.now) ≡ token_ref_model found ∷ mixed_model after.now) }
     {
         match token {
             Token::Literal(b) => Some(TokenRef::Literal(b)),
             Token::AnyByte => Some(TokenRef::AnyByte),
             Token::Star => Some(TokenRef::Star),
-            Token::Class => None,
+            Token::Open(negated) => Some(TokenRef::Class(ByteSet::new(negated, after))),
+            Token::Range(_, _) | Token::Separator => None,
         }
     }
 

@@ -13,7 +13,7 @@ use Rattle.lc_glob.specs.Above.{names_of, TellMatches}
 use Rattle.lc_glob.specs.IsMatch.{is_match, segments_match}
 use Rattle.lc_glob.specs.Path.{segments_of}
 use Rattle.lc_glob.specs.Patterns.{PatternModel}
-use Rattle.lc_glob.proofs.Naming.{some_segment}
+use Rattle.lc_glob.proofs.Naming.{some_part}
 use Rattle.lc_rules.specs.Above.{AreDecided, AreCut, AreFound, IsOwn}
 use Rattle.lc_rules.specs.IgnoreRules.{RuleModel}
 use Rattle.lc_rules.specs.Verdicts.{at_depth, deciding}
@@ -37,7 +37,7 @@ segments_apart (x ∷ before) after = at (nat_eq x 47) refl (segments_apart befo
         ∙ ap (λ (l : List (List ℕ)). l ++ segments_of after) (sym (slice_split-cons_yes (λ (b : ℕ). nat_eq b 47) x before s))
     at false s rest =
         slice_split-cons_no (λ (b : ℕ). nat_eq b 47) x (before ++ 47 ∷ after) s ∙ ap (onto_first x) rest
-        ∙ onto_front x (segments_of before) (segments_of after) (some_segment before)
+        ∙ onto_front x (segments_of before) (segments_of after) (some_part (λ (b : ℕ). nat_eq b 47) before)
         ∙ ap (λ (l : List (List ℕ)). l ++ segments_of after) (sym (slice_split-cons_no (λ (b : ℕ). nat_eq b 47) x before s))
 
 -- what was cut off before a slash is one segment

@@ -141,7 +141,7 @@ fn read_rules(alloc: Global, bytes: &[u8]) -> Result<(Vec<Rule>, KeptPatterns), 
     'lines: while let Some((line, others)) = left.split_first() {
         if let Some((rule, pattern)) = read_rule(alloc, number, line)? {
             rules.push(rule)?;
-            patterns.push(pattern)?;
+            patterns.push(&pattern)?;
         }
         number += 1;
         left = others;

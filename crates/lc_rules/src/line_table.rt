@@ -166,18 +166,12 @@ impl LineTable {
     }
 }
 
-/// About how many bytes a line takes whose pattern was read: 64, and one for each byte of the pattern; where some byte is quoted or opens a
-/// bracket, up to 16 for each byte and 64 for each segment.
+/// About how many bytes a line takes whose pattern was read: 64, and one for each byte of the pattern, or up to three where some byte is
+/// quoted or opens a bracket.
 fn bytes_of(pattern: &[u8]) -> usize {
-    if !pattern.iter().any(|b| *b == b'[' || *b == b'\\') {
-        return pattern.len().saturating_add(64);
-    }
-    let segments = pattern.iter().filter(|b| **b == b'/').count();
-    pattern
-        .len()
-        .saturating_mul(16)
-        .saturating_add(segments.saturating_mul(64))
-        .saturating_add(64)
+    let is_simple = !pattern.iter().any(|b| *b == b'[' || *b == b'\\');
+    let each = if is_simple { 1 } else { 3 };
+    pattern.len().saturating_mul(each).saturating_add(64)
 }
 
 /// Adds the names of the assignments that these words are to a set of names.

@@ -1,9 +1,9 @@
-//! Patterns that are kept as a form and bytes.
+//! What patterns are matched from, and patterns made of that.
 
-use lc_glob::{Candidate, Pattern, PatternRef};
+use lc_glob::{Candidate, Pattern, PatternRef, Source};
 use std::test::Fail;
 
-/// A pattern, the bytes that are kept of it where these are all that it is matched by, and whether it matches that directory.
+/// A pattern, the bytes that it is matched from unless these are tokens, and whether it matches that directory.
 type Case = (&'static [u8], Option<&'static [u8]>, &'static [u8], bool);
 
 const CASES: &[Case] = &[
@@ -25,39 +25,42 @@ const CASES: &[Case] = &[
     (b"\\*.c", Some(b"*.c"), b"a.c", false),
     // others
     (b"[ab]", None, b"b", true),
+    (b"[!a-c]x", None, b"bx", false),
+    (b"[!a-c]x", None, b"dx", true),
+    (b"/[[:digit:]]*/**/?.[oa]/", None, b"1st/a/b/m.a", true),
+    (b"/[[:digit:]]*/**/?.[oa]/", None, b"st/a/b/m.a", false),
+    (b"a/[b]//c", Some(b""), b"a/b/c", false),
     (b"\\**", None, b"*c", true),
     (b"\\a/b", None, b"a/b", true),
 ];
 
 #[test]
-fn a_form_and_bytes_are_the_pattern(rt: HostRuntime) -> Result<(), Fail> {
+fn a_pattern_is_made_of_its_source(rt: HostRuntime) -> Result<(), Fail> {
     for (bytes, kept, path, wanted) in CASES {
         let pattern = Pattern::read(rt.alloc(), bytes)?;
-        let path = Candidate::new(path);
-        let found = match (pattern.simple(), kept) {
-            (Some(simple), Some(kept)) => {
+        let source = pattern.as_ref().source();
+        match (source, kept) {
+            (Source::Simple(simple), Some(kept)) => {
                 assert!(rt; simple.bytes == *kept, "{bytes:?}");
-                PatternRef::simple(simple.form, simple.bytes).matches_candidate(&path, true)
             }
-            (simple, kept) => {
-                assert!(rt; simple.is_none() && kept.is_none(), "{bytes:?}");
-                pattern.as_ref().matches_candidate(&path, true)
-            }
-        };
+            (Source::Mixed(_), None) => {}
+            _ => panic!(rt; "{bytes:?}"),
+        }
+        let found = PatternRef::new(source).matches_candidate(&Candidate::new(path), true);
         assert!(rt; found == *wanted, "{bytes:?}");
     }
     Ok(())
 }
 
 #[test]
-fn a_form_tells_of_directories(rt: HostRuntime) -> Result<(), Fail> {
-    let pattern = Pattern::read(rt.alloc(), b"**/b/**/")?;
-    let Some(simple) = pattern.simple() else {
-        panic!(rt; "it is simple");
-    };
-    let kept = PatternRef::simple(simple.form, simple.bytes);
-    let mut flags = [true; 3];
-    kept.match_directories(&[b"b", b"b", b"c"], &mut flags);
-    assert!(rt; flags == [false, true, true] && kept.searches() && kept.is_dir_only());
+fn such_a_pattern_tells_of_directories(rt: HostRuntime) -> Result<(), Fail> {
+    for bytes in [b"**/b/**/".as_slice(), b"**/[ab]/**/"] {
+        let pattern = Pattern::read(rt.alloc(), bytes)?;
+        let same = PatternRef::new(pattern.as_ref().source());
+        let mut flags = [true; 3];
+        same.match_directories(&[b"b", b"b", b"c"], &mut flags);
+        assert!(rt; flags == [false, true, true] && same.searches() && same.is_dir_only());
+        assert!(rt; same.is_anchored() && !same.is_dead());
+    }
     Ok(())
 }

@@ -5,7 +5,7 @@ use Rattle.lc_glob.proofs.candidate.Candidate.measured_from.Goals.{then-path-lon
 
 pub invariant_of-result : goal.invariant_of-result
 invariant_of-result c =
-    let cut = c.split_last_segment.ensures in (
+    let cut = c.cut_at_last_separator.ensures in (
       rw c.new.ensures cut,
       elim c.if-path-long.branch [
         | then-path-long w ↦ rw w.lengths-is (w.unknown-lengths.ensures _

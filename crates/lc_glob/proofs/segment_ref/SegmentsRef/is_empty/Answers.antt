@@ -1,7 +1,10 @@
-use Rattle.std.proofs.Common.{ap, ◌∙◌, map, sym}
+use Rattle.std.proofs.Common.{ap, ◌∙◌, map, sym, true, List}
+use Rattle.lc_glob.specs.Mixed.{mixed_model}
+use Rattle.lc_glob.specs.Reading.{segment_from}
+use Rattle.lc_glob.specs.declared.token.Token.{Token}
 use Rattle.lc_glob.specs.Simple.{bytes_segment, literals_segment, exact_segment}
 use Rattle.lc_glob.specs.Views.{segments_ref_model}
-use Rattle.lc_glob.proofs.SimpleBytes.{none_mapped}
+use Rattle.lc_glob.proofs.Fronts.{none_mapped}
 use Rattle.lc_glob.proofs.segment_ref.SegmentsRef.is_empty.Goals as goal
 
 pub returns-in-Bytes : goal.returns-in-Bytes
@@ -21,4 +24,12 @@ returns-in-Exact c =
     let is = ap segments_ref_model c.in-Exact.is in (
       λ h. is ∙ ap (map exact_segment) (c.is_over-in-Exact.ensures.0 h),
       λ h. c.is_over-in-Exact.ensures.1 (none_mapped exact_segment _ (sym is ∙ h)),
+    )
+
+pub returns-in-Tokens : goal.returns-in-Tokens
+returns-in-Tokens c =
+    let is = ap segments_ref_model c.in-Tokens.is in
+    let segment = λ (part : List Token). segment_from true (mixed_model part) in (
+      λ h. is ∙ ap (map segment) (c.is_over-in-Tokens.ensures.0 h),
+      λ h. c.is_over-in-Tokens.ensures.1 (none_mapped segment _ (sym is ∙ h)),
     )

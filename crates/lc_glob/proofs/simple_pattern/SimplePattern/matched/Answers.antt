@@ -1,13 +1,10 @@
-use Rattle.std.proofs.Common.{ap, sym, map, ◌∷◌, ◌∙◌}
+use Rattle.std.proofs.Common.{ap, sym, ◌∙◌}
 use Rattle.lc_glob.specs.Path.{segments_of}
-use Rattle.lc_glob.specs.Tokens.{literal, star}
+use Rattle.lc_glob.specs.Simple.{end_tokens}
 use Rattle.lc_glob.proofs.Ends.{last_cost}
 use Rattle.lc_glob.proofs.simple_pattern.SimplePattern.matched.Goals as goal
 
-pub returns-in-Literal-clause-cost : goal.returns-in-Literal-clause-cost
-returns-in-Literal-clause-cost c =
-    rw c.in-Literal.is (last_cost _ _ _ _ _ _ (ap segments_of (sym c.path.view_is) ∙ c.path.invariant.0) c.fits_literals.ensures.cost)
-
-pub returns-in-Suffix-clause-cost : goal.returns-in-Suffix-clause-cost
-returns-in-Suffix-clause-cost c =
-    rw c.in-Suffix.is (last_cost _ _ (star ∷ map literal c.args.self.bytes.now) _ _ _ (ap segments_of (sym c.path.view_is) ∙ c.path.invariant.0) c.fits_suffix.ensures.cost)
+pub returns-in-End-clause-cost : goal.returns-in-End-clause-cost
+returns-in-End-clause-cost c =
+    rw c.in-End.is (last_cost _ _ (end_tokens c.in-End.is_alone c.args.self.bytes.now) _ _ _
+    (ap segments_of (sym c.path.view_is) ∙ c.path.invariant.0) c.fits_end.ensures.cost)

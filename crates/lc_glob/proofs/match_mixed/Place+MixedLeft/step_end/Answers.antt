@@ -1,7 +1,0 @@
-use Rattle.std.proofs.Common.{◌∙◌, sym}
-use Rattle.lc_glob.proofs.Fitting.{end_stuck}
-use Rattle.lc_glob.proofs.match_mixed.Place+MixedLeft.step_end.Goals as goal
-
-pub returns-in-None-clause-is : goal.returns-in-None-clause-is
-returns-in-None-clause-is c =
-    end_stuck _ _ _ _ c.in-Some.ensures (sym c.is_star.ensures ∙ c.if-is_star.false) c.in-None.ensures.strips

@@ -1,0 +1,15 @@
+use Rattle.std.proofs.Common.{◌↔◌, ◌+◌, ◌*◌, ◌≤◌, length}
+use Rattle.lc_glob.specs.Fits.{Fits}
+use Rattle.lc_glob.proofs.place.Place.fits.Given as goal
+
+abbrev pub invariant-ends : goal.invariant-ends
+invariant-ends g l =
+    let tokens = g.E.Element.tokens_in in
+    record {
+      same : Fits (tokens l.self.tokens.now) l.self.segment.bytes.now ↔ Fits (tokens l.here.tokens.now) l.here.segment.bytes.now;
+      cost : l.tests.made + (length (tokens l.here.tokens.now) + 1) * (length l.here.segment.bytes.now + 1)
+          ≤ l.initial.tests.made + (length (tokens l.self.tokens.now) + 1) * (length l.self.segment.bytes.now + 1);
+    }
+
+abbrev pub decreases-ends : goal.decreases-ends
+decreases-ends g l = length (g.E.Element.tokens_in l.here.tokens.now)

@@ -1,0 +1,23 @@
+use Rattle.std.proofs.Common.{sym, subst, [], List}
+use Rattle.lc_glob.specs.Mixed.{is_separator}
+use Rattle.lc_glob.specs.declared.token.Token.{Token}
+use Rattle.lc_glob.proofs.Lexemes.{read_lexeme, read_all}
+use Rattle.lc_glob.proofs.Naming.{EndsIn, ends_start}
+use Rattle.lc_glob.proofs.Parts.{join_start}
+use Rattle.lc_glob.proofs.reading.read_tokens.Goals as goal
+
+pub tokens-init : goal.tokens-init
+tokens-init c = (
+  [],
+  [],
+  subst (λ (xs : List Token). EndsIn is_separator xs [] []) (sym c.new-tokens.ensures.items) (ends_start is_separator),
+  join_start c.args.bytes.now,
+)
+
+pub tokens-preserved : goal.tokens-preserved
+tokens-preserved c =
+    let is = rw c.in-Some-2.is at c.in_ok-lexeme.ensures.is in
+    read_lexeme c.in-Some-2.lexeme _ _ _ _ _ _ _ c.in_ok-push_lexeme.ensures c.in-Some.ensures.cases.0 is c.tokens.invariant
+
+pub returns : goal.returns
+returns c = read_all _ c.tokens.tokens.items _ c.in_default.ensures.cases c.tokens.invariant

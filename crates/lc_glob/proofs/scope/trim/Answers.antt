@@ -1,0 +1,21 @@
+use Rattle.std.proofs.Common.{sym, ◌∙◌}
+use Rattle.lc_glob.proofs.Fronts.{trimmed_dead, trimmed_is, true_left, false_left}
+use Rattle.lc_glob.proofs.scope.trim.Goals as goal
+use Rattle.lc_glob.proofs.scope.trim.Goals.{then-leads, else-leads}
+
+pub returns-then-has_empty : goal.returns-then-has_empty
+returns-then-has_empty g c =
+    let e = g.E.Element in
+    trimmed_dead e.tokens_in e.separates _ _ _ c.without_last_separator-is_dir_only.ensures.parts c.without_first_separator-leads.ensures.parts
+    (sym c.has_empty.ensures ∙ c.if-has_empty.true)
+
+pub returns : goal.returns
+returns g c =
+    let e = g.E.Element in
+    let front = c.without_last_separator-is_dir_only in
+    let rest = c.without_first_separator-leads in
+    trimmed_is e.tokens_in e.separates _ _ _ _ _ front.ensures.ends
+    (elim c.if-leads.branch [
+      | then-leads w ↦ true_left _ _ _ (sym rest.ensures.begins ∙ w.if-leads.true) (w.is_anchored-is ∙ w.if-leads.true)
+      | else-leads w ↦ false_left _ _ _ (sym rest.ensures.begins ∙ w.if-leads.false) (w.is_anchored-is ∙ w.has_separator-is_anchored.ensures)
+    ]) front.ensures.parts rest.ensures.parts (sym c.has_empty.ensures ∙ c.if-has_empty.false)

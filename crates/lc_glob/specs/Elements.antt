@@ -1,0 +1,24 @@
+-- What the elements of a pattern stand for, whether these are the bytes of a simple one or tokens that were read.
+use Rattle.std.specs.Prelude.{Bool, true, false, if◌then◌else◌, List, [], ◌∷◌, map}
+use Rattle.std.specs.List.{slice_split}
+use Rattle.lc_glob.specs.Tokens.{TokenModel}
+use Rattle.lc_glob.specs.Patterns.{SegmentModel, plain, PatternModel}
+use Rattle.lc_glob.specs.Reading.{segment_from}
+
+module _ {A : Type 0} (tokens_in : List A → List TokenModel) (separates : A → Bool) where
+  -- the tokens of the parts that separators cut elements into
+  abbrev pub parts_in : List A → List (List TokenModel)
+  parts_in elements = map tokens_in (slice_split separates elements)
+
+  -- the segments of those parts in an anchored pattern
+  abbrev pub segments_in : List A → List SegmentModel
+  segments_in elements = map (λ part. segment_from true (tokens_in part)) (slice_split separates elements)
+
+  -- the pattern of elements without separators at their ends
+  abbrev pub trimmed_model : Bool → Bool → List A → PatternModel
+  trimmed_model is_dir_only is_anchored elements = record {
+    is_dead = false;
+    is_dir_only = is_dir_only;
+    is_anchored = is_anchored;
+    segments = if is_anchored then segments_in elements else plain (tokens_in elements) ∷ [];
+  }

@@ -1,0 +1,187 @@
+//! What patterns are made of: the bytes of a simple one, or tokens that were read. Paths are made of bytes too.
+
+ghost use Rattle.std.specs.Prelude.{◌≡◌, ◌∷◌, ◌++◌, [], not, ◌==◌, Bool, List, map, count_by, MatchOption};
+ghost use Rattle.std.specs.List.{list_any, slice_split};
+ghost use Rattle.lc_glob.specs.Bytes.{slash};
+ghost use Rattle.lc_glob.specs.Lengths.{least_bytes};
+ghost use Rattle.lc_glob.specs.Lists.{is_empty};
+ghost use Rattle.lc_glob.specs.Mixed.{is_for_byte, is_separator, mixed_model};
+ghost use Rattle.lc_glob.specs.Pieces.{cuts_left};
+ghost use Rattle.lc_glob.specs.Reading.{is_double_star};
+ghost use Rattle.lc_glob.specs.Simple.{byte_token};
+ghost use Rattle.lc_glob.specs.Tokens.{TokenModel, is_star};
+ghost use Rattle.lc_glob.specs.Views.{token_ref_model};
+
+use crate::cut::cut_at_first;
+use crate::token::{Token, TokenRef};
+use memchr::memrchr;
+
+/// A byte, or a token that was read.
+pub(crate) trait Element: Copy {
+    /// The tokens that elements between two separators stand for.
+    ghost tokens_in: { List Self → List TokenModel };
+
+    /// Whether an element separates segments.
+    ghost separates: { Self → Bool };
+
+    /// The first token, and the elements of the others.
+    fn split_first_token<'p>(elements: &'p [Self]) -> Option<(TokenRef<'p>, &'p [Self])>
+        ensures { MatchOption result (tokens_in elements.now ≡ [])
+            (λ p. tokens_in elements.now ≡ token_ref_model p.0 ∷ tokens_in p.1.now) };
+
+    /// The last token, and the elements of the others.
+    fn split_last_token<'p>(elements: &'p [Self]) -> Option<(TokenRef<'p>, &'p [Self])>
+        ensures { MatchOption result (tokens_in elements.now ≡ [])
+            (λ p. tokens_in elements.now ≡ tokens_in p.1.now ++ token_ref_model p.0 ∷ []) };
+
+    /// How many bytes names that the tokens fit have at least: one for each token that is no star.
+    fn least_bytes(elements: &[Self]) -> usize
+        ensures { result ≡ least_bytes (tokens_in elements.now) };
+
+    /// What stands before the first separator, and what after it.
+    fn cut_at_first_separator<'p>(elements: &'p [Self]) -> (&'p [Self], Option<&'p [Self]>)
+        ensures { slice_split separates elements.now ≡ result.0.now ∷ cuts_left separates result.1 };
+
+    /// What stands before the last separator, and what after it.
+    fn cut_at_last_separator<'p>(elements: &'p [Self]) -> (Option<&'p [Self]>, &'p [Self])
+        ensures { slice_split separates elements.now ≡ cuts_left separates result.0 ++ result.1.now ∷ [] };
+}
+
+impl Element for u8 {
+    ghost tokens_in = { map byte_token };
+
+    ghost separates = { λ b. b == slash };
+
+    fn split_first_token<'p>(bytes: &'p [u8]) -> Option<(TokenRef<'p>, &'p [u8])> {
+        let (b, others) = bytes.split_first()?;
+        Some((TokenRef::of_byte(*b), others))
+    }
+
+    fn split_last_token<'p>(bytes: &'p [u8]) -> Option<(TokenRef<'p>, &'p [u8])> {
+        let (b, others) = bytes.split_last()?;
+        Some((TokenRef::of_byte(*b), others))
+    }
+
+    fn least_bytes(bytes: &[u8]) -> usize {
+        count_bytes(bytes)
+    }
+
+    fn cut_at_first_separator<'p>(bytes: &'p [u8]) -> (&'p [u8], Option<&'p [u8]>) {
+        cut_at_first(b'/', bytes)
+    }
+
+    fn cut_at_last_separator<'p>(bytes: &'p [u8]) -> (Option<&'p [u8]>, &'p [u8]) {
+        match memrchr(b'/', bytes) {
+            None => (None, bytes),
+            Some(place) => (Some(&bytes[..place]), &bytes[place + 1..]),
+        }
+    }
+}
+
+impl Element for Token {
+    ghost tokens_in = { mixed_model };
+
+    ghost separates = { is_separator };
+
+    fn split_first_token<'p>(tokens: &'p [Token]) -> Option<(TokenRef<'p>, &'p [Token])> {
+        let mut left = tokens;
+        'tokens: while let Some((token, others)) = left.split_first() {
+            if let Some(found) = TokenRef::of_token(*token, others) {
+                return Some((found, others));
+            }
+            left = others;
+        }
+        None
+    }
+
+    fn split_last_token<'p>(tokens: &'p [Token]) -> Option<(TokenRef<'p>, &'p [Token])> {
+        let mut left = tokens;
+        'tokens: while let Some((token, others)) = left.split_last() {
+            if let Some(found) = TokenRef::of_token(*token, &tokens[left.len()..]) {
+                return Some((found, others));
+            }
+            left = others;
+        }
+        None
+    }
+
+    fn least_bytes(tokens: &[Token]) -> usize {
+        count_tokens(tokens)
+    }
+
+    fn cut_at_first_separator<'p>(tokens: &'p [Token]) -> (&'p [Token], Option<&'p [Token]>) {
+        let mut left = tokens;
+        'tokens: while let Some((token, others)) = left.split_first() {
+            if token.is_separator() {
+                return (&tokens[..tokens.len() - left.len()], Some(others));
+            }
+            left = others;
+        }
+        (tokens, None)
+    }
+
+    fn cut_at_last_separator<'p>(tokens: &'p [Token]) -> (Option<&'p [Token]>, &'p [Token]) {
+        let mut left = tokens;
+        'tokens: while let Some((token, others)) = left.split_last() {
+            if token.is_separator() {
+                return (Some(others), &tokens[left.len()..]);
+            }
+            left = others;
+        }
+        (None, tokens)
+    }
+}
+
+/// How many bytes of a simple pattern are no star.
+fn count_bytes(bytes: &[u8]) -> usize
+    ensures { result ≡ count_by (λ b. not (is_star (byte_token b))) bytes.now }
+{
+    bytes
+        .iter()
+        .filter(|b| !TokenRef::of_byte(**b).is_star())
+        .count()
+}
+
+/// How many tokens stand for one byte.
+fn count_tokens(tokens: &[Token]) -> usize
+    ensures { result ≡ count_by is_for_byte tokens.now }
+{
+    tokens.iter().filter(|token| token.is_for_byte()).count()
+}
+
+/// Whether elements stand for no token.
+pub(crate) fn has_no_token<E: Element>(elements: &[E]) -> bool
+    ensures { result ≡ is_empty (E.tokens_in elements.now) }
+{
+    E::split_first_token(elements).is_none()
+}
+
+/// Whether they stand for two stars and nothing else.
+pub(crate) fn are_two_stars<E: Element>(elements: &[E]) -> bool
+    ensures { result ≡ is_double_star (E.tokens_in elements.now) }
+{
+    let Some((first, others)) = E::split_first_token(elements) else {
+        return false;
+    };
+    if !first.is_star() {
+        return false;
+    }
+    let Some((second, rest)) = E::split_first_token(others) else {
+        return false;
+    };
+    second.is_star() && has_no_token(rest)
+}
+
+/// Whether a star is among the tokens.
+pub(crate) fn has_star<E: Element>(elements: &[E]) -> bool
+    ensures { result ≡ list_any is_star (E.tokens_in elements.now) }
+{
+    let mut left = elements;
+    'tokens: while let Some((token, others)) = E::split_first_token(left) {
+        if token.is_star() {
+            return true;
+        }
+        left = others;
+    }
+    false
+}

@@ -1,0 +1,105 @@
+//! Whether the tokens of a segment fit a segment of a path, whatever they are kept as.
+//!
+//! What stands after the last star is compared from the end, once. Only what stands before it is looked for, from the
+//! front, with one place to go back to: the last star that was passed, since the fewest bytes that serve one star serve
+//! all before it.
+
+ghost use Rattle.std.specs.Prelude.{◌≡◌, ◌↔◌, ◌≤◌, ◌+◌, IsTrue, length};
+ghost use Rattle.lc_glob.specs.Steps.{FitsAt, cost_from_end, cost_from_front, FrontStepIs, EndStepIs};
+
+use crate::element::Element;
+use crate::path_segment::ByteTests;
+use crate::place::{EndStep, FrontStep, Place};
+
+impl<'p, 'n, E: Element> Place<'p, 'n, E> {
+    /// One step from the end, with one byte test at most.
+    fn step_end(self, tests: &mut ByteTests) -> EndStep<'p, 'n, E>
+        ensures is { EndStepIs E.tokens_in result (E.tokens_in self.entry.tokens.now) self.entry.segment.bytes.now }
+        ensures cost { tests.new.made ≤ tests.old.made + 1 }
+        ensures free { length (E.tokens_in self.entry.tokens.now) ≡ 0 → tests.new.made ≡ tests.old.made }
+    {
+        let Some((token, tokens)) = E::split_last_token(self.tokens) else {
+            return if self.segment.is_empty() {
+                EndStep::Fitted
+            } else {
+                EndStep::Stuck
+            };
+        };
+        if token.is_star() {
+            return EndStep::Star;
+        }
+        match self.segment.strip_last(token, tests) {
+            Some(segment) => EndStep::Taken(Place { tokens, segment }),
+            None => EndStep::Stuck,
+        }
+    }
+
+    /// One step from the front, with one byte test at most.
+    fn step_front(self, tests: &mut ByteTests) -> FrontStep<'p, 'n, E>
+        ensures is { FrontStepIs E.tokens_in result (E.tokens_in self.entry.tokens.now) self.entry.segment.bytes.now }
+        ensures cost { tests.new.made ≤ tests.old.made + 1 }
+        ensures free { length (E.tokens_in self.entry.tokens.now) ≡ 0 → tests.new.made ≡ tests.old.made }
+    {
+        let Some((token, tokens)) = E::split_first_token(self.tokens) else {
+            return if self.segment.is_empty() {
+                FrontStep::Fitted
+            } else {
+                FrontStep::Stuck
+            };
+        };
+        if token.is_star() {
+            return FrontStep::Star(tokens);
+        }
+        match self.segment.strip_first(token, tests) {
+            Some(segment) => FrontStep::Taken(Place { tokens, segment }),
+            None => FrontStep::Stuck,
+        }
+    }
+
+    /// Whether the tokens fit the segment, from the last of both on.
+    pub(crate) fn fits(self, tests: &mut ByteTests) -> bool
+        ensures fits { IsTrue result ↔ FitsAt E.tokens_in self.entry }
+        ensures cost { tests.new.made ≤ tests.old.made + cost_from_end E.tokens_in self.entry }
+    {
+        let mut here = self;
+        'ends: loop {
+            match here.step_end(tests) {
+                EndStep::Star => return here.fits_from_front(tests),
+                EndStep::Taken(before) => here = before,
+                EndStep::Fitted => return true,
+                EndStep::Stuck => return false,
+            }
+        }
+    }
+
+    /// Whether the tokens fit the segment, from the first of both on.
+    #[inline(never)]
+    fn fits_from_front(self, tests: &mut ByteTests) -> bool
+        ensures fits { IsTrue result ↔ FitsAt E.tokens_in self.entry }
+        ensures cost { tests.new.made ≤ tests.old.made + cost_from_front E.tokens_in self.entry }
+    {
+        let mut here = self;
+        let mut star: Option<Place<E>> = None;
+        'steps: loop {
+            match here.step_front(tests) {
+                FrontStep::Star(tokens) => {
+                    here = Place {
+                        tokens,
+                        segment: here.segment,
+                    };
+                    star = Some(here);
+                }
+                FrontStep::Taken(after) => here = after,
+                FrontStep::Fitted => return true,
+                FrontStep::Stuck => {
+                    let Some(back) = star else { return false };
+                    let Some(next) = back.retry() else {
+                        return false
+                    };
+                    here = next;
+                    star = Some(next);
+                }
+            }
+        }
+    }
+}

@@ -1,0 +1,59 @@
+//! Patterns that aren't simple, which are matched from their tokens.
+
+ghost use Rattle.std.specs.Prelude.{◌≡◌, ◌≤◌, ◌+◌, ◌↔◌, IsTrue};
+ghost use Rattle.lc_glob.specs.Costs.{full_cost};
+ghost use Rattle.lc_glob.specs.Matches.{Matches};
+ghost use Rattle.lc_glob.specs.Path.{segments_of};
+ghost use Rattle.lc_glob.specs.Views.{mixed_form_model};
+
+use crate::candidate::Candidate;
+use crate::match_path::matches_path;
+use crate::match_segment::fits_elements;
+use crate::path_segment::ByteTests;
+use crate::pattern_view::{KindRef, PatternView};
+use crate::scope::Scope;
+use crate::segment_ref::{SegmentsRef, TokensRef};
+use crate::segments_left::SegmentsLeft;
+use crate::token::Token;
+
+/// A pattern that isn't simple, as `[ab]*`: its scope, and its tokens without the separators at its ends.
+#[derive(Clone, Copy)]
+pub struct MixedPattern<'p> {
+    pub scope: Scope,
+    pub tokens: &'p [Token],
+}
+
+impl<'p> MixedPattern<'p> {
+    pub(crate) fn view(self) -> PatternView<'p>
+        ensures { result ≡ mixed_form_model self.entry.scope self.entry.tokens.now }
+    {
+        let kind = if self.scope.is_anchored {
+            KindRef::WholePath(SegmentsRef::Tokens(SegmentsLeft::of(self.tokens)))
+        } else {
+            KindRef::LastSegment(TokensRef::Tokens(self.tokens))
+        };
+        PatternView {
+            is_dir_only: self.scope.is_dir_only,
+            kind,
+        }
+    }
+
+    pub(crate) fn matched(self, path: &Candidate, is_dir: bool, tests: &mut ByteTests) -> bool
+        ensures meaning { IsTrue result ↔ Matches (mixed_form_model self.entry.scope self.entry.tokens.now) path.now is_dir }
+        ensures cost { tests.new.made
+            ≤ tests.old.made + full_cost (mixed_form_model self.entry.scope self.entry.tokens.now).segments (segments_of path.now) }
+    {
+        if self.scope.is_dir_only && !is_dir {
+            return false;
+        }
+        if self.scope.is_anchored {
+            matches_path(
+                SegmentsRef::Tokens(SegmentsLeft::of(self.tokens)),
+                path,
+                tests,
+            )
+        } else {
+            fits_elements(self.tokens, path.last, tests)
+        }
+    }
+}

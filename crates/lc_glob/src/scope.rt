@@ -1,0 +1,97 @@
+//! What the separators of a pattern say of it: at its ends and between its segments.
+
+ghost use Rattle.std.specs.Prelude.{◌≡◌, ◌++◌, [], nat_lt, length, MatchOption, if◌then◌else◌, Some};
+ghost use Rattle.lc_glob.specs.Elements.{parts_in, trimmed_model};
+ghost use Rattle.lc_glob.specs.Patterns.{dead};
+ghost use Rattle.lc_glob.specs.Reading.{begins_empty, ends_empty, pattern_from, some_empty, without_first, without_last};
+
+use crate::element::{Element, has_no_token};
+use crate::segments_left::SegmentsLeft;
+
+/// What of paths a pattern may match.
+#[derive(Clone, Copy)]
+pub struct Scope {
+    /// Directories alone, as `build/`.
+    pub(crate) is_dir_only: bool,
+    /// All segments, as `/a` and `a/b`, and not the last one alone, as `a`.
+    pub(crate) is_anchored: bool,
+}
+
+/// Takes the separators at the ends off a pattern's elements. `None` where a segment is empty, as in `a//b`, so that it is dead.
+pub(crate) fn trim<'p, E: Element>(elements: &'p [E]) -> Option<(Scope, &'p [E])>
+    ensures { MatchOption result (pattern_from (Some (parts_in E.tokens_in E.separates elements.now)) ≡ dead)
+        (λ r. pattern_from (Some (parts_in E.tokens_in E.separates elements.now))
+        ≡ trimmed_model E.tokens_in E.separates r.0.is_dir_only r.0.is_anchored r.1.now) }
+{
+    let (front, is_dir_only) = without_last_separator(elements);
+    let (segments, leads) = without_first_separator(front);
+    if has_empty(segments) {
+        return None;
+    }
+    let is_anchored = leads || has_separator(segments);
+    let scope = Scope {
+        is_dir_only,
+        is_anchored,
+    };
+    Some((scope, segments))
+}
+
+/// The elements without the separator that is last, and whether it was there.
+fn without_last_separator<'p, E: Element>(elements: &'p [E]) -> (&'p [E], bool)
+    ensures ends { result.1 ≡ ends_empty (parts_in E.tokens_in E.separates elements.now) }
+    ensures parts { parts_in E.tokens_in E.separates result.0.now
+        ≡ (if ends_empty (parts_in E.tokens_in E.separates elements.now)
+        then without_last (parts_in E.tokens_in E.separates elements.now) else parts_in E.tokens_in E.separates elements.now) }
+{
+    let (front, last) = E::cut_at_last_separator(elements);
+    let Some(front) = front else {
+        return (elements, false);
+    };
+    if has_no_token(last) {
+        (front, true)
+    } else {
+        (elements, false)
+    }
+}
+
+/// The elements without the separator that is first, and whether it was there.
+fn without_first_separator<'p, E: Element>(elements: &'p [E]) -> (&'p [E], bool)
+    ensures begins { result.1 ≡ begins_empty (parts_in E.tokens_in E.separates elements.now) }
+    ensures parts { parts_in E.tokens_in E.separates result.0.now
+        ≡ (if begins_empty (parts_in E.tokens_in E.separates elements.now)
+        then without_first (parts_in E.tokens_in E.separates elements.now) else parts_in E.tokens_in E.separates elements.now) }
+{
+    let (first, rest) = E::cut_at_first_separator(elements);
+    let Some(rest) = rest else {
+        return (elements, false);
+    };
+    if has_no_token(first) {
+        (rest, true)
+    } else {
+        (elements, false)
+    }
+}
+
+/// Whether a segment is empty, which makes the pattern dead.
+fn has_empty<E: Element>(elements: &[E]) -> bool
+    ensures { result ≡ some_empty (parts_in E.tokens_in E.separates elements.now) }
+{
+    let mut left = SegmentsLeft::of(elements);
+    'segments: while let Some((segment, others)) = left.split_first() {
+        if has_no_token(segment) {
+            return true;
+        }
+        left = others;
+    }
+    false
+}
+
+fn has_separator<E: Element>(elements: &[E]) -> bool
+    ensures { result ≡ nat_lt 1 (length (parts_in E.tokens_in E.separates elements.now)) }
+{
+    let (_, after) = E::cut_at_first_separator(elements);
+    match after {
+        None => false,
+        Some(_) => true,
+    }
+}
