@@ -21,16 +21,6 @@ pub record StillNames (c : Columns) (left all : List (List ℕ)) : Type 0 where
   pub eol : once_if c.eol + how_often (codes "eol") left ≡ how_often (codes "eol") all
   pub length_is : how_many c + length left ≡ length all
 
--- a column that is not lacking
-pub had : (b : Bool) → not b ≡ false → b ≡ true
-had true e = refl
-had false e = absurd (cc)
-
--- one that is
-pub lacked : (b : Bool) → not b ≡ true → b ≡ false
-lacked true e = absurd (cc)
-lacked false e = refl
-
 -- what a comparison says no to
 pub is_not : {r : Bool} {P : Type 0} → Decides r P → r ≡ false → P → ⊥
 is_not {r} decides off is =

@@ -1,6 +1,7 @@
 -- Commands that are given arguments in turn, and what is read of a number among these.
 use Rattle.std.proofs.Common.{◌≡◌, ◌∙◌, ◌<◌, ℕ, zero, suc, Bool, true, false, not, ◌&&◌, ◌||◌, List, [], ◌∷◌, length, map, get_or, refl}
 use Rattle.std.proofs.Common.{sym, ap, ap₂, subst, arith}
+use Rattle.std.proofs.lemmas.Bool.{and_parts}
 use Rattle.std.specs.Prelude.{pos, Some}
 use Rattle.std.specs.List.{All, list_any, slice_index_or}
 use Rattle.std.specs.Str.{bytes_eq}
@@ -31,10 +32,6 @@ abbrev pub are_apart : List (List ℕ) → Bool
 are_apart [] = true
 are_apart (n ∷ ns) = not (list_any (bytes_eq n) ns) && are_apart ns
 
-both : (a b : Bool) → (a && b) ≡ true → (a ≡ true) × (b ≡ true)
-both true b e = (refl, e)
-both false b e = absurd (cc)
-
 not_true : (a : Bool) → not a ≡ true → a ≡ true → ⊥
 not_true true e t = cc
 not_true false e t = cc
@@ -62,13 +59,13 @@ pub distinct_ids : (xs : List Arg) → are_apart (ids_of xs) ≡ true → HasDis
 distinct_ids [] apart j k d e low high same = absurd (omega arith)
 distinct_ids (x ∷ xs) apart zero zero d e low high same = refl
 distinct_ids (x ∷ xs) apart zero (suc k) d e low high same =
-    let parts = both _ _ apart in
+    let parts = and_parts _ _ apart in
     absurd (first_apart x xs parts.0 k d (omega arith) ((bytes_eq-Decides x.id.now (slice_index_or xs k d).id.now).0 same))
 distinct_ids (x ∷ xs) apart (suc j) zero d e low high same =
-    let parts = both _ _ apart in
+    let parts = and_parts _ _ apart in
     absurd (first_apart x xs parts.0 j e (omega arith) (sym ((bytes_eq-Decides (slice_index_or xs j e).id.now x.id.now).0 same)))
 distinct_ids (x ∷ xs) apart (suc j) (suc k) d e low high same =
-    let parts = both _ _ apart in
+    let parts = and_parts _ _ apart in
     ap suc (distinct_ids xs parts.1 j k d e (omega arith) (omega arith) same)
 
 -- the ids by the rules

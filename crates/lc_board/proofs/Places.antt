@@ -7,16 +7,6 @@ use Rattle.std.proofs.lemmas.Bool.{eqb-true}
 pub differ : {b : Bool} → b ≡ true → b ≡ false → ⊥
 differ t f = let h : true ≡ false = sym t ∙ f in absurd (cc h)
 
--- what is not so, where its negation is
-pub not_true : (b : Bool) → not b ≡ true → b ≡ false
-not_true true e = sym e
-not_true false e = refl
-
--- what is so, where its negation is not
-pub not_false : (b : Bool) → not b ≡ false → b ≡ true
-not_false true e = refl
-not_false false e = sym e
-
 -- a choice by an equation of numbers
 pub at_same : {A : Type 0} (k i : ℕ) (x y : A) → k ≡ i → cond (k == i) x y ≡ x
 at_same k i x y e = ap (λ b. cond b x y) (eq-eqb k i e)

@@ -3,7 +3,7 @@ use Rattle.std.proofs.Common.{◌≡◌, ◌≢◌, ℕ, zero, suc, ◌+◌, ◌
 use Rattle.std.proofs.Common.{map, slice_get, refl, sym, ◌∙◌, ap, arith, subst, Option, Some, None, ◌⊎◌, inl, inr, IsPermutation}
 use Rattle.std.proofs.Common.{sum_by}
 use Rattle.std.specs.List.{flat_map, range_with_len, enumerate_from, list_any, IsDistinct, AllByRecursion}
-use Rattle.std.proofs.lemmas.Bool.{cases_lt, eqb-true, ne_eqb}
+use Rattle.std.proofs.lemmas.Bool.{cases_lt, eqb-true, ne_eqb, or_cases}
 use Rattle.std.proofs.lemmas.List.Sums.{sum_by-append, sum_by-cons}
 use Rattle.std.proofs.lemmas.Map.Steps.{length-le_from_distinct_below}
 use Rattle.std.proofs.lemmas.List.Sorted.{IsPermutation-refl, IsPermutation-trans, IsPermutation-cons, IsPermutation-middle}
@@ -133,10 +133,6 @@ with_rows d rows (x ∷ xs) a =
     ap (λ o. (x.0, or_else d o) ∷ map (λ k. (k, or_else d (slice_get rows k))) (map number_of xs)) a.0
     ∙ ap (λ ys. x ∷ ys) (with_rows d rows xs a.1)
 
-or_cases : (a b : Bool) → (a || b) ≡ true → (a ≡ true) ⊎ (b ≡ true)
-or_cases true b e = inl refl
-or_cases false b e = inr e
-
 below_any : {R : Type 0} (c q : ℕ) (xs : List (ℕ × Ended R)) → AllByRecursion (λ x. x.0 < c) xs
     → list_any (λ y. q == y) (map number_of xs) ≡ true → q < c
 below_any c q [] a e = absurd (cc e)
@@ -182,6 +178,11 @@ module _ {J R : Type 0} where
   pub stays_legal : StaysLegal J R
   stays_legal c d n [] le l = tt
   stays_legal c d n (e ∷ h) le l = (stays_legal c d n h le l.0, l.1, larger_allowed c d h e le l.2)
+
+  -- and for more workers
+  pub legal_for_more : (c few many : ℕ) (h : List (Event J R)) → few ≤ many → IsLegal c few h → IsLegal c many h
+  legal_for_more c few many [] le l = tt
+  legal_for_more c few many (e ∷ h) le l = (legal_for_more c few many h le l.0, omega (arith, l.1), l.2)
 
   -- there are no more numbers than the capacity
   pub few_numbers : FewNumbers J R

@@ -1,10 +1,10 @@
 -- The words of one block tell where a line was blank so far.
 use Rattle.std.proofs.Common.{◌≡◌, ℕ, zero, suc, ◌+◌, ◌%◌, ◌^◌, ◌<◌, Bool, true, false, ◌&&◌, ◌||◌, List, get_or, refl, sym, ap, ap₂}
 use Rattle.std.proofs.Common.{◌∙◌, arith}
+use Rattle.std.proofs.lemmas.Bool.{or_parts}
 use lib.Bits.{bit_and, bit_or, bit_xor}
 use mir.Val.{bool_byte}
 use Rattle.std.proofs.Math.Bool.{or-false}
-use Rattle.lc_census.proofs.Bools.{or_left, or_right}
 use Rattle.lc_census.specs.Lanes.{test, xor, Bits, Marks, cr_before, blank_before}
 use Rattle.lc_census.specs.Bytes.{is_cr, is_end, is_space}
 use Rattle.lc_census.proofs.Bits.Test.{test-and, test-or, test-xor, shl, test-shl_one, test-shl_low, test-byte_zero, test-byte_suc}
@@ -92,8 +92,8 @@ test-zero (suc i) h = test-byte_suc false i (omega arith)
 -- where no byte passes one test or another, none passes either
 pub none_marked : (x : ℕ) (p q : ℕ → Bool) (v : List ℕ) → Marks x (λ y. p y || q y) v → x ≡ 0 → Marks 0 p v × Marks 0 q v
 none_marked x p q v marks none = (
-  (λ i h. test-zero i h ∙ sym (or_left (p (get_or v i 0)) (q (get_or v i 0)) (neither i h))),
-  (λ i h. test-zero i h ∙ sym (or_right (p (get_or v i 0)) (q (get_or v i 0)) (neither i h))),
+  (λ i h. test-zero i h ∙ sym (or_parts (p (get_or v i 0)) (q (get_or v i 0)) (neither i h)).0),
+  (λ i h. test-zero i h ∙ sym (or_parts (p (get_or v i 0)) (q (get_or v i 0)) (neither i h)).1),
 )
   where
     neither : (i : ℕ) → i < 64 → (p (get_or v i 0) || q (get_or v i 0)) ≡ false

@@ -1,6 +1,5 @@
 mod Bits
 mod Blank
-mod Bools
 mod Counts
 pub mod Exact
 pub mod OneCutting

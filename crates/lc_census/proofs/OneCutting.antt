@@ -1,9 +1,8 @@
 -- The one way to cut bytes into lines, from the last byte to the first.
 use Rattle.std.proofs.Common.{◌≡◌, ℕ, Bool, true, false, ◌||◌, ◌⊎◌, inl, inr, List, [], ◌∷◌, ◌++◌, refl, sym, ap, subst, ◌∙◌, eqb-true}
 use Rattle.std.specs.List.{list_any}
-use Rattle.std.proofs.lemmas.Bool.{cases_Bool}
+use Rattle.std.proofs.lemmas.Bool.{cases_Bool, or_from, or_parts}
 use Rattle.lc_census.specs.Bytes.{is_lf, is_cr}
-use Rattle.lc_census.proofs.Bools.{or_left, or_right}
 use Rattle.lc_census.specs.Cutting.{End, lf, cr_lf, cr, Line, Cutting, HasNoEnd, bytes_of, joined, starts_with_lf, AreLines, IsCutting}
 use Rattle.lc_census.specs.Cutting.{HasOneCutting}
 use Rattle.lc_census.specs.Bytes.{is_end}
@@ -53,15 +52,12 @@ before-text x d e f = ap (λ b. by_byte b (is_cr x) x d) e ∙ ap (λ b. by_byte
 end_false : (x : ℕ) → is_lf x ≡ false → is_cr x ≡ false → is_end x ≡ false
 end_false x e f = ap (λ b. b || is_cr x) e ∙ f
 
-or_false : (a b : Bool) → a ≡ false → b ≡ false → (a || b) ≡ false
-or_false a b p q = ap (λ c. c || b) p ∙ q
-
 -- a cutting stays one with a byte before it
 text_is : (x : ℕ) (xs : List ℕ) → is_end x ≡ false → (ls : List Line) (r : List ℕ) → IsCutting xs (cutting ls r)
     → IsCutting (x ∷ xs) (with_text x ls r)
-text_is x xs n [] r h = record { lines = tt; rest = or_false (is_end x) (list_any is_end r) n h.rest; whole = ap (λ t. x ∷ t) h.whole }
+text_is x xs n [] r h = record { lines = tt; rest = or_from (is_end x) (list_any is_end r) n h.rest; whole = ap (λ t. x ∷ t) h.whole }
 text_is x xs n (l ∷ ls) r h = record {
-  lines = (or_false (is_end x) (list_any is_end l.text) n h.lines.0, h.lines.1, h.lines.2);
+  lines = (or_from (is_end x) (list_any is_end l.text) n h.lines.0, h.lines.1, h.lines.2);
   rest = h.rest;
   whole = ap (λ t. x ∷ t) h.whole;
 }
@@ -107,7 +103,7 @@ cr_alone ls r h = ap (λ b. cutting (with_cr b ls) r) (sym h)
 
 text_before : (x y : ℕ) (d : Cutting) → y ≡ x → is_end y ≡ false → with_text y d.lines d.rest ≡ before x d
 text_before x y d e n =
-    sym (before-text y d (or_left (is_lf y) (is_cr y) n) (or_right (is_lf y) (is_cr y) n)) ∙ ap (λ z. before z d) e
+    sym (before-text y d (or_parts (is_lf y) (is_cr y) n).0 (or_parts (is_lf y) (is_cr y) n).1) ∙ ap (λ z. before z d) e
 
 -- each cutting of these bytes is the one that `cut` gives
 abbrev pub OnlyCut : List ℕ → Type 0
@@ -124,8 +120,8 @@ only_line x xs here [] cr_lf ls r a n e =
     ap (before 13) (here (line [] lf ∷ ls) r (refl, refl, a.2) n (tail_is 13 x _ xs e))
     ∙ ap (λ z. before z (cut xs)) (head_is 13 x _ xs e)
 only_line x xs here (y ∷ t) end ls r a n e =
-    text_before x y (cutting (line t end ∷ ls) r) (head_is y x _ xs e) (or_left (is_end y) (list_any is_end t) a.0)
-    ∙ ap (before x) (here (line t end ∷ ls) r (or_right (is_end y) (list_any is_end t) a.0, a.1, a.2) n (tail_is y x _ xs e))
+    text_before x y (cutting (line t end ∷ ls) r) (head_is y x _ xs e) (or_parts (is_end y) (list_any is_end t) a.0).0
+    ∙ ap (before x) (here (line t end ∷ ls) r ((or_parts (is_end y) (list_any is_end t) a.0).1, a.1, a.2) n (tail_is y x _ xs e))
 
 only : (bytes : List ℕ) → OnlyCut bytes
 only [] [] [] a n e = refl
@@ -133,8 +129,8 @@ only [] [] (y ∷ r) a n e = absurd (cc)
 only [] (l ∷ ls) r a n e = absurd (not_empty l.text l.end (joined ls r) e)
 only (x ∷ xs) [] [] a n e = absurd (cc)
 only (x ∷ xs) [] (y ∷ r) a n e =
-    text_before x y (cutting [] r) (head_is y x r xs e) (or_left (is_end y) (list_any is_end r) n)
-    ∙ ap (before x) (only xs [] r tt (or_right (is_end y) (list_any is_end r) n) (tail_is y x r xs e))
+    text_before x y (cutting [] r) (head_is y x r xs e) (or_parts (is_end y) (list_any is_end r) n).0
+    ∙ ap (before x) (only xs [] r tt (or_parts (is_end y) (list_any is_end r) n).1 (tail_is y x r xs e))
 only (x ∷ xs) (l ∷ ls) r a n e = only_line x xs (only xs) l.text l.end ls r a n e
 
 -- there is no other

@@ -2,6 +2,7 @@
 use Rattle.std.proofs.Common.{◌≡◌, ℕ, ◌-◌, Bool, true, false, List, [], ◌∷◌, ◌++◌, Option, Some, None, Result, Ok, Err, length, slice_get}
 use Rattle.std.proofs.Common.{refl, sym, ◌∙◌, ap, subst}
 use Rattle.lc_glob.specs.Path.{path_in, segments_of, is_good_path}
+use Rattle.lc_glob.proofs.Naming.{has_first}
 use Rattle.lc_level.specs.FaultLines.{FaultLineModel}
 use Rattle.lc_level.specs.Job.{JobModel}
 use Rattle.lc_level.specs.Level.{Reason, reason_for, child_job}
@@ -12,7 +13,7 @@ use Rattle.lc_explain.specs.Explained.{Explanation, faulted, below, cited, said_
 use Rattle.lc_explain.specs.Explained.{is_directory, IsExplained}
 use Rattle.lc_explain.specs.Waypoints.{WaypointModel, Way, kind_in}
 use Rattle.lc_explain.specs.Ways.{StandsBelow, Reaches, IsWay}
-use Rattle.lc_explain.proofs.PathSegments.{IsCutAt, has_first, name_first, some_name, good_path, stands_below}
+use Rattle.lc_explain.proofs.PathSegments.{IsCutAt, name_first, some_name, good_path, stands_below}
 use Rattle.lc_explain.proofs.Reaching.{last_said, left_said, beside_said, into_said, reached, top_reaches, child_reached, way_longer}
 use Rattle.lc_explain.proofs.Reaching.{way_end}
 use Rattle.lc_explain.proofs.WayEnds.{last_is}

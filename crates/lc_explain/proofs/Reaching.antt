@@ -3,6 +3,7 @@ use Rattle.std.proofs.Common.{◌≡◌, ℕ, Bool, true, false, cond, List, [],
 use Rattle.std.proofs.Common.{ap, subst, append_assoc, append-nil}
 use Rattle.lc_glob.specs.Bytes.{slash}
 use Rattle.lc_glob.specs.Path.{path_in, segments_of}
+use Rattle.lc_glob.proofs.Naming.{has_first}
 use Rattle.lc_level.specs.FaultLines.{FaultLineModel}
 use Rattle.lc_level.specs.Job.{JobModel}
 use Rattle.lc_level.specs.Level.{Reason, reason_for, child_job}
@@ -12,7 +13,7 @@ use Rattle.lc_explain.specs.Explained.{Explanation, bad, below, cited, said_for,
 use Rattle.lc_explain.specs.Explained.{OnTheWay, OnEntering, IsSaid, IsExplained}
 use Rattle.lc_explain.specs.Waypoints.{WaypointModel, Way, kind_in}
 use Rattle.lc_explain.specs.Ways.{Reaches, IsWayBelow}
-use Rattle.lc_explain.proofs.PathSegments.{has_first, below_child}
+use Rattle.lc_explain.proofs.PathSegments.{below_child}
 
 -- a name on the way that is left out, that the walk goes into, or that is no directory
 module _ (reason : Option Reason) (is_there : Bool) (Left : Reason → Type 0) (Into Beside : Type 0) where

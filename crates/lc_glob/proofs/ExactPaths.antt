@@ -1,11 +1,12 @@
 -- A pattern of literals alone matches the path that has the same bytes.
-use Rattle.std.proofs.Common.{◌≡◌, ◌↔◌, ◌≤◌, ◌+◌, ◌-◌, ◌^◌, ◌*◌, ℕ, suc, Bool, true, false, ◌&&◌, cond, nat_eq, bytes_eq, List, [], ◌∷◌, ◌++◌, length, map, IsTrue}
+use Rattle.std.proofs.Common.{◌≡◌, ◌↔◌, ◌≤◌, ◌+◌, ◌-◌, ◌^◌, ◌*◌, ℕ, suc, Bool, true, false, ◌&&◌, cond, nat_eq, bytes_eq, List, [], ◌∷◌, length, map, IsTrue}
 use Rattle.std.proofs.Common.{refl, sym, ◌∙◌, ap, ap₂, subst, arith}
 use Rattle.std.proofs.Math.Nat.{min-le_left}
-use Rattle.std.proofs.lemmas.Bool.{eqb-true}
+use Rattle.std.proofs.lemmas.Bool.{and_parts}
 use Rattle.std.proofs.lemmas.List.{length-map}
 use Rattle.std.proofs.lemmas.Slice.Eq.{bytes_eq-Decides}
-use Rattle.std.specs.List.{list_all, onto_first}
+use Rattle.std.proofs.lemmas.List.Splits.{join_with_byte-slice_split}
+use Rattle.std.specs.List.{join_with_byte, list_all, onto_first}
 use Rattle.lc_glob.specs.Tokens.{TokenModel, literal}
 use Rattle.lc_glob.specs.Patterns.{SegmentModel, plain, double_star}
 use Rattle.lc_glob.specs.Matches.{MatchesPath}
@@ -15,34 +16,8 @@ use Rattle.lc_glob.specs.Simple.{is_literal, bytes_segment, exact_segment}
 use Rattle.lc_glob.specs.ByteTests.{tests_if}
 use Rattle.lc_glob.specs.Costs.{tokens_with_ends, bytes_with_ends, full_cost}
 use Rattle.lc_glob.proofs.Fitting.{fits_literals}
-use Rattle.lc_glob.proofs.SimpleBytes.{and_left, and_right, literal_bytes, some_part}
-
--- the bytes that some segments are those of
-abbrev joined : List (List ℕ) → List ℕ
-joined [] = []
-joined (p ∷ []) = p
-joined (p ∷ q ∷ ps) = p ++ 47 ∷ joined (q ∷ ps)
-
-joined_first : (b : ℕ) (ps : List (List ℕ)) → joined (onto_first b ps) ≡ b ∷ joined ps
-joined_first b [] = refl
-joined_first b (p ∷ []) = refl
-joined_first b (p ∷ q ∷ ps) = refl
-
-joined_more : (ps : List (List ℕ)) (p : List ℕ) (qs : List (List ℕ)) → ps ≡ p ∷ qs → joined ([] ∷ ps) ≡ 47 ∷ joined ps
-joined_more ps p qs e = ap (λ (l : List (List ℕ)). joined ([] ∷ l)) e ∙ sym (ap (λ (l : List (List ℕ)). 47 ∷ joined l) e)
-
-joined_back : (bs : List ℕ) → joined (segments_of bs) ≡ bs
-joined_back [] = refl
-joined_back (b ∷ bs) = at (nat_eq b 47) refl (joined_back bs) (some_part bs)
-  where
-    at : (t : Bool) → nat_eq b 47 ≡ t → joined (segments_of bs) ≡ bs
-        → ((p : List ℕ) × (ps : List (List ℕ)) × (segments_of bs ≡ p ∷ ps)) → joined (segments_of (b ∷ bs)) ≡ b ∷ bs
-    at true e h some =
-        ap (λ (t : Bool). joined (cond t ([] ∷ segments_of bs) (onto_first b (segments_of bs)))) e
-        ∙ joined_more (segments_of bs) some.0 some.1 some.2 ∙ ap₂ (λ (c : ℕ) (l : List ℕ). c ∷ l) (sym (eqb-true b 47 e)) h
-    at false e h some =
-        ap (λ (t : Bool). joined (cond t ([] ∷ segments_of bs) (onto_first b (segments_of bs)))) e
-        ∙ joined_first b (segments_of bs) ∙ ap (λ (l : List ℕ). b ∷ l) h
+use Rattle.lc_glob.proofs.Naming.{HasFirst, has_first}
+use Rattle.lc_glob.proofs.SimpleBytes.{literal_bytes}
 
 exact_self : (ss : List (List ℕ)) → MatchesPath (map exact_segment ss) ss
 exact_self [] = tt
@@ -60,7 +35,8 @@ exact_decides bytes path =
     let same = bytes_eq-Decides path bytes in (
       λ t. subst (λ (p : List ℕ). MatchesPath (map exact_segment (segments_of bytes)) (segments_of p)) (sym (same.0 t))
           (exact_self (segments_of bytes)),
-      λ m. same.1 (sym (joined_back path) ∙ ap joined (exact_same (segments_of bytes) (segments_of path) m) ∙ joined_back bytes),
+      λ m. same.1 (sym (join_with_byte-slice_split 47 path)
+          ∙ ap (join_with_byte 47) (exact_same (segments_of bytes) (segments_of path) m) ∙ join_with_byte-slice_split 47 bytes),
     )
 
 -- it costs a test for each byte
@@ -78,13 +54,13 @@ onto_grows b ps p qs e =
 
 whole_weight : (bs : List ℕ) → length bs + 1 ≤ bytes_with_ends (segments_of bs)
 whole_weight [] = omega arith
-whole_weight (b ∷ bs) = at (nat_eq b 47) (whole_weight bs) (some_part bs)
+whole_weight (b ∷ bs) = at (nat_eq b 47) (whole_weight bs) (has_first bs)
   where
     at : (t : Bool) → length bs + 1 ≤ bytes_with_ends (segments_of bs)
-        → ((p : List ℕ) × (ps : List (List ℕ)) × (segments_of bs ≡ p ∷ ps))
+        → HasFirst (segments_of bs)
         → length (b ∷ bs) + 1 ≤ bytes_with_ends (cond t ([] ∷ segments_of bs) (onto_first b (segments_of bs)))
     at true h some = omega (arith, h)
-    at false h some = omega (arith, h, onto_grows b (segments_of bs) some.0 some.1 some.2)
+    at false h some = omega (arith, h, onto_grows b (segments_of bs) some.first some.others some.are)
 
 pub exact_cost : (bytes path : List ℕ) (t n : ℕ) → n ≤ t + length bytes
     → n ≤ t + full_cost (map exact_segment (segments_of bytes)) (segments_of path)
@@ -102,20 +78,20 @@ tests_most false t n m e = omega (arith, e)
 -- bytes of literals are segments of literals
 literal_parts : (bs : List ℕ) → list_all is_literal bs ≡ true → list_all (list_all is_literal) (segments_of bs) ≡ true
 literal_parts [] e = refl
-literal_parts (b ∷ bs) e = at (nat_eq b 47) (literal_parts bs (and_right (is_literal b) _ e)) (some_part bs)
+literal_parts (b ∷ bs) e = at (nat_eq b 47) (literal_parts bs (and_parts (is_literal b) _ e).1) (has_first bs)
   where
     onto : (ps : List (List ℕ)) (p : List ℕ) (qs : List (List ℕ)) → ps ≡ p ∷ qs → list_all (list_all is_literal) ps ≡ true
         → list_all (list_all is_literal) (onto_first b ps) ≡ true
     onto ps p qs q h =
         ap (λ (l : List (List ℕ)). list_all (list_all is_literal) (onto_first b l)) q
-        ∙ ap (λ (t : Bool). (t && list_all is_literal p) && list_all (list_all is_literal) qs) (and_left (is_literal b) _ e)
+        ∙ ap (λ (t : Bool). (t && list_all is_literal p) && list_all (list_all is_literal) qs) (and_parts (is_literal b) _ e).0
         ∙ sym (ap (list_all (list_all is_literal)) q) ∙ h
 
     at : (t : Bool) → list_all (list_all is_literal) (segments_of bs) ≡ true
-        → ((p : List ℕ) × (ps : List (List ℕ)) × (segments_of bs ≡ p ∷ ps))
+        → HasFirst (segments_of bs)
         → list_all (list_all is_literal) (cond t ([] ∷ segments_of bs) (onto_first b (segments_of bs))) ≡ true
     at true h some = h
-    at false h some = onto (segments_of bs) some.0 some.1 some.2 h
+    at false h some = onto (segments_of bs) some.first some.others some.are h
 
 no_double : (bs : List ℕ) → is_double_star (map literal bs) ≡ false
 no_double [] = refl
@@ -131,8 +107,8 @@ exact_one bs e =
 exact_all : (ps : List (List ℕ)) → list_all (list_all is_literal) ps ≡ true → map exact_segment ps ≡ map bytes_segment ps
 exact_all [] e = refl
 exact_all (p ∷ ps) e =
-    ap₂ (λ (x : SegmentModel) (xs : List SegmentModel). x ∷ xs) (exact_one p (and_left (list_all is_literal p) _ e))
-    (exact_all ps (and_right (list_all is_literal p) _ e))
+    ap₂ (λ (x : SegmentModel) (xs : List SegmentModel). x ∷ xs) (exact_one p (and_parts (list_all is_literal p) _ e).0)
+    (exact_all ps (and_parts (list_all is_literal p) _ e).1)
 
 pub exact_segments : (bytes : List ℕ) → list_all is_literal bytes ≡ true
     → map exact_segment (segments_of bytes) ≡ map bytes_segment (segments_of bytes)

@@ -1,10 +1,10 @@
 -- How tokens fit a segment of a path, from its front and from its end.
-use Rattle.std.proofs.Common.{take, ◌-◌, map, length, nat_eq, bytes_eq, eq-eqb, ◌∙◌, ◌≡◌, ◌↔◌, ◌⊎◌, IsTrue, IsFalse, ℕ, Bool, true, false, arith}
+use Rattle.std.proofs.Common.{take, ◌-◌, map, length, nat_eq, eq-eqb, ◌∙◌, ◌≡◌, ◌↔◌, ◌⊎◌, IsTrue, IsFalse, ℕ, Bool, true, false, arith}
 use Rattle.std.proofs.Common.{List, [], ◌∷◌, ◌++◌, inl, inr, refl, sym, subst, ap}
 use Rattle.std.specs.List.{ends_with}
 use Rattle.std.proofs.lemmas.Bool.{false≢true, eqb-true}
 use Rattle.std.proofs.lemmas.Bool.Decides.{Decides-eqb}
-use Rattle.std.proofs.lemmas.Slice.Eq.{bytes_eq-Decides, ends_is}
+use Rattle.std.proofs.lemmas.Slice.Eq.{ends_is}
 use Rattle.lc_glob.specs.Tokens.{TokenModel, literal, any_byte, star, class, takes, is_star}
 use Rattle.lc_glob.specs.Fits.{Fits}
 use Rattle.lc_glob.specs.Simple.{end_tokens}
@@ -106,13 +106,7 @@ fits_literals (l ∷ ls) (b ∷ bs) =
       λ e. let is : l ≡ b = cc in let more : bs ≡ ls = cc in (eq-eqb l b is, rest.1 more),
     )
 
--- literals fit their own bytes and no others
-pub literals_decide : (ls bytes : List ℕ) → IsTrue (bytes_eq bytes ls) ↔ Fits (map literal ls) bytes
-literals_decide ls bytes =
-    let same = bytes_eq-Decides bytes ls in let fits = fits_literals ls bytes in
-    (λ t. fits.1 (same.0 t), λ f. same.1 (fits.0 f))
-
--- and after a star the bytes that end with them
+-- after a star literals fit the bytes that end with them
 pub suffix_decides : (ls bytes : List ℕ) → IsTrue (ends_with nat_eq bytes ls) ↔ Fits (star ∷ map literal ls) bytes
 suffix_decides ls bytes =
     let ends = ends_is Decides-eqb bytes ls (ends_with nat_eq bytes ls) refl in (
@@ -120,7 +114,7 @@ suffix_decides ls bytes =
       λ f. ends.1 f.0 (f.2 ∙ ap (λ (l : List ℕ). f.0 ++ l) ((fits_literals ls f.1).0 f.3)),
     )
 
--- literals fit as many bytes where these end with them
+-- alone they fit as many bytes where these end with them
 pub whole_decides : (ls bytes : List ℕ) → length bytes ≡ length ls → IsTrue (ends_with nat_eq bytes ls) ↔ Fits (map literal ls) bytes
 whole_decides ls bytes e =
     let ends = ends_is Decides-eqb bytes ls (ends_with nat_eq bytes ls) refl in

@@ -1,7 +1,7 @@
 -- The first and the last of the parts that separators cut.
 use Rattle.std.proofs.Common.{◌≡◌, Bool, true, false, not, ◌&&◌, ◌||◌, cond, nat_lt, List, [], ◌∷◌, ◌++◌, length, map, Some}
 use Rattle.std.proofs.Common.{refl, sym, ◌∙◌, ap, arith}
-use Rattle.std.proofs.lemmas.Bool.{false≢true, lt-ltb}
+use Rattle.std.proofs.lemmas.Bool.{false≢true, lt-ltb, or_parts}
 use Rattle.std.proofs.lemmas.List.{map-append}
 use Rattle.std.proofs.lemmas.Simd.{map-map}
 use Rattle.std.specs.List.{onto_first, slice_split}
@@ -41,10 +41,6 @@ none_mapped f (x ∷ xs) e = cc
 longer_than_one : {A : Type 0} (x : A) (xs : List A) → is_empty xs ≡ false → nat_lt 1 (length (x ∷ xs)) ≡ true
 longer_than_one x [] some = cc
 longer_than_one x (y ∷ xs) some = lt-ltb 1 (length (x ∷ y ∷ xs)) (omega arith)
-
-pub true_left : (a b c : Bool) → a ≡ true → b ≡ true → b ≡ (a || c)
-true_left true b c a is = is
-true_left false b c a is = cc
 
 pub false_left : (a b c : Bool) → a ≡ false → b ≡ c → b ≡ (a || c)
 false_left true b c a is = cc
@@ -152,10 +148,6 @@ module _ {A : Type 0} (tokens : List A → List TokenModel) (p : A → Bool) whe
   anchored_segments dir false rest short =
       ap (λ (l : List (List A)). live_model dir false (map (segment_from false) (map tokens l))) (single rest (short refl))
 
-  right_false : (a b : Bool) → (a || b) ≡ false → b ≡ false
-  right_false true b e = cc
-  right_false false b e = e
-
   -- else it is what is left, by its scope
   pub trimmed_is : (xs front rest : List A) (dir t : Bool) → dir ≡ ends_empty (parts_in tokens p xs)
       → t ≡ (begins_empty (parts_in tokens p front) || nat_lt 1 (length (parts_in tokens p rest)))
@@ -168,4 +160,4 @@ module _ {A : Type 0} (tokens : List A → List TokenModel) (p : A → Bool) whe
       (sym d)
       ∙ ap (λ (b : Bool). live dir b (parts_in tokens p rest)) (same_scope front rest r ∙ sym is)
       ∙ ap (λ (b : Bool). cond b dead (live_model dir t (map (segment_from t) (parts_in tokens p rest)))) e
-      ∙ anchored_segments dir t rest (λ none. right_false _ _ (sym is ∙ none))
+      ∙ anchored_segments dir t rest (λ none. (or_parts _ _ (sym is ∙ none)).1)

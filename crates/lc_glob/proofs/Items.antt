@@ -1,14 +1,20 @@
 -- The items of a bracket.
-use Rattle.std.proofs.Common.{length-drop, not, ◌&&◌, add-zero, lt-ltb, nat_eq, ◌≡◌, ◌<◌, ◌≤◌, ◌+◌, ◌-◌, ℕ, zero, suc, Bool, true}
+use Rattle.std.proofs.Common.{length-drop, not, ◌&&◌, ◌||◌, add-zero, lt-ltb, nat_eq, ◌≡◌, ◌<◌, ◌≤◌, ◌+◌, ◌-◌, ℕ, zero, suc, Bool, true}
 use Rattle.std.proofs.Common.{false, nat_lt, cond, List, [], ◌∷◌, ◌++◌, length, take, drop, Option, Some, None, refl, sym, ◌∙◌, ap}
 use Rattle.std.proofs.Common.{subst, arith, append_assoc}
-use Rattle.std.proofs.lemmas.List.{take_rest, append-nil}
+use Rattle.std.proofs.lemmas.List.{take_rest, append-nil, map-append}
+use mir.Val.{bool_byte}
 use Rattle.std.specs.List.{position_or_len}
 use Rattle.std.proofs.lemmas.List.Sums.{position_or_len_is}
 use Rattle.std.proofs.lemmas.Bool.{false_from_ne_true}
 use Rattle.memchr.specs.Find.{IsFirstByte, is_byte}
 use Rattle.lc_glob.specs.Brackets.{element, range_from, from_element, class_of, class_item, is_class, plain_item, colon_item, item}
-use Rattle.lc_glob.specs.Brackets.{items, items_on, taken_more}
+use Rattle.lc_glob.specs.Brackets.{as_set, bracket, items, items_on, taken_more}
+use Rattle.lc_glob.specs.Mixed.{range_tokens}
+use Rattle.lc_glob.specs.Pushes.{Pushes, kept_tokens}
+use Rattle.lc_glob.specs.Tokens.{class}
+use Rattle.lc_glob.specs.declared.token.Token.{Token}
+use Rattle.lc_glob.specs.declared.token.Token.TheVariants.{Open, Range}
 
 -- an item that is no class: an element, and perhaps a range from it
 pub plain_is : (b x used : ℕ) (rest : List ℕ) (found : Option (List (ℕ × ℕ) × ℕ)) → element b rest ≡ Some (x, used)
@@ -46,9 +52,9 @@ first_none c bytes h =
     (λ l. absurd (omega arith)))
 
 -- the same answer with another name for its length
-pub pair_taken : (class : List (ℕ × ℕ)) (n taken : ℕ) (found : Option (List (ℕ × ℕ) × ℕ)) → found ≡ Some (class, n) → taken ≡ n
-    → found ≡ Some (class, taken)
-pair_taken class n taken found f e = f ∙ ap (λ (k : ℕ). Some (class, k)) (sym e)
+pub pair_taken : (ranges : List (ℕ × ℕ)) (n taken : ℕ) (found : Option (List (ℕ × ℕ) × ℕ)) → found ≡ Some (ranges, n) → taken ≡ n
+    → found ≡ Some (ranges, taken)
+pair_taken ranges n taken found f e = f ∙ ap (λ (k : ℕ). Some (ranges, k)) (sym e)
 
 -- ranges before those found, and n bytes before those taken
 abbrev pub prepend : List (ℕ × ℕ) → ℕ → Option (List (ℕ × ℕ) × ℕ) → Option (List (ℕ × ℕ) × ℕ)
@@ -81,15 +87,99 @@ at_item first b bs more k a n t e =
     ∙ ap (λ (o : Option (List (ℕ × ℕ) × ℕ)). items_on false o next) e in
     ap (prepend a n) step ∙ prepend_more a more n (items false k bs) ∙ items_skip false k bs (a ++ more) (n + 1)
 
--- one item more of a bracket: what all items give is what these give, put before what the rest gives
-pub items_step : (all : Option (List (ℕ × ℕ) × ℕ)) (first : Bool) (left : List ℕ) (b : ℕ) (rest : List ℕ) (a new more : List (ℕ × ℕ))
-    (k len : ℕ) → all ≡ prepend a (len - length left) (items first 0 left) → left ≡ b ∷ rest → length left ≤ len
-    → (nat_eq b 93 && not first) ≡ false → item b rest ≡ Some (more, k) → k ≤ length rest → new ≡ a ++ more
-    → all ≡ prepend new (len - length (take (length rest - k) (drop k rest))) (items false 0 (take (length rest - k) (drop k rest)))
-items_step all first left b rest a new more k len same cons within t e fits pushed =
-    let n : len - length left + 1 + k ≡ len - length (drop k rest) = simp length-drop (omega (arith, ap length cons)) in
-    rw take_rest
-    (same ∙ ap (λ (l : List ℕ). prepend a (len - length left) (items first 0 l)) cons ∙ at_item first b rest more k a
-    (len - length left) t e
-    ∙ ap (λ (m : ℕ). prepend (a ++ more) m (items false 0 (drop k rest))) n
-    ∙ ap (λ (l : List (ℕ × ℕ)). prepend l (len - length (drop k rest)) (items false 0 (drop k rest))) (sym pushed))
+-- before nothing and after no bytes it is the same
+prepend_nothing : (n : ℕ) (o : Option (List (ℕ × ℕ) × ℕ)) → n ≡ 0 → o ≡ prepend [] n o
+prepend_nothing n None none = refl
+prepend_nothing n (Some r) none = let e : r.1 ≡ n + r.1 = omega (arith, none) in ap (λ (k : ℕ). Some (r.0, k)) e
+
+-- the ranges that were pushed: what all items give is those before what the rest gives
+abbrev pub HavePushed : Option (List (ℕ × ℕ) × ℕ) → List Token → List Token → ℕ → Bool → List ℕ → Type 0
+HavePushed all old new taken first left =
+    (ranges : List (ℕ × ℕ)) × (new ≡ old ++ range_tokens ranges) × (all ≡ prepend ranges taken (items first 0 left))
+
+pub items_start : (tokens : List Token) (bytes : List ℕ) (n : ℕ) → n ≡ 0 → HavePushed (items true 0 bytes) tokens tokens n true bytes
+items_start tokens bytes n none = ([], sym (append-nil tokens), prepend_nothing n (items true 0 bytes) none)
+
+-- where no byte is left there is no close
+pub items_over : (all : Option (List (ℕ × ℕ) × ℕ)) (old new : List Token) (taken : ℕ) (first : Bool) (left : List ℕ)
+    → HavePushed all old new taken first left → length left ≡ 0 → all ≡ None
+items_over all old new taken first [] has none = has.2
+items_over all old new taken first (b ∷ bs) has none = cc
+
+-- at the close
+pub items_closed : (all : Option (List (ℕ × ℕ) × ℕ)) (old new : List Token) (first : Bool) (left : List ℕ) (b : ℕ) (rest : List ℕ)
+    (len : ℕ) → HavePushed all old new (len - length left) first left → left ≡ b ∷ rest → length left ≤ len
+    → (nat_eq b 93 && not first) ≡ true → Pushes range_tokens all old new (Some (len - length rest))
+items_closed all old new first left b rest len has cons within closes =
+    let n : len - length left + 1 ≡ len - length rest = omega (arith, ap length cons) in
+    let next = λ (j : ℕ). items false j rest in (
+      has.0,
+      has.2 ∙ ap (λ (l : List ℕ). prepend has.0 (len - length left) (items first 0 l)) cons
+          ∙ ap (λ (t : Bool). prepend has.0 (len - length left) (items_on t (item b rest) next)) closes
+          ∙ ap (λ (l : List (ℕ × ℕ)). Some (l, len - length left + 1)) (append-nil has.0)
+          ∙ ap (λ (k : ℕ). Some (has.0, k)) n,
+      has.1,
+    )
+
+-- at an item that makes the pattern dead
+pub items_dead : (all : Option (List (ℕ × ℕ) × ℕ)) (old new : List Token) (taken : ℕ) (first : Bool) (left : List ℕ) (b : ℕ)
+    (rest : List ℕ) → HavePushed all old new taken first left → left ≡ b ∷ rest → (nat_eq b 93 && not first) ≡ false
+    → item b rest ≡ None → all ≡ None
+items_dead all old new taken first left b rest has cons more dead =
+    let next = λ (j : ℕ). items false j rest in
+    has.2 ∙ ap (λ (l : List ℕ). prepend has.0 taken (items first 0 l)) cons
+    ∙ ap (λ (t : Bool). prepend has.0 taken (items_on t (item b rest) next)) more
+    ∙ ap (λ (o : Option (List (ℕ × ℕ) × ℕ)). prepend has.0 taken (items_on false o next)) dead
+
+-- at any other
+pub items_step : (all : Option (List (ℕ × ℕ) × ℕ)) (old new newer : List Token) (first : Bool) (left : List ℕ) (b : ℕ) (rest : List ℕ)
+    (k len : ℕ) → HavePushed all old new (len - length left) first left → left ≡ b ∷ rest → length left ≤ len
+    → (nat_eq b 93 && not first) ≡ false → Pushes range_tokens (item b rest) new newer (Some k) → k ≤ length rest
+    → HavePushed all old newer (len - length (take (length rest - k) (drop k rest))) false (take (length rest - k) (drop k rest))
+items_step all old new newer first left b rest k len has cons within more is fits =
+    let n : len - length left + 1 + k ≡ len - length (drop k rest) = simp length-drop (omega (arith, ap length cons)) in (
+      has.0 ++ is.0,
+      is.2 ∙ ap (λ (ts : List Token). ts ++ range_tokens is.0) has.1 ∙ append_assoc old (range_tokens has.0) (range_tokens is.0)
+          ∙ ap (λ (ts : List Token). old ++ ts) (sym (map-append (λ (r : ℕ × ℕ). Range r.0 r.1) has.0 is.0)),
+      rw take_rest
+          (has.2 ∙ ap (λ (l : List ℕ). prepend has.0 (len - length left) (items first 0 l)) cons
+          ∙ at_item first b rest is.0 k has.0 (len - length left) more is.1
+          ∙ ap (λ (m : ℕ). prepend (has.0 ++ is.0) m (items false 0 (drop k rest))) n),
+    )
+
+-- the set of the ranges that were found after an opening
+pub set_pushed : (negated : Bool) (more : ℕ) (found : Option (List (ℕ × ℕ) × ℕ)) (old opened new : List Token) (taken : ℕ)
+    → opened ≡ old ++ Open negated ∷ [] → Pushes range_tokens found opened new (Some taken)
+    → Pushes kept_tokens (as_set negated more found) old new (Some (more + taken))
+set_pushed negated more found old opened new taken e is = (
+  class negated is.0,
+  ap (as_set negated more) is.1,
+  is.2 ∙ ap (λ (ts : List Token). ts ++ range_tokens is.0) e ∙ append_assoc old (Open negated ∷ []) (range_tokens is.0),
+)
+
+bracket_of : (bytes rest : List ℕ) (b : ℕ) (negated : Bool) → bytes ≡ b ∷ rest → (nat_eq b 33 || nat_eq b 94) ≡ negated
+    → bracket bytes ≡ cond negated (as_set true 1 (items true 0 rest)) (as_set false 0 (items true 0 (b ∷ rest)))
+bracket_of bytes rest b negated e first =
+    ap bracket e ∙ ap (λ (t : Bool). cond t (as_set true 1 (items true 0 rest)) (as_set false 0 (items true 0 (b ∷ rest)))) first
+
+-- so a bracket, by its first byte
+pub bracket_pushed : (bytes rest left : List ℕ) (b : ℕ) (negated : Bool) (old opened new : List Token) (taken n : ℕ) → bytes ≡ b ∷ rest
+    → (nat_eq b 33 || nat_eq b 94) ≡ negated → left ≡ cond negated rest bytes → n ≡ bool_byte negated
+    → opened ≡ old ++ Open negated ∷ [] → Pushes range_tokens (items true 0 left) opened new (Some taken)
+    → Pushes kept_tokens (bracket bytes) old new (Some (taken + n))
+bracket_pushed bytes rest left b true old opened new taken n e first is one more pushed =
+    let set = set_pushed true 1 (items true 0 left) old opened new taken more pushed in
+    let count : 1 + taken ≡ taken + n = omega (arith, one) in (
+      set.0,
+      bracket_of bytes rest b true e first ∙ ap (λ (l : List ℕ). as_set true 1 (items true 0 l)) (sym is) ∙ set.1
+          ∙ ap (λ (k : ℕ). Some (set.0, k)) count,
+      set.2,
+    )
+bracket_pushed bytes rest left b false old opened new taken n e first is none more pushed =
+    let set = set_pushed false 0 (items true 0 left) old opened new taken more pushed in
+    let count : 0 + taken ≡ taken + n = omega (arith, none) in (
+      set.0,
+      bracket_of bytes rest b false e first ∙ ap (λ (l : List ℕ). as_set false 0 (items true 0 l)) (sym (is ∙ e)) ∙ set.1
+          ∙ ap (λ (k : ℕ). Some (set.0, k)) count,
+      set.2,
+    )

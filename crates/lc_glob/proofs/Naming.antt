@@ -9,6 +9,7 @@ use Rattle.std.proofs.Math.Seq.{take-append_seam, drop-append_seam}
 use Rattle.std.proofs.lemmas.List.Elements.{All-append, All-nil}
 use Rattle.std.proofs.lemmas.Bool.{false_from_ne_true}
 use Rattle.memchr.specs.Find.{IsLastByte, is_byte}
+use Rattle.lc_glob.specs.Bytes.{slash}
 use Rattle.lc_glob.specs.Path.{segments_of}
 use Rattle.lc_glob.specs.Pieces.{cuts_left}
 use Rattle.lc_glob.proofs.FirstByte.{same_read, split_none}
@@ -32,26 +33,29 @@ module _ {A : Type 0} (p : A → Bool) where
   pub some_left : (rest : Option (Bor (List A))) (xs : Bor (List A)) → rest ≡ Some xs → IsTrue false ↔ (cuts_left p rest ≡ [])
   some_left rest xs e = (λ h. cc, λ h. absurd (some_part xs.now (sym (ap (cuts_left p) e) ∙ h)))
 
-  onto_end : (x : A) (parts : List (List A)) (ys : List A) → (parts ≡ [] → ⊥)
-      → onto_first x (parts ++ ys ∷ []) ≡ onto_first x parts ++ ys ∷ []
-  onto_end x [] ys some = absurd (some refl)
-  onto_end x (l ∷ parts) ys some = refl
+  onto_more : (x : A) (parts more : List (List A)) → (parts ≡ [] → ⊥) → onto_first x (parts ++ more) ≡ onto_first x parts ++ more
+  onto_more x [] more some = absurd (some refl)
+  onto_more x (l ∷ parts) more some = refl
 
-  -- the last part begins after the last separator
-  pub split_end : (xs : List A) (y : A) (ys : List A) → p y ≡ true → All (λ x. p x ≡ false) ys
-      → slice_split p (xs ++ y ∷ ys) ≡ slice_split p xs ++ ys ∷ []
-  split_end [] y ys e none = slice_split-cons_yes p y ys e ∙ ap (λ (l : List (List A)). [] ∷ l) (slice_split_none p ys none)
-  split_end (x ∷ xs) y ys e none = at (p x) refl (split_end xs y ys e none)
+  -- what separates cuts the parts before it from those after it
+  pub split_apart : (xs : List A) (y : A) (ys : List A) → p y ≡ true → slice_split p (xs ++ y ∷ ys) ≡ slice_split p xs ++ slice_split p ys
+  split_apart [] y ys e = slice_split-cons_yes p y ys e
+  split_apart (x ∷ xs) y ys e = at (p x) refl (split_apart xs y ys e)
     where
-      at : (t : Bool) → p x ≡ t → slice_split p (xs ++ y ∷ ys) ≡ slice_split p xs ++ ys ∷ []
-          → slice_split p (x ∷ xs ++ y ∷ ys) ≡ slice_split p (x ∷ xs) ++ ys ∷ []
+      at : (t : Bool) → p x ≡ t → slice_split p (xs ++ y ∷ ys) ≡ slice_split p xs ++ slice_split p ys
+          → slice_split p (x ∷ xs ++ y ∷ ys) ≡ slice_split p (x ∷ xs) ++ slice_split p ys
       at true s before =
           slice_split-cons_yes p x (xs ++ y ∷ ys) s ∙ ap (λ (l : List (List A)). [] ∷ l) before
-          ∙ ap (λ (l : List (List A)). l ++ ys ∷ []) (sym (slice_split-cons_yes p x xs s))
+          ∙ ap (λ (l : List (List A)). l ++ slice_split p ys) (sym (slice_split-cons_yes p x xs s))
       at false s before =
           slice_split-cons_no p x (xs ++ y ∷ ys) s ∙ ap (onto_first x) before
-          ∙ onto_end x (slice_split p xs) ys (some_part xs)
-          ∙ ap (λ (l : List (List A)). l ++ ys ∷ []) (sym (slice_split-cons_no p x xs s))
+          ∙ onto_more x (slice_split p xs) (slice_split p ys) (some_part xs)
+          ∙ ap (λ (l : List (List A)). l ++ slice_split p ys) (sym (slice_split-cons_no p x xs s))
+
+  -- the last part begins after the last separator
+  split_end : (xs : List A) (y : A) (ys : List A) → p y ≡ true → All (λ x. p x ≡ false) ys
+      → slice_split p (xs ++ y ∷ ys) ≡ slice_split p xs ++ ys ∷ []
+  split_end xs y ys e none = split_apart xs y ys e ∙ ap (λ (l : List (List A)). slice_split p xs ++ l) (slice_split_none p ys none)
 
   -- the parts of elements that more may follow, none of which separates: those before the last, and the last
   abbrev pub EndsIn : List A → List (List A) → List A → Type 0
@@ -104,6 +108,27 @@ module _ {A : Type 0} (p : A → Bool) where
   none_last all left after e over none =
       let whole : all ≡ after = e ∙ ap (λ (l : List A). l ++ after) (nil_from_length left over) in
       slice_split_none p all (subst (All (λ y. p y ≡ false)) (sym whole) none)
+
+-- each path has a segment, if only an empty one
+pub some_segment : (bytes : List ℕ) → segments_of bytes ≡ [] → ⊥
+some_segment bytes e = some_part (λ (b : ℕ). nat_eq b 47) bytes e
+
+-- so it has a first
+pub record HasFirst (parts : List (List ℕ)) : Type 0 where
+  pub first : List ℕ
+  pub others : List (List ℕ)
+  pub are : parts ≡ first ∷ others
+
+has_first_of : (parts : List (List ℕ)) → (parts ≡ [] → ⊥) → HasFirst parts
+has_first_of [] some = absurd (some refl)
+has_first_of (p ∷ ps) some = record { first = p; others = ps; are = refl }
+
+pub has_first : (bytes : List ℕ) → HasFirst (segments_of bytes)
+has_first bytes = has_first_of (segments_of bytes) (some_segment bytes)
+
+-- a slash cuts the segments before it from those after it
+pub segments_apart : (before after : List ℕ) → segments_of (before ++ slash ∷ after) ≡ segments_of before ++ segments_of after
+segments_apart before after = split_apart (λ (b : ℕ). nat_eq b 47) before slash after refl
 
 -- bytes without a slash are one part
 pub no_last_slash : (bytes : List ℕ) → IsLastByte (is_byte 47) bytes None → segments_of bytes ≡ bytes ∷ []

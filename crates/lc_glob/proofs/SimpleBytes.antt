@@ -1,7 +1,7 @@
 -- Simple patterns, byte by byte.
 use Rattle.std.proofs.Common.{◌≡◌, ℕ, Bool, true, false, not, ◌&&◌, ◌||◌, cond, nat_eq, List, [], ◌∷◌, map}
 use Rattle.std.proofs.Common.{Option, Some, refl, sym, ◌∙◌, ap}
-use Rattle.std.proofs.lemmas.Bool.{false≢true, eqb-true}
+use Rattle.std.proofs.lemmas.Bool.{false≢true, eqb-true, and_parts}
 use Rattle.std.specs.List.{list_all, onto_first}
 use Rattle.lc_glob.specs.Tokens.{TokenModel, literal, any_byte, star}
 use Rattle.lc_glob.specs.Patterns.{SegmentModel, plain, double_star}
@@ -9,15 +9,8 @@ use Rattle.lc_glob.specs.Path.{segments_of}
 use Rattle.lc_glob.specs.Reading.{LexemeModel, separator, one, lexeme, put, parts}
 use Rattle.lc_glob.specs.Reading.{is_double_star}
 use Rattle.lc_glob.specs.Simple.{is_simple, is_literal, byte_token, byte_parts, bytes_segment, is_literal_segment, literals_segment}
+use Rattle.lc_glob.proofs.Naming.{HasFirst, has_first}
 use Rattle.lc_glob.proofs.Parts.{at_lexeme}
-
-pub and_left : (a b : Bool) → (a && b) ≡ true → a ≡ true
-and_left true b e = refl
-and_left false b e = e
-
-pub and_right : (a b : Bool) → (a && b) ≡ true → b ≡ true
-and_right true b e = e
-and_right false b e = cc
 
 -- bytes that are literals
 chosen_literal : (a q : Bool) (t u v : TokenModel) → (not a && not q) ≡ true → cond a t (cond q u v) ≡ v
@@ -28,9 +21,9 @@ chosen_literal true q t u v e = cc
 pub literal_bytes : (bs : List ℕ) → list_all is_literal bs ≡ true → map byte_token bs ≡ map literal bs
 literal_bytes [] e = refl
 literal_bytes (b ∷ bs) e =
-    let first : byte_token b ≡ literal b = chosen_literal (nat_eq b 42) (nat_eq b 63) star any_byte (literal b) (and_left (is_literal b) _ e) in
+    let first : byte_token b ≡ literal b = chosen_literal (nat_eq b 42) (nat_eq b 63) star any_byte (literal b) (and_parts (is_literal b) _ e).0 in
     ap (λ (u : TokenModel). u ∷ map byte_token bs) first
-    ∙ ap (λ (l : List TokenModel). literal b ∷ l) (literal_bytes bs (and_right (is_literal b) _ e))
+    ∙ ap (λ (l : List TokenModel). literal b ∷ l) (literal_bytes bs (and_parts (is_literal b) _ e).1)
 
 -- segments that are literals alone or a double star
 literal_segment : (bs : List ℕ) → is_literal_segment bs ≡ true → literals_segment bs ≡ bytes_segment bs
@@ -44,24 +37,14 @@ literal_segment bs e = at (is_double_star (map byte_token bs)) e
 pub literal_segments : (ps : List (List ℕ)) → list_all is_literal_segment ps ≡ true → map literals_segment ps ≡ map bytes_segment ps
 literal_segments [] e = refl
 literal_segments (p ∷ ps) e =
-    ap (λ (s : SegmentModel). s ∷ map literals_segment ps) (literal_segment p (and_left (is_literal_segment p) _ e))
-    ∙ ap (λ (l : List SegmentModel). bytes_segment p ∷ l) (literal_segments ps (and_right (is_literal_segment p) _ e))
+    ap (λ (s : SegmentModel). s ∷ map literals_segment ps) (literal_segment p (and_parts (is_literal_segment p) _ e).0)
+    ∙ ap (λ (l : List SegmentModel). bytes_segment p ∷ l) (literal_segments ps (and_parts (is_literal_segment p) _ e).1)
 
 -- a star, and then literals
 pub suffix_bytes : (bytes bs : List ℕ) (b : ℕ) → bytes ≡ b ∷ bs → b ≡ 42 → list_all is_literal bs ≡ true
     → map byte_token bytes ≡ star ∷ map literal bs
 suffix_bytes bytes bs b e is all =
     ap (map byte_token) (e ∙ ap (λ (c : ℕ). c ∷ bs) is) ∙ ap (λ (l : List TokenModel). star ∷ l) (literal_bytes bs all)
-
--- there is a part
-pub some_part : (bs : List ℕ) → (p : List ℕ) × (ps : List (List ℕ)) × (segments_of bs ≡ p ∷ ps)
-some_part [] = ([], [], refl)
-some_part (b ∷ bs) = at (nat_eq b 47) (some_part bs)
-  where
-    at : (t : Bool) → ((p : List ℕ) × (ps : List (List ℕ)) × (segments_of bs ≡ p ∷ ps))
-        → (p : List ℕ) × (ps : List (List ℕ)) × (cond t ([] ∷ segments_of bs) (onto_first b (segments_of bs)) ≡ p ∷ ps)
-    at true h = ([], segments_of bs, refl)
-    at false h = (b ∷ h.0, h.1, ap (onto_first b) h.2)
 
 -- the parts after a separator, and after another byte
 pub after_separator : (b : ℕ) (bs : List ℕ) → nat_eq b 47 ≡ true → byte_parts (b ∷ bs) ≡ [] ∷ byte_parts bs
@@ -72,7 +55,7 @@ after_other b bs e = ap (λ (t : Bool). map (map byte_token) (cond t ([] ∷ seg
 
 -- what a simple byte is read as
 chosen : (k o s a q : Bool) (x y : Option (LexemeModel × ℕ)) (b : ℕ) → (not k && not o) ≡ true → s ≡ false
-    → cond k x (cond o y (cond a (Some (one star, 0)) (cond q (Some (one any_byte, 0)) (Some (cond s separator (one (literal b)), 0)))))
+    → cond k x (cond o y (Some (cond a (one star) (cond q (one any_byte) (cond s separator (one (literal b)))), 0)))
     ≡ Some (one (cond a star (cond q any_byte (literal b))), 0)
 chosen false false false true q x y b e n = refl
 chosen false false false false true x y b e n = refl
@@ -101,14 +84,14 @@ put_byte b ps p qs e =
 pub simple_parts : (bs : List ℕ) → list_all is_simple bs ≡ true → parts 0 bs ≡ Some (byte_parts bs)
 simple_parts [] e = refl
 simple_parts (b ∷ bs) e =
-    at (nat_eq b 47) refl (and_left (is_simple b) _ e) (simple_parts bs (and_right (is_simple b) _ e)) (some_part bs)
+    at (nat_eq b 47) refl (and_parts (is_simple b) _ e).0 (simple_parts bs (and_parts (is_simple b) _ e).1) (has_first bs)
   where
     at : (t : Bool) → nat_eq b 47 ≡ t → is_simple b ≡ true → parts 0 bs ≡ Some (byte_parts bs)
-        → ((p : List ℕ) × (ps : List (List ℕ)) × (segments_of bs ≡ p ∷ ps)) → parts 0 (b ∷ bs) ≡ Some (byte_parts (b ∷ bs))
+        → HasFirst (segments_of bs) → parts 0 (b ∷ bs) ≡ Some (byte_parts (b ∷ bs))
     at true n s h some =
         at_lexeme b bs separator 0 (slash_lexeme b bs (eqb-true b 47 n)) ∙ ap (put separator) h
-        ∙ put_separator (byte_parts bs) (map byte_token some.0) (map (map byte_token) some.1) (ap (map (map byte_token)) some.2)
+        ∙ put_separator (byte_parts bs) (map byte_token some.first) (map (map byte_token) some.others) (ap (map (map byte_token)) some.are)
         ∙ sym (ap Some (after_separator b bs n))
     at false n s h some =
         at_lexeme b bs (one (byte_token b)) 0 (simple_lexeme b bs s n) ∙ ap (put (one (byte_token b))) h
-        ∙ put_byte b (segments_of bs) some.0 some.1 some.2 ∙ sym (ap Some (after_other b bs n))
+        ∙ put_byte b (segments_of bs) some.first some.others some.are ∙ sym (ap Some (after_other b bs n))

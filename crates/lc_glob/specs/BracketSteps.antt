@@ -1,5 +1,5 @@
 -- What the steps through a bracket find.
-use Rattle.std.specs.Prelude.{ℕ, ◌≡◌, ◌+◌, ◌-◌, true, false, List, ◌++◌, take, Option, Some, None}
+use Rattle.std.specs.Prelude.{ℕ, ◌≡◌, ◌+◌, ◌-◌, true, false, List, take, Some, None}
 use Rattle.lc_glob.specs.Brackets.{class_of, is_class}
 use Rattle.lc_glob.specs.declared.bracket.Colon.{Colon}
 use Rattle.lc_glob.specs.declared.bracket.Colon.TheVariants.{Class, Unknown, Ordinary}
@@ -9,8 +9,3 @@ abbrev pub ColonIs : Colon → List ℕ → ℕ → Type 0
 ColonIs (Class ranges taken) rest p = (is_class rest p ≡ true) × (class_of (take (p - 1) rest) ≡ Some ranges.now) × (taken ≡ p + 2)
 ColonIs Unknown rest p = (is_class rest p ≡ true) × (class_of (take (p - 1) rest) ≡ None)
 ColonIs Ordinary rest p = is_class rest p ≡ false
-
--- what is pushed for an item that was found, and how many bytes it takes
-abbrev pub PushesItem : Option (List (ℕ × ℕ) × ℕ) → List (ℕ × ℕ) → List (ℕ × ℕ) → Option ℕ → Type 0
-PushesItem found old new None = found ≡ None
-PushesItem found old new (Some k) = (more : List (ℕ × ℕ)) × (found ≡ Some (more, k)) × (new ≡ old ++ more)

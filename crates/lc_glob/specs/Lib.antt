@@ -13,7 +13,7 @@ pub mod Reading
 pub mod Elements
 pub mod Simple
 pub mod Views
-pub mod Lexemes
+pub mod Pushes
 pub mod Sources
 pub mod ByteTests
 pub mod BracketSteps

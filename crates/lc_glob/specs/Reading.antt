@@ -26,14 +26,13 @@ abbrev pub as_lexeme : Option (TokenModel × ℕ) → Option (LexemeModel × ℕ
 as_lexeme None = None
 as_lexeme (Some u) = Some (one u.0, u.1)
 
--- the token that begins with the byte b, and how many of the bytes after b it takes
+-- a byte that neither quotes nor opens a bracket
+abbrev pub byte_lexeme : ℕ → LexemeModel
+byte_lexeme b = if b == asterisk then one star else if b == question_mark then one any_byte else literal_lexeme b
+
+-- what begins with the byte b, and how many of the bytes after b it takes
 abbrev pub lexeme : ℕ → List ℕ → Option (LexemeModel × ℕ)
-lexeme b bs =
-    if b == backslash then quoted bs
-    else if b == opening then as_lexeme (bracket bs)
-    else if b == asterisk then Some (one star, 0)
-    else if b == question_mark then Some (one any_byte, 0)
-    else Some (literal_lexeme b, 0)
+lexeme b bs = if b == backslash then quoted bs else if b == opening then as_lexeme (bracket bs) else Some (byte_lexeme b, 0)
 
 -- a lexeme before parts: a separator begins one, and a token goes to the first
 abbrev pub put : LexemeModel → Option (List (List TokenModel)) → Option (List (List TokenModel))

@@ -2,9 +2,6 @@
 use Rattle.std.specs.Prelude.{ℕ, Bool, true, false, List, [], ◌∷◌, map}
 use Rattle.lc_glob.specs.Tokens.{TokenModel, literal, any_byte, star, class}
 use Rattle.lc_glob.specs.Patterns.{SegmentModel, plain, double_star, PatternModel}
-use Rattle.lc_glob.specs.declared.token.ReadToken.{ReadToken}
-use Rattle.lc_glob.specs.declared.token.ReadToken.TheVariants.{Literal, AnyByte, Star, Class}
-use Rattle.lc_glob.specs.declared.bracket.Bracket.{Bracket}
 use Rattle.lc_glob.specs.declared.byte_set.ByteSet.{ByteSet}
 use Rattle.lc_glob.specs.declared.scope.Scope.{Scope}
 use Rattle.lc_glob.specs.declared.token.Token.{Token}
@@ -26,33 +23,16 @@ use Rattle.lc_glob.specs.declared.simple_pattern.Extent.TheVariants as extent
 use Rattle.lc_glob.specs.declared.pattern_view.KindRef.{KindRef}
 use Rattle.lc_glob.specs.declared.pattern_view.KindRef.TheVariants as kind_ref
 use Rattle.lc_glob.specs.Path.{segments_of, segments_left}
-use Rattle.lc_glob.specs.Reading.{LexemeModel, separator, one, segment_from}
+use Rattle.lc_glob.specs.Reading.{segment_from}
 use Rattle.lc_glob.specs.Simple.{byte_token, bytes_segment, literals_segment, exact_segment, end_tokens}
-use Rattle.lc_glob.specs.declared.reading.Lexeme.{Lexeme}
-use Rattle.lc_glob.specs.declared.reading.Lexeme.TheVariants.{Separator, One}
 use Rattle.lc_glob.specs.declared.pattern.Kept.{Kept}
 use Rattle.lc_glob.specs.declared.pattern.Kept.TheVariants.{Simple, Mixed}
 
--- a bracket as it was read, and one of a pattern, whose ranges come first among the tokens
-abbrev pub bracket_model : Bracket → TokenModel
-bracket_model b = class b.negated b.ranges.items
-
+-- a bracket, whose ranges come first among the tokens
 abbrev pub set_model : ByteSet → TokenModel
 set_model s = class s.negated (ranges_first s.tokens.now)
 
--- a token that was read: a literal, `?`, `*`, or the ranges of a bracket
-abbrev pub token_model : ReadToken → TokenModel
-token_model (Literal c) = literal c
-token_model AnyByte = any_byte
-token_model Star = star
-token_model (Class b) = bracket_model b
-
--- a separator, or a token
-abbrev pub lexeme_model : Lexeme → LexemeModel
-lexeme_model Separator = separator
-lexeme_model (One token) = one (token_model token)
-
--- the same of tokens and segments as they are matched
+-- tokens and segments as they are matched
 abbrev pub token_ref_model : TokenRef → TokenModel
 token_ref_model (ref.Literal c) = literal c
 token_ref_model ref.AnyByte = any_byte

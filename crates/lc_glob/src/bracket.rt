@@ -1,22 +1,16 @@
-//! What stands between brackets, read from its bytes.
+//! What stands between brackets, read from its bytes into the tokens of a pattern.
 
-ghost use Rattle.std.specs.Prelude.{◌≡◌, ◌<◌, ◌≤◌, ◌+◌, length, [], ◌∷◌, MatchOption, IfOk, IfSome, Some, None, true, not, ◌&&◌, ◌==◌};
+ghost use Rattle.std.specs.Prelude.{◌≡◌, ◌<◌, ◌≤◌, ◌+◌, ◌++◌, length, [], ◌∷◌, MatchOption, IfOk, IfSome, Some, None, true, not, ◌&&◌, ◌==◌};
 ghost use Rattle.lc_glob.specs.Bytes.{closing};
 ghost use Rattle.lc_glob.specs.Brackets.{class_of, other_class_of};
 ghost use Rattle.lc_glob.specs.Brackets.{element, first_close, range_from, item, plain_item, colon_of, items, bracket};
-ghost use Rattle.lc_glob.specs.BracketSteps.{ColonIs, PushesItem};
-ghost use Rattle.lc_glob.specs.Views.{bracket_model};
+ghost use Rattle.lc_glob.specs.BracketSteps.{ColonIs};
+ghost use Rattle.lc_glob.specs.Mixed.{range_tokens};
+ghost use Rattle.lc_glob.specs.Pushes.{Pushes, kept_tokens};
 
+use crate::token::Token;
 use memchr::memchr;
-use std::alloc::{AllocError, Global};
-
-/// A bracket as it was read.
-#[derive(Drop)]
-pub(crate) struct Bracket {
-    pub(crate) negated: bool,
-    /// The first and the last byte of each range.
-    pub(crate) ranges: Vec<(u8, u8)>,
-}
+use std::alloc::AllocError;
 
 /// An element that begins with the byte `b`, and how many of the bytes after it are taken.
 fn element_at(b: u8, rest: &[u8]) -> Option<(u8, usize)>
@@ -116,8 +110,8 @@ fn colon_at(after_colon: &[u8], close: usize) -> Colon
 }
 
 /// Pushes the range of an item that is an element or a range, and says how many bytes after `b` it takes.
-fn push_plain(b: u8, rest: &[u8], ranges: &mut Vec<(u8, u8)>) -> Result<Option<usize>, AllocError>
-    ensures is { IfOk result (λ r. PushesItem (plain_item b rest.now) ranges.old.items ranges.new.items r) }
+fn push_plain(b: u8, rest: &[u8], tokens: &mut Vec<Token>) -> Result<Option<usize>, AllocError>
+    ensures is { IfOk result (λ r. Pushes range_tokens (plain_item b rest.now) tokens.old.items tokens.new.items r) }
     ensures within { IfOk result (λ r. IfSome r (λ k. k ≤ length rest.now)) }
 {
     let Some((x, used)) = element_at(b, rest) else {
@@ -126,8 +120,17 @@ fn push_plain(b: u8, rest: &[u8], ranges: &mut Vec<(u8, u8)>) -> Result<Option<u
     let Some((range, taken)) = range_at(x, used, &rest[used..]) else {
         return Ok(None);
     };
-    ranges.push(range)?;
+    tokens.push(Token::Range(range.0, range.1))?;
     Ok(Some(taken))
+}
+
+fn push_ranges(ranges: &[(u8, u8)], tokens: &mut Vec<Token>) -> Result<(), AllocError>
+    ensures { IfOk result (λ _. tokens.new.items ≡ tokens.old.items ++ range_tokens ranges.now) }
+{
+    for (first, last) in ranges {
+        tokens.push(Token::Range(*first, *last))?;
+    }
+    Ok(())
 }
 
 /// The place of the first close, or the length.
@@ -145,10 +148,10 @@ fn first_close(bytes: &[u8]) -> usize
 fn push_colon(
     after_bracket: &[u8],
     after_colon: &[u8],
-    ranges: &mut Vec<(u8, u8)>,
+    tokens: &mut Vec<Token>,
 ) -> Result<Option<usize>, AllocError>
     requires { length after_colon.now + 1 ≡ length after_bracket.now }
-    ensures is { IfOk result (λ r. PushesItem (colon_of after_bracket.now after_colon.now) ranges.old.items ranges.new.items r) }
+    ensures is { IfOk result (λ r. Pushes range_tokens (colon_of after_bracket.now after_colon.now) tokens.old.items tokens.new.items r) }
     ensures within { IfOk result (λ r. IfSome r (λ k. k ≤ length after_bracket.now)) }
 {
     let close = first_close(after_colon);
@@ -156,28 +159,28 @@ fn push_colon(
         return Ok(None);
     }
     match colon_at(after_colon, close) {
-        Colon::Class(class, taken) => {
-            ranges.extend_from_slice(class)?;
+        Colon::Class(ranges, taken) => {
+            push_ranges(ranges, tokens)?;
             Ok(Some(taken))
         }
         Colon::Unknown => Ok(None),
-        Colon::Ordinary => push_plain(b'[', after_bracket, ranges),
+        Colon::Ordinary => push_plain(b'[', after_bracket, tokens),
     }
 }
 
 /// Pushes the ranges of the item that begins with `b`, and says how many bytes after it are taken; `None` where it makes
 /// the pattern dead.
-fn push_item(b: u8, rest: &[u8], ranges: &mut Vec<(u8, u8)>) -> Result<Option<usize>, AllocError>
-    ensures is { IfOk result (λ r. PushesItem (item b rest.now) ranges.old.items ranges.new.items r) }
+fn push_item(b: u8, rest: &[u8], tokens: &mut Vec<Token>) -> Result<Option<usize>, AllocError>
+    ensures is { IfOk result (λ r. Pushes range_tokens (item b rest.now) tokens.old.items tokens.new.items r) }
     ensures within { IfOk result (λ r. IfSome r (λ k. k ≤ length rest.now)) }
 {
     let Some((c, after_colon)) = rest.split_first() else {
-        return push_plain(b, rest, ranges);
+        return push_plain(b, rest, tokens);
     };
     if b == b'[' && *c == b':' {
-        push_colon(rest, after_colon, ranges)
+        push_colon(rest, after_colon, tokens)
     } else {
-        push_plain(b, rest, ranges)
+        push_plain(b, rest, tokens)
     }
 }
 
@@ -188,12 +191,11 @@ fn closes(b: u8, first: bool) -> bool
     b == b']' && !first
 }
 
-/// Reads the items up to the close: their ranges, and the number of bytes taken, the close too.
-fn read_items(alloc: Global, bytes: &[u8]) -> Result<Option<(Vec<(u8, u8)>, usize)>, AllocError>
-    ensures is { IfOk result (λ r. MatchOption r (items true 0 bytes.now ≡ None) (λ p. items true 0 bytes.now ≡ Some (p.0.items, p.1))) }
-    ensures within { IfOk result (λ r. IfSome r (λ p. p.1 ≤ length bytes.now)) }
+/// Pushes the ranges of the items up to the close, and says how many bytes are taken, the close too.
+fn push_items(bytes: &[u8], tokens: &mut Vec<Token>) -> Result<Option<usize>, AllocError>
+    ensures is { IfOk result (λ r. Pushes range_tokens (items true 0 bytes.now) tokens.old.items tokens.new.items r) }
+    ensures within { IfOk result (λ r. IfSome r (λ k. k ≤ length bytes.now)) }
 {
-    let mut ranges = Vec::new(alloc);
     let mut left = bytes;
     let mut first = true;
     'items: loop {
@@ -201,9 +203,9 @@ fn read_items(alloc: Global, bytes: &[u8]) -> Result<Option<(Vec<(u8, u8)>, usiz
             return Ok(None);
         };
         if closes(*b, first) {
-            return Ok(Some((ranges, bytes.len() - rest.len())));
+            return Ok(Some(bytes.len() - rest.len()));
         }
-        let Some(taken) = push_item(*b, rest, &mut ranges)? else {
+        let Some(taken) = push_item(*b, rest, tokens)? else {
             return Ok(None);
         };
         left = &rest[taken..];
@@ -211,20 +213,22 @@ fn read_items(alloc: Global, bytes: &[u8]) -> Result<Option<(Vec<(u8, u8)>, usiz
     }
 }
 
-/// The bracket that opened before these bytes, and how many of them are taken.
-pub(crate) fn read_bracket(
-    alloc: Global,
+/// Pushes the bracket that opened before these bytes, and says how many of them are taken; `None` where it makes the
+/// pattern dead.
+pub(crate) fn push_bracket(
     bytes: &[u8],
-) -> Result<Option<(Bracket, usize)>, AllocError>
-    ensures is { IfOk result (λ r. MatchOption r (bracket bytes.now ≡ None) (λ p. bracket bytes.now ≡ Some (bracket_model p.0, p.1))) }
-    ensures within { IfOk result (λ r. IfSome r (λ p. p.1 ≤ length bytes.now)) }
+    tokens: &mut Vec<Token>,
+) -> Result<Option<usize>, AllocError>
+    ensures is { IfOk result (λ r. Pushes kept_tokens (bracket bytes.now) tokens.old.items tokens.new.items r) }
+    ensures within { IfOk result (λ r. IfSome r (λ k. k ≤ length bytes.now)) }
 {
     let Some((b, rest)) = bytes.split_first() else {
         return Ok(None);
     };
     let negated = *b == b'!' || *b == b'^';
-    let Some((ranges, taken)) = read_items(alloc, if negated { rest } else { bytes })? else {
+    tokens.push(Token::Open(negated))?;
+    let Some(taken) = push_items(if negated { rest } else { bytes }, tokens)? else {
         return Ok(None);
     };
-    Ok(Some((Bracket { negated, ranges }, taken + usize::from(negated))))
+    Ok(Some(taken + usize::from(negated)))
 }

@@ -75,7 +75,8 @@ fn flag_first(flags: &mut [bool])
 pub(crate) fn keep(flags: &mut [bool], names: &[&[u8]], tokens: TokensRef, tests: &mut ByteTests)
     requires { length names.now ≡ length flags.old }
     ensures len { length flags.new ≡ length flags.old }
-    ensures set { AreSet flags.new (λ k. IsSet flags.old k × Fits (tokens_ref_model tokens.entry) (slice_index_or (names_of names.now) k [])) }
+    ensures set { AreSet flags.new
+        (λ k. IsSet flags.old k × Fits (tokens_ref_model tokens.entry) (slice_index_or (names_of names.now) k [])) }
     ensures cost { tests.new.made ≤ tests.old.made
         + (length (tokens_ref_model tokens.entry) + 1) * bytes_with_ends (names_of names.now) }
 {

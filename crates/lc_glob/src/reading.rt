@@ -1,64 +1,69 @@
 //! Bytes read as a pattern: their tokens, and what those are kept as.
 
-ghost use Rattle.std.specs.Prelude.{◌≡◌, ◌≤◌, ◌++◌, ◌∷◌, [], length, false, MatchOption, IfOk, IfSome, Some, None};
+ghost use Rattle.std.specs.Prelude.{◌≡◌, ◌≤◌, ◌∷◌, [], length, false, MatchOption, IfOk, IfSome, Some, None};
 ghost use Rattle.lc_glob.specs.Elements.{parts_in};
-ghost use Rattle.lc_glob.specs.Lexemes.{tokens_of};
-ghost use Rattle.lc_glob.specs.Mixed.{is_separator, literal_tokens, mixed_model, range_tokens};
+ghost use Rattle.lc_glob.specs.Mixed.{is_separator, literal_tokens, mixed_model};
 ghost use Rattle.lc_glob.specs.Patterns.{dead, plain};
-ghost use Rattle.lc_glob.specs.Reading.{lexeme, literal_lexeme, parts, pattern_of};
-ghost use Rattle.lc_glob.specs.Views.{form_model, lexeme_model, live_model, mixed_form_model, simple_model};
+ghost use Rattle.lc_glob.specs.Pushes.{Pushes, lexeme_tokens};
+ghost use Rattle.lc_glob.specs.Reading.{byte_lexeme, lexeme, literal_lexeme, parts, pattern_of, quoted};
+ghost use Rattle.lc_glob.specs.Views.{form_model, live_model, mixed_form_model, simple_model};
 
-use crate::bracket::read_bracket;
+use crate::bracket::push_bracket;
 use crate::pattern::{Kept, Pattern};
 use crate::scope::{Scope, trim};
 use crate::simple_pattern::{Extent, Shape, SimpleForm, SimplePattern};
-use crate::token::{ReadToken, Token};
+use crate::token::Token;
 use smallvec::SmallVec;
 use std::alloc::{AllocError, Global};
 
-/// What the bytes are read as, one after the other.
-#[derive(Drop)]
-enum Lexeme {
-    Separator,
-    One(ReadToken),
-}
-
-/// A byte that means itself: a slash separates, quoted or not.
-fn own_lexeme(b: u8) -> Lexeme
-    ensures { lexeme_model result ≡ literal_lexeme b }
+/// The token of a byte that means itself: a slash separates, quoted or not.
+fn own_token(b: u8) -> Token
+    ensures { lexeme_tokens (literal_lexeme b) ≡ result ∷ [] }
 {
     if b == b'/' {
-        Lexeme::Separator
+        Token::Separator
     } else {
-        Lexeme::One(ReadToken::Literal(b))
+        Token::Literal(b)
     }
 }
 
-/// The token that begins with the byte `b`, and how many of the bytes after it are taken.
-fn read_lexeme(alloc: Global, b: u8, rest: &[u8]) -> Result<Option<(Lexeme, usize)>, AllocError>
-    ensures is { IfOk result (λ r. MatchOption r (lexeme b rest.now ≡ None) (λ p. lexeme b rest.now ≡ Some (lexeme_model p.0, p.1))) }
-    ensures within { IfOk result (λ r. IfSome r (λ p. p.1 ≤ length rest.now)) }
+/// The token of a byte that neither quotes nor opens a bracket.
+fn byte_token(b: u8) -> Token
+    ensures { lexeme_tokens (byte_lexeme b) ≡ result ∷ [] }
+{
+    match b {
+        b'*' => Token::Star,
+        b'?' => Token::AnyByte,
+        _ => own_token(b),
+    }
+}
+
+/// Pushes the byte after a backslash, and says how many are taken; `None` where there is none, so that the pattern is dead.
+fn push_quoted(rest: &[u8], tokens: &mut Vec<Token>) -> Result<Option<usize>, AllocError>
+    ensures is { IfOk result (λ r. Pushes lexeme_tokens (quoted rest.now) tokens.old.items tokens.new.items r) }
+    ensures within { IfOk result (λ r. IfSome r (λ k. k ≤ length rest.now)) }
+{
+    let Some((b, _)) = rest.split_first() else {
+        return Ok(None);
+    };
+    tokens.push(own_token(*b))?;
+    Ok(Some(1))
+}
+
+/// Pushes what begins with the byte `b`, and says how many of the bytes after it are taken; `None` where it makes the
+/// pattern dead.
+fn push_lexeme(b: u8, rest: &[u8], tokens: &mut Vec<Token>) -> Result<Option<usize>, AllocError>
+    ensures is { IfOk result (λ r. Pushes lexeme_tokens (lexeme b rest.now) tokens.old.items tokens.new.items r) }
+    ensures within { IfOk result (λ r. IfSome r (λ k. k ≤ length rest.now)) }
 {
     if b == b'\\' {
-        let Some((c, _)) = rest.split_first() else {
-            return Ok(None);
-        };
-        return Ok(Some((own_lexeme(*c), 1)));
+        return push_quoted(rest, tokens);
     }
     if b == b'[' {
-        let Some((found, taken)) = read_bracket(alloc, rest)? else {
-            return Ok(None);
-        };
-        return Ok(Some((Lexeme::One(ReadToken::Class(found)), taken)));
+        return push_bracket(rest, tokens);
     }
-    Ok(Some((
-        match b {
-            b'*' => Lexeme::One(ReadToken::Star),
-            b'?' => Lexeme::One(ReadToken::AnyByte),
-            _ => own_lexeme(b),
-        },
-        0,
-    )))
+    tokens.push(byte_token(b))?;
+    Ok(Some(0))
 }
 
 /// The tokens of the bytes, or `None` where the pattern is dead.
@@ -69,39 +74,12 @@ fn read_tokens(alloc: Global, bytes: &[u8]) -> Result<Option<Vec<Token>>, AllocE
     let mut tokens = Vec::new(alloc);
     let mut left = bytes;
     'tokens: while let Some((b, rest)) = left.split_first() {
-        let Some((lexeme, taken)) = read_lexeme(alloc, *b, rest)? else {
+        let Some(taken) = push_lexeme(*b, rest, &mut tokens)? else {
             return Ok(None);
         };
-        push_lexeme(&mut tokens, lexeme)?;
         left = &rest[taken..];
     }
     Ok(Some(tokens))
-}
-
-/// Pushes what a lexeme is kept as.
-fn push_lexeme(tokens: &mut Vec<Token>, lexeme: Lexeme) -> Result<(), AllocError>
-    ensures { IfOk result (λ _. tokens.new.items ≡ tokens.old.items ++ tokens_of lexeme) }
-{
-    match lexeme {
-        Lexeme::Separator => tokens.push(Token::Separator)?,
-        Lexeme::One(ReadToken::Literal(b)) => tokens.push(Token::Literal(b))?,
-        Lexeme::One(ReadToken::AnyByte) => tokens.push(Token::AnyByte)?,
-        Lexeme::One(ReadToken::Star) => tokens.push(Token::Star)?,
-        Lexeme::One(ReadToken::Class(bracket)) => {
-            tokens.push(Token::Open(bracket.negated))?;
-            push_ranges(tokens, &bracket.ranges)?;
-        }
-    }
-    Ok(())
-}
-
-fn push_ranges(tokens: &mut Vec<Token>, ranges: &[(u8, u8)]) -> Result<(), AllocError>
-    ensures { IfOk result (λ _. tokens.new.items ≡ tokens.old.items ++ range_tokens ranges.now) }
-{
-    for (first, last) in ranges {
-        tokens.push(Token::Range(*first, *last))?;
-    }
-    Ok(())
 }
 
 /// Reads bytes as a pattern. Any bytes are one, perhaps a dead one.

@@ -6,29 +6,18 @@ ghost use Rattle.lc_glob.specs.Simple.{byte_token};
 ghost use Rattle.lc_glob.specs.Tokens.{takes, is_star};
 ghost use Rattle.lc_glob.specs.Views.{token_ref_model};
 
-use crate::bracket::Bracket;
 use crate::byte_set::ByteSet;
 
-/// One token of a segment, as it was read.
-#[derive(Drop)]
-pub(crate) enum ReadToken {
+/// One token of a pattern that isn't simple, as it is kept, in three bytes.
+#[derive(Clone, Copy)]
+pub enum Token {
     /// That byte.
     Literal(u8),
     /// `?`: one byte, but no slash.
     AnyByte,
     /// `*`: any bytes, but no slash.
     Star,
-    /// A bracket: one byte of a set.
-    Class(Bracket),
-}
-
-/// One token of a pattern that isn't simple, as it is kept, in three bytes.
-#[derive(Clone, Copy)]
-pub enum Token {
-    Literal(u8),
-    AnyByte,
-    Star,
-    /// A bracket, perhaps a negated one. Its ranges follow.
+    /// A bracket, perhaps a negated one: one byte of a set, whose ranges follow.
     Open(bool),
     /// The first and the last byte of a bracket's range.
     Range(u8, u8),

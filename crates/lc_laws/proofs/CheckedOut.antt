@@ -3,7 +3,8 @@ use Rattle.std.proofs.Common.{◌≡◌, ℕ, ◌+◌, ◌<◌, Bool, true, fals
 use Rattle.std.proofs.Common.{sym, ◌∙◌, ap, subst, arith, Option, Some, None, ◌⊎◌, inl, inr, length-append, codes}
 use Rattle.std.proofs.Math.Seq.{get_or-append_seam, take-append_seam}
 use Rattle.lc_explain.specs.Waypoints.{kind_in}
-use Rattle.lc_explain.proofs.PathSegments.{has_first, cut_at_slash, names_below}
+use Rattle.lc_explain.proofs.PathSegments.{names_below}
+use Rattle.lc_glob.proofs.Naming.{has_first, segments_apart}
 use Rattle.lc_glob.specs.Bytes.{slash}
 use Rattle.lc_glob.specs.Path.{path_in, segments_of}
 use Rattle.lc_level.specs.Answers.{Item, name_of, entry_of, entries_of, Tree}
@@ -179,7 +180,7 @@ module _ (law : RuleLaw) (last : DecidingLaw) (lists : List ℕ → Listings) (g
       let first = has_first directory in
       let next = has_first rest in
       let names : segments_of path ≡ segments_of directory ++ next.first ∷ next.others =
-      ap segments_of is ∙ cut_at_slash directory rest ∙ ap (λ l. segments_of directory ++ l) next.are in
+      ap segments_of is ∙ segments_apart directory rest ∙ ap (λ l. segments_of directory ++ l) next.are in
       let some : segments_of directory ≡ [] → ⊥ = λ e. let none : first.first ∷ first.others ≡ [] = sym first.are ∙ e in absurd (cc none) in
       let above = down_above lists [] (segments_of directory) next.first next.others kind some
       (subst (λ l. LeadDown lists [] l kind) names entry) in

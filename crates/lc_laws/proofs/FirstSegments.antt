@@ -2,10 +2,9 @@
 use Rattle.std.proofs.Common.{◌≡◌, ℕ, Bool, true, false, nat_eq, List, [], ◌∷◌, ◌++◌, refl, sym, ◌∙◌, ap, arith}
 use Rattle.std.specs.List.{onto_first}
 use Rattle.std.proofs.lemmas.List.Splits.{slice_split-cons_yes, slice_split-cons_no}
-use Rattle.lc_explain.proofs.PathSegments.{has_first}
 use Rattle.lc_glob.specs.Bytes.{slash}
 use Rattle.lc_glob.specs.Path.{segments_of}
-use Rattle.lc_glob.proofs.Naming.{some_part}
+use Rattle.lc_glob.proofs.Naming.{has_first, some_segment}
 
 -- bytes are their only segment, or it and a slash and what has the others
 abbrev pub IsCut : List ℕ → List ℕ → List (List ℕ) → Type 0
@@ -22,7 +21,7 @@ is_slash : (b : ℕ) → nat_eq b 47 ≡ true → b ≡ 47
 is_slash b e = search (arith, e)
 
 at_slash : (b : ℕ) (bs name : List ℕ) (names : List (List ℕ)) → b ≡ slash → [] ∷ segments_of bs ≡ name ∷ names → IsCut (b ∷ bs) name names
-at_slash b bs name [] is e = absurd (some_part (λ (b : ℕ). nat_eq b 47) bs (same_tail [] name (segments_of bs) [] e))
+at_slash b bs name [] is e = absurd (some_segment bs (same_tail [] name (segments_of bs) [] e))
 at_slash b bs name (next ∷ names) is e = (
   bs,
   ap (λ c. c ∷ bs) is ∙ ap (λ n. n ++ slash ∷ bs) (same_head [] name (segments_of bs) (next ∷ names) e),

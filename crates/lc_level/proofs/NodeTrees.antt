@@ -1,6 +1,7 @@
 -- The answers of the tree that a node stands for are some that a tree of memory may give.
 use Rattle.std.proofs.Common.{◌≡◌, ℕ, Bool, true, false, ◌&&◌, List, [], ◌∷◌, map, refl, sym, ◌∙◌, ap, subst, arith, Option, Some, None}
 use Rattle.std.proofs.Common.{Result, Ok, Err, codes}
+use Rattle.std.proofs.lemmas.Bool.{and_parts}
 use Rattle.std.specs.Prelude.{IfOk, Vec, option_and_then}
 use Rattle.std.specs.declared.alloc.Global.{Global}
 use Rattle.std.proofs.lemmas.Cmp.{nat_list_cmp_total}
@@ -43,10 +44,6 @@ entries_are [] = refl
 entries_are (c ∷ cs) =
     ap (λ (e : EntryModel). e ∷ entries_of (map item_of cs)) (entry_by c.0.items (content_of (Some c.1)) (kind_of c.1))
     ∙ ap (λ l. nodes.entry_of_child c ∷ l) (entries_are cs)
-
-both : (a b : Bool) → (a && b) ≡ true → (a ≡ true) × (b ≡ true)
-both true b e = (refl, e)
-both false b e = cc
 
 -- the answer that has these items
 abbrev answer_of : Result (List Item) ReadFault → Result (List EntryModel) ReadFault
@@ -104,7 +101,7 @@ module _ (top : Node) (path : List ℕ) where
       → AllByRecursion (MayHave (mem_lists top) (mem_gives top) path) (map item_of children)
   all_have [] good found = tt
   all_have (c ∷ cs) good found =
-      let t = both (is_good_name c.0.items) (have_good_names (map nodes.entry_of_child cs)) good in
+      let t = and_parts (is_good_name c.0.items) (have_good_names (map nodes.entry_of_child cs)) good in
       (may_have c.0.items c.1 (kind_of c.1) (node_in top path c.0.items t.0 ∙ found.0), all_have cs t.1 found.1)
 
   -- each entry of a directory there is found by its name

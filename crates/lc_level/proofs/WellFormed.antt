@@ -1,5 +1,6 @@
 -- The names of a listing's items: good, and no two the same.
 use Rattle.std.proofs.Common.{◌≡◌, ◌≢◌, ℕ, ◌==◌, Bool, true, false, not, ◌&&◌, ◌||◌, List, [], ◌∷◌, refl, sym, ◌∙◌, bytes_eq}
+use Rattle.std.proofs.lemmas.Bool.{and_parts, not-true, or_parts}
 use Rattle.std.specs.List.{list_any, IsDistinct, AllByRecursion}
 use Rattle.std.specs.Ordering.{eq_by_cmp}
 use Rattle.std.proofs.lemmas.Map.Keys.{IsDistinct-from_sorted}
@@ -43,21 +44,9 @@ other_bytes m n d = at (bytes_eq m n) refl
 pub bytes_other : (m n : List ℕ) → bytes_eq m n ≡ false → m ≢ n
 bytes_other m n e s = clash (bytes_same m n s) e
 
-both : (a b : Bool) → (a && b) ≡ true → (a ≡ true) × (b ≡ true)
-both true b e = (refl, e)
-both false b e = cc
-
-is_not : (a : Bool) → not a ≡ true → a ≡ false
-is_not true e = cc
-is_not false e = refl
-
-neither : (a b : Bool) → (a || b) ≡ false → (a ≡ false) × (b ≡ false)
-neither true b e = cc
-neither false b e = (refl, e)
-
 no_slash : (n : List ℕ) → list_any (λ b. b == 47) n ≡ false → AllByRecursion (λ b. (b == 47) ≡ false) n
 no_slash [] e = tt
-no_slash (b ∷ bs) e = let t = neither (b == 47) (list_any (λ x. x == 47) bs) e in (t.0, no_slash bs t.1)
+no_slash (b ∷ bs) e = let t = or_parts (b == 47) (list_any (λ x. x == 47) bs) e in (t.0, no_slash bs t.1)
 
 some_name : (n : List ℕ) → is_no_name n ≡ false → n ≢ []
 some_name [] e = cc
@@ -66,9 +55,9 @@ some_name (b ∷ bs) e = λ d. cc
 -- a name that passes the test of names is good
 pub good_one : (n : List ℕ) → is_good_name n ≡ true → IsGoodName n
 good_one n e =
-    let first = both (not (is_no_name n) && not (list_any (λ b. b == 47) n)) (not (list_any (λ b. b == 0) n)) e in
-    let second = both (not (is_no_name n)) (not (list_any (λ b. b == 47) n)) first.0 in
-    (some_name n (is_not (is_no_name n) second.0), no_slash n (is_not (list_any (λ b. b == 47) n) second.1))
+    let first = and_parts (not (is_no_name n) && not (list_any (λ b. b == 47) n)) (not (list_any (λ b. b == 0) n)) e in
+    let second = and_parts (not (is_no_name n)) (not (list_any (λ b. b == 47) n)) first.0 in
+    (some_name n (not-true (is_no_name n) second.0), no_slash n (not-true (list_any (λ b. b == 47) n) second.1))
 
 others : (e : Item) (es : List Item) → AllByRecursion (λ y. eq_by_cmp bytes_cmp (name_of e) y ≡ false) (names (entries_of es))
     → AllByRecursion (λ d. bytes_eq (name_of d) (name_of e) ≡ false) es
@@ -83,7 +72,7 @@ spread_by : (es : List Item) → have_good_names (entries_of es) ≡ true → Ha
 unfolding IsDistinct
 spread_by [] g d = tt
 spread_by (e ∷ es) g d =
-    let t = both (is_good_name (name_of e)) (have_good_names (entries_of es)) g in
+    let t = and_parts (is_good_name (name_of e)) (have_good_names (entries_of es)) g in
     (others e es d.0, good_one (name_of e) t.0, spread_by es t.1 d.1)
 
 -- the items of a listing have good names, no two the same

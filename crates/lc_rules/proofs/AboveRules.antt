@@ -3,42 +3,21 @@ use Rattle.std.proofs.Common.{◌≡◌, ◌≢◌, ◌≤◌, ◌<◌, ◌+◌,
 use Rattle.std.proofs.Common.{Option, Some, None, Bor, is_some, nat_eq, refl, sym, ◌∙◌, ap, ap₂, subst, arith, append_assoc, ⊎_elim, set, take-take}
 use Rattle.std.specs.Prelude.{option_map, IfSome}
 use Rattle.std.specs.Option.{option_or}
-use Rattle.std.specs.List.{onto_first}
 use Rattle.std.proofs.Common.{not, ◌&&◌, ◌||◌}
 use Rattle.std.proofs.Math.Seq.{take-suc-set, take-append_seam, take-length}
 use Rattle.std.proofs.lemmas.Bool.{cases_lt}
 use Rattle.std.proofs.lemmas.List.{append_cancel_right, map-append, take-set-le, get_or-set_other, get_or-set_same, length-append, length-take-le, get_or-take, take-map}
-use Rattle.std.proofs.lemmas.List.Splits.{slice_split-cons_yes, slice_split-cons_no}
 use Rattle.lc_glob.specs.Above.{names_of, TellMatches}
 use Rattle.lc_glob.specs.IsMatch.{is_match, segments_match}
 use Rattle.lc_glob.specs.Path.{segments_of}
 use Rattle.lc_glob.specs.Patterns.{PatternModel}
-use Rattle.lc_glob.proofs.Naming.{some_part}
+use Rattle.lc_glob.proofs.Naming.{segments_apart}
 use Rattle.lc_rules.specs.Above.{AreDecided, AreCut, AreFound, IsOwn}
 use Rattle.lc_rules.specs.IgnoreRules.{RuleModel}
 use Rattle.lc_rules.specs.Verdicts.{at_depth, deciding}
 use Rattle.lc_rules.specs.declared.origin.Origin.{Origin}
 use Rattle.lc_rules.specs.declared.origin.Origin.TheVariants.{Directory}
 use Rattle.lc_rules.proofs.LastRule.{deciding-append, deciding_one}
-
-onto_front : (x : ℕ) (parts more : List (List ℕ)) → (parts ≡ [] → ⊥) → onto_first x (parts ++ more) ≡ onto_first x parts ++ more
-onto_front x [] more some = absurd (some refl)
-onto_front x (p ∷ parts) more some = refl
-
--- a slash cuts the segments before it from those after it
-pub segments_apart : (before after : List ℕ) → segments_of (before ++ 47 ∷ after) ≡ segments_of before ++ segments_of after
-segments_apart [] after = slice_split-cons_yes (λ (b : ℕ). nat_eq b 47) 47 after refl
-segments_apart (x ∷ before) after = at (nat_eq x 47) refl (segments_apart before after)
-  where
-    at : (t : Bool) → nat_eq x 47 ≡ t → segments_of (before ++ 47 ∷ after) ≡ segments_of before ++ segments_of after
-        → segments_of (x ∷ before ++ 47 ∷ after) ≡ segments_of (x ∷ before) ++ segments_of after
-    at true s rest =
-        slice_split-cons_yes (λ (b : ℕ). nat_eq b 47) x (before ++ 47 ∷ after) s ∙ ap (λ (l : List (List ℕ)). [] ∷ l) rest
-        ∙ ap (λ (l : List (List ℕ)). l ++ segments_of after) (sym (slice_split-cons_yes (λ (b : ℕ). nat_eq b 47) x before s))
-    at false s rest =
-        slice_split-cons_no (λ (b : ℕ). nat_eq b 47) x (before ++ 47 ∷ after) s ∙ ap (onto_first x) rest
-        ∙ onto_front x (segments_of before) (segments_of after) (some_part (λ (b : ℕ). nat_eq b 47) before)
-        ∙ ap (λ (l : List (List ℕ)). l ++ segments_of after) (sym (slice_split-cons_no (λ (b : ℕ). nat_eq b 47) x before s))
 
 -- what was cut off before a slash is one segment
 pub one_segment : (left name rest : List ℕ) → segments_of left ≡ name ∷ segments_of rest → left ≡ name ++ 47 ∷ rest

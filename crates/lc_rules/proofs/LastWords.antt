@@ -5,38 +5,16 @@ use Rattle.std.specs.List.{cons_option, filter_map, list_any, slice_split, onto_
 use Rattle.std.proofs.lemmas.Bool.{or_parts}
 use Rattle.std.proofs.lemmas.List.{append-nil, length-take}
 use Rattle.std.proofs.lemmas.List.Elements.{filter-append, filter_map-append}
-use Rattle.std.proofs.lemmas.List.Splits.{slice_split-cons_yes, slice_split-cons_no, length-slice_split}
+use Rattle.std.proofs.lemmas.List.Splits.{slice_split-cons_no}
+use Rattle.lc_glob.proofs.Naming.{split_apart}
 use Rattle.lc_rules.specs.Attributes.{AssignmentModel}
 use Rattle.lc_rules.specs.AttrWords.{is_white, is_some_word, words, assign, assigns, both}
 use Rattle.lc_rules.specs.LastWord.{EndsBlack}
 use Rattle.lc_rules.specs.WrittenLines.{assigned}
 
-onto_both : (x : ℕ) (l m : List (List ℕ)) → 0 < length l → onto_first x (l ++ m) ≡ onto_first x l ++ m
-onto_both x [] m h = absurd (omega arith)
-onto_both x (p ∷ ps) m h = refl
-
--- white space parts the pieces before it and those after it
-split_white : (xs : List ℕ) (b : ℕ) (ys : List ℕ) → is_white b ≡ true
-    → slice_split is_white (xs ++ (b ∷ ys)) ≡ slice_split is_white xs ++ slice_split is_white ys
-split_white [] b ys e = slice_split-cons_yes is_white b ys e
-split_white (x ∷ xs) b ys e = by_cases (is_white x) refl (split_white xs b ys e)
-  where
-    by_cases : (t : Bool) → is_white x ≡ t
-        → slice_split is_white (xs ++ (b ∷ ys)) ≡ slice_split is_white xs ++ slice_split is_white ys
-        → slice_split is_white (x ∷ xs ++ (b ∷ ys)) ≡ slice_split is_white (x ∷ xs) ++ slice_split is_white ys
-    by_cases true q more =
-        slice_split-cons_yes is_white x (xs ++ (b ∷ ys)) q
-        ∙ ap (λ l. [] ∷ l) more
-        ∙ ap (λ l. l ++ slice_split is_white ys) (sym (slice_split-cons_yes is_white x xs q))
-    by_cases false q more =
-        slice_split-cons_no is_white x (xs ++ (b ∷ ys)) q
-        ∙ ap (onto_first x) more
-        ∙ onto_both x (slice_split is_white xs) (slice_split is_white ys) (omega (arith, length-slice_split is_white xs))
-        ∙ ap (λ l. l ++ slice_split is_white ys) (sym (slice_split-cons_no is_white x xs q))
-
--- and the words
+-- white space parts the words before it from those after it
 pub words_white : (xs : List ℕ) (b : ℕ) (ys : List ℕ) → is_white b ≡ true → words (xs ++ (b ∷ ys)) ≡ words xs ++ words ys
-words_white xs b ys e = ap (filter is_some_word) (split_white xs b ys e)
+words_white xs b ys e = ap (filter is_some_word) (split_apart is_white xs b ys e)
     ∙ filter-append is_some_word (slice_split is_white xs) (slice_split is_white ys)
 
 -- white space at the end belongs to no word

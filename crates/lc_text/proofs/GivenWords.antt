@@ -6,7 +6,7 @@ use Rattle.std.specs.List.{list_any, range_with_len, position_or_len}
 use Rattle.std.proofs.lemmas.List.Folds.{Any-from_list_any}
 use Rattle.std.proofs.lemmas.List.FromFn.{length-range_with_len}
 use Rattle.std.proofs.lemmas.List.Sums.{passes_at_first, fails_before_first}
-use Rattle.std.proofs.lemmas.Bool.{cases_lt}
+use Rattle.std.proofs.lemmas.Bool.{cases_lt, and_parts}
 use Rattle.lc_rules.specs.IgnoreRules.{RuleModel}
 use Rattle.lc_rules.specs.declared.origin.Origin.{Origin}
 use Rattle.lc_rules.specs.Verdicts.{deciding, at_depth, verdict_from, verdict_by}
@@ -16,10 +16,6 @@ use Rattle.lc_text.specs.CheckText.{file_verdict, is_ignored, is_ignored_parent,
 use Rattle.lc_text.specs.ExplainedText.{file_rule, highest_ignored}
 use Rattle.lc_text.specs.ExplainLaws.{rule_word, WordLaw}
 use Rattle.lc_text.proofs.Directories.{get_or-range}
-
-both : (a b : Bool) → (a && b) ≡ true → b ≡ true
-both true b e = e
-both false b e = absurd (cc)
 
 only_ignored : (v : Verdict) → is_ignored v ≡ true → v ≡ Ignored
 only_ignored Ignored e = refl
@@ -56,7 +52,7 @@ highest-ignored verdict path some =
     let low : place < length path = omega (arith, within, length-range_with_len 0 (length path)) in
     let is = ap (is_ignored_parent verdict path) (sym (get_or-range (length path) place 0 low))
     ∙ passes_at_first (is_ignored_parent verdict path) places 0 within in
-    both (nat_eq (get_or path place 0) 47) (is_ignored (verdict (take place path) true)) is
+    (and_parts (nat_eq (get_or path place 0) 47) (is_ignored (verdict (take place path) true)) is).1
 
 -- the rule that gives a path its word says it
 pub rule_gives_word : WordLaw

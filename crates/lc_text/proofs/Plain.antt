@@ -1,12 +1,9 @@
 -- Bytes that are printed as they are.
 use Rattle.std.proofs.Common.{◌≡◌, ℕ, Bool, true, false, not, ◌&&◌, nat_eq, List, [], ◌∷◌, ◌++◌, refl, ap₂}
+use Rattle.std.proofs.lemmas.Bool.{and_parts}
 use Rattle.std.specs.List.{list_all}
 use Rattle.lc_glob.specs.Bytes.{backslash}
 use Rattle.lc_text.specs.Escape.{is_control, is_plain, escape_byte, escape_bytes}
-
-and_parts : (a b : Bool) → (a && b) ≡ true → (a ≡ true) × (b ≡ true)
-and_parts true b e = (refl, e)
-and_parts false b e = absurd (cc)
 
 plain_byte : (b : ℕ) → is_plain b ≡ true → escape_byte b ≡ b ∷ []
 plain_byte b e = at (nat_eq b backslash) (is_control b) refl refl e

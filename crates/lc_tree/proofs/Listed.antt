@@ -8,7 +8,7 @@ use Rattle.std.specs.Ordering.{is_lt, is_eq, ordering_reverse, eq_by_cmp}
 use Rattle.std.specs.declared.cmp.Ordering.{Ordering}
 use Rattle.std.specs.declared.cmp.Ordering.TheVariants.{Less, Equal, Greater}
 use Rattle.std.proofs.lemmas.Cmp.{nat_list_cmp_total}
-use Rattle.std.proofs.lemmas.Bool.{ltb-true, ltb-false}
+use Rattle.std.proofs.lemmas.Bool.{ltb-true, ltb-false, or_cases, or_parts}
 use Rattle.std.proofs.lemmas.List.{length-map}
 use Rattle.std.proofs.lemmas.List.Sorted.{IsPermutation-refl, IsPermutation-cons, IsPermutation-trans, IsPermutation-insert}
 use Rattle.std.proofs.lemmas.List.Sorted.{IsPermutation-map, length_permutation}
@@ -94,23 +94,15 @@ module _ {X : Type 0} (name : X → List ℕ) where
 
 -- ---- whether a name stands twice
 
-neither : (a b : Bool) → (a || b) ≡ false → (a ≡ false) × (b ≡ false)
-neither true b e = cc
-neither false b e = (refl, e)
-
-either : (a b : Bool) → (a || b) ≡ true → (a ≡ true) ⊎ (b ≡ true)
-either true b e = inl refl
-either false b e = inr e
-
 none_same : (n : List ℕ) (ns : List (List ℕ)) → list_any (bytes_eq n) ns ≡ false → AllByRecursion (λ k. eq_by_cmp bytes_cmp n k ≡ false) ns
 none_same n [] e = tt
-none_same n (k ∷ ks) e = let t = neither (bytes_eq n k) (list_any (bytes_eq n) ks) e in (is_eq-slice_cmp n k ∙ t.0, none_same n ks t.1)
+none_same n (k ∷ ks) e = let t = or_parts (bytes_eq n k) (list_any (bytes_eq n) ks) e in (is_eq-slice_cmp n k ∙ t.0, none_same n ks t.1)
 
 one_same : (n : List ℕ) (ns : List (List ℕ)) → list_any (bytes_eq n) ns ≡ true
     → AllByRecursion (λ k. eq_by_cmp bytes_cmp n k ≡ false) ns → ⊥
 one_same n [] e all = cc
 one_same n (k ∷ ks) e all =
-    elim (either (bytes_eq n k) (list_any (bytes_eq n) ks) e) [
+    elim (or_cases (bytes_eq n k) (list_any (bytes_eq n) ks) e) [
       | inl same ↦ let h : true ≡ false = sym same ∙ (sym (is_eq-slice_cmp n k) ∙ all.0) in absurd (cc h)
       | inr more ↦ one_same n ks more all.1
     ]
@@ -118,13 +110,13 @@ one_same n (k ∷ ks) e all =
 apart_if_once : (ns : List (List ℕ)) → has_twice ns ≡ false → AreApart ns
 unfolding IsDistinct
 apart_if_once [] e = tt
-apart_if_once (n ∷ ns) e = let t = neither (list_any (bytes_eq n) ns) (has_twice ns) e in (none_same n ns t.0, apart_if_once ns t.1)
+apart_if_once (n ∷ ns) e = let t = or_parts (list_any (bytes_eq n) ns) (has_twice ns) e in (none_same n ns t.0, apart_if_once ns t.1)
 
 not_apart_if_twice : (ns : List (List ℕ)) → has_twice ns ≡ true → AreApart ns → ⊥
 unfolding IsDistinct
 not_apart_if_twice [] e apart = cc
 not_apart_if_twice (n ∷ ns) e apart =
-    elim (either (list_any (bytes_eq n) ns) (has_twice ns) e) [
+    elim (or_cases (list_any (bytes_eq n) ns) (has_twice ns) e) [
       | inl here ↦ one_same n ns here apart.0
       | inr more ↦ not_apart_if_twice ns more apart.1
     ]

@@ -1,13 +1,15 @@
 -- The node under a name of a directory.
 use Rattle.std.proofs.Common.{◌≡◌, ◌≢◌, ℕ, ◌==◌, Bool, true, false, not, ◌&&◌, ◌||◌, cond, List, [], ◌∷◌, ◌++◌, length, map, Option}
 use Rattle.std.proofs.Common.{Some, None, refl, sym, ◌∙◌, ap, arith, bytes_eq}
+use Rattle.std.proofs.lemmas.Bool.{or_parts}
 use Rattle.std.specs.Prelude.{find, option_map, option_and_then}
 use Rattle.std.specs.List.{AllByRecursion, IsDistinct, list_any, onto_first}
 use Rattle.std.specs.Ordering.{eq_by_cmp}
-use Rattle.std.proofs.lemmas.List.Splits.{slice_split-cons_yes, slice_split-cons_no, length-slice_split}
+use Rattle.std.proofs.lemmas.List.Splits.{slice_split-cons_no}
 use Rattle.std.proofs.lemmas.Map.Text.{is_eq-slice_cmp}
 use Rattle.std.proofs.lemmas.Slice.Eq.{bytes_eq-Decides}
 use Rattle.lc_glob.specs.Path.{is_good_name, is_no_name, path_in, segments_of}
+use Rattle.lc_glob.proofs.Naming.{segments_apart}
 use Rattle.lc_tree.specs.ByteOrder.{bytes_cmp}
 use Rattle.lc_tree.specs.Listing.{names, HaveDistinctNames}
 use Rattle.lc_tree.specs.Nodes.{Child, entry_of_child, child_among, child_of, node_below, node_at}
@@ -16,37 +18,14 @@ use Rattle.lc_tree.specs.declared.node.Node.{Node}
 
 -- ---- the names of the path of a name in a directory
 
-some_segment : (bytes : List ℕ) → segments_of bytes ≡ [] → ⊥
-some_segment bytes e = omega (arith, length-slice_split (λ (b : ℕ). b == 47) bytes, ap length e)
-
-onto_end : (b : ℕ) (parts : List (List ℕ)) (name : List ℕ) → (parts ≡ [] → ⊥)
-    → onto_first b (parts ++ name ∷ []) ≡ onto_first b parts ++ name ∷ []
-onto_end b [] name some = absurd (some refl)
-onto_end b (part ∷ parts) name some = refl
-
-neither : (a b : Bool) → (a || b) ≡ false → (a ≡ false) × (b ≡ false)
-neither true b e = cc
-neither false b e = (refl, e)
-
 one_segment : (name : List ℕ) → list_any (λ b. b == 47) name ≡ false → segments_of name ≡ name ∷ []
 one_segment [] e = refl
 one_segment (b ∷ bs) e =
-    let t = neither (b == 47) (list_any (λ c. c == 47) bs) e in
+    let t = or_parts (b == 47) (list_any (λ c. c == 47) bs) e in
     slice_split-cons_no (λ c. c == 47) b bs t.0 ∙ ap (onto_first b) (one_segment bs t.1)
 
 last_segment : (path name : List ℕ) → list_any (λ b. b == 47) name ≡ false → segments_of (path ++ 47 ∷ name) ≡ segments_of path ++ name ∷ []
-last_segment [] name e = slice_split-cons_yes (λ c. c == 47) 47 name refl ∙ ap (λ l. [] ∷ l) (one_segment name e)
-last_segment (b ∷ bs) name e = at (b == 47) refl (last_segment bs name e)
-  where
-    at : (t : Bool) → (b == 47) ≡ t → segments_of (bs ++ 47 ∷ name) ≡ segments_of bs ++ name ∷ [] →
-        segments_of (b ∷ bs ++ 47 ∷ name) ≡ segments_of (b ∷ bs) ++ name ∷ []
-    at true s rest =
-        slice_split-cons_yes (λ c. c == 47) b (bs ++ 47 ∷ name) s ∙ ap (λ l. [] ∷ l) rest
-        ∙ ap (λ l. l ++ name ∷ []) (sym (slice_split-cons_yes (λ c. c == 47) b bs s))
-    at false s rest =
-        slice_split-cons_no (λ c. c == 47) b (bs ++ 47 ∷ name) s ∙ ap (onto_first b) rest ∙ onto_end b (segments_of bs) name
-        (some_segment bs)
-        ∙ ap (λ l. l ++ name ∷ []) (sym (slice_split-cons_no (λ c. c == 47) b bs s))
+last_segment path name e = segments_apart path name ∙ ap (λ l. segments_of path ++ l) (one_segment name e)
 
 no_slash : (name some_nul : Bool) (any : Bool) → (not name && not any && not some_nul) ≡ true → any ≡ false
 no_slash true nul any e = cc

@@ -3,12 +3,13 @@ use Rattle.std.proofs.Common.{◌≡◌, ◌≢◌, ℕ, ◌==◌, Bool, true, f
 use Rattle.std.proofs.Common.{subst, arith, length, inl, inr, ◌⊎◌, Option, Some, None, append-nil, bytes_eq, eq-eqb}
 use Rattle.std.specs.List.{filter, filter_map, cons_option, list_any, onto_first, AllByRecursion}
 use Rattle.std.specs.Option.{is_some}
-use Rattle.std.proofs.lemmas.Bool.{eqb-true}
+use Rattle.std.proofs.lemmas.Bool.{eqb-true, or_parts, not-true}
 use Rattle.std.proofs.lemmas.List.{append_cancel_left}
-use Rattle.std.proofs.lemmas.List.Splits.{slice_split-cons_yes, slice_split-cons_no, length-slice_split}
+use Rattle.std.proofs.lemmas.List.Splits.{slice_split-cons_yes, slice_split-cons_no}
 use Rattle.lc_board.proofs.Weights.{each-map}
 use Rattle.lc_glob.specs.Bytes.{slash}
 use Rattle.lc_glob.specs.Path.{path_in, segments_of}
+use Rattle.lc_glob.proofs.Naming.{segments_apart, some_segment}
 use Rattle.lc_level.specs.Answers.{Item, entry_of}
 use Rattle.lc_level.specs.Narrowing.{after, stands_below, rest_from, each_once, rests, leads_to, absent_from}
 use Rattle.lc_level.proofs.AskedPaths.{rest_is}
@@ -28,34 +29,11 @@ rest_some [] (b ∷ bs) rest e top none =
     let h : Some (b ∷ bs) ≡ Some [] = e ∙ ap Some none in absurd (cc h)
 rest_some (b ∷ bs) path rest e top none = absurd (cc top)
 
--- ---- segments
-
-some_segment : (bytes : List ℕ) → segments_of bytes ≢ []
-some_segment bytes e = omega (arith, length-slice_split (λ (b : ℕ). b == 47) bytes, ap length e)
-
-onto_front : (b : ℕ) (parts more : List (List ℕ)) → parts ≢ [] → onto_first b (parts ++ more) ≡ onto_first b parts ++ more
-onto_front b [] more some = absurd (some refl)
-onto_front b (part ∷ parts) more some = refl
-
-both_segments : (path rest : List ℕ) → segments_of (path ++ 47 ∷ rest) ≡ segments_of path ++ segments_of rest
-both_segments [] rest = slice_split-cons_yes (λ c. c == 47) 47 rest refl
-both_segments (b ∷ bs) rest = at (b == 47) refl (both_segments bs rest)
-  where
-    at : (t : Bool) → (b == 47) ≡ t → segments_of (bs ++ 47 ∷ rest) ≡ segments_of bs ++ segments_of rest →
-        segments_of (b ∷ bs ++ 47 ∷ rest) ≡ segments_of (b ∷ bs) ++ segments_of rest
-    at true s more =
-        slice_split-cons_yes (λ c. c == 47) b (bs ++ 47 ∷ rest) s ∙ ap (λ l. [] ∷ l) more
-        ∙ ap (λ l. l ++ segments_of rest) (sym (slice_split-cons_yes (λ c. c == 47) b bs s))
-    at false s more =
-        slice_split-cons_no (λ c. c == 47) b (bs ++ 47 ∷ rest) s ∙ ap (onto_first b) more
-        ∙ onto_front b (segments_of bs) (segments_of rest) (some_segment bs)
-        ∙ ap (λ l. l ++ segments_of rest) (sym (slice_split-cons_no (λ c. c == 47) b bs s))
-
 -- the names of a path that is seen from a directory
 pub names_of_rest : (d rest : List ℕ) → (d ≡ [] → rest ≢ []) → names_of_path (path_in d rest) ≡ names_of_path d ++ segments_of rest
 names_of_rest [] [] some = absurd (some refl refl)
 names_of_rest [] (b ∷ bs) some = refl
-names_of_rest (c ∷ cs) rest some = both_segments (c ∷ cs) rest
+names_of_rest (c ∷ cs) rest some = segments_apart (c ∷ cs) rest
 
 -- what begins with a name is this name, or stands below it
 first_segment : (rest name : List ℕ) (more : List (List ℕ)) → segments_of rest ≡ name ∷ more
@@ -85,7 +63,7 @@ first_segment (b ∷ bs) name more e = at (b == 47) refl (segments_of bs) refl (
         let first : b ∷ part ≡ name = cc h in
         named part first (later part parts is)
 
--- what doesn't begin with a name stands neither there nor below it
+-- what doesn't begin with a name stands or_parts there nor below it
 pub not_below : (d rest name path : List ℕ) (more : List (List ℕ)) → (d ≡ [] → rest ≢ []) → bytes_eq name rest ≡ false
     → stands_below rest name ≡ false → names_of_path path ≡ names_of_path d ++ name ∷ more → path_in d rest ≢ path
 not_below d rest name path more some other elsewhere names e = at (first_segment rest name more same)
@@ -124,15 +102,10 @@ keeps_each P (path ∷ paths) a = at (list_any (bytes_eq path) paths) (keeps_eac
     at true rest = rest
     at false rest = (a.0, rest)
 
--- where neither of two holds, each doesn't
-pub neither : (a b : Bool) → (a || b) ≡ false → (a ≡ false) × (b ≡ false)
-neither true b e = cc
-neither false b e = (refl, e)
-
 none_is : (path : List ℕ) (paths : List (List ℕ)) → list_any (bytes_eq path) paths ≡ false → AllByRecursion (λ p. path ≢ p) paths
 none_is path [] e = tt
 none_is path (p ∷ ps) e =
-    let t = neither (bytes_eq path p) (list_any (bytes_eq path) ps) e in (bytes_other path p t.0, none_is path ps t.1)
+    let t = or_parts (bytes_eq path p) (list_any (bytes_eq path) ps) e in (bytes_other path p t.0, none_is path ps t.1)
 
 once_distinct : (paths : List (List ℕ)) → Distinct (each_once paths)
 once_distinct [] = tt
@@ -226,20 +199,16 @@ module _ (only : List (List ℕ)) (d : List ℕ) (items : List Item) where
       ))
       (rests only d) (rests_of d (each_once only)))
 
-  is_not : (b : Bool) → not b ≡ true → b ≡ false
-  is_not true e = cc
-  is_not false e = refl
-
   none_leads : (rest : List ℕ) (es : List Item) → list_any (λ item. leads_to (entry_of item) rest) es ≡ false
       → NoneLeads only d es rest
   none_leads rest [] e = tt
   none_leads rest (item ∷ es) e =
-      let t = neither (leads_to (entry_of item) rest) (list_any (λ i. leads_to (entry_of i) rest) es) e in
+      let t = or_parts (leads_to (entry_of item) rest) (list_any (λ i. leads_to (entry_of i) rest) es) e in
       (t.0, none_leads rest es t.1)
 
   -- and none of the items leads to it
   pub absent_leads : AllByRecursion (NoneLeads only d items) (absent_from only d items)
   absent_leads =
       each-map (λ rest. not (list_any (λ item. leads_to (entry_of item) rest) items) ≡ true) (NoneLeads only d items)
-      (λ rest e. none_leads rest items (is_not _ e)) (absent_from only d items)
+      (λ rest e. none_leads rest items (not-true _ e)) (absent_from only d items)
       (each_passes (λ rest. not (list_any (λ item. leads_to (entry_of item) rest) items)) (rests only d))

@@ -1,6 +1,7 @@
 -- From a closed board, and from what its workers left, to a closed walk and its report.
 use Rattle.std.proofs.Common.{◌≡◌, ℕ, zero, suc, ◌<◌, ◌≤◌, ◌||◌, Bool, true, false, cond, List, [], ◌∷◌, ◌++◌, length, slice_get, map}
 use Rattle.std.proofs.Common.{refl, sym, ◌∙◌, ap, arith, subst, Option, Some, None, inl, inr, IsPermutation}
+use Rattle.std.proofs.lemmas.Bool.{or_left, or_right}
 use Rattle.std.specs.List.{flat_map, list_any, range_with_len, enumerate_from}
 use Rattle.std.proofs.lemmas.List.Sorted.{IsPermutation-sym}
 use Rattle.lc_board.specs.Ends.{Saying, RowsHold, ender, ends}
@@ -55,14 +56,6 @@ use Rattle.lc_walk.proofs.Law.{core_law, one_answer_law}
 use Rattle.lc_walk.proofs.OneTree.{agrees}
 use Rattle.lc_walk.proofs.Listings.{flat_twice, sum_twice, flat_asked, tallied_went, files_went, faults_went, left_went, directories_went}
 use Rattle.lc_walk.proofs.Listings.{entries_went, got_here, by_number, by_place, sums_by_number, below_all, numbers_from_0}
-
-or_left : (a b : Bool) → a ≡ true → (a || b) ≡ true
-or_left true b e = refl
-or_left false b e = cc
-
-or_right : (a b : Bool) → b ≡ true → (a || b) ≡ true
-or_right true b e = refl
-or_right false b e = e
 
 -- whether a post of a pass was answered Full
 abbrev pub is_full : Option (Pass JobModel Row) → Bool

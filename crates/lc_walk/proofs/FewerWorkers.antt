@@ -1,8 +1,7 @@
 -- What fewer workers answer, more may answer: those who are left over make no event.
 use Rattle.std.proofs.Common.{ℕ, ◌≤◌, List, [], ◌∷◌, arith, Result, Ok, Err}
 use Rattle.lc_board.specs.ClosedBoard.{Promises}
-use Rattle.lc_board.specs.LegalHistory.{IsLegal}
-use Rattle.lc_board.specs.declared.event.Event.{Event}
+use Rattle.lc_board.proofs.RowsOfWorkers.{legal_for_more}
 use Rattle.lc_level.specs.Answers.{Answers}
 use Rattle.lc_level.specs.Job.{JobModel}
 use Rattle.lc_walk.specs.Lawful.{Asked}
@@ -11,11 +10,6 @@ use Rattle.lc_walk.specs.declared.report.Report.{Report}
 use Rattle.lc_walk.specs.declared.row.Row.{Row}
 use Rattle.lc_walk.specs.declared.walk_fault.WalkFault.{WalkFault}
 use Rattle.lc_walk.specs.declared.walk_fault.WalkFault.TheVariants as fault
-
--- a legal history is legal for more workers
-legal_for_more : (capacity few many : ℕ) (h : List (Event JobModel Row)) → few ≤ many → IsLegal capacity few h → IsLegal capacity many h
-legal_for_more capacity few many [] le l = tt
-legal_for_more capacity few many (e ∷ h) le l = (legal_for_more capacity few many h le l.0, omega (arith, l.1), l.2)
 
 module _ (MayAnswer : List ℕ → Answers → Type 0) (ask : Asked) (capacity few many : ℕ) (top : JobModel) (promises : Promises)
     (le : few ≤ many) where

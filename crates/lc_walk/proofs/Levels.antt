@@ -1,6 +1,7 @@
 -- What holds of every level.
 use Rattle.std.proofs.Common.{◌≡◌, ℕ, cond, ◌&&◌, Bool, true, false, List, [], ◌∷◌, ◌++◌, refl, sym, subst, ◌⊎◌, inl, inr, Option, Some}
 use Rattle.std.proofs.Common.{None, Result, Ok, Err, codes, bytes_eq}
+use Rattle.std.proofs.lemmas.Bool.{and_parts}
 use Rattle.std.specs.List.{flat_map, AllByRecursion}
 use Rattle.lc_tree.specs.Listing.{IsListing}
 use Rattle.lc_level.specs.declared.fault_word.FaultWord.{FaultWord}
@@ -78,11 +79,7 @@ no_git P a true k = any (and_then (info_items true a) info_bytes)
     any (Err f) = k refl f.path
 
 git_of_top : (p : List ℕ) (items : List Item) → has_git p items ≡ true → p ≡ []
-git_of_top p items e = top_is p (first (is_top p) (has_directory (codes ".git") items) e)
-  where
-    first : (b c : Bool) → (b && c) ≡ true → b ≡ true
-    first true c e = refl
-    first false c e = cc
+git_of_top p items e = top_is p (and_parts (is_top p) (has_directory (codes ".git") items) e).0
 
 -- a fault of rule files has the path of one of them
 pub fault_place : (path : List ℕ) (items : List Item) (a : Answers) → IfFault (IsOwnPlace path) (rule_bytes path items a)

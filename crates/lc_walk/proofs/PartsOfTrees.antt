@@ -1,6 +1,7 @@
 -- Which entries and directories take part, by their paths.
 use Rattle.std.proofs.Common.{◌≡◌, ◌≢◌, ℕ, Bool, true, false, ◌&&◌, ◌||◌, List, [], ◌∷◌, ◌++◌, refl, sym, ◌∙◌, ap, inl, inr, ◌⊎◌}
 use Rattle.std.proofs.Common.{Option, Some, None, append_assoc, bytes_eq}
+use Rattle.std.proofs.lemmas.Bool.{and_from, and_parts, or_cases, or_left, or_right}
 use Rattle.std.specs.List.{Contains, list_any, AllByRecursion}
 use Rattle.std.specs.Option.{is_some}
 use Rattle.lc_glob.specs.Lists.{is_empty}
@@ -14,29 +15,9 @@ use Rattle.lc_walk.specs.PartOfWalk.{IsBelow, IsWithin, EntryTakesPart}
 use Rattle.lc_walk.proofs.Elements.{In, is_in, contains}
 use Rattle.lc_walk.proofs.PathsWithin.{within_child, child_within, within_some, path_more}
 
-or_either : (a b : Bool) → (a || b) ≡ true → (a ≡ true) ⊎ (b ≡ true)
-or_either true b e = inl refl
-or_either false b e = inr e
-
-or_left : (a b : Bool) → a ≡ true → (a || b) ≡ true
-or_left true b e = refl
-or_left false b e = cc
-
-or_right : (a b : Bool) → b ≡ true → (a || b) ≡ true
-or_right true b e = refl
-or_right false b e = e
-
-and_both : (a b : Bool) → (a && b) ≡ true → (a ≡ true) × (b ≡ true)
-and_both true b e = (refl, e)
-and_both false b e = cc
-
-both_and : (a b : Bool) → a ≡ true → b ≡ true → (a && b) ≡ true
-both_and true b e f = f
-both_and false b e f = cc
-
 any_in : (p : List ℕ → Bool) (xs : List (List ℕ)) → list_any p xs ≡ true → (x : List ℕ) × In x xs × (p x ≡ true)
 any_in p [] e = cc
-any_in p (x ∷ xs) e = at (or_either (p x) (list_any p xs) e) (λ h. any_in p xs h)
+any_in p (x ∷ xs) e = at (or_cases (p x) (list_any p xs) e) (λ h. any_in p xs h)
   where
     at : (p x ≡ true) ⊎ (list_any p xs ≡ true) → (list_any p xs ≡ true → (y : List ℕ) × In y xs × (p y ≡ true))
         → (y : List ℕ) × In y (x ∷ xs) × (p y ≡ true)
@@ -85,7 +66,7 @@ module _ (only : List (List ℕ)) (d : List ℕ) (e : EntryModel) where
 
   by_whole : only ≢ [] → AllByRecursion (λ path. is_good_path path ≡ true) only → is_whole only d ≡ true
       → IsWithin only (path_in d e.name)
-  by_whole some good whole = at (or_either (is_empty only) _ whole)
+  by_whole some good whole = at (or_cases (is_empty only) _ whole)
     where
       below : (q : List ℕ) → In q only → (bytes_eq q d ≡ true) ⊎ (stands_below d q ≡ true) → IsWithin only d
       below q i (inl same) = (q, contains q only i, inl (sym (same_bytes q d same)))
@@ -96,7 +77,7 @@ module _ (only : List (List ℕ)) (d : List ℕ) (e : EntryModel) where
       at (inl none) = absurd (not_empty only some none)
       at (inr some_path) =
           let q = any_in (λ path. bytes_eq path d || stands_below d path) only some_path in
-          let within : IsWithin only d = below q.0 q.1 (or_either (bytes_eq q.0 d) (stands_below d q.0) q.2) in
+          let within : IsWithin only d = below q.0 q.1 (or_cases (bytes_eq q.0 d) (stands_below d q.0) q.2) in
           child_within only d e.name (within_some only good d within) within
 
   by_rest : list_any (leads_to e) (rests only d) ≡ true → EntryTakesPart only e.kind (path_in d e.name)
@@ -110,19 +91,19 @@ module _ (only : List (List ℕ)) (d : List ℕ) (e : EntryModel) where
       to q rest i is (inl same) =
           inl (q, contains q only i, inl (ap (path_in d) (same_bytes e.name rest same) ∙ sym is))
       to q rest i is (inr deep) =
-          let t = and_both (is_dir e.kind) (stands_below rest e.name) deep in
+          let t = and_parts (is_dir e.kind) (stands_below rest e.name) deep in
           let below = stands_is rest e.name t.1 in
           inr (t.0, (q, contains q only i, (below.0, is ∙ ap (path_in d) below.1 ∙ path_more d e.name (47 ∷ below.0))))
 
       from : (q : List ℕ) → In q only → (o : Option (List ℕ)) → rest_from d q ≡ o → passes (leads_to e) o ≡ true
           → EntryTakesPart only e.kind (path_in d e.name)
       from q i None is h = let none : false ≡ true = h in absurd (cc none)
-      from q i (Some rest) is h = to q rest i (rest_is d q rest is) (or_either (bytes_eq e.name rest) _ h)
+      from q i (Some rest) is h = to q rest i (rest_is d q rest is) (or_cases (bytes_eq e.name rest) _ h)
 
   -- an entry that takes part is within, or a directory above
   pub by_part : only ≢ [] → AllByRecursion (λ path. is_good_path path ≡ true) only → takes_part only d e ≡ true
       → EntryTakesPart only e.kind (path_in d e.name)
-  by_part some good takes = at (or_either (is_whole only d) _ takes)
+  by_part some good takes = at (or_cases (is_whole only d) _ takes)
     where
       at : (is_whole only d ≡ true) ⊎ (list_any (leads_to e) (rests only d) ≡ true) → EntryTakesPart only e.kind (path_in d e.name)
       at (inl whole) = inl (by_whole some good whole)
@@ -155,4 +136,4 @@ module _ (only : List (List ℕ)) (d : List ℕ) (e : EntryModel) where
       (ap (rest_from d) (is ∙ sym (path_more d e.name (47 ∷ rest)))
       ∙ rest_of_in d (e.name ++ 47 ∷ rest) (λ top. more_some e.name rest))
       (or_right (bytes_eq e.name (e.name ++ 47 ∷ rest)) _
-      (both_and (is_dir e.kind) _ dir (is_stands (e.name ++ 47 ∷ rest) e.name (rest, refl))))
+      (and_from (is_dir e.kind) _ dir (is_stands (e.name ++ 47 ∷ rest) e.name (rest, refl))))

@@ -1,6 +1,7 @@
 -- No path stands twice in a walk of a tree whose listings are well-formed.
 use Rattle.std.proofs.Common.{◌≡◌, ◌≢◌, ℕ, zero, suc, not, Bool, true, false, cond, List, [], ◌∷◌, ◌++◌, map, refl, sym, ◌∙◌, ap}
 use Rattle.std.proofs.Common.{◌&&◌, length, subst, inl, inr, Option, Some, None, Result, Ok, Err, append_assoc, append-nil, bytes_eq}
+use Rattle.std.proofs.lemmas.Bool.{or_parts}
 use Rattle.std.specs.List.{flat_map, AllByRecursion}
 use Rattle.std.specs.Option.{is_none, option_map_or}
 use Rattle.std.proofs.lemmas.Grind.{flat_map-append}
@@ -23,7 +24,7 @@ use Rattle.lc_walk.specs.Walk.{walks_below, walk_by}
 use Rattle.lc_level.specs.WellFormed.{IsWellFormed}
 use Rattle.lc_board.proofs.Weights.{each-map, each-append}
 use Rattle.lc_level.proofs.WellFormed.{IsGoodName, Spread, bytes_other}
-use Rattle.lc_walk.proofs.AbsentPaths.{names_of_rest, not_below, not_above, rests_apart, neither, NoneLeads}
+use Rattle.lc_walk.proofs.AbsentPaths.{names_of_rest, not_below, not_above, rests_apart, NoneLeads}
 use Rattle.lc_walk.proofs.AbsentPaths.{absent_distinct, absent_asked, absent_leads}
 use Rattle.lc_walk.proofs.Distinct.{Distinct, distinct-append, picked, each_picked, picked_distinct, picked_apart}
 use Rattle.lc_walk.proofs.Levels.{IsOwnPlace, own_level_keeps, well_formed_items, IsChild, each_child}
@@ -210,7 +211,7 @@ module _ (selection : SelectionModel) where
   absent_no_own d r [] a = tt
   absent_no_own d r (n ∷ ns) a = ((λ e. bytes_other n r a.0 (sym (one_name d r n e))), absent_no_own d r ns a.1)
 
-  -- a child directory stands neither at nor above a path
+  -- a child directory stands or_parts at nor above a path
   abbrev IsApartFrom : List ℕ → List ℕ × JobModel → Type 0
   IsApartFrom r c = (bytes_eq c.0 r ≡ false) × (stands_below r c.0 ≡ false)
 
@@ -233,7 +234,7 @@ module _ (selection : SelectionModel) where
   no_child_led j r (directory_item n ∷ es) a = at (is_taken selection j n true) (no_child_led j r es a.1)
     where
       apart : (bytes_eq n r ≡ false) × (stands_below r n ≡ false)
-      apart = neither (bytes_eq n r) (stands_below r n) a.0
+      apart = or_parts (bytes_eq n r) (stands_below r n) a.0
 
       at : (b : Bool) → AllByRecursion (IsApartFrom r) (flat_map (children_by selection j) es)
           → AllByRecursion (IsApartFrom r)
@@ -263,7 +264,7 @@ module _ (selection : SelectionModel) where
           (absent_no_own j.path r (picked name_of (stays selection j) es)
           (each_picked name_of (stays selection j) (λ n. bytes_eq n r ≡ false) es
           (each-map (λ item. leads_to (entry_of item) r ≡ false) (λ item. bytes_eq (name_of item) r ≡ false)
-          (λ item e. (neither (bytes_eq (name_of item) r) (is_dir (entry_of item).kind && stands_below r (name_of item)) e).0) es leads.0)))
+          (λ item e. (or_parts (bytes_eq (name_of item) r) (is_dir (entry_of item).kind && stands_below r (name_of item)) e).0) es leads.0)))
           (absent_no_child k j.path r t (walked_in (fates_of selection j es)) asked.0
           (subst (AllByRecursion (IsApartFrom r)) (sym (walked_items_are selection j es))
           (no_child_led j r es leads.0)) groups)),

@@ -16,8 +16,8 @@ tokens-init c = (
 
 pub tokens-preserved : goal.tokens-preserved
 tokens-preserved c =
-    let is = rw c.in-Some-2.is at c.in_ok-lexeme.ensures.is in
-    read_lexeme c.in-Some-2.lexeme _ _ _ _ _ _ _ c.in_ok-push_lexeme.ensures c.in-Some.ensures.cases.0 is c.tokens.invariant
+    let is = rw c.in-Some-2.is at c.in_ok-taken.ensures.is in
+    read_lexeme is.0 _ _ _ _ _ _ _ is.2 c.in-Some.ensures.cases.0 is.1 c.tokens.invariant
 
 pub returns : goal.returns
 returns c = read_all _ c.tokens.tokens.items _ c.in_default.ensures.cases c.tokens.invariant

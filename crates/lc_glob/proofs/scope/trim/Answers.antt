@@ -1,5 +1,6 @@
 use Rattle.std.proofs.Common.{sym, ◌∙◌}
-use Rattle.lc_glob.proofs.Fronts.{trimmed_dead, trimmed_is, true_left, false_left}
+use Rattle.std.proofs.lemmas.Bool.{or_left}
+use Rattle.lc_glob.proofs.Fronts.{false_left, trimmed_dead, trimmed_is}
 use Rattle.lc_glob.proofs.scope.trim.Goals as goal
 use Rattle.lc_glob.proofs.scope.trim.Goals.{then-leads, else-leads}
 
@@ -16,6 +17,6 @@ returns g c =
     let rest = c.without_first_separator-leads in
     trimmed_is e.tokens_in e.separates _ _ _ _ _ front.ensures.ends
     (elim c.if-leads.branch [
-      | then-leads w ↦ true_left _ _ _ (sym rest.ensures.begins ∙ w.if-leads.true) (w.is_anchored-is ∙ w.if-leads.true)
+      | then-leads w ↦ w.is_anchored-is ∙ w.if-leads.true ∙ sym (or_left _ _ (sym rest.ensures.begins ∙ w.if-leads.true))
       | else-leads w ↦ false_left _ _ _ (sym rest.ensures.begins ∙ w.if-leads.false) (w.is_anchored-is ∙ w.has_separator-is_anchored.ensures)
     ]) front.ensures.parts rest.ensures.parts (sym c.has_empty.ensures ∙ c.if-has_empty.false)

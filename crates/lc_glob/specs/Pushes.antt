@@ -1,0 +1,25 @@
+-- What is kept of what a pattern's bytes are read as, and what is pushed for it.
+use Rattle.std.specs.Prelude.{ℕ, ◌≡◌, List, [], ◌∷◌, ◌++◌, Option, Some, None}
+use Rattle.lc_glob.specs.Mixed.{range_tokens}
+use Rattle.lc_glob.specs.Reading.{LexemeModel, separator, one}
+use Rattle.lc_glob.specs.Tokens.{TokenModel, literal, any_byte, star, class}
+use Rattle.lc_glob.specs.declared.token.Token.{Token}
+use Rattle.lc_glob.specs.declared.token.Token.TheVariants.{Literal, AnyByte, Star, Open, Separator}
+
+-- what a token of a segment is kept as
+abbrev pub kept_tokens : TokenModel → List Token
+kept_tokens (literal c) = Literal c ∷ []
+kept_tokens any_byte = AnyByte ∷ []
+kept_tokens star = Star ∷ []
+kept_tokens (class negated ranges) = Open negated ∷ range_tokens ranges
+
+-- and a separator, or such a token
+abbrev pub lexeme_tokens : LexemeModel → List Token
+lexeme_tokens separator = Separator ∷ []
+lexeme_tokens (one token) = kept_tokens token
+
+module _ {A : Type 0} (tokens_of : A → List Token) where
+  -- what is pushed for what was found, and how many bytes that takes
+  abbrev pub Pushes : Option (A × ℕ) → List Token → List Token → Option ℕ → Type 0
+  Pushes found old new None = found ≡ None
+  Pushes found old new (Some k) = (x : A) × (found ≡ Some (x, k)) × (new ≡ old ++ tokens_of x)
