@@ -1,6 +1,6 @@
 -- The rules that decide the directories above a path, and their names.
 use Rattle.std.proofs.Common.{◌≡◌, ◌≢◌, ◌≤◌, ◌<◌, ◌+◌, ◌-◌, ℕ, suc, Bool, true, false, cond, List, [], ◌∷◌, ◌++◌, length, take, get_or}
-use Rattle.std.proofs.Common.{Option, Some, None, Bor, is_some, nat_eq, refl, sym, ◌∙◌, ap, ap₂, subst, arith, append_assoc, ⊎_elim, set, take-take}
+use Rattle.std.proofs.Common.{Option, Some, None, Bor, is_some, refl, sym, ◌∙◌, ap, ap₂, subst, arith, append_assoc, ⊎_elim, set, take-take}
 use Rattle.std.specs.Prelude.{option_map, IfSome}
 use Rattle.std.specs.Option.{option_or}
 use Rattle.std.proofs.Common.{not, ◌&&◌, ◌||◌}

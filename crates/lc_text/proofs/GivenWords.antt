@@ -1,5 +1,5 @@
 -- The rule that gives a path its word says it.
-use Rattle.std.proofs.Common.{◌≡◌, ℕ, ◌<◌, Bool, true, false, ◌&&◌, cond, nat_eq, List, Option, Some, None, length, take, get_or, codes}
+use Rattle.std.proofs.Common.{◌≡◌, ℕ, ◌<◌, Bool, true, cond, nat_eq, List, Option, Some, None, length, take, get_or, codes}
 use Rattle.std.proofs.Common.{⊎_elim, refl, sym, ap, ap₂, ◌∙◌, arith}
 use Rattle.std.specs.Prelude.{option_map}
 use Rattle.std.specs.List.{list_any, range_with_len, position_or_len}

@@ -1,5 +1,5 @@
 -- The listing of given entries, as a value, is their listing.
-use Rattle.std.proofs.Common.{◌≡◌, ℕ, Bool, true, false, not, ◌||◌, cond, nat_lt, ◌⊎◌, inl, inr, List, [], ◌∷◌, length, map, Result, Ok}
+use Rattle.std.proofs.Common.{◌≡◌, ℕ, Bool, true, false, not, cond, nat_lt, inl, inr, List, [], ◌∷◌, length, map, Result, Ok}
 use Rattle.std.proofs.Common.{Err, refl, sym, ◌∙◌, ap, subst, arith, bytes_eq}
 use Rattle.std.specs.Prelude.{IfOk}
 use Rattle.std.specs.List.{AllByRecursion, IsDistinct, list_any}

@@ -1,6 +1,6 @@
 -- The paths that are asked for and absent, by the names from the top down to them.
-use Rattle.std.proofs.Common.{◌≡◌, ◌≢◌, ℕ, ◌==◌, Bool, true, false, not, ◌||◌, cond, List, [], ◌∷◌, ◌++◌, map, refl, sym, ◌∙◌, ap}
-use Rattle.std.proofs.Common.{subst, arith, length, inl, inr, ◌⊎◌, Option, Some, None, append-nil, bytes_eq, eq-eqb}
+use Rattle.std.proofs.Common.{◌≡◌, ◌≢◌, ℕ, ◌==◌, Bool, true, false, not, cond, List, [], ◌∷◌, ◌++◌, map, refl, sym, ◌∙◌, ap}
+use Rattle.std.proofs.Common.{subst, inl, inr, ◌⊎◌, Option, Some, None, append-nil, bytes_eq, eq-eqb}
 use Rattle.std.specs.List.{filter, filter_map, cons_option, list_any, onto_first, AllByRecursion}
 use Rattle.std.specs.Option.{is_some}
 use Rattle.std.proofs.lemmas.Bool.{eqb-true, or_parts, not-true}
@@ -63,7 +63,7 @@ first_segment (b ∷ bs) name more e = at (b == 47) refl (segments_of bs) refl (
         let first : b ∷ part ≡ name = cc h in
         named part first (later part parts is)
 
--- what doesn't begin with a name stands or_parts there nor below it
+-- what doesn't begin with a name stands neither there nor below it
 pub not_below : (d rest name path : List ℕ) (more : List (List ℕ)) → (d ≡ [] → rest ≢ []) → bytes_eq name rest ≡ false
     → stands_below rest name ≡ false → names_of_path path ≡ names_of_path d ++ name ∷ more → path_in d rest ≢ path
 not_below d rest name path more some other elsewhere names e = at (first_segment rest name more same)

@@ -1,5 +1,5 @@
 -- What fewer workers answer, more may answer: those who are left over make no event.
-use Rattle.std.proofs.Common.{ℕ, ◌≤◌, List, [], ◌∷◌, arith, Result, Ok, Err}
+use Rattle.std.proofs.Common.{ℕ, ◌≤◌, List, Result, Ok, Err}
 use Rattle.lc_board.specs.ClosedBoard.{Promises}
 use Rattle.lc_board.proofs.RowsOfWorkers.{legal_for_more}
 use Rattle.lc_level.specs.Answers.{Answers}
@@ -7,7 +7,6 @@ use Rattle.lc_level.specs.Job.{JobModel}
 use Rattle.lc_walk.specs.Lawful.{Asked}
 use Rattle.lc_walk.specs.WalkAnswers.{SomeRows, IsWalkReport, IsTooDeepSomewhere, FillsAll, WalkAnswers}
 use Rattle.lc_walk.specs.declared.report.Report.{Report}
-use Rattle.lc_walk.specs.declared.row.Row.{Row}
 use Rattle.lc_walk.specs.declared.walk_fault.WalkFault.{WalkFault}
 use Rattle.lc_walk.specs.declared.walk_fault.WalkFault.TheVariants as fault
 

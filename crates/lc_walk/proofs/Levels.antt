@@ -1,5 +1,5 @@
 -- What holds of every level.
-use Rattle.std.proofs.Common.{◌≡◌, ℕ, cond, ◌&&◌, Bool, true, false, List, [], ◌∷◌, ◌++◌, refl, sym, subst, ◌⊎◌, inl, inr, Option, Some}
+use Rattle.std.proofs.Common.{◌≡◌, ℕ, cond, Bool, true, false, List, [], ◌∷◌, ◌++◌, refl, sym, subst, ◌⊎◌, inl, inr, Option, Some}
 use Rattle.std.proofs.Common.{None, Result, Ok, Err, codes, bytes_eq}
 use Rattle.std.proofs.lemmas.Bool.{and_parts}
 use Rattle.std.specs.List.{flat_map, AllByRecursion}

@@ -211,7 +211,7 @@ module _ (selection : SelectionModel) where
   absent_no_own d r [] a = tt
   absent_no_own d r (n ∷ ns) a = ((λ e. bytes_other n r a.0 (sym (one_name d r n e))), absent_no_own d r ns a.1)
 
-  -- a child directory stands or_parts at nor above a path
+  -- a child directory stands neither at nor above a path
   abbrev IsApartFrom : List ℕ → List ℕ × JobModel → Type 0
   IsApartFrom r c = (bytes_eq c.0 r ≡ false) × (stands_below r c.0 ≡ false)
 
