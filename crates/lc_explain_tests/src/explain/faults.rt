@@ -33,7 +33,13 @@ static CASES: [Case; 4] = [
         "a fault is of what stands on the way",
         TREE,
         b"a/x\na\nb/x/y\nclosed/x\nclosed/\nout/x\ntwice/x\n",
-        b"fault\tread\t-\ta/.gitignore\nnone\t-\t-\ta\nfault\tread\t-\tb/.gitattributes\nfault\tread\t-\tclosed\nnone\t-\t-\tclosed/\nbelow\t.gitignore:1\tout/\tout/x\nfault\ttwice\t-\ttwice\n",
+        b"fault\tread\t-\ta/.gitignore\n\
+          none\t-\t-\ta\n\
+          fault\tread\t-\tb/.gitattributes\n\
+          fault\tread\t-\tclosed\n\
+          none\t-\t-\tclosed/\n\
+          below\t.gitignore:1\tout/\tout/x\n\
+          fault\ttwice\t-\ttwice\n",
     ),
     (
         "the top can't be listed",

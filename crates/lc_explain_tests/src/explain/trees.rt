@@ -70,31 +70,55 @@ static CASES: [Case; 7] = [
         "each word but one, by rules of the top",
         WORKED,
         b"a.log\nbuild/x.c\nsrc/m.c\nkeep.log\n",
-        b"ignored\t.gitignore:1\t*.log\ta.log\nbelow\t.gitignore:3\t/build/\tbuild/x.c\nnone\t-\t-\tsrc/m.c\nincluded\t.gitignore:2\t!keep.log\tkeep.log\n",
+        b"ignored\t.gitignore:1\t*.log\ta.log\n\
+          below\t.gitignore:3\t/build/\tbuild/x.c\n\
+          none\t-\t-\tsrc/m.c\n\
+          included\t.gitignore:2\t!keep.log\tkeep.log\n",
     ),
     (
         "a deeper file overrides, and its lines are told of by its path",
         DEEP,
         b"src/a.o\nsrc/k.o\nk.o\nsrc/in/a.o\nsrc/gen  /\n",
-        b"ignored\t.gitignore:1\t*.o\tsrc/a.o\nincluded\tsrc/.gitignore:2\t!k.o\tsrc/k.o\nignored\t.gitignore:1\t*.o\tk.o\nincluded\tsrc/in/.gitignore:1\t!a.o\tsrc/in/a.o\nignored\tsrc/.gitignore:3\t/gen\\\\ \\\\ \tsrc/gen  /\n",
+        b"ignored\t.gitignore:1\t*.o\tsrc/a.o\n\
+          included\tsrc/.gitignore:2\t!k.o\tsrc/k.o\n\
+          ignored\t.gitignore:1\t*.o\tk.o\n\
+          included\tsrc/in/.gitignore:1\t!a.o\tsrc/in/a.o\n\
+          ignored\tsrc/.gitignore:3\t/gen\\\\ \\\\ \tsrc/gen  /\n",
     ),
     (
         "the highest ignored directory decides what is below it",
         DEEP,
         b"src/high/low/a\nsrc/high/low/\nlow/high/a.o\nsrc/high\n",
-        b"below\tsrc/.gitignore:4\thigh/\tsrc/high/low/a\nbelow\tsrc/.gitignore:4\thigh/\tsrc/high/low/\nbelow\t.gitignore:2\tlow/\tlow/high/a.o\nignored\tsrc/.gitignore:4\thigh/\tsrc/high\n",
+        b"below\tsrc/.gitignore:4\thigh/\tsrc/high/low/a\n\
+          below\tsrc/.gitignore:4\thigh/\tsrc/high/low/\n\
+          below\t.gitignore:2\tlow/\tlow/high/a.o\n\
+          ignored\tsrc/.gitignore:4\thigh/\tsrc/high\n",
     ),
     (
         "the tree is asked what a name is, unless a slash says it",
         KINDS,
         b"d\nd/\ne/d\ne/d/\nf\nf/d\ngone\ngone/d\ngone/d/a\n",
-        b"ignored\t.gitignore:1\td/\td\nignored\t.gitignore:1\td/\td/\nnone\t-\t-\te/d\nignored\t.gitignore:1\td/\te/d/\nnone\t-\t-\tf\nnone\t-\t-\tf/d\nnone\t-\t-\tgone\nnone\t-\t-\tgone/d\nbelow\t.gitignore:1\td/\tgone/d/a\n",
+        b"ignored\t.gitignore:1\td/\td\n\
+          ignored\t.gitignore:1\td/\td/\n\
+          none\t-\t-\te/d\n\
+          ignored\t.gitignore:1\td/\te/d/\n\
+          none\t-\t-\tf\n\
+          none\t-\t-\tf/d\n\
+          none\t-\t-\tgone\n\
+          none\t-\t-\tgone/d\n\
+          below\t.gitignore:1\td/\tgone/d/a\n",
     ),
     (
         "what a walk leaves out without a rule",
         KINDS,
         b"l\nl/\nl/a\nl.x\n.git\n.git/config\ne/.git/\n",
-        b"left\tother\t-\tl\nleft\tother\t-\tl/\nleft\tother\t-\tl/a\nignored\t.gitignore:2\t*.x\tl.x\nleft\tgit\t-\t.git\nleft\tgit\t-\t.git/config\nleft\tgit\t-\te/.git/\n",
+        b"left\tother\t-\tl\n\
+          left\tother\t-\tl/\n\
+          left\tother\t-\tl/a\n\
+          ignored\t.gitignore:2\t*.x\tl.x\n\
+          left\tgit\t-\t.git\n\
+          left\tgit\t-\t.git/config\n\
+          left\tgit\t-\te/.git/\n",
     ),
     (
         "paths that no entry can have",
@@ -117,7 +141,13 @@ static BESIDE_THE_TREE: Case = (
     "rules and attributes beside those of the tree's directories",
     REPOSITORY,
     b"a.o\nb.o\nc.t\nv.c\nx.bak\ndocs/a\ns/.git\n",
-    b"ignored\t.git/info/exclude:2\t*.o\ta.o\nleft\tattribute:vendored\t-\tb.o\nignored\t.git/info/exclude:3\t*.t\tc.t\nleft\tattribute:export-ignore\t-\tv.c\nignored\t--exclude-from:2\t*.bak\tx.bak\nleft\tattribute:vendored\t-\tdocs/a\nleft\tgit\t-\ts/.git\n",
+    b"ignored\t.git/info/exclude:2\t*.o\ta.o\n\
+      left\tattribute:vendored\t-\tb.o\n\
+      ignored\t.git/info/exclude:3\t*.t\tc.t\n\
+      left\tattribute:export-ignore\t-\tv.c\n\
+      ignored\t--exclude-from:2\t*.bak\tx.bak\n\
+      left\tattribute:vendored\t-\tdocs/a\n\
+      left\tgit\t-\ts/.git\n",
 );
 
 #[test]

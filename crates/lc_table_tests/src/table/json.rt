@@ -27,7 +27,13 @@ const SMALL: Case = Case {
         (b"main.c", TextState::Set, Eol::Lf, [3, 1, 16]),
     ],
     faults: &[(b"", FaultWord::Read), (b"d", FaultWord::Name)],
-    lines: b"{\"rows\":[{\"ext\":null,\"text\":null,\"eol\":\"none\",\"files\":1,\"lines\":1,\"blank\":0,\"bytes\":6},{\"ext\":\".c\",\"text\":\"set\",\"eol\":\"lf\",\"files\":1,\"lines\":3,\"blank\":1,\"bytes\":16}],\"total\":{\"files\":2,\"lines\":4,\"blank\":1,\"bytes\":22},\"directories\":1,\"files\":[{\"path\":\"a\\\"\\\\\\n\",\"text\":null,\"eol\":\"none\",\"lines\":1,\"blank\":0,\"bytes\":6},{\"path\":\"main.c\",\"text\":\"set\",\"eol\":\"lf\",\"lines\":3,\"blank\":1,\"bytes\":16}],\"faults\":[{\"word\":\"read\",\"path\":\"\"},{\"word\":\"name\",\"path\":\"d\"}]}\n",
+    lines: b"{\"rows\":[{\"ext\":null,\"text\":null,\"eol\":\"none\",\"files\":1,\"lines\":1,\
+             \"blank\":0,\"bytes\":6},{\"ext\":\".c\",\"text\":\"set\",\"eol\":\"lf\",\"files\":1,\
+             \"lines\":3,\"blank\":1,\"bytes\":16}],\"total\":{\"files\":2,\"lines\":4,\"blank\":1,\
+             \"bytes\":22},\"directories\":1,\"files\":[{\"path\":\"a\\\"\\\\\\n\",\"text\":null,\
+             \"eol\":\"none\",\"lines\":1,\"blank\":0,\"bytes\":6},{\"path\":\"main.c\",\"text\":\"set\",\
+             \"eol\":\"lf\",\"lines\":3,\"blank\":1,\"bytes\":16}],\"faults\":[{\"word\":\"read\",\
+             \"path\":\"\"},{\"word\":\"name\",\"path\":\"d\"}]}\n",
 };
 
 const NO_TEXT: Case = Case {
@@ -38,7 +44,11 @@ const NO_TEXT: Case = Case {
     directories: 1,
     files: &[(b"b.\xff", TextState::Auto, Eol::Nul, [0, 0, 0])],
     faults: &[],
-    lines: b"{\"rows\":[{\"ext_bytes\":[46,255],\"text\":\"auto\",\"eol\":\"nul\",\"files\":1,\"lines\":0,\"blank\":0,\"bytes\":0}],\"total\":{\"files\":1,\"lines\":0,\"blank\":0,\"bytes\":18446744073709551615},\"directories\":1,\"files\":[{\"path_bytes\":[98,46,255],\"text\":\"auto\",\"eol\":\"nul\",\"lines\":0,\"blank\":0,\"bytes\":0}],\"faults\":[]}\n",
+    lines: b"{\"rows\":[{\"ext_bytes\":[46,255],\"text\":\"auto\",\"eol\":\"nul\",\"files\":1,\
+             \"lines\":0,\"blank\":0,\"bytes\":0}],\"total\":{\"files\":1,\"lines\":0,\"blank\":0,\
+             \"bytes\":18446744073709551615},\"directories\":1,\"files\":[{\"path_bytes\":[98,\
+             46,255],\"text\":\"auto\",\"eol\":\"nul\",\"lines\":0,\"blank\":0,\"bytes\":0}],\
+             \"faults\":[]}\n",
 };
 
 const EMPTY: Case = Case {
@@ -64,7 +74,10 @@ const BY_TEXT: Shape = Shape {
 const SUMMED: Case = Case {
     name: "summed_rows",
     shape: BY_TEXT,
-    lines: b"{\"rows\":[{\"text\":\"set\",\"files\":2,\"lines\":4,\"blank\":1,\"bytes\":9},{\"text\":\"unset\",\"files\":1,\"lines\":1,\"blank\":0,\"bytes\":2},{\"text\":null,\"files\":1,\"lines\":2,\"blank\":0,\"bytes\":20}],\"total\":{\"files\":4,\"lines\":7,\"blank\":1,\"bytes\":31},\"directories\":1,\"faults\":[]}\n",
+    lines: b"{\"rows\":[{\"text\":\"set\",\"files\":2,\"lines\":4,\"blank\":1,\"bytes\":9},\
+             {\"text\":\"unset\",\"files\":1,\"lines\":1,\"blank\":0,\"bytes\":2},{\"text\":null,\
+             \"files\":1,\"lines\":2,\"blank\":0,\"bytes\":20}],\"total\":{\"files\":4,\"lines\":7,\
+             \"blank\":1,\"bytes\":31},\"directories\":1,\"faults\":[]}\n",
     files: &[],
     ..TEXT_STATES
 };
@@ -75,7 +88,10 @@ const SORTED: Case = Case {
         sort: Some(SortBy::Bytes),
         ..BY_TEXT
     },
-    lines: b"{\"rows\":[{\"text\":null,\"files\":1,\"lines\":2,\"blank\":0,\"bytes\":20},{\"text\":\"set\",\"files\":2,\"lines\":4,\"blank\":1,\"bytes\":9},{\"text\":\"unset\",\"files\":1,\"lines\":1,\"blank\":0,\"bytes\":2}],\"total\":{\"files\":4,\"lines\":7,\"blank\":1,\"bytes\":31},\"directories\":1,\"faults\":[]}\n",
+    lines: b"{\"rows\":[{\"text\":null,\"files\":1,\"lines\":2,\"blank\":0,\"bytes\":20},{\"text\":\"set\",\
+             \"files\":2,\"lines\":4,\"blank\":1,\"bytes\":9},{\"text\":\"unset\",\"files\":1,\
+             \"lines\":1,\"blank\":0,\"bytes\":2}],\"total\":{\"files\":4,\"lines\":7,\"blank\":1,\
+             \"bytes\":31},\"directories\":1,\"faults\":[]}\n",
     ..SUMMED
 };
 

@@ -74,7 +74,16 @@ const TEXT_STATES: Case<'static> = Case {
     ]),
     asked: WITH_FILES,
     outcome: Outcome::Clean,
-    lines: b"-\t-\tlf\t1\t2\t0\t20\n.b\tunset\tnul\t1\t1\t0\t2\n.c\tset\tlf\t1\t2\t0\t4\n.c\tset\tcrlf\t1\t2\t1\t5\ntotal\t*\t*\t4\t7\t1\t31\ndirectories\t1\nfile\t-\tlf\t2\t0\t20\t.gitattributes\nfile\tset\tlf\t2\t0\t4\tx.c\nfile\tunset\tnul\t1\t0\t2\ty.b\nfile\tset\tcrlf\t2\t1\t5\tz.c\n",
+    lines: b"-\t-\tlf\t1\t2\t0\t20\n\
+             .b\tunset\tnul\t1\t1\t0\t2\n\
+             .c\tset\tlf\t1\t2\t0\t4\n\
+             .c\tset\tcrlf\t1\t2\t1\t5\n\
+             total\t*\t*\t4\t7\t1\t31\n\
+             directories\t1\n\
+             file\t-\tlf\t2\t0\t20\t.gitattributes\n\
+             file\tset\tlf\t2\t0\t4\tx.c\n\
+             file\tunset\tnul\t1\t0\t2\ty.b\n\
+             file\tset\tcrlf\t2\t1\t5\tz.c\n",
 };
 
 const EXCLUDING: Case<'static> = Case {
@@ -95,7 +104,14 @@ const EXCLUDING: Case<'static> = Case {
 const LEFT_OUT: Case<'static> = Case {
     name: "what_was_left_out",
     asked: WITH_LEFT_OUT,
-    lines: b"-\t-\tlf\t1\t3\t0\t24\n.c\t-\tcrlf\t1\t1\t0\t8\n.log\t-\tlf\t1\t1\t0\t2\ntotal\t*\t*\t3\t5\t0\t34\ndirectories\t3\nentries\t7\nleft\trule\t.gitignore:1\ta.log\nleft\trule\t.gitignore:3\tbuild/\n",
+    lines: b"-\t-\tlf\t1\t3\t0\t24\n\
+             .c\t-\tcrlf\t1\t1\t0\t8\n\
+             .log\t-\tlf\t1\t1\t0\t2\n\
+             total\t*\t*\t3\t5\t0\t34\n\
+             directories\t3\n\
+             entries\t7\n\
+             left\trule\t.gitignore:1\ta.log\n\
+             left\trule\t.gitignore:3\tbuild/\n",
     ..FIRST_CASE
 };
 

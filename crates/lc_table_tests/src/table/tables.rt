@@ -51,7 +51,16 @@ pub(super) const TEXT_STATES: Case = Case {
         (b"z.c", TextState::Set, Eol::CrLf, [2, 1, 5]),
     ],
     faults: &[],
-    lines: b"-\t-\tlf\t1\t2\t0\t20\n.b\tunset\tnul\t1\t1\t0\t2\n.c\tset\tlf\t1\t2\t0\t4\n.c\tset\tcrlf\t1\t2\t1\t5\ntotal\t*\t*\t4\t7\t1\t31\ndirectories\t1\nfile\t-\tlf\t2\t0\t20\t.gitattributes\nfile\tset\tlf\t2\t0\t4\tx.c\nfile\tunset\tnul\t1\t0\t2\ty.b\nfile\tset\tcrlf\t2\t1\t5\tz.c\n",
+    lines: b"-\t-\tlf\t1\t2\t0\t20\n\
+             .b\tunset\tnul\t1\t1\t0\t2\n\
+             .c\tset\tlf\t1\t2\t0\t4\n\
+             .c\tset\tcrlf\t1\t2\t1\t5\n\
+             total\t*\t*\t4\t7\t1\t31\n\
+             directories\t1\n\
+             file\t-\tlf\t2\t0\t20\t.gitattributes\n\
+             file\tset\tlf\t2\t0\t4\tx.c\n\
+             file\tunset\tnul\t1\t0\t2\ty.b\n\
+             file\tset\tcrlf\t2\t1\t5\tz.c\n",
 };
 
 const TOP_UNREAD: Case = Case {
@@ -113,7 +122,17 @@ const CASES: &[Case] = &[
             (b"l", FaultWord::Long),
             (b"e", FaultWord::Endless),
         ],
-        lines: b".a\\x09b\tauto\tnone\t1\t0\t0\t0\n.c\tother\tcr\t1\t1\t0\t2\n.c\tother\tmixed\t1\t1\t0\t2\ntotal\t*\t*\t3\t2\t0\t18446744073709551615\ndirectories\t65536\nfile\tauto\tmixed\t1\t0\t1\ta\\\\b/c\\x0a\nfault\tname\t\\x7f\nfault\ttwice\tt\nfault\tmany\tm\nfault\tlong\tl\nfault\tendless\te\n",
+        lines: b".a\\x09b\tauto\tnone\t1\t0\t0\t0\n\
+                 .c\tother\tcr\t1\t1\t0\t2\n\
+                 .c\tother\tmixed\t1\t1\t0\t2\n\
+                 total\t*\t*\t3\t2\t0\t18446744073709551615\n\
+                 directories\t65536\n\
+                 file\tauto\tmixed\t1\t0\t1\ta\\\\b/c\\x0a\n\
+                 fault\tname\t\\x7f\n\
+                 fault\ttwice\tt\n\
+                 fault\tmany\tm\n\
+                 fault\tlong\tl\n\
+                 fault\tendless\te\n",
     },
 ];
 
