@@ -2,7 +2,8 @@
 use Rattle.std.proofs.Common.{◌≡◌, ◌≢◌, ◌↔◌, ◌≤◌, ◌<◌, ◌+◌, ◌*◌, IsTrue, ℕ, zero, suc, Bool, false, true, List, [], ◌∷◌, ◌++◌, length, map}
 use Rattle.std.proofs.Common.{take, drop, get_or, replicate, refl, sym, ◌∙◌, ap, subst, arith, append_assoc, take-take, ⊎_elim, set}
 use Rattle.std.proofs.Math.Seq.{take-suc, take-append_seam}
-use Rattle.std.proofs.lemmas.List.{append-nil, take-append-drop, length-append, length-take-le, map-append, length-map, get_or-replicate, get_or-map}
+use Rattle.std.proofs.lemmas.List.{append-nil, take-append-drop, length-append, length-take-le, map-append}
+use Rattle.std.proofs.lemmas.List.{length-map, get_or-replicate, get_or-map}
 use Rattle.std.proofs.lemmas.List.{get_or-set_same, get_or-set_other}
 use Rattle.std.specs.Borrow.{Bor}
 use Rattle.lc_glob.specs.Above.{names_of, IsSet, AreSet, Before, UpTo, TellMatches}

@@ -27,7 +27,8 @@ onto_some : (b : ℕ) (s : List (List ℕ)) → 1 ≤ bytes_with_ends (onto_firs
 onto_some b [] = omega arith
 onto_some b (n ∷ ns) = omega arith
 
-path_some : (path : List ℕ) → 1 ≤ bytes_with_ends (segments_of path)
+-- a path has at least one end
+pub path_some : (path : List ℕ) → 1 ≤ bytes_with_ends (segments_of path)
 path_some [] = omega arith
 path_some (b ∷ bs) = cond_some (nat_eq b 47) _ _ (omega arith) (onto_some b (segments_of bs))
 

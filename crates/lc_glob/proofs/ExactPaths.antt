@@ -1,5 +1,6 @@
 -- A pattern of literals alone matches the path that has the same bytes.
-use Rattle.std.proofs.Common.{◌≡◌, ◌↔◌, ◌≤◌, ◌+◌, ◌-◌, ◌^◌, ◌*◌, ℕ, suc, Bool, true, false, ◌&&◌, cond, nat_eq, bytes_eq, List, [], ◌∷◌, length, map, IsTrue}
+use Rattle.std.proofs.Common.{◌≡◌, ◌↔◌, ◌≤◌, ◌<◌, ◌+◌, ◌-◌, ◌^◌, ◌*◌, ℕ, suc, Bool, true, false, ◌&&◌, cond, nat_eq}
+use Rattle.std.proofs.Common.{bytes_eq, List, [], ◌∷◌, length, map, IsTrue}
 use Rattle.std.proofs.Common.{refl, sym, ◌∙◌, ap, ap₂, subst, arith}
 use Rattle.std.proofs.Math.Nat.{min-le_left}
 use Rattle.std.proofs.lemmas.Bool.{and_parts}
@@ -63,12 +64,12 @@ whole_weight (b ∷ bs) = at (nat_eq b 47) (whole_weight bs) (has_first bs)
     at false h some = omega (arith, h, onto_grows b (segments_of bs) some.first some.others some.are)
 
 pub exact_cost : (bytes path : List ℕ) (t n : ℕ) → n ≤ t + length bytes
-    → n ≤ t + full_cost (map exact_segment (segments_of bytes)) (segments_of path)
+    → n < t + full_cost (map exact_segment (segments_of bytes)) (segments_of path)
 exact_cost bytes path t n paid =
     product (length bytes) (tokens_with_ends (map exact_segment (segments_of bytes))) (bytes_with_ends (segments_of path)) t n
     (omega (arith, whole_weight bytes, exact_weight (segments_of bytes))) (omega (arith, whole_weight path)) paid
   where
-    product : (l a b t n : ℕ) → l ≤ a → 1 ≤ b → n ≤ t + l → n ≤ t + a * b
+    product : (l a b t n : ℕ) → l + 1 ≤ a → 1 ≤ b → n ≤ t + l → n < t + a * b
     product l a b t n la b1 paid = grind arith
 
 pub tests_most : (b : Bool) (t n m : ℕ) → m ≡ tests_if b t n → m ≤ t + n

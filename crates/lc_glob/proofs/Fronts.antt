@@ -8,7 +8,8 @@ use Rattle.std.specs.List.{onto_first, slice_split}
 use Rattle.lc_glob.specs.Elements.{parts_in, trimmed_model}
 use Rattle.lc_glob.specs.Lists.{is_empty}
 use Rattle.lc_glob.specs.Patterns.{SegmentModel, dead}
-use Rattle.lc_glob.specs.Reading.{begins_empty, cut_at_front, ends_empty, live, pattern_from, segment_from, some_empty, without_first, without_last}
+use Rattle.lc_glob.specs.Reading.{begins_empty, cut_at_front, ends_empty, live, pattern_from, segment_from}
+use Rattle.lc_glob.specs.Reading.{some_empty, without_first, without_last}
 use Rattle.lc_glob.specs.Tokens.{TokenModel}
 use Rattle.lc_glob.specs.Views.{live_model}
 use Rattle.lc_glob.proofs.Naming.{some_part}

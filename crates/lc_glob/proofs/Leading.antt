@@ -9,6 +9,16 @@ use Rattle.lc_glob.specs.Matches.{MatchesPath}
 use Rattle.lc_glob.specs.Leads.{Leads}
 use Rattle.lc_glob.proofs.After.{after_empty, after_end}
 
+-- a double star alone takes all names, first or last of its segments as it is
+double_leads : (s : List SegmentModel) (path : List (List ℕ)) → s ≡ double_star ∷ [] → Leads s path
+double_leads s path e = subst (λ (l : List SegmentModel). Leads l path) (sym e) (path, [], sym (append-nil path), tt)
+
+pub first_leads : (s others : List SegmentModel) (path : List (List ℕ)) → s ≡ double_star ∷ others → others ≡ [] → Leads s path
+first_leads s others path e none = double_leads s path (e ∙ ap (λ (l : List SegmentModel). double_star ∷ l) none)
+
+pub last_leads : (s others : List SegmentModel) (path : List (List ℕ)) → s ≡ others ++ double_star ∷ [] → others ≡ [] → Leads s path
+last_leads s others path e none = double_leads s path (e ∙ ap (λ (l : List SegmentModel). l ++ double_star ∷ []) none)
+
 -- whether the last segment is a double star
 abbrev ends_double : List SegmentModel → Bool
 ends_double [] = false

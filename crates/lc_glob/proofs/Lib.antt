@@ -18,3 +18,4 @@ pub mod Mixed
 pub mod Above
 pub mod SimpleBytes
 pub mod ExactPaths
+pub mod EndLooks

@@ -57,6 +57,33 @@ module _ {A : Type 0} (p : A → Bool) where
       → slice_split p (xs ++ y ∷ ys) ≡ slice_split p xs ++ ys ∷ []
   split_end xs y ys e none = split_apart xs y ys e ∙ ap (λ (l : List (List A)). slice_split p xs ++ l) (slice_split_none p ys none)
 
+  -- one that doesn't separate is the last of the last part
+  pub last_part : (xs : List A) (y : A) → p y ≡ false
+      → (parts : List (List A)) × (last : List A) × (slice_split p (xs ++ y ∷ []) ≡ parts ++ (last ++ y ∷ []) ∷ [])
+  last_part [] y e = ([], [], slice_split-cons_no p y [] e)
+  last_part (x ∷ xs) y e = at (p x) refl (last_part xs y e)
+    where
+      onto : p x ≡ false → (parts : List (List A)) (last : List A) → slice_split p (xs ++ y ∷ []) ≡ parts ++ (last ++ y ∷ []) ∷ []
+          → (parts : List (List A)) × (last : List A) × (slice_split p (x ∷ xs ++ y ∷ []) ≡ parts ++ (last ++ y ∷ []) ∷ [])
+      onto s [] last is = ([], x ∷ last, slice_split-cons_no p x (xs ++ y ∷ []) s ∙ ap (onto_first x) is)
+      onto s (q ∷ qs) last is = ((x ∷ q) ∷ qs, last, slice_split-cons_no p x (xs ++ y ∷ []) s ∙ ap (onto_first x) is)
+
+      at : (t : Bool) → p x ≡ t
+          → (parts : List (List A)) × (last : List A) × (slice_split p (xs ++ y ∷ []) ≡ parts ++ (last ++ y ∷ []) ∷ [])
+          → (parts : List (List A)) × (last : List A) × (slice_split p (x ∷ xs ++ y ∷ []) ≡ parts ++ (last ++ y ∷ []) ∷ [])
+      at true s h = ([] ∷ h.0, h.1, slice_split-cons_yes p x (xs ++ y ∷ []) s ∙ ap (λ (l : List (List A)). [] ∷ l) h.2)
+      at false s h = onto s h.0 h.1 h.2
+
+  -- and the first of the first
+  pub first_part : (y : A) (ys : List A) → p y ≡ false
+      → (first : List A) × (parts : List (List A)) × (slice_split p (y ∷ ys) ≡ (y ∷ first) ∷ parts)
+  first_part y ys e = at (slice_split p ys) refl
+    where
+      at : (parts : List (List A)) → slice_split p ys ≡ parts
+          → (first : List A) × (parts : List (List A)) × (slice_split p (y ∷ ys) ≡ (y ∷ first) ∷ parts)
+      at [] none = absurd (some_part ys none)
+      at (q ∷ qs) is = (q, qs, slice_split-cons_no p y ys e ∙ ap (onto_first y) is)
+
   -- the parts of elements that more may follow, none of which separates: those before the last, and the last
   abbrev pub EndsIn : List A → List (List A) → List A → Type 0
   EndsIn xs parts last = (more : List A) → All (λ x. p x ≡ false) more → slice_split p (xs ++ more) ≡ parts ++ (last ++ more) ∷ []

@@ -8,7 +8,8 @@ use Rattle.lc_glob.specs.Patterns.{SegmentModel, plain, double_star}
 use Rattle.lc_glob.specs.Path.{segments_of}
 use Rattle.lc_glob.specs.Reading.{LexemeModel, separator, one, lexeme, put, parts}
 use Rattle.lc_glob.specs.Reading.{is_double_star}
-use Rattle.lc_glob.specs.Simple.{is_simple, is_literal, byte_token, byte_parts, bytes_segment, is_literal_segment, literals_segment}
+use Rattle.lc_glob.specs.Simple.{is_simple, is_literal, byte_token, byte_parts, bytes_segment, is_end, tokens_of_end}
+use Rattle.lc_glob.specs.Simple.{is_ends_segment, ends_segment}
 use Rattle.lc_glob.proofs.Naming.{HasFirst, has_first}
 use Rattle.lc_glob.proofs.Parts.{at_lexeme}
 
@@ -18,33 +19,45 @@ chosen_literal false false t u v e = refl
 chosen_literal false true t u v e = cc
 chosen_literal true q t u v e = cc
 
+pub literal_byte : (b : ℕ) → is_literal b ≡ true → byte_token b ≡ literal b
+literal_byte b e = chosen_literal (nat_eq b 42) (nat_eq b 63) star any_byte (literal b) e
+
 pub literal_bytes : (bs : List ℕ) → list_all is_literal bs ≡ true → map byte_token bs ≡ map literal bs
 literal_bytes [] e = refl
 literal_bytes (b ∷ bs) e =
-    let first : byte_token b ≡ literal b = chosen_literal (nat_eq b 42) (nat_eq b 63) star any_byte (literal b) (and_parts (is_literal b) _ e).0 in
-    ap (λ (u : TokenModel). u ∷ map byte_token bs) first
+    ap (λ (u : TokenModel). u ∷ map byte_token bs) (literal_byte b (and_parts (is_literal b) _ e).0)
     ∙ ap (λ (l : List TokenModel). literal b ∷ l) (literal_bytes bs (and_parts (is_literal b) _ e).1)
-
--- segments that are literals alone or a double star
-literal_segment : (bs : List ℕ) → is_literal_segment bs ≡ true → literals_segment bs ≡ bytes_segment bs
-literal_segment bs e = at (is_double_star (map byte_token bs)) e
-  where
-    at : (t : Bool) → (t || list_all is_literal bs) ≡ true
-        → cond t double_star (plain (map literal bs)) ≡ cond t double_star (plain (map byte_token bs))
-    at true e = refl
-    at false e = ap plain (sym (literal_bytes bs e))
-
-pub literal_segments : (ps : List (List ℕ)) → list_all is_literal_segment ps ≡ true → map literals_segment ps ≡ map bytes_segment ps
-literal_segments [] e = refl
-literal_segments (p ∷ ps) e =
-    ap (λ (s : SegmentModel). s ∷ map literals_segment ps) (literal_segment p (and_parts (is_literal_segment p) _ e).0)
-    ∙ ap (λ (l : List SegmentModel). bytes_segment p ∷ l) (literal_segments ps (and_parts (is_literal_segment p) _ e).1)
 
 -- a star, and then literals
 pub suffix_bytes : (bytes bs : List ℕ) (b : ℕ) → bytes ≡ b ∷ bs → b ≡ 42 → list_all is_literal bs ≡ true
     → map byte_token bytes ≡ star ∷ map literal bs
 suffix_bytes bytes bs b e is all =
     ap (map byte_token) (e ∙ ap (λ (c : ℕ). c ∷ bs) is) ∙ ap (λ (l : List TokenModel). star ∷ l) (literal_bytes bs all)
+
+-- bytes that are literals, alone or after a star
+end_bytes : (bs : List ℕ) → is_end bs ≡ true → map byte_token bs ≡ tokens_of_end bs
+end_bytes [] e = refl
+end_bytes (b ∷ bs) e = at (nat_eq b 42) refl e
+  where
+    at : (t : Bool) → nat_eq b 42 ≡ t → cond t (list_all is_literal bs) (list_all is_literal (b ∷ bs)) ≡ true
+        → map byte_token (b ∷ bs) ≡ cond t (star ∷ map literal bs) (map literal (b ∷ bs))
+    at true is e = suffix_bytes (b ∷ bs) bs b refl (eqb-true b 42 is) e
+    at false is e = literal_bytes (b ∷ bs) e
+
+-- segments that are such, or a double star
+end_segment : (bs : List ℕ) → is_ends_segment bs ≡ true → ends_segment bs ≡ bytes_segment bs
+end_segment bs e = at (is_double_star (map byte_token bs)) e
+  where
+    at : (t : Bool) → (t || is_end bs) ≡ true
+        → cond t double_star (plain (tokens_of_end bs)) ≡ cond t double_star (plain (map byte_token bs))
+    at true e = refl
+    at false e = ap plain (sym (end_bytes bs e))
+
+pub ends_segments : (ps : List (List ℕ)) → list_all is_ends_segment ps ≡ true → map ends_segment ps ≡ map bytes_segment ps
+ends_segments [] e = refl
+ends_segments (p ∷ ps) e =
+    ap (λ (s : SegmentModel). s ∷ map ends_segment ps) (end_segment p (and_parts (is_ends_segment p) _ e).0)
+    ∙ ap (λ (l : List SegmentModel). bytes_segment p ∷ l) (ends_segments ps (and_parts (is_ends_segment p) _ e).1)
 
 -- the parts after a separator, and after another byte
 pub after_separator : (b : ℕ) (bs : List ℕ) → nat_eq b 47 ≡ true → byte_parts (b ∷ bs) ≡ [] ∷ byte_parts bs

@@ -4,12 +4,14 @@ use Rattle.std.proofs.Common.{◌∷◌, inl, inr, refl, sym, ◌∙◌, subst, 
 use Rattle.lc_glob.specs.Tokens.{TokenModel, literal, any_byte, star, class, takes, is_star}
 use Rattle.lc_glob.specs.Fits.{Fits}
 use Rattle.std.proofs.Common.{length-append, ◌++◌}
+use Rattle.std.proofs.lemmas.List.{append-nil}
+use Rattle.lc_glob.specs.Lists.{is_empty}
 use Rattle.std.proofs.Math.Nat.{mul-le-mul_right}
 use Rattle.lc_glob.proofs.Fitting.{fits_one, fits_one_empty, when_one}
 use Rattle.lc_glob.proofs.After.{Later, later_after, after_split, after_join, after_after, after_drop}
 use Rattle.lc_glob.specs.declared.place.Place.{Place}
 use Rattle.lc_glob.specs.declared.place.FrontStep.TheVariants as front
-use Rattle.lc_glob.specs.Steps.{FrontStepIs, RetryIs}
+use Rattle.lc_glob.specs.Steps.{FitsAt, cost_at, FrontStepIs, RetryIs}
 
 -- what comes after a byte that is taken
 star_drop : (us : List TokenModel) (u : TokenModel) (x : ℕ) (xs : List ℕ) → is_star u ≡ false → Fits (star ∷ u ∷ us) (x ∷ xs)
@@ -22,6 +24,24 @@ star_is star e = refl
 star_is (literal c) e = cc
 star_is any_byte e = cc
 star_is (class n rs) e = cc
+
+-- a star alone fits any name
+star_fits : (tokens : List TokenModel) (name : List ℕ) → tokens ≡ star ∷ [] → Fits tokens name
+star_fits tokens name e = subst (λ (l : List TokenModel). Fits l name) (sym e) (name, [], sym (append-nil name), tt)
+
+none_but : (others : List TokenModel) → is_empty others ≡ true → others ≡ []
+none_but [] e = refl
+none_but (u ∷ us) e = cc
+
+pub first_alone : (tokens others : List TokenModel) (u : TokenModel) (name : List ℕ) → tokens ≡ u ∷ others → is_star u ≡ true
+    → is_empty others ≡ true → Fits tokens name
+first_alone tokens others u name e s none =
+    star_fits tokens name (e ∙ ap (λ (l : List TokenModel). u ∷ l) (none_but others none) ∙ ap (λ (v : TokenModel). v ∷ []) (star_is u s))
+
+pub last_alone : (tokens others : List TokenModel) (u : TokenModel) (name : List ℕ) → tokens ≡ others ++ u ∷ [] → is_star u ≡ true
+    → is_empty others ≡ true → Fits tokens name
+last_alone tokens others u name e s none =
+    first_alone tokens [] u name (e ∙ ap (λ (l : List TokenModel). l ++ u ∷ []) (none_but others none)) s refl
 
 module _ {A : Type 0} (tokens_in : List A → List TokenModel) where
   -- what is still to be tried where the tokens here don't fit
@@ -109,22 +129,22 @@ shorter_end here before u e = ap length e ∙ length-append before (u ∷ [])
 pub length_end : (bytes before : List ℕ) (x : ℕ) → bytes ≡ before ++ x ∷ [] → length bytes ≡ length before + 1
 length_end bytes before x e = ap length e ∙ length-append before (x ∷ [])
 
--- a step from the end costs no more than what is left
-pub paid_end : (h b n m t s all : ℕ) → h ≡ b + 1 → n ≡ m + 1 → s ≤ t + 1 → t + (h + 1) * (n + 1) ≤ all → s + (b + 1) * (m + 1) ≤ all
-paid_end h b n m t s all hb nm st paid = omega (arith, rw (hb, nm) at paid)
+-- a byte test from the end costs no more than what is left
+pub paid_end : (h b n m t s : ℕ) → h ≡ b + 1 → n ≡ m + 1 → s ≤ t + 1 → s + (m * (b + 1) + b) ≤ t + (n * (h + 1) + h)
+paid_end h b n m t s hb nm st = rw (hb, nm) (omega arith)
 
 module _ {A : Type 0} (tokens_in : List A → List TokenModel) where
   -- what holds between two steps from the front: the tokens here fit, or those after the star do later, just where the tokens of the
   -- whole fit; and the tests that were made, with those that may still be, are no more than were allowed
   abbrev pub StepsHold : Place A → Place A → Option (Place A) → ℕ → ℕ → Type 0
   StepsHold all here back made before = record {
-    same : Fits (tokens_in all.tokens.now) all.segment.bytes.now ↔ (Fits (tokens_in here.tokens.now) here.segment.bytes.now ⊎ LaterOf tokens_in back);
+    same : FitsAt tokens_in all ↔ (FitsAt tokens_in here ⊎ LaterOf tokens_in back);
     covers : Covers tokens_in back (tokens_in here.tokens.now) here.segment.bytes.now;
     here_within : length (tokens_in here.tokens.now) ≤ length (tokens_in all.tokens.now);
     star_within : IsWithin tokens_in back (length (tokens_in all.tokens.now));
     left_within : length here.segment.bytes.now ≤ span tokens_in back (length all.segment.bytes.now);
-    cost : made + (span tokens_in back (length all.segment.bytes.now) * (length (tokens_in all.tokens.now) + 1) + length (tokens_in here.tokens.now))
-        ≤ before + (length all.segment.bytes.now * (length (tokens_in all.tokens.now) + 1) + length (tokens_in all.tokens.now));
+    cost : made + (span tokens_in back (length all.segment.bytes.now) * (length (tokens_in all.tokens.now) + 1)
+        + length (tokens_in here.tokens.now)) ≤ before + cost_at tokens_in all;
   }
 
   -- after a star, which becomes the place to go back to
@@ -135,7 +155,8 @@ module _ {A : Type 0} (tokens_in : List A → List TokenModel) where
       let len = shorter _ _ _ is.1 in
       let segment_len = ap (λ s. length s.bytes.now) e in
       record {
-        same = subst (λ s. Fits (tokens_in all.tokens.now) all.segment.bytes.now ↔ (Fits (tokens_in next.tokens.now) s.bytes.now ⊎ Later (Fits (tokens_in next.tokens.now)) s.bytes.now)) (sym e)
+        same = subst (λ s. FitsAt tokens_in all
+            ↔ (Fits (tokens_in next.tokens.now) s.bytes.now ⊎ Later (Fits (tokens_in next.tokens.now)) s.bytes.now)) (sym e)
             (at_star tokens_in _ _ _ _ _ _ is.1 is.2 inv.covers inv.same);
         covers = λ f. f;
         here_within = omega (arith, len, inv.here_within);

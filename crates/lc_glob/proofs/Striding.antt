@@ -1,7 +1,6 @@
 -- Trying a double star's runs from the shortest on, with one place to go back to.
-use Rattle.std.proofs.Common.{◌≡◌, ◌↔◌, ◌⊎◌, ◌≤◌, ◌+◌, IsTrue, ℕ, true, List, [], ◌∷◌, inl, inr, refl, sym, subst, ap, length}
+use Rattle.std.proofs.Common.{◌≡◌, ◌↔◌, ◌⊎◌, ◌≤◌, ◌+◌, ℕ, List, ◌∷◌, inl, inr, sym, subst, ap, length}
 use Rattle.std.proofs.Common.{Option, Some, None, arith}
-use Rattle.std.proofs.lemmas.List.{append-nil}
 use Rattle.lc_glob.specs.Tokens.{TokenModel}
 use Rattle.lc_glob.specs.Fits.{Fits}
 use Rattle.lc_glob.specs.Patterns.{SegmentModel, plain, double_star}
@@ -84,10 +83,3 @@ at_block T H s r path n ns e q never t =
 -- what is left is shorter by the segment
 pub shorter : (here rest : List SegmentModel) (s : SegmentModel) → here ≡ s ∷ rest → length here ≡ length rest + 1
 shorter here rest s e = let l = ap length e in omega (arith, l)
-
--- at a double star that is last: it takes what is left
-pub at_last : (T L : Type 0) (s : List SegmentModel) (path : List (List ℕ)) → s ≡ double_star ∷ [] → T ↔ (Leads s path ⊎ L)
-    → IsTrue true ↔ T
-at_last T L s path e t =
-    let h : Leads s path = subst (λ (l : List SegmentModel). Leads l path) (sym e) (path, [], sym (append-nil path), tt) in
-    (λ _. t.1 (inl h), λ _. refl)

@@ -1,5 +1,6 @@
 -- What is told of the directories above a path at once, by the names on the way down to them.
-use Rattle.std.specs.Prelude.{ℕ, ◌≡◌, ◌<◌, ◌≤◌, ◌+◌, ◌↔◌, Bool, false, true, ◌&&◌, ◌||◌, List, [], ◌∷◌, length, map, take, slice_index_or, IsTrue}
+use Rattle.std.specs.Prelude.{ℕ, ◌≡◌, ◌<◌, ◌≤◌, ◌+◌, ◌↔◌, Bool, false, true, ◌&&◌, ◌||◌, List, [], ◌∷◌, length, map}
+use Rattle.std.specs.Prelude.{take, slice_index_or, IsTrue}
 use Rattle.std.specs.Borrow.{Bor}
 use Rattle.std.specs.List.{list_any}
 use Rattle.lc_glob.specs.Tokens.{is_star}
@@ -30,7 +31,8 @@ UpTo P k = (i : ℕ) × (i ≤ k) × P i
 -- the flag of each name is set exactly where the pattern matches a directory whose path has the names up to it
 abbrev pub TellMatches : PatternModel → List (List ℕ) → List Bool → Type 0
 TellMatches p names flags =
-    (k : ℕ) (path : List ℕ) → k < length names → segments_of path ≡ take (k + 1) names → slice_index_or flags k false ≡ is_match p path Bool.true
+    (k : ℕ) (path : List ℕ) → k < length names → segments_of path ≡ take (k + 1) names
+    → slice_index_or flags k false ≡ is_match p path Bool.true
 
 -- whether a segment is a double star
 abbrev pub is_double : SegmentModel → Bool

@@ -1,6 +1,7 @@
 -- What a pattern and a path weigh in the most byte tests of a match.
 use Rattle.std.specs.Prelude.{ℕ, ◌+◌, ◌*◌, List, [], ◌∷◌, length}
-use Rattle.lc_glob.specs.Patterns.{SegmentModel, plain, double_star}
+use Rattle.lc_glob.specs.Path.{segments_of}
+use Rattle.lc_glob.specs.Patterns.{SegmentModel, plain, double_star, PatternModel}
 
 -- the tokens of the plain segments, and one for each of these
 abbrev pub tokens_with_ends : List SegmentModel → ℕ
@@ -16,3 +17,7 @@ bytes_with_ends (n ∷ ns) = (length n + 1) + bytes_with_ends ns
 -- each token, and each end, at each byte and each end
 abbrev pub full_cost : List SegmentModel → List (List ℕ) → ℕ
 full_cost segments path = tokens_with_ends segments * bytes_with_ends path
+
+-- of a pattern at a path
+abbrev pub match_cost : PatternModel → List ℕ → ℕ
+match_cost p path = full_cost p.segments (segments_of path)

@@ -16,6 +16,7 @@ pub mod Views
 pub mod Pushes
 pub mod Sources
 pub mod ByteTests
+pub mod EndLooks
 pub mod BracketSteps
 pub mod Steps
 pub mod Costs

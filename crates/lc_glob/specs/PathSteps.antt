@@ -21,13 +21,13 @@ LeadsAt place = Leads (segments_ref_model place.segments) (segments_left place.l
 abbrev pub cost_at : PathPlace → ℕ
 cost_at place = full_cost (segments_ref_model place.segments) (segments_left place.left.rest)
 
--- a double star is last; or the last segment fits the path's last, and what is before them is left; or neither has any; or
--- the segments don't lead to the end
+-- a double star is last; or the last segment fits the path's last, and what is before them is left; or the segments lead to
+-- the end, or don't
 abbrev pub PathEndStepIs : PathEndStep → List SegmentModel → List (List ℕ) → Type 0
 PathEndStepIs end.DoubleStar segments path = Unit {0}
 PathEndStepIs (end.Taken before) segments path = (us : List TokenModel) × (n : List ℕ)
     × (segments ≡ segments_ref_model before.segments ++ plain us ∷ []) × (path ≡ segments_left before.left.rest ++ n ∷ []) × Fits us n
-PathEndStepIs end.Arrived segments path = (segments ≡ []) × (path ≡ [])
+PathEndStepIs end.Arrived segments path = Leads segments path
 PathEndStepIs end.Stuck segments path = Leads segments path → ⊥
 
 -- what may still be paid after a step from the end, where `all` might be before it
@@ -37,14 +37,13 @@ cost_after (end.Taken before) all = cost_at before
 cost_after end.Arrived all = 0
 cost_after end.Stuck all = 0
 
--- a double star stands in front, and perhaps alone; or the first segment fits the path's first, and what is after them is
--- left; or neither has any; or the segments don't lead to the end
+-- a double star stands in front; or the first segment fits the path's first, and what is after them is left; or the segments
+-- lead to the end, or don't
 abbrev pub PathFrontStepIs : PathFrontStep → List SegmentModel → List (List ℕ) → Type 0
 PathFrontStepIs (front.DoubleStar rest) segments path = segments ≡ double_star ∷ segments_ref_model rest
-PathFrontStepIs front.LastDoubleStar segments path = segments ≡ double_star ∷ []
 PathFrontStepIs (front.Taken after) segments path = (us : List TokenModel) × (n : List ℕ)
     × (segments ≡ plain us ∷ segments_ref_model after.segments) × (path ≡ n ∷ segments_left after.left.rest) × Fits us n
-PathFrontStepIs front.Arrived segments path = (segments ≡ []) × (path ≡ [])
+PathFrontStepIs front.Arrived segments path = Leads segments path
 PathFrontStepIs front.Stuck segments path = Leads segments path → ⊥
 
 -- the same segments one of the path's later, where there is one

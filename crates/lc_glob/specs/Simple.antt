@@ -1,7 +1,7 @@
 -- Simple patterns: each byte is a token or a separator, since none is quoted and none opens a bracket.
-use Rattle.std.specs.Prelude.{ℕ, Bool, true, not, ◌&&◌, ◌||◌, ◌==◌, if◌then◌else◌, List, ◌∷◌, map}
+use Rattle.std.specs.Prelude.{ℕ, Bool, true, not, ◌&&◌, ◌||◌, ◌==◌, if◌then◌else◌, List, [], ◌∷◌, map}
 use Rattle.std.specs.List.{list_all}
-use Rattle.lc_glob.specs.Bytes.{backslash, asterisk, question_mark, opening}
+use Rattle.lc_glob.specs.Bytes.{slash, backslash, asterisk, question_mark, opening}
 use Rattle.lc_glob.specs.Tokens.{TokenModel, literal, any_byte, star}
 use Rattle.lc_glob.specs.Patterns.{SegmentModel, plain, double_star}
 use Rattle.lc_glob.specs.Path.{segments_of}
@@ -19,6 +19,10 @@ byte_token b = if b == asterisk then star else if b == question_mark then any_by
 abbrev pub is_literal : ℕ → Bool
 is_literal b = not (b == asterisk) && not (b == question_mark)
 
+-- and one of a segment: it separates none
+abbrev pub is_segment_literal : ℕ → Bool
+is_segment_literal b = is_literal b && not (b == slash)
+
 -- the tokens of the parts that the separators cut such bytes into
 abbrev pub byte_parts : List ℕ → List (List TokenModel)
 byte_parts bytes = map (map byte_token) (segments_of bytes)
@@ -27,13 +31,23 @@ byte_parts bytes = map (map byte_token) (segments_of bytes)
 abbrev pub bytes_segment : List ℕ → SegmentModel
 bytes_segment bytes = segment_from true (map byte_token bytes)
 
--- whether such a segment is literals alone or a double star
-abbrev pub is_literal_segment : List ℕ → Bool
-is_literal_segment bytes = is_double_star (map byte_token bytes) || list_all is_literal bytes
+-- whether bytes are literals, alone or after a star
+abbrev pub is_end : List ℕ → Bool
+is_end [] = true
+is_end (b ∷ bs) = if b == asterisk then list_all is_literal bs else list_all is_literal (b ∷ bs)
+
+-- the tokens of those
+abbrev pub tokens_of_end : List ℕ → List TokenModel
+tokens_of_end [] = []
+tokens_of_end (b ∷ bs) = if b == asterisk then star ∷ map literal bs else map literal (b ∷ bs)
+
+-- whether a segment of an anchored pattern is such, or a double star
+abbrev pub is_ends_segment : List ℕ → Bool
+is_ends_segment bytes = is_double_star (map byte_token bytes) || is_end bytes
 
 -- the segment of those
-abbrev pub literals_segment : List ℕ → SegmentModel
-literals_segment bytes = if is_double_star (map byte_token bytes) then double_star else plain (map literal bytes)
+abbrev pub ends_segment : List ℕ → SegmentModel
+ends_segment bytes = if is_double_star (map byte_token bytes) then double_star else plain (tokens_of_end bytes)
 
 -- and of literals alone
 abbrev pub exact_segment : List ℕ → SegmentModel

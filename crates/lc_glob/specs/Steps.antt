@@ -13,29 +13,33 @@ module _ {A : Type 0} (tokens_in : List A → List TokenModel) where
   abbrev pub FitsAt : Place A → Type 0
   FitsAt place = Fits (tokens_in place.tokens.now) place.segment.bytes.now
 
-  -- the most byte tests of a place from its end, and from its front
-  abbrev pub cost_from_end : Place A → ℕ
-  cost_from_end place = (length (tokens_in place.tokens.now) + 1) * (length place.segment.bytes.now + 1)
+  -- the most byte tests of a place
+  abbrev pub cost_at : Place A → ℕ
+  cost_at place = length place.segment.bytes.now * (length (tokens_in place.tokens.now) + 1) + length (tokens_in place.tokens.now)
 
-  abbrev pub cost_from_front : Place A → ℕ
-  cost_from_front place = length place.segment.bytes.now * (length (tokens_in place.tokens.now) + 1) + length (tokens_in place.tokens.now)
-
-  -- the last token is a star; or it stands for the last byte, and what is before both is left; or neither tokens nor bytes
-  -- are left; or the tokens don't fit the segment
+  -- the last token is a star; or it stands for the last byte, and what is before both is left; or the tokens fit the segment,
+  -- or don't
   abbrev pub EndStepIs : EndStep A → List TokenModel → List ℕ → Type 0
   EndStepIs end.Star tokens segment = Unit {0}
   EndStepIs (end.Taken before) tokens segment = (u : TokenModel) × (x : ℕ) × (tokens ≡ tokens_in before.tokens.now ++ u ∷ [])
       × (segment ≡ before.segment.bytes.now ++ x ∷ []) × (is_star u ≡ false) × IsTrue (takes u x)
-  EndStepIs end.Fitted tokens segment = (tokens ≡ []) × (segment ≡ [])
+  EndStepIs end.Fitted tokens segment = Fits tokens segment
   EndStepIs end.Stuck tokens segment = Fits tokens segment → ⊥
 
+  -- what may still be paid after a step from the end, where `all` might be before it
+  abbrev pub cost_after : EndStep A → ℕ → ℕ
+  cost_after end.Star all = all
+  cost_after (end.Taken before) all = cost_at before
+  cost_after end.Fitted all = 0
+  cost_after end.Stuck all = 0
+
   -- the first token is a star, and what is after it is left; or it stands for the first byte, and what is after both is left;
-  -- or neither tokens nor bytes are left; or the tokens don't fit the segment
+  -- or the tokens fit the segment, or don't
   abbrev pub FrontStepIs : FrontStep A → List TokenModel → List ℕ → Type 0
   FrontStepIs (front.Star rest) tokens segment = (u : TokenModel) × (tokens ≡ u ∷ tokens_in rest.now) × (is_star u ≡ true)
   FrontStepIs (front.Taken after) tokens segment = (u : TokenModel) × (x : ℕ) × (tokens ≡ u ∷ tokens_in after.tokens.now)
       × (segment ≡ x ∷ after.segment.bytes.now) × (is_star u ≡ false) × IsTrue (takes u x)
-  FrontStepIs front.Fitted tokens segment = (tokens ≡ []) × (segment ≡ [])
+  FrontStepIs front.Fitted tokens segment = Fits tokens segment
   FrontStepIs front.Stuck tokens segment = Fits tokens segment → ⊥
 
 -- the same tokens one byte later, where there is one

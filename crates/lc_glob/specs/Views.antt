@@ -24,7 +24,7 @@ use Rattle.lc_glob.specs.declared.pattern_view.KindRef.{KindRef}
 use Rattle.lc_glob.specs.declared.pattern_view.KindRef.TheVariants as kind_ref
 use Rattle.lc_glob.specs.Path.{segments_of, segments_left}
 use Rattle.lc_glob.specs.Reading.{segment_from}
-use Rattle.lc_glob.specs.Simple.{byte_token, bytes_segment, literals_segment, exact_segment, end_tokens}
+use Rattle.lc_glob.specs.Simple.{byte_token, bytes_segment, ends_segment, exact_segment, end_tokens}
 use Rattle.lc_glob.specs.declared.pattern.Kept.{Kept}
 use Rattle.lc_glob.specs.declared.pattern.Kept.TheVariants.{Simple, Mixed}
 
@@ -51,7 +51,7 @@ segment_ref_model segment_ref.DoubleStar = double_star
 
 abbrev pub segments_ref_model : SegmentsRef → List SegmentModel
 segments_ref_model (segments_ref.Bytes left) = map bytes_segment (segments_left left.rest)
-segments_ref_model (segments_ref.Literals left) = map literals_segment (segments_left left.rest)
+segments_ref_model (segments_ref.Ends left) = map ends_segment (segments_left left.rest)
 segments_ref_model (segments_ref.Exact left) = map exact_segment (segments_left left.rest)
 segments_ref_model (segments_ref.Tokens left) = map (λ part. segment_from true (mixed_model part)) (cuts_left is_separator left.rest)
 
@@ -69,7 +69,7 @@ simple_model is_dir_only (simple.End is_alone) bytes = live_model is_dir_only fa
 simple_model is_dir_only (simple.More extent.Dead) bytes = dead_model is_dir_only
 simple_model is_dir_only (simple.More extent.LastSegment) bytes = live_model is_dir_only false (plain (map byte_token bytes) ∷ [])
 simple_model is_dir_only (simple.More extent.Exact) bytes = live_model is_dir_only true (map exact_segment (segments_of bytes))
-simple_model is_dir_only (simple.More extent.LiteralPath) bytes = live_model is_dir_only true (map literals_segment (segments_of bytes))
+simple_model is_dir_only (simple.More extent.Ends) bytes = live_model is_dir_only true (map ends_segment (segments_of bytes))
 simple_model is_dir_only (simple.More extent.WholePath) bytes = live_model is_dir_only true (map bytes_segment (segments_of bytes))
 
 -- the same of both in one

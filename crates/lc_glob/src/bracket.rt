@@ -1,6 +1,7 @@
 //! What stands between brackets, read from its bytes into the tokens of a pattern.
 
-ghost use Rattle.std.specs.Prelude.{◌≡◌, ◌<◌, ◌≤◌, ◌+◌, ◌++◌, length, [], ◌∷◌, MatchOption, IfOk, IfSome, Some, None, true, not, ◌&&◌, ◌==◌};
+ghost use Rattle.std.specs.Prelude.{◌≡◌, ◌<◌, ◌≤◌, ◌+◌, ◌++◌, length, [], ◌∷◌, MatchOption, IfOk, IfSome, Some, None};
+ghost use Rattle.std.specs.Prelude.{true, not, ◌&&◌, ◌==◌};
 ghost use Rattle.lc_glob.specs.Bytes.{closing};
 ghost use Rattle.lc_glob.specs.Brackets.{class_of, other_class_of};
 ghost use Rattle.lc_glob.specs.Brackets.{element, first_close, range_from, item, plain_item, colon_of, items, bracket};

@@ -91,12 +91,20 @@ impl<'a> Candidate<'a> {
         }
     }
 
+    /// All of it, as if it were one segment.
+    #[inline]
+    pub(crate) fn whole(&self) -> PathSegment<'a>
+        ensures { result.bytes.now ≡ self.now }
+    {
+        PathSegment::new(self.path)
+    }
+
     /// Whether it is these bytes: a test for each, where there are as many.
     #[inline]
     pub(crate) fn is(&self, bytes: &[u8], tests: &mut ByteTests) -> bool
         ensures same { result ≡ bytes_eq self.now bytes.now }
         ensures counted { tests.new.made ≡ tests_if (length self.now == length bytes.now) tests.old.made (length bytes.now) }
     {
-        PathSegment::new(self.path).is(bytes, tests)
+        self.whole().is(bytes, tests)
     }
 }

@@ -18,9 +18,9 @@
 //! What a line of an ignore file has around its pattern, as negation, comments and trailing spaces, is no part of it.
 //!
 //! Reading takes memory, and matching none. For a pattern of `p` bytes and a path of `q` a match tests at most
-//! `(p + 1) * (q + 1)` bytes of the path. Of a long path it is known between how many bytes its segments have (`lengths`), so
-//! that a pattern none of them can fit is not looked for. `Pattern::match_directories` asks about all directories above a path
-//! for no more than that.
+//! `(p + 1) * (q + 1)` bytes of the path. Most paths that a pattern doesn't match are told by one of them (`end_look`). Of
+//! a long path it is known between how many bytes its segments have (`lengths`), so that a pattern none of them can fit is not
+//! looked for. `Pattern::match_directories` asks about all directories above a path for no more than that.
 #![tactic(auto)]
 
 mod bracket;
@@ -28,6 +28,7 @@ mod byte_set;
 mod candidate;
 mod cut;
 mod element;
+mod end_look;
 mod lengths;
 mod match_above;
 mod match_path;

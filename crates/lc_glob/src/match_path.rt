@@ -4,7 +4,7 @@
 //! pattern is long. Only what stands before it is looked for, from the front, with one place to go back to: the last
 //! double star that was passed, since the shortest run that serves one serves all before it.
 
-ghost use Rattle.std.specs.Prelude.{◌↔◌, ◌≤◌, ◌+◌, ◌*◌, IsTrue};
+ghost use Rattle.std.specs.Prelude.{◌↔◌, ◌≤◌, ◌+◌, ◌-◌, IsTrue};
 ghost use Rattle.lc_glob.specs.Matches.{MatchesPath};
 ghost use Rattle.lc_glob.specs.Path.{segments_of, segments_left};
 ghost use Rattle.lc_glob.specs.PathSteps.{PathEndStepIs, PathFrontStepIs, PathRetryIs, LeadsAt, cost_at, cost_after, front_cost_at};
@@ -17,10 +17,12 @@ use crate::path_segment::{ByteTests, PathSegment};
 use crate::segment_ref::{SegmentRef, SegmentsRef};
 use crate::segments_left::SegmentsLeft;
 
-/// Whether the segments match the path's.
+/// Whether the segments match the path's. It is put where it is called, so that segments of each kind have code of their own: to ask
+/// which they are, and to hand them on in memory, costs more than to compare the last of them, which tells most paths.
+#[inline(always)]
 pub(crate) fn matches_path(segments: SegmentsRef, path: &Candidate, tests: &mut ByteTests) -> bool
     ensures matches_path { IsTrue result ↔ MatchesPath (segments_ref_model segments.entry) (segments_of path.now) }
-    ensures cost { tests.new.made ≤ tests.old.made + full_cost (segments_ref_model segments.entry) (segments_of path.now) }
+    ensures cost { tests.new.made ≤ tests.old.made + (full_cost (segments_ref_model segments.entry) (segments_of path.now) - 1) }
 {
     let (above, name, lengths) = (path.above, path.last, path.lengths);
     let Some((last, front)) = segments.split_last() else {
@@ -57,9 +59,9 @@ enum PathEndStep<'p, 'n> {
     DoubleStar,
     /// It fits it, and these are before them.
     Taken(PathPlace<'p, 'n>),
-    /// There are neither.
+    /// The pattern's segments lead to the end of the path: there are neither, or a double star alone.
     Arrived,
-    /// The pattern's segments don't lead to the end of the path.
+    /// They don't.
     Stuck,
 }
 
@@ -67,13 +69,11 @@ enum PathEndStep<'p, 'n> {
 enum PathFrontStep<'p, 'n> {
     /// It is a double star, and these segments are after it.
     DoubleStar(SegmentsRef<'p>),
-    /// It is a double star, and no segment is after it.
-    LastDoubleStar,
     /// It fits the first, and these are after them.
     Taken(PathPlace<'p, 'n>),
-    /// There are neither.
+    /// The pattern's segments lead to the end of the path from here: there are neither, or a double star alone.
     Arrived,
-    /// The pattern's segments don't lead to the end of the path from here.
+    /// They don't.
     Stuck,
 }
 
@@ -91,7 +91,11 @@ impl<'p, 'n> PathPlace<'p, 'n> {
             };
         };
         let SegmentRef::Plain(tokens) = segment else {
-            return PathEndStep::DoubleStar;
+            return if segments.is_empty() {
+                PathEndStep::Arrived
+            } else {
+                PathEndStep::DoubleStar
+            };
         };
         let Some((left, name)) = self.left.split_last() else {
             return PathEndStep::Stuck;
@@ -117,7 +121,7 @@ impl<'p, 'n> PathPlace<'p, 'n> {
         };
         let SegmentRef::Plain(tokens) = segment else {
             return if segments.is_empty() {
-                PathFrontStep::LastDoubleStar
+                PathFrontStep::Arrived
             } else {
                 PathFrontStep::DoubleStar(segments)
             };
@@ -144,6 +148,7 @@ impl<'p, 'n> PathPlace<'p, 'n> {
     }
 
     /// Whether the segments lead to the end of the path, from the last of both on.
+    #[inline(never)]
     fn leads_from_end(self, tests: &mut ByteTests) -> bool
         ensures leads { IsTrue result ↔ LeadsAt self.entry }
         ensures cost { tests.new.made ≤ tests.old.made + cost_at self.entry }
@@ -160,6 +165,7 @@ impl<'p, 'n> PathPlace<'p, 'n> {
     }
 
     /// Whether the segments lead to the end of the path, from the first of both on.
+    #[inline(never)]
     fn leads_from_front(self, tests: &mut ByteTests) -> bool
         ensures leads { IsTrue result ↔ LeadsAt self.entry }
         ensures cost { tests.new.made ≤ tests.old.made + cost_at self.entry }
@@ -175,7 +181,6 @@ impl<'p, 'n> PathPlace<'p, 'n> {
                     };
                     double_star = Some(here);
                 }
-                PathFrontStep::LastDoubleStar => return true,
                 PathFrontStep::Taken(after) => here = after,
                 PathFrontStep::Arrived => return true,
                 PathFrontStep::Stuck => {

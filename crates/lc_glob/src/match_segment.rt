@@ -1,6 +1,6 @@
 //! Whether a segment's tokens fit a segment of a path, by what they are kept as.
 
-ghost use Rattle.std.specs.Prelude.{◌↔◌, ◌≤◌, ◌+◌, ◌*◌, IsTrue, length};
+ghost use Rattle.std.specs.Prelude.{◌↔◌, ◌<◌, ◌+◌, ◌*◌, IsTrue, length};
 ghost use Rattle.lc_glob.specs.Fits.{Fits};
 ghost use Rattle.lc_glob.specs.Simple.{end_tokens};
 ghost use Rattle.lc_glob.specs.Views.{tokens_ref_model};
@@ -14,7 +14,7 @@ use crate::segment_ref::TokensRef;
 #[inline]
 pub(crate) fn fits(tokens: TokensRef, segment: PathSegment, tests: &mut ByteTests) -> bool
     ensures fits { IsTrue result ↔ Fits (tokens_ref_model tokens.entry) segment.entry.bytes.now }
-    ensures cost { tests.new.made ≤ tests.old.made + (length (tokens_ref_model tokens.entry) + 1) * (length segment.entry.bytes.now + 1) }
+    ensures cost { tests.new.made < tests.old.made + (length (tokens_ref_model tokens.entry) + 1) * (length segment.entry.bytes.now + 1) }
 {
     match tokens {
         TokensRef::Literal(literals) => fits_end(literals, true, segment, tests),
@@ -34,7 +34,7 @@ pub(crate) fn fits_end(
 ) -> bool
     ensures fits { IsTrue result ↔ Fits (end_tokens is_alone literals.now) segment.entry.bytes.now }
     ensures cost { tests.new.made
-        ≤ tests.old.made + (length (end_tokens is_alone literals.now) + 1) * (length segment.entry.bytes.now + 1) }
+        < tests.old.made + (length (end_tokens is_alone literals.now) + 1) * (length segment.entry.bytes.now + 1) }
 {
     if is_alone && segment.len() != literals.len() {
         return false;
@@ -50,7 +50,10 @@ pub(crate) fn fits_elements<E: Element>(
     tests: &mut ByteTests,
 ) -> bool
     ensures fits { IsTrue result ↔ Fits (E.tokens_in tokens.now) segment.entry.bytes.now }
-    ensures cost { tests.new.made ≤ tests.old.made + (length (E.tokens_in tokens.now) + 1) * (length segment.entry.bytes.now + 1) }
+    ensures cost { tests.new.made < tests.old.made + (length (E.tokens_in tokens.now) + 1) * (length segment.entry.bytes.now + 1) }
 {
-    Place { tokens, segment }.fits(tests)
+    let mut apart = ByteTests::none();
+    let fits = Place { tokens, segment }.fits(&mut apart);
+    tests.add_all(apart);
+    fits
 }

@@ -5,9 +5,9 @@
 //! all before it.
 
 ghost use Rattle.std.specs.Prelude.{◌≡◌, ◌↔◌, ◌≤◌, ◌+◌, IsTrue, length};
-ghost use Rattle.lc_glob.specs.Steps.{FitsAt, cost_from_end, cost_from_front, FrontStepIs, EndStepIs};
+ghost use Rattle.lc_glob.specs.Steps.{FitsAt, cost_at, cost_after, FrontStepIs, EndStepIs};
 
-use crate::element::Element;
+use crate::element::{Element, has_no_token};
 use crate::path_segment::ByteTests;
 use crate::place::{EndStep, FrontStep, Place};
 
@@ -15,8 +15,8 @@ impl<'p, 'n, E: Element> Place<'p, 'n, E> {
     /// One step from the end, with one byte test at most.
     fn step_end(self, tests: &mut ByteTests) -> EndStep<'p, 'n, E>
         ensures is { EndStepIs E.tokens_in result (E.tokens_in self.entry.tokens.now) self.entry.segment.bytes.now }
-        ensures cost { tests.new.made ≤ tests.old.made + 1 }
-        ensures free { length (E.tokens_in self.entry.tokens.now) ≡ 0 → tests.new.made ≡ tests.old.made }
+        ensures cost { tests.new.made + cost_after E.tokens_in result (cost_at E.tokens_in self.entry)
+            ≤ tests.old.made + cost_at E.tokens_in self.entry }
     {
         let Some((token, tokens)) = E::split_last_token(self.tokens) else {
             return if self.segment.is_empty() {
@@ -26,7 +26,11 @@ impl<'p, 'n, E: Element> Place<'p, 'n, E> {
             };
         };
         if token.is_star() {
-            return EndStep::Star;
+            return if has_no_token(tokens) {
+                EndStep::Fitted
+            } else {
+                EndStep::Star
+            };
         }
         match self.segment.strip_last(token, tests) {
             Some(segment) => EndStep::Taken(Place { tokens, segment }),
@@ -48,7 +52,11 @@ impl<'p, 'n, E: Element> Place<'p, 'n, E> {
             };
         };
         if token.is_star() {
-            return FrontStep::Star(tokens);
+            return if has_no_token(tokens) {
+                FrontStep::Fitted
+            } else {
+                FrontStep::Star(tokens)
+            };
         }
         match self.segment.strip_first(token, tests) {
             Some(segment) => FrontStep::Taken(Place { tokens, segment }),
@@ -59,7 +67,7 @@ impl<'p, 'n, E: Element> Place<'p, 'n, E> {
     /// Whether the tokens fit the segment, from the last of both on.
     pub(crate) fn fits(self, tests: &mut ByteTests) -> bool
         ensures fits { IsTrue result ↔ FitsAt E.tokens_in self.entry }
-        ensures cost { tests.new.made ≤ tests.old.made + cost_from_end E.tokens_in self.entry }
+        ensures cost { tests.new.made ≤ tests.old.made + cost_at E.tokens_in self.entry }
     {
         let mut here = self;
         'ends: loop {
@@ -76,7 +84,7 @@ impl<'p, 'n, E: Element> Place<'p, 'n, E> {
     #[inline(never)]
     fn fits_from_front(self, tests: &mut ByteTests) -> bool
         ensures fits { IsTrue result ↔ FitsAt E.tokens_in self.entry }
-        ensures cost { tests.new.made ≤ tests.old.made + cost_from_front E.tokens_in self.entry }
+        ensures cost { tests.new.made ≤ tests.old.made + cost_at E.tokens_in self.entry }
     {
         let mut here = self;
         let mut star: Option<Place<E>> = None;

@@ -1,9 +1,8 @@
 //! Patterns that aren't simple, which are matched from their tokens.
 
 ghost use Rattle.std.specs.Prelude.{◌≡◌, ◌≤◌, ◌+◌, ◌↔◌, IsTrue};
-ghost use Rattle.lc_glob.specs.Costs.{full_cost};
+ghost use Rattle.lc_glob.specs.Costs.{match_cost};
 ghost use Rattle.lc_glob.specs.Matches.{Matches};
-ghost use Rattle.lc_glob.specs.Path.{segments_of};
 ghost use Rattle.lc_glob.specs.Views.{mixed_form_model};
 
 use crate::candidate::Candidate;
@@ -40,8 +39,7 @@ impl<'p> MixedPattern<'p> {
 
     pub(crate) fn matched(self, path: &Candidate, is_dir: bool, tests: &mut ByteTests) -> bool
         ensures meaning { IsTrue result ↔ Matches (mixed_form_model self.entry.scope self.entry.tokens.now) path.now is_dir }
-        ensures cost { tests.new.made
-            ≤ tests.old.made + full_cost (mixed_form_model self.entry.scope self.entry.tokens.now).segments (segments_of path.now) }
+        ensures cost { tests.new.made ≤ tests.old.made + match_cost (mixed_form_model self.entry.scope self.entry.tokens.now) path.now }
     {
         if self.scope.is_dir_only && !is_dir {
             return false;

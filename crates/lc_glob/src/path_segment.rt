@@ -26,6 +26,13 @@ impl ByteTests {
         self.made = self.made.saturating_add(count as u64);
     }
 
+    /// Adds those that were counted apart, so that the count of a loop needn't be kept in memory.
+    pub(crate) fn add_all(&mut self, more: ByteTests)
+        ensures { self.new.made ≡ tests_after self.old.made more.made }
+    {
+        self.made = self.made.saturating_add(more.made);
+    }
+
     pub(crate) fn made(&self) -> u64
         ensures { result ≡ self.now.made }
     {

@@ -50,7 +50,7 @@ impl<'p> KindRef<'p> {
             Extent::Dead => KindRef::Dead,
             Extent::LastSegment => KindRef::LastSegment(TokensRef::Bytes(bytes)),
             Extent::Exact => KindRef::WholePath(SegmentsRef::Exact(left)),
-            Extent::LiteralPath => KindRef::WholePath(SegmentsRef::Literals(left)),
+            Extent::Ends => KindRef::WholePath(SegmentsRef::Ends(left)),
             Extent::WholePath => KindRef::WholePath(SegmentsRef::Bytes(left)),
         }
     }
@@ -62,8 +62,8 @@ impl<'p> PatternView<'p> {
         ensures { result ≡ simple_model is_dir_only shape bytes.now }
     {
         let kind = match shape {
-            Shape::End(true) => KindRef::LastSegment(TokensRef::Literal(bytes)),
-            Shape::End(false) => KindRef::LastSegment(TokensRef::Suffix(bytes)),
+            Shape::End { is_alone: true } => KindRef::LastSegment(TokensRef::Literal(bytes)),
+            Shape::End { is_alone: false } => KindRef::LastSegment(TokensRef::Suffix(bytes)),
             Shape::More(extent) => KindRef::of_extent(extent, bytes),
         };
         PatternView { is_dir_only, kind }

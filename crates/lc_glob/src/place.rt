@@ -18,7 +18,7 @@ pub(crate) enum EndStep<'p, 'n, E> {
     Star,
     /// It stands for the last byte, and these are before them.
     Taken(Place<'p, 'n, E>),
-    /// There are neither tokens nor bytes.
+    /// The tokens fit the segment: there are neither, or a star alone.
     Fitted,
     /// The tokens don't fit the segment.
     Stuck,
@@ -30,7 +30,7 @@ pub(crate) enum FrontStep<'p, 'n, E> {
     Star(&'p [E]),
     /// It stands for the first byte, and these are after them.
     Taken(Place<'p, 'n, E>),
-    /// There are neither tokens nor bytes.
+    /// The tokens fit the segment from here: there are neither, or a star alone.
     Fitted,
     /// The tokens don't fit the segment from here.
     Stuck,

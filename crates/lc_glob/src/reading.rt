@@ -125,11 +125,11 @@ fn keep_last(alloc: Global, is_dir_only: bool, tokens: &[Token]) -> Result<Patte
     ensures { IfOk result (λ p. p ≡ live_model is_dir_only false (plain (mixed_model tokens.now) ∷ [])) }
 {
     if let Some(literals) = literals_of(alloc, tokens)? {
-        return Ok(of_literals(is_dir_only, Shape::End(true), literals));
+        return Ok(of_literals(is_dir_only, Shape::End { is_alone: true }, literals));
     }
     if let Some((Token::Star, rest)) = tokens.split_first() {
         if let Some(literals) = literals_of(alloc, rest)? {
-            return Ok(of_literals(is_dir_only, Shape::End(false), literals));
+            return Ok(of_literals(is_dir_only, Shape::End { is_alone: false }, literals));
         }
     }
     let scope = Scope {

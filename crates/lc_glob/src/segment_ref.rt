@@ -5,7 +5,7 @@ ghost use Rattle.std.specs.List.{list_any};
 ghost use Rattle.lc_glob.specs.Above.{is_double, is_wide};
 ghost use Rattle.lc_glob.specs.Mixed.{mixed_model};
 ghost use Rattle.lc_glob.specs.Reading.{segment_from};
-ghost use Rattle.lc_glob.specs.Simple.{bytes_segment, literals_segment};
+ghost use Rattle.lc_glob.specs.Simple.{bytes_segment, ends_segment};
 ghost use Rattle.lc_glob.specs.Tokens.{is_star};
 ghost use Rattle.lc_glob.specs.Views.{tokens_ref_model, segment_ref_model, segments_ref_model};
 
@@ -50,6 +50,7 @@ pub(crate) enum SegmentRef<'p> {
 
 impl<'p> SegmentRef<'p> {
     /// That of the bytes between two separators of a simple pattern.
+    #[inline(always)]
     fn of_bytes(bytes: &'p [u8]) -> Self
         ensures { segment_ref_model result ≡ bytes_segment bytes.now }
     {
@@ -62,6 +63,7 @@ impl<'p> SegmentRef<'p> {
     }
 
     /// That of tokens.
+    #[inline(always)]
     fn of_tokens(tokens: &'p [Token]) -> Self
         ensures { segment_ref_model result ≡ segment_from true (mixed_model tokens.now) }
     {
@@ -72,14 +74,15 @@ impl<'p> SegmentRef<'p> {
         }
     }
 
-    /// The same where it is literals alone or a double star.
-    fn of_literals(bytes: &'p [u8]) -> Self
-        ensures { segment_ref_model result ≡ literals_segment bytes.now }
+    /// The same where it is a double star, or literals, alone or after a star.
+    #[inline(always)]
+    fn of_end(bytes: &'p [u8]) -> Self
+        ensures { segment_ref_model result ≡ ends_segment bytes.now }
     {
-        if are_two_stars(bytes) {
-            SegmentRef::DoubleStar
-        } else {
-            SegmentRef::Plain(TokensRef::Literal(bytes))
+        match bytes {
+            [b'*', b'*'] => SegmentRef::DoubleStar,
+            [b'*', literals @ ..] => SegmentRef::Plain(TokensRef::Suffix(literals)),
+            _ => SegmentRef::Plain(TokensRef::Literal(bytes)),
         }
     }
 
@@ -105,8 +108,8 @@ impl<'p> SegmentRef<'p> {
 pub(crate) enum SegmentsRef<'p> {
     /// Those of a simple pattern.
     Bytes(SegmentsLeft<'p, u8>),
-    /// The same where each is literals alone or a double star.
-    Literals(SegmentsLeft<'p, u8>),
+    /// The same where each is a double star, or literals, alone or after a star.
+    Ends(SegmentsLeft<'p, u8>),
     /// The same where each is literals alone.
     Exact(SegmentsLeft<'p, u8>),
     /// Those of any other.
@@ -120,7 +123,7 @@ impl<'p> SegmentsRef<'p> {
     {
         match self {
             SegmentsRef::Bytes(left) => left.is_over(),
-            SegmentsRef::Literals(left) => left.is_over(),
+            SegmentsRef::Ends(left) => left.is_over(),
             SegmentsRef::Exact(left) => left.is_over(),
             SegmentsRef::Tokens(left) => left.is_over(),
         }
@@ -136,12 +139,9 @@ impl<'p> SegmentsRef<'p> {
                 let (bytes, others) = left.split_first()?;
                 Some((SegmentRef::of_bytes(bytes), SegmentsRef::Bytes(others)))
             }
-            SegmentsRef::Literals(left) => {
+            SegmentsRef::Ends(left) => {
                 let (bytes, others) = left.split_first()?;
-                Some((
-                    SegmentRef::of_literals(bytes),
-                    SegmentsRef::Literals(others),
-                ))
+                Some((SegmentRef::of_end(bytes), SegmentsRef::Ends(others)))
             }
             SegmentsRef::Exact(left) => {
                 let (bytes, others) = left.split_first()?;
@@ -156,6 +156,7 @@ impl<'p> SegmentsRef<'p> {
     }
 
     /// The last segment, and the others.
+    #[inline(always)]
     pub(crate) fn split_last(self) -> Option<(SegmentRef<'p>, SegmentsRef<'p>)>
         ensures { MatchOption result (segments_ref_model self.entry ≡ [])
             (λ p. segments_ref_model self.entry ≡ segments_ref_model p.1 ++ segment_ref_model p.0 ∷ []) }
@@ -165,12 +166,9 @@ impl<'p> SegmentsRef<'p> {
                 let (others, bytes) = left.split_last()?;
                 Some((SegmentRef::of_bytes(bytes), SegmentsRef::Bytes(others)))
             }
-            SegmentsRef::Literals(left) => {
+            SegmentsRef::Ends(left) => {
                 let (others, bytes) = left.split_last()?;
-                Some((
-                    SegmentRef::of_literals(bytes),
-                    SegmentsRef::Literals(others),
-                ))
+                Some((SegmentRef::of_end(bytes), SegmentsRef::Ends(others)))
             }
             SegmentsRef::Exact(left) => {
                 let (others, bytes) = left.split_last()?;

@@ -1,19 +1,20 @@
 //! Simple patterns, which are matched from their bytes: each byte is a token or a separator, since none is quoted and none opens a
 //! bracket. Most patterns are simple.
 
-ghost use Rattle.std.specs.Prelude.{◌≡◌, true, length, map, false, Bool, MatchOption, [], ◌∷◌, ◌≤◌, ◌+◌, ◌↔◌, IsTrue};
+ghost use Rattle.std.specs.Prelude.{◌≡◌, true, length, map, false, Bool, MatchOption, [], ◌∷◌, ◌≤◌, ◌<◌, ◌+◌, ◌-◌, ◌↔◌, IsTrue};
 ghost use Rattle.std.specs.List.{list_all};
-ghost use Rattle.lc_glob.specs.Costs.{full_cost};
+ghost use Rattle.lc_glob.specs.Costs.{full_cost, match_cost};
 ghost use Rattle.lc_glob.specs.Matches.{Matches, MatchesPath};
 ghost use Rattle.lc_glob.specs.Path.{segments_of};
 ghost use Rattle.lc_glob.specs.Patterns.{plain};
 ghost use Rattle.lc_glob.specs.Reading.{pattern_of};
-ghost use Rattle.lc_glob.specs.Simple.{byte_token, bytes_segment, exact_segment, is_literal, is_literal_segment, is_simple};
+ghost use Rattle.lc_glob.specs.Simple.{byte_token, bytes_segment, exact_segment, is_end, is_ends_segment, is_literal, is_simple};
 ghost use Rattle.lc_glob.specs.Views.{form_model, live_model, simple_model};
 ghost use Rattle.lc_glob.specs.declared.simple_pattern.Shape.TheVariants.{More};
 
 use crate::candidate::Candidate;
 use crate::element::are_two_stars;
+use crate::end_look::agrees_at_end;
 use crate::match_path::matches_path;
 use crate::match_segment::{fits_elements, fits_end};
 use crate::path_segment::ByteTests;
@@ -26,7 +27,7 @@ use crate::segments_left::SegmentsLeft;
 #[derive(Clone, Copy)]
 pub(crate) enum Shape {
     /// The end of the last segment, by literals: alone, so by the whole, as `Makefile`, or after a star, as `*.o`.
-    End(bool),
+    End { is_alone: bool },
     /// More than that end. It stands one level below, since to ask one thing first costs less than to ask which of all shapes it is.
     More(Extent),
 }
@@ -40,9 +41,9 @@ pub(crate) enum Extent {
     LastSegment,
     /// All segments by literals alone, as `/build` and `docs/out`.
     Exact,
-    /// All segments, each by literals alone where it is no double star, as `a/**/b`.
-    LiteralPath,
-    /// All segments, by any others, as `src/*.o`.
+    /// All segments, each by literals, alone or after a star, where it is no double star, as `a/**/b` and `src/*.o`.
+    Ends,
+    /// All segments, by any others, as `src/core.*`.
     WholePath,
 }
 
@@ -107,14 +108,31 @@ impl<'p> SimplePattern<'p> {
     pub(crate) fn matched(self, path: &Candidate, is_dir: bool, tests: &mut ByteTests) -> bool
         ensures meaning { IsTrue result ↔ Matches (form_model self.entry.form self.entry.bytes.now) path.now is_dir }
         ensures cost { tests.new.made
-            ≤ tests.old.made + full_cost (form_model self.entry.form self.entry.bytes.now).segments (segments_of path.now) }
+            ≤ tests.old.made + match_cost (form_model self.entry.form self.entry.bytes.now) path.now }
     {
         if self.form.is_dir_only && !is_dir {
             return false;
         }
         match self.form.shape {
-            Shape::End(is_alone) => fits_end(self.bytes, is_alone, path.last, tests),
-            Shape::More(extent) => self.matched_by(extent, path, tests),
+            Shape::End { is_alone } => fits_end(self.bytes, is_alone, path.last, tests),
+            Shape::More(extent) => self.agrees(extent, path, tests)
+                && self.matched_by(extent, path, tests),
+        }
+    }
+
+    /// Whether the path agrees with it at an end. Most that it doesn't match are told by that one look.
+    #[inline]
+    fn agrees(self, extent: Extent, path: &Candidate, tests: &mut ByteTests) -> bool
+        ensures told { Matches (simple_model false (More extent) self.entry.bytes.now) path.now false → IsTrue result }
+        ensures cost { tests.new.made + (match_cost (simple_model false (More extent) self.entry.bytes.now) path.now - 1)
+            ≤ tests.old.made + match_cost (simple_model false (More extent) self.entry.bytes.now) path.now }
+    {
+        match extent {
+            Extent::Dead => false,
+            Extent::LastSegment => agrees_at_end(self.bytes, path.last, path.last, tests),
+            Extent::Exact | Extent::Ends | Extent::WholePath => {
+                agrees_at_end(self.bytes, path.whole(), path.last, tests)
+            }
         }
     }
 
@@ -123,15 +141,15 @@ impl<'p> SimplePattern<'p> {
     fn matched_by(self, extent: Extent, path: &Candidate, tests: &mut ByteTests) -> bool
         ensures meaning { IsTrue result ↔ Matches (simple_model false (More extent) self.entry.bytes.now) path.now false }
         ensures cost { tests.new.made
-            ≤ tests.old.made + full_cost (simple_model false (More extent) self.entry.bytes.now).segments (segments_of path.now) }
+            ≤ tests.old.made + (match_cost (simple_model false (More extent) self.entry.bytes.now) path.now - 1) }
     {
         let bytes = self.bytes;
         match extent {
             Extent::Dead => false,
             Extent::LastSegment => fits_elements(bytes, path.last, tests),
             Extent::Exact => matches_exactly(bytes, path, tests),
-            Extent::LiteralPath => {
-                matches_path(SegmentsRef::Literals(SegmentsLeft::of(bytes)), path, tests)
+            Extent::Ends => {
+                matches_path(SegmentsRef::Ends(SegmentsLeft::of(bytes)), path, tests)
             }
             Extent::WholePath => {
                 matches_path(SegmentsRef::Bytes(SegmentsLeft::of(bytes)), path, tests)
@@ -144,7 +162,7 @@ impl<'p> SimplePattern<'p> {
 #[inline]
 fn matches_exactly(bytes: &[u8], path: &Candidate, tests: &mut ByteTests) -> bool
     ensures same { IsTrue result ↔ MatchesPath (map exact_segment (segments_of bytes.now)) (segments_of path.now) }
-    ensures cost { tests.new.made ≤ tests.old.made + full_cost (map exact_segment (segments_of bytes.now)) (segments_of path.now) }
+    ensures cost { tests.new.made < tests.old.made + full_cost (map exact_segment (segments_of bytes.now)) (segments_of path.now) }
 {
     path.is(bytes, tests)
 }
@@ -162,18 +180,28 @@ fn is_simple(b: u8) -> bool
     b != b'\\' && b != b'['
 }
 
-/// Whether each segment is literals alone or a double star.
-fn has_literal_segments(bytes: &[u8]) -> bool
-    ensures { result ≡ list_all is_literal_segment (segments_of bytes.now) }
+/// Whether each segment is a double star, or literals, alone or after a star.
+fn has_ends(bytes: &[u8]) -> bool
+    ensures { result ≡ list_all is_ends_segment (segments_of bytes.now) }
 {
     let mut left = SegmentsLeft::of(bytes);
     'segments: while let Some((segment, others)) = left.split_first() {
-        if !are_two_stars(segment) && !are_literals(segment) {
+        if !are_two_stars(segment) && !is_end(segment) {
             return false;
         }
         left = others;
     }
     true
+}
+
+/// Whether bytes are literals, alone or after a star.
+fn is_end(bytes: &[u8]) -> bool
+    ensures { result ≡ is_end bytes.now }
+{
+    match bytes {
+        [b'*', literals @ ..] => are_literals(literals),
+        _ => are_literals(bytes),
+    }
 }
 
 /// The shape of the bytes of all segments.
@@ -183,8 +211,8 @@ fn path_shape(bytes: &[u8]) -> Shape
 {
     if are_literals(bytes) {
         Shape::More(Extent::Exact)
-    } else if has_literal_segments(bytes) {
-        Shape::More(Extent::LiteralPath)
+    } else if has_ends(bytes) {
+        Shape::More(Extent::Ends)
     } else {
         Shape::More(Extent::WholePath)
     }
@@ -196,13 +224,13 @@ fn shaped<'p>(bytes: &'p [u8]) -> (Shape, &'p [u8])
         ≡ live_model is_dir_only false (plain (map byte_token bytes.now) ∷ []) }
 {
     if are_literals(bytes) {
-        return (Shape::End(true), bytes);
+        return (Shape::End { is_alone: true }, bytes);
     }
     let Some((first, rest)) = bytes.split_first() else {
         return (Shape::More(Extent::LastSegment), bytes);
     };
     if *first == b'*' && are_literals(rest) {
-        (Shape::End(false), rest)
+        (Shape::End { is_alone: false }, rest)
     } else {
         (Shape::More(Extent::LastSegment), bytes)
     }
@@ -214,7 +242,7 @@ fn are_literals(bytes: &[u8]) -> bool
     bytes.iter().all(|b| is_literal(*b))
 }
 
-fn is_literal(b: u8) -> bool
+pub(crate) fn is_literal(b: u8) -> bool
     ensures { result ≡ is_literal b }
 {
     b != b'*' && b != b'?'

@@ -6,7 +6,8 @@ use Rattle.std.specs.Option.{option_or}
 use Rattle.std.proofs.Common.{not, ◌&&◌, ◌||◌}
 use Rattle.std.proofs.Math.Seq.{take-suc-set, take-append_seam, take-length}
 use Rattle.std.proofs.lemmas.Bool.{cases_lt}
-use Rattle.std.proofs.lemmas.List.{append_cancel_right, map-append, take-set-le, get_or-set_other, get_or-set_same, length-append, length-take-le, get_or-take, take-map}
+use Rattle.std.proofs.lemmas.List.{append_cancel_right, map-append, take-set-le, get_or-set_other, get_or-set_same}
+use Rattle.std.proofs.lemmas.List.{length-append, length-take-le, get_or-take, take-map}
 use Rattle.lc_glob.specs.Above.{names_of, TellMatches}
 use Rattle.lc_glob.specs.IsMatch.{is_match, segments_match}
 use Rattle.lc_glob.specs.Path.{segments_of}

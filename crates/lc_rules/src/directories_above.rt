@@ -1,6 +1,7 @@
 //! What an ignore file alone says of all directories above a path, told by one pass over its rules.
 
-ghost use Rattle.std.specs.Prelude.{◌≡◌, ◌<◌, ◌≤◌, ◌-◌, ◌&&◌, ◌||◌, ℕ, true, false, not, IsTrue, Option, None, Some, IfSome, cond, length, take, option_map, slice_index_or};
+ghost use Rattle.std.specs.Prelude.{◌≡◌, ◌<◌, ◌≤◌, ◌-◌, ◌&&◌, ◌||◌, ℕ, true, false, not, IsTrue, Option, None, Some};
+ghost use Rattle.std.specs.Prelude.{IfSome, cond, length, take, option_map, slice_index_or};
 ghost use Rattle.std.specs.Borrow.{Bor};
 ghost use Rattle.std.specs.Option.{option_or};
 ghost use Rattle.lc_glob.specs.Above.{names_of};
@@ -191,7 +192,8 @@ fn settle<'a>(rule: &'a Rule, flags: &[bool], found: &mut [Option<&'a Rule>])
     requires { length flags.now ≤ length found.old }
     ensures len { length found.new ≡ length found.old }
     ensures settled { (k : ℕ) → k < length flags.now → option_map (λ r. r.now) (slice_index_or found.new k None)
-        ≡ option_or (option_map (λ r. r.now) (slice_index_or found.old k None)) (cond (slice_index_or flags.now k false) (Some rule.now) None) }
+        ≡ option_or (option_map (λ r. r.now) (slice_index_or found.old k None))
+        (cond (slice_index_or flags.now k false) (Some rule.now) None) }
 {
     for k in 0..flags.len() {
         if flags[k] && found[k].is_none() {

@@ -4,7 +4,8 @@ ghost use Rattle.std.specs.Prelude.{◌≡◌, ◌∷◌, [], ◌++◌, true, fa
 ghost use Rattle.lc_rules.specs.Models.{macro_model, pattern_line_model, seen_halves};
 ghost use Rattle.lc_rules.specs.KnownMacros.{known_macros, macros_for, some_matters};
 ghost use Rattle.lc_rules.specs.LineNames.{assigns_name, lines_name, has_name, NameNone};
-ghost use Rattle.lc_rules.specs.WrittenLines.{LineTableModel, assigned, halves, line_from, lines_in, with_line, without_lines, written_line};
+ghost use Rattle.lc_rules.specs.WrittenLines.{LineTableModel, assigned, halves, line_from, lines_in, with_line};
+ghost use Rattle.lc_rules.specs.WrittenLines.{without_lines, written_line};
 
 use crate::attr_line::{PatternLine, split_line};
 use crate::attr_words::split_assignment;

@@ -57,6 +57,26 @@ fn literals_are_compared_as_bytes(rt: HostRuntime) -> Result<(), Fail> {
     Ok(())
 }
 
+/// A pattern, and a path that it doesn't match, as one byte at an end tells.
+const OTHER_ENDS: &[(&'static [u8], &'static [u8])] = &[
+    (b"src/*.o", b"src/main.c"),
+    (b"a/**/b", b"a/x/y"),
+    (b"**/doc/*.md", b"x/doc/a.c"),
+    (b"?akefile", b"src/Makefiles"),
+    (b"/gen/**", b"src/gen/a"),
+    (b"core.*", b"src/main.c"),
+    (b"/a/b?", b"x/a/bc"),
+];
+
+#[test]
+fn another_byte_at_an_end_is_told_by_one_look(rt: HostRuntime) -> Result<(), Fail> {
+    for (pattern, path) in OTHER_ENDS {
+        let found = Pattern::read(rt.alloc(), pattern)?.matches_counted(path, false);
+        assert!(rt; found == (false, 1), "{pattern:?} {path:?}");
+    }
+    Ok(())
+}
+
 /// What stands first, what is repeated so many times, and what stands last.
 type Repeated = (&'static [u8], &'static [u8], usize, &'static [u8]);
 
@@ -86,8 +106,8 @@ const HOSTILE: &[Hostile] = &[
     // literals after the last star are compared once
     ((b"*", b"a", 1000, b""), NAME, (true, 1002)),
     ((b"*", b"a", 1000, b"b"), NAME, (false, 1001)),
-    ((b"a*a*", b"a", 1000, b""), NAME, (true, 1002)),
-    ((b"a*a*", b"a", 1000, b"b"), NAME, (false, 1001)),
+    ((b"a*a*", b"a", 1000, b""), NAME, (true, 1003)),
+    ((b"a*a*", b"a", 1000, b"b"), NAME, (false, 1)),
 ];
 
 fn repeated(alloc: Global, (first, unit, times, last): Repeated) -> Result<Vec<u8>, AllocError> {
@@ -141,7 +161,7 @@ const LONG_NAMES: &[(&'static [u8], Repeated, (bool, u64))] = &[
     (
         b"**/?/a.c",
         (b"", b"fifteen-letters/", 20, b"a.c"),
-        (false, 3),
+        (false, 4),
     ),
 ];
 

@@ -13,8 +13,10 @@ use Rattle.lc_rules.proofs.attr_file.read_file.Goals as goal
 
 pub overflow_cast-start : goal.overflow_cast-start
 overflow_cast-start c =
-    let end : IsEndOf c.in-Some.rest.now c.without_mark-text.result.now = subst (λ (o : Option (Bor (List ℕ))). IfSome o (λ rest. IsEndOf rest.now c.without_mark-text.result.now)) c.in-Some.is c.lines.invariant.place in
-    let within = place_within c.without_mark-text.result.now c.in-Some.rest.now c.cut_at_first.result.0.now c.trimmed-line.result.now
+    let text = c.without_mark-text.result.now in
+    let end : IsEndOf c.in-Some.rest.now text = subst (λ (o : Option (Bor (List ℕ))). IfSome o (λ rest. IsEndOf rest.now text))
+    c.in-Some.is c.lines.invariant.place in
+    let within = place_within text c.in-Some.rest.now c.cut_at_first.result.0.now c.trimmed-line.result.now
     end c.cut_at_first.ensures.before in
     omega (arith, within, without_mark_le c.args.bytes.now, ap length c.without_mark-text.ensures, c.requires)
 
@@ -24,7 +26,8 @@ push-requires-in-Some-Pattern c =
     let rest = c.in-Some.rest.now in
     let whole = c.cut_at_first.result.0.now in
     let line = c.trimmed-line.result.now in
-    let end : IsEndOf rest text = subst (λ (o : Option (Bor (List ℕ))). IfSome o (λ rest. IsEndOf rest.now text)) c.in-Some.is c.lines.invariant.place in
+    let end : IsEndOf rest text = subst (λ (o : Option (Bor (List ℕ))). IfSome o (λ rest. IsEndOf rest.now text))
+    c.in-Some.is c.lines.invariant.place in
     given_pattern c.args.top line whole (pattern_line_model c.in-Some-Pattern.found) c.trimmed-line.ensures.is
     (sym c.in_ok-read_line.ensures ∙ ap seen_line c.in-Some-Pattern.is
     ∙ ap (λ l. Some (attr_line_model l)) c.in-Some-Pattern.field-0-is)

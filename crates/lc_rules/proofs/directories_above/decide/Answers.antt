@@ -1,4 +1,5 @@
-use Rattle.std.proofs.Common.{◌∙◌, ◌∷◌, ◌++◌, ◌-◌, [], append_assoc, ap, arith, length, subst, Bool, cond, Some, None, get_or, false, not, ◌&&◌, ◌||◌}
+use Rattle.std.proofs.Common.{◌∙◌, ◌∷◌, ◌++◌, ◌-◌, [], append_assoc, ap, arith, length, subst, Bool, cond, Some, None}
+use Rattle.std.proofs.Common.{get_or, false, not, ◌&&◌, ◌||◌}
 use Rattle.std.specs.Prelude.{option_map}
 use Rattle.std.specs.Option.{option_or}
 use Rattle.lc_glob.specs.Above.{names_of, TellMatches}

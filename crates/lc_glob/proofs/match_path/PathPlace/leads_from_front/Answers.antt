@@ -2,7 +2,7 @@ use Rattle.std.proofs.Common.{inl, inr, ap, ◌≤◌, arith, length}
 use Rattle.lc_glob.specs.Views.{segments_ref_model}
 use Rattle.lc_glob.specs.Path.{segments_left}
 use Rattle.lc_glob.proofs.Cost.{full_parts, across_cost, name_cost, name_reserve, block_cost, end_cost}
-use Rattle.lc_glob.proofs.Striding.{at_double, at_name, at_block, at_last, covers_name, shorter}
+use Rattle.lc_glob.proofs.Striding.{at_double, at_name, at_block, covers_name, shorter}
 use Rattle.lc_glob.proofs.match_path.PathPlace.leads_from_front.Goals as goal
 
 pub steps-init : goal.steps-init
@@ -66,13 +66,6 @@ steps-preserved c =
       within_reserve = omega arith;
       cost = rw next.2 (block_cost _ _ _ _ _ _ _ _ _ next.1 c.in-Stuck.ensures.cost cost);
     }
-
-pub returns-in-LastDoubleStar-clause-leads : goal.returns-in-LastDoubleStar-clause-leads
-returns-in-LastDoubleStar-clause-leads c = at_last _ _ _ _ c.in-LastDoubleStar.ensures.is c.steps.invariant.same
-
-pub returns-in-LastDoubleStar-clause-cost : goal.returns-in-LastDoubleStar-clause-cost
-returns-in-LastDoubleStar-clause-cost c = end_cost _ (segments_ref_model c.args.self.segments) _
-    (segments_left c.args.self.left.rest) _ _ _ _ c.in-LastDoubleStar.ensures.cost c.steps.invariant.cost
 
 pub returns-in-Arrived-clause-cost : goal.returns-in-Arrived-clause-cost
 returns-in-Arrived-clause-cost c = end_cost _ (segments_ref_model c.args.self.segments) _

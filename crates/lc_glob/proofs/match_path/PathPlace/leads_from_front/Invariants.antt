@@ -23,4 +23,5 @@ invariant-steps l = record {
 
 abbrev pub decreases-steps : goal.decreases-steps
 decreases-steps l =
-    span l.double_star (length (segments_left l.self.left.rest)) * (length (segments_ref_model l.self.segments) + 1) + length (segments_ref_model l.here.segments)
+    span l.double_star (length (segments_left l.self.left.rest)) * (length (segments_ref_model l.self.segments) + 1)
+    + length (segments_ref_model l.here.segments)

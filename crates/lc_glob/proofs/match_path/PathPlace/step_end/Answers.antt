@@ -1,7 +1,7 @@
 use Rattle.std.proofs.lemmas.Bool.{false≢true}
 use Rattle.std.proofs.Common.{arith}
-use Rattle.lc_glob.proofs.Leading.{when_end, when_none}
-use Rattle.lc_glob.proofs.Ends.{end_segment, end_cost}
+use Rattle.lc_glob.proofs.Leading.{when_end, when_none, last_leads}
+use Rattle.lc_glob.proofs.Ends.{end_segment, end_double, end_cost}
 use Rattle.lc_glob.proofs.match_path.PathPlace.step_end.Goals as goal
 
 pub returns-in_default-split_last-clause-is : goal.returns-in_default-split_last-clause-is
@@ -10,7 +10,9 @@ returns-in_default-split_last-clause-is c =
 
 pub returns-then-fits-clause-cost : goal.returns-then-fits-clause-cost
 returns-then-fits-clause-cost c =
-    end_cost _ _ _ _ _ _ _ _ (end_segment _ _ _ _ c.in-Some.ensures c.in-Plain.is) c.in-Some-split_last.ensures (rw c.new.ensures at c.fits.ensures.cost)
+    let all = end_cost _ _ _ _ _ _ _ _
+    (end_segment _ _ _ _ c.in-Some.ensures c.in-Plain.is) c.in-Some-split_last.ensures (rw c.new.ensures at c.fits.ensures.cost) in
+    omega (arith, all)
 
 pub returns-else-fits-clause-is : goal.returns-else-fits-clause-is
 returns-else-fits-clause-is c = λ h.
@@ -22,3 +24,7 @@ returns-else-fits-clause-cost c =
     let all = end_cost _ _ _ _ _ _ _ _
     (end_segment _ _ _ _ c.in-Some.ensures c.in-Plain.is) c.in-Some-split_last.ensures (rw c.new.ensures at c.fits.ensures.cost) in
     omega (arith, all)
+
+pub returns-then-is_empty-clause-is : goal.returns-then-is_empty-clause-is
+returns-then-is_empty-clause-is c =
+    last_leads _ _ _ (end_double _ _ _ c.in-Some.ensures c.in_default-segment.is) (c.is_empty.ensures.0 c.if-is_empty.true)

@@ -1,4 +1,4 @@
-use Rattle.std.proofs.Common.{rules, ap, sym, ◌∙◌}
+use Rattle.std.proofs.Common.{rules, ap, sym, ◌∙◌, arith}
 use Rattle.lc_glob.specs.Mixed.{mixed_model}
 use Rattle.lc_glob.specs.Path.{segments_of}
 use Rattle.lc_glob.proofs.Ends.{last_cost}
@@ -12,5 +12,6 @@ returns-then-self-2-clause-meaning c =
 
 pub returns-else-self-2-clause-cost : goal.returns-else-self-2-clause-cost
 returns-else-self-2-clause-cost c =
-    rw c.if-self-2.false (last_cost _ _ (mixed_model c.args.self.tokens.now) _ _ _ (ap segments_of (sym c.path.view_is) ∙ c.path.invariant.0)
-    c.fits_elements.ensures.cost)
+    let most = last_cost _ _ (mixed_model c.args.self.tokens.now) _ _ _ (ap segments_of (sym c.path.view_is) ∙ c.path.invariant.0)
+    c.fits_elements.ensures.cost in
+    rw c.if-self-2.false (omega (arith, most))

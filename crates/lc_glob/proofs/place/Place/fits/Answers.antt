@@ -1,5 +1,5 @@
+use Rattle.std.proofs.Common.{arith}
 use Rattle.lc_glob.proofs.Fitting.{when_end}
-use Rattle.lc_glob.proofs.Stepping.{shorter_end, length_end, paid_end}
 use Rattle.lc_glob.proofs.place.Place.fits.Goals as goal
 
 pub ends-preserved : goal.ends-preserved
@@ -9,5 +9,5 @@ ends-preserved g c =
     let end = when_end _ _ _ _ _ _ is.2 is.3 is.4 in
     record {
       same = (λ f. (end.0 (inv.same.0 f)).0, λ f. inv.same.1 (end.1 (f, is.5)));
-      cost = paid_end _ _ _ _ _ _ _ (shorter_end _ _ _ is.2) (length_end _ _ _ is.3) c.in-Taken.ensures.cost inv.cost;
+      cost = omega (arith, inv.cost, c.in-Taken.ensures.cost);
     }

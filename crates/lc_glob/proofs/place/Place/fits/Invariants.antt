@@ -1,5 +1,6 @@
-use Rattle.std.proofs.Common.{◌↔◌, ◌+◌, ◌*◌, ◌≤◌, length}
+use Rattle.std.proofs.Common.{◌↔◌, ◌+◌, ◌≤◌, length}
 use Rattle.lc_glob.specs.Fits.{Fits}
+use Rattle.lc_glob.specs.Steps.{cost_at}
 use Rattle.lc_glob.proofs.place.Place.fits.Given as goal
 
 abbrev pub invariant-ends : goal.invariant-ends
@@ -7,8 +8,7 @@ invariant-ends g l =
     let tokens = g.E.Element.tokens_in in
     record {
       same : Fits (tokens l.self.tokens.now) l.self.segment.bytes.now ↔ Fits (tokens l.here.tokens.now) l.here.segment.bytes.now;
-      cost : l.tests.made + (length (tokens l.here.tokens.now) + 1) * (length l.here.segment.bytes.now + 1)
-          ≤ l.initial.tests.made + (length (tokens l.self.tokens.now) + 1) * (length l.self.segment.bytes.now + 1);
+      cost : l.tests.made + cost_at tokens l.here ≤ l.initial.tests.made + cost_at tokens l.self;
     }
 
 abbrev pub decreases-ends : goal.decreases-ends

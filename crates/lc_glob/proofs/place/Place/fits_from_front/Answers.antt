@@ -10,7 +10,8 @@ steps-preserved-in-Star g c =
 
 pub steps-preserved-in-Taken : goal.steps-preserved-in-Taken
 steps-preserved-in-Taken g c =
-    hold_after_byte g.E.Element.tokens_in c.args.self c.steps.here c.in-Taken.after c.steps.star _ _ _ c.in-Taken.ensures.is c.in-Taken.ensures.cost
+    hold_after_byte g.E.Element.tokens_in c.args.self c.steps.here c.in-Taken.after c.steps.star _ _ _ c.in-Taken.ensures.is
+    c.in-Taken.ensures.cost
     c.steps.invariant
 
 pub steps-preserved : goal.steps-preserved

@@ -2,7 +2,7 @@ use Rattle.std.proofs.Common.{ap, ◌∙◌, map, sym, true, List}
 use Rattle.lc_glob.specs.Mixed.{mixed_model}
 use Rattle.lc_glob.specs.Reading.{segment_from}
 use Rattle.lc_glob.specs.declared.token.Token.{Token}
-use Rattle.lc_glob.specs.Simple.{bytes_segment, literals_segment, exact_segment}
+use Rattle.lc_glob.specs.Simple.{bytes_segment, ends_segment, exact_segment}
 use Rattle.lc_glob.specs.Views.{segments_ref_model}
 use Rattle.lc_glob.proofs.Fronts.{none_mapped}
 use Rattle.lc_glob.proofs.segment_ref.SegmentsRef.is_empty.Goals as goal
@@ -12,11 +12,11 @@ returns-in-Bytes c =
     let is = ap segments_ref_model c.in-Bytes.is in
     (λ h. is ∙ ap (map bytes_segment) (c.is_over.ensures.0 h), λ h. c.is_over.ensures.1 (none_mapped bytes_segment _ (sym is ∙ h)))
 
-pub returns-in-Literals : goal.returns-in-Literals
-returns-in-Literals c =
-    let is = ap segments_ref_model c.in-Literals.is in (
-      λ h. is ∙ ap (map literals_segment) (c.is_over-in-Literals.ensures.0 h),
-      λ h. c.is_over-in-Literals.ensures.1 (none_mapped literals_segment _ (sym is ∙ h)),
+pub returns-in-Ends : goal.returns-in-Ends
+returns-in-Ends c =
+    let is = ap segments_ref_model c.in-Ends.is in (
+      λ h. is ∙ ap (map ends_segment) (c.is_over-in-Ends.ensures.0 h),
+      λ h. c.is_over-in-Ends.ensures.1 (none_mapped ends_segment _ (sym is ∙ h)),
     )
 
 pub returns-in-Exact : goal.returns-in-Exact

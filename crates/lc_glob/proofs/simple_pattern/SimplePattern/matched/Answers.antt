@@ -1,4 +1,4 @@
-use Rattle.std.proofs.Common.{ap, sym, ◌∙◌}
+use Rattle.std.proofs.Common.{ap, sym, ◌∙◌, arith}
 use Rattle.lc_glob.specs.Path.{segments_of}
 use Rattle.lc_glob.specs.Simple.{end_tokens}
 use Rattle.lc_glob.proofs.Ends.{last_cost}
@@ -6,5 +6,6 @@ use Rattle.lc_glob.proofs.simple_pattern.SimplePattern.matched.Goals as goal
 
 pub returns-in-End-clause-cost : goal.returns-in-End-clause-cost
 returns-in-End-clause-cost c =
-    rw c.in-End.is (last_cost _ _ (end_tokens c.in-End.is_alone c.args.self.bytes.now) _ _ _
-    (ap segments_of (sym c.path.view_is) ∙ c.path.invariant.0) c.fits_end.ensures.cost)
+    let most = last_cost _ _ (end_tokens c.in-End.is_alone c.args.self.bytes.now) _ _ _
+    (ap segments_of (sym c.path.view_is) ∙ c.path.invariant.0) c.fits_end.ensures.cost in
+    rw c.in-End.is (omega (arith, most))

@@ -7,4 +7,5 @@ use Rattle.lc_glob.proofs.simple_pattern.SimplePattern.matched_by.Goals as goal
 pub returns-in-LastSegment-clause-cost : goal.returns-in-LastSegment-clause-cost
 returns-in-LastSegment-clause-cost c =
     rw c.in-LastSegment.is
-    (last_cost _ _ (map byte_token c.args.self.bytes.now) _ _ _ (ap segments_of (sym c.path.view_is) ∙ c.path.invariant.0) c.fits_elements.ensures.cost)
+    (last_cost _ _ (map byte_token c.args.self.bytes.now) _ _ _
+    (ap segments_of (sym c.path.view_is) ∙ c.path.invariant.0) c.fits_elements.ensures.cost)

@@ -1,11 +1,11 @@
 use Rattle.std.proofs.Common.{◌≡◌, length}
 use Rattle.std.specs.List.{list_all}
 use Rattle.lc_glob.specs.Path.{segments_of, segments_left}
-use Rattle.lc_glob.specs.Simple.{is_literal_segment}
-use Rattle.lc_glob.proofs.simple_pattern.has_literal_segments.Given as goal
+use Rattle.lc_glob.specs.Simple.{is_ends_segment}
+use Rattle.lc_glob.proofs.simple_pattern.has_ends.Given as goal
 
 abbrev pub invariant-segments : goal.invariant-segments
-invariant-segments l = list_all is_literal_segment (segments_of l.bytes) ≡ list_all is_literal_segment (segments_left l.left.rest)
+invariant-segments l = list_all is_ends_segment (segments_of l.bytes) ≡ list_all is_ends_segment (segments_left l.left.rest)
 
 abbrev pub decreases-segments : goal.decreases-segments
 decreases-segments l = length (segments_left l.left.rest)
