@@ -1,7 +1,7 @@
 -- What the elements of a pattern stand for, whether these are the bytes of a simple one or tokens that were read.
-use Rattle.std.specs.Prelude.{Bool, true, false, if◌then◌else◌, List, [], ◌∷◌, map}
+use Rattle.std.specs.Prelude.{ℕ, ◌≡◌, Bool, true, false, if◌then◌else◌, List, [], ◌∷◌, ◌++◌, map}
 use Rattle.std.specs.List.{slice_split}
-use Rattle.lc_glob.specs.Tokens.{TokenModel}
+use Rattle.lc_glob.specs.Tokens.{TokenModel, literal}
 use Rattle.lc_glob.specs.Patterns.{SegmentModel, plain, PatternModel}
 use Rattle.lc_glob.specs.Reading.{segment_from}
 
@@ -9,6 +9,18 @@ module _ {A : Type 0} (tokens_in : List A → List TokenModel) (separates : A �
   -- the tokens of the parts that separators cut elements into
   abbrev pub parts_in : List A → List (List TokenModel)
   parts_in elements = map tokens_in (slice_split separates elements)
+
+  -- an element that is this literal by itself, whatever stands before or after it, and separates no parts
+  abbrev pub IsLiteral : A → ℕ → Type 0
+  IsLiteral e b = (separates e ≡ false) × ((xs : List A) → tokens_in (xs ++ e ∷ []) ≡ tokens_in xs ++ literal b ∷ [])
+      × ((xs : List A) → tokens_in (e ∷ xs) ≡ literal b ∷ tokens_in xs)
+
+  -- elements end with such a literal, and begin with it
+  abbrev pub EndsWithLiteral : List A → ℕ → Type 0
+  EndsWithLiteral elements b = (front : List A) × (e : A) × (elements ≡ front ++ e ∷ []) × IsLiteral e b
+
+  abbrev pub BeginsWithLiteral : List A → ℕ → Type 0
+  BeginsWithLiteral elements b = (e : A) × (others : List A) × (elements ≡ e ∷ others) × IsLiteral e b
 
   -- the segments of those parts in an anchored pattern
   abbrev pub segments_in : List A → List SegmentModel

@@ -19,7 +19,7 @@ byte_token b = if b == asterisk then star else if b == question_mark then any_by
 abbrev pub is_literal : ℕ → Bool
 is_literal b = not (b == asterisk) && not (b == question_mark)
 
--- and one of a segment: it separates none
+-- and one that separates no segments
 abbrev pub is_segment_literal : ℕ → Bool
 is_segment_literal b = is_literal b && not (b == slash)
 

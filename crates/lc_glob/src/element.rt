@@ -1,14 +1,15 @@
 //! What patterns are made of: the bytes of a simple one, or tokens that were read. Paths are made of bytes too.
 
-ghost use Rattle.std.specs.Prelude.{◌≡◌, ◌∷◌, ◌++◌, [], not, ◌==◌, Bool, List, map, count_by, MatchOption};
+ghost use Rattle.std.specs.Prelude.{◌≡◌, ◌∷◌, ◌++◌, [], not, ◌==◌, Bool, List, map, count_by, MatchOption, IfSome, IsTrue};
 ghost use Rattle.std.specs.List.{list_any, slice_split};
 ghost use Rattle.lc_glob.specs.Bytes.{slash};
+ghost use Rattle.lc_glob.specs.Elements.{BeginsWithLiteral, EndsWithLiteral};
 ghost use Rattle.lc_glob.specs.Lengths.{least_bytes};
 ghost use Rattle.lc_glob.specs.Lists.{is_empty};
 ghost use Rattle.lc_glob.specs.Mixed.{is_for_byte, is_separator, mixed_model};
 ghost use Rattle.lc_glob.specs.Pieces.{cuts_left};
 ghost use Rattle.lc_glob.specs.Reading.{is_double_star};
-ghost use Rattle.lc_glob.specs.Simple.{byte_token};
+ghost use Rattle.lc_glob.specs.Simple.{byte_token, is_segment_literal};
 ghost use Rattle.lc_glob.specs.Tokens.{TokenModel, is_star};
 ghost use Rattle.lc_glob.specs.Views.{token_ref_model};
 
@@ -33,6 +34,14 @@ pub(crate) trait Element: Copy {
     fn split_last_token<'p>(elements: &'p [Self]) -> Option<(TokenRef<'p>, &'p [Self])>
         ensures { MatchOption result (tokens_in elements.now ≡ [])
             (λ p. tokens_in elements.now ≡ tokens_in p.1.now ++ token_ref_model p.0 ∷ []) };
+
+    /// The literal that the last element is, whatever stands before it.
+    fn last_literal(elements: &[Self]) -> Option<u8>
+        ensures { IfSome result (λ b. EndsWithLiteral tokens_in separates elements.now b) };
+
+    /// The literal that the first element is, whatever stands after it.
+    fn first_literal(elements: &[Self]) -> Option<u8>
+        ensures { IfSome result (λ b. BeginsWithLiteral tokens_in separates elements.now b) };
 
     /// How many bytes names that the tokens fit have at least: one for each token that is no star.
     fn least_bytes(elements: &[Self]) -> usize
@@ -60,6 +69,16 @@ impl Element for u8 {
     fn split_last_token<'p>(bytes: &'p [u8]) -> Option<(TokenRef<'p>, &'p [u8])> {
         let (b, others) = bytes.split_last()?;
         Some((TokenRef::of_byte(*b), others))
+    }
+
+    fn last_literal(bytes: &[u8]) -> Option<u8> {
+        let (b, _) = bytes.split_last()?;
+        segment_literal(*b)
+    }
+
+    fn first_literal(bytes: &[u8]) -> Option<u8> {
+        let (b, _) = bytes.split_first()?;
+        segment_literal(*b)
     }
 
     fn least_bytes(bytes: &[u8]) -> usize {
@@ -105,6 +124,20 @@ impl Element for Token {
         None
     }
 
+    fn last_literal(tokens: &[Token]) -> Option<u8> {
+        match tokens.split_last() {
+            Some((Token::Literal(b), _)) => Some(*b),
+            _ => None,
+        }
+    }
+
+    fn first_literal(tokens: &[Token]) -> Option<u8> {
+        match tokens.split_first() {
+            Some((Token::Literal(b), _)) => Some(*b),
+            _ => None,
+        }
+    }
+
     fn least_bytes(tokens: &[Token]) -> usize {
         count_tokens(tokens)
     }
@@ -129,6 +162,17 @@ impl Element for Token {
             left = others;
         }
         (None, tokens)
+    }
+}
+
+/// A byte of a simple pattern that is a literal, and separates no segments.
+fn segment_literal(b: u8) -> Option<u8>
+    ensures { IfSome result (λ c. (c ≡ b) × IsTrue (is_segment_literal b)) }
+{
+    if b == b'*' || b == b'?' || b == b'/' {
+        None
+    } else {
+        Some(b)
     }
 }
 

@@ -6,6 +6,7 @@ ghost use Rattle.lc_glob.specs.Matches.{Matches};
 ghost use Rattle.lc_glob.specs.Views.{mixed_form_model};
 
 use crate::candidate::Candidate;
+use crate::end_look::agrees_at_end;
 use crate::match_path::matches_path;
 use crate::match_segment::fits_elements;
 use crate::path_segment::ByteTests;
@@ -45,11 +46,12 @@ impl<'p> MixedPattern<'p> {
             return false;
         }
         if self.scope.is_anchored {
-            matches_path(
-                SegmentsRef::Tokens(SegmentsLeft::of(self.tokens)),
-                path,
-                tests,
-            )
+            agrees_at_end(self.tokens, path.whole(), path.last, tests)
+                && matches_path(
+                    SegmentsRef::Tokens(SegmentsLeft::of(self.tokens)),
+                    path,
+                    tests,
+                )
         } else {
             fits_elements(self.tokens, path.last, tests)
         }

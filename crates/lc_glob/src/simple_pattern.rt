@@ -242,7 +242,7 @@ fn are_literals(bytes: &[u8]) -> bool
     bytes.iter().all(|b| is_literal(*b))
 }
 
-pub(crate) fn is_literal(b: u8) -> bool
+fn is_literal(b: u8) -> bool
     ensures { result ≡ is_literal b }
 {
     b != b'*' && b != b'?'

@@ -66,6 +66,8 @@ const OTHER_ENDS: &[(&'static [u8], &'static [u8])] = &[
     (b"/gen/**", b"src/gen/a"),
     (b"core.*", b"src/main.c"),
     (b"/a/b?", b"x/a/bc"),
+    (b"doc/[ab].c", b"doc/a.md"),
+    (b"/lib[0-9]/*", b"src/lib1/a"),
 ];
 
 #[test]

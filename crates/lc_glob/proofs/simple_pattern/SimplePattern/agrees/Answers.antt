@@ -1,6 +1,8 @@
-use Rattle.std.proofs.Common.{ap, sym, ◌∙◌, inl, inr, ℕ, List}
+use Rattle.std.proofs.Common.{ap, sym, ◌∙◌, inl, inr, map, ℕ, List}
 use Rattle.lc_glob.specs.Path.{segments_of}
 use Rattle.lc_glob.specs.Patterns.{SegmentModel}
+use Rattle.lc_glob.specs.Pieces.{is_byte}
+use Rattle.lc_glob.specs.Simple.{byte_token}
 use Rattle.lc_glob.proofs.EndLooks.{look_at_path, look_at_name, bytes_keep, ends_keep, exact_keep, KeepsEnds}
 use Rattle.lc_glob.proofs.simple_pattern.SimplePattern.agrees.Goals as goal
 
@@ -18,8 +20,8 @@ returns-in-LastSegment-clause-cost c =
 
 pub returns-in-Exact : goal.returns-in-Exact
 returns-in-Exact c =
-    let look = λ (segment : List ℕ → SegmentModel) (keeps : KeepsEnds segment).
-    look_at_path segment c.args.self.bytes.now c.args.path.now _ _ _ _ _ keeps
+    let look = λ (segment : List ℕ → SegmentModel) (keeps : KeepsEnds (map byte_token) (is_byte 47) segment).
+    look_at_path (map byte_token) (is_byte 47) segment keeps c.args.self.bytes.now c.args.path.now _ _ _ _ _
     (ap segments_of (sym c.path.view_is) ∙ c.path.invariant.0) (rw c.whole.ensures at c.agrees_at_end-in-Exact.ensures.told)
     c.agrees_at_end-in-Exact.ensures.cost in
     elim c.in-Exact.is [
