@@ -7,7 +7,8 @@ use Rattle.lc_glob.specs.Tokens.{TokenModel, literal}
 module _ {A : Type 0} (tokens_in : List A → List TokenModel) (separates : A → Bool) where
   -- they have a literal at an end
   abbrev pub HasLiteralEnd : List A → Type 0
-  HasLiteralEnd elements = ((b : ℕ) × EndsWithLiteral tokens_in separates elements b) ⊎ ((b : ℕ) × BeginsWithLiteral tokens_in separates elements b)
+  HasLiteralEnd elements = ((b : ℕ) × EndsWithLiteral tokens_in separates elements b)
+      ⊎ ((b : ℕ) × BeginsWithLiteral tokens_in separates elements b)
 
   -- and it doesn't stand for the byte at that end of a path
   abbrev pub DiffersAtEnd : List A → List ℕ → List ℕ → Type 0

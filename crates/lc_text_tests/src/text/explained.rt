@@ -14,7 +14,8 @@ const CASES: &[Case] = &[
         "each_word",
         b"*.log\n!keep.log\n/build/\n",
         b"a.log\nbuild/x.c\nm.c\nkeep.log\n./z\n",
-        b"ignored\tf:1\t*.log\ta.log\nbelow\tf:3\t/build/\tbuild/x.c\nnone\t-\t-\tm.c\nincluded\tf:2\t!keep.log\tkeep.log\nbad\t-\t-\t./z\n",
+        b"ignored\tf:1\t*.log\ta.log\nbelow\tf:3\t/build/\tbuild/x.c\nnone\t-\t-\tm.c\n\
+          included\tf:2\t!keep.log\tkeep.log\nbad\t-\t-\t./z\n",
     ),
     (
         "the_highest_directory",
