@@ -38,6 +38,8 @@ impl<'p> MixedPattern<'p> {
         }
     }
 
+    /// Whether it matches. It is not put where it is called, so that what asks a simple pattern there stays short.
+    #[inline(never)]
     pub(crate) fn matched(self, path: &Candidate, is_dir: bool, tests: &mut ByteTests) -> bool
         ensures meaning { IsTrue result ↔ Matches (mixed_form_model self.entry.scope self.entry.tokens.now) path.now is_dir }
         ensures cost { tests.new.made ≤ tests.old.made + match_cost (mixed_form_model self.entry.scope self.entry.tokens.now) path.now }
