@@ -4,7 +4,7 @@
 //! - `count`, `check`, `explain`: the words of each command; `shape`: what a count's words say of its table, `paths`: which paths they
 //!   ask for
 //! - `exclusions`: what leaves entries out, for counts and explanations; `arguments`: what several commands have
-//! - `help`: the texts of help and of the version
+//! - `refusals`: what is written of arguments that are refused; `help`: the texts of help and of the version
 #![tactic(auto)]
 
 mod arguments;
@@ -14,6 +14,7 @@ mod exclusions;
 mod explain;
 mod help;
 mod paths;
+mod refusals;
 mod request;
 mod shape;
 

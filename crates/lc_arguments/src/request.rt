@@ -1,14 +1,16 @@
 //! What the words after the program's name ask for.
 
-ghost use Rattle.std.specs.Prelude.{◌≡◌, IfOk, map};
+ghost use Rattle.std.specs.Prelude.{◌≡◌, IfErr, IfOk, map, string_bytes};
 ghost use Rattle.lc_arguments.specs.CommandLine.{bare_lc_app, lc_app, subcommand_apps};
 ghost use Rattle.lc_arguments.specs.CountArgs.{AreCommandsOf, IsCommandOf};
 ghost use Rattle.lc_arguments.specs.Explained.{Explains, IsRefusal, AnswersOthers};
+ghost use Rattle.lc_arguments.specs.Refusals.{IsMessage, IsRefusedVisibly};
 ghost use Rattle.lc_arguments.specs.Words.{AnswersWords};
 
 use crate::check::CheckRequest;
 use crate::count::CountRequest;
 use crate::explain::ExplainRequest;
+use crate::refusals::{message, visible_words};
 use crate::{arguments, check, count, explain, help};
 use clap::error::ErrorKind;
 use clap::{Command, Error};
@@ -102,7 +104,7 @@ pub(crate) fn refused(alloc: Global, option: &str, value: &str, why: &str) -> No
     ensures { IsRefusal result }
 {
     let text = format!(in alloc;
-        "error: invalid value {value:?} for '{option}'{why}\n\nFor more information, try '--help'.\n"
+        "error: invalid value '{value}' for '{option}'{why}\n\nFor more information, try '--help'.\n"
     );
     match text {
         Ok(text) => NoRequest::Refused(text),
@@ -139,34 +141,62 @@ fn read_others<'w, W: AsStr>(alloc: Global, words: &'w [W]) -> Result<Request<'w
     }
 }
 
-impl<'w> Request<'w> {
-    /// What the words after the program's name ask for: of `count`, `.` the table of this directory.
-    ///
-    /// A command reads the words after its name by itself, so that what it reads of them is known to lie in its ranges.
-    pub fn read<W: AsStr>(alloc: Global, words: &'w [W]) -> Result<Request<'w>, NoRequest>
-        ensures { AnswersWords (map W.text words.entry.now) result }
-    {
-        let Some((first, rest)) = words.split_first() else {
-            return Ok(Request::CheckJoined);
+/// What arguments ask for. A command reads the arguments after its name by itself, so that what it reads of them is known to lie in its
+/// ranges.
+fn read_words<'w, W: AsStr>(alloc: Global, words: &'w [W]) -> Result<Request<'w>, NoRequest>
+    ensures { AnswersWords (map W.text words.entry.now) result }
+{
+    let Some((first, rest)) = words.split_first() else {
+        return Ok(Request::CheckJoined);
+    };
+    if first.as_str() == "count" {
+        return match CountRequest::read(alloc, rest) {
+            Ok(asked) => Ok(Request::Count(asked)),
+            Err(no) => Err(no),
         };
-        if first.as_str() == "count" {
-            return match CountRequest::read(alloc, rest) {
-                Ok(asked) => Ok(Request::Count(asked)),
-                Err(no) => Err(no),
-            };
+    }
+    if first.as_str() == "check" {
+        return match CheckRequest::read(alloc, rest) {
+            Ok(asked) => Ok(Request::Check(asked)),
+            Err(no) => Err(no),
+        };
+    }
+    if first.as_str() == "explain" {
+        return match ExplainRequest::read(alloc, rest) {
+            Ok(asked) => Ok(Request::Explain(asked)),
+            Err(no) => Err(no),
+        };
+    }
+    read_others(alloc, words)
+}
+
+/// Why arguments are refused, where `why` quotes them as they were typed.
+fn refusal<W: AsStr>(alloc: Global, words: &[W], why: &str) -> Result<String, AllocError>
+    ensures { IfOk result (λ text. IsMessage (string_bytes text)) }
+{
+    // As a terminal shows them they are refused for the same reason, and quoted so.
+    let visible = visible_words(alloc, words)?;
+    match read_words(alloc, &visible) {
+        Err(NoRequest::Refused(text)) => message(alloc, &text),
+        _ => message(alloc, why),
+    }
+}
+
+impl<'w> Request<'w> {
+    /// What the arguments after the program's name ask for: those of `count .` the table of this directory.
+    ///
+    /// Why they are refused quotes them as a terminal shows them ([`push_visible`](lc_text::push_visible)).
+    pub fn read<W: AsStr>(alloc: Global, words: &'w [W]) -> Result<Request<'w>, NoRequest>
+        ensures answers { AnswersWords (map W.text words.entry.now) result }
+        ensures visible { IfErr result IsRefusedVisibly }
+    {
+        match read_words(alloc, words) {
+            Ok(request) => Ok(request),
+            Err(NoRequest::Refused(why)) => match refusal(alloc, words, &why) {
+                Ok(why) => Err(NoRequest::Refused(why)),
+                Err(AllocError) => Err(NoRequest::Memory),
+            },
+            Err(no) => Err(no),
         }
-        if first.as_str() == "check" {
-            return match CheckRequest::read(alloc, rest) {
-                Ok(asked) => Ok(Request::Check(asked)),
-                Err(no) => Err(no),
-            };
-        }
-        if first.as_str() == "explain" {
-            return match ExplainRequest::read(alloc, rest) {
-                Ok(asked) => Ok(Request::Explain(asked)),
-                Err(no) => Err(no),
-            };
-        }
-        read_others(alloc, words)
     }
 }

@@ -1,6 +1,6 @@
 use Rattle.std.proofs.Common.{map, rules}
 use Rattle.lc_arguments.proofs.Misnaming.{no_explanation_of}
-use Rattle.lc_arguments.proofs.request.Request.read.Goals as goal
+use Rattle.lc_arguments.proofs.request.read_words.Goals as goal
 
 pub returns-in-Err-read-2 : goal.returns-in-Err-read-2
 returns-in-Err-read-2 g c =

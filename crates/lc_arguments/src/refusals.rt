@@ -1,0 +1,48 @@
+//! What is written of arguments that are refused: nothing that was typed reaches a terminal as it is.
+
+ghost use Rattle.std.specs.Prelude.{◌≡◌, ◌++◌, IfOk, OnOk, chars, flat_map, string_bytes};
+ghost use Rattle.lc_arguments.specs.Refusals.{IsMessage, message_char};
+
+use lc_text::push_visible;
+use std::alloc::{AllocError, Global};
+use std::convert::AsStr;
+
+/// Copies of arguments, as a terminal shows them.
+pub(crate) fn visible_words<W: AsStr>(
+    alloc: Global,
+    words: &[W],
+) -> Result<Vec<String>, AllocError> {
+    let mut visible = Vec::new(alloc);
+    for word in words {
+        let mut text = String::new(alloc);
+        push_visible(&mut text, word.as_str().as_bytes())?;
+        visible.push(text)?;
+    }
+    Ok(visible)
+}
+
+fn push_message_char(message: &mut String, c: char) -> Result<(), AllocError>
+    ensures { OnOk result (string_bytes message.new ≡ string_bytes message.old ++ message_char c) }
+{
+    if c == '\n' || c == '\\' {
+        return message.push(c);
+    }
+    let mut buffer = [0; 4];
+    push_visible(message, c.encode_utf8(&mut buffer).as_bytes())
+}
+
+/// The lines of a message, with `\x` and two digits for each byte of a character that moves a terminal's cursor or turns the
+/// direction of text. Backslashes stay as they are.
+///
+/// ```
+/// assert!(rt; message(rt.alloc(), "no \u{1b}[2J\n")?.as_str() == "no \\x1b[2J\n");
+/// ```
+pub(crate) fn message(alloc: Global, text: &str) -> Result<String, AllocError>
+    ensures { IfOk result (λ message. IsMessage (string_bytes message)) }
+{
+    let mut message = String::new(alloc);
+    for c in text.chars() {
+        push_message_char(&mut message, c)?;
+    }
+    Ok(message)
+}
