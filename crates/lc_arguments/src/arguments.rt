@@ -4,19 +4,22 @@ ghost use Rattle.std.specs.Prelude.{◌≡◌, true, IfOk};
 ghost use Rattle.lc_arguments.specs.CommandLine.{flag_rule, number_rule, text_rule, texts_rule, word_rule};
 ghost use Rattle.lc_arguments.specs.CountArgs.{is_own_name, IsArgOf, IsBare};
 
+use crate::help::OptionHelp;
 use clap::builder::ValueParser;
 use clap::{Arg, ArgAction, Command};
 use std::alloc::{AllocError, Global};
 
 /// An option that is given or not.
-pub(crate) fn flag<'a>(alloc: Global, name: &'a str, text: &'a str) -> Arg<'a>
+pub(crate) fn flag<'a>(alloc: Global, name: &'a str, help: OptionHelp) -> Arg<'a>
     requires own { is_own_name name.now ≡ true }
     ensures { IsArgOf (flag_rule name.entry.now) result }
 {
     Arg::new(alloc, name)
         .long(name)
         .action(ArgAction::SetTrue)
-        .help(text)
+        .help(help.short)
+        .long_help(help.long)
+        .help_heading(help.heading)
 }
 
 /// An option with a text, which help shows as `value`.
@@ -24,7 +27,7 @@ pub(crate) fn text_option<'a>(
     alloc: Global,
     name: &'a str,
     value: &'a str,
-    text: &'a str,
+    help: OptionHelp,
 ) -> Arg<'a>
     requires own { is_own_name name.now ≡ true }
     ensures { IsArgOf (text_rule name.entry.now) result }
@@ -33,7 +36,9 @@ pub(crate) fn text_option<'a>(
         .long(name)
         .value_name(value)
         .action(ArgAction::Set)
-        .help(text)
+        .help(help.short)
+        .long_help(help.long)
+        .help_heading(help.heading)
 }
 
 /// An option with a text that may stand several times.
@@ -41,7 +46,7 @@ pub(crate) fn texts_option<'a>(
     alloc: Global,
     name: &'a str,
     value: &'a str,
-    text: &'a str,
+    help: OptionHelp,
 ) -> Arg<'a>
     requires own { is_own_name name.now ≡ true }
     ensures { IsArgOf (texts_rule name.entry.now) result }
@@ -50,7 +55,9 @@ pub(crate) fn texts_option<'a>(
         .long(name)
         .value_name(value)
         .action(ArgAction::Append)
-        .help(text)
+        .help(help.short)
+        .long_help(help.long)
+        .help_heading(help.heading)
 }
 
 /// An option with a number from 1 to `most`.
@@ -59,7 +66,7 @@ pub(crate) fn number_option<'a>(
     name: &'a str,
     most: u32,
     default: &'a str,
-    text: &'a str,
+    help: OptionHelp,
 ) -> Arg<'a>
     requires own { is_own_name name.now ≡ true }
     ensures { IsArgOf (number_rule name.entry.now most default.entry.now) result }
@@ -70,7 +77,9 @@ pub(crate) fn number_option<'a>(
         .action(ArgAction::Set)
         .value_parser(ValueParser::signed(1, i64::from(most)))
         .default_value(default)
-        .help(text)
+        .help(help.short)
+        .long_help(help.long)
+        .help_heading(help.heading)
 }
 
 /// A word that is wanted.

@@ -6,8 +6,8 @@ ghost use Rattle.lc_arguments.specs.CountArgs.{AreArgsOf, IsCommandOf};
 ghost use Rattle.lc_arguments.specs.Explained.{AnswersCheckWords};
 
 use crate::arguments::{bare, flag, word};
-use crate::help;
 use crate::request::{NoRequest, explained};
+use crate::{help, suggestions};
 use clap::{Arg, Command};
 use std::alloc::{AllocError, Global};
 use std::convert::AsStr;
@@ -25,12 +25,8 @@ fn args<'a>(alloc: Global) -> [Arg<'a>; 2]
     ensures { AreArgsOf check_rules result }
 {
     [
-        flag(
-            alloc,
-            "explain",
-            "Also the line of FILE that decides, and its pattern",
-        ),
-        word(alloc, "FILE", "An ignore file"),
+        flag(alloc, "explain", help::EXPLAIN),
+        word(alloc, "FILE", "Ignore file, such as .gitignore"),
     ]
 }
 
@@ -66,7 +62,7 @@ impl<'w> CheckRequest<'w> {
                 explain: matches.get_flag("explain"),
                 file: matches.get_str("FILE").unwrap_or(""),
             }),
-            Err(error) => Err(explained(alloc, &error, help::CHECK, ".gitignore")),
+            Err(error) => Err(explained(alloc, &error, suggestions::CHECK)),
         }
     }
 }

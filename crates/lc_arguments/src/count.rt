@@ -3,15 +3,15 @@
 ghost use Rattle.std.specs.Prelude.{[], ◌∷◌, map, IfOk};
 ghost use Rattle.lc_arguments.specs.CommandLine.{count_rules, limit_rules, table_rules};
 ghost use Rattle.lc_arguments.specs.CountArgs.{AreArgsOf, IsCountCommand};
-ghost use Rattle.lc_arguments.specs.Explained.{AnswersCountWords};
+ghost use Rattle.lc_arguments.specs.Explained.{AnswersCountWords, Explains};
 
 use crate::arguments::{bare, flag, number_option, text_option, word};
 use crate::exclusions::{Exclusions, exclusion_options};
-use crate::help;
 use crate::paths::{only, paths_in};
 use crate::request::{NoRequest, explained};
 use crate::shape::shape_in;
-use clap::{Arg, Command};
+use crate::{help, suggestions};
+use clap::{Arg, Command, Error};
 use lc_text::Shape;
 use std::alloc::{AllocError, Global};
 use std::convert::AsStr;
@@ -42,30 +42,11 @@ fn table_options<'a>(alloc: Global) -> (Arg<'a>, Arg<'a>, Arg<'a>, Arg<'a>, Arg<
     ensures { AreArgsOf table_rules (result.0 ∷ result.1 ∷ result.2 ∷ result.3 ∷ result.4 ∷ []) }
 {
     (
-        flag(alloc, "files", "Also a line for each file"),
-        flag(
-            alloc,
-            "left-out",
-            "Also the number of entries, and a line for each that is left out, with why",
-        ),
-        text_option(
-            alloc,
-            "format",
-            "FORMAT",
-            "tsv (tabs between fields, the default), table (for the eye) or json",
-        ),
-        text_option(
-            alloc,
-            "by",
-            "COLUMNS",
-            "Sums rows by some of ext,text,eol alone, as --by ext",
-        ),
-        text_option(
-            alloc,
-            "sort",
-            "COLUMN",
-            "The largest files, lines, blank or bytes first",
-        ),
+        flag(alloc, "files", help::FILES),
+        flag(alloc, "left-out", help::LEFT_OUT),
+        text_option(alloc, "format", "FORMAT", help::FORMAT),
+        text_option(alloc, "by", "COLUMNS", help::BY),
+        text_option(alloc, "sort", "COLUMN", help::SORT),
     )
 }
 
@@ -74,20 +55,8 @@ fn limits<'a>(alloc: Global) -> (Arg<'a>, Arg<'a>)
     ensures { AreArgsOf limit_rules (result.0 ∷ result.1 ∷ []) }
 {
     (
-        number_option(
-            alloc,
-            "threads",
-            16,
-            "4",
-            "Workers that count at the same time, 1 to 16",
-        ),
-        number_option(
-            alloc,
-            "max-dirs",
-            1_048_576,
-            "65536",
-            "The most directories, DIR included, 1 to 1048576",
-        ),
+        number_option(alloc, "threads", 16, "4", help::THREADS),
+        number_option(alloc, "max-dirs", 1_048_576, "65536", help::MAX_DIRS),
     )
 }
 
@@ -109,7 +78,11 @@ fn args<'a>(alloc: Global) -> [Arg<'a>; 12]
         sort,
         threads,
         max_dirs,
-        word(alloc, "DIR", "The directory to count"),
+        word(
+            alloc,
+            "DIR",
+            "Directory to count; it may be a symbolic link",
+        ),
     ]
 }
 
@@ -129,6 +102,16 @@ pub(crate) fn command<'a>(alloc: Global) -> Result<Command<'a>, AllocError>
     command.args(args)
 }
 
+/// What an error of `clap` says of the arguments after `count`.
+fn explained_count<W: AsStr>(alloc: Global, error: &Error, words: &[W]) -> NoRequest
+    ensures { Explains error.now result }
+{
+    match suggestions::count(alloc, words) {
+        Ok(example) => explained(alloc, error, &example),
+        Err(AllocError) => NoRequest::Memory,
+    }
+}
+
 impl<'w> CountRequest<'w> {
     /// What the words after `count` ask for.
     pub(crate) fn read<W: AsStr>(
@@ -142,7 +125,7 @@ impl<'w> CountRequest<'w> {
         };
         let matches = match command.try_get_matches_from(words) {
             Ok(matches) => matches,
-            Err(error) => return Err(explained(alloc, &error, help::COUNT, ".")),
+            Err(error) => return Err(explained_count(alloc, &error, words)),
         };
         // Each has a default, so both are there.
         let threads = matches.get_one::<u32>("threads").unwrap_or(4);

@@ -8,6 +8,7 @@ ghost use Rattle.lc_arguments.specs.CountArgs.{AreArgsOf};
 ghost use Rattle.lc_arguments.specs.Explained.{AnswersExclusions, AnswersNames, IsRefusal};
 
 use crate::arguments::{flag, text_option, texts_option};
+use crate::help;
 use crate::request::{NoRequest, refused};
 use clap::{Arg, ArgMatches};
 use lc_rules::is_attribute_name;
@@ -29,23 +30,9 @@ pub(crate) fn exclusion_options<'a>(alloc: Global) -> (Arg<'a>, Arg<'a>, Arg<'a>
     ensures { AreArgsOf exclusion_rules (result.0 ∷ result.1 ∷ result.2 ∷ []) }
 {
     (
-        text_option(
-            alloc,
-            "exclude-from",
-            "FILE",
-            "An ignore file for all of DIR, which each .gitignore overrides",
-        ),
-        flag(
-            alloc,
-            "archive",
-            "Leaves out what has the attribute export-ignore, as git archive does",
-        ),
-        texts_option(
-            alloc,
-            "without",
-            "ATTR",
-            "Leaves out what has the attribute ATTR, as linguist-vendored; may be repeated",
-        ),
+        text_option(alloc, "exclude-from", "FILE", help::EXCLUDE_FROM),
+        flag(alloc, "archive", help::ARCHIVE),
+        texts_option(alloc, "without", "ATTR", help::WITHOUT),
     )
 }
 

@@ -7,8 +7,8 @@ ghost use Rattle.lc_arguments.specs.Explained.{AnswersExplainWords};
 
 use crate::arguments::{bare, word};
 use crate::exclusions::{Exclusions, exclusion_options};
-use crate::help;
 use crate::request::{NoRequest, explained};
+use crate::{help, suggestions};
 use clap::{Arg, ArgAction, Command};
 use std::alloc::{AllocError, Global};
 use std::convert::AsStr;
@@ -28,7 +28,7 @@ fn paths<'a>(alloc: Global) -> Arg<'a>
     ensures { IsArgOf (words_rule (codes "PATH")) result }
 {
     Arg::new(alloc, "PATH").action(ArgAction::Append).help(
-        "Paths below DIR; without them, those on standard input, one a line",
+        "Path relative to DIR; without any, lc reads them from standard input",
     )
 }
 
@@ -40,7 +40,7 @@ fn args<'a>(alloc: Global) -> [Arg<'a>; 5]
         exclusions.0,
         exclusions.1,
         exclusions.2,
-        word(alloc, "DIR", "The directory whose rules are asked"),
+        word(alloc, "DIR", "Directory whose rules decide"),
         paths(alloc),
     ]
 }
@@ -74,7 +74,7 @@ impl<'w> ExplainRequest<'w> {
         };
         let matches = match command.try_get_matches_from(words) {
             Ok(matches) => matches,
-            Err(error) => return Err(explained(alloc, &error, help::EXPLAIN, ".")),
+            Err(error) => return Err(explained(alloc, &error, suggestions::EXPLAIN)),
         };
         let exclusions = match Exclusions::read(alloc, &matches) {
             Ok(exclusions) => exclusions,

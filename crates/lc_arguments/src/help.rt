@@ -9,98 +9,59 @@ macro_rules! version {
 
 pub(crate) const VERSION: &str = version!("");
 
-/// With the logic in which it was proved, as `rt version` says.
+/// The version with the logic in which the program was proved, as `rt version` shows it.
 pub(crate) const LONG_VERSION: &str = version!("\nproved in Rattle's logic dac8208d650f15bf");
 
-/// What stands before the directory in an example.
-pub(crate) const COUNT: &str = "lc count";
-
-/// What stands before the ignore file in an example.
-pub(crate) const CHECK: &str = "git ls-files | lc check";
-
-/// What stands before the directory in an example.
-pub(crate) const EXPLAIN: &str = "lc explain";
-
 pub(crate) const ABOUT: &str =
-    "lc count DIR    counts files and lines of a directory, without what Git would ignore
-lc explain DIR  says of paths below DIR which rule leaves them out, or why else
-lc check FILE   says of paths on standard input what the rules of FILE say";
+    "Count files, lines and bytes in a source tree, skipping what .gitignore skips";
 
 pub(crate) const AFTER: &str = "Example: lc count .";
 
 pub(crate) const AFTER_LONG: &str =
-    "With no command, standard input has the lines of an ignore file, a line --, and
-paths, which are answered as check answers them.
+    "Without a command, lc reads the lines of an ignore file, a line --, and paths
+from standard input, and answers each path as lc check does.
 
-Status:
-  0  done
+Exit status:
+  0  success
   1  count, explain: the answer was written, but something could not be read
-  2  the words are refused
-  3  it gave up, with one line on standard error
+  2  usage error
+  3  stopped with an error; standard error shows it in one line
 
 Example: lc count .
 
 See also: lc count --help, lc explain --help, lc check --help, man lc";
 
-pub(crate) const ABOUT_COUNT: &str =
-    "Counts files and lines of a directory, without what Git would ignore";
+pub(crate) const ABOUT_COUNT: &str = "Count files, lines and bytes, skipping what Git would ignore";
 
-pub(crate) const AFTER_COUNT: &str =
-    "What is left out, what the table has, limits and statuses: lc count --help
-
-Example: lc count --files --threads 8 .";
+pub(crate) const AFTER_COUNT: &str = "Example: lc count --format table --by ext --sort lines .";
 
 pub(crate) const AFTER_COUNT_LONG: &str =
-    "Each file below DIR is counted once, unless an ignore file leaves it out: a
-.gitignore of DIR or of a directory below it, .git/info/exclude of DIR, or the
-file of --exclude-from. Entries named .git and all that is neither a file nor a
-directory, as symbolic links, are left out too. Ignore files above DIR, Git's
-index and its configuration are not read. With --without ATTR files and
-directories are left out that have the attribute ATTR, by .gitattributes.
+    "Each file under DIR is counted once, unless a rule skips it: a rule in a
+.gitignore of DIR or below, in .git/info/exclude, or in the file of
+--exclude-from. Entries named .git, symbolic links and special files are always
+skipped. lc reads no rules above DIR, no configuration of Git and not its index:
+an ignored file is skipped even if Git tracks it.
 
-With --only PATH only what stands at or below PATH in DIR is counted, by all rules
-of DIR: lc count --only src . counts a part of a repository by its rules.
+Each row is for the files of one kind:
+  ext    the extension of the name, with its dot; - for none
+  text   the attribute text in .gitattributes: set, unset, auto, other, or -
+  eol    how lines end: lf, crlf, cr, mixed or none; nul for a file with a NUL
+  files  the number of files
+  lines, blank, bytes
+         the sums over these files. A line ends with LF, CR LF or CR; the last
+         one needs no end. A blank line holds only spaces and tabs.
 
-The table has a tab between fields; --format table aligns it for the eye, and
---format json writes it as JSON. Below its header each line has the number of
-files of one kind, and the sums of their lines, blank lines and bytes. A kind is
+The lines below the rows begin with total, directories, entries, file, left (a
+skipped entry, and why) or fault (what could not be read). man lc and
+docs/OUTPUT.md describe each.
 
-  ext   what stands after the last dot of the name, with a dot before it; or -
-  text  the attribute text, by .gitattributes: set, unset, auto, other, or -
-  eol   how lines end: lf, crlf, cr, mixed, none; or nul where a NUL byte occurs
-
---by sums over the columns that it does not name: --by ext has one line for each
-extension. --sort lines puts the most lines first.
-
-The lines after these begin with
-
-  total        the sums over all files
-  directories  the number of directories that were read, DIR included
-  entries      with --left-out, the number of entries of these directories
-  file         with --files, one file: text, eol, lines, blank, bytes, path
-  left         with --left-out, an entry that is left out: why, where, path; a rule
-               and its line, an attribute, git (named .git), other (no file)
-  fault        what was not read: why, path
-
-  read     it could not be opened, listed or read
-  name     a name in the directory is not UTF-8
-  twice    a name stands twice in the directory
-  many     the directory has over 1,048,576 entries
-  long     the ignore or attribute file has over 1,048,576 bytes
-  endless  the file did not end within 4,294,967,296 reads
-  absent   a PATH of --only is not there, or below what is no directory
-
-Limits: a path below DIR has at most 4,096 bytes, and directories are at most
-256 levels deep; past these there is no table.
-
-Status:
-  0  the table was written, and has no fault
-  1  the table was written, and has a fault
-  2  the words are refused
-  3  there is no table, or not all of it; standard error says why
+Exit status:
+  0  everything was counted
+  1  the table was written, but something could not be read: see the lines fault
+  2  usage error
+  3  no table, or a part of it; standard error shows why
 
 Examples:
-  lc count .
   lc count --format table --by ext --sort lines .
   lc count --left-out .
   lc count --files --threads 8 src
@@ -109,75 +70,162 @@ Examples:
   lc count --without linguist-vendored --without linguist-generated .";
 
 pub(crate) const ABOUT_EXPLAIN: &str =
-    "Says of paths below DIR which rule leaves them out or in, by the rule files of DIR";
+    "Show which rule skips or keeps a path, whether or not it exists";
 
-pub(crate) const AFTER_EXPLAIN: &str =
-    "The words of the answer, limits and statuses: lc explain --help
-
-Example: lc explain . build/main.o";
+pub(crate) const AFTER_EXPLAIN: &str = "Example: lc explain . build/main.o";
 
 pub(crate) const AFTER_EXPLAIN_LONG: &str =
-    "Paths are relative to DIR, and need not exist. A slash at the end means a directory;
-without one DIR is asked what the path is, and what isn't there is taken for a
-file. Each line of output has a tab between four fields: a word, where the rule
-stands that decides, its pattern, and the path.
+    "Each line of output has four fields, separated by tabs: a word, the rule that
+decides, its pattern, and the path.
 
-  ignored   the last rule that matches ignores it
-  included  the last rule that matches begins with !
+  ignored   the last rule that matches ignores the path
+  included  the last rule that matches begins with ! and keeps the path
   none      no rule matches
-  below     a directory above it is ignored, by the rule that is named
-  left      no rule ignores it, but lc count leaves it out: git (.git), other
-            (neither file nor directory), attribute:NAME (--archive, --without)
-  bad       no entry of a tree can have this path
-  fault     what is named could not be listed or read, so nothing can be said
+  below     a directory above the path is ignored, by the rule shown
+  left      lc count skips the path for a reason that is no rule: git (.git),
+            other (neither file nor directory), attribute:NAME
+  bad       no file or directory can have this path
+  fault     a directory or rule file on the way could not be read
 
-The rule files are those that lc count DIR reads. Each directory on the way is
-listed once for a run of paths below it.
+A path is relative to DIR. A slash at its end means a directory. Without one, lc
+looks what is there; a path where nothing is counts as a file. The rule files
+are those that lc count DIR reads.
 
-Limits: 16,777,216 bytes of input, 4,096 bytes a path.
-
-Status:
+Exit status:
   0  each path was answered
   1  each path was answered, but something could not be read
-  2  the words are refused
-  3  it gave up, with one line on standard error
+  2  usage error
+  3  stopped with an error; standard error shows it in one line
 
 Examples:
   lc explain . a.log build/main.o
   git ls-files -o | lc explain .";
 
-pub(crate) const ABOUT_CHECK: &str =
-    "Says of paths on standard input, one a line, what the rules of FILE say";
+pub(crate) const ABOUT_CHECK: &str = "Match paths on standard input against the rules of one file";
 
-pub(crate) const AFTER_CHECK: &str = "The words of the answer, limits and statuses: lc check --help
-
-Example: git ls-files | lc check .gitignore";
+pub(crate) const AFTER_CHECK: &str = "Example: git ls-files | lc check .gitignore";
 
 pub(crate) const AFTER_CHECK_LONG: &str =
-    "Paths are relative to the directory of FILE, and need not exist. A slash at the
-end of a path means a directory. Each line of output is a word, a tab and the path:
+    "Paths come one a line. Each line of output is a word, a tab and the path.
 
-  ignored   the last rule that matches ignores it
-  included  the last rule that matches begins with !
+  ignored   the last rule that matches ignores the path
+  included  the last rule that matches begins with ! and keeps the path
   none      no rule matches
-  below     a directory above it is ignored
-  bad       no entry of a tree can have this path
+  below     a directory above the path is ignored
+  bad       no file or directory can have this path
 
-With --explain two fields stand between: FILE and the number of the line that
-decides, and the line's pattern; - and - where none does.
-
-These print paths as they are wanted; those of plain find begin with ./ and are bad:
+Paths are relative to the directory of FILE and need not exist. A slash at the
+end of a path means a directory. Plain find prints paths that begin with ./ and
+are bad; these print them as lc wants them:
 
   git ls-files | lc check .gitignore
   find . -type f -printf '%P\\n' | lc check .gitignore
 
-Limits: 1,048,576 bytes of rules, 16,777,216 bytes of input, 4,096 bytes a path.
-
-Status:
+Exit status:
   0  each path was answered
-  2  the words are refused
-  3  it gave up, with one line on standard error
+  2  usage error
+  3  stopped with an error; standard error shows it in one line
 
 Examples:
   printf '%s\\n' main.c main.o build/ | lc check .gitignore
   git ls-files | lc check --explain .gitignore";
+
+/// The heading of the options that choose files.
+const WHICH_FILES: &str = "Which files";
+
+/// The heading of the options that choose what is printed.
+const WHAT_IS_PRINTED: &str = "What is printed";
+
+/// The heading of the options that limit a count.
+const LIMITS: &str = "Limits";
+
+/// What help says of an option: `-h` in one line, `--help` in several.
+#[derive(Clone, Copy)]
+pub(crate) struct OptionHelp {
+    pub(crate) heading: &'static str,
+    pub(crate) short: &'static str,
+    pub(crate) long: &'static str,
+}
+
+pub(crate) const EXCLUDE_FROM: OptionHelp = OptionHelp {
+    heading: WHICH_FILES,
+    short: "Skip what the patterns in FILE match",
+    long: "Skip what the patterns in FILE match. FILE has the syntax of a
+.gitignore and its patterns are relative to DIR; every .gitignore
+overrides it",
+};
+
+pub(crate) const ARCHIVE: OptionHelp = OptionHelp {
+    heading: WHICH_FILES,
+    short: "Skip what has the attribute export-ignore",
+    long: "Skip files and directories that have the attribute export-ignore in
+.gitattributes, as git archive does",
+};
+
+pub(crate) const WITHOUT: OptionHelp = OptionHelp {
+    heading: WHICH_FILES,
+    short: "Skip what has the attribute ATTR",
+    long: "Skip files and directories that have the attribute ATTR in
+.gitattributes, such as linguist-vendored. The line `* ATTR` sets it;
+`* ATTR=true` gives it a value, and skips nothing. May be repeated",
+};
+
+pub(crate) const ONLY: OptionHelp = OptionHelp {
+    heading: WHICH_FILES,
+    short: "Count only PATH, under the rules of all of DIR",
+    long: "Count only what is at or under PATH, under the rules of all of DIR.
+PATH is relative to DIR, such as src/lib. May be repeated",
+};
+
+pub(crate) const FILES: OptionHelp = OptionHelp {
+    heading: WHAT_IS_PRINTED,
+    short: "Also print a line for each counted file",
+    long: "Also print a line for each counted file",
+};
+
+pub(crate) const LEFT_OUT: OptionHelp = OptionHelp {
+    heading: WHAT_IS_PRINTED,
+    short: "Also print a line for each skipped entry, and why",
+    long: "Also print the number of entries, and a line for each skipped entry
+with the rule or the reason",
+};
+
+pub(crate) const FORMAT: OptionHelp = OptionHelp {
+    heading: WHAT_IS_PRINTED,
+    short: "tsv (the default), table or json",
+    long: "How to print: tsv (the default) separates fields by tabs, table aligns
+them for reading, json is for programs",
+};
+
+pub(crate) const BY: OptionHelp = OptionHelp {
+    heading: WHAT_IS_PRINTED,
+    short: "Sum rows by some of ext,text,eol",
+    long: "Sum rows by some of ext, text and eol, separated by commas: --by ext
+prints one row for each extension",
+};
+
+pub(crate) const SORT: OptionHelp = OptionHelp {
+    heading: WHAT_IS_PRINTED,
+    short: "Sort rows by files, lines, blank or bytes",
+    long: "Sort rows by files, lines, blank or bytes, largest first",
+};
+
+pub(crate) const THREADS: OptionHelp = OptionHelp {
+    heading: LIMITS,
+    short: "Number of threads, 1 to 16",
+    long: "Number of threads, 1 to 16",
+};
+
+pub(crate) const MAX_DIRS: OptionHelp = OptionHelp {
+    heading: LIMITS,
+    short: "Limit of directories, 1 to 1048576",
+    long: "Limit of directories, DIR included, 1 to 1048576. Past it there is no
+table",
+};
+
+pub(crate) const EXPLAIN: OptionHelp = OptionHelp {
+    heading: WHAT_IS_PRINTED,
+    short: "Also print the rule that decides, and its line",
+    long: "Also print the rule that decides: FILE with the number of its line, and
+its pattern. - where no rule decides",
+};

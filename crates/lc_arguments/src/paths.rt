@@ -8,6 +8,7 @@ ghost use Rattle.lc_arguments.specs.CountArgs.{IsArgOf};
 ghost use Rattle.lc_arguments.specs.Explained.{AnswersPaths, AnswersPathsIn, IsRefusal};
 
 use crate::arguments::texts_option;
+use crate::help;
 use crate::request::{NoRequest, refused};
 use clap::{Arg, ArgMatches};
 use lc_text::{is_bad_path, split_slash};
@@ -16,12 +17,7 @@ use std::alloc::Global;
 pub(crate) fn only<'a>(alloc: Global) -> Arg<'a>
     ensures { IsArgOf (texts_rule (codes "only")) result }
 {
-    texts_option(
-        alloc,
-        "only",
-        "PATH",
-        "Counts only what stands at or below PATH in DIR, by all rules of DIR; may be repeated",
-    )
+    texts_option(alloc, "only", "PATH", help::ONLY)
 }
 
 /// Why words are refused that ask for what can't be a path.

@@ -11,7 +11,7 @@ use crate::check::CheckRequest;
 use crate::count::CountRequest;
 use crate::explain::ExplainRequest;
 use crate::refusals::{message, visible_words};
-use crate::{arguments, check, count, explain, help};
+use crate::{arguments, check, count, explain, help, suggestions};
 use clap::error::ErrorKind;
 use clap::{Command, Error};
 use std::alloc::{AllocError, Global};
@@ -77,16 +77,15 @@ fn command<'a>(alloc: Global) -> Result<Command<'a>, AllocError>
     command.subcommands(subcommands)
 }
 
-/// What an error of `clap` says, with an example of the command with its operand where an argument is missing or a word is
-/// no command.
-pub(crate) fn explained(alloc: Global, error: &Error, command: &str, operand: &str) -> NoRequest
+/// What an error of `clap` says, with a command that works where an argument is missing, unknown or no command.
+pub(crate) fn explained(alloc: Global, error: &Error, example: &str) -> NoRequest
     ensures { Explains error.now result }
 {
     let text = match error.kind() {
         ErrorKind::OutOfMemory => return NoRequest::Memory,
-        ErrorKind::MissingRequiredArgument | ErrorKind::InvalidSubcommand => {
-            format!(in alloc; "{error}\nExample: {command} {operand}\n")
-        }
+        ErrorKind::MissingRequiredArgument
+        | ErrorKind::InvalidSubcommand
+        | ErrorKind::UnknownArgument => format!(in alloc; "{error}\nExample: {example}\n"),
         _ => format!(in alloc; "{error}"),
     };
     let Ok(text) = text else {
@@ -112,14 +111,15 @@ pub(crate) fn refused(alloc: Global, option: &str, value: &str, why: &str) -> No
     }
 }
 
-/// The directory that a first word may have meant which is no command: itself, where a shell takes it as it stands.
-fn meant_directory(word: &str) -> &str {
-    let is_plain = |byte: u8| byte.is_ascii_alphanumeric()
-        || matches!(byte, b'.' | b'_' | b'-' | b'/');
-    if word.is_empty() || word.starts_with('-') || word == "help" || !word.bytes().all(is_plain) {
-        return ".";
-    }
-    word
+/// What an error of `clap` says of arguments that name no command.
+fn explained_others<W: AsStr>(alloc: Global, error: &Error, words: &[W]) -> NoRequest
+    ensures { Explains error.now result }
+{
+    let first = words.first().map_or("", |word| word.as_str());
+    let Ok(why) = format!(in alloc; "{error}") else {
+        return NoRequest::Memory;
+    };
+    explained(alloc, error, suggestions::command(first, &why))
 }
 
 /// What words ask for that name no command.
@@ -132,12 +132,7 @@ fn read_others<'w, W: AsStr>(alloc: Global, words: &'w [W]) -> Result<Request<'w
     match command.try_get_matches_from(words) {
         // As `--` alone.
         Ok(_) => Ok(Request::CheckJoined),
-        Err(error) => {
-            let directory = words
-                .first()
-                .map_or(".", |word| meant_directory(word.as_str()));
-            Err(explained(alloc, &error, help::COUNT, directory))
-        }
+        Err(error) => Err(explained_others(alloc, &error, words)),
     }
 }
 

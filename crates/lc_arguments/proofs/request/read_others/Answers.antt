@@ -12,5 +12,5 @@ returns-in-Ok-try_get_matches_from g c = (
 
 pub returns : goal.returns
 returns g c =
-    no_request_of c.in-Ok.command lc_app (map g.W.AsStr.text c.args.words.now) c.in-Err.error c.explained.result c.in-Ok.ensures.0
-    lc_is_free c.in-Err.ensures.kinds c.explained.ensures
+    no_request_of c.in-Ok.command lc_app (map g.W.AsStr.text c.args.words.now) c.in-Err.error c.explained_others.result c.in-Ok.ensures.0
+    lc_is_free c.in-Err.ensures.kinds c.explained_others.ensures
