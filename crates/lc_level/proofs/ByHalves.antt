@@ -1,6 +1,6 @@
 -- What the first of rising elements that isn't before a place tells of all.
-use Rattle.std.proofs.Common.{◌≡◌, ℕ, zero, suc, ◌<◌, ◌≤◌, Bool, true, false, ◌&&◌, ◌||◌, List, [], ◌∷◌, ◌++◌, length, get_or, map, refl, ◌∙◌, ap}
-use Rattle.std.proofs.Common.{Bor, arith, bytes_eq}
+use Rattle.std.proofs.Common.{◌≡◌, ℕ, zero, suc, ◌<◌, ◌≤◌, Bool, true, false, ◌&&◌, ◌||◌, List, [], ◌∷◌, ◌++◌, length, get_or, map}
+use Rattle.std.proofs.Common.{refl, ◌∙◌, ap, Bor, arith, bytes_eq}
 use Rattle.std.specs.declared.cmp.Ordering.TheVariants.{Less}
 use Rattle.std.specs.List.{list_any, AllByRecursion}
 use Rattle.std.specs.List.Sorted.{IsPartitionedBy, IsPartitionPoint}
@@ -12,6 +12,10 @@ use Rattle.lc_level.proofs.AskedPaths.{list_any-map}
 use Rattle.lc_level.proofs.PathOrder.{falls, another, another_later, early_below, late_below}
 use Rattle.lc_tree.specs.ByteOrder.{bytes_cmp, AreInOrder}
 use Rattle.lc_tree.specs.Listing.{EntryModel, names}
+
+-- what `partition_point` answers for elements of which those that come before a place stand in front
+abbrev pub Halves : {X : Type 0} → (X → Bool) → List X → ℕ → Type 0
+Halves before xs i = IsPartitionedBy before xs → IsPartitionPoint (λ x. before x ≡ true) (λ x. before x ≡ false) xs i
 
 -- one of all passes where the one at a place does, and none where there is no such one
 pub record Tells {X : Type 0} (test : X → Bool) (xs : List X) (i : ℕ) : Type 0 where
@@ -77,8 +81,7 @@ module _ {X : Type 0} (key : X → List ℕ) where
 
     -- the place of the first that isn't before it: one passes where this one does, and none where there is no such one
     pub tells : ((x y : X) → bytes_cmp (key x) (key y) ≡ Less → before y ≡ true → before x ≡ true) → (xs : List X) (i : ℕ)
-        → AreInOrder (map key xs) → (IsPartitionedBy before xs → IsPartitionPoint (λ x. before x ≡ true) (λ x. before x ≡ false) xs i)
-        → Tells test xs i
+        → AreInOrder (map key xs) → Halves before xs i → Tells test xs i
     tells falls xs i order search =
         let parts = search (in_front before falls xs order) in
         record {
@@ -91,6 +94,14 @@ module _ {X : Type 0} (key : X → List ℕ) where
 abbrev lent : Bor (List ℕ) → List ℕ
 lent p = p.now
 
+-- whether a lent path is below another
+abbrev pub precedes : List ℕ → Bor (List ℕ) → Bool
+precedes path p = is_lt (bytes_cmp p.now path)
+
+-- whether an entry's name is below another
+abbrev pub is_named_before : List ℕ → EntryModel → Bool
+is_named_before name e = is_lt (bytes_cmp e.name name)
+
 module _ (paths : List (Bor (List ℕ))) (order : AreInOrder (map (λ (p : Bor (List ℕ)). p.now) paths)) (path : List ℕ) (i : ℕ) where
   over : (test : List ℕ → Bool) → Tells (λ (p : Bor (List ℕ)). test p.now) paths i → Searched test paths i
   over test t = record {
@@ -99,18 +110,14 @@ module _ (paths : List (Bor (List ℕ))) (order : AreInOrder (map (λ (p : Bor (
   }
 
   -- a search for a path
-  pub finds : (IsPartitionedBy (λ (p : Bor (List ℕ)). is_lt (bytes_cmp p.now path)) paths
-      → IsPartitionPoint (λ (p : Bor (List ℕ)). is_lt (bytes_cmp p.now path) ≡ true) (λ (p : Bor (List ℕ)). is_lt (bytes_cmp p.now path) ≡ false)
-      paths i) → Searched (bytes_eq path) paths i
+  pub finds : Halves (precedes path) paths i → Searched (bytes_eq path) paths i
   finds search =
       over (bytes_eq path)
       (tells lent _ _ (λ x. another path x.now) (λ x y less past fails. another_later path x.now y.now less past)
       (λ x y. falls path x.now y.now) paths i order search)
 
   -- a search for the first that doesn't come before those below a path
-  pub finds_below : (IsPartitionedBy (λ (p : Bor (List ℕ)). is_lt (bytes_cmp p.now (path ++ slash ∷ []))) paths
-      → IsPartitionPoint (λ (p : Bor (List ℕ)). is_lt (bytes_cmp p.now (path ++ slash ∷ [])) ≡ true)
-      (λ (p : Bor (List ℕ)). is_lt (bytes_cmp p.now (path ++ slash ∷ [])) ≡ false) paths i) → Searched (λ p. stands_below p path) paths i
+  pub finds_below : Halves (precedes (path ++ slash ∷ [])) paths i → Searched (λ p. stands_below p path) paths i
   finds_below search =
       over (λ p. stands_below p path)
       (tells lent _ _ (λ x. early_below path x.now) (λ x y. late_below path x.now y.now) (λ x y. falls (path ++ slash ∷ []) x.now y.now)
@@ -120,11 +127,9 @@ module _ (paths : List (Bor (List ℕ))) (order : AreInOrder (map (λ (p : Bor (
 
 -- a search for the entry of a name, in the order of their names: what it tells of a test that no entry of another name passes
 pub finds_entry : (test : EntryModel → Bool) (name : List ℕ) (es : List EntryModel) (i : ℕ) → AreInOrder (names es)
-    → (IsPartitionedBy (λ (e : EntryModel). is_lt (bytes_cmp e.name name)) es
-    → IsPartitionPoint (λ (e : EntryModel). is_lt (bytes_cmp e.name name) ≡ true) (λ (e : EntryModel). is_lt (bytes_cmp e.name name) ≡ false)
-    es i) → Tells (λ (e : EntryModel). bytes_eq name e.name && test e) es i
+    → Halves (is_named_before name) es i → Tells (λ (e : EntryModel). bytes_eq name e.name && test e) es i
 finds_entry test name es i order search =
-    tells (λ (e : EntryModel). e.name) (λ (e : EntryModel). is_lt (bytes_cmp e.name name)) (λ (e : EntryModel). bytes_eq name e.name && test e)
+    tells (λ (e : EntryModel). e.name) (is_named_before name) (λ (e : EntryModel). bytes_eq name e.name && test e)
     (λ e before. ap (λ b. b && test e) (another name e.name before))
     (λ e f less past fails. ap (λ b. b && test f) (another_later name e.name f.name less past)) (λ e f. falls name e.name f.name) es i order
     search

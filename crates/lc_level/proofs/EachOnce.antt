@@ -81,7 +81,8 @@ has : (z : List ℕ) (xs : List (List ℕ)) → Contains xs z → list_any (byte
 has z xs c = list_any-from_Contains nat_list_eq_equiv z xs c
 
 -- rising paths of which one passes a test just where one of others does are these others, each once
-rising_are_once : (xs paths : List (List ℕ)) → AreInOrder xs → ((q : List ℕ → Bool) → list_any q xs ≡ list_any q paths) → xs ≡ each_once paths
+rising_are_once : (xs paths : List (List ℕ)) → AreInOrder xs → ((q : List ℕ → Bool) → list_any q xs ≡ list_any q paths)
+    → xs ≡ each_once paths
 rising_are_once xs paths order alike =
     one_order (λ x. x) xs (each_once paths) (subst AreInOrder (sym (same_list xs)) order)
     (subst AreInOrder (sym (same_list (each_once paths))) (once_in_order paths))

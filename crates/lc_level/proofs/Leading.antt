@@ -1,6 +1,6 @@
 -- Which paths have a directory in them, and which entries lead to them.
-use Rattle.std.proofs.Common.{◌≡◌, ℕ, zero, suc, ◌==◌, ◌+◌, ◌<◌, ◌≤◌, Bool, true, false, not, ◌&&◌, ◌||◌, cond, List, [], ◌∷◌, ◌++◌, map, length, get_or, take}
-use Rattle.std.proofs.Common.{drop, refl, sym, ◌∙◌, ap, subst, append_assoc, bytes_eq, Option, Some, None, arith, Bor}
+use Rattle.std.proofs.Common.{◌≡◌, ℕ, zero, suc, ◌==◌, ◌+◌, ◌<◌, ◌≤◌, Bool, true, false, not, ◌&&◌, ◌||◌, cond, List, [], ◌∷◌, ◌++◌}
+use Rattle.std.proofs.Common.{map, length, get_or, take, drop, refl, sym, ◌∙◌, ap, subst, append_assoc, bytes_eq, Option, Some, None, arith, Bor}
 use Rattle.std.specs.List.{filter, list_any, before_first, position_or_len, AllByRecursion}
 use Rattle.std.specs.Option.{is_some}
 use Rattle.std.proofs.lemmas.Bool.{and_parts, eqb-true, or_parts}
@@ -60,7 +60,8 @@ module _ (d : List ℕ) where
 
       whole : d ≡ front ++ drop (i + 1) d
       whole =
-          sym (take-append-drop i d) ∙ ap (λ l. take i d ++ l) (drop_more d i 0 low ∙ ap (λ b. b ∷ drop (i + 1) d) (eqb-true (get_or d i 0) slash is))
+          sym (take-append-drop i d)
+          ∙ ap (λ l. take i d ++ l) (drop_more d i 0 low ∙ ap (λ b. b ∷ drop (i + 1) d) (eqb-true (get_or d i 0) slash is))
           ∙ sym (append_assoc (take i d) (slash ∷ []) (drop (i + 1) d))
 
   -- a directory of which a path is found before a slash is asked for as a whole
@@ -82,7 +83,8 @@ module _ (d : List ℕ) where
       at (Some rest) e =
           let is : d ≡ path ++ slash ∷ rest = after_is (path ++ slash ∷ []) d rest e ∙ append_assoc path (slash ∷ []) rest in
           let low : length path < length d = subst (λ l. length path < length l) (sym is) (longer path rest) in
-          let cut : get_or d (length path) 0 ≡ slash = ap (λ l. get_or l (length path) 0) is ∙ get_or_at path slash rest 0 (length path) refl in
+          let cut : get_or d (length path) 0 ≡ slash = ap (λ l. get_or l (length path) 0) is
+          ∙ get_or_at path slash rest 0 (length path) refl in
           let front : take (length path) d ≡ path = ap (take (length path)) is ∙ take-append_seam path (slash ∷ rest) in
           absurd (clash (bytes_same (take (length path) d) path front)
           (other (length path) low (ap (λ b. b == slash) cut)))
@@ -102,10 +104,12 @@ module _ (d : List ℕ) where
       (whole_else paths (λ i low. at (get_or d i 0 == slash) i (λ is. (or_parts (bytes_eq (take i d) path) _ (uncut i low is)).1)))
       ∙ same (bytes_eq path d) (bytes_eq d path) (nat_list_eq_equiv.symm path d)
     where
-      uncut : (i : ℕ) → i < length d → (get_or d i 0 == slash) ≡ true → (bytes_eq (take i d) path || list_any (bytes_eq (take i d)) paths) ≡ false
+      uncut : (i : ℕ) → i < length d → (get_or d i 0 == slash) ≡ true
+          → (bytes_eq (take i d) path || list_any (bytes_eq (take i d)) paths) ≡ false
       uncut i low is = sym (ap (λ b. b && (bytes_eq (take i d) path || list_any (bytes_eq (take i d)) paths)) is) ∙ none i low
 
-      at : (b : Bool) (i : ℕ) → (b ≡ true → list_any (bytes_eq (take i d)) paths ≡ false) → (b && list_any (bytes_eq (take i d)) paths) ≡ false
+      at : (b : Bool) (i : ℕ) → (b ≡ true → list_any (bytes_eq (take i d)) paths ≡ false)
+          → (b && list_any (bytes_eq (take i d)) paths) ≡ false
       at true i h = h refl
       at false i h = refl
 
@@ -238,7 +242,8 @@ led_nowhere es rest i good found past = led_by_first es rest good ∙ found.nowh
 
 -- ---- paths to which none leads
 
-unled_first : (es : List EntryModel) (rest : List ℕ) (rests : List (List ℕ)) → unled es (rest ∷ rests) ≡ unled es (rest ∷ []) ++ unled es rests
+unled_first : (es : List EntryModel) (rest : List ℕ) (rests : List (List ℕ))
+    → unled es (rest ∷ rests) ≡ unled es (rest ∷ []) ++ unled es rests
 unled_first es rest rests = at (not (is_led_to es rest))
   where
     at : (b : Bool) → cond b (rest ∷ unled es rests) (unled es rests) ≡ cond b (rest ∷ []) [] ++ unled es rests

@@ -19,15 +19,14 @@ use Rattle.lc_tree.specs.ByteOrder.{bytes_cmp, AreInOrder}
 
 -- ---- the order
 
+-- what is told to be less
 pub less_true : (o : Ordering) → is_lt o ≡ true → o ≡ Less
 less_true Less e = refl
 less_true Equal e = absurd (cc e)
 less_true Greater e = absurd (cc e)
 
-less_than : (x y : List ℕ) → bytes_cmp x y ≡ Less → is_lt (bytes_cmp x y) ≡ true
-less_than x y e = ap is_lt e
-
-not_itself : (x : List ℕ) → bytes_cmp x x ≡ Less → ⊥
+-- no path is below itself
+pub not_itself : (x : List ℕ) → bytes_cmp x x ≡ Less → ⊥
 not_itself x e =
     let turned : Less ≡ Greater = sym e ∙ (nat_list_cmp_total.antisymm x x ∙ ap ordering_reverse e) in
     cc turned
@@ -51,7 +50,8 @@ another path x before =
 
 -- and so is what is above one that isn't
 pub another_later : (path x y : List ℕ) → bytes_cmp x y ≡ Less → is_lt (bytes_cmp x path) ≡ false → bytes_eq path y ≡ false
-another_later path x y less past = other_bytes path y (λ same. clash (less_than x path (subst (λ p. bytes_cmp x p ≡ Less) (sym same) less)) past)
+another_later path x y less past =
+    other_bytes path y (λ same. clash (ap is_lt (subst (λ p. bytes_cmp x p ≡ Less) (sym same) less)) past)
 
 -- ---- what begins with some bytes
 
@@ -74,7 +74,8 @@ late_after (b ∷ bs) [] y less past none = let h : true ≡ false = past in abs
 late_after (b ∷ bs) (c ∷ cs) [] less past none = refl
 late_after (b ∷ bs) (c ∷ cs) (e ∷ es) less past none = at (b == e) refl (late_after bs cs es)
   where
-    by_byte : (o : Ordering) → nat_cmp c b ≡ o → ordering_then o (bytes_cmp cs es) ≡ Less → is_lt (ordering_then o (bytes_cmp cs bs)) ≡ false
+    by_byte : (o : Ordering) → nat_cmp c b ≡ o → ordering_then o (bytes_cmp cs es) ≡ Less
+        → is_lt (ordering_then o (bytes_cmp cs bs)) ≡ false
         → (bytes_cmp cs es ≡ Less → is_lt (bytes_cmp cs bs) ≡ false → after bs cs ≡ None → after bs es ≡ None) → after bs es ≡ None
     by_byte Less is less past more = let h : true ≡ false = past in absurd (cc h)
     by_byte Greater is less past more = let h : Greater ≡ Less = less in absurd (cc h)

@@ -33,8 +33,8 @@ module _ (d : List ℕ) where
   seen paths = filter_map (rest_from d) (lent paths)
 
   abbrev pub IsPlace : List (Bor (List ℕ)) → ℕ → Type 0
-  IsPlace paths i = IsPartitionPoint (λ (p : Bor (List ℕ)). comes_before d p.now ≡ true) (λ (p : Bor (List ℕ)). comes_before d p.now ≡ false)
-      paths i
+  IsPlace paths i =
+      IsPartitionPoint (λ (p : Bor (List ℕ)). comes_before d p.now ≡ true) (λ (p : Bor (List ℕ)). comes_before d p.now ≡ false) paths i
 
   -- the paths that come first are not seen
   pub skipped : (paths : List (Bor (List ℕ))) (i : ℕ) → IsPlace paths i → seen (drop i paths) ≡ seen paths
@@ -63,7 +63,8 @@ module _ (d : List ℕ) where
         (λ k e low lt. parts.1 (suc k) e (omega (arith, low)) (omega (arith, lt))),
       )
 
-  module _ (paths : List (Bor (List ℕ))) (i : ℕ) (path : Bor (List ℕ)) (others : List (Bor (List ℕ))) (left : drop i paths ≡ path ∷ others) where
+  module _ (paths : List (Bor (List ℕ))) (i : ℕ) (path : Bor (List ℕ)) (others : List (Bor (List ℕ)))
+      (left : drop i paths ≡ path ∷ others) where
     -- from the first that isn't seen on none is
     pub none_left : AreInOrder (lent paths) → AllByRecursion (λ p. comes_before d p ≡ false) (lent paths) → rest_from d path.now ≡ None
         → seen (drop i paths) ≡ []

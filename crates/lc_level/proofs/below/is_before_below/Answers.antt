@@ -16,4 +16,5 @@ returns-in-Some c =
     c.is_lt-in-Some.ensures ∙ ap is_lt (c.cmp-in-Some.ensures ∙ ap (bytes_cmp c.in-Some.rest.now) c.as_slice.ensures)
     ∙ ap is_lt
     (sym (begin_alike c.args.other.now c.in-Some.rest.now (slash ∷ []))
-    ∙ ap (λ p. bytes_cmp p (c.args.other.now ++ slash ∷ [])) (sym (after_is c.args.other.now c.args.path.now c.in-Some.rest.now (sym c.in-Some.ensures))))
+    ∙ ap (λ p. bytes_cmp p (c.args.other.now ++ slash ∷ []))
+    (sym (after_is c.args.other.now c.args.path.now c.in-Some.rest.now (sym c.in-Some.ensures))))
