@@ -16,7 +16,8 @@ use Rattle.lc_walk.specs.Key.{Key, key_cmp, same_key}
 use Rattle.lc_walk.specs.TallyRows.{TallyRowModel, sums_of_rows, HasSumsOf, AddsUp, IsAbsorbed}
 use Rattle.lc_walk.specs.Sums.{plus, no_files, IsInRange}
 use Rattle.lc_walk.specs.declared.tally.sums.Sums.{Sums}
-use Rattle.lc_walk.proofs.Keys.{key_cmp_total}
+use Rattle.lc_walk.proofs.Keys.{key_cmp_total, equal_if}
+use Rattle.lc_walk.proofs.Totals.{same_totals}
 use Rattle.lc_walk.proofs.RowSums.{gives, SeesKeys, AddsAlike, has_sums, has_same, has_further, has_both, has_permuted, same_sums}
 
 -- the sums over some of the rows are in range where those over all are
@@ -43,11 +44,6 @@ range_of_two k x xs r =
 
 same_rows : (a b : TallyRowModel) → a.key ≡ b.key → a.sums ≡ b.sums → a ≡ b
 same_rows a b k s = λ i. record { key = k i; sums = s i }
-
-equal_keys : (o : Ordering) → true ≡ is_eq o → o ≡ Equal
-equal_keys Less e = absurd (false≢true (sym e))
-equal_keys Equal e = refl
-equal_keys Greater e = absurd (false≢true (sym e))
 
 gives_both : (b : Bool) (u m w : ℕ) → w ≡ u + m → cond b w 0 ≡ cond b u 0 + cond b m 0
 gives_both true u m w e = e
@@ -105,8 +101,8 @@ module _ {S : Type 0} (R : S → TallyRowModel → TallyRowModel → Bool → S 
       → IsInRange (sums_of_rows (k ∷ x ∷ xs)) → HasSumsOf (k ∷ x ∷ xs) ys
   leaves_step true t k x y l xs ys rest step left room =
       let fits : IsInRange (plus k.sums x.sums) = range_of_two k x xs room in
-      let both = one_for_two k x l xs (equal_keys _ step.test) step.key (step.sums fits) in
-      has_further (k ∷ x ∷ xs) (l ∷ xs) ys both (rest t l ys left (subst IsInRange (sym both.all) room))
+      let both = one_for_two k x l xs (equal_if _ (sym step.test)) step.key (step.sums fits) in
+      has_further (k ∷ x ∷ xs) (l ∷ xs) ys both (rest t l ys left (subst IsInRange (sym (same_totals (l ∷ xs) (k ∷ x ∷ xs) both.sums)) room))
   leaves_step false t k x y l xs ys rest step left room =
       let fits : IsInRange (plus k.sums x.sums) = range_of_two k x xs room in
       let last : l ≡ k = same_rows l k step.key (step.sums fits) in
@@ -155,7 +151,7 @@ module _ {S : Type 0} (R : S → TallyRowModel → TallyRowModel → Bool → S 
       → IsDeduped R s xs ys → IsInRange (sums_of_rows rs) → AddsUp rs ys
   added_up s rs xs ys moved sorted left room =
       let same = has_permuted rs xs moved in record {
-        same = has_further rs xs ys same (sums_left s xs ys left (subst IsInRange (sym same.all) room));
+        same = has_further rs xs ys same (sums_left s xs ys left (subst IsInRange (sym (same_totals xs rs same.sums)) room));
         order = subst (IsStrictlySortedBy key_cmp) (sym (keys_left s xs ys left))
             (IsStrictlySortedBy-dedup key_cmp_total (λ a b. refl) (map key_in_row xs) (sorted_keys xs sorted));
       }

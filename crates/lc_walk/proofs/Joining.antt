@@ -1,5 +1,5 @@
 -- What tallies stand for.
-use Rattle.std.proofs.Common.{◌≡◌, ℕ, ◌<◌, Bool, cond, List, [], ◌∷◌, ◌++◌, refl, sym, ◌∙◌, ap}
+use Rattle.std.proofs.Common.{◌≡◌, ℕ, ◌+◌, ◌<◌, ◌≤◌, ◌^◌, Bool, cond, List, [], ◌∷◌, ◌++◌, refl, sym, ◌∙◌, ap}
 use Rattle.std.proofs.Common.{subst, arith, zero-add, length-append}
 use Rattle.std.specs.List.{sum_by}
 use Rattle.std.specs.List.Sorted.{IsPermutation}
@@ -7,12 +7,13 @@ use Rattle.std.proofs.lemmas.List.Sums.{sum_by-append, length-filter}
 use Rattle.std.proofs.lemmas.List.Sorted.{sum_by-IsPermutation, length_permutation}
 use Rattle.std.proofs.lemmas.List.Elements.{All-append, filter-append}
 use Rattle.lc_walk.specs.Key.{Key, same_key}
-use Rattle.lc_walk.specs.TallyRows.{TallyRowModel, sums_of_rows, rows_with, HasSumsOf, AddsUp}
-use Rattle.lc_walk.specs.Sums.{plus, no_files, one_file}
+use Rattle.lc_walk.specs.TallyRows.{TallyRowModel, sums_of_rows, rows_with, HasSumsOf, Gains, AddsUp}
+use Rattle.lc_walk.specs.Sums.{plus, no_files, one_file, IsModest}
 use Rattle.lc_walk.specs.Tally.{Grows, TallyModel, IsKept, IsTally, StandsFor, CountedFile, sums_of_files, files_with, key_of}
 use Rattle.lc_walk.specs.declared.tally.sums.Sums.{Sums}
 use Rattle.lc_walk.proofs.Filtered.{part, sum_by-filter, filter_push, length-filter_push}
-use Rattle.lc_walk.proofs.RowSums.{same_sums, gained_sums, key_gained, filled_gained, key_sums_of_both}
+use Rattle.lc_walk.proofs.RowSums.{same_sums, gained_sums, key_gained, filled_gained, sums_of_both, key_sums_of_both}
+use Rattle.lc_walk.proofs.Totals.{same_totals, totals_gained}
 
 -- files of two lists
 pub both : (fs gs : List CountedFile) → sums_of_files (fs ++ gs) ≡ plus (sums_of_files fs) (sums_of_files gs)
@@ -69,6 +70,35 @@ tally_added_up t rs fs added stood = record {
   filled = added.same.filled stood.filled;
   order = added.order;
 }
+
+modest_plus : (a b : Sums) → IsModest a → IsModest b → a.files + b.files ≤ 2 ^ 63 → IsModest (plus a b)
+modest_plus a b m n few = record {
+  files = few;
+  lines = let l = m.lines in let k = n.lines in omega arith;
+  blank = let l = m.blank in let k = n.blank in omega arith;
+  bytes = let l = m.bytes in let k = n.bytes in omega arith;
+}
+
+kept_as : (rs : List TallyRowModel) (a b t : Sums) → sums_of_rows rs ≡ plus a b → t ≡ plus a b → IsModest a → IsModest b
+    → a.files + b.files ≤ 2 ^ 63 → IsKept (record { rows = rs; totals = t })
+kept_as rs a b t rows is m n few = record {
+  totals = is ∙ sym rows;
+  modest = subst IsModest (sym is) (modest_plus a b m n few);
+}
+
+-- a tally that has grown is well kept
+pub kept_grown : (t : TallyModel) (rs : List TallyRowModel) (k : Key) (s u : Sums) → IsKept t → Gains t.rows rs k s
+    → u ≡ plus t.totals s → IsModest s → t.totals.files + s.files ≤ 2 ^ 63 → IsKept (record { rows = rs; totals = u })
+kept_grown t rs k s u kept gained is modest few =
+    kept_as rs t.totals s u (totals_gained t.rows rs k s gained ∙ ap (λ (a : Sums). plus a s) (sym kept.totals)) is kept.modest modest few
+
+-- and one that has the rows of two
+pub kept_both : (t o : TallyModel) (rs : List TallyRowModel) (u : Sums) → IsKept t → IsKept o → HasSumsOf (t.rows ++ o.rows) rs
+    → u ≡ plus t.totals o.totals → t.totals.files + o.totals.files ≤ 2 ^ 63 → IsKept (record { rows = rs; totals = u })
+kept_both t o rs u left right joined is few =
+    kept_as rs t.totals o.totals u
+    (same_totals rs (t.rows ++ o.rows) joined.sums ∙ sums_of_both t.rows o.rows
+    ∙ ap (λ (a : Sums). plus a (sums_of_rows o.rows)) (sym left.totals) ∙ ap (plus t.totals) (sym right.totals)) is left.modest right.modest few
 
 kept_empty : IsKept (record { rows = []; totals = no_files })
 kept_empty = record {

@@ -40,6 +40,7 @@ pub mod RowEnds
 pub mod RowSums
 pub mod RulesThatIgnore
 pub mod TakingPart
+pub mod Totals
 pub mod WalkOn
 pub mod WalkParts
 pub mod Working

@@ -44,7 +44,7 @@ GiveAlike xs ys = (p : TallyRowModel → Bool) (v : Sums → ℕ) → SeesKeys p
 sees_key : (k : Key) → SeesKeys (λ (r : TallyRowModel). same_key k r.key)
 sees_key k a b e = same_to_all a.key b.key k e
 
--- then the sums over the rows of each key, and over all rows, are the same
+-- then the sums over the rows of each key are the same
 pub has_sums : (xs ys : List TallyRowModel) → GiveAlike xs ys
     → (All (λ r. 0 < r.sums.files) xs → All (λ r. 0 < r.sums.files) ys) → HasSumsOf xs ys
 has_sums xs ys alike filled =
@@ -55,18 +55,14 @@ has_sums xs ys alike filled =
     record {
       sums = λ k. same_sums _ _ (one _ (sees_key k) (λ s. s.files) (λ a b. refl)) (one _ (sees_key k) (λ s. s.lines) (λ a b. refl))
           (one _ (sees_key k) (λ s. s.blank) (λ a b. refl)) (one _ (sees_key k) (λ s. s.bytes) (λ a b. refl));
-      all = same_sums _ _ (alike (λ r. true) (λ s. s.files) (λ a b e. refl) (λ a b. refl))
-          (alike (λ r. true) (λ s. s.lines) (λ a b e. refl) (λ a b. refl))
-          (alike (λ r. true) (λ s. s.blank) (λ a b e. refl) (λ a b. refl))
-          (alike (λ r. true) (λ s. s.bytes) (λ a b e. refl) (λ a b. refl));
       filled = filled;
     }
 
 pub has_same : (xs : List TallyRowModel) → HasSumsOf xs xs
-has_same xs = record { sums = λ k. refl; all = refl; filled = λ f. f }
+has_same xs = record { sums = λ k. refl; filled = λ f. f }
 
 pub has_further : (xs ys zs : List TallyRowModel) → HasSumsOf xs ys → HasSumsOf ys zs → HasSumsOf xs zs
-has_further xs ys zs a b = record { sums = λ k. b.sums k ∙ a.sums k; all = b.all ∙ a.all; filled = λ f. b.filled (a.filled f) }
+has_further xs ys zs a b = record { sums = λ k. b.sums k ∙ a.sums k; filled = λ f. b.filled (a.filled f) }
 
 -- the same rows in another order
 pub has_permuted : (xs ys : List TallyRowModel) → IsPermutation xs ys → HasSumsOf xs ys
@@ -108,8 +104,6 @@ has_both xs ys us vs a b =
     record {
       sums = λ k. key_sums_of_both k ys vs ∙ ap (λ s. plus s (sums_of_rows (rows_with k vs))) (a.sums k)
           ∙ ap (plus (sums_of_rows (rows_with k xs))) (b.sums k) ∙ sym (key_sums_of_both k xs us);
-      all = sums_of_both ys vs ∙ ap (λ s. plus s (sums_of_rows vs)) a.all ∙ ap (plus (sums_of_rows xs)) b.all
-          ∙ sym (sums_of_both xs us);
       filled = λ f. All-append P ys vs (a.filled (front_of P xs us f)) (b.filled (back_of P xs us f));
     }
 
@@ -119,16 +113,11 @@ pub has_more : (xs rows new : List TallyRowModel) (k : Key) (s : Sums) → HasSu
 has_more xs rows new k s has gained = has_further (xs ++ row_with k s ∷ []) (rows ++ row_with k s ∷ []) new
     (has_both xs rows (row_with k s ∷ []) (row_with k s ∷ []) has (has_same (row_with k s ∷ []))) gained
 
--- what a key's sums, and all sums, have gained
+-- what a key's sums have gained
 pub key_gained : (old new : List TallyRowModel) (k j : Key) (s : Sums) → Gains old new k s
     → sums_of_rows (rows_with j new) ≡ plus (sums_of_rows (rows_with j old)) (cond (same_key j k) s no_files)
 key_gained old new k j s gained = gained.sums j ∙ key_sums_of_both j old (row_with k s ∷ [])
     ∙ ap (plus (sums_of_rows (rows_with j old))) (key_sums_of_one j (row_with k s))
-
-pub all_gained : (old new : List TallyRowModel) (k : Key) (s : Sums) → Gains old new k s
-    → sums_of_rows new ≡ plus (sums_of_rows old) s
-all_gained old new k s gained = gained.all ∙ sums_of_both old (row_with k s ∷ [])
-    ∙ ap (plus (sums_of_rows old)) (sums_of_one (row_with k s))
 
 pub filled_gained : (old new : List TallyRowModel) (k : Key) (s : Sums) → Gains old new k s → 0 < s.files
     → All (λ r. 0 < r.sums.files) old → All (λ r. 0 < r.sums.files) new

@@ -36,10 +36,9 @@ has_row k rs = list_any (λ r. same_key k r.key) rs
 abbrev pub IsInOrder : List TallyRowModel → Type 0
 IsInOrder rs = IsStrictlySortedBy key_cmp (map (λ r. r.key) rs)
 
--- the sums over the rows of each key, and over all rows, are the same; and each new row has a file, if each old one has
+-- the sums over the rows of each key are the same; and each new row has a file, if each old one has
 pub record HasSumsOf (old new : List TallyRowModel) : Type 0 where
   pub sums : (k : Key) → sums_of_rows (rows_with k new) ≡ sums_of_rows (rows_with k old)
-  pub all : sums_of_rows new ≡ sums_of_rows old
   pub filled : All (λ r. 0 < r.sums.files) old → All (λ r. 0 < r.sums.files) new
 
 -- from some rows to the next, the sums of one key gain s

@@ -1,21 +1,17 @@
 -- Rows that have the same sums for each key have the same totals.
-use Rattle.std.proofs.Common.{◌≡◌, ℕ, ◌+◌, Bool, true, false, cond, List, [], ◌∷◌, refl, sym, ◌∙◌, ap, arith}
+use Rattle.std.proofs.Common.{◌≡◌, ℕ, ◌+◌, Bool, true, false, cond, List, [], ◌∷◌, ◌++◌, refl, sym, ◌∙◌, ap, arith}
 use Rattle.std.specs.List.{filter, sum_by}
 use Rattle.std.specs.Ordering.{is_eq}
 use Rattle.std.specs.declared.cmp.Ordering.{Ordering}
 use Rattle.std.specs.declared.cmp.Ordering.TheVariants.{Less, Equal, Greater}
 use Rattle.std.proofs.lemmas.List.Sums.{sum_by-cons}
 use Rattle.lc_walk.proofs.Filtered.{part, sum_by-filter}
-use Rattle.lc_walk.proofs.Growing.{same_sums}
-use Rattle.lc_walk.proofs.Keys.{key_cmp_total, same_to_all}
+use Rattle.lc_walk.proofs.Keys.{key_cmp_total, same_to_all, equal_if}
+use Rattle.lc_walk.proofs.RowSums.{same_sums, sums_of_both, sums_of_one}
 use Rattle.lc_walk.specs.Key.{Key, key_cmp, same_key}
-use Rattle.lc_walk.specs.TallyRows.{TallyRowModel, sums_of_rows, rows_with}
+use Rattle.lc_walk.specs.Sums.{plus}
+use Rattle.lc_walk.specs.TallyRows.{TallyRowModel, sums_of_rows, rows_with, Gains, row_with}
 use Rattle.lc_walk.specs.declared.tally.sums.Sums.{Sums}
-
-equal_if : (o : Ordering) → is_eq o ≡ true → o ≡ Equal
-equal_if Less e = absurd (cc)
-equal_if Equal e = refl
-equal_if Greater e = absurd (cc)
 
 -- a key is the same as itself
 same_self : (k : Key) → same_key k k ≡ true
@@ -129,3 +125,9 @@ same_totals xs ys same =
     (by_key (λ r. r.sums.lines) xs ys (λ k. ap (λ (s : Sums). s.lines) (same k)))
     (by_key (λ r. r.sums.blank) xs ys (λ k. ap (λ (s : Sums). s.blank) (same k)))
     (by_key (λ r. r.sums.bytes) xs ys (λ k. ap (λ (s : Sums). s.bytes) (same k)))
+
+-- what all sums have gained where those of one key have
+pub totals_gained : (old new : List TallyRowModel) (k : Key) (s : Sums) → Gains old new k s
+    → sums_of_rows new ≡ plus (sums_of_rows old) s
+totals_gained old new k s gained = same_totals new (old ++ row_with k s ∷ []) gained.sums ∙ sums_of_both old (row_with k s ∷ [])
+    ∙ ap (plus (sums_of_rows old)) (sums_of_one (row_with k s))
