@@ -1,20 +1,19 @@
 -- Paths that are asked for, seen from directories.
 use Rattle.std.proofs.Common.{◌≡◌, ◌≢◌, ℕ, ◌==◌, Bool, true, false, not, ◌||◌, cond, List, [], ◌∷◌, ◌++◌, map, refl, sym, ◌∙◌, ap}
-use Rattle.std.proofs.Common.{Option, Some, None, nat_eq, length, append_assoc, bytes_eq, drop, take, ◌-◌, arith, eq-eqb, MatchOption}
+use Rattle.std.proofs.Common.{Option, Some, None, nat_eq, length, append_assoc, bytes_eq, eq-eqb, MatchOption}
 use Rattle.std.specs.Borrow.{Bor}
 use Rattle.std.specs.List.{filter, filter_map, cons_option, list_any}
 use Rattle.std.specs.Option.{is_some}
+use Rattle.std.specs.Ordering.{is_lt}
 use Rattle.std.specs.Prelude.{option_map}
 use Rattle.std.proofs.lemmas.Bool.{eqb-true}
-use Rattle.std.proofs.lemmas.List.{length-drop, map-append, take_all}
 use Rattle.lc_glob.specs.Bytes.{slash}
-use Rattle.lc_glob.specs.Lists.{is_empty}
 use Rattle.lc_glob.specs.Path.{path_in}
 use Rattle.lc_level.specs.Answers.{Item, entry_of, entries_of}
-use Rattle.lc_level.specs.Level.{FileFaultModel, absent_faults}
-use Rattle.lc_level.specs.Narrowing.{after, stands_below, rest_from, each_once, leads_to, is_whole, rests, takes_part, part_of, absent_from}
-use Rattle.lc_level.specs.PathSteps.{leads_on, is_led_to, unled, if_seen}
+use Rattle.lc_level.specs.Narrowing.{after, rest_from, put_among, each_once, leads_to, rests, takes_part, part_of, absent_from}
+use Rattle.lc_level.specs.PathSteps.{is_led_to, unled}
 use Rattle.lc_level.proofs.WellFormed.{same_bytes}
+use Rattle.lc_tree.specs.ByteOrder.{bytes_cmp}
 use Rattle.lc_tree.specs.Listing.{EntryModel}
 
 -- a test of mapped elements
@@ -103,71 +102,38 @@ any_seen {X} {Y} q f (x ∷ xs) = at (f x) (any_seen q f xs)
     at None rest = rest
     at (Some y) rest = ap (λ b. q y || b) rest
 
-or_true : (a : Bool) → (a || true) ≡ true
-or_true true = refl
-or_true false = refl
-
-among_passes : (q : List ℕ → Bool) (path : List ℕ) (paths : List (List ℕ)) → list_any (bytes_eq path) paths ≡ true → q path ≡ true
-    → list_any q paths ≡ true
-among_passes q path [] among e = absurd (cc among)
-among_passes q path (p ∷ ps) among e = at (bytes_eq path p) refl among (λ h. among_passes q path ps h e)
+-- a path more among others is one more that may pass a test
+any_put : (q : List ℕ → Bool) (path : List ℕ) (paths : List (List ℕ)) → list_any q (put_among path paths) ≡ (q path || list_any q paths)
+any_put q path [] = refl
+any_put q path (p ∷ ps) = at (is_lt (bytes_cmp path p)) (bytes_eq path p) refl (any_put q path ps)
   where
-    at : (b : Bool) → bytes_eq path p ≡ b → (b || list_any (bytes_eq path) ps) ≡ true
-        → (list_any (bytes_eq path) ps ≡ true → list_any q ps ≡ true) → (q p || list_any q ps) ≡ true
-    at true same h more = ap (λ t. t || list_any q ps) (sym (ap q (same_bytes path p same)) ∙ e)
-    at false other h more = ap (λ t. q p || t) (more h) ∙ or_true (q p)
+    turned : (a b c : Bool) → (a || (b || c)) ≡ (b || (a || c))
+    turned true true c = refl
+    turned true false c = refl
+    turned false b c = refl
+
+    twice : (a b : Bool) → (a || b) ≡ (a || (a || b))
+    twice true b = refl
+    twice false b = refl
+
+    at : (less same : Bool) → bytes_eq path p ≡ same → list_any q (put_among path ps) ≡ (q path || list_any q ps)
+        → list_any q (cond less (path ∷ p ∷ ps) (p ∷ cond same ps (put_among path ps))) ≡ (q path || (q p || list_any q ps))
+    at true same e more = refl
+    at false true e more =
+        twice (q p) (list_any q ps) ∙ ap (λ (x : List ℕ). q x || (q p || list_any q ps)) (sym (same_bytes path p e))
+    at false false e more = ap (λ t. q p || t) more ∙ turned (q p) (q path) (list_any q ps)
 
 -- each path once passes a test where one of them does
 pub any_once : (q : List ℕ → Bool) (paths : List (List ℕ)) → list_any q (each_once paths) ≡ list_any q paths
 any_once q [] = refl
-any_once q (p ∷ ps) = at (list_any (bytes_eq p) ps) refl (any_once q ps)
-  where
-    again : (b : Bool) → q p ≡ b → list_any (bytes_eq p) ps ≡ true → list_any q ps ≡ (b || list_any q ps)
-    again true e among = among_passes q p ps among e
-    again false e among = refl
-
-    at : (b : Bool) → list_any (bytes_eq p) ps ≡ b → list_any q (each_once ps) ≡ list_any q ps
-        → list_any q (cond b (each_once ps) (p ∷ each_once ps)) ≡ (q p || list_any q ps)
-    at true among rest = rest ∙ again (q p) refl among
-    at false other rest = ap (λ t. q p || t) rest
+any_once q (p ∷ ps) = any_put q p (each_once ps) ∙ ap (λ t. q p || t) (any_once q ps)
 
 -- an entry leads to one of the paths, each once, where it leads to one of them
-pub leads_once : (only : List (List ℕ)) (d : List ℕ) (e : EntryModel) → list_any (leads_to e) (rests only d) ≡ leads_on only d e
+pub leads_once : (only : List (List ℕ)) (d : List ℕ) (e : EntryModel)
+    → list_any (leads_to e) (rests only d) ≡ list_any (leads_to e) (filter_map (rest_from d) only)
 leads_once only d e =
     any_seen (leads_to e) (rest_from d) (each_once only) ∙ any_once (λ path. passes (leads_to e) (rest_from d path)) only
     ∙ sym (any_seen (leads_to e) (rest_from d) only)
-
--- the same of lent paths
-pub leads_lent : (paths : List (Bor (List ℕ))) (d : List ℕ) (e : EntryModel)
-    → leads_on (map (λ (p : Bor (List ℕ)). p.now) paths) d e
-    ≡ list_any (λ (p : Bor (List ℕ)). passes (leads_to e) (rest_from d p.now)) paths
-leads_lent paths d e =
-    any_seen (leads_to e) (rest_from d) (map (λ (p : Bor (List ℕ)). p.now) paths)
-    ∙ list_any-map (λ path. passes (leads_to e) (rest_from d path)) (λ (p : Bor (List ℕ)). p.now) paths
-
--- whether one of lent paths has a directory in it
-abbrev pub has_whole : List ℕ → Bor (List ℕ) → Bool
-has_whole d p = bytes_eq p.now d || stands_below d p.now
-
--- a directory is whole where one has
-pub whole_by : (paths : List (Bor (List ℕ))) (d : List ℕ) → list_any (has_whole d) paths ≡ true
-    → is_whole (map (λ (p : Bor (List ℕ)). p.now) paths) d ≡ true
-whole_by paths d e =
-    let all : List (List ℕ) = map (λ (p : Bor (List ℕ)). p.now) paths in
-    ap (λ b. is_empty all || b) (list_any-map (λ path. bytes_eq path d || stands_below d path) (λ (p : Bor (List ℕ)). p.now) paths ∙ e)
-    ∙ or_true (is_empty all)
-
--- and else where there is none
-pub whole_else : (paths : List (Bor (List ℕ))) (d : List ℕ) → list_any (has_whole d) paths ≡ false
-    → is_whole (map (λ (p : Bor (List ℕ)). p.now) paths) d ≡ nat_eq (length paths) 0
-whole_else [] d e = refl
-whole_else (p ∷ ps) d e =
-    list_any-map (λ path. bytes_eq path d || stands_below d path) (λ (q : Bor (List ℕ)). q.now) (p ∷ ps) ∙ e
-    ∙ at (nat_eq (length (p ∷ ps)) 0) refl
-  where
-    at : (b : Bool) → nat_eq (length (p ∷ ps)) 0 ≡ b → false ≡ b
-    at true none = absurd (omega (arith, eqb-true (length (p ∷ ps)) 0 none))
-    at false some = refl
 
 -- ---- entries that take part
 
@@ -181,18 +147,6 @@ filter_as p q same (x ∷ xs) =
 pub filter_all : {X : Type 0} (p : X → Bool) → ((x : X) → p x ≡ true) → (xs : List X) → filter p xs ≡ xs
 filter_all p all [] = refl
 filter_all p all (x ∷ xs) = ap (λ b. cond b (x ∷ filter p xs) (filter p xs)) (all x) ∙ ap (λ l. x ∷ l) (filter_all p all xs)
-
--- of a directory that is asked for as a whole all entries take part
-pub whole_part : (only : List (List ℕ)) (d : List ℕ) (es : List EntryModel) → is_whole only d ≡ true
-    → es ≡ filter (takes_part only d) es
-whole_part only d es e = sym (filter_all (takes_part only d) (λ x. ap (λ b. b || list_any (leads_to x) (rests only d)) e) es)
-
--- and of another those that lead to a path
-pub led_part : (only : List (List ℕ)) (d : List ℕ) (es : List EntryModel) → is_whole only d ≡ false
-    → filter (leads_on only d) es ≡ filter (takes_part only d) es
-led_part only d es e =
-    filter_as (leads_on only d) (takes_part only d)
-    (λ x. sym (ap (λ b. b || list_any (leads_to x) (rests only d)) e ∙ leads_once only d x)) es
 
 -- the entries of the items that take part
 pub entries_of_part : (p : EntryModel → Bool) (items : List Item)
@@ -224,59 +178,3 @@ led_by_items (item ∷ items) rest = ap (λ b. leads_to (entry_of item) rest || 
 -- what is absent of the items of a directory is told by its entries
 pub absent_is : (only : List (List ℕ)) (d : List ℕ) (items : List Item) → unled (entries_of items) (rests only d) ≡ absent_from only d items
 absent_is only d items = filter_as _ _ (λ rest. ap not (sym (led_by_items items rest))) (rests only d)
-
-filter-append : {X : Type 0} (p : X → Bool) (xs ys : List X) → filter p (xs ++ ys) ≡ filter p xs ++ filter p ys
-filter-append p [] ys = refl
-filter-append {X} p (x ∷ xs) ys = at (p x) (filter-append p xs ys)
-  where
-    at : (b : Bool) → filter p (xs ++ ys) ≡ filter p xs ++ filter p ys
-        → cond b (x ∷ filter p (xs ++ ys)) (filter p (xs ++ ys)) ≡ cond b (x ∷ filter p xs) (filter p xs) ++ filter p ys
-    at true rest = ap (λ l. x ∷ l) rest
-    at false rest = rest
-
--- the faults of some paths
-abbrev pub faults_from : List EntryModel → List ℕ → List (List ℕ) → List FileFaultModel
-faults_from es d paths = absent_faults (unled es (filter_map (rest_from d) (each_once paths)))
-
--- that of the first and those of the others
-pub faults_first : (es : List EntryModel) (d path : List ℕ) (paths : List (List ℕ))
-    → faults_from es d (path ∷ paths)
-    ≡ absent_faults (unled es (if_seen (cond (list_any (bytes_eq path) paths) None (rest_from d path)))) ++ faults_from es d paths
-faults_first es d path paths =
-    ap (λ l. absent_faults (unled es l)) (at (list_any (bytes_eq path) paths))
-    ∙ ap absent_faults (filter-append _ (if_seen (cond (list_any (bytes_eq path) paths) None (rest_from d path))) _)
-    ∙ map-append _ (unled es (if_seen (cond (list_any (bytes_eq path) paths) None (rest_from d path)))) _
-  where
-    seen : (o : Option (List ℕ)) (rs : List (List ℕ)) → cons_option o rs ≡ if_seen o ++ rs
-    seen None rs = refl
-    seen (Some r) rs = refl
-
-    at : (b : Bool) → filter_map (rest_from d) (cond b (each_once paths) (path ∷ each_once paths))
-        ≡ if_seen (cond b None (rest_from d path)) ++ filter_map (rest_from d) (each_once paths)
-    at true = refl
-    at false = seen (rest_from d path) (filter_map (rest_from d) (each_once paths))
-
--- the faults found so far, and those of the paths that are left, one path on
-pub faults_step : (es : List EntryModel) (d : List ℕ) (only : List (Bor (List ℕ))) (i : ℕ) (path : Bor (List ℕ))
-    (others : List (Bor (List ℕ)))
-    (old new all : List FileFaultModel) (rest : Option (List ℕ)) → drop i only ≡ path ∷ others
-    → rest ≡ cond (list_any (bytes_eq path.now) (map (λ (p : Bor (List ℕ)). p.now) others)) None (rest_from d path.now)
-    → new ≡ old ++ absent_faults (unled es (if_seen rest))
-    → old ++ faults_from es d (map (λ (p : Bor (List ℕ)). p.now) (drop i only)) ≡ all
-    → new ++ faults_from es d (map (λ (p : Bor (List ℕ)). p.now) others) ≡ all
-faults_step es d only i path others old new all rest left seen gains before =
-    let others' : List (List ℕ) = map (λ (p : Bor (List ℕ)). p.now) others in
-    ap (λ l. l ++ faults_from es d others') gains
-    ∙ append_assoc old (absent_faults (unled es (if_seen rest))) (faults_from es d others')
-    ∙ ap (λ (r : Option (List ℕ)). old ++ (absent_faults (unled es (if_seen r)) ++ faults_from es d others')) seen
-    ∙ ap (λ l. old ++ l) (sym (faults_first es d path.now others'))
-    ∙ ap (λ (ps : List (Bor (List ℕ))). old ++ faults_from es d (map (λ (p : Bor (List ℕ)). p.now) ps)) (sym left) ∙ before
-
--- what is seen of a path beside the others, where these are what follows it
-pub once_of_others : (only : List (Bor (List ℕ))) (k : ℕ) (path d : List ℕ) (seen : Option (List ℕ))
-    → seen
-    ≡ cond (list_any (bytes_eq path) (map (λ (p : Bor (List ℕ)). p.now) (take (length only - k) (drop k only)))) None (rest_from d path)
-    → seen ≡ cond (list_any (bytes_eq path) (map (λ (p : Bor (List ℕ)). p.now) (drop k only))) None (rest_from d path)
-once_of_others only k path d seen is =
-    is ∙ ap (λ (ps : List (Bor (List ℕ))). cond (list_any (bytes_eq path) (map (λ (p : Bor (List ℕ)). p.now) ps)) None (rest_from d path))
-    (take_all (length only - k) (drop k only) (omega (arith, length-drop k only)))

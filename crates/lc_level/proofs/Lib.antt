@@ -1,4 +1,5 @@
 pub mod AskedPaths
+pub mod ByHalves
 pub mod ChainSteps
 pub mod Crossing
 pub mod CountedItems
@@ -6,6 +7,7 @@ pub mod CountedLevels
 pub mod CountedMore
 pub mod DeepEntries
 pub mod Depths
+pub mod EachOnce
 pub mod EnterLevels
 pub mod Examples
 pub mod Fates
@@ -14,13 +16,16 @@ pub mod GitReads
 pub mod GivenItems
 pub mod GivenPairs
 pub mod Ignoring
+pub mod Leading
 pub mod NodeTrees
 pub mod OneLevel
 pub mod OpenLevels
 pub mod PassedOn
+pub mod PathOrder
 pub mod ReadOnce
 pub mod Rooms
 pub mod RuleParsing
+pub mod SeenPaths
 pub mod Selecting
 pub mod SomeReads
 pub mod WellFormed

@@ -10,7 +10,7 @@ use Rattle.lc_level.specs.Enters.{IsEntered, EntersLevel}
 use Rattle.lc_level.specs.Job.{JobModel}
 use Rattle.lc_level.specs.LeftIn.{kept_file, kept_directory, left_entry, LeavesIn}
 use Rattle.lc_level.specs.Level.{FileFaultModel, absent_faults}
-use Rattle.lc_level.specs.Narrowing.{rests, takes_part, part_of}
+use Rattle.lc_level.specs.Narrowing.{WantedModel, wanted_in, has_part, rests, takes_part, part_of}
 use Rattle.lc_level.specs.Opens.{IsOpened, OpensLevel}
 use Rattle.lc_level.specs.PathSteps.{unled}
 use Rattle.lc_level.specs.Selection.{SelectionModel}
@@ -30,22 +30,21 @@ length_entries : (items : List Item) → length (entries_of items) ≡ length it
 length_entries [] = refl
 length_entries (i ∷ is) = ap suc (length_entries is)
 
-module _ (s : SelectionModel) (e : Entered) (only : List (List ℕ)) (directory : List ℕ) (same : only ≡ s.only)
+module _ (s : SelectionModel) (e : Entered) (w : WantedModel) (directory : List ℕ) (wanted : w ≡ wanted_in s.only directory)
     (at : directory ≡ e.job.path) where
-  -- the entries that take part, by the selection's paths and the directory that was entered
-  pub part_by : (part : List EntryModel) → part ≡ filter (takes_part only directory) e.entries.items
+  -- the entries that take part, by what is asked for of the directory that was entered
+  pub part_by : (part : List EntryModel) → part ≡ filter (has_part w) e.entries.items
       → part ≡ filter (takes_part s.only e.job.path) e.entries.items
   part_by part is =
-      is ∙ ap (λ o. filter (takes_part o directory) e.entries.items) same
+      is ∙ ap (λ (v : WantedModel). filter (has_part v) e.entries.items) wanted
       ∙ ap (λ d. filter (takes_part s.only d) e.entries.items) at
 
   -- and so the paths that are absent
   pub absent_by : (absent : List FileFaultModel) (entries : List EntryModel) → entries ≡ e.entries.items
-      → absent ≡ absent_faults (unled entries (rests only directory))
-      → absent ≡ absent_faults (unled e.entries.items (rests s.only e.job.path))
+      → absent ≡ absent_faults (unled entries w.rests) → absent ≡ absent_faults (unled e.entries.items (rests s.only e.job.path))
   absent_by absent entries are is =
-      is ∙ ap (λ es. absent_faults (unled es (rests only directory))) are
-      ∙ ap (λ o. absent_faults (unled e.entries.items (rests o directory))) same
+      is ∙ ap (λ es. absent_faults (unled es w.rests)) are
+      ∙ ap (λ (v : WantedModel). absent_faults (unled e.entries.items v.rests)) wanted
       ∙ ap (λ d. absent_faults (unled e.entries.items (rests s.only d))) at
 
 module _ (lists : List ℕ → Listings) (gives : List ℕ → Contents) (left_out : Bool) (s : SelectionModel) (j : JobModel) where
@@ -55,9 +54,17 @@ module _ (lists : List ℕ → Listings) (gives : List ℕ → Contents) (left_o
   enter_refused texts (Broken Memory) e = tt
   enter_refused texts (Broken TooDeep) e = absurd e
 
+  -- the entries of a directory that was entered are a listing
+  pub are_listed : (texts : Bool) (e : Entered) → IsEntered lists gives j texts e → IsListing e.entries.items
+  are_listed texts e c =
+      subst IsListing (sym c.entries) (subst (λ (l : Items). IsListing (listed_in l)) c.inside.here c.inside.well_formed)
+
   -- the entries that take part are these
   module _ (texts : Bool) (e : Entered) (c : IsEntered lists gives j texts e) (part : List EntryModel)
       (is : part ≡ filter (takes_part s.only e.job.path) e.entries.items) where
+    inside_listing : IsListing (entries_of c.inside.items)
+    inside_listing = subst (λ (l : Items). IsListing (listed_in l)) c.inside.here c.inside.well_formed
+
     same_path : e.job.path ≡ j.path
     same_path = ap (λ (k : JobModel). k.path) c.inside.extends
 
@@ -74,11 +81,9 @@ module _ (lists : List ℕ → Listings) (gives : List ℕ → Contents) (left_o
     -- they are few
     pub few : length part < 2 ^ 32
     few =
-        let listing : IsListing (entries_of c.inside.items) = subst
-        (λ (l : Items). IsListing (listed_in l)) c.inside.here c.inside.well_formed in
         omega (
           arith,
-          listing.few,
+          inside_listing.few,
           length_entries c.inside.items,
           ap length part_is,
           length_entries items,

@@ -2,9 +2,11 @@
 use Rattle.std.specs.Prelude.{ℕ, ◌==◌, Bool, ◌&&◌, ◌||◌, not, cond, List, [], ◌∷◌, ◌++◌, Option, Some, None, bytes_eq}
 use Rattle.std.specs.List.{filter, filter_map, list_any}
 use Rattle.std.specs.Option.{is_some}
+use Rattle.std.specs.Ordering.{is_lt}
 use Rattle.lc_glob.specs.Bytes.{slash}
 use Rattle.lc_glob.specs.Lists.{is_empty}
 use Rattle.lc_level.specs.Answers.{Item, entry_of}
+use Rattle.lc_tree.specs.ByteOrder.{bytes_cmp}
 use Rattle.lc_tree.specs.Kinds.{is_dir}
 use Rattle.lc_tree.specs.Listing.{EntryModel}
 
@@ -23,14 +25,28 @@ abbrev pub rest_from : List ℕ → List ℕ → Option (List ℕ)
 rest_from [] path = cond (is_empty path) None (Some path)
 rest_from (b ∷ bs) path = after (b ∷ bs ++ slash ∷ []) path
 
--- each path once
+-- a path put among paths in the order of their bytes, where it isn't among them
+abbrev pub put_among : List ℕ → List (List ℕ) → List (List ℕ)
+put_among path [] = path ∷ []
+put_among path (p ∷ ps) = cond (is_lt (bytes_cmp path p)) (path ∷ p ∷ ps) (p ∷ cond (bytes_eq path p) ps (put_among path ps))
+
+-- each path once, in the order of their bytes
 abbrev pub each_once : List (List ℕ) → List (List ℕ)
 each_once [] = []
-each_once (path ∷ paths) = cond (list_any (bytes_eq path) paths) (each_once paths) (path ∷ each_once paths)
+each_once (path ∷ paths) = put_among path (each_once paths)
 
 -- whether an entry of a directory leads to a path seen from it: it stands there, or is a directory above it
 abbrev pub leads_to : EntryModel → List ℕ → Bool
 leads_to e rest = bytes_eq e.name rest || (is_dir e.kind && stands_below rest e.name)
+
+-- what is asked for of a directory: whether all of it is, and the paths below it, seen from it
+pub record WantedModel : Type 0 where
+  pub whole : Bool
+  pub rests : List (List ℕ)
+
+-- whether an entry takes part where this is asked for of its directory
+abbrev pub has_part : WantedModel → EntryModel → Bool
+has_part w e = w.whole || list_any (leads_to e) w.rests
 
 module _ (only : List (List ℕ)) (directory : List ℕ) where
   -- all of a directory is asked for where no path is, and where it is one of them or stands below one
@@ -40,6 +56,9 @@ module _ (only : List (List ℕ)) (directory : List ℕ) where
   -- the paths that stand below it, seen from it
   abbrev pub rests : List (List ℕ)
   rests = filter_map (rest_from directory) (each_once only)
+
+  abbrev pub wanted_in : WantedModel
+  wanted_in = record { whole = is_whole; rests = rests }
 
   -- the entries that take part
   abbrev pub takes_part : EntryModel → Bool

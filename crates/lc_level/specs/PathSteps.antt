@@ -1,12 +1,20 @@
 -- What is asked of the paths of a selection, step by step.
-use Rattle.std.specs.Prelude.{ℕ, Bool, not, List, [], ◌∷◌, Option, Some, None}
-use Rattle.std.specs.List.{filter, filter_map, list_any}
-use Rattle.lc_level.specs.Narrowing.{leads_to, rest_from}
+use Rattle.std.specs.Prelude.{ℕ, ◌==◌, Bool, ◌&&◌, not, cond, List, [], ◌∷◌, ◌++◌, get_or, take, bytes_eq}
+use Rattle.std.specs.List.{filter, list_any}
+use Rattle.std.specs.Ordering.{is_lt}
+use Rattle.lc_glob.specs.Bytes.{slash}
+use Rattle.lc_glob.specs.Lists.{is_empty}
+use Rattle.lc_level.specs.Narrowing.{leads_to}
+use Rattle.lc_tree.specs.ByteOrder.{bytes_cmp}
 use Rattle.lc_tree.specs.Listing.{EntryModel}
 
--- whether an entry of a directory leads to one of these paths
-abbrev pub leads_on : List (List ℕ) → List ℕ → EntryModel → Bool
-leads_on paths directory e = list_any (leads_to e) (filter_map (rest_from directory) paths)
+-- whether a path comes before all that stand below a directory: below the top all paths do but the empty one
+abbrev pub comes_before : List ℕ → List ℕ → Bool
+comes_before directory path = cond (is_empty directory) (is_empty path) (is_lt (bytes_cmp path (directory ++ slash ∷ [])))
+
+-- whether a byte of a directory's path is a slash, and what stands before it is one of these paths
+abbrev pub is_cut_among : List (List ℕ) → List ℕ → ℕ → Bool
+is_cut_among paths directory at = (get_or directory at 0 == slash) && list_any (bytes_eq (take at directory)) paths
 
 -- whether an entry leads to a path
 abbrev pub is_led_to : List EntryModel → List ℕ → Bool
@@ -15,8 +23,3 @@ is_led_to entries rest = list_any (λ e. leads_to e rest) entries
 -- those of these paths that no entry leads to
 abbrev pub unled : List EntryModel → List (List ℕ) → List (List ℕ)
 unled entries rests = filter (λ rest. not (is_led_to entries rest)) rests
-
--- a path, if there is one
-abbrev pub if_seen : Option (List ℕ) → List (List ℕ)
-if_seen None = []
-if_seen (Some rest) = rest ∷ []

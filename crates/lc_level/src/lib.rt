@@ -4,7 +4,8 @@
 //! - `entering`: a directory's listing and its rule files, read whole; `opening`: which of its entries these leave in
 //! - `git_info`, `rule_files`, `rule_pair`: its rule files; `chains`: both chains by them
 //! - `entry_looks`, `left_in`: what is looked for among its entries, and which of them stay; `deciding`, `reason`: why the others don't
-//! - `selection`: what decides beside the rules; `narrowing`: which entries take part, where some paths alone are asked for
+//! - `selection`: what decides beside the rules; `only_paths`: the paths that alone are asked for, `sorted_paths`, `below`: looking among
+//!   them; `narrowing`: which entries take part by them
 //! - `counted`, `counting`: what became of its files, and counting them
 //! - `files`, `content_fault`: opening one file, to count it or to read it as rules, and why that was not possible
 //! - `paths`: the path of a name in a directory
@@ -13,6 +14,7 @@
 //! - `laws`: that this work makes the level of the definitions
 #![tactic(auto)]
 
+mod below;
 mod cause;
 mod chains;
 mod content_fault;
@@ -30,6 +32,7 @@ mod laws;
 mod left_in;
 mod level_reader;
 mod narrowing;
+mod only_paths;
 mod open_fault;
 mod opening;
 mod path_buffer;
@@ -39,6 +42,7 @@ mod rule_files;
 mod rule_pair;
 mod scratch;
 mod selection;
+mod sorted_paths;
 
 pub use cause::Cause;
 pub use counted::{Counted, FileFault};
@@ -53,6 +57,7 @@ pub use laws::{
 };
 pub use left_in::ChildDirectory;
 pub use level_reader::{Kept, LevelReader};
+pub use only_paths::OnlyPaths;
 pub use open_fault::OpenFault;
 pub use opening::Opened;
 pub use paths::path_in;

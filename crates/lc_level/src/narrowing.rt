@@ -1,63 +1,54 @@
-//! Which entries of a directory take part, where some paths alone are asked for.
-ghost use Rattle.std.specs.Prelude.{◌≡◌, ◌++◌, ◌||◌, IfOk, None, cond, map, option_map};
+//! Which entries of a directory take part, where some paths alone are asked for, and which of these are absent.
+ghost use Rattle.std.specs.Prelude.{◌≡◌, ◌∷◌, ◌++◌, [], IfOk, map};
 ghost use Rattle.std.specs.List.{filter, list_any};
 ghost use Rattle.lc_level.specs.Level.{absent_faults};
-ghost use Rattle.lc_level.specs.Narrowing.{after, is_whole, leads_to, rest_from, rests, stands_below, takes_part};
-ghost use Rattle.lc_level.specs.PathSteps.{if_seen, is_led_to, leads_on, unled};
-ghost use Rattle.std.specs.Str.{bytes_eq};
+ghost use Rattle.lc_level.specs.Narrowing.{leads_to, has_part};
+ghost use Rattle.lc_level.specs.PathSteps.{is_led_to, unled};
+ghost use Rattle.lc_tree.specs.ByteOrder.{AreInOrder};
+ghost use Rattle.lc_tree.specs.Listing.{IsListing};
 
 use crate::FaultWord;
+use crate::below::stands_below;
 use crate::counted::FileFault;
+use crate::sorted_paths::{has_below, is_among};
+use lc_glob::cut_at_first;
 use lc_tree::{Entry, Kind};
 use std::alloc::{AllocError, Global};
+use std::marker::Model;
 
-/// What follows the first bytes, where a text begins with these.
-fn after<'p>(front: &[u8], text: &'p [u8]) -> Option<&'p [u8]>
-    ensures { option_map (λ rest. rest.now) result ≡ after front.now text.entry.now }
-{
-    text.strip_prefix(front)
+/// What is asked for of a directory.
+#[derive(Drop)]
+pub(crate) struct Wanted<'o> {
+    // Whether all of the directory is.
+    pub(crate) whole: bool,
+    // The paths below it, seen from it: each once, in the order of their bytes.
+    pub(crate) rests: Vec<&'o [u8]>,
 }
 
-/// Whether a path stands below another: `a/b` below `a`, and `ab` not.
-fn stands_below(path: &[u8], other: &[u8]) -> bool
-    ensures { result ≡ stands_below path.now other.now }
-{
-    match after(other, path) {
-        None => false,
-        Some(rest) => after(b"/", rest).is_some(),
-    }
+impl<'o> Model for Wanted<'o> {
+    ghost use Rattle.std.specs.Prelude.{map};
+    ghost use Rattle.lc_level.specs.Narrowing.{WantedModel};
+    ghost use Rattle.lc_tree.specs.ByteOrder.{AreInOrder};
+
+    ghost Value = { WantedModel };
+
+    ghost view = { λ w. record { whole = w.whole; rests = map (λ rest. rest.now) w.rests.items } };
+
+    ghost invariant = { λ w. AreInOrder (map (λ rest. rest.now) w.rests.items) };
 }
 
-/// A path seen from a directory, where it stands below it: `a/b/c` is `c` from `a/b`.
-fn rest_from<'p>(directory: &[u8], path: &'p [u8]) -> Option<&'p [u8]>
-    ensures { option_map (λ rest. rest.now) result ≡ rest_from directory.now path.entry.now }
+/// Whether an entry of a directory leads to one of the paths that are seen from it.
+fn leads_on(rests: &[&[u8]], entry: &Entry) -> bool
+    requires { AreInOrder (map (λ rest. rest.now) rests.now) }
+    ensures { result ≡ list_any (leads_to entry.now) (map (λ rest. rest.now) rests.now) }
 {
-    if directory.is_empty() {
-        return if path.is_empty() { None } else { Some(path) };
+    if is_among(rests, &entry.name) {
+        return true;
     }
-    match after(directory, path) {
-        None => None,
-        Some(rest) => after(b"/", rest),
+    match entry.kind {
+        Kind::Dir => has_below(rests, &entry.name),
+        Kind::File | Kind::Other => false,
     }
-}
-
-/// Whether a path that is asked for has a directory in it: it is its own, or one above it.
-fn has_all_of(path: &[u8], directory: &[u8]) -> bool
-    ensures { result ≡ (bytes_eq path.now directory.now || stands_below directory.now path.now) }
-{
-    path == directory || stands_below(directory, path)
-}
-
-/// Whether a directory is asked for as a whole.
-fn is_whole(only: &[&[u8]], directory: &[u8]) -> bool
-    ensures { result ≡ is_whole (map (λ path. path.now) only.now) directory.now }
-{
-    for path in only {
-        if has_all_of(path, directory) {
-            return true;
-        }
-    }
-    only.is_empty()
 }
 
 /// Whether an entry of a directory leads to a path that is seen from it.
@@ -73,91 +64,26 @@ fn leads_to(entry: &Entry, rest: &[u8]) -> bool
     }
 }
 
-/// Whether an entry of a directory leads to one of these paths.
-fn leads_on(paths: &[&[u8]], directory: &[u8], entry: &Entry) -> bool
-    ensures { result ≡ leads_on (map (λ path. path.now) paths.now) directory.now entry.now }
-{
-    for path in paths {
-        if let Some(rest) = rest_from(directory, path)
-            && leads_to(entry, rest)
-        {
-            return true;
-        }
-    }
-    false
-}
-
-/// The entries of a directory that lead to one of these paths.
-fn leading(
-    alloc: Global,
-    paths: &[&[u8]],
-    directory: &[u8],
-    entries: Vec<Entry>,
-) -> Result<Vec<Entry>, AllocError>
-    ensures { IfOk result (λ led. led.items ≡ filter (leads_on (map (λ path. path.now) paths.now) directory.now) entries.items) }
-{
-    let mut led = Vec::new(alloc);
-    for entry in entries {
-        if leads_on(paths, directory, &entry) {
-            led.push(entry)?;
-        }
-    }
-    Ok(led)
-}
-
-/// The entries of a directory that take part. Where it is asked for as a whole, as where no path is, this costs no memory.
-pub(crate) fn part_of(
-    alloc: Global,
-    only: &[&[u8]],
-    directory: &[u8],
-    entries: Vec<Entry>,
-) -> Result<Vec<Entry>, AllocError>
-    ensures { IfOk result (λ part. part.items ≡ filter (takes_part (map (λ path. path.now) only.now) directory.now) entries.items) }
-{
-    if is_whole(only, directory) {
-        return Ok(entries);
-    }
-    let part = leading(alloc, only, directory, entries)?;
-    Ok(part)
-}
-
-/// Whether one of these entries leads to a path.
+/// Whether one of a directory's entries leads to a path. Only the one of the path's first name can.
 fn is_led_to(entries: &[Entry], rest: &[u8]) -> bool
+    requires { IsListing entries.now }
     ensures { result ≡ is_led_to entries.now rest.now }
 {
-    for entry in entries {
-        if leads_to(entry, rest) {
-            return true;
-        }
-    }
-    false
-}
-
-/// Whether a path is among these.
-fn is_among(paths: &[&[u8]], path: &[u8]) -> bool
-    ensures { result ≡ list_any (bytes_eq path.now) (map (λ other. other.now) paths.now) }
-{
-    for other in paths {
-        if path == *other {
-            return true;
-        }
-    }
-    false
+    let (name, _) = cut_at_first(b'/', rest);
+    let at = entries.partition_point(|entry| entry.name.as_slice().cmp(name).is_lt());
+    at < entries.len() && leads_to(&entries[at], rest)
 }
 
 /// Adds the fault of a path that is seen from a directory, where no entry leads to it.
 fn add_unled(
     alloc: Global,
-    rest: Option<&[u8]>,
+    rest: &[u8],
     entries: &[Entry],
     absent: &mut Vec<FileFault>,
 ) -> Result<(), AllocError>
-    ensures { IfOk result (λ _. absent.new.items
-        ≡ absent.old.items ++ absent_faults (unled entries.now (if_seen (option_map (λ r. r.now) rest.entry)))) }
+    requires { IsListing entries.now }
+    ensures { IfOk result (λ _. absent.new.items ≡ absent.old.items ++ absent_faults (unled entries.now (rest.now ∷ []))) }
 {
-    let Some(rest) = rest else {
-        return Ok(());
-    };
     if is_led_to(entries, rest) {
         return Ok(());
     }
@@ -171,31 +97,40 @@ fn add_unled(
     }
 }
 
-/// A path seen from a directory, where it stands below it and isn't among others.
-fn rest_once<'p>(directory: &[u8], path: &'p [u8], others: &[&[u8]]) -> Option<&'p [u8]>
-    ensures { option_map (λ rest. rest.now) result
-        ≡ cond (list_any (bytes_eq path.entry.now) (map (λ other. other.now) others.now)) None (rest_from directory.now path.entry.now) }
-{
-    if is_among(others, path) {
-        return None;
+impl<'o> Wanted<'o> {
+    /// The entries of the directory that take part. Where all of it is asked for, as where no path is, this costs no memory.
+    pub(crate) fn part_of(
+        &self,
+        alloc: Global,
+        entries: Vec<Entry>,
+    ) -> Result<Vec<Entry>, AllocError>
+        ensures { IfOk result (λ part. part.items ≡ filter (has_part self.now) entries.items) }
+    {
+        if self.whole {
+            return Ok(entries);
+        }
+        let mut part = Vec::new(alloc);
+        for entry in entries {
+            if leads_on(&self.rests, &entry) {
+                part.push(entry)?;
+            }
+        }
+        Ok(part)
     }
-    rest_from(directory, path)
-}
 
-/// The faults of the paths below a directory to which none of its entries leads, each path once.
-pub(crate) fn absent_paths(
-    alloc: Global,
-    only: &[&[u8]],
-    directory: &[u8],
-    entries: &[Entry],
-) -> Result<Vec<FileFault>, AllocError>
-    ensures { IfOk result (λ absent. absent.items
-        ≡ absent_faults (unled entries.now (rests (map (λ path. path.now) only.now) directory.now))) }
-{
-    let mut absent = Vec::new(alloc);
-    for at in 0..only.len() {
-        let rest = rest_once(directory, only[at], &only[at + 1..]);
-        add_unled(alloc, rest, entries, &mut absent)?;
+    /// The faults of the paths to which none of the directory's entries leads.
+    pub(crate) fn absent(
+        &self,
+        alloc: Global,
+        entries: &[Entry],
+    ) -> Result<Vec<FileFault>, AllocError>
+        requires { IsListing entries.now }
+        ensures { IfOk result (λ absent. absent.items ≡ absent_faults (unled entries.now self.now.rests)) }
+    {
+        let mut absent = Vec::new(alloc);
+        for rest in &self.rests {
+            add_unled(alloc, rest, entries, &mut absent)?;
+        }
+        Ok(absent)
     }
-    Ok(absent)
 }

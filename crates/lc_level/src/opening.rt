@@ -8,7 +8,6 @@ use crate::entering::Entered;
 use crate::job::Job;
 use crate::left_in::ChildDirectory;
 use crate::level_reader::LevelReader;
-use crate::narrowing::{absent_paths, part_of};
 use crate::open_fault::OpenFault;
 use crate::reason::LeftOut;
 use crate::scratch::Scratch;
@@ -40,11 +39,13 @@ impl<T: Tree> LevelReader<'_, T> {
             self.now.selection job.now result }
     {
         let Entered { job, entries, .. } = self.enter(job, scratch)?;
-        let Ok(absent) = absent_paths(self.alloc, self.selection.only(), job.path(), &entries)
-        else {
+        let Ok(wanted) = self.selection.wanted_in(self.alloc, job.path()) else {
             return Err(OpenFault::Broken(Cause::Memory));
         };
-        let Ok(entries) = part_of(self.alloc, self.selection.only(), job.path(), entries) else {
+        let Ok(absent) = wanted.absent(self.alloc, &entries) else {
+            return Err(OpenFault::Broken(Cause::Memory));
+        };
+        let Ok(entries) = wanted.part_of(self.alloc, entries) else {
             return Err(OpenFault::Broken(Cause::Memory));
         };
         let number = entries.len() as u32;

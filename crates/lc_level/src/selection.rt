@@ -1,10 +1,13 @@
 //! What decides, beside the rules of a tree, which of its entries take part, and which of these are left out.
 ghost use Rattle.std.specs.Prelude.{◌≡◌, IfOk, option_map, map};
 ghost use Rattle.lc_level.specs.Level.{attribute_reason, by_attribute, is_set};
+ghost use Rattle.lc_level.specs.Narrowing.{wanted_in};
 ghost use Rattle.lc_level.specs.Selection.{narrowed, selection_of};
 ghost use Rattle.lc_rules.specs.AttrStates.{state_of};
 
 use crate::job::Job;
+use crate::narrowing::Wanted;
+use crate::only_paths::OnlyPaths;
 use lc_rules::State;
 use std::alloc::{AllocError, Global};
 use std::marker::Model;
@@ -15,22 +18,23 @@ use std::marker::Model;
 /// let as_it_is = Selection::new(false, &[]);
 /// let exported = Selection::new(true, &[]); // leaves out what `docs/ export-ignore` of a `.gitattributes` names
 /// let own_work = Selection::new(false, &["linguist-vendored"]); // leaves out what `lib/ linguist-vendored` names
-/// let sources = Selection::new(false, &[]).narrowed(&[b"src"]); // of the tree what stands at or below `src`
+/// let only = OnlyPaths::new(alloc, &[b"src"])?;
+/// let sources = Selection::new(false, &[]).narrowed(&only); // of the tree what stands at or below `src`
 /// ```
 #[derive(Drop)]
 pub struct Selection<'o> {
     archive: bool,
     without: &'o [&'o str],
-    only: &'o [&'o [u8]],
+    only: Option<&'o OnlyPaths<'o>>,
 }
 
 impl<'o> Model for Selection<'o> {
     ghost use Rattle.std.specs.Prelude.{map};
-    ghost use Rattle.lc_level.specs.Selection.{SelectionModel, narrowed, selection_of};
+    ghost use Rattle.lc_level.specs.Selection.{SelectionModel, lent_paths, narrowed, selection_of};
 
     ghost Value = { SelectionModel };
 
-    ghost view = { λ s. narrowed (selection_of s.archive (map (λ name. name.now) s.without.now)) (map (λ path. path.now) s.only.now) };
+    ghost view = { λ s. narrowed (selection_of s.archive (map (λ name. name.now) s.without.now)) (lent_paths s.only) };
 }
 
 /// Whether an attribute is Set at a path. Memory is taken for the attribute's macros alone.
@@ -59,7 +63,7 @@ impl<'o> Selection<'o> {
         Selection {
             archive,
             without,
-            only: &[],
+            only: None,
         }
     }
 
@@ -74,23 +78,32 @@ impl<'o> Selection<'o> {
         }
     }
 
-    /// The same of these paths alone, where there are some: what stands at or below one of them takes part. They are relative to the
-    /// top, with no slash at the end.
-    pub fn narrowed(self, only: &'o [&'o [u8]]) -> Selection<'o>
-        ensures { result ≡ narrowed self.entry (map (λ path. path.now) only.entry.now) }
+    /// The same of these paths alone, where there are some: what stands at or below one of them takes part.
+    pub fn narrowed(self, only: &'o OnlyPaths<'o>) -> Selection<'o>
+        ensures { result ≡ narrowed self.entry only.entry.now }
     {
         Selection {
             archive: self.archive,
             without: self.without,
-            only,
+            only: Some(only),
         }
     }
 
-    /// The paths alone that are asked for, if there are some.
-    pub(crate) fn only(&self) -> &'o [&'o [u8]]
-        ensures { map (λ path. path.now) result.now ≡ self.now.only }
+    /// What is asked for of a directory.
+    pub(crate) fn wanted_in(
+        &self,
+        alloc: Global,
+        directory: &[u8],
+    ) -> Result<Wanted<'o>, AllocError>
+        ensures { IfOk result (λ wanted. wanted ≡ wanted_in self.now.only directory.now) }
     {
-        self.only
+        match self.only {
+            Some(only) => Ok(only.wanted_in(alloc, directory)?),
+            None => Ok(Wanted {
+                whole: true,
+                rests: Vec::new(alloc),
+            }),
+        }
     }
 
     /// The first attribute that leaves out what stands at a path. Memory is taken for the attributes' macros alone.

@@ -1,5 +1,6 @@
 //! What one directory's work answers for trees of memory.
 
+mod around_slash;
 mod deep;
 mod entering;
 mod faults;

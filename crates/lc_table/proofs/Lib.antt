@@ -6,7 +6,6 @@ pub mod Sorted
 pub mod Stopping
 pub mod Summing
 pub mod Tokens
-pub mod Totals
 pub mod Widened
 pub mod Commas
 pub mod Counted

@@ -1,18 +1,18 @@
 -- What is true of the rows that a table shows.
-use Rattle.std.proofs.Common.{◌≡◌, ℕ, ◌<◌, Bool, true, false, List, [], ◌∷◌, Option, Some, None, refl, sym, ◌∙◌, ap, subst, arith}
+use Rattle.std.proofs.Common.{◌≡◌, ℕ, Bool, true, false, List, [], ◌∷◌, Option, Some, None, refl, sym, ◌∙◌, ap, subst, arith}
 use Rattle.std.specs.Bool.{MatchBool}
-use Rattle.std.specs.List.{sum_by, All}
+use Rattle.std.specs.List.{sum_by}
 use Rattle.std.specs.List.Sorted.{IsPermutation}
 use Rattle.std.proofs.lemmas.List.{map-id}
 use Rattle.std.proofs.lemmas.List.Sums.{sum_by-cons}
 use Rattle.std.proofs.lemmas.List.Sorted.{IsPermutation-refl, sum_by-IsPermutation}
 use Rattle.lc_text.specs.declared.shape.Columns.{Columns}
 use Rattle.lc_text.specs.declared.shape.SortBy.{SortBy}
-use Rattle.lc_walk.proofs.Growing.{same_sums}
-use Rattle.lc_walk.specs.TallyRows.{TallyRowModel, sums_of_rows, rows_with}
-use Rattle.lc_table.proofs.Totals.{same_totals}
+use Rattle.lc_walk.proofs.RowSums.{same_sums, has_same}
+use Rattle.lc_walk.proofs.Totals.{same_totals}
+use Rattle.lc_walk.specs.TallyRows.{TallyRowModel, sums_of_rows, HasSumsOf, AddsUp}
 use Rattle.lc_table.specs.Laws.{PermutationLaw, TotalsLaw, WholeLaw}
-use Rattle.lc_table.specs.ShownRows.{AddsUp, AreSorted, keeps_all, key_in, rows_in}
+use Rattle.lc_table.specs.ShownRows.{AreSorted, keeps_all, key_in, rows_in}
 
 -- sorted or not, the rows are the same
 moved : (sort : Option SortBy) (rs sorted : List TallyRowModel) → AreSorted sort rs sorted → IsPermutation rs sorted
@@ -40,7 +40,7 @@ same_under by rs =
 summed_totals : (by : Columns) (b : Bool) (rs summed : List TallyRowModel) → MatchBool b (summed ≡ rs) (AddsUp (rows_in by rs) summed)
     → sums_of_rows summed ≡ sums_of_rows rs
 summed_totals by true rs summed same = ap sums_of_rows same
-summed_totals by false rs summed h = same_totals summed (rows_in by rs) h.sums ∙ same_under by rs
+summed_totals by false rs summed h = same_totals summed (rows_in by rs) h.same.sums ∙ same_under by rs
 
 moved_totals : (xs ys : List TallyRowModel) → IsPermutation xs ys → sums_of_rows ys ≡ sums_of_rows xs
 moved_totals xs ys h =
@@ -57,7 +57,6 @@ totals_law by sort rs shown h =
 -- rows of all columns add up to themselves
 pub whole_law : WholeLaw
 whole_law rs order = record {
-  sums = λ k. ap (λ (l : List TallyRowModel). sums_of_rows (rows_with k l)) (sym (map-id rs));
-  filled = λ filled. subst (λ (l : List TallyRowModel). All (λ r. 0 < r.sums.files) l) (map-id rs) filled;
+  same = subst (λ (l : List TallyRowModel). HasSumsOf l rs) (sym (map-id rs)) (has_same rs);
   order = order;
 }

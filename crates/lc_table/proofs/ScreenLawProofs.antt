@@ -8,7 +8,7 @@ use Rattle.std.proofs.lemmas.Fmt.{decimal_is_IsNumeral_wide}
 use Rattle.std.proofs.lemmas.List.Elements.{filter-append}
 use Rattle.std.proofs.lemmas.List.Sums.{sum_by-cons}
 use Rattle.std.proofs.lemmas.Str.Parse.{digit_at}
-use Rattle.lc_walk.proofs.Growing.{same_sums}
+use Rattle.lc_walk.proofs.RowSums.{same_sums}
 use Rattle.lc_walk.specs.TallyRows.{TallyRowModel}
 use Rattle.lc_table.specs.CellWords.{comma, with_commas}
 use Rattle.lc_table.specs.ScreenText.{is_binary}

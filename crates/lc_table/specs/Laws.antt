@@ -3,8 +3,8 @@ use Rattle.std.specs.Prelude.{◌≡◌, true, List, Option}
 use Rattle.std.specs.List.Sorted.{IsPermutation}
 use Rattle.lc_text.specs.declared.shape.Columns.{Columns}
 use Rattle.lc_text.specs.declared.shape.SortBy.{SortBy}
-use Rattle.lc_walk.specs.TallyRows.{TallyRowModel, sums_of_rows, IsInOrder}
-use Rattle.lc_table.specs.ShownRows.{AddsUp, AreShown, AreSummed, rows_in}
+use Rattle.lc_walk.specs.TallyRows.{TallyRowModel, sums_of_rows, IsInOrder, AddsUp}
+use Rattle.lc_table.specs.ShownRows.{AreShown, AreSummed, rows_in}
 
 -- they are the summed ones, each once
 abbrev pub PermutationLaw : Type 0

@@ -1,5 +1,5 @@
 -- The rows that a table shows: summed over the columns that are left out, and sorted.
-use Rattle.std.specs.Prelude.{◌≡◌, ℕ, ◌<◌, Bool, ◌&&◌, if◌then◌else◌, List, map, All, Option, Some, None}
+use Rattle.std.specs.Prelude.{◌≡◌, ℕ, Bool, ◌&&◌, if◌then◌else◌, List, map, Option, Some, None}
 use Rattle.std.specs.Bool.{MatchBool}
 use Rattle.std.specs.List.Sorted.{IsPermutation, IsSorted}
 use Rattle.std.specs.Ordering.{nat_cmp, on, then_cmp}
@@ -10,7 +10,7 @@ use Rattle.lc_text.specs.declared.shape.Columns.{Columns}
 use Rattle.lc_text.specs.declared.shape.SortBy.{SortBy}
 use Rattle.lc_text.specs.declared.shape.SortBy.TheVariants.{Files, Lines, Blank, Bytes}
 use Rattle.lc_walk.specs.Key.{Key, key_cmp}
-use Rattle.lc_walk.specs.TallyRows.{TallyRowModel, sums_of_rows, rows_with, IsInOrder}
+use Rattle.lc_walk.specs.TallyRows.{TallyRowModel, AddsUp}
 use Rattle.lc_walk.specs.declared.tally.sums.Sums.{Sums}
 
 -- the key in the columns that are kept; a column that is left out is the same in all keys
@@ -24,12 +24,6 @@ key_in by k = record {
 -- the rows under these keys
 abbrev pub rows_in : Columns → List TallyRowModel → List TallyRowModel
 rows_in by rs = map (λ r. record { key = key_in by r.key; sums = r.sums }) rs
-
--- a row for each key that some row has, with the sums over the rows of this key, in order of keys
-pub record AddsUp (rs added : List TallyRowModel) : Type 0 where
-  pub sums : (k : Key) → sums_of_rows (rows_with k added) ≡ sums_of_rows (rows_with k rs)
-  pub filled : All (λ r. 0 < r.sums.files) rs → All (λ r. 0 < r.sums.files) added
-  pub order : IsInOrder added
 
 -- whether no column is left out
 abbrev pub keeps_all : Columns → Bool

@@ -2,7 +2,8 @@
 
 ghost use Rattle.std.specs.Prelude.{◌≡◌, IfOk};
 ghost use Rattle.std.specs.List.Sorted.{IsPermutation, IsSorted};
-ghost use Rattle.lc_table.specs.ShownRows.{AddsUp, AreShown, AreSorted, AreSummed, key_in, keeps_all, number_in, row_cmp, rows_in};
+ghost use Rattle.lc_walk.specs.TallyRows.{AddsUp};
+ghost use Rattle.lc_table.specs.ShownRows.{AreShown, AreSorted, AreSummed, key_in, keeps_all, number_in, row_cmp, rows_in};
 ghost use Rattle.lc_table.specs.LentRows.{items_of};
 
 use lc_census::Eol;

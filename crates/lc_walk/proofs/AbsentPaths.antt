@@ -1,8 +1,11 @@
 -- The paths that are asked for and absent, by the names from the top down to them.
 use Rattle.std.proofs.Common.{◌≡◌, ◌≢◌, ℕ, ◌==◌, Bool, true, false, not, cond, List, [], ◌∷◌, ◌++◌, map, refl, sym, ◌∙◌, ap}
 use Rattle.std.proofs.Common.{subst, inl, inr, ◌⊎◌, Option, Some, None, append-nil, bytes_eq, eq-eqb}
+use Rattle.std.specs.declared.cmp.Ordering.TheVariants.{Less}
 use Rattle.std.specs.List.{filter, filter_map, cons_option, list_any, onto_first, AllByRecursion}
+use Rattle.std.specs.List.Sorted.{IsStrictlySortedBy}
 use Rattle.std.specs.Option.{is_some}
+use Rattle.std.specs.Ordering.{is_lt}
 use Rattle.std.proofs.lemmas.Bool.{eqb-true, or_parts, not-true}
 use Rattle.std.proofs.lemmas.List.{append_cancel_left}
 use Rattle.std.proofs.lemmas.List.Splits.{slice_split-cons_yes, slice_split-cons_no}
@@ -11,9 +14,12 @@ use Rattle.lc_glob.specs.Bytes.{slash}
 use Rattle.lc_glob.specs.Path.{path_in, segments_of}
 use Rattle.lc_glob.proofs.Naming.{segments_apart, some_segment}
 use Rattle.lc_level.specs.Answers.{Item, entry_of}
-use Rattle.lc_level.specs.Narrowing.{after, stands_below, rest_from, each_once, rests, leads_to, absent_from}
+use Rattle.lc_level.specs.Narrowing.{after, stands_below, rest_from, put_among, each_once, rests, leads_to, absent_from}
 use Rattle.lc_level.proofs.AskedPaths.{rest_is}
+use Rattle.lc_level.proofs.EachOnce.{once_in_order}
+use Rattle.lc_level.proofs.PathOrder.{not_itself}
 use Rattle.lc_level.proofs.WellFormed.{bytes_other, clash}
+use Rattle.lc_tree.specs.ByteOrder.{bytes_cmp, AreInOrder}
 use Rattle.lc_tree.specs.Paths.{names_of_path}
 use Rattle.lc_walk.proofs.Distinct.{Distinct}
 use Rattle.lc_walk.proofs.Elements.{In}
@@ -94,27 +100,12 @@ rests_apart d (r ∷ rs) a = (others rs a.0, rests_apart d rs a.1)
 
 -- ---- each path once
 
-keeps_each : (P : List ℕ → Type 0) (paths : List (List ℕ)) → AllByRecursion P paths → AllByRecursion P (each_once paths)
-keeps_each P [] a = tt
-keeps_each P (path ∷ paths) a = at (list_any (bytes_eq path) paths) (keeps_each P paths a.1)
-  where
-    at : (b : Bool) → AllByRecursion P (each_once paths) → AllByRecursion P (cond b (each_once paths) (path ∷ each_once paths))
-    at true rest = rest
-    at false rest = (a.0, rest)
-
-none_is : (path : List ℕ) (paths : List (List ℕ)) → list_any (bytes_eq path) paths ≡ false → AllByRecursion (λ p. path ≢ p) paths
-none_is path [] e = tt
-none_is path (p ∷ ps) e =
-    let t = or_parts (bytes_eq path p) (list_any (bytes_eq path) ps) e in (bytes_other path p t.0, none_is path ps t.1)
-
-once_distinct : (paths : List (List ℕ)) → Distinct (each_once paths)
-once_distinct [] = tt
-once_distinct (path ∷ paths) = at (list_any (bytes_eq path) paths) refl (once_distinct paths)
-  where
-    at : (b : Bool) → list_any (bytes_eq path) paths ≡ b → Distinct (each_once paths)
-        → Distinct (cond b (each_once paths) (path ∷ each_once paths))
-    at true e rest = rest
-    at false e rest = (keeps_each (λ p. path ≢ p) paths (none_is path paths e), rest)
+rising_distinct : (paths : List (List ℕ)) → AreInOrder paths → Distinct paths
+unfolding IsStrictlySortedBy
+rising_distinct [] order = tt
+rising_distinct (path ∷ paths) order =
+    (each-map (λ p. bytes_cmp path p ≡ Less) (λ p. path ≢ p) (λ p less same. not_itself p (subst (λ q. bytes_cmp q p ≡ Less) same less))
+    paths order.0, rising_distinct paths order.1)
 
 -- ---- the paths seen from a directory
 
@@ -168,14 +159,20 @@ distinct_filter p (x ∷ xs) a = at (p x) (distinct_filter p xs a.1)
     at true rest = (each_filter (λ y. x ≢ y) p xs a.0, rest)
     at false rest = rest
 
+put_in : (path p : List ℕ) (ps : List (List ℕ)) → In path (put_among p ps) → In path (p ∷ ps)
+put_in path p [] i = i
+put_in path p (q ∷ qs) i = at (is_lt (bytes_cmp p q)) (bytes_eq p q) i (put_in path p qs)
+  where
+    at : (less same : Bool) → In path (cond less (p ∷ q ∷ qs) (q ∷ cond same qs (put_among p qs)))
+        → (In path (put_among p qs) → In path (p ∷ qs)) → In path (p ∷ q ∷ qs)
+    at true same i rest = i
+    at false true i rest = inr i
+    at false false (inl e) rest = inr (inl e)
+    at false false (inr i) rest = elim (rest i) [ inl e ↦ inl e | inr j ↦ inr (inr j) ]
+
 once_in : (path : List ℕ) (paths : List (List ℕ)) → In path (each_once paths) → In path paths
 once_in path [] i = absurd i
-once_in path (p ∷ ps) i = at (list_any (bytes_eq p) ps) i (once_in path ps)
-  where
-    at : (b : Bool) → In path (cond b (each_once ps) (p ∷ each_once ps)) → (In path (each_once ps) → In path ps) → In path (p ∷ ps)
-    at true i rest = inr (rest i)
-    at false (inl e) rest = inl e
-    at false (inr i) rest = inr (rest i)
+once_in path (p ∷ ps) i = elim (put_in path p (each_once ps) i) [ inl e ↦ inl e | inr j ↦ inr (once_in path ps j) ]
 
 -- ---- what is absent of a directory
 
@@ -186,7 +183,8 @@ NoneLeads only d items rest = AllByRecursion (λ item. leads_to (entry_of item) 
 module _ (only : List (List ℕ)) (d : List ℕ) (items : List Item) where
   -- no path is absent twice
   pub absent_distinct : Distinct (absent_from only d items)
-  absent_distinct = distinct_filter _ (rests only d) (rests_distinct d (each_once only) (once_distinct only))
+  absent_distinct =
+      distinct_filter _ (rests only d) (rests_distinct d (each_once only) (rising_distinct (each_once only) (once_in_order only)))
 
   -- each is asked for
   pub absent_asked : AllByRecursion (λ rest. In (path_in d rest) only × (d ≡ [] → rest ≢ [])) (absent_from only d items)

@@ -1,8 +1,9 @@
 -- The order of keys.
-use Rattle.std.proofs.Common.{◌≡◌, ◌∙◌, ap}
+use Rattle.std.proofs.Common.{◌≡◌, true, refl, ap}
 use Rattle.std.specs.Cmp.{IsTotalOrder}
 use Rattle.std.specs.Cmp.Lexicographic.{options_total}
 use Rattle.std.specs.Ordering.{nat_cmp, is_eq}
+use Rattle.std.specs.declared.cmp.Ordering.{Ordering}
 use Rattle.std.specs.declared.cmp.Ordering.TheVariants.{Less, Equal, Greater}
 use Rattle.std.proofs.lemmas.Cmp.{nat_cmp_total, nat_list_cmp_total, on_total, then_total, alike_right}
 use Rattle.lc_walk.specs.Key.{Key, key_cmp, same_key}
@@ -18,6 +19,8 @@ key_cmp_total = then_total (on_total (λ (k : Key). k.extension) (options_total 
 pub same_to_all : (a b k : Key) → key_cmp a b ≡ Equal → same_key k a ≡ same_key k b
 same_to_all a b k e = ap is_eq (alike_right key_cmp_total a b k e)
 
--- what is above a key has it below
-pub flipped : (a b : Key) → key_cmp a b ≡ Greater → key_cmp b a ≡ Less
-flipped a b e = key_cmp_total.antisymm b a ∙ ap Rattle.std.specs.Ordering.ordering_reverse e
+-- keys that are the same tie
+pub equal_if : (o : Ordering) → is_eq o ≡ true → o ≡ Equal
+equal_if Less e = absurd (cc)
+equal_if Equal e = refl
+equal_if Greater e = absurd (cc)

@@ -1,5 +1,6 @@
 pub mod Crossing
 pub mod AbsentPaths
+pub mod AddingUp
 pub mod AllWorked
 pub mod Broken
 pub mod ChildPlaces
@@ -36,8 +37,10 @@ pub mod Posted
 pub mod Reach
 pub mod Reports
 pub mod RowEnds
+pub mod RowSums
 pub mod RulesThatIgnore
 pub mod TakingPart
+pub mod Totals
 pub mod WalkOn
 pub mod WalkParts
 pub mod Working

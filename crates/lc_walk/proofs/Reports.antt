@@ -2,8 +2,7 @@
 use Rattle.std.proofs.Common.{Bool, true, false, cond, List, [], sym, ◌∙◌, IsPermutation}
 use Rattle.std.proofs.lemmas.List.Sorted.{IsPermutation-sym, IsPermutation-trans, IsPermutation-refl, length_permutation}
 use Rattle.std.proofs.lemmas.List.Sorted.{sum_by-IsPermutation}
-use Rattle.lc_walk.specs.Tally.{TallyModel, StandsFor}
-use Rattle.lc_walk.proofs.Joining.{stands_permuted}
+use Rattle.lc_walk.proofs.Joining.{tally_permuted, sums_permuted}
 use Rattle.lc_walk.specs.WalkReport.{tallied_in, file_in, fault_in, directory_in, left_out_in, entries_in, tallied_of, files_of}
 use Rattle.lc_walk.specs.WalkReport.{directories_of, left_out_of, ReportLaw}
 use Rattle.lc_walk.proofs.Moves.{lists_moved}
@@ -15,13 +14,11 @@ cond_moved false xs ys m = IsPermutation-refl []
 -- reports of what was found in any order are the same
 pub report_law : ReportLaw
 report_law lists xs ys r moved is =
-    let held : TallyModel = record { rows = r.rows.items; totals = r.totals } in
-    let stood : StandsFor held (tallied_of xs) = record { tally = is.tally; totals = is.totals } in
-    let stands = stands_permuted held (tallied_of xs) (tallied_of ys) (lists_moved tallied_in xs ys moved) stood in
+    let counted = lists_moved tallied_in xs ys moved in
     record {
       lists_are = is.lists_are;
-      tally = stands.tally;
-      totals = stands.totals;
+      tally = tally_permuted r.rows.items (tallied_of xs) (tallied_of ys) counted is.tally;
+      totals = is.totals ∙ sums_permuted (tallied_of xs) (tallied_of ys) counted;
       directories =
           is.directories ∙ sym (length_permutation (directories_of xs) (directories_of ys) (lists_moved directory_in xs ys moved));
       entries = is.entries ∙ sym (sum_by-IsPermutation entries_in xs ys moved);

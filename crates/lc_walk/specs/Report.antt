@@ -2,6 +2,7 @@
 use Rattle.std.specs.Prelude.{◌≡◌, List}
 use Rattle.std.specs.List.Sorted.{IsPermutation, IsSortedByKey}
 use Rattle.lc_walk.specs.Tally.{TallyModel, CountedFile, StandsFor, IsTally}
+use Rattle.lc_walk.specs.TallyRows.{AddsUp}
 use Rattle.lc_walk.specs.ReportLines.{FileLineModel, LeftLineModel, file_paths, fault_paths, left_paths}
 use Rattle.lc_level.specs.FaultLines.{FaultLineModel}
 use Rattle.lc_tree.specs.ByteOrder.{bytes_cmp, AreApart, AreInOrder}
@@ -14,7 +15,7 @@ use Rattle.lc_walk.specs.declared.report.findings.Findings.{Findings}
 pub record IsReport (t : TallyModel) (lists : Lists) (found : Findings) (r : Report) : Type 0 where
   pub lists_are : r.lists ≡ lists
   pub tally : (fs : List CountedFile) → StandsFor t fs → IsTally fs r.rows.items
-  pub rows : r.rows.items ≡ t.rows
+  pub rows : AddsUp t.rows r.rows.items
   pub totals : r.totals ≡ t.totals
   pub directories : r.directories ≡ found.directories
   pub entries : r.entries ≡ found.entries

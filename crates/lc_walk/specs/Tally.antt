@@ -1,9 +1,9 @@
 -- The tally of a list of counted files.
-use Rattle.std.specs.Prelude.{◌≡◌, ℕ, ◌<◌, cond, List, Option, length, All}
+use Rattle.std.specs.Prelude.{◌≡◌, ℕ, ◌<◌, List, Option, length, All}
 use Rattle.std.specs.List.{filter, sum_by}
 use Rattle.lc_walk.specs.Key.{Key, same_key}
-use Rattle.lc_walk.specs.Sums.{plus, no_files, IsModest}
-use Rattle.lc_walk.specs.TallyRows.{TallyRowModel, sums_of_rows, rows_with, IsInOrder}
+use Rattle.lc_walk.specs.Sums.{plus, IsModest}
+use Rattle.lc_walk.specs.TallyRows.{TallyRowModel, sums_of_rows, rows_with, IsInOrder, Gains}
 use Rattle.lc_rules.specs.declared.states.TextState.{TextState}
 use Rattle.lc_census.specs.declared.totals.Count.{Count}
 use Rattle.lc_walk.specs.declared.tally.sums.Sums.{Sums}
@@ -41,30 +41,23 @@ pub record IsTally (fs : List CountedFile) (rs : List TallyRowModel) : Type 0 wh
   pub filled : All (λ r. 0 < r.sums.files) rs
   pub order : IsInOrder rs
 
--- what a tally holds: its rows, and the sums over all files
+-- what a tally holds: rows in any order, of which several may have one key, and the sums over all files
 pub record TallyModel : Type 0 where
   pub rows : List TallyRowModel
   pub totals : Sums
 
--- a tally holds the rows and the sums of these files
+-- the rows of each key have the sums over the files of this key, each row has a file, and the totals are those of these files
 pub record StandsFor (t : TallyModel) (fs : List CountedFile) : Type 0 where
-  pub tally : IsTally fs t.rows
+  pub sums : (k : Key) → sums_of_rows (rows_with k t.rows) ≡ sums_of_files (files_with k fs)
+  pub filled : All (λ r. 0 < r.sums.files) t.rows
   pub totals : t.totals ≡ sums_of_files fs
 
 -- what is true of every tally
 pub record IsKept (t : TallyModel) : Type 0 where
-  pub order : IsInOrder t.rows
   pub totals : t.totals ≡ sums_of_rows t.rows
   pub modest : IsModest t.totals
 
--- from some rows to the next, the sums of one key gain s
-pub record Gains (old new : List TallyRowModel) (k : Key) (s : Sums) : Type 0 where
-  pub sums : (j : Key) → sums_of_rows (rows_with j new) ≡ plus (sums_of_rows (rows_with j old)) (cond (same_key j k) s no_files)
-  pub all : sums_of_rows new ≡ plus (sums_of_rows old) s
-  pub filled : 0 < s.files → All (λ r. 0 < r.sums.files) old → All (λ r. 0 < r.sums.files) new
-  pub order : IsInOrder new
-
--- the same of a tally
+-- from a tally to the next, the sums of one key, and of all, gain s
 pub record Grows (old new : TallyModel) (k : Key) (s : Sums) : Type 0 where
   pub rows : Gains old.rows new.rows k s
   pub totals : new.totals ≡ plus old.totals s

@@ -1,15 +1,19 @@
 -- The rows of a tally.
-use Rattle.std.specs.Prelude.{◌≡◌, ℕ, Bool, List, Result, map, MatchResult}
-use Rattle.std.specs.List.{filter, sum_by, list_any, HoldsAt}
-use Rattle.std.specs.List.Sorted.{IsStrictlySortedBy, IsPartitionPoint}
-use Rattle.std.specs.declared.cmp.Ordering.TheVariants.{Less, Equal, Greater}
+use Rattle.std.specs.Prelude.{◌≡◌, ◌<◌, Bool, cond, List, [], ◌∷◌, ◌++◌, map, All}
+use Rattle.std.specs.List.{filter, sum_by, list_any}
+use Rattle.std.specs.List.Sorted.{IsStrictlySortedBy}
 use Rattle.lc_walk.specs.Key.{Key, key_cmp, same_key}
+use Rattle.lc_walk.specs.Sums.{plus, IsInRange}
 use Rattle.lc_walk.specs.declared.tally.sums.Sums.{Sums}
 
--- a key, and the sums over the files that have it
+-- a key, and the sums over some files that have it
 pub record TallyRowModel : Type 0 where
   pub key : Key
   pub sums : Sums
+
+-- the row of a key with these sums
+abbrev pub row_with : Key → Sums → TallyRowModel
+row_with k s = record { key = k; sums = s }
 
 -- the sums over all rows
 abbrev pub sums_of_rows : List TallyRowModel → Sums
@@ -32,8 +36,23 @@ has_row k rs = list_any (λ r. same_key k r.key) rs
 abbrev pub IsInOrder : List TallyRowModel → Type 0
 IsInOrder rs = IsStrictlySortedBy key_cmp (map (λ r. r.key) rs)
 
--- where the row of a key stands, or else between which rows it would
-abbrev pub IsPlaceFor : List TallyRowModel → Key → Result ℕ ℕ → Type 0
-IsPlaceFor rs k at =
-    MatchResult at (HoldsAt (λ r. key_cmp r.key k ≡ Equal) rs)
-    (IsPartitionPoint (λ r. key_cmp r.key k ≡ Less) (λ r. key_cmp r.key k ≡ Greater) rs)
+-- the sums over the rows of each key are the same; and each new row has a file, if each old one has
+pub record HasSumsOf (old new : List TallyRowModel) : Type 0 where
+  pub sums : (k : Key) → sums_of_rows (rows_with k new) ≡ sums_of_rows (rows_with k old)
+  pub filled : All (λ r. 0 < r.sums.files) old → All (λ r. 0 < r.sums.files) new
+
+-- from some rows to the next, the sums of one key gain s
+abbrev pub Gains : List TallyRowModel → List TallyRowModel → Key → Sums → Type 0
+Gains old new k s = HasSumsOf (old ++ row_with k s ∷ []) new
+
+-- a row for each key that some row has, with the sums over the rows of this key, in order of keys
+pub record AddsUp (rs added : List TallyRowModel) : Type 0 where
+  pub same : HasSumsOf rs added
+  pub order : IsInOrder added
+
+-- where two rows have one key, the last one's sums gain the row's
+pub record IsAbsorbed (row last : TallyRowModel) (absorbed : Bool) (row_after last_after : TallyRowModel) : Type 0 where
+  pub test : absorbed ≡ same_key row.key last.key
+  pub lent : row_after ≡ row
+  pub key : last_after.key ≡ last.key
+  pub sums : IsInRange (plus last.sums row.sums) → last_after.sums ≡ cond absorbed (plus last.sums row.sums) last.sums

@@ -4,7 +4,8 @@
 //! - `tally`: the sums over the counted files, a row for each key
 //! - `report`: what a walk reports, and how the rows of a closed board make it
 //! - `worker`, with what is below it: one worker; `workers`: all workers at the same time
-//! - `closing`: the end of a walk; `walking`: the whole walk, by its `options`; `walk_fault`: why there is no report
+//! - `closing`: the end of a walk; `walking`: the whole walk; `walk_fault`: why there is no report
+//! - `options`: what is asked of a walk; `prepared_options`: with its paths sorted, for all workers
 //! - `laws`: what is true of the definitions that the contracts cite
 #![tactic(auto)]
 
@@ -12,6 +13,7 @@ mod closing;
 mod given_up;
 mod laws;
 mod options;
+mod prepared_options;
 mod report;
 mod row;
 mod served_job;
@@ -30,6 +32,7 @@ pub use laws::{
     rows_are_the_walk_of_their_tree, the_rule_of_a_line_ignores_it, walk_examples_hold,
 };
 pub use options::{Lists, Options};
+pub use prepared_options::PreparedOptions;
 pub use report::{FaultLine, FileLine, Findings, LeftLine, Report, assemble};
 pub use row::{BrokenRow, Child, FaultedRow, ListedParts, ListedRow, Row};
 pub use served_job::ServedJob;

@@ -1,8 +1,6 @@
 //! What is asked of a walk.
-ghost use Rattle.std.specs.Prelude.{◌≡◌};
-ghost use Rattle.lc_walk.specs.WalkOptions.{IsOfAll, asked_by};
+ghost use Rattle.lc_walk.specs.WalkOptions.{IsOfAll};
 
-use lc_level::Selection;
 use lc_rules::IgnoreFile;
 use std::alloc::Global;
 use std::sync::Arc;
@@ -56,12 +54,5 @@ impl<'o> Options<'o> {
             without: &[],
             only: &[],
         }
-    }
-
-    /// What decides, beside the rules of the tree, which entries take part and which are left out.
-    pub fn selection(&self) -> Selection<'o>
-        ensures { result ≡ (asked_by self.now).selection }
-    {
-        Selection::new(self.archive, self.without).narrowed(self.only)
     }
 }

@@ -3,7 +3,7 @@
 //! - `report_lines`: what it says of a file, of a fault and of an entry left out
 //! - `findings`: what a walk has found beside the sums
 //! - `assembly`, with `row_lines` and `tree_check`: the report that the rows of a closed board make
-ghost use Rattle.std.specs.Prelude.{◌≡◌, IfOk};
+ghost use Rattle.std.specs.Prelude.{◌≡◌};
 ghost use Rattle.std.specs.List.Sorted.{IsPermutation, IsSortedByKey};
 ghost use Rattle.lc_walk.specs.Report.{IsReport};
 ghost use Rattle.lc_walk.specs.ReportLines.{FileLineModel, LeftLineModel, file_paths, fault_paths, left_paths};
@@ -21,7 +21,6 @@ use crate::tally::{Sums, Tally, TallyRow};
 pub use assembly::assemble;
 pub use findings::Findings;
 pub use report_lines::{FaultLine, FileLine, LeftLine};
-use std::alloc::AllocError;
 
 /// What a walk found.
 #[derive(Debug, Drop)]
@@ -45,15 +44,14 @@ pub struct Report {
 }
 
 impl Report {
-    /// Sorts each list of the findings by its paths, in place, and copies the tally's rows. A refusal of memory gives up the
-    /// findings.
+    /// Sorts the rows of the tally by their keys, and each list of the findings by its paths. It takes no memory.
     ///
     /// ```
-    /// let report = Report::new(&tally, lists, findings)?;
+    /// let report = Report::new(tally, lists, findings);
     /// assert_eq!(report.lists, lists);
     /// ```
-    pub fn new(tally: &Tally, lists: Lists, findings: Findings) -> Result<Report, AllocError>
-        ensures { IfOk result (IsReport tally.now lists findings) }
+    pub fn new(tally: Tally, lists: Lists, findings: Findings) -> Report
+        ensures { IsReport tally lists findings result }
     {
         let Findings {
             directories,
@@ -65,16 +63,16 @@ impl Report {
         sort_files(&mut files);
         sort_faults(&mut faults);
         sort_left(&mut left);
-        Ok(Report {
-            rows: tally.rows()?,
+        Report {
             totals: tally.totals(),
+            rows: tally.into_rows(),
             directories,
             entries,
             lists,
             files,
             faults,
             left,
-        })
+        }
     }
 }
 

@@ -7,6 +7,7 @@ ghost use Rattle.lc_walk.specs.Walks.{Walks};
 
 use crate::closing::finish;
 use crate::options::Options;
+use crate::prepared_options::PreparedOptions;
 use crate::report::Report;
 use crate::row::Row;
 use crate::walk_fault::WalkFault;
@@ -44,10 +45,13 @@ fn walk_by<B: Shared<Job, Row>, T: Tree, R: Threads + Wait + Sync>(
     let Ok(top) = top_of(alloc, options) else {
         return Err(WalkFault::Memory);
     };
+    let Ok(prepared) = PreparedOptions::new(alloc, options) else {
+        return Err(WalkFault::Memory);
+    };
     let Ok((board, passes)) = B::start(alloc, options.max_dirs, workers, top) else {
         return Err(WalkFault::Memory);
     };
-    let Ok(workers) = run_all(rt, alloc, &board, tree, passes, options) else {
+    let Ok(workers) = run_all(rt, alloc, &board, tree, passes, &prepared) else {
         return Err(WalkFault::Memory);
     };
     let Some(gathered) = gather(alloc, workers) else {

@@ -14,7 +14,7 @@ mod idle;
 mod posting;
 mod serving;
 
-use crate::options::Options;
+use crate::prepared_options::PreparedOptions;
 use crate::row::Row;
 use crate::tally::Tally;
 use crate::worker::idle::Idle;
@@ -54,7 +54,7 @@ pub struct Worker<'w, B, T, W> {
     pub alloc: Global,
     pub board: &'w B,
     pub tree: &'w T,
-    pub options: &'w Options<'w>,
+    pub options: &'w PreparedOptions<'w>,
 }
 
 impl<B: Shared<Job, Row>, T: Tree, W: Wait> Worker<'_, B, T, W> {

@@ -138,7 +138,7 @@ const PARTS_OF_TOP: &[Part] = &[
             ..AS_IT_IS
         },
         Level {
-            absent: &[b"no/b", b"no/a"],
+            absent: &[b"no/a", b"no/b"],
             ..NO_ENTRY
         },
     ),
@@ -161,7 +161,7 @@ const PARTS_OF_TOP: &[Part] = &[
             ..AS_IT_IS
         },
         Level {
-            absent: &[b"sr", b"b"],
+            absent: &[b"b", b"sr"],
             ..NO_ENTRY
         },
     ),
@@ -172,7 +172,7 @@ const PARTS_OF_TOP: &[Part] = &[
             ..AS_IT_IS
         },
         Level {
-            absent: &[b"srcs2", b"b.cc"],
+            absent: &[b"b.cc", b"srcs2"],
             ..NO_ENTRY
         },
     ),

@@ -2,7 +2,7 @@
 
 use lc_level::{
     Cause, ChildDirectory, CountedFiles, FaultWord, FileFault, Job, Kept, LeftOut, LevelReader,
-    OpenFault, Opened, Reason, Scratch, Selection,
+    OnlyPaths, OpenFault, Opened, Reason, Scratch, Selection,
 };
 use lc_rules::{IgnoreFile, Origin, RuleFault, TextState};
 use lc_tree::{Kind, MemTree, Node, Sketch};
@@ -103,8 +103,9 @@ pub(crate) const LEFT_OUT: Kept = Kept {
     texts: false,
 };
 
+/// The selection of all paths.
 pub(crate) fn selection_of<'a>(selected: &Selected<'a>) -> Selection<'a> {
-    Selection::new(selected.archive, selected.without).narrowed(selected.only)
+    Selection::new(selected.archive, selected.without)
 }
 
 fn exclude_file(
@@ -278,7 +279,9 @@ pub(crate) fn is_found(
     kept: Kept,
 ) -> Result<bool, AllocError> {
     let tree = MemTree::new(node);
-    let levels = LevelReader::new(alloc, &tree, selection_of(&case.selected), kept);
+    let only = OnlyPaths::new(alloc, case.selected.only)?;
+    let selection = selection_of(&case.selected).narrowed(&only);
+    let levels = LevelReader::new(alloc, &tree, selection, kept);
     let mut scratch = Scratch::new(alloc)?;
     let Some(job) = job_of(alloc, &levels, case.exclude, below, &mut scratch)? else {
         return Ok(false);

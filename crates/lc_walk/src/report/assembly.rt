@@ -78,8 +78,5 @@ pub fn assemble(
     let Ok(findings) = findings_of(alloc, rows) else {
         return Err(WalkFault::Memory);
     };
-    match Report::new(&tally, lists, findings) {
-        Ok(report) => Ok(report),
-        Err(_) => Err(WalkFault::Memory),
-    }
+    Ok(Report::new(tally, lists, findings))
 }

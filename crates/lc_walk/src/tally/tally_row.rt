@@ -5,6 +5,7 @@ ghost use Rattle.std.specs.Ordering.{nat_cmp};
 ghost use Rattle.std.specs.Cmp.Lexicographic.{slice_cmp};
 ghost use Rattle.lc_walk.specs.Key.{key_cmp};
 ghost use Rattle.lc_walk.specs.Sums.{plus, IsInRange};
+ghost use Rattle.lc_walk.specs.TallyRows.{IsAbsorbed};
 
 use crate::tally::key::{KeyRef, eol_rank, text_rank};
 use crate::tally::sums::Sums;
@@ -100,14 +101,26 @@ impl TallyRow {
             .then(eol_rank(self.eol).cmp(&eol_rank(key.eol)))
     }
 
+    /// Adds to its sums. No sums of a tally are too large to be added.
     pub(crate) fn absorb(&mut self, more: Sums)
-        requires { IsInRange (plus self.old.sums more) }
-        ensures { self.new ≡ record { key = self.old.key; sums = plus self.old.sums more } }
+        ensures key { self.new.key ≡ self.old.key }
+        ensures sums { IsInRange (plus self.old.sums more) → self.new.sums ≡ plus self.old.sums more }
     {
-        self.files += more.files;
-        self.lines += more.lines;
-        self.blank += more.blank;
-        self.bytes += more.bytes;
+        self.files = self.files.saturating_add(more.files);
+        self.lines = self.lines.saturating_add(more.lines);
+        self.blank = self.blank.saturating_add(more.blank);
+        self.bytes = self.bytes.saturating_add(more.bytes);
+    }
+
+    /// Adds the sums of another row of its key, and returns whether the other row has its key.
+    pub(crate) fn absorb_row(&mut self, row: &TallyRow) -> bool
+        ensures { IsAbsorbed row.now self.old result row.now self.new }
+    {
+        let same = row.compare(&self.key()).is_eq();
+        if same {
+            self.absorb(row.sums());
+        }
+        same
     }
 }
 

@@ -28,7 +28,7 @@ impl<'w, B: Shared<Job, Row>, T: Tree, W: Wait> Worker<'w, B, T, W> {
         ensures kept { result.kept.left_out ≡ self.now.options.now.lists.left_out }
     {
         let kept = Kept {
-            left_out: self.options.lists.left_out,
+            left_out: self.options.lists().left_out,
             texts: false,
         };
         LevelReader::new(self.alloc, self.tree, self.options.selection(), kept)
@@ -54,7 +54,7 @@ impl<'w, B: Shared<Job, Row>, T: Tree, W: Wait> Worker<'w, B, T, W> {
     fn if_asked(&self, files: Vec<Counted>) -> Vec<Counted>
         ensures { result.items ≡ (if self.now.options.now.lists.files then files.items else []) }
     {
-        if self.options.lists.files {
+        if self.options.lists().files {
             return files;
         }
         Vec::new(self.alloc)

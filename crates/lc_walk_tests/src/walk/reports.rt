@@ -97,7 +97,7 @@ const IN_ORDER: Found = Found {
 #[test]
 fn lists_by_paths_bytes(rt: HostRuntime) -> Result<(), Fail> {
     let tally = tally_of(&rt, rt.alloc(), TALLIED)?;
-    let report = Report::new(&tally, LISTS, findings(rt.alloc())?)?;
+    let report = Report::new(tally, LISTS, findings(rt.alloc())?);
     assert!(rt;
         report.lists == LISTS && has_told(&report, IN_ORDER),
         "{report:?}"

@@ -8,7 +8,7 @@ use lc_board::{Claim, CloseFault, Closed, Ended, Locked, Shared, Words};
 use lc_level::{FaultSite, FaultWord, Job, Kept, LevelReader, Scratch, Selection};
 use lc_tree::{MemTree, Sketch};
 use lc_walk::{
-    BrokenRow, End, GivenUp, Lists, Options, Row, ServedJob, Tally, WalkFault, Worked, Worker,
+    BrokenRow, End, GivenUp, Lists, Options, PreparedOptions, Row, ServedJob, Tally, WalkFault, Worked, Worker,
     assemble,
 };
 use std::alloc::{AllocError, Global};
@@ -144,12 +144,13 @@ fn work<B: Shared<Job, Row>, R: Wait + Abort>(
     let tree = MemTree::new(&node);
     let (board, mut pass) = start_one::<B>(alloc)?;
     begin(rt, alloc, &board, &mut pass, &tree, case.is_broken)?;
+    let options = PreparedOptions::new(alloc, options)?;
     let worker = Worker {
         rt,
         alloc,
         board: &board,
         tree: &tree,
-        options,
+        options: &options,
     };
     let Worked { pass, end, tally } = worker.run(pass);
     if end == End::Memory {

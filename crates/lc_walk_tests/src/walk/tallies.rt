@@ -1,6 +1,6 @@
 //! The rows of tallies: their keys, their order and their sums.
 
-use crate::walk::told::{NONE, Sum, has_rows};
+use crate::walk::told::{NONE, Sum, has_rows, is_sum};
 use lc_census::{Count, Eol};
 use lc_rules::TextState;
 use lc_walk::{Sums, Tally};
@@ -139,7 +139,8 @@ const CASES: &[Case] = &[
 
 fn check(rt: &impl Abort, alloc: Global, case: &Case) -> Result<(), AllocError> {
     let tally = merged(rt, alloc, case.files, case.others)?;
-    let (rows, totals, name) = (tally.rows()?, tally.totals(), case.name);
+    let (totals, name) = (tally.totals(), case.name);
+    let rows = tally.into_rows();
     assert!(rt;
         has_rows(&rows, totals.files, case.rows) && is_totals(totals, case.totals),
         "{name}: {rows:?}, {totals:?}"
@@ -151,6 +152,35 @@ fn check(rt: &impl Abort, alloc: Global, case: &Case) -> Result<(), AllocError> 
 fn rows_of_tallies(rt: HostRuntime) -> Result<(), Fail> {
     for case in CASES {
         check(&rt, rt.alloc(), case)?;
+    }
+    Ok(())
+}
+
+/// The tally of two files of each extension of one byte, which come from the last extension to the first.
+fn falling(rt: &impl Abort, alloc: Global) -> Result<Tally, AllocError> {
+    let mut tally = Tally::new(alloc);
+    for _turn in 0..2 {
+        for byte in (0..=255u8).rev() {
+            assert!(rt; tally.totals().files < 512);
+            let count = Count {
+                lines: 1,
+                blank: 0,
+                bytes: 2,
+                eol: Eol::Lf,
+            };
+            tally.add(Some(&[byte]), NONE, count)?;
+        }
+    }
+    Ok(tally)
+}
+
+#[test]
+fn rows_of_many_keys_rise(rt: HostRuntime) -> Result<(), Fail> {
+    let rows = falling(&rt, rt.alloc())?.into_rows();
+    assert!(rt; rows.len() == 256);
+    for (row, byte) in rows.iter().zip(0..=255u8) {
+        let extension: &[u8] = &[byte];
+        assert!(rt; is_sum(row, (Some(extension), NONE, Eol::Lf, [2, 2, 0, 4])), "{row:?}");
     }
     Ok(())
 }

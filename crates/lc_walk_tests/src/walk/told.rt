@@ -56,7 +56,8 @@ pub(super) const FOUND: Found = Found {
     calls: None,
 };
 
-fn is_sum(row: &TallyRow, wanted: Sum) -> bool {
+/// The row is this.
+pub(super) fn is_sum(row: &TallyRow, wanted: Sum) -> bool {
     let ext = match &row.ext {
         Some(bytes) => Some(bytes.as_slice()),
         None => None,

@@ -1,19 +1,20 @@
-use Rattle.std.proofs.Common.{◌∙◌, sym, ap, take_all, Bor, List, ℕ}
+use Rattle.std.proofs.Common.{rules, map, sym, ◌∙◌, ap, bytes_eq}
 use Rattle.std.specs.List.{list_any}
-use Rattle.std.proofs.lemmas.List.Folds.{list_any_at}
-use Rattle.lc_level.specs.Narrowing.{leads_to, rest_from}
-use Rattle.lc_level.proofs.AskedPaths.{leads_lent, passes}
+use Rattle.lc_level.specs.Narrowing.{stands_below}
+use Rattle.lc_level.proofs.Leading.{leads_by_name, leads_below}
+use Rattle.lc_tree.specs.Listing.{EntryModel}
 use Rattle.lc_level.proofs.narrowing.leads_on.Goals as goal
 
-pub returns-in-loop-path : goal.returns-in-loop-path
-returns-in-loop-path c =
-    sym (leads_lent c.args.paths.now c.args.directory.now c.args.entry.now
-    ∙ list_any_at (λ (p : Bor (List ℕ)). passes (leads_to c.args.entry.now) (rest_from c.args.directory.now p.now)) c.args.paths.now
-    c.loop-path.path-index _ c.loop-path-test.true
-    (ap (passes (leads_to c.args.entry.now)) (sym c.in-Some.ensures) ∙ sym c.if-leads_to.ensures))
+pub returns-then-is_among : goal.returns-then-is_among
+returns-then-is_among c =
+    let rests = map (λ rest. rest.now) c.args.rests.now in
+    let name = c.deref.ensures.value ∙ ap (λ (e : EntryModel). e.name) c.entry.view_is in
+    sym (leads_by_name c.args.entry.now rests (sym (c.if-is_among.ensures ∙ ap (λ n. list_any (bytes_eq n) rests) name)))
 
-pub returns : goal.returns
-returns c =
-    sym (leads_lent c.args.paths.now c.args.directory.now c.args.entry.now
-    ∙ ap (list_any (λ (p : Bor (List ℕ)). passes (leads_to c.args.entry.now) (rest_from c.args.directory.now p.now)))
-    (sym (take_all c.loop-path.path-index c.args.paths.now c.loop-path-test.false)) ∙ c.loop-path.invariant)
+pub returns-in-Dir : goal.returns-in-Dir
+returns-in-Dir c =
+    let rests = map (λ rest. rest.now) c.args.rests.now in
+    let name = c.deref.ensures.value ∙ ap (λ (e : EntryModel). e.name) c.entry.view_is in
+    let same = c.deref-in-Dir.ensures.value ∙ ap (λ (e : EntryModel). e.name) c.entry.view_is in
+    c.has_below.ensures ∙ ap (λ n. list_any (λ rest. stands_below rest n) rests) same
+    ∙ sym (leads_below c.args.entry.now rests (sym (c.if-is_among.ensures ∙ ap (λ n. list_any (bytes_eq n) rests) name)) (search rules))

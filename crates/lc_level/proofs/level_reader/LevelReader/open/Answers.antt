@@ -1,12 +1,18 @@
-use Rattle.std.proofs.Common.{rules, arith}
-use Rattle.lc_level.proofs.OpenLevels.{part_by, absent_by, few, take_refused, opened}
+use Rattle.std.proofs.Common.{rules, arith, subst, sym}
+use Rattle.lc_level.proofs.OpenLevels.{part_by, absent_by, are_listed, few, take_refused, opened}
+use Rattle.lc_tree.specs.Listing.{IsListing}
 use Rattle.lc_level.proofs.level_reader.LevelReader.open.Goals as goal
+
+pub absent-requires : goal.absent-requires
+absent-requires g c =
+    subst IsListing (sym c.deref.ensures.value)
+    (are_listed (g.T.Tree.lists c.args.self.now.tree.now) (g.T.Tree.gives c.args.self.now.tree.now) c.args.self.now.kept.left_out
+    c.args.self.now.selection c.args.job.now c.args.self.now.kept.texts c.in_ok-job.field-0 c.in_ok-job.ensures.enters)
 
 pub overflow_cast-number : goal.overflow_cast-number
 overflow_cast-number g c =
     let s = c.args.self.now.selection in
-    let part = part_by s c.in_ok-job.field-0 _ _ c.only-2.ensures c.path-2.ensures c.in-Ok-part_of.entries.items
-    c.in-Ok-part_of.ensures in
+    let part = part_by s c.in_ok-job.field-0 _ _ c.in-Ok.ensures c.path.ensures c.in-Ok-part_of.entries.items c.in-Ok-part_of.ensures in
     omega (
       arith,
       c.len-number.ensures,
@@ -17,19 +23,17 @@ overflow_cast-number g c =
 pub returns-in-Ok-left_in-clause-opens : goal.returns-in-Ok-left_in-clause-opens
 returns-in-Ok-left_in-clause-opens g c =
     let s = c.args.self.now.selection in
-    let part = part_by s c.in_ok-job.field-0 _ _ c.only-2.ensures c.path-2.ensures c.in-Ok-part_of.entries.items
-    c.in-Ok-part_of.ensures in
-    let absent = absent_by s c.in_ok-job.field-0 _ _ c.only.ensures c.path.ensures c.in-Ok.absent.items _ c.deref.ensures.value
-    c.in-Ok.ensures in
+    let part = part_by s c.in_ok-job.field-0 _ _ c.in-Ok.ensures c.path.ensures c.in-Ok-part_of.entries.items c.in-Ok-part_of.ensures in
+    let absent = absent_by s c.in_ok-job.field-0 _ _ c.in-Ok.ensures c.path.ensures c.in-Ok-absent.absent.items _ c.deref.ensures.value
+    c.in-Ok-absent.ensures in
     opened (g.T.Tree.lists c.args.self.now.tree.now) (g.T.Tree.gives c.args.self.now.tree.now) c.args.self.now.kept.left_out s
     c.args.job.now c.args.self.now.kept.texts c.in_ok-job.field-0 c.in_ok-job.ensures.enters c.in-Ok-part_of.entries.items part
-    c.in-Ok-left_in.found c.in-Ok.absent c.len-number.result absent (search rules) c.in-Ok-left_in.ensures.left
+    c.in-Ok-left_in.found c.in-Ok-absent.absent c.len-number.result absent (search rules) c.in-Ok-left_in.ensures.left
 
 pub returns-in-Err-clause-opens : goal.returns-in-Err-clause-opens
 returns-in-Err-clause-opens g c =
     let s = c.args.self.now.selection in
-    let part = part_by s c.in_ok-job.field-0 _ _ c.only-2.ensures c.path-2.ensures c.in-Ok-part_of.entries.items
-    c.in-Ok-part_of.ensures in
+    let part = part_by s c.in_ok-job.field-0 _ _ c.in-Ok.ensures c.path.ensures c.in-Ok-part_of.entries.items c.in-Ok-part_of.ensures in
     take_refused (g.T.Tree.lists c.args.self.now.tree.now) (g.T.Tree.gives c.args.self.now.tree.now) c.args.self.now.kept.left_out s
     c.args.job.now c.args.self.now.kept.texts c.in_ok-job.field-0 c.in_ok-job.ensures.enters c.in-Ok-part_of.entries.items part
     c.in-Err.cause c.in-Err.ensures.left

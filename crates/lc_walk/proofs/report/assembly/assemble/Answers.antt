@@ -11,13 +11,13 @@ returns-in-Err c =
     (c.some_broken-2.ensures.none c.if-some_broken-2.false) (c.some_broken-3.ensures.none c.if-some_broken-3.false)
     c.in-Err.ensures.torn))
 
-pub returns-in-Ok-new : goal.returns-in-Ok-new
-returns-in-Ok-new c =
-    subst (λ l. IsAssembled c.args.lists c.args.tally l c.in-Ok-new.report) c.as_slice-rows.ensures.value (record {
+pub returns : goal.returns
+returns c =
+    subst (λ l. IsAssembled c.args.lists c.args.tally l c.new.result) c.as_slice-rows.ensures.value (record {
       whole = whole_rows c.as_slice-rows.result.now (c.some_broken.ensures.none c.if-some_broken.false)
           (c.some_broken-2.ensures.none c.if-some_broken-2.false) (c.some_broken-3.ensures.none c.if-some_broken-3.false);
       placed = c.in-Ok.ensures.placed;
       found = c.in-Ok-findings_of.findings;
       told = c.in-Ok-findings_of.ensures;
-      report = c.in-Ok-new.ensures;
+      report = c.new.ensures;
     })

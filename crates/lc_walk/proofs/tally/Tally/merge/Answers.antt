@@ -1,20 +1,19 @@
-use Rattle.std.proofs.Common.{ap, ◌∙◌}
-use Rattle.lc_walk.specs.Tally.{TallyModel}
-use Rattle.lc_walk.specs.Sums.{plus}
-use Rattle.lc_walk.specs.declared.tally.sums.Sums.{Sums}
-use Rattle.lc_walk.proofs.Joining.{joins_more, joined_all, stands_both}
+use Rattle.std.proofs.Common.{ap, arith, sym, subst}
+use Rattle.lc_walk.specs.Tally.{StandsFor, TallyModel}
+use Rattle.lc_walk.proofs.Joining.{kept_both, stands_both}
 use Rattle.lc_walk.proofs.tally.Tally.merge.Goals as goal
 
-pub loop-row-preserved : goal.loop-row-preserved
-loop-row-preserved c =
-    joins_more c.args.self.rows c.deref-row-items.result.now c.loop-row.rows.items c.settle.new.rows.items c.loop-row.row-index
-    c.row-item.result c.key.result c.sums.result
-    c.loop-row-test.true c.row-item.is c.key.ensures c.sums.ensures c.loop-row.invariant c.in_ok-settle.ensures.gains
+pub invariant_of-result : goal.invariant_of-result
+invariant_of-result c =
+    let left = ap (λ (t : TallyModel). t.totals.files) c.self.view_is in
+    let right = ap (λ (t : TallyModel). t.totals.files) c.other.view_is in
+    kept_both (record { rows = c.self.inside.rows; totals = c.self.inside.totals })
+    (record { rows = c.other.inside.rows; totals = c.other.inside.totals }) c.append.new.self c.add.result c.self.invariant
+    c.other.invariant c.in_ok-append.ensures c.add.ensures (omega (arith, left, right, c.requires))
 
 pub returns : goal.returns
-returns c =
-    λ fs gs left right. stands_both c.args.self c.args.other (record { rows = c.loop-row.rows.items; totals = c.add.result }) fs gs
-    (joined_all c.args.self.rows c.args.other.rows c.deref-row-items.result.now c.loop-row.rows.items c.loop-row.row-index
-    c.loop-row-test.false (c.deref-row-items.ensures.value ∙ ap (λ (t : TallyModel). t.rows) c.other.view_is) c.loop-row.invariant)
-    (c.add.ensures ∙ ap (λ (u : Sums). plus u c.other.inside.totals) (ap (λ (t : TallyModel). t.totals) c.self.view_is)
-    ∙ ap (λ (u : Sums). plus c.args.self.totals u) (ap (λ (t : TallyModel). t.totals) c.other.view_is)) left right
+returns c = λ fs gs left right.
+    stands_both (record { rows = c.self.inside.rows; totals = c.self.inside.totals })
+    (record { rows = c.other.inside.rows; totals = c.other.inside.totals })
+    (record { rows = c.append.new.self; totals = c.add.result }) fs gs c.in_ok-append.ensures c.add.ensures
+    (subst (λ t. StandsFor t fs) (sym c.self.view_is) left) (subst (λ t. StandsFor t gs) (sym c.other.view_is) right)

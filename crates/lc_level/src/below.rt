@@ -1,0 +1,47 @@
+//! Paths that stand below others.
+ghost use Rattle.std.specs.Prelude.{◌≡◌, ◌∷◌, ◌++◌, [], None, option_map};
+ghost use Rattle.std.specs.Ordering.{is_lt};
+ghost use Rattle.lc_glob.specs.Bytes.{slash};
+ghost use Rattle.lc_level.specs.Narrowing.{after, rest_from, stands_below};
+ghost use Rattle.lc_tree.specs.ByteOrder.{bytes_cmp};
+
+/// What follows the first bytes, where a text begins with these.
+fn after<'p>(front: &[u8], text: &'p [u8]) -> Option<&'p [u8]>
+    ensures { option_map (λ rest. rest.now) result ≡ after front.now text.entry.now }
+{
+    text.strip_prefix(front)
+}
+
+/// Whether a path stands below another: `a/b` below `a`, and `ab` not.
+pub(crate) fn stands_below(path: &[u8], other: &[u8]) -> bool
+    ensures { result ≡ stands_below path.now other.now }
+{
+    match after(other, path) {
+        None => false,
+        Some(rest) => after(b"/", rest).is_some(),
+    }
+}
+
+/// A path seen from a directory, where it stands below it: `a/b/c` is `c` from `a/b`.
+pub(crate) fn rest_from<'p>(directory: &[u8], path: &'p [u8]) -> Option<&'p [u8]>
+    ensures { option_map (λ rest. rest.now) result ≡ rest_from directory.now path.entry.now }
+{
+    if directory.is_empty() {
+        return if path.is_empty() { None } else { Some(path) };
+    }
+    match after(directory, path) {
+        None => None,
+        Some(rest) => after(b"/", rest),
+    }
+}
+
+/// Whether a path comes before all that stand below another, in the order of their bytes: `a`, `a-b` and `a.b` do before those below `a`,
+/// and `a/b` and `ab` don't.
+pub(crate) fn is_before_below(path: &[u8], other: &[u8]) -> bool
+    ensures { result ≡ is_lt (bytes_cmp path.now (other.now ++ slash ∷ [])) }
+{
+    match after(other, path) {
+        None => path.cmp(other).is_lt(),
+        Some(rest) => rest.cmp(b"/".as_slice()).is_lt(),
+    }
+}

@@ -1,0 +1,54 @@
+//! What is asked of a walk, prepared for its workers.
+ghost use Rattle.std.specs.Prelude.{◌≡◌, IfOk};
+ghost use Rattle.lc_walk.specs.WalkOptions.{asked_by};
+
+use crate::options::{Lists, Options};
+use lc_level::{OnlyPaths, Selection};
+use std::alloc::{AllocError, Global};
+use std::marker::Model;
+
+/// What is asked of a walk, with the paths that alone are asked for sorted once for all its workers.
+///
+/// ```
+/// let prepared = PreparedOptions::new(alloc, &options)?;
+/// ```
+#[derive(Drop)]
+pub struct PreparedOptions<'o> {
+    options: &'o Options<'o>,
+    only: OnlyPaths<'o>,
+}
+
+impl<'o> Model for PreparedOptions<'o> {
+    ghost use Rattle.std.specs.Prelude.{◌≡◌, map};
+    ghost use Rattle.lc_walk.specs.declared.options.Options.{Options};
+
+    ghost Value = { Options };
+
+    ghost view = { λ p. p.options.now };
+
+    ghost invariant = { λ p. p.only ≡ map (λ path. path.now) p.options.now.only.now };
+}
+
+impl<'o> PreparedOptions<'o> {
+    /// Sorts the paths that alone are asked for. Where there are none, this costs no memory.
+    pub fn new(alloc: Global, options: &'o Options<'o>) -> Result<PreparedOptions<'o>, AllocError>
+        ensures { IfOk result (λ prepared. prepared ≡ options.entry.now) }
+    {
+        let only = OnlyPaths::new(alloc, options.only)?;
+        Ok(PreparedOptions { options, only })
+    }
+
+    /// Which lists the report is to have, beside its rows and its faults.
+    pub(crate) fn lists(&self) -> Lists
+        ensures { result ≡ self.now.lists }
+    {
+        self.options.lists
+    }
+
+    /// What decides, beside the rules of the tree, which entries take part and which are left out.
+    pub fn selection(&self) -> Selection<'_>
+        ensures { result ≡ (asked_by self.now).selection }
+    {
+        Selection::new(self.options.archive, self.options.without).narrowed(&self.only)
+    }
+}

@@ -1,0 +1,191 @@
+//! The rows of a tally, found by their keys.
+ghost use Rattle.std.specs.Prelude.{◌≡◌, ◌<◌, [], ◌∷◌, ◌++◌, length, IfSome, IsSome, IsOk, IsTrue, OnOk, OnErr};
+ghost use Rattle.std.specs.List.{HoldsAt};
+ghost use Rattle.std.specs.List.Sorted.{IsPermutation, IsSortedByKey};
+ghost use Rattle.std.specs.declared.cmp.Ordering.TheVariants.{Equal};
+ghost use Rattle.lc_walk.specs.Key.{key_cmp};
+ghost use Rattle.lc_walk.specs.Sums.{plus, IsInRange};
+ghost use Rattle.lc_walk.specs.TallyRows.{AddsUp, Gains, HasSumsOf, IsAbsorbed, TallyRowModel, has_row, row_with, sums_of_rows};
+
+use crate::tally::key::KeyRef;
+use crate::tally::row_hints::{RowHints, slot_of};
+use crate::tally::sums::Sums;
+use crate::tally::tally_row::TallyRow;
+use std::alloc::{AllocError, Global};
+use std::marker::Model;
+
+// So few rows are not worth a sort.
+const FEW: usize = 64;
+
+/// Rows that are found by their keys, in time that grows with the logarithm of their number.
+///
+/// A key is looked for where its hint points, and then among the first rows, which are sorted. Where it is in neither place
+/// a row is pushed, so several of the rows behind the sorted ones may have one key. Once these are the larger half, all
+/// rows are added up: sorted, with one row a key.
+#[derive(Drop)]
+pub(crate) struct KeyedRows {
+    rows: Vec<TallyRow>,
+    // The number of the first rows that are in order of their keys, each key once.
+    sorted: usize,
+    hints: RowHints,
+}
+
+impl Model for KeyedRows {
+    ghost use Rattle.std.specs.Prelude.{◌≤◌, List, length};
+    ghost use Rattle.lc_walk.specs.TallyRows.{TallyRowModel};
+
+    ghost Value = { List TallyRowModel };
+
+    ghost view = { λ a. a.rows.items };
+
+    ghost invariant = { λ a. a.sorted ≤ length a.rows.items };
+}
+
+impl KeyedRows {
+    pub(crate) fn new(alloc: Global) -> KeyedRows
+        ensures { result ≡ [] }
+    {
+        KeyedRows {
+            rows: Vec::new(alloc),
+            sorted: 0,
+            hints: RowHints::empty(),
+        }
+    }
+
+    /// Adds some files of one key. Where memory is refused, a key that has a row is found by going through all rows.
+    pub(crate) fn gain(&mut self, key: &KeyRef<'_>, more: Sums) -> Result<(), AllocError>
+        requires room { IsInRange (plus (sums_of_rows self.old) more) }
+        ensures gains { OnOk result (Gains self.old self.new key.now more) }
+        ensures known { IsTrue (has_row key.now self.old) → IsOk result }
+        ensures unchanged { OnErr result (self.new ≡ self.old) }
+    {
+        let slot = slot_of(key);
+        if let Some(at) = self.find(slot, key) {
+            self.hints.note(slot, at);
+            self.absorb(at, key, more);
+            return Ok(());
+        }
+        match self.push(slot, key, more) {
+            Ok(()) => {
+                self.add_up_when_due();
+                Ok(())
+            }
+            Err(_) => self.gain_known(key, more),
+        }
+    }
+
+    /// Adds the rows of another tally.
+    pub(crate) fn append(&mut self, other: KeyedRows) -> Result<(), AllocError>
+        requires { IsInRange (sums_of_rows (self.old ++ other)) }
+        ensures { OnOk result (HasSumsOf (self.old ++ other) self.new) }
+    {
+        let KeyedRows { mut rows, .. } = other;
+        self.rows.append(&mut rows)?;
+        self.add_up_when_due();
+        Ok(())
+    }
+
+    /// The rows in order of their keys, each key once.
+    pub(crate) fn into_sorted(self) -> Vec<TallyRow>
+        requires { IsInRange (sums_of_rows self) }
+        ensures { AddsUp self result.items }
+    {
+        let KeyedRows { mut rows, .. } = self;
+        add_up(&mut rows);
+        rows
+    }
+
+    // The hint's row or a sorted row, if one of these has the key.
+    fn find(&self, slot: usize, key: &KeyRef<'_>) -> Option<usize>
+        requires { slot < 512 }
+        ensures within { IfSome result (λ at. at < length self.now) }
+        ensures found { IfSome result (HoldsAt (λ r. key_cmp r.key key.now ≡ Equal) self.now) }
+    {
+        let hint = self.hints.row(slot);
+        if hint < self.rows.len() {
+            let row = &self.rows[hint];
+            if row.compare(key).is_eq() {
+                return Some(hint);
+            }
+        }
+        self.rows[..self.sorted]
+            .binary_search_by(|row| row.compare(key))
+            .ok()
+    }
+
+    // The first row of all that has the key.
+    fn position(&self, key: &KeyRef<'_>) -> Option<usize>
+        ensures within { IfSome result (λ at. at < length self.now) }
+        ensures found { IfSome result (HoldsAt (λ r. key_cmp r.key key.now ≡ Equal) self.now) }
+        ensures known { IsTrue (has_row key.now self.now) → IsSome result }
+    {
+        self.rows.iter().position(|row| row.compare(key).is_eq())
+    }
+
+    // Adds to the sums of a row that has the key.
+    fn absorb(&mut self, at: usize, key: &KeyRef<'_>, more: Sums)
+        requires within { at < length self.old }
+        requires found { HoldsAt (λ r. key_cmp r.key key.now ≡ Equal) self.old at }
+        requires room { IsInRange (plus (sums_of_rows self.old) more) }
+        ensures { Gains self.old self.new key.now more }
+    {
+        let row = &mut self.rows[at];
+        row.absorb(more);
+    }
+
+    // Adds some files of a key that has a row, and takes no memory.
+    fn gain_known(&mut self, key: &KeyRef<'_>, more: Sums) -> Result<(), AllocError>
+        requires room { IsInRange (plus (sums_of_rows self.old) more) }
+        ensures gains { OnOk result (Gains self.old self.new key.now more) }
+        ensures known { IsTrue (has_row key.now self.old) → IsOk result }
+        ensures unchanged { OnErr result (self.new ≡ self.old) }
+    {
+        match self.position(key) {
+            Some(at) => {
+                self.absorb(at, key, more);
+                Ok(())
+            }
+            None => Err(AllocError),
+        }
+    }
+
+    fn push(&mut self, slot: usize, key: &KeyRef<'_>, sums: Sums) -> Result<(), AllocError>
+        requires { slot < 512 }
+        ensures pushed { OnOk result (self.new ≡ self.old ++ row_with key.now sums ∷ []) }
+        ensures unchanged { OnErr result (self.new ≡ self.old) }
+    {
+        let row = TallyRow::new(*self.rows.allocator(), key, sums)?;
+        self.rows.push(row)?;
+        self.hints.note(slot, self.rows.len() - 1);
+        Ok(())
+    }
+
+    fn add_up_when_due(&mut self)
+        requires { IsInRange (sums_of_rows self.old) }
+        ensures { HasSumsOf self.old self.new }
+    {
+        if self.rows.len() > FEW && self.rows.len() / 2 > self.sorted {
+            add_up(&mut self.rows);
+            self.sorted = self.rows.len();
+        }
+    }
+}
+
+// Sorts the rows, and makes one row of those of each key.
+fn add_up(rows: &mut Vec<TallyRow>)
+    requires { IsInRange (sums_of_rows rows.old.items) }
+    ensures { AddsUp rows.old.items rows.new.items }
+{
+    sort(rows);
+    let absorbed = |row: &mut TallyRow, last: &mut TallyRow| -> bool
+        ensures { IsAbsorbed row.entry.now last.entry.now result row.exit.now last.exit.now }
+    { last.absorb_row(row) };
+    rows.dedup_by(absorbed);
+}
+
+fn sort(rows: &mut Vec<TallyRow>)
+    ensures same { IsPermutation rows.old.items rows.new.items }
+    ensures order { IsSortedByKey (λ (r : TallyRowModel). r.key) key_cmp rows.new.items }
+{
+    rows.sort_unstable_by(|a, b| a.compare(&b.key()));
+}
