@@ -1,9 +1,9 @@
 -- A text that is written in pieces, as it is made.
-use Rattle.std.proofs.Common.{ℕ, ◌++◌, ◌∙◌, List, [], ◌∷◌, Result, Ok, Err, refl, sym, ap, ap₂, append_assoc, append-nil}
+use Rattle.std.proofs.Common.{◌≡◌, ℕ, ◌++◌, ◌∙◌, List, [], ◌∷◌, Result, Ok, Err, refl, sym, ap, ap₂, append_assoc, append-nil}
 use Rattle.std.proofs.Common.{subst, ⊎_elim}
 use Rattle.std.proofs.lemmas.List.Folds.{concat-append}
 use Rattle.lc_census.specs.declared.source.Failed.{Failed}
-use Rattle.lc_text.specs.Blocks.{EmptiesFull, WritesAllBut}
+use Rattle.lc_text.specs.Blocks.{EmptiesFull, AnswersBlock, WritesAllBut}
 use Rattle.lc_text.specs.Pieces.{WritesPieces, WritesInPieces, WritesPrefix, StopsInPieces, AnswersInPieces}
 use Rattle.lc_text.specs.Writes.{Writes, StopsWriting, AnswersPrint}
 use Rattle.lc_text.specs.declared.printing.PrintFault.{PrintFault}
@@ -30,10 +30,10 @@ module _ {S : Type 0} (may_take : S → List ℕ → Result ℕ Failed → S →
 
   module _ (old : S) (text block : List ℕ) (mid : S) (but : WritesAllBut may_take old text block mid) where
     -- more was appended to the text, and to the block
-    pub all_but-appended : (more : List ℕ) → WritesAllBut may_take old (text ++ more) (block ++ more) mid
-    all_but-appended more = record {
+    pub all_but-appended : (more longer : List ℕ) → longer ≡ block ++ more → WritesAllBut may_take old (text ++ more) longer mid
+    all_but-appended more longer is = record {
       front = but.front;
-      whole = sym (append_assoc but.front block more) ∙ ap (λ l. l ++ more) but.whole;
+      whole = ap (λ l. but.front ++ l) is ∙ (sym (append_assoc but.front block more) ∙ ap (λ l. l ++ more) but.whole);
       written = but.written;
     }
 
@@ -68,6 +68,12 @@ module _ {S : Type 0} (may_take : S → List ℕ → Result ℕ Failed → S →
       but.written,
       stopped,
     )
+
+    -- the block was not printed, whatever was to come after it
+    pub all_but-faulted : (fault : PrintFault) (rest : List ℕ) (new : S) (left : List ℕ)
+        → AnswersBlock may_take mid block (Err fault) new left → AnswersInPieces may_take old (text ++ rest) (Err fault) new
+    all_but-faulted Write rest new left stopped = all_but-stopped rest new stopped.1
+    all_but-faulted Memory rest new left none = absurd none
 
     -- what was written is a prefix, whatever was to come
     pub all_but-prefix : (rest : List ℕ) → WritesPrefix may_take old (text ++ rest) mid

@@ -26,7 +26,6 @@ pub mod trials;
 mod visible;
 
 pub use blocks::{BLOCK_SIZE, Block};
-pub use checking::explained::explained_text;
 pub use checking::lines::split_line;
 pub use checking::path_line::{is_bad_path, split_slash};
 pub use checking::text::check_text;
