@@ -6,8 +6,8 @@ use Rattle.lc_text.specs.declared.style.PathStyle.{PathStyle}
 use Rattle.lc_text.specs.declared.style.PathStyle.TheVariants.{Escaped, Visible}
 
 abbrev pub styled : PathStyle → List ℕ → List ℕ
-styled Escaped bytes = escape_bytes bytes
-styled Visible bytes = visible_bytes bytes
+styled Escaped = escape_bytes
+styled Visible = visible_bytes
 
 -- a path; the empty one, the top's, is a dot
 abbrev pub styled_path : PathStyle → List ℕ → List ℕ
