@@ -1,6 +1,7 @@
 pub mod PathSegments
 pub mod Reaching
 pub mod WayEnds
+pub mod KeptWays
 pub mod Entering
 pub mod Descending
 pub mod Tellings

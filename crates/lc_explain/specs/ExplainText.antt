@@ -6,6 +6,8 @@ use Rattle.lc_level.specs.Level.{Reason, named_git, by_rule, by_attribute, other
 use Rattle.lc_text.specs.Escape.{escape_bytes, escape_path}
 use Rattle.lc_text.specs.PathLines.{path_of}
 use Rattle.lc_text.specs.RulePlaces.{rule_place}
+use Rattle.lc_text.specs.Styles.{styled}
+use Rattle.lc_text.specs.declared.style.PathStyle.TheVariants.{Escaped}
 use Rattle.lc_level.specs.FaultWords.{fault_word}
 use Rattle.lc_explain.specs.Explained.{CitedRule, Explanation, bad, faulted, below, ignored, included, unruled, left_out}
 
@@ -27,7 +29,7 @@ fault_line fault = four_fields (codes "fault") (fault_word fault.word) (codes "-
 -- of a line that a rule decides: where the rule stands, and the text of its line
 abbrev pub rule_line : List ℕ → List ℕ → CitedRule → List ℕ
 rule_line word line rule =
-    four_fields word (rule_place escape_bytes (path_of line) rule.origin rule.line) (escape_bytes rule.text) (escape_bytes line)
+    four_fields word (rule_place (styled Escaped) (path_of line) rule.origin rule.line) (escape_bytes rule.text) (escape_bytes line)
 
 -- the word of what is said of a line's path, where it is said by, the pattern, and the line as it came
 abbrev pub explained_line : List ℕ → Explanation → List ℕ

@@ -75,8 +75,11 @@ impl From<PrintFault> for ExplainFault {
 /// - `left`: no rule leaves it out, but a walk does, it or a directory above it: it is named `.git` (`git`), an attribute is Set for it
 ///   (`attribute:NAME`), or it is neither a file nor a directory (`other`).
 ///
-/// Of a rule the file and the number of its line are told, as `src/.gitignore:3`, and the text of that line. Each directory is entered
-/// once for a run of paths below it. After any fault but `Write` nothing was written.
+/// Of a rule the file and the number of its line are told, as `src/.gitignore:3`, and the text of that line. After any fault but `Write`
+/// nothing was written.
+///
+/// A directory is listed and its rules are read once, in whatever order the paths come, while the directories that were entered take no
+/// more than about [`MAX_KEPT`](crate::MAX_KEPT) bytes. Past that this holds for paths in the order of a walk.
 ///
 /// ```
 /// let tree = SysTree::new(&rt, rt.alloc(), ".")?;

@@ -9,16 +9,16 @@ ghost use Rattle.lc_explain.specs.Explain.{Explains};
 ghost use Rattle.lc_explain.specs.Explained.{cited, left_out, IsExplained};
 ghost use Rattle.lc_explain.specs.ExplainText.{four_fields, fault_line, rule_line, explained_line, is_fault};
 ghost use Rattle.lc_level.specs.SitePaths.{site_path};
-ghost use Rattle.lc_explain.specs.Findings.{fault_line_of, explanation_of};
-ghost use Rattle.lc_explain.specs.Waypoints.{MayEnter};
-ghost use Rattle.lc_explain.specs.Ways.{IsWay};
+ghost use Rattle.lc_explain.specs.Findings.{fault_line_of, explanation_on};
+ghost use Rattle.lc_explain.specs.Waypoints.{way_to, MayEnter};
+ghost use Rattle.lc_explain.specs.Ways.{AreWays};
 
 use crate::explainer::Explainer;
-use crate::finding::{DirectoryFault, Finding, RulePlace};
-use crate::way::Way;
+use crate::finding::{DirectoryFault, Finding, Found, RulePlace};
+use crate::kept_ways::KeptWays;
 use lc_level::{FaultSite, Reason, path_in};
 use lc_rules::{Lines, text_of_line};
-use lc_text::{Outcome, push_escaped, push_origin, push_path, split_line, split_slash};
+use lc_text::{Outcome, PathStyle, push_escaped, push_origin, push_path, split_line, split_slash};
 use lc_tree::Tree;
 use std::alloc::{AllocError, Global};
 
@@ -46,11 +46,11 @@ struct Cited<'a> {
 }
 
 impl<'a> Cited<'a> {
-    fn new(exclude: &'a [u8], way: &'a Way, place: RulePlace) -> Cited<'a>
+    fn new(exclude: &'a [u8], kept: &'a KeptWays, to: Option<usize>, place: RulePlace) -> Cited<'a>
         ensures place { result.place ≡ place }
-        ensures text { result.text.now ≡ (cited exclude.now way.now place.origin place.line).text }
+        ensures text { result.text.now ≡ (cited exclude.now (way_to kept.now to) place.origin place.line).text }
     {
-        let text = line_text(way.text(exclude, place.origin), place.line);
+        let text = line_text(kept.text(exclude, to, place.origin), place.line);
         Cited { place, text }
     }
 }
@@ -76,7 +76,13 @@ fn push_ruled(text: &mut Vec<u8>, word: &str, rule: Cited, line: &[u8]) -> Resul
     let (path, _) = split_slash(line);
     text.extend_from_slice(word.as_bytes())?;
     text.extend_from_slice(b"\t")?;
-    push_origin(text, path, rule.place.origin, rule.place.line)?;
+    push_origin(
+        text,
+        PathStyle::Escaped,
+        path,
+        rule.place.origin,
+        rule.place.line,
+    )?;
     text.extend_from_slice(b"\t")?;
     push_escaped(text, rule.text)?;
     text.extend_from_slice(b"\t")?;
@@ -147,21 +153,21 @@ impl Telling {
         }
     }
 
-    /// Appends the line of what was found of a line's path, on this way.
+    /// Appends the line of what was found of a line's path.
     fn push(
         &mut self,
         alloc: Global,
         exclude: &[u8],
-        way: &Way,
+        kept: &KeptWays,
         line: &[u8],
-        finding: &Finding,
+        found: &Found,
     ) -> Result<(), AllocError>
         ensures text { OnOk result (self.new.text.items
-            ≡ self.old.text.items ++ explained_line line.now (explanation_of (cited exclude.now way.now) finding.now)) }
+            ≡ self.old.text.items ++ explained_line line.now (explanation_on exclude.now kept.now found.now)) }
         ensures outcome { self.new.outcome
-            ≡ (if is_fault (explanation_of (cited exclude.now way.now) finding.now) then Outcome.SomeFaults else self.old.outcome) }
+            ≡ (if is_fault (explanation_on exclude.now kept.now found.now) then Outcome.SomeFaults else self.old.outcome) }
     {
-        match finding {
+        match &found.finding {
             Finding::Bad => push_plain(&mut self.text, "bad", "-", line),
             Finding::Fault(fault) => {
                 self.outcome = Outcome::SomeFaults;
@@ -171,7 +177,7 @@ impl Telling {
                 push_ruled(
                     &mut self.text,
                     "below",
-                    Cited::new(exclude, way, *rule),
+                    Cited::new(exclude, kept, found.to, *rule),
                     line,
                 )
             }
@@ -179,7 +185,7 @@ impl Telling {
                 push_ruled(
                     &mut self.text,
                     "ignored",
-                    Cited::new(exclude, way, *rule),
+                    Cited::new(exclude, kept, found.to, *rule),
                     line,
                 )
             }
@@ -187,7 +193,7 @@ impl Telling {
                 push_ruled(
                     &mut self.text,
                     "included",
-                    Cited::new(exclude, way, *rule),
+                    Cited::new(exclude, kept, found.to, *rule),
                     line,
                 )
             }
@@ -201,13 +207,13 @@ impl Telling {
         &mut self,
         alloc: Global,
         explainer: &Explainer<'_, T>,
-        way: &mut Way,
+        kept: &mut KeptWays,
         line: &[u8],
     ) -> Result<(), AllocError>
-        requires { IsWay (MayEnter (T.lists explainer.now.levels.tree.now) (T.gives explainer.now.levels.tree.now))
-            explainer.now.levels.selection explainer.now.exclude.now explainer.now.top way.old }
-        ensures way { OnOk result (IsWay (MayEnter (T.lists explainer.now.levels.tree.now) (T.gives explainer.now.levels.tree.now))
-            explainer.now.levels.selection explainer.now.exclude.now explainer.now.top way.new) }
+        requires { AreWays (MayEnter (T.lists explainer.now.levels.tree.now) (T.gives explainer.now.levels.tree.now))
+            explainer.now.levels.selection explainer.now.exclude.now explainer.now.top kept.old }
+        ensures ways { OnOk result (AreWays (MayEnter (T.lists explainer.now.levels.tree.now) (T.gives explainer.now.levels.tree.now))
+            explainer.now.levels.selection explainer.now.exclude.now explainer.now.top kept.new) }
         ensures told { OnOk result ((lines : List (List ℕ))
             → Explains (IsExplained (MayEnter (T.lists explainer.now.levels.tree.now) (T.gives explainer.now.levels.tree.now))
             explainer.now.levels.selection explainer.now.exclude.now explainer.now.top) lines self.old.text.items self.old.outcome
@@ -216,8 +222,8 @@ impl Telling {
             self.new.text.items self.new.outcome) }
     {
         let (path, as_dir) = split_slash(line);
-        let finding = explainer.find(way, path, as_dir)?;
-        self.push(alloc, explainer.exclude, way, line, &finding)?;
+        let found = explainer.find(kept, path, as_dir)?;
+        self.push(alloc, explainer.exclude, kept, line, &found)?;
         Ok(())
     }
 
@@ -231,12 +237,12 @@ impl Telling {
             (IsExplained (MayEnter (T.lists explainer.now.levels.tree.now) (T.gives explainer.now.levels.tree.now))
             explainer.now.levels.selection explainer.now.exclude.now explainer.now.top) (input_lines_of paths.now) t.text.items t.outcome) }
     {
-        let mut way = Way::new(alloc)?;
+        let mut kept = KeptWays::new(alloc)?;
         let mut telling = Telling::new(alloc);
         let mut rest = paths;
         'lines: while !rest.is_empty() {
             let (line, others) = split_line(rest);
-            telling.tell(alloc, explainer, &mut way, line)?;
+            telling.tell(alloc, explainer, &mut kept, line)?;
             rest = others;
         }
         Ok(telling)
@@ -253,10 +259,10 @@ impl Telling {
             explainer.now.levels.selection explainer.now.exclude.now explainer.now.top) (map (λ word. word.now) words.now)
             t.text.items t.outcome) }
     {
-        let mut way = Way::new(alloc)?;
+        let mut kept = KeptWays::new(alloc)?;
         let mut telling = Telling::new(alloc);
         for word in words {
-            telling.tell(alloc, explainer, &mut way, word.as_bytes())?;
+            telling.tell(alloc, explainer, &mut kept, word.as_bytes())?;
         }
         Ok(telling)
     }

@@ -2,6 +2,8 @@ use Rattle.std.proofs.Common.{ℕ, List, ◌++◌, ◌∷◌, [], ◌∙◌, ap}
 use Rattle.lc_text.specs.Escape.{escape_bytes}
 use Rattle.lc_text.specs.PathLines.{path_of}
 use Rattle.lc_text.specs.RulePlaces.{rule_place}
+use Rattle.lc_text.specs.Styles.{styled}
+use Rattle.lc_text.specs.declared.style.PathStyle.TheVariants.{Escaped}
 use Rattle.lc_text.proofs.Explained.{last_piece}
 use Rattle.lc_explain.proofs.Tellings.{eight_pieces}
 use Rattle.lc_explain.proofs.telling.push_ruled.Goals as goal
@@ -11,7 +13,7 @@ returns c =
     let old = c.args.text.now.items in
     let word = c.as_bytes.result.now in
     let rule = c.args.rule in
-    let place = λ (p : List ℕ). rule_place escape_bytes p rule.place.origin rule.place.line in
+    let place = λ (p : List ℕ). rule_place (styled Escaped) p rule.place.origin rule.place.line in
     let pattern = escape_bytes rule.text.now in
     let line = escape_bytes c.args.line.now in
     let pushed = c.in_ok-push_escaped-2.ensures ∙ ap (λ (t : List ℕ). t ++ line) (c.in_ok-extend_from_slice-4.ensures.items

@@ -3,8 +3,8 @@ use Rattle.std.proofs.lemmas.List.{nil_from_length}
 use Rattle.lc_text.specs.Lines.{input_lines_of}
 use Rattle.lc_explain.specs.Explain.{Explains}
 use Rattle.lc_explain.specs.Explained.{Explanation, IsExplained}
-use Rattle.lc_explain.specs.Waypoints.{Way, MayEnter}
-use Rattle.lc_explain.specs.Ways.{IsWay}
+use Rattle.lc_explain.specs.Waypoints.{MayEnter}
+use Rattle.lc_explain.proofs.KeptWays.{no_ways}
 use Rattle.lc_explain.proofs.Tellings.{told_none, line_done, lines_done}
 use Rattle.lc_explain.proofs.telling.Telling.of_lines.Goals as goal
 
@@ -16,7 +16,7 @@ lines-init g c =
     let exclude = explainer.exclude.now in
     let top = explainer.top in
     record {
-      way = subst (λ (l : Way). IsWay enters s exclude top l) (sym c.in_ok-way.ensures) tt;
+      ways = no_ways enters s exclude top c.in_ok-kept.kept c.in_ok-kept.ensures;
       done = (
         [],
         told_none (IsExplained enters s exclude top) c.new-telling.result.text.items c.new-telling.result.outcome
@@ -29,7 +29,7 @@ pub lines-preserved : goal.lines-preserved
 lines-preserved g c =
     let done = c.lines.invariant.done in
     record {
-      way = c.in_ok-tell.ensures.way;
+      ways = c.in_ok-tell.ensures.ways;
       done = (
         done.0 ++ c.split_line.result.0.now ∷ [],
         c.in_ok-tell.ensures.told done.0 done.1,

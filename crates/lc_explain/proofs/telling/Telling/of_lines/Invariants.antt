@@ -3,13 +3,13 @@ use Rattle.lc_text.specs.Lines.{input_lines_of}
 use Rattle.lc_explain.specs.Explain.{Explains}
 use Rattle.lc_explain.specs.Explained.{IsExplained}
 use Rattle.lc_explain.specs.Waypoints.{MayEnter}
-use Rattle.lc_explain.specs.Ways.{IsWay}
+use Rattle.lc_explain.specs.Ways.{AreWays}
 use Rattle.lc_explain.proofs.telling.Telling.of_lines.Given as goal
 
 abbrev pub invariant-lines : goal.invariant-lines
 invariant-lines g l = record {
-  way : IsWay (MayEnter (g.T.Tree.lists l.explainer.levels.tree.now) (g.T.Tree.gives l.explainer.levels.tree.now))
-      l.explainer.levels.selection l.explainer.exclude.now l.explainer.top l.way;
+  ways : AreWays (MayEnter (g.T.Tree.lists l.explainer.levels.tree.now) (g.T.Tree.gives l.explainer.levels.tree.now))
+      l.explainer.levels.selection l.explainer.exclude.now l.explainer.top l.kept;
   done : (done : List (List ℕ)) × Explains
       (IsExplained (MayEnter (g.T.Tree.lists l.explainer.levels.tree.now) (g.T.Tree.gives l.explainer.levels.tree.now))
       l.explainer.levels.selection l.explainer.exclude.now l.explainer.top) done l.telling.text.items l.telling.outcome

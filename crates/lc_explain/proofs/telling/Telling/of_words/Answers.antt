@@ -1,8 +1,8 @@
 use Rattle.std.proofs.Common.{◌≡◌, ℕ, List, Bor, map, sym, subst, take_all}
 use Rattle.lc_explain.specs.Explain.{Explains}
 use Rattle.lc_explain.specs.Explained.{IsExplained}
-use Rattle.lc_explain.specs.Waypoints.{Way, MayEnter}
-use Rattle.lc_explain.specs.Ways.{IsWay}
+use Rattle.lc_explain.specs.Waypoints.{MayEnter}
+use Rattle.lc_explain.proofs.KeptWays.{no_ways}
 use Rattle.lc_explain.proofs.Tellings.{told_none, words_more}
 use Rattle.lc_explain.proofs.telling.Telling.of_words.Goals as goal
 
@@ -14,7 +14,7 @@ loop-word-init g c =
     let exclude = explainer.exclude.now in
     let top = explainer.top in
     record {
-      way = subst (λ (l : Way). IsWay enters s exclude top l) (sym c.in_ok-way.ensures) tt;
+      ways = no_ways enters s exclude top c.in_ok-kept.kept c.in_ok-kept.ensures;
       done = told_none (IsExplained enters s exclude top) c.new-telling.result.text.items c.new-telling.result.outcome
           c.new-telling.ensures.text c.new-telling.ensures.outcome;
     }
@@ -26,7 +26,7 @@ loop-word-preserved g c =
     let s = explainer.levels.selection in
     let words = c.args.words.now in
     record {
-      way = c.in_ok-tell.ensures.way;
+      ways = c.in_ok-tell.ensures.ways;
       done = subst (λ (l : List (List ℕ)). Explains (IsExplained enters s explainer.exclude.now explainer.top) l c.tell.new.self.text.items
           c.tell.new.self.outcome)
           (words_more words c.loop-word.word-index _ c.as_bytes.result.now c.loop-word-test.true c.as_bytes.ensures.value)
