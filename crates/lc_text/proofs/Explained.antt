@@ -65,7 +65,8 @@ found_on_line bytes rules path is_dir found are is =
     (of_path_rule P (rules_of bytes) (on_their_lines bytes) path is_dir))
 
 -- the fields of a line, by what was found of its path
-pub fields_found : (escape : List ℕ → List ℕ) (name bytes line : List ℕ) (rules : List RuleModel) (word : List ℕ) (found : Option RuleModel) → rules ≡ rules_of bytes
+pub fields_found : (escape : List ℕ → List ℕ) (name bytes line : List ℕ) (rules : List RuleModel) (word : List ℕ)
+    (found : Option RuleModel) → rules ≡ rules_of bytes
     → word ≡ path_word (file_verdict rules) (path_of line) (is_dir_line line)
     → found ≡ path_rule rules (path_of line) (is_dir_line line)
     → word ++ codes "\t" ++ rule_fields escape name bytes found ++ codes "\t" ++ escape line ++ codes "\n"

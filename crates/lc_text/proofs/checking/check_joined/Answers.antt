@@ -23,11 +23,12 @@ pub returns-in_err-rules : goal.returns-in_err-rules
 returns-in_err-rules g c =
     let bytes = c.in_ok-bytes.bytes.items in
     let rules_are = c.split_joined.ensures.rules ∙ ap rules_part c.deref.ensures.value in
-    let stops = rules_stop g.S.Source.may_give g.O.Sink.may_take rules_part (joined_text (styled c.args.style)) c.in_err-rules.field-0.0 c.args.input.now
+    let text_of = joined_text (styled c.args.style) in
+    let stops = rules_stop g.S.Source.may_give g.O.Sink.may_take rules_part text_of c.in_err-rules.field-0.0 c.args.input.now
     c.read_bytes.new.source c.args.out.now bytes c.in_ok-bytes.ensures
     (λ is. subst (λ (l : List ℕ). max_rule_bytes < length l) rules_are (c.in_err-rules.ensures.too_long.0 (ap Err is))) in
     subst (λ (r : Result
-    (Unit {0}) CheckFault). AnswersCheck g.S.Source.may_give g.O.Sink.may_take rules_part (joined_text (styled c.args.style)) c.args.input.now c.args.out.now r
+    (Unit {0}) CheckFault). AnswersCheck g.S.Source.may_give g.O.Sink.may_take rules_part text_of c.args.input.now c.args.out.now r
     c.read_bytes.new.source c.args.out.now)
     (sym (is_fault c.from_residual-in_err-rules.result (rules_fault c.in_err-rules.field-0.0) c.from_residual-in_err-rules.ensures.1)) stops
 
@@ -42,10 +43,11 @@ returns-in_err-print g c =
     (not_long c.in_ok-rules.rules (length c.split_joined.result.0.now) c.in_ok-rules.ensures.too_long.1) in
     let answers = subst (λ (t : List ℕ). AnswersPrint g.O.Sink.may_take c.args.out.now t
     (Err c.in_err-print.field-0.0) c.print.new.out) text c.in_err-print.ensures.answers in
-    let stops = output_stops g.S.Source.may_give g.O.Sink.may_take rules_part (joined_text (styled c.args.style)) c.in_err-print.field-0.0 c.args.input.now
+    let text_of = joined_text (styled c.args.style) in
+    let stops = output_stops g.S.Source.may_give g.O.Sink.may_take rules_part text_of c.in_err-print.field-0.0 c.args.input.now
     c.read_bytes.new.source c.args.out.now c.print.new.out bytes (c.in_ok-bytes.ensures, within) answers in
     subst (λ (r : Result
-    (Unit {0}) CheckFault). AnswersCheck g.S.Source.may_give g.O.Sink.may_take rules_part (joined_text (styled c.args.style)) c.args.input.now c.args.out.now r
+    (Unit {0}) CheckFault). AnswersCheck g.S.Source.may_give g.O.Sink.may_take rules_part text_of c.args.input.now c.args.out.now r
     c.read_bytes.new.source c.print.new.out)
     (sym (is_fault c.from_residual-in_err-print.result (print_fault c.in_err-print.field-0.0) c.from_residual-in_err-print.ensures.1)) stops
 
