@@ -5,6 +5,7 @@ pub mod KeptWays
 pub mod Entering
 pub mod Descending
 pub mod Tellings
+pub mod SoFar
 pub mod Answering
 pub mod Agreeing
 pub mod Searching

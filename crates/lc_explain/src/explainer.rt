@@ -21,7 +21,7 @@ use crate::question::Question;
 use crate::waypoint::Waypoint;
 use lc_glob::cut_at_first;
 use lc_level::{Job, Kept, LevelReader, OpenFault};
-use lc_text::is_bad_path;
+use lc_text::{PathStyle, is_bad_path};
 use lc_tree::{Kind, Tree};
 use std::alloc::{AllocError, Global};
 
@@ -53,6 +53,7 @@ pub(crate) struct Explainer<'t, T> {
     pub(crate) top: Job,
     /// The text of the exclude file.
     pub(crate) exclude: &'t [u8],
+    pub(crate) style: PathStyle,
     ghost keeps: { levels.kept.texts ≡ true },
     ghost starts: { top.path ≡ [] },
 }
@@ -67,6 +68,7 @@ impl<'t, T: Tree> Explainer<'t, T> {
         ensures selection { IfOk result (λ e. e.levels.selection ≡ question.entry.now.selection) }
         ensures top { IfOk result (λ e. e.top ≡ top_job (option_map rules_of question.entry.now.exclude)) }
         ensures exclude { IfOk result (λ e. e.exclude.now ≡ text_or_none question.entry.now.exclude) }
+        ensures style { IfOk result (λ e. e.style ≡ question.entry.now.style) }
     {
         let kept = Kept {
             left_out: false,
@@ -77,6 +79,7 @@ impl<'t, T: Tree> Explainer<'t, T> {
             levels: LevelReader::new(alloc, tree, question.selection.copy(), kept),
             top: Job::top(alloc, question.exclude_rules()?)?,
             exclude: question.exclude_text(),
+            style: question.style,
         })
     }
 

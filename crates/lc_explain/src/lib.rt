@@ -3,7 +3,7 @@
 //! - `question`: what is asked, beside the paths
 //! - `waypoint`, `way`: the directories that were entered on the way to a path; `kept_ways`: the ways to those that paths came by
 //! - `finding`: what is found of a path; `explainer`: finding it, from the top of the tree down
-//! - `telling`: the text of what is found, a line for each path
+//! - `telling`: the text of what is found, a line for each path; `printing`: it is written as it is made
 //! - `explaining`: the lines of an input, or words, explained and written
 //! - `laws`: that an entry is explained as its level decides it
 #![tactic(auto)]
@@ -13,6 +13,7 @@ mod explaining;
 mod finding;
 mod kept_ways;
 mod laws;
+mod printing;
 mod question;
 mod telling;
 mod way;

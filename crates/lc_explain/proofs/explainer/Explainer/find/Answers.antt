@@ -1,4 +1,4 @@
-use Rattle.std.proofs.Common.{◌++◌, ◌∷◌, [], Ok, sym, ◌∙◌, subst}
+use Rattle.std.proofs.Common.{◌∷◌, [], Ok, sym, ◌∙◌, subst}
 use Rattle.lc_explain.specs.Waypoints.{Way, MayEnter}
 use Rattle.lc_explain.specs.Ways.{StandsBelow, Goes}
 use Rattle.lc_explain.proofs.Descending.{top_way}

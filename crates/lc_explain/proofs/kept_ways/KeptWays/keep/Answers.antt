@@ -1,4 +1,4 @@
-use Rattle.std.proofs.Common.{◌≡◌, ◌++◌, ◌∷◌, [], subst}
+use Rattle.std.proofs.Common.{subst}
 use Rattle.lc_explain.specs.Waypoints.{Ways}
 use Rattle.lc_explain.specs.Ways.{Keeps}
 use Rattle.lc_explain.proofs.KeptWays.{keeps_more, keeps_alone}
