@@ -51,6 +51,15 @@ fault_entered lists gives j texts site word directory at (a, may, well_formed, i
       ∙ ap (λ (d : List ℕ). as_fault (site_path d site) word) (sym at);
 }
 
+-- it is at the same fault by another name
+pub same_fault : (lists : List ℕ → Listings) (gives : List ℕ → Contents) (j : JobModel) (directory : List ℕ) (site at : FaultSite)
+    (word why : FaultWord) → at ≡ site → why ≡ word
+    → MayEnter lists gives j (Err (record { path = site_path directory site; word = word }))
+    → MayEnter lists gives j (Err (record { path = site_path directory at; word = why }))
+same_fault lists gives j directory site at word why is says entered =
+    let Faults : FaultSite → FaultWord → Type 0 = λ f w. MayEnter lists gives j (Err (record { path = site_path directory f; word = w })) in
+    subst (λ (f : FaultSite). Faults f why) (sym is) (subst (λ (w : FaultWord). Faults site w) (sym says) entered)
+
 -- a directory that was entered has the path of its job
 path_after : (j : JobModel) (items : List Item) (r : Result RuleBytes FaultLineModel)
     → IfOk (waypoint_after j items r) (λ here. here.job.path ≡ j.path)

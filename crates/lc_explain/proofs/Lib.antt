@@ -1,9 +1,11 @@
 pub mod PathSegments
 pub mod Reaching
 pub mod WayEnds
+pub mod KeptWays
 pub mod Entering
 pub mod Descending
 pub mod Tellings
+pub mod SoFar
 pub mod Answering
 pub mod Agreeing
 pub mod Searching

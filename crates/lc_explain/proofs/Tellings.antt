@@ -7,9 +7,10 @@ use Rattle.std.proofs.lemmas.List.{map-append, take_more}
 use Rattle.std.proofs.lemmas.List.Folds.{list_any-append}
 use Rattle.lc_text.specs.Lines.{input_lines_of}
 use Rattle.lc_text.specs.PathLines.{path_of, is_dir_line}
+use Rattle.lc_text.specs.declared.style.PathStyle.{PathStyle}
 use Rattle.lc_text.specs.declared.outcome.Outcome.{Outcome}
 use Rattle.lc_text.specs.declared.outcome.Outcome.TheVariants.{Clean, SomeFaults}
-use Rattle.lc_explain.specs.Explain.{Explains}
+use Rattle.lc_explain.specs.Explain.{Explains, ExplainsLine}
 use Rattle.lc_explain.specs.Explained.{Explanation}
 use Rattle.lc_explain.specs.ExplainText.{Told, told_line, told_text, explained_line, is_fault, has_fault}
 
@@ -25,30 +26,33 @@ fault_more true false = refl
 fault_more false true = refl
 fault_more false false = refl
 
--- nothing was told of no lines
-pub told_none : (Says : List ℕ → Bool → Explanation → Type 0) (text : List ℕ) (outcome : Outcome) → text ≡ [] → outcome ≡ Clean
-    → Explains Says [] text outcome
-told_none Says text outcome is clean = record { told = []; lines_are = refl; said = tt; text_is = is; outcome_is = clean }
+module _ (style : PathStyle) (Says : List ℕ → Bool → Explanation → Type 0) where
+  -- nothing is explained of no lines
+  pub explained_none : Explains style Says [] [] Clean
+  explained_none = record { told = []; lines_are = refl; said = tt; text_is = refl; outcome_is = refl }
 
--- a line more
-pub told_more : (Says : List ℕ → Bool → Explanation → Type 0) (lines : List (List ℕ)) (text more : List ℕ) (before after : Outcome)
-    (line : List ℕ) (x : Explanation) → Explains Says lines text before → Says (path_of line) (is_dir_line line) x
-    → more ≡ text ++ explained_line line x → after ≡ (if is_fault x then SomeFaults else before)
-    → Explains Says (lines ++ line ∷ []) more after
-told_more Says lines text more before after line x told said is outcome =
-    let here : Told = (line, x) in
-    let one : told_text (told.told ++ here ∷ []) ≡ told_text told.told ++ explained_line line x =
-    flat_map-append told_line told.told (here ∷ []) ∙ ap (λ (l : List ℕ). told_text told.told ++ l) (append-nil (explained_line line x)) in
-    let any : has_fault (told.told ++ here ∷ []) ≡ (has_fault told.told || (is_fault x || false)) =
-    list_any-append (λ (t : Told). is_fault t.1) told.told (here ∷ []) in
-    record {
-      told = told.told ++ here ∷ [];
-      lines_are = map-append (λ (t : Told). t.0) told.told (here ∷ []) ∙ ap (λ (l : List (List ℕ)). l ++ line ∷ []) told.lines_are;
-      said = all_more (λ (t : Told). Says (path_of t.0) (is_dir_line t.0) t.1) told.told here told.said said;
-      text_is = is ∙ ap (λ (l : List ℕ). l ++ explained_line line x) told.text_is ∙ sym one;
-      outcome_is = outcome ∙ ap (λ (o : Outcome). if is_fault x then SomeFaults else o) told.outcome_is
-          ∙ sym (fault_more (has_fault told.told) (is_fault x)) ∙ ap (λ (b : Bool). cond b SomeFaults Clean) (sym any);
-    }
+  -- a line more
+  pub explained_more : (lines : List (List ℕ)) (made old new : List ℕ) (before after : Outcome) (line : List ℕ)
+      → Explains style Says lines made before → (here : ExplainsLine style Says line old new before after)
+      → Explains style Says (lines ++ line ∷ []) (made ++ explained_line style line here.x) after
+  explained_more lines made old new before after line explained here =
+      let x = here.x in
+      let told : List Told = explained.told in
+      let more : Told = (line, x) in
+      let one : told_text style (told ++ more ∷ []) ≡ told_text style told ++ explained_line style line x =
+      flat_map-append (told_line style) told (more ∷ [])
+      ∙ ap (λ (l : List ℕ). told_text style told ++ l) (append-nil (explained_line style line x)) in
+      let any : has_fault (told ++ more ∷ []) ≡ (has_fault told || (is_fault x || false)) =
+      list_any-append (λ (t : Told). is_fault t.1) told (more ∷ []) in
+      record {
+        told = told ++ more ∷ [];
+        lines_are = map-append (λ (t : Told). t.0) told (more ∷ [])
+            ∙ ap (λ (l : List (List ℕ)). l ++ line ∷ []) explained.lines_are;
+        said = all_more (λ (t : Told). Says (path_of t.0) (is_dir_line t.0) t.1) told more explained.said here.said;
+        text_is = ap (λ (l : List ℕ). l ++ explained_line style line x) explained.text_is ∙ sym one;
+        outcome_is = here.outcome_is ∙ ap (λ (o : Outcome). if is_fault x then SomeFaults else o) explained.outcome_is
+            ∙ sym (fault_more (has_fault told) (is_fault x)) ∙ ap (λ (b : Bool). cond b SomeFaults Clean) (sym any);
+      }
 
 -- appended in turn
 pub eight_pieces : (old a b c d e f g h : List ℕ)

@@ -1,10 +1,10 @@
 -- The last directory of a way, and what is left of a path below it.
 use Rattle.std.proofs.Common.{◌≡◌, ℕ, ◌-◌, suc, false, nat_eq, List, [], ◌∷◌, ◌++◌, length, Option, Some, None, Bor, MatchOption, IfSome}
-use Rattle.std.proofs.Common.{slice_get, refl, sym, ◌∙◌, ap, subst, arith, append_assoc, option_to_list}
+use Rattle.std.proofs.Common.{slice_get, refl, sym, ◌∙◌, ap, subst, arith}
 use Rattle.lc_glob.specs.Bytes.{slash}
 use Rattle.lc_glob.specs.Path.{path_in}
 use Rattle.lc_explain.specs.Waypoints.{WaypointModel, Way}
-use Rattle.lc_explain.specs.Ways.{IsCut}
+use Rattle.lc_explain.specs.Ways.{IsLeftBelow, StandsBelow}
 
 -- a list ends in its last element
 pub record EndsIn {A : Type 0} (xs : List A) (x : A) : Type 0 where
@@ -33,11 +33,6 @@ pub last_is : {A : Type 0} (xs front : List A) (x y : A) → xs ≡ front ++ x �
 last_is xs front x y is last =
     let h : Some x ≡ Some y = sym (last_of_end front x) ∙ ap (λ l. slice_get l (length l - 1)) (sym is) ∙ last in sym (cc h)
 
--- a list that has an end has a last element
-pub no_last : {A : Type 0} (xs front : List A) (x : A) → xs ≡ front ++ x ∷ [] → slice_get xs (length xs - 1) ≡ None → ⊥
-no_last xs front x is none =
-    let h : Some x ≡ None = sym (last_of_end front x) ∙ ap (λ l. slice_get l (length l - 1)) (sym is) ∙ none in cc h
-
 -- what stands behind a prefix
 abbrev pub Strips : List ℕ → List ℕ → Option (Bor (List ℕ)) → Type 0
 Strips s p r = MatchOption r ((rest : List ℕ) → s ≡ p ++ rest → ⊥) (λ x. s ≡ p ++ x.now)
@@ -52,16 +47,10 @@ pub left_below : (d s : List ℕ) (r : Option (Bor (List ℕ))) (x : Bor (List �
 left_below d s r x e is strips None none = tt
 left_below d s r x e is strips (Some n) at = subst (Strips s d) is strips ∙ ap (λ l. d ++ l) at ∙ sym (below_is d n.now e)
 
--- a way that is cut to a directory above a path
-pub cut_to : (old new gone : Way) (here : WaypointModel) (path rest : List ℕ) → old ≡ new ++ gone
-    → slice_get new (length new - 1) ≡ Some here
-    → path ≡ path_in here.job.path rest → IsCut old new path (Some rest)
-cut_to old new gone here path rest was last left =
-    let end = last_splits new here last in
-    record { gone = gone; was = was; stands = record { above = end.front; here = here; is = end.is; left = left } }
-
--- one directory more is gone
-pub gone_more : (old before after gone : Way) (popped : Option WaypointModel) → old ≡ before ++ gone
-    → before ≡ after ++ option_to_list popped
-    → old ≡ after ++ (option_to_list popped ++ gone)
-gone_more old before after gone popped was is = was ∙ ap (λ (l : Way). l ++ gone) is ∙ append_assoc after (option_to_list popped) gone
+-- what is left below the directory at the end of a way is left below the way
+pub below_way : (way : Way) (here : WaypointModel) (path : List ℕ) (r : Option (Bor (List ℕ)))
+    → slice_get way (length way - 1) ≡ Some here → IfSome r (λ rest. IsLeftBelow here path rest.now)
+    → IfSome r (λ rest. StandsBelow way path rest.now)
+below_way way here path None last left = tt
+below_way way here path (Some rest) last left =
+    let end = last_splits way here last in record { above = end.front; here = here; is = end.is; left = left }

@@ -1,5 +1,5 @@
 -- What a call answers that explains paths, by its reads and its writes.
-use Rattle.std.specs.Prelude.{◌≡◌, ℕ, Bool, cond, List, Result, Ok, Err, option_map, map}
+use Rattle.std.specs.Prelude.{◌≡◌, ◌⊎◌, ◌++◌, if◌then◌else◌, ℕ, Bool, cond, List, Result, Ok, Err, option_map, map}
 use Rattle.std.specs.List.{AllByRecursion}
 use Rattle.lc_census.specs.Reads.{Answer}
 use Rattle.lc_census.specs.declared.source.Failed.{Failed}
@@ -10,12 +10,13 @@ use Rattle.lc_rules.specs.IgnoreRules.{rules_of}
 use Rattle.lc_text.specs.Check.{AnswersInput}
 use Rattle.lc_text.specs.Lines.{input_lines_of}
 use Rattle.lc_text.specs.PathLines.{path_of, is_dir_line}
-use Rattle.lc_text.specs.Writes.{Writes, StopsWriting}
+use Rattle.lc_text.specs.Pieces.{WritesInPieces, AnswersInPieces}
 use Rattle.lc_text.specs.declared.printing.PrintFault.{PrintFault}
 use Rattle.lc_text.specs.declared.printing.PrintFault.TheVariants as print
+use Rattle.lc_text.specs.declared.style.PathStyle.{PathStyle}
 use Rattle.lc_tree.specs.Trees.{Listings, Contents}
 use Rattle.lc_explain.specs.Explained.{Explanation, IsExplained}
-use Rattle.lc_explain.specs.ExplainText.{Told, told_text, has_fault}
+use Rattle.lc_explain.specs.ExplainText.{Told, explained_line, told_text, is_fault, has_fault}
 use Rattle.lc_explain.specs.Waypoints.{text_or_none, MayEnter}
 use Rattle.lc_explain.specs.declared.question.Question.{Question}
 use Rattle.lc_explain.specs.declared.explaining.ExplainFault.{ExplainFault}
@@ -32,22 +33,39 @@ MaySay lists gives question path as_dir x =
 abbrev pub outcome_of : List Told → Outcome
 outcome_of told = cond (has_fault told) SomeFaults Clean
 
--- lines, each with something that may be said of its path: their text, and whether a directory was at fault
-pub record Explains (Says : List ℕ → Bool → Explanation → Type 0) (lines : List (List ℕ)) (text : List ℕ) (outcome : Outcome)
-    : Type 0 where
-  pub told : List Told
-  pub lines_are : map (λ (t : Told). t.0) told ≡ lines
-  pub said : AllByRecursion (λ (t : Told). Says (path_of t.0) (is_dir_line t.0) t.1) told
-  pub text_is : text ≡ told_text told
-  pub outcome_is : outcome ≡ outcome_of told
+module _ (style : PathStyle) (Says : List ℕ → Bool → Explanation → Type 0) where
+  -- lines, each with something that may be said of its path: their text in this style, and whether a directory was at fault
+  pub record Explains (lines : List (List ℕ)) (text : List ℕ) (outcome : Outcome) : Type 0 where
+    pub told : List Told
+    pub lines_are : map (λ (t : Told). t.0) told ≡ lines
+    pub said : AllByRecursion (λ (t : Told). Says (path_of t.0) (is_dir_line t.0) t.1) told
+    pub text_is : text ≡ told_text style told
+    pub outcome_is : outcome ≡ outcome_of told
 
-module _ {O : Type 0} (may_take : O → List ℕ → Result ℕ Failed → O → Type 0) (Says : List ℕ → Bool → Explanation → Type 0) where
-  -- of lines: their text was written whole; a prefix of it was written; nothing was written
+  -- the first of these lines were explained, and this holds of their text
+  pub record ExplainsFirst (lines : List (List ℕ)) (Holds : List ℕ → Type 0) : Type 0 where
+    pub first : List (List ℕ)
+    pub rest : List (List ℕ)
+    pub are : first ++ rest ≡ lines
+    pub text : List ℕ
+    pub outcome : Outcome
+    pub explains : Explains first text outcome
+    pub holds : Holds text
+
+  -- one more line was explained: the text before it and after it, and whether a directory was at fault
+  pub record ExplainsLine (line old new : List ℕ) (before after : Outcome) : Type 0 where
+    pub x : Explanation
+    pub said : Says (path_of line) (is_dir_line line) x
+    pub text_is : new ≡ old ++ explained_line style line x
+    pub outcome_is : after ≡ (if is_fault x then SomeFaults else before)
+
+module _ {O : Type 0} (may_take : O → List ℕ → Result ℕ Failed → O → Type 0) (style : PathStyle)
+    (Says : List ℕ → Bool → Explanation → Type 0) where
+  -- of lines, whose text is written as it is made: it was written whole; or of the first of them a prefix was, when a write stopped it or
+  -- there was no memory for the rest
   abbrev pub AnswersLines : List (List ℕ) → O → Result Outcome PrintFault → O → Type 0
-  AnswersLines lines out (Ok outcome) wrote = (text : List ℕ) × Explains Says lines text outcome × Writes may_take out text wrote
-  AnswersLines lines out (Err print.Write) wrote =
-      (text : List ℕ) × (outcome : Outcome) × Explains Says lines text outcome × StopsWriting may_take out text wrote
-  AnswersLines lines out (Err print.Memory) wrote = wrote ≡ out
+  AnswersLines lines out (Ok outcome) wrote = (text : List ℕ) × Explains style Says lines text outcome × WritesInPieces may_take out text wrote
+  AnswersLines lines out (Err fault) wrote = ExplainsFirst style Says lines (λ text. AnswersInPieces may_take out text (Err fault) wrote)
 
   module _ {I : Type 0} (may_give : I → ℕ → Answer → I → Type 0) where
     abbrev pub AnswersExplain : I → O → Result Outcome ExplainFault → I → O → Type 0
@@ -60,9 +78,12 @@ module _ {O : Type 0} (may_take : O → List ℕ → Result ℕ Failed → O →
     -- the input is too long
     AnswersExplain input out (Err InputTooLong) read wrote =
         ((bytes : List ℕ) × AnswersInput may_give input (Err whole.TooLong) bytes read) × (wrote ≡ out)
-    -- nothing was written
-    AnswersExplain input out (Err Memory) read wrote = wrote ≡ out
-    -- a prefix of the text was written
+    -- nothing was written, or the input was read whole and a prefix of the text of its first lines was written
+    AnswersExplain input out (Err Memory) read wrote =
+        (wrote ≡ out)
+        ⊎ ((bytes : List ℕ) × AnswersInput may_give input (Ok tt) bytes read
+        × AnswersLines (input_lines_of bytes) out (Err print.Memory) wrote)
+    -- a prefix of the text of its first lines was written
     AnswersExplain input out (Err Write) read wrote =
         (bytes : List ℕ) × AnswersInput may_give input (Ok tt) bytes read × AnswersLines (input_lines_of bytes) out (Err print.Write) wrote
 

@@ -1,12 +1,14 @@
 -- What the code finds of a path.
-use Rattle.std.specs.Prelude.{ℕ}
+use Rattle.std.specs.Prelude.{ℕ, List}
 use Rattle.lc_level.specs.FaultLines.{FaultLineModel}
 use Rattle.lc_level.specs.Reasons.{reason_model}
 use Rattle.lc_level.specs.SitePaths.{site_path}
 use Rattle.lc_rules.specs.declared.origin.Origin.{Origin}
-use Rattle.lc_explain.specs.Explained.{CitedRule, Explanation, bad, faulted, below, ignored, included, unruled, left_out}
+use Rattle.lc_explain.specs.Explained.{CitedRule, Explanation, bad, faulted, below, ignored, included, unruled, left_out, cited}
 use Rattle.lc_explain.specs.declared.finding.DirectoryFault.{DirectoryFault}
+use Rattle.lc_explain.specs.Waypoints.{Ways, way_to}
 use Rattle.lc_explain.specs.declared.finding.Finding.{Finding}
+use Rattle.lc_explain.specs.declared.finding.Found.{Found}
 use Rattle.lc_explain.specs.declared.finding.Finding.TheVariants as found
 
 -- the path at which a directory is at fault, and why
@@ -22,3 +24,7 @@ explanation_of cite (found.Ignored rule) = ignored (cite rule.origin rule.line)
 explanation_of cite (found.Included rule) = included (cite rule.origin rule.line)
 explanation_of cite found.NoRule = unruled
 explanation_of cite (found.Left reason) = left_out (reason_model reason)
+
+-- by the rules of the kept way on which it was found
+abbrev pub explanation_on : List ℕ → Ways → Found → Explanation
+explanation_on exclude ways found = explanation_of (cited exclude (way_to ways found.to)) found.finding

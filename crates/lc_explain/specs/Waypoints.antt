@@ -24,6 +24,22 @@ pub record WaypointModel : Type 0 where
 abbrev pub Way : Type 0
 Way = List WaypointModel
 
+-- ways that are kept
+abbrev pub Ways : Type 0
+Ways = List Way
+
+abbrev pub way_or_none : Option Way → Way
+way_or_none None = []
+way_or_none (Some way) = way
+
+-- the way of this number, or of none: where there is no such way, it has no directories
+abbrev pub way_at : Ways → ℕ → Way
+way_at ways at = way_or_none (slice_get ways at)
+
+abbrev pub way_to : Ways → Option ℕ → Way
+way_to ways None = []
+way_to ways (Some at) = way_at ways at
+
 -- ---- entering a directory
 
 -- by its items, and what reading its rule files gave

@@ -1,6 +1,6 @@
 //! What is found of a path, from the top of the tree down.
 
-ghost use Rattle.std.specs.Prelude.{◌≡◌, ℕ, List, [], true, false, option_map, IfOk, OnOk};
+ghost use Rattle.std.specs.Prelude.{◌≡◌, ℕ, List, [], Some, true, false, option_map, IfOk, OnOk};
 ghost use Rattle.lc_glob.specs.Path.{path_in, segments_of};
 ghost use Rattle.lc_level.specs.Level.{reason_for};
 ghost use Rattle.lc_level.specs.TopJob.{top_job};
@@ -11,17 +11,17 @@ ghost use Rattle.lc_rules.specs.declared.origin.Origin.{Origin};
 ghost use Rattle.lc_text.specs.PathLines.{is_bad_path};
 ghost use Rattle.lc_tree.specs.Kinds.{is_dir};
 ghost use Rattle.lc_explain.specs.Explained.{CitedRule, cited, kind_asked, is_directory, said_by, said_beside, IsExplained};
-ghost use Rattle.lc_explain.specs.Findings.{explanation_of};
-ghost use Rattle.lc_explain.specs.Waypoints.{WaypointModel, text_or_none, MayEnter};
-ghost use Rattle.lc_explain.specs.Ways.{StandsBelow, Goes, IsWay};
+ghost use Rattle.lc_explain.specs.Findings.{explanation_of, explanation_on};
+ghost use Rattle.lc_explain.specs.Waypoints.{WaypointModel, way_at, way_to, text_or_none, MayEnter};
+ghost use Rattle.lc_explain.specs.Ways.{StandsBelow, Goes, AreWays};
 
-use crate::finding::{DirectoryFault, Finding, RulePlace};
+use crate::finding::{DirectoryFault, Finding, Found, RulePlace};
+use crate::kept_ways::{KeptWays, Near};
 use crate::question::Question;
-use crate::way::Way;
 use crate::waypoint::Waypoint;
 use lc_glob::cut_at_first;
-use lc_level::{Entered, Job, Kept, LevelReader, OpenFault, RuleTexts};
-use lc_text::is_bad_path;
+use lc_level::{Job, Kept, LevelReader, OpenFault};
+use lc_text::{PathStyle, is_bad_path};
 use lc_tree::{Kind, Tree};
 use std::alloc::{AllocError, Global};
 
@@ -53,6 +53,7 @@ pub(crate) struct Explainer<'t, T> {
     pub(crate) top: Job,
     /// The text of the exclude file.
     pub(crate) exclude: &'t [u8],
+    pub(crate) style: PathStyle,
     ghost keeps: { levels.kept.texts ≡ true },
     ghost starts: { top.path ≡ [] },
 }
@@ -67,6 +68,7 @@ impl<'t, T: Tree> Explainer<'t, T> {
         ensures selection { IfOk result (λ e. e.levels.selection ≡ question.entry.now.selection) }
         ensures top { IfOk result (λ e. e.top ≡ top_job (option_map rules_of question.entry.now.exclude)) }
         ensures exclude { IfOk result (λ e. e.exclude.now ≡ text_or_none question.entry.now.exclude) }
+        ensures style { IfOk result (λ e. e.style ≡ question.entry.now.style) }
     {
         let kept = Kept {
             left_out: false,
@@ -77,34 +79,28 @@ impl<'t, T: Tree> Explainer<'t, T> {
             levels: LevelReader::new(alloc, tree, question.selection.copy(), kept),
             top: Job::top(alloc, question.exclude_rules()?)?,
             exclude: question.exclude_text(),
+            style: question.style,
         })
     }
 
-    /// Enters the directory of a job, which then stands at the end of the way; or tells why it can't be entered.
+    /// Enters the directory of a job, below the end of a kept way or at the top, and gives the number of the way to it; or tells why it
+    /// can't be entered.
     fn enter<'p>(
         &self,
-        way: &mut Way,
+        kept: &mut KeptWays,
+        above: Option<usize>,
         job: &Job,
         directory: &'p [u8],
-    ) -> Result<Option<DirectoryFault<'p>>, AllocError>
+    ) -> Result<Result<usize, DirectoryFault<'p>>, AllocError>
         requires { directory.now ≡ job.now.path }
-        ensures { Goes (MayEnter (T.lists self.now.levels.tree.now) (T.gives self.now.levels.tree.now)) job.now way.old way.new result }
+        ensures { Goes (MayEnter (T.lists self.now.levels.tree.now) (T.gives self.now.levels.tree.now)) job.now
+            (way_to kept.old above) kept.old kept.new result }
     {
-        match self.levels.enter(job, &mut way.scratch) {
+        match self.levels.enter(job, &mut kept.scratch) {
             Ok(entered) => {
-                let Entered {
-                    job,
-                    entries,
-                    texts,
-                } = entered;
-                let RuleTexts { info, own } = texts;
-                way.directories.push(Waypoint {
-                    job,
-                    entries,
-                    info,
-                    own,
-                })?;
-                Ok(None)
+                let way = kept.below(above, Waypoint::new(entered))?;
+                let at = kept.keep(way)?;
+                Ok(Ok(at))
             }
             Err(OpenFault::Faulted(site, word)) => {
                 let fault = DirectoryFault {
@@ -112,7 +108,7 @@ impl<'t, T: Tree> Explainer<'t, T> {
                     site,
                     word,
                 };
-                Ok(Some(fault))
+                Ok(Err(fault))
             }
             Err(OpenFault::Broken(_)) => Err(AllocError),
         }
@@ -172,80 +168,84 @@ impl<'t, T: Tree> Explainer<'t, T> {
         }
     }
 
-    /// Of what is left of a path below the last directory of the way.
+    /// Of what is left of a path below the last directory of a kept way.
     fn descend<'p>(
         &self,
-        way: &mut Way,
+        kept: &mut KeptWays,
+        near: Near<'p>,
         path: &'p [u8],
-        rest: &'p [u8],
         as_dir: bool,
-    ) -> Result<Finding<'p>, AllocError>
-        requires way { IsWay (MayEnter (T.lists self.now.levels.tree.now) (T.gives self.now.levels.tree.now)) self.now.levels.selection
-            self.now.exclude.now self.now.top way.old }
-        requires stands { StandsBelow way.old path.now rest.now }
+    ) -> Result<Found<'p>, AllocError>
+        requires ways { AreWays (MayEnter (T.lists self.now.levels.tree.now) (T.gives self.now.levels.tree.now)) self.now.levels.selection
+            self.now.exclude.now self.now.top kept.old }
+        requires stands { StandsBelow (way_at kept.old near.at) path.now near.rest.now }
         requires good { is_bad_path path.now ≡ false }
-        ensures way { OnOk result (IsWay (MayEnter (T.lists self.now.levels.tree.now) (T.gives self.now.levels.tree.now))
-            self.now.levels.selection self.now.exclude.now self.now.top way.new) }
+        ensures ways { OnOk result (AreWays (MayEnter (T.lists self.now.levels.tree.now) (T.gives self.now.levels.tree.now))
+            self.now.levels.selection self.now.exclude.now self.now.top kept.new) }
         ensures found { IfOk result (λ f. IsExplained (MayEnter (T.lists self.now.levels.tree.now) (T.gives self.now.levels.tree.now))
             self.now.levels.selection self.now.exclude.now self.now.top path.now as_dir
-            (explanation_of (cited self.now.exclude.now way.new) f)) }
+            (explanation_on self.now.exclude.now kept.new f)) }
     {
-        let mut rest = rest;
+        let Near { mut at, mut rest } = near;
         'names: loop {
-            let Some(here) = way.directories.last() else {
+            let Some(here) = kept.last(at) else {
                 unreachable!()
             };
             let (name, others) = cut_at_first(b'/', rest);
             let there = here.kind(name);
             let Some(others) = others else {
-                let found = self.last(&here.job, path, name, kind_asked(as_dir, there))?;
-                return Ok(found);
+                let finding = self.last(&here.job, path, name, kind_asked(as_dir, there))?;
+                return Ok(Found::on(at, finding));
             };
-            let at = &path[..path.len() - others.len() - 1];
+            let place = &path[..path.len() - others.len() - 1];
             if let Some(reason) = self
                 .levels
-                .reason(&here.job, name, at, kind_asked(true, there))?
+                .reason(&here.job, name, place, kind_asked(true, there))?
             {
-                return Ok(Finding::below(reason));
+                return Ok(Found::on(at, Finding::below(reason)));
             }
-            let job = here.job.at(self.alloc, at)?;
+            let job = here.job.at(self.alloc, place)?;
             if !is_directory(there) {
-                let found = self.beside(job, path, others, as_dir)?;
-                return Ok(found);
+                let finding = self.beside(job, path, others, as_dir)?;
+                return Ok(Found::on(at, finding));
             }
-            if let Some(fault) = self.enter(way, &job, at)? {
-                return Ok(Finding::Fault(fault));
+            match self.enter(kept, Some(at), &job, place)? {
+                Ok(child) => at = child,
+                Err(fault) => return Ok(Found::on(at, Finding::Fault(fault))),
             }
             rest = others;
         }
     }
 
-    /// What is found of a path. The way is then the one to it, as far as its directories were entered.
+    /// What is found of a path. The ways to the directories that were entered for it are kept.
     pub(crate) fn find<'p>(
         &self,
-        way: &mut Way,
+        kept: &mut KeptWays,
         path: &'p [u8],
         as_dir: bool,
-    ) -> Result<Finding<'p>, AllocError>
-        requires { IsWay (MayEnter (T.lists self.now.levels.tree.now) (T.gives self.now.levels.tree.now)) self.now.levels.selection
-            self.now.exclude.now self.now.top way.old }
-        ensures way { OnOk result (IsWay (MayEnter (T.lists self.now.levels.tree.now) (T.gives self.now.levels.tree.now))
-            self.now.levels.selection self.now.exclude.now self.now.top way.new) }
+    ) -> Result<Found<'p>, AllocError>
+        requires { AreWays (MayEnter (T.lists self.now.levels.tree.now) (T.gives self.now.levels.tree.now)) self.now.levels.selection
+            self.now.exclude.now self.now.top kept.old }
+        ensures ways { OnOk result (AreWays (MayEnter (T.lists self.now.levels.tree.now) (T.gives self.now.levels.tree.now))
+            self.now.levels.selection self.now.exclude.now self.now.top kept.new) }
         ensures found { IfOk result (λ f. IsExplained (MayEnter (T.lists self.now.levels.tree.now) (T.gives self.now.levels.tree.now))
             self.now.levels.selection self.now.exclude.now self.now.top path.now as_dir
-            (explanation_of (cited self.now.exclude.now way.new) f)) }
+            (explanation_on self.now.exclude.now kept.new f)) }
     {
         if is_bad_path(path) {
-            return Ok(Finding::Bad);
+            return Ok(Found::on_none(Finding::Bad));
         }
-        if let Some(rest) = way.leave(path) {
-            let found = self.descend(way, path, rest, as_dir)?;
+        if let Some(near) = kept.nearest(path) {
+            let found = self.descend(kept, near, path, as_dir)?;
             return Ok(found);
         }
-        if let Some(fault) = self.enter(way, &self.top, &[])? {
-            return Ok(Finding::Fault(fault));
+        match self.enter(kept, None, &self.top, &[])? {
+            Ok(at) => {
+                let near = Near { at, rest: path };
+                let found = self.descend(kept, near, path, as_dir)?;
+                Ok(found)
+            }
+            Err(fault) => Ok(Found::on_none(Finding::Fault(fault))),
         }
-        let found = self.descend(way, path, path, as_dir)?;
-        Ok(found)
     }
 }

@@ -5,10 +5,10 @@ ghost use Rattle.lc_explain.specs.Explain.{MaySay, AnswersLines, AnswersExplain,
 ghost use Rattle.lc_explain.specs.declared.explaining.ExplainFault.TheVariants.{Memory};
 
 use crate::explainer::Explainer;
+use crate::printing::{print_lines, print_words};
 use crate::question::Question;
-use crate::telling::Telling;
 use lc_census::{Source, WholeFault, new_buffer, read_whole};
-use lc_text::{MAX_INPUT, Outcome, PrintFault, Sink, print};
+use lc_text::{MAX_INPUT, Outcome, PrintFault, Sink};
 use lc_tree::Tree;
 use std::alloc::{AllocError, Global};
 use thiserror::Error;
@@ -22,10 +22,10 @@ pub enum ExplainFault {
     /// The input has over 16,777,216 bytes.
     #[error("input too long")]
     InputTooLong,
-    /// There is no memory for the input, for a directory or for the text.
+    /// There is no memory for the input, for a directory or for the text. What was written is a prefix of the text of some first lines.
     #[error("out of memory")]
     Memory,
-    /// A write failed, or took nothing. What was written is a prefix of the text.
+    /// A write failed, or took nothing. What was written is a prefix of the text of some first lines.
     #[error("cannot write")]
     Write,
 }
@@ -64,7 +64,7 @@ impl From<PrintFault> for ExplainFault {
 /// Reads paths to the input's end, at most `MAX_INPUT` bytes, and writes a line for each: what decides it in a tree.
 ///
 /// A line of the text is four fields with tabs between: a word, where that comes from, a pattern, and the line of paths as it came,
-/// escaped as [`push_escaped`](lc_text::push_escaped) has it. One slash at a path's end means a directory; else the tree is asked,
+/// in the question's style. One slash at a path's end means a directory; else the tree is asked,
 /// and what isn't there is taken for a file. The word is the first that holds on the way from the top down to the path of
 ///
 /// - `bad`: no entry of a tree can have this path;
@@ -75,12 +75,16 @@ impl From<PrintFault> for ExplainFault {
 /// - `left`: no rule leaves it out, but a walk does, it or a directory above it: it is named `.git` (`git`), an attribute is Set for it
 ///   (`attribute:NAME`), or it is neither a file nor a directory (`other`).
 ///
-/// Of a rule the file and the number of its line are told, as `src/.gitignore:3`, and the text of that line. Each directory is entered
-/// once for a run of paths below it. After any fault but `Write` nothing was written.
+/// Of a rule the file and the number of its line are told, as `src/.gitignore:3`, and the text of that line. After a fault of
+/// the input nothing was written. The text is written in blocks as it is made ([`Block`](lc_text::Block)): after any other fault a prefix
+/// of the text of some first lines was written.
+///
+/// A directory is listed and its rules are read once, in whatever order the paths come, while the directories that were entered take no
+/// more than about [`MAX_KEPT`](crate::MAX_KEPT) bytes. Past that this holds for paths in the order of a walk.
 ///
 /// ```
 /// let tree = SysTree::new(&rt, rt.alloc(), ".")?;
-/// let question = Question { exclude: None, selection: Selection::new(false, &[]) };
+/// let question = Question { exclude: None, selection: Selection::new(false, &[]), style: PathStyle::Escaped };
 /// let outcome = explain(rt.alloc(), &tree, &question, &mut b"a.log\nsrc/\n".as_slice(), &mut out)?;
 /// ```
 pub fn explain<T: Tree, S: Source, O: Sink>(
@@ -90,21 +94,20 @@ pub fn explain<T: Tree, S: Source, O: Sink>(
     input: &mut S,
     out: &mut O,
 ) -> Result<Outcome, ExplainFault>
-    ensures { AnswersExplain O.may_take (MaySay (T.lists tree.now) (T.gives tree.now) question.now) S.may_give input.old out.old result
+    ensures { AnswersExplain O.may_take question.now.style (MaySay (T.lists tree.now) (T.gives tree.now) question.now) S.may_give input.old out.old result
         input.new out.new }
 {
     let mut buffer = new_buffer(alloc)?;
     let mut paths = Vec::new(alloc);
     read_whole(&mut buffer, &mut paths, input, MAX_INPUT)?;
     let explainer = Explainer::new(alloc, tree, question)?;
-    let telling = Telling::of_lines(alloc, &explainer, &paths)?;
-    print(out, &telling.text)?;
-    Ok(telling.outcome)
+    let outcome = print_lines(alloc, &explainer, &paths, out)?;
+    Ok(outcome)
 }
 
 /// Writes a line for each of these paths, as [`explain`] does for the lines of an input.
 ///
-/// After `PrintFault::Memory` nothing was written.
+/// After any fault a prefix of the text of some first words was written.
 pub fn explain_words<T: Tree, O: Sink>(
     alloc: Global,
     tree: &T,
@@ -112,11 +115,9 @@ pub fn explain_words<T: Tree, O: Sink>(
     words: &[&str],
     out: &mut O,
 ) -> Result<Outcome, PrintFault>
-    ensures { AnswersLines O.may_take (MaySay (T.lists tree.now) (T.gives tree.now) question.now) (map (λ word. word.now) words.now)
+    ensures { AnswersLines O.may_take question.now.style (MaySay (T.lists tree.now) (T.gives tree.now) question.now) (map (λ word. word.now) words.now)
         out.old result out.new }
 {
     let explainer = Explainer::new(alloc, tree, question)?;
-    let telling = Telling::of_words(alloc, &explainer, words)?;
-    print(out, &telling.text)?;
-    Ok(telling.outcome)
+    print_words(alloc, &explainer, words, out)
 }

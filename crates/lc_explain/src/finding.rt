@@ -1,6 +1,6 @@
 //! What is found of a path.
 
-ghost use Rattle.std.specs.Prelude.{◌≡◌, ℕ};
+ghost use Rattle.std.specs.Prelude.{◌≡◌, ℕ, Some, None};
 ghost use Rattle.lc_level.specs.Reasons.{reason_model};
 ghost use Rattle.lc_rules.specs.declared.origin.Origin.{Origin};
 ghost use Rattle.lc_explain.specs.Explained.{CitedRule, said_for};
@@ -42,6 +42,32 @@ pub(crate) enum Finding<'a> {
     NoRule,
     /// The walk leaves it out, or a directory above it, for this reason, which is no rule.
     Left(Reason),
+}
+
+/// What is found of a path, and the number of the kept way on which it is, if a directory was entered.
+#[derive(Debug, Drop)]
+pub(crate) struct Found<'a> {
+    pub(crate) finding: Finding<'a>,
+    pub(crate) to: Option<usize>,
+}
+
+impl<'a> Found<'a> {
+    /// On the kept way of this number.
+    pub(crate) fn on(at: usize, finding: Finding<'a>) -> Found<'a>
+        ensures { result ≡ record { finding = finding.entry; to = Some at } }
+    {
+        Found {
+            finding,
+            to: Some(at),
+        }
+    }
+
+    /// Where no directory was entered.
+    pub(crate) fn on_none(finding: Finding<'a>) -> Found<'a>
+        ensures { result ≡ record { finding = finding.entry; to = None } }
+    {
+        Found { finding, to: None }
+    }
 }
 
 impl<'a> Finding<'a> {

@@ -7,14 +7,14 @@ ghost use Rattle.lc_explain.specs.Waypoints.{text_or_none};
 
 use lc_level::Selection;
 use lc_rules::IgnoreFile;
-use lc_text::RuleText;
+use lc_text::{PathStyle, RuleText};
 use std::alloc::{AllocError, Global};
 use std::sync::Arc;
 
-/// What is asked, beside the paths: as a count is asked for it.
+/// What is asked, beside the paths, and how it is answered.
 ///
 /// ```
-/// let question = Question { exclude: None, selection: Selection::new(false, &[]) };
+/// let question = Question { exclude: None, selection: Selection::new(false, &[]), style: PathStyle::Escaped };
 /// ```
 #[derive(Drop)]
 pub struct Question<'o> {
@@ -22,6 +22,8 @@ pub struct Question<'o> {
     pub exclude: Option<RuleText>,
     /// What is left out beside what rules ignore, by its attributes. All paths take part, whatever the selection was narrowed to.
     pub selection: Selection<'o>,
+    /// How paths and patterns are printed.
+    pub style: PathStyle,
 }
 
 impl<'o> Question<'o> {

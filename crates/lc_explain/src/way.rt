@@ -1,15 +1,17 @@
 //! The way to a path.
 
-ghost use Rattle.std.specs.Prelude.{◌≡◌, [], IfOk, option_map};
+ghost use Rattle.std.specs.Prelude.{◌≡◌, ◌∷◌, [], ◌++◌, ◌-◌, ◌≤◌, length, map, slice_get, IfOk, IfSome};
+ghost use Rattle.std.specs.Arc.{arc_value};
+ghost use Rattle.std.specs.Option.{option_copied};
 ghost use Rattle.lc_level.specs.RuleReads.{text_items};
 ghost use Rattle.lc_explain.specs.Waypoints.{text_or_none, text_in};
-ghost use Rattle.lc_explain.specs.Ways.{IsCut};
+ghost use Rattle.lc_explain.specs.Ways.{StandsBelow, IsFirstOf};
 
 use crate::waypoint::Waypoint;
-use lc_level::Scratch;
 use lc_rules::Origin;
 use std::alloc::{AllocError, Global};
 use std::marker::Model;
+use std::sync::Arc;
 
 /// The bytes of a text; none where there is no text.
 fn text_or_none(text: &Option<Vec<u8>>) -> &[u8]
@@ -21,44 +23,89 @@ fn text_or_none(text: &Option<Vec<u8>>) -> &[u8]
     }
 }
 
-/// The directories that were entered for the last path, from the top down, so that paths that share them don't enter them again.
+/// These directories, each with one owner more.
+fn shared(
+    alloc: Global,
+    directories: &[Arc<Waypoint, Global>],
+) -> Result<Vec<Arc<Waypoint, Global>>, AllocError>
+    ensures { IfOk result (λ same. map arc_value same.items ≡ map arc_value directories.now) }
+{
+    let mut same = Vec::new(alloc);
+    for directory in directories {
+        same.push(Arc::try_clone(directory)?)?;
+    }
+    Ok(same)
+}
+
+/// Directories that were entered, from the top down. Ways share those that stand on both.
 #[derive(Drop)]
 pub(crate) struct Way {
-    pub(crate) directories: Vec<Waypoint>,
-    pub(crate) scratch: Scratch,
+    directories: Vec<Arc<Waypoint, Global>>,
 }
 
 impl Model for Way {
-    ghost use Rattle.std.specs.Prelude.{List};
+    ghost use Rattle.std.specs.Prelude.{List, map};
+    ghost use Rattle.std.specs.Arc.{arc_value};
     ghost use Rattle.lc_explain.specs.Waypoints.{WaypointModel};
 
     ghost Value = { List WaypointModel };
 
-    ghost view = { λ w. w.directories.items };
+    ghost view = { λ w. map arc_value w.directories.items };
 }
 
 impl Way {
-    /// No directory was entered.
-    pub(crate) fn new(alloc: Global) -> Result<Way, AllocError>
-        ensures { IfOk result (λ way. way ≡ []) }
+    /// The way to the top.
+    pub(crate) fn top(alloc: Global, top: Waypoint) -> Result<Way, AllocError>
+        ensures { IfOk result (λ way. way ≡ top ∷ []) }
     {
-        Ok(Way {
-            directories: Vec::new(alloc),
-            scratch: Scratch::new(alloc)?,
-        })
+        let mut directories = Vec::new(alloc);
+        directories.push(Arc::new(alloc, top)?)?;
+        Ok(Way { directories })
     }
 
-    /// Leaves the directories that don't stand above a path, and says what is left of the path below the last one.
-    pub(crate) fn leave<'p>(&mut self, path: &'p [u8]) -> Option<&'p [u8]>
-        ensures { IsCut self.old self.new path.now (option_map (λ rest. rest.now) result) }
+    /// The way to a directory in the last one.
+    pub(crate) fn with(&self, alloc: Global, directory: Waypoint) -> Result<Way, AllocError>
+        ensures { IfOk result (λ way. way ≡ self.now ++ directory ∷ []) }
     {
-        'directories: while let Some(last) = self.directories.last() {
-            if let Some(rest) = last.rest_of(path) {
-                return Some(rest);
-            }
-            let _ = self.directories.pop();
+        let mut directories = shared(alloc, &self.directories)?;
+        directories.push(Arc::new(alloc, directory)?)?;
+        Ok(Way { directories })
+    }
+
+    /// Its first directories, this many of them.
+    pub(crate) fn first(&self, alloc: Global, count: usize) -> Result<Way, AllocError>
+        requires { count ≤ length self.now }
+        ensures { IfOk result (λ way. IsFirstOf way self.now) }
+    {
+        let directories = shared(alloc, &self.directories[..count])?;
+        Ok(Way { directories })
+    }
+
+    /// The number of its directories.
+    pub(crate) fn len(&self) -> usize
+        ensures { result ≡ length self.now }
+    {
+        self.directories.len()
+    }
+
+    /// The directory that it leads to.
+    pub(crate) fn last(&self) -> Option<&Waypoint>
+        ensures { option_copied result ≡ slice_get self.now (length self.now - 1) }
+    {
+        match self.directories.last() {
+            Some(last) => Some(last),
+            None => None,
         }
-        None
+    }
+
+    /// What is left of a path below the directory that it leads to, where it stands below it.
+    pub(crate) fn rest_of<'p>(&self, path: &'p [u8]) -> Option<&'p [u8]>
+        ensures { IfSome result (λ rest. StandsBelow self.now path.now rest.now) }
+    {
+        let Some(last) = self.last() else {
+            return None;
+        };
+        last.rest_of(path)
     }
 
     /// The text of the file of rules of this origin; empty where none was read.

@@ -1,14 +1,44 @@
 //! A directory on the way to a path.
 
 ghost use Rattle.std.specs.Prelude.{◌≡◌, ℕ, List, IfSome};
+ghost use Rattle.lc_level.specs.RuleReads.{text_items};
 ghost use Rattle.lc_tree.specs.ByteOrder.{bytes_cmp};
+ghost use Rattle.lc_tree.specs.Listing.{IsListing};
 ghost use Rattle.lc_explain.specs.Waypoints.{kind_in};
 ghost use Rattle.lc_explain.specs.Ways.{IsLeftBelow};
 
-use lc_level::Job;
+use lc_level::{Entered, Job, RuleTexts};
 use lc_tree::{Entry, Kind};
 use std::cmp::Ordering;
 use std::marker::Model;
+
+/// About how many bytes a directory takes beside its entries, its path and its texts.
+const DIRECTORY_BYTES: usize = 512;
+
+/// About how many bytes an entry takes beside its name.
+const ENTRY_BYTES: usize = 64;
+
+/// About how many bytes a byte of a file of rules takes: itself, and its part of the rules that it was read as.
+const TEXT_BYTES: usize = 16;
+
+/// About how many bytes these entries take.
+fn size_of_entries(entries: &[Entry]) -> usize {
+    let mut size = 0_usize;
+    for entry in entries {
+        size = size
+            .saturating_add(ENTRY_BYTES)
+            .saturating_add(entry.name.len());
+    }
+    size
+}
+
+/// About how many bytes a file of rules takes, if there is one.
+fn size_of_text(text: &Option<Vec<u8>>) -> usize {
+    match text {
+        Some(bytes) => bytes.len().saturating_mul(TEXT_BYTES),
+        None => 0,
+    }
+}
 
 /// A directory that was entered: with its own rule files in both chains, its entries, and the texts of its files of rules.
 #[derive(Drop)]
@@ -17,6 +47,8 @@ pub(crate) struct Waypoint {
     pub(crate) entries: Vec<Entry>,
     pub(crate) info: Option<Vec<u8>>,
     pub(crate) own: Option<Vec<u8>>,
+    // About how many bytes all of it takes.
+    size: usize,
 }
 
 impl Model for Waypoint {
@@ -32,6 +64,41 @@ impl Model for Waypoint {
 }
 
 impl Waypoint {
+    /// The directory, by its level.
+    pub(crate) fn new(entered: Entered) -> Waypoint
+        requires { IsListing entered.entries.items }
+        ensures { result ≡ record {
+          job = entered.job;
+          entries = entered.entries.items;
+          info = text_items entered.texts.info;
+          own = text_items entered.texts.own;
+        } }
+    {
+        let Entered {
+            job,
+            entries,
+            texts,
+        } = entered;
+        let RuleTexts { info, own } = texts;
+        let size = DIRECTORY_BYTES
+            .saturating_add(job.path().len())
+            .saturating_add(size_of_entries(&entries))
+            .saturating_add(size_of_text(&info))
+            .saturating_add(size_of_text(&own));
+        Waypoint {
+            job,
+            entries,
+            info,
+            own,
+            size,
+        }
+    }
+
+    /// About how many bytes it takes.
+    pub(crate) fn size(&self) -> usize {
+        self.size
+    }
+
     /// What stands under a name, if anything does.
     pub(crate) fn kind(&self, name: &[u8]) -> Option<Kind>
         ensures { result ≡ kind_in self.now.entries name.now }

@@ -1,6 +1,9 @@
 //! What no clause says: worked cases, that calls succeed where there is memory, and trees and streams that fail.
 
 mod asking;
+mod blocks;
 mod faults;
+mod keeping;
 mod streams;
+mod styles;
 mod trees;

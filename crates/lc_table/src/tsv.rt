@@ -10,7 +10,7 @@ ghost use Rattle.lc_table.specs.TsvText.{tsv_text_of};
 
 use crate::words::{eol_word, left_end, reason_word, text_word};
 use lc_level::Reason;
-use lc_text::{Columns, push_escaped, push_origin, push_path};
+use lc_text::{Columns, PathStyle, push_escaped, push_origin, push_path};
 use lc_walk::{FaultLine, FileLine, LeftLine, Report, Sums, TallyRow};
 use std::alloc::{AllocError, Global};
 use std::io::Write;
@@ -105,7 +105,9 @@ fn push_reason_place(text: &mut Vec<u8>, left: &LeftLine) -> Result<(), AllocErr
     ensures { OnOk result (text.new.items ≡ text.old.items ++ reason_place escape_bytes left.now.path left.now.reason) }
 {
     match &left.reason {
-        Reason::Rule { origin, line } => push_origin(text, &left.path, *origin, *line),
+        Reason::Rule { origin, line } => {
+            push_origin(text, PathStyle::Escaped, &left.path, *origin, *line)
+        }
         Reason::Attribute(name) => push_escaped(text, name),
         Reason::Git | Reason::OtherKind => text.extend_from_slice(b"-"),
     }

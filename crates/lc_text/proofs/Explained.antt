@@ -1,12 +1,12 @@
 -- The text of an explained check, line by line.
 use Rattle.std.proofs.Common.{◌≡◌, ℕ, Bool, true, false, cond, List, [], ◌∷◌, ◌++◌, Option, Some, None, IfSome, MatchOption, Bor, length}
-use Rattle.std.proofs.Common.{map}
+use Rattle.std.proofs.Common.{map, append-nil}
 use Rattle.std.proofs.Common.{get_or, ◌<◌, Result, Ok, Err, is_ok, if◌then◌else◌, sym, ap, ap₂, ◌∙◌, subst, codes, arith, append_assoc}
 use Rattle.std.proofs.Common.{length-append}
 use Rattle.std.specs.Prelude.{option_map, OnOk}
 use Rattle.std.specs.List.{All, list_any, flat_map}
 use Rattle.std.proofs.Math.Seq.{get_or-append_seam}
-use Rattle.std.proofs.lemmas.List.{get_or-map, length-map}
+use Rattle.std.proofs.lemmas.List.{get_or-map, length-map, nil_from_length}
 use Rattle.std.proofs.lemmas.List.Elements.{All-map}
 use Rattle.lc_rules.specs.IgnoreRules.{RuleModel, rules_of, text_of_line}
 use Rattle.lc_rules.specs.IgnoreLaws.{IsLastMatch, IsOnLine}
@@ -17,7 +17,6 @@ use Rattle.lc_rules.specs.declared.origin.Origin.TheVariants.{Directory}
 use Rattle.lc_rules.proofs.LastMatch.{decides_by_last}
 use Rattle.lc_rules.proofs.RuleLineNumbers.{on_their_lines}
 use Rattle.lc_text.specs.CheckText.{file_verdict, has_ignored_parent, path_word}
-use Rattle.lc_text.specs.Escape.{escape_bytes}
 use Rattle.lc_text.specs.ExplainedText.{file_rule, highest_ignored, path_rule, rule_fields, explained_line, explained_text_of}
 use Rattle.lc_text.specs.Lines.{input_lines_of}
 use Rattle.lc_text.specs.PathLines.{is_bad_path, is_dir_line, path_of}
@@ -66,12 +65,14 @@ found_on_line bytes rules path is_dir found are is =
     (of_path_rule P (rules_of bytes) (on_their_lines bytes) path is_dir))
 
 -- the fields of a line, by what was found of its path
-pub fields_found : (name bytes line : List ℕ) (rules : List RuleModel) (word : List ℕ) (found : Option RuleModel) → rules ≡ rules_of bytes
+pub fields_found : (escape : List ℕ → List ℕ) (name bytes line : List ℕ) (rules : List RuleModel) (word : List ℕ)
+    (found : Option RuleModel) → rules ≡ rules_of bytes
     → word ≡ path_word (file_verdict rules) (path_of line) (is_dir_line line)
     → found ≡ path_rule rules (path_of line) (is_dir_line line)
-    → word ++ codes "\t" ++ rule_fields name bytes found ++ codes "\t" ++ escape_bytes line ++ codes "\n" ≡ explained_line name bytes line
-fields_found name bytes line rules word found are by_word by_rule =
-    ap₂ (λ w r. w ++ codes "\t" ++ rule_fields name bytes r ++ codes "\t" ++ escape_bytes line ++ codes "\n")
+    → word ++ codes "\t" ++ rule_fields escape name bytes found ++ codes "\t" ++ escape line ++ codes "\n"
+    ≡ explained_line escape name bytes line
+fields_found escape name bytes line rules word found are by_word by_rule =
+    ap₂ (λ w r. w ++ codes "\t" ++ rule_fields escape name bytes r ++ codes "\t" ++ escape line ++ codes "\n")
     (by_word ∙ ap (λ l. path_word (file_verdict l) (path_of line) (is_dir_line line)) are)
     (by_rule ∙ ap (λ l. path_rule l (path_of line) (is_dir_line line)) are)
 
@@ -97,9 +98,16 @@ text_at texts lines i found read low is =
     ∙ ap (λ l. get_or l i []) read ∙ get_or-map text_of_line lines i [] [] low
 
 -- one line more
-pub line_more : (name bytes : List ℕ) (old rest line others whole : List ℕ) → old ++ explained_text_of name bytes rest ≡ whole
+pub line_more : (escape : List ℕ → List ℕ) (name bytes : List ℕ) (old rest line others whole : List ℕ)
+    → old ++ explained_text_of escape name bytes rest ≡ whole
     → input_lines_of rest ≡ line ∷ input_lines_of others
-    → (old ++ explained_line name bytes line) ++ explained_text_of name bytes others ≡ whole
-line_more name bytes old rest line others whole told split =
-    append_assoc old (explained_line name bytes line) (explained_text_of name bytes others)
-    ∙ ap (λ l. old ++ flat_map (explained_line name bytes) l) (sym split) ∙ told
+    → (old ++ explained_line escape name bytes line) ++ explained_text_of escape name bytes others ≡ whole
+line_more escape name bytes old rest line others whole told split =
+    append_assoc old (explained_line escape name bytes line) (explained_text_of escape name bytes others)
+    ∙ ap (λ l. old ++ flat_map (explained_line escape name bytes) l) (sym split) ∙ told
+
+-- no line is left
+pub line_none : (escape : List ℕ → List ℕ) (name bytes : List ℕ) (made rest whole : List ℕ) → length rest ≡ 0
+    → made ++ explained_text_of escape name bytes rest ≡ whole → made ≡ whole
+line_none escape name bytes made rest whole none told =
+    sym (append-nil made) ∙ (ap (λ l. made ++ explained_text_of escape name bytes l) (sym (nil_from_length rest none)) ∙ told)

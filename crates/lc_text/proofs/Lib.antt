@@ -9,4 +9,5 @@ pub mod Plain
 pub mod Appended
 pub mod Clear
 pub mod Stopping
+pub mod InPieces
 pub mod KnownWrites

@@ -1,5 +1,6 @@
 -- A check that stops at a fault of its input or of its output.
-use Rattle.std.proofs.Common.{◌≡◌, ℕ, ◌<◌, List, length, Result, Ok, Err, refl}
+use Rattle.std.proofs.Common.{◌≡◌, ℕ, ◌<◌, List, length, Result, Ok, Err, inr, refl, ap}
+use Rattle.std.specs.Result.{IsErrAnd}
 use Rattle.lc_census.specs.declared.source.Failed.{Failed}
 use Rattle.lc_census.specs.declared.whole.WholeFault.{WholeFault}
 use Rattle.lc_census.specs.declared.whole.WholeFault.TheVariants as whole
@@ -9,9 +10,15 @@ use Rattle.lc_rules.specs.declared.faults.RuleFault.{RuleFault}
 use Rattle.lc_rules.specs.declared.faults.RuleFault.TheVariants as rule
 use Rattle.lc_text.specs.declared.printing.PrintFault.{PrintFault}
 use Rattle.lc_text.specs.declared.printing.PrintFault.TheVariants as print
-use Rattle.lc_text.specs.Check.{AnswersInput, HasRead, AnswersCheck}
+use Rattle.lc_text.specs.Check.{AnswersInput, HasRead, AnswersCheck, AnswersExplainedCheck}
 use Rattle.lc_text.specs.CheckFaults.{input_fault, rules_fault, print_fault}
+use Rattle.lc_text.specs.Pieces.{AnswersInPieces}
 use Rattle.lc_text.specs.Writes.{AnswersPrint}
+
+-- a fault that is this one
+pub is_fault : {T E : Type 0} (answer : Result T E) (fault : E) → IsErrAnd answer (λ e. e ≡ fault) → answer ≡ Err fault
+is_fault (Ok _) fault is = absurd is
+is_fault (Err e) fault is = ap Err is
 
 module _ {I O : Type 0} (may_give : I → ℕ → Answer → I → Type 0) (may_take : O → List ℕ → Result ℕ Failed → O → Type 0)
     (rules_in text_of : List ℕ → List ℕ) where
@@ -36,3 +43,12 @@ module _ {I O : Type 0} (may_give : I → ℕ → Answer → I → Type 0) (may_
       → AnswersCheck may_give may_take rules_in text_of input out (Err (print_fault fault)) read wrote
   output_stops print.Write input read out wrote bytes has_read stopped = (bytes, has_read, stopped)
   output_stops print.Memory input read out wrote bytes has_read stopped = stopped
+
+-- the text of an explained check was not written whole
+pub explained_output_stops : {I O : Type 0} (may_give : I → ℕ → Answer → I → Type 0) (may_take : O → List ℕ → Result ℕ Failed → O → Type 0)
+    (text_of : List ℕ → List ℕ) (fault : PrintFault) (input read : I) (out wrote : O) (bytes : List ℕ)
+    → AnswersInput may_give input (Ok tt) bytes read
+    → AnswersInPieces may_take out (text_of bytes) (Err fault) wrote
+    → AnswersExplainedCheck may_give may_take text_of input out (Err (print_fault fault)) read wrote
+explained_output_stops may_give may_take text_of print.Write input read out wrote bytes whole stopped = (bytes, whole, stopped)
+explained_output_stops may_give may_take text_of print.Memory input read out wrote bytes whole prefix = inr (bytes, whole, prefix)

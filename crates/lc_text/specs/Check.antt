@@ -1,11 +1,12 @@
 -- What a check answers, by its reads and its writes.
-use Rattle.std.specs.Prelude.{◌≡◌, ℕ, ◌<◌, ◌≤◌, List, [], length, Result, Ok, Err}
+use Rattle.std.specs.Prelude.{◌≡◌, ◌⊎◌, ℕ, ◌<◌, ◌≤◌, List, [], length, Result, Ok, Err}
 use Rattle.lc_census.specs.declared.source.Failed.{Failed}
 use Rattle.lc_census.specs.declared.whole.WholeFault.{WholeFault}
 use Rattle.lc_census.specs.declared.whole.WholeFault.TheVariants as whole
 use Rattle.lc_census.specs.Reads.{Answer}
 use Rattle.lc_census.specs.Whole.{AnswersWhole}
 use Rattle.lc_rules.specs.Limits.{max_rule_bytes}
+use Rattle.lc_text.specs.Pieces.{WritesInPieces, WritesPrefix, StopsInPieces}
 use Rattle.lc_text.specs.Writes.{Writes, StopsWriting}
 use Rattle.lc_text.specs.declared.checking.CheckFault.{CheckFault}
 use Rattle.lc_text.specs.declared.checking.CheckFault.TheVariants.{Read, InputTooLong, RulesTooLong, Memory, Write}
@@ -47,3 +48,26 @@ module _ {I O : Type 0} (may_give : I → ℕ → Answer → I → Type 0) (may_
   -- a prefix of the text was written
   AnswersCheck input out (Err Write) read wrote =
       (bytes : List ℕ) × HasRead input bytes read × StopsWriting may_take out (text_of bytes) wrote
+
+-- what an explained check answers, whose text is written as it is made; the input's bytes give this text
+module _ {I O : Type 0} (may_give : I → ℕ → Answer → I → Type 0) (may_take : O → List ℕ → Result ℕ Failed → O → Type 0)
+    (text_of : List ℕ → List ℕ) where
+  abbrev pub AnswersExplainedCheck : I → O → Result (Unit {0}) CheckFault → I → O → Type 0
+  -- the text was written whole
+  AnswersExplainedCheck input out (Ok _) read wrote =
+      (bytes : List ℕ) × AnswersInput may_give input (Ok tt) bytes read × WritesInPieces may_take out (text_of bytes) wrote
+  -- a read of the input failed
+  AnswersExplainedCheck input out (Err Read) read wrote =
+      ((bytes : List ℕ) × AnswersInput may_give input (Err whole.Read) bytes read) × (wrote ≡ out)
+  -- the input is too long
+  AnswersExplainedCheck input out (Err InputTooLong) read wrote =
+      ((bytes : List ℕ) × AnswersInput may_give input (Err whole.TooLong) bytes read) × (wrote ≡ out)
+  -- the input has no rules
+  AnswersExplainedCheck input out (Err RulesTooLong) read wrote = ⊥
+  -- nothing was written, or the input was read whole and a prefix of the text was written
+  AnswersExplainedCheck input out (Err Memory) read wrote =
+      (wrote ≡ out)
+      ⊎ ((bytes : List ℕ) × AnswersInput may_give input (Ok tt) bytes read × WritesPrefix may_take out (text_of bytes) wrote)
+  -- a prefix of the text was written
+  AnswersExplainedCheck input out (Err Write) read wrote =
+      (bytes : List ℕ) × AnswersInput may_give input (Ok tt) bytes read × StopsInPieces may_take out (text_of bytes) wrote

@@ -6,7 +6,6 @@ use Rattle.lc_rules.specs.IgnoreRules.{RuleModel}
 use Rattle.lc_rules.specs.Verdicts.{verdict_of, at_depth}
 use Rattle.lc_rules.specs.declared.verdicts.Verdict.{Verdict}
 use Rattle.lc_rules.specs.declared.verdicts.Verdict.TheVariants.{Ignored, Included, NoRule}
-use Rattle.lc_text.specs.Escape.{escape_bytes}
 use Rattle.lc_text.specs.Lines.{input_lines_of}
 use Rattle.lc_text.specs.PathLines.{is_bad_path, is_dir_line, path_of}
 
@@ -45,15 +44,15 @@ path_word verdict path is_dir =
     (cond (has_ignored_parent verdict path) (codes "below")
     (verdict_word (verdict path is_dir)))
 
--- the word, a tab, the line as it came, a line feed
-abbrev pub checked_line : (List ℕ → Bool → Verdict) → List ℕ → List ℕ
-checked_line verdict line =
-    path_word verdict (path_of line) (is_dir_line line) ++ codes "\t" ++ escape_bytes line ++ codes "\n"
+-- the word, a tab, the line as it came, written by `escape`, a line feed
+abbrev pub checked_line : (List ℕ → List ℕ) → (List ℕ → Bool → Verdict) → List ℕ → List ℕ
+checked_line escape verdict line =
+    path_word verdict (path_of line) (is_dir_line line) ++ codes "\t" ++ escape line ++ codes "\n"
 
 -- the lines of the paths, each with its word
-abbrev pub check_text_of : (List ℕ → Bool → Verdict) → List ℕ → List ℕ
-check_text_of verdict paths = flat_map (checked_line verdict) (input_lines_of paths)
+abbrev pub check_text_of : (List ℕ → List ℕ) → (List ℕ → Bool → Verdict) → List ℕ → List ℕ
+check_text_of escape verdict paths = flat_map (checked_line escape verdict) (input_lines_of paths)
 
 -- the same with the rules of one file
-abbrev pub text_by : List RuleModel → List ℕ → List ℕ
-text_by rules paths = check_text_of (file_verdict rules) paths
+abbrev pub text_by : (List ℕ → List ℕ) → List RuleModel → List ℕ → List ℕ
+text_by escape rules paths = check_text_of escape (file_verdict rules) paths

@@ -6,7 +6,6 @@ use Rattle.lc_rules.specs.RuleLines.{lines_of as rule_lines_of}
 use Rattle.lc_rules.specs.Verdicts.{at_depth, deciding}
 use Rattle.lc_rules.specs.declared.verdicts.Verdict.{Verdict}
 use Rattle.lc_text.specs.CheckText.{file_verdict, is_ignored_parent, has_ignored_parent, path_word}
-use Rattle.lc_text.specs.Escape.{escape_bytes}
 use Rattle.lc_text.specs.Lines.{input_lines_of}
 use Rattle.lc_text.specs.PathLines.{is_bad_path, is_dir_line, path_of}
 
@@ -30,19 +29,20 @@ path_rule rules path is_dir =
 abbrev pub line_text : List ℕ → ℕ → List ℕ
 line_text bytes number = text_of_line (slice_index_or (rule_lines_of bytes) (number - 1) [])
 
--- two fields for a rule: the file's name with the number of the line, and the text of that line; a dash in each where there is no rule
-abbrev pub rule_fields : List ℕ → List ℕ → Option RuleModel → List ℕ
-rule_fields name bytes None = codes "-\t-"
-rule_fields name bytes (Some rule) =
-    escape_bytes name ++ codes ":" ++ decimal rule.line ++ codes "\t" ++ escape_bytes (line_text bytes rule.line)
+-- two fields for a rule: the file's name with the number of the line, and the text of that line, both written by `escape`; a dash in
+-- each where there is no rule
+abbrev pub rule_fields : (List ℕ → List ℕ) → List ℕ → List ℕ → Option RuleModel → List ℕ
+rule_fields escape name bytes None = codes "-\t-"
+rule_fields escape name bytes (Some rule) =
+    escape name ++ codes ":" ++ decimal rule.line ++ codes "\t" ++ escape (line_text bytes rule.line)
 
 -- the word as in a check, the two fields of the rule, and the line as it came
-abbrev pub explained_line : List ℕ → List ℕ → List ℕ → List ℕ
-explained_line name bytes line =
+abbrev pub explained_line : (List ℕ → List ℕ) → List ℕ → List ℕ → List ℕ → List ℕ
+explained_line escape name bytes line =
     path_word (file_verdict (rules_of bytes)) (path_of line) (is_dir_line line) ++ codes "\t"
-    ++ rule_fields name bytes (path_rule (rules_of bytes) (path_of line) (is_dir_line line)) ++ codes "\t"
-    ++ escape_bytes line ++ codes "\n"
+    ++ rule_fields escape name bytes (path_rule (rules_of bytes) (path_of line) (is_dir_line line)) ++ codes "\t"
+    ++ escape line ++ codes "\n"
 
 -- the lines of the paths, by the rules of a file with this name and these bytes
-abbrev pub explained_text_of : List ℕ → List ℕ → List ℕ → List ℕ
-explained_text_of name bytes paths = flat_map (explained_line name bytes) (input_lines_of paths)
+abbrev pub explained_text_of : (List ℕ → List ℕ) → List ℕ → List ℕ → List ℕ → List ℕ
+explained_text_of escape name bytes paths = flat_map (explained_line escape name bytes) (input_lines_of paths)

@@ -24,5 +24,5 @@ paths_part bytes =
     cond (list_any is_dashes (pieces_of line_feed bytes)) (join_with_byte line_feed (after_first is_dashes (pieces_of line_feed bytes))) []
 
 -- the text of a joined check: what the one part says of the other
-abbrev pub joined_text : List ℕ → List ℕ
-joined_text bytes = text_by (rules_of (rules_part bytes)) (paths_part bytes)
+abbrev pub joined_text : (List ℕ → List ℕ) → List ℕ → List ℕ
+joined_text escape bytes = text_by escape (rules_of (rules_part bytes)) (paths_part bytes)

@@ -1,5 +1,6 @@
 pub mod Escape
 pub mod Visible
+pub mod Styles
 pub mod RulePlaces
 pub mod Lines
 pub mod PathLines
@@ -9,6 +10,8 @@ pub mod ExplainLaws
 pub mod Findings
 pub mod Joined
 pub mod Writes
+pub mod Pieces
+pub mod Blocks
 pub mod TrialWrites
 pub mod RuleReads
 pub mod Check

@@ -1,7 +1,7 @@
 //! What `lc` writes: how a text is written, and the answers of a check.
 //!
-//! - `sink`: where text is written; `printing`: a text is written whole, or why not
-//! - `escaping`: how paths are printed; `visible`: how they are shown in a terminal
+//! - `sink`: where text is written; `printing`: a text is written whole, or why not; `blocks`: a text is written as it is made
+//! - `escaping`: how paths are printed; `visible`: how they are shown in a terminal; `style`: the one or the other
 //! - `places`: where a rule stands
 //! - `reading`: a source, read whole; `rules`: the rules that it gives; `checking`: what rules say of paths, a line each
 //! - `outcome`: whether what was written tells of a fault
@@ -10,6 +10,7 @@
 //! - `laws`: what is true of the definitions that the contracts cite
 #![tactic(auto)]
 
+mod blocks;
 mod checking;
 mod escaping;
 mod laws;
@@ -20,10 +21,11 @@ mod reading;
 mod rules;
 mod shape;
 mod sink;
+mod style;
 pub mod trials;
 mod visible;
 
-pub use checking::explained::explained_text;
+pub use blocks::{BLOCK_SIZE, Block};
 pub use checking::lines::split_line;
 pub use checking::path_line::{is_bad_path, split_slash};
 pub use checking::text::check_text;
@@ -36,4 +38,5 @@ pub use printing::{PrintFault, print};
 pub use rules::{RuleText, RulesFileFault, read_rule_text};
 pub use shape::{Columns, Format, Shape, SortBy};
 pub use sink::{Sink, StdSink};
+pub use style::{PathStyle, push_styled, push_styled_path};
 pub use visible::{push_visible, push_visible_path};

@@ -4,10 +4,10 @@ ghost use Rattle.std.specs.Prelude.{◌≡◌, ◌≤◌, ◌++◌, length, OnOk
 ghost use Rattle.std.specs.List.{after_first};
 ghost use Rattle.lc_glob.specs.Bytes.{slash};
 ghost use Rattle.lc_glob.specs.Pieces.{is_byte};
-ghost use Rattle.lc_text.specs.Escape.{escape_bytes};
 ghost use Rattle.lc_text.specs.RulePlaces.{above, rule_file, rule_place};
+ghost use Rattle.lc_text.specs.Styles.{styled};
 
-use crate::escaping::push_escaped;
+use crate::style::{PathStyle, push_styled};
 use lc_glob::cut_at_first;
 use lc_rules::Origin;
 use std::alloc::AllocError;
@@ -41,33 +41,39 @@ pub fn above(path: &[u8], depth: u32) -> &[u8]
     &path[..path.len() - rest.len()]
 }
 
-fn push_rule_file(text: &mut Vec<u8>, path: &[u8], origin: Origin) -> Result<(), AllocError>
-    ensures { OnOk result (text.new.items ≡ text.old.items ++ rule_file escape_bytes path.now origin) }
+fn push_rule_file(
+    text: &mut Vec<u8>,
+    style: PathStyle,
+    path: &[u8],
+    origin: Origin,
+) -> Result<(), AllocError>
+    ensures { OnOk result (text.new.items ≡ text.old.items ++ rule_file (styled style) path.now origin) }
 {
     match origin {
         Origin::ExcludeFile => text.extend_from_slice(b"--exclude-from"),
         Origin::GitInfo => text.extend_from_slice(b".git/info/exclude"),
         Origin::Directory(depth) => {
-            push_escaped(text, above(path, depth))?;
+            push_styled(text, style, above(path, depth))?;
             text.extend_from_slice(b".gitignore")
         }
     }
 }
 
-/// Appends where the rule stands that decides a path, by its file's path, escaped, and the number of its line, as
+/// Appends where the rule stands that decides a path, by its file's path in a style, and the number of its line, as
 /// `src/.gitignore:3`, `.git/info/exclude:2` or `--exclude-from:7`.
 ///
 /// ```
-/// push_origin(&mut text, b"src/gen/a.c", Origin::Directory(1), 3)?; // src/.gitignore:3
+/// push_origin(&mut text, PathStyle::Escaped, b"src/gen/a.c", Origin::Directory(1), 3)?; // src/.gitignore:3
 /// ```
 pub fn push_origin(
     text: &mut Vec<u8>,
+    style: PathStyle,
     path: &[u8],
     origin: Origin,
     line: u32,
 ) -> Result<(), AllocError>
-    ensures { OnOk result (text.new.items ≡ text.old.items ++ rule_place escape_bytes path.now origin line) }
+    ensures { OnOk result (text.new.items ≡ text.old.items ++ rule_place (styled style) path.now origin line) }
 {
-    push_rule_file(text, path, origin)?;
+    push_rule_file(text, style, path, origin)?;
     write!(text, ":{line}").map_err(|_| AllocError)
 }

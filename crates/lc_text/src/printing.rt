@@ -15,7 +15,7 @@ pub enum PrintFault {
     /// A write failed, or took nothing. What was written is a prefix of the text.
     #[error("cannot write")]
     Write,
-    /// There is no memory for the text. Nothing was written.
+    /// An allocation failed. Nothing was written, or a prefix of a text that is written as it is made.
     #[error("out of memory")]
     Memory,
 }

@@ -120,7 +120,7 @@ impl RuleText {
 /// ```
 /// let mut file = StdSource(fs::open(rt, ".gitignore")?);
 /// let rules = read_rule_text(rt.alloc(), &mut file)?;
-/// check_explained(rt.alloc(), b".gitignore", &rules, &mut input, &mut out)?;
+/// check_explained(rt.alloc(), b".gitignore", &rules, PathStyle::Escaped, &mut input, &mut out)?;
 /// ```
 pub fn read_rule_text<S: Source>(alloc: Global, file: &mut S) -> Result<RuleText, RulesFileFault>
     ensures { ReadsRuleText S.may_give file.old result file.new }

@@ -4,7 +4,7 @@ use lc_census::Source;
 use lc_explain::{ExplainFault, Question, explain, explain_words};
 use lc_level::Selection;
 use lc_text::trials::{Narrow, WhenFull};
-use lc_text::{Outcome, PrintFault, RuleText, read_rule_text};
+use lc_text::{Outcome, PathStyle, PrintFault, RuleText, read_rule_text};
 use lc_tree::{MemTree, Sketch, Tree};
 use std::alloc::{AllocError, Global};
 use std::process::Abort;
@@ -18,6 +18,7 @@ pub(crate) fn plain() -> Question<'static> {
     Question {
         exclude: None,
         selection: Selection::new(false, &[]),
+        style: PathStyle::Escaped,
     }
 }
 
@@ -30,7 +31,7 @@ pub(crate) fn rule_text(alloc: Global, bytes: &[u8]) -> Result<RuleText, AllocEr
     }
 }
 
-/// An explanation, but for want of memory, where nothing is written.
+/// An explanation of less than a block, but for want of memory, where nothing of it is written.
 pub(crate) fn explained<T: Tree, S: Source>(
     rt: &impl Abort,
     alloc: Global,

@@ -3,8 +3,8 @@
 use crate::explain::asking::{Case, check, explained_words, plain, rule_text};
 use lc_explain::Question;
 use lc_level::Selection;
-use lc_text::Outcome;
 use lc_text::trials::{Narrow, WhenFull};
+use lc_text::{Outcome, PathStyle};
 use lc_tree::{MemTree, Sketch};
 use std::process::Abort;
 use std::test::Fail;
@@ -155,6 +155,7 @@ fn what_is_asked_decides(rt: HostRuntime) -> Result<(), Fail> {
     let question = Question {
         exclude: Some(rule_text(rt.alloc(), b"!a.o\n*.bak\n")?),
         selection: Selection::new(true, &["vendored"]),
+        style: PathStyle::Escaped,
     };
     check(&rt, &BESIDE_THE_TREE, &question, Outcome::Clean)
 }

@@ -1,32 +1,43 @@
-//! The text of an explained check.
+//! The text of an explained check, written as it is made.
 
 ghost use Rattle.std.specs.Prelude.{◌≡◌, ◌++◌, IfSome, OnOk, IfOk, map, option_map};
 ghost use Rattle.lc_rules.specs.IgnoreLaws.{IsOnLine};
 ghost use Rattle.lc_rules.specs.IgnoreRules.{rules_of, text_of_line};
 ghost use Rattle.lc_rules.specs.RuleLines.{lines_of};
 ghost use Rattle.lc_text.specs.ExplainedText.{line_text, rule_fields, explained_line, explained_text_of};
+ghost use Rattle.lc_text.specs.Pieces.{AnswersInPieces};
+ghost use Rattle.lc_text.specs.Styles.{styled};
 
+use crate::blocks::Block;
 use crate::checking::checker::Checker;
 use crate::checking::lines::split_line;
 use crate::checking::path_line::split_slash;
-use crate::escaping::push_escaped;
+use crate::printing::PrintFault;
 use crate::rules::RuleText;
+use crate::sink::Sink;
+use crate::style::{PathStyle, push_styled};
 use lc_rules::{Lines, Rule, text_of_line};
 use std::alloc::{AllocError, Global};
 use std::io::Write;
 
-/// A file of rules as it is told of: its name, and what each of its lines is read as.
+/// A file of rules as it is told of: its name, what each of its lines is read as, and the style in which they are printed.
 #[derive(Drop)]
-struct RuleLines<'a> {
+pub(crate) struct RuleLines<'a> {
     name: &'a [u8],
     rules: &'a RuleText,
+    style: PathStyle,
     texts: Vec<&'a [u8]>,
     ghost read: { map (λ t. t.now) texts.items ≡ map text_of_line (lines_of rules.now) },
 }
 
 impl<'a> RuleLines<'a> {
-    fn new(alloc: Global, name: &'a [u8], rules: &'a RuleText) -> Result<RuleLines<'a>, AllocError>
-        ensures { IfOk result (λ lines. (lines.name.now ≡ name.now) × (lines.rules.now ≡ rules.now)) }
+    pub(crate) fn new(
+        alloc: Global,
+        name: &'a [u8],
+        rules: &'a RuleText,
+        style: PathStyle,
+    ) -> Result<RuleLines<'a>, AllocError>
+        ensures { IfOk result (λ lines. (lines.name.now ≡ name.now) × (lines.rules.now ≡ rules.now) × (lines.style ≡ style)) }
     {
         let mut texts = Vec::new(alloc);
         let mut left = Lines::of(rules.bytes());
@@ -34,7 +45,12 @@ impl<'a> RuleLines<'a> {
             texts.push(text_of_line(line))?;
             left = others;
         }
-        Ok(RuleLines { name, rules, texts })
+        Ok(RuleLines {
+            name,
+            rules,
+            style,
+            texts,
+        })
     }
 
     /// What the line of a rule is read as.
@@ -49,15 +65,15 @@ impl<'a> RuleLines<'a> {
     fn push_rule(&self, rule: Option<&Rule>, text: &mut Vec<u8>) -> Result<(), AllocError>
         requires { IfSome rule (λ r. IsOnLine (lines_of self.now.rules.now) r.now) }
         ensures { OnOk result (text.new.items ≡ text.old.items
-            ++ rule_fields self.now.name.now self.now.rules.now (option_map (λ r. r.now) rule.entry)) }
+            ++ rule_fields (styled self.now.style) self.now.name.now self.now.rules.now (option_map (λ r. r.now) rule.entry)) }
     {
         let Some(rule) = rule else {
             return text.extend_from_slice(b"-\t-");
         };
-        push_escaped(text, self.name)?;
+        push_styled(text, self.style, self.name)?;
         let line = rule.line();
         write!(text, ":{line}\t").map_err(|_| AllocError)?;
-        push_escaped(text, self.text(rule))
+        push_styled(text, self.style, self.text(rule))
     }
 }
 
@@ -69,7 +85,8 @@ fn push_explained<'a>(
     text: &mut Vec<u8>,
 ) -> Result<(), AllocError>
     requires { checker.old.rules.now ≡ rules_of lines.now.rules.now }
-    ensures text { OnOk result (text.new.items ≡ text.old.items ++ explained_line lines.now.name.now lines.now.rules.now line.now) }
+    ensures text { OnOk result (text.new.items
+        ≡ text.old.items ++ explained_line (styled lines.now.style) lines.now.name.now lines.now.rules.now line.now) }
     ensures rules { checker.new.rules.now ≡ checker.old.rules.now }
 {
     let (path, is_dir) = split_slash(line);
@@ -78,33 +95,28 @@ fn push_explained<'a>(
     text.extend_from_slice(b"\t")?;
     lines.push_rule(finding.rule(), text)?;
     text.extend_from_slice(b"\t")?;
-    push_escaped(text, line)?;
+    push_styled(text, lines.style, line)?;
     text.extend_from_slice(b"\n")
 }
 
-/// What the rules of a file say of each line of paths, and which rule says it.
-///
-/// A line of the text is four fields with tabs between: the word, as [`check_text`](crate::check_text) has it; where the rule
-/// stands that gives it, as `NAME:LINE`, lines being counted from 1; the text of that line, with its `!`, without its trailing
-/// spaces; and the line of paths. Of `below` it is the rule that ignores the highest ignored directory above the path. Where no
-/// rule gives the word, the second field and the third are dashes. Name, text and path are escaped as [`escape`](crate::escape)
-/// has it.
-pub fn explained_text(
+/// Writes what the rules of a file say of each line of paths, and which rule says it.
+pub(crate) fn print_explained<O: Sink>(
     alloc: Global,
-    name: &[u8],
-    rules: &RuleText,
+    lines: &RuleLines,
     paths: &[u8],
-) -> Result<Vec<u8>, AllocError>
-    ensures { IfOk result (λ text. text.items ≡ explained_text_of name.now rules.now paths.now) }
+    out: &mut O,
+) -> Result<(), PrintFault>
+    ensures { AnswersInPieces O.may_take out.old
+        (explained_text_of (styled lines.now.style) lines.now.name.now lines.now.rules.now paths.now) result out.new }
 {
-    let lines = RuleLines::new(alloc, name, rules)?;
-    let mut checker = Checker::new(rules.rules());
-    let mut text = Vec::new(alloc);
+    let mut checker = Checker::new(lines.rules.rules());
+    let mut block = Block::new(alloc);
     let mut rest = paths;
     'lines: while !rest.is_empty() {
         let (line, others) = split_line(rest);
-        push_explained(&lines, &mut checker, line, &mut text)?;
+        push_explained(lines, &mut checker, line, &mut block.text)?;
+        block.print_if_full(out)?;
         rest = others;
     }
-    Ok(text)
+    block.print_rest(out)
 }

@@ -1,6 +1,6 @@
 //! Rules and paths, and the text of their explained check.
 
-use lc_text::{CheckFault, RuleText, check_explained, read_rule_text};
+use lc_text::{CheckFault, PathStyle, RuleText, check_explained, read_rule_text};
 use std::alloc::{AllocError, Global};
 use std::process::Abort;
 use std::test::Fail;
@@ -115,31 +115,49 @@ fn read_rules(alloc: Global, mut file: &[u8]) -> Result<RuleText, AllocError> {
     }
 }
 
-/// Whether the explained check of a case by a file of this name gives its text.
-fn has_text(alloc: Global, name: &[u8], case: &Case) -> Result<bool, AllocError> {
+/// Whether the explained check of a case by a file of this name gives its text in this style.
+fn has_text(alloc: Global, name: &[u8], style: PathStyle, case: &Case) -> Result<bool, AllocError> {
     let (_, rules, mut paths, text) = *case;
     let rules = read_rules(alloc, rules)?;
     let mut out = Vec::with_capacity(alloc, text.len())?;
-    let answer = check_explained(alloc, name, &rules, &mut paths, &mut out);
+    let answer = check_explained(alloc, name, &rules, style, &mut paths, &mut out);
     if answer == Err(CheckFault::Memory) && out.is_empty() {
         return Err(AllocError);
     }
     Ok(answer == Ok(()) && out.as_slice() == text)
 }
 
-fn compare<R: Abort + AllocGlobal>(rt: &R, name: &[u8], cases: &[Case]) -> Result<(), Fail> {
+fn compare<R: Abort + AllocGlobal>(
+    rt: &R,
+    name: &[u8],
+    style: PathStyle,
+    cases: &[Case],
+) -> Result<(), Fail> {
     for case in cases {
-        assert!(rt; has_text(rt.alloc(), name, case)?, "{}", case.0);
+        assert!(rt; has_text(rt.alloc(), name, style, case)?, "{}", case.0);
     }
     Ok(())
 }
 
 #[test]
 fn rules_and_lines_are_named(rt: HostRuntime) -> Result<(), Fail> {
-    compare(&rt, b"f", CASES)
+    compare(&rt, b"f", PathStyle::Escaped, CASES)
 }
 
 #[test]
 fn a_name_is_escaped(rt: HostRuntime) -> Result<(), Fail> {
-    compare(&rt, b"..\\x\n:1/\xff", NAMED)
+    compare(&rt, b"..\\x\n:1/\xff", PathStyle::Escaped, NAMED)
+}
+
+/// By a file with a right-to-left override in its name, as a terminal shows the lines.
+const SHOWN: &[Case] = &[(
+    "name_pattern_and_path_are_visible",
+    b"a\x1b]2;*\n",
+    b"a\x1b]2;\xc2\x9b\nb\xff\n",
+    b"ignored\t\\xe2\\x80\\xaef:1\ta\\x1b]2;*\ta\\x1b]2;\\xc2\\x9b\nnone\t-\t-\tb\\xff\n",
+)];
+
+#[test]
+fn a_terminal_is_shown_visible_lines(rt: HostRuntime) -> Result<(), Fail> {
+    compare(&rt, b"\xe2\x80\xaef", PathStyle::Visible, SHOWN)
 }

@@ -1,7 +1,7 @@
 //! Where a rule stands, as it is printed.
 
 use lc_rules::Origin;
-use lc_text::push_origin;
+use lc_text::{PathStyle, push_origin};
 use std::process::Abort;
 use std::test::Fail;
 
@@ -58,8 +58,17 @@ const CASES: &[Case] = &[
 fn places_of_rules(rt: HostRuntime) -> Result<(), Fail> {
     for (name, path, origin, line, expected) in CASES {
         let mut text = Vec::new(rt.alloc());
-        push_origin(&mut text, path, *origin, *line)?;
+        push_origin(&mut text, PathStyle::Escaped, path, *origin, *line)?;
         assert!(rt; text.as_slice() == *expected, "{name}");
     }
+    Ok(())
+}
+
+#[test]
+fn places_for_a_terminal(rt: HostRuntime) -> Result<(), Fail> {
+    let mut text = Vec::new(rt.alloc());
+    let path = "\u{9b}/\u{e4}/a".as_bytes();
+    push_origin(&mut text, PathStyle::Visible, path, Origin::Directory(2), 2)?;
+    assert!(rt; text.as_slice() == "\\xc2\\x9b/\u{e4}/.gitignore:2".as_bytes());
     Ok(())
 }

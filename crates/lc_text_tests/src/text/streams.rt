@@ -4,7 +4,9 @@ use lc_census::Source;
 use lc_census::trials::{Bytewise, Counted, Endless, Failing};
 use lc_rules::IgnoreFile;
 use lc_text::trials::{Narrow, WRITERS, WhenFull};
-use lc_text::{CheckFault, RulesFileFault, check, check_explained, check_joined, read_rule_text};
+use lc_text::{
+    CheckFault, PathStyle, RulesFileFault, check, check_explained, check_joined, read_rule_text,
+};
 use std::alloc::{AllocError, Global};
 use std::process::Abort;
 use std::test::Fail;
@@ -43,19 +45,19 @@ fn check_paths<S: Source>(
     out: &mut Narrow,
 ) -> Result<(), CheckFault> {
     match IgnoreFile::read(alloc, RULES) {
-        Ok(rules) => check(alloc, &rules, input, out),
+        Ok(rules) => check(alloc, &rules, PathStyle::Escaped, input, out),
         Err(_) => Err(CheckFault::Memory),
     }
 }
 
 fn check_told<S: Source>(alloc: Global, input: &mut S, out: &mut Narrow) -> Result<(), CheckFault> {
     match read_rule_text(alloc, &mut Bytewise(RULES)) {
-        Ok(rules) => check_explained(alloc, b"f", &rules, input, out),
+        Ok(rules) => check_explained(alloc, b"f", &rules, PathStyle::Escaped, input, out),
         Err(_) => Err(CheckFault::Memory),
     }
 }
 
-/// A check of this form, but for want of memory, where nothing is written.
+/// A check of this form, but for want of memory, where nothing is written: the texts are shorter than a block.
 fn checked<S: Source>(
     rt: &impl Abort,
     alloc: Global,
@@ -65,7 +67,7 @@ fn checked<S: Source>(
 ) -> Result<Result<(), CheckFault>, AllocError> {
     let answer = match form {
         Form::Paths => check_paths(alloc, input, out),
-        Form::Joined => check_joined(alloc, input, out),
+        Form::Joined => check_joined(alloc, PathStyle::Escaped, input, out),
         Form::Explained => check_told(alloc, input, out),
     };
     match answer {

@@ -1,7 +1,7 @@
 //! Rules and paths, and the text of their check.
 
 use lc_rules::IgnoreFile;
-use lc_text::{CheckFault, check_joined, check_text, escape};
+use lc_text::{CheckFault, PathStyle, check_joined, check_text, escape};
 use std::alloc::{AllocError, Global};
 use std::process::Abort;
 use std::test::Fail;
@@ -89,19 +89,24 @@ const RUNS: &[Case] = &[
 
 const TABLES: &[&[Case]] = &[RULES, LINES, RUNS];
 
-/// Whether the check of rules and paths, joined, gives this text.
-fn has_text(alloc: Global, mut joined: &[u8], text: &[u8]) -> Result<bool, AllocError> {
+/// Whether the check of rules and paths, joined, gives this text in this style.
+fn has_text(
+    alloc: Global,
+    style: PathStyle,
+    mut joined: &[u8],
+    text: &[u8],
+) -> Result<bool, AllocError> {
     let mut out = Vec::with_capacity(alloc, text.len())?;
-    let answer = check_joined(alloc, &mut joined, &mut out);
+    let answer = check_joined(alloc, style, &mut joined, &mut out);
     if answer == Err(CheckFault::Memory) && out.is_empty() {
         return Err(AllocError);
     }
     Ok(answer == Ok(()) && out.as_slice() == text)
 }
 
-fn compare<R: Abort + AllocGlobal>(rt: &R, cases: &[Case]) -> Result<(), Fail> {
+fn compare<R: Abort + AllocGlobal>(rt: &R, style: PathStyle, cases: &[Case]) -> Result<(), Fail> {
     for (name, joined, text) in cases {
-        assert!(rt; has_text(rt.alloc(), joined, text)?, "{name}");
+        assert!(rt; has_text(rt.alloc(), style, joined, text)?, "{name}");
     }
     Ok(())
 }
@@ -109,9 +114,33 @@ fn compare<R: Abort + AllocGlobal>(rt: &R, cases: &[Case]) -> Result<(), Fail> {
 #[test]
 fn texts_of_checks(rt: HostRuntime) -> Result<(), Fail> {
     for cases in TABLES {
-        compare(&rt, cases)?;
+        compare(&rt, PathStyle::Escaped, cases)?;
     }
     Ok(())
+}
+
+/// As a terminal shows the lines.
+const SHOWN: &[Case] = &[
+    (
+        "what_moves_the_cursor",
+        b"*\n--\n\x1b[2J\nc\xc2\x9b1m\n",
+        b"ignored\t\\x1b[2J\nignored\tc\\xc2\\x9b1m\n",
+    ),
+    (
+        "what_turns_the_direction",
+        b"--\na\xe2\x80\xaegpj.exe/\n",
+        b"none\ta\\xe2\\x80\\xaegpj.exe/\n",
+    ),
+    (
+        "a_path_that_is_no_text",
+        b"--\n\xe4\\a\n",
+        b"none\t\\xe4\\\\a\n",
+    ),
+];
+
+#[test]
+fn texts_for_a_terminal(rt: HostRuntime) -> Result<(), Fail> {
+    compare(&rt, PathStyle::Visible, SHOWN)
 }
 
 /// This name so often, with a slash after each.
@@ -131,7 +160,7 @@ fn begins(alloc: Global, name: &[u8], front: &[u8]) -> Result<bool, AllocError> 
     };
     let mut path = deep(alloc, b"a", 2048)?;
     path.extend_from_slice(name)?;
-    Ok(check_text(alloc, &rules, &path)?.starts_with(front))
+    Ok(check_text(alloc, &rules, PathStyle::Escaped, &path)?.starts_with(front))
 }
 
 #[test]
@@ -149,7 +178,9 @@ fn directories_deeper_than_those_asked_at_once(rt: HostRuntime) -> Result<(), Fa
     };
     let mut path = deep(rt.alloc(), b"a", 300)?;
     path.extend_from_slice(b"b/c")?;
-    assert!(rt; check_text(rt.alloc(), &rules, &path)?.starts_with(b"below\ta/"));
+    assert!(rt;
+        check_text(rt.alloc(), &rules, PathStyle::Escaped, &path)?.starts_with(b"below\ta/")
+    );
     Ok(())
 }
 

@@ -1,36 +1,24 @@
-use Rattle.std.proofs.Common.{ℕ, List, Err, map, subst}
+use Rattle.std.proofs.Common.{ℕ, List, map}
 use Rattle.lc_level.proofs.PassedOn.{passed_on}
-use Rattle.lc_text.specs.Writes.{AnswersPrint, Writes}
+use Rattle.lc_text.specs.declared.printing.PrintFault.TheVariants.{Memory}
 use Rattle.lc_explain.specs.Explain.{MaySay, AnswersLines}
-use Rattle.lc_explain.proofs.Answering.{as_asked, lines_stop}
+use Rattle.lc_explain.proofs.Answering.{as_asked}
+use Rattle.lc_explain.proofs.SoFar.{refused_first}
 use Rattle.lc_explain.proofs.explaining.explain_words.Goals as goal
 
-pub returns-in_err-print : goal.returns-in_err-print
-returns-in_err-print g c =
-    let says = MaySay (g.T.Tree.lists c.args.tree.now) (g.T.Tree.gives c.args.tree.now) c.args.question.now in
-    let explainer = c.in_ok-explainer.explainer in
-    let is = c.in_ok-explainer.ensures in
-    let telling = c.in_ok-telling.telling in
+pub returns-in_err-explainer : goal.returns-in_err-explainer
+returns-in_err-explainer g c =
+    let question = c.args.question.now in
+    let says = MaySay (g.T.Tree.lists c.args.tree.now) (g.T.Tree.gives c.args.tree.now) question in
     let words : List (List ℕ) = map (λ word. word.now) c.args.words.now in
-    let told = as_asked g.T.Tree.lists g.T.Tree.gives words telling.text.items telling.outcome explainer.levels.tree.now
-    c.args.tree.now c.args.question.now explainer.levels.selection explainer.exclude.now explainer.top is.tree is.selection is.top
-    is.exclude c.in_ok-telling.ensures in
-    let stopped = subst (λ (t : List ℕ). AnswersPrint g.O.Sink.may_take c.args.out.now t (Err c.in_err-print.field-0.0) c.print.new.out)
-    c.deref.ensures.value c.in_err-print.ensures.answers in
-    passed_on (λ answer. AnswersLines g.O.Sink.may_take says words c.args.out.now answer c.print.new.out)
-    c.from_residual-in_err-print.result c.in_err-print.field-0.0 c.from_residual-in_err-print.ensures.1
-    (lines_stop g.O.Sink.may_take says c.in_err-print.field-0.0 words telling.text.items telling.outcome c.args.out.now c.print.new.out told
-    stopped)
+    passed_on (λ answer. AnswersLines g.O.Sink.may_take question.style says words c.args.out.now answer c.args.out.now)
+    c.from_residual.result Memory c.from_residual.ensures.1 (refused_first g.O.Sink.may_take question.style says words c.args.out.now)
 
 pub returns : goal.returns
 returns g c =
     let explainer = c.in_ok-explainer.explainer in
     let is = c.in_ok-explainer.ensures in
-    let telling = c.in_ok-telling.telling in
     let words : List (List ℕ) = map (λ word. word.now) c.args.words.now in
-    let told = as_asked g.T.Tree.lists g.T.Tree.gives words telling.text.items telling.outcome explainer.levels.tree.now
-    c.args.tree.now c.args.question.now explainer.levels.selection explainer.exclude.now explainer.top is.tree is.selection is.top
-    is.exclude c.in_ok-telling.ensures in
-    let wrote = subst (λ (t : List ℕ). Writes g.O.Sink.may_take c.args.out.now t c.print.new.out) c.deref.ensures.value
-    c.in_ok-print.ensures.answers in
-    (telling.text.items, told, wrote)
+    as_asked g.O.Sink.may_take g.T.Tree.lists g.T.Tree.gives words c.args.out.now c.print_words.result c.print_words.new.out
+    explainer.levels.tree.now c.args.tree.now c.args.question.now explainer.levels.selection explainer.exclude.now explainer.top
+    explainer.style is.tree is.selection is.top is.exclude is.style c.print_words.ensures

@@ -1,7 +1,7 @@
 use Rattle.std.proofs.Common.{ℕ, List, ◌++◌, ◌∷◌, [], ◌∙◌, ap}
-use Rattle.lc_text.specs.Escape.{escape_bytes}
 use Rattle.lc_text.specs.PathLines.{path_of}
 use Rattle.lc_text.specs.RulePlaces.{rule_place}
+use Rattle.lc_text.specs.Styles.{styled}
 use Rattle.lc_text.proofs.Explained.{last_piece}
 use Rattle.lc_explain.proofs.Tellings.{eight_pieces}
 use Rattle.lc_explain.proofs.telling.push_ruled.Goals as goal
@@ -11,15 +11,16 @@ returns c =
     let old = c.args.text.now.items in
     let word = c.as_bytes.result.now in
     let rule = c.args.rule in
-    let place = λ (p : List ℕ). rule_place escape_bytes p rule.place.origin rule.place.line in
-    let pattern = escape_bytes rule.text.now in
-    let line = escape_bytes c.args.line.now in
-    let pushed = c.in_ok-push_escaped-2.ensures ∙ ap (λ (t : List ℕ). t ++ line) (c.in_ok-extend_from_slice-4.ensures.items
-    ∙ ap (λ (t : List ℕ). t ++ 9 ∷ []) (c.in_ok-push_escaped.ensures
+    let escape = styled c.args.style in
+    let place = λ (p : List ℕ). rule_place escape p rule.place.origin rule.place.line in
+    let pattern = escape rule.text.now in
+    let line = escape c.args.line.now in
+    let pushed = c.in_ok-push_styled-2.ensures ∙ ap (λ (t : List ℕ). t ++ line) (c.in_ok-extend_from_slice-4.ensures.items
+    ∙ ap (λ (t : List ℕ). t ++ 9 ∷ []) (c.in_ok-push_styled.ensures
     ∙ ap (λ (t : List ℕ). t ++ pattern) (c.in_ok-extend_from_slice-3.ensures.items
     ∙ ap (λ (t : List ℕ). t ++ 9 ∷ []) (c.in_ok-push_origin.ensures ∙ ap (λ (t : List ℕ). t ++ place c.split_slash.result.0.now)
     (c.in_ok-extend_from_slice-2.ensures.items ∙ ap (λ (t : List ℕ). t ++ 9 ∷ []) c.in_ok-extend_from_slice.ensures.items))))) in
-    last_piece c.extend_from_slice-5.result c.extend_from_slice-5.new.self.items c.push_escaped-2.new.text.items (10 ∷ []) _
+    last_piece c.extend_from_slice-5.result c.extend_from_slice-5.new.self.items c.push_styled-2.new.text.items (10 ∷ []) _
     c.extend_from_slice-5.ensures.items
     (ap (λ (t : List ℕ). t ++ 10 ∷ []) pushed
     ∙ eight_pieces old word (9 ∷ []) (place c.split_slash.result.0.now) (9 ∷ []) pattern (9 ∷ []) line (10 ∷ [])

@@ -1,6 +1,5 @@
 use Rattle.std.proofs.Common.{◌≡◌, ◌∙◌, ◌≤◌, ◌<◌, ℕ, List, Result, Ok, Err, length, subst, sym, ap, ap₂, ⊎_elim}
 use Rattle.std.proofs.lemmas.Bool.{cases_lt}
-use Rattle.std.specs.Result.{IsErrAnd}
 use Rattle.lc_rules.specs.IgnoreRules.{rules_of}
 use Rattle.lc_rules.specs.declared.faults.RuleFault.{RuleFault}
 use Rattle.lc_rules.specs.declared.faults.RuleFault.TheVariants.{TooLong}
@@ -9,15 +8,11 @@ use Rattle.lc_text.specs.Check.{AnswersCheck}
 use Rattle.lc_text.specs.CheckText.{text_by}
 use Rattle.lc_text.specs.Joined.{rules_part, paths_part, joined_text}
 use Rattle.lc_text.specs.CheckFaults.{print_fault, rules_fault}
+use Rattle.lc_text.specs.Styles.{styled}
 use Rattle.lc_text.specs.Writes.{Writes, AnswersPrint}
 use Rattle.lc_text.specs.declared.checking.CheckFault.{CheckFault}
-use Rattle.lc_text.proofs.Stopping.{output_stops, rules_stop}
+use Rattle.lc_text.proofs.Stopping.{is_fault, output_stops, rules_stop}
 use Rattle.lc_text.proofs.checking.check_joined.Goals as goal
-
--- a fault that is this one
-is_fault : (answer : Result (Unit {0}) CheckFault) (fault : CheckFault) → IsErrAnd answer (λ e. e ≡ fault) → answer ≡ Err fault
-is_fault (Ok _) fault is = absurd is
-is_fault (Err e) fault is = ap Err is
 
 -- rules that were read are not too long
 not_long : {T : Type 0} (rules : T) (n : ℕ) → (max_rule_bytes < n → ◌≡◌ {A = Result T RuleFault} (Ok rules) (Err TooLong))
@@ -28,11 +23,12 @@ pub returns-in_err-rules : goal.returns-in_err-rules
 returns-in_err-rules g c =
     let bytes = c.in_ok-bytes.bytes.items in
     let rules_are = c.split_joined.ensures.rules ∙ ap rules_part c.deref.ensures.value in
-    let stops = rules_stop g.S.Source.may_give g.O.Sink.may_take rules_part joined_text c.in_err-rules.field-0.0 c.args.input.now
+    let text_of = joined_text (styled c.args.style) in
+    let stops = rules_stop g.S.Source.may_give g.O.Sink.may_take rules_part text_of c.in_err-rules.field-0.0 c.args.input.now
     c.read_bytes.new.source c.args.out.now bytes c.in_ok-bytes.ensures
     (λ is. subst (λ (l : List ℕ). max_rule_bytes < length l) rules_are (c.in_err-rules.ensures.too_long.0 (ap Err is))) in
     subst (λ (r : Result
-    (Unit {0}) CheckFault). AnswersCheck g.S.Source.may_give g.O.Sink.may_take rules_part joined_text c.args.input.now c.args.out.now r
+    (Unit {0}) CheckFault). AnswersCheck g.S.Source.may_give g.O.Sink.may_take rules_part text_of c.args.input.now c.args.out.now r
     c.read_bytes.new.source c.args.out.now)
     (sym (is_fault c.from_residual-in_err-rules.result (rules_fault c.in_err-rules.field-0.0) c.from_residual-in_err-rules.ensures.1)) stops
 
@@ -42,15 +38,16 @@ returns-in_err-print g c =
     let rules_are = c.split_joined.ensures.rules ∙ ap rules_part c.deref.ensures.value in
     let paths_are = c.split_joined.ensures.paths ∙ ap paths_part c.deref.ensures.value in
     let text = c.deref-2.ensures.value ∙ (c.in_ok-text.ensures
-    ∙ ap₂ text_by (c.in_ok-rules.ensures.ok ∙ ap rules_of rules_are) paths_are) in
+    ∙ ap₂ (text_by (styled c.args.style)) (c.in_ok-rules.ensures.ok ∙ ap rules_of rules_are) paths_are) in
     let within = subst (λ (l : List ℕ). length l ≤ max_rule_bytes) rules_are
     (not_long c.in_ok-rules.rules (length c.split_joined.result.0.now) c.in_ok-rules.ensures.too_long.1) in
     let answers = subst (λ (t : List ℕ). AnswersPrint g.O.Sink.may_take c.args.out.now t
     (Err c.in_err-print.field-0.0) c.print.new.out) text c.in_err-print.ensures.answers in
-    let stops = output_stops g.S.Source.may_give g.O.Sink.may_take rules_part joined_text c.in_err-print.field-0.0 c.args.input.now
+    let text_of = joined_text (styled c.args.style) in
+    let stops = output_stops g.S.Source.may_give g.O.Sink.may_take rules_part text_of c.in_err-print.field-0.0 c.args.input.now
     c.read_bytes.new.source c.args.out.now c.print.new.out bytes (c.in_ok-bytes.ensures, within) answers in
     subst (λ (r : Result
-    (Unit {0}) CheckFault). AnswersCheck g.S.Source.may_give g.O.Sink.may_take rules_part joined_text c.args.input.now c.args.out.now r
+    (Unit {0}) CheckFault). AnswersCheck g.S.Source.may_give g.O.Sink.may_take rules_part text_of c.args.input.now c.args.out.now r
     c.read_bytes.new.source c.print.new.out)
     (sym (is_fault c.from_residual-in_err-print.result (print_fault c.in_err-print.field-0.0) c.from_residual-in_err-print.ensures.1)) stops
 
@@ -60,7 +57,7 @@ returns g c =
     let rules_are = c.split_joined.ensures.rules ∙ ap rules_part c.deref.ensures.value in
     let paths_are = c.split_joined.ensures.paths ∙ ap paths_part c.deref.ensures.value in
     let text = c.deref-2.ensures.value ∙ (c.in_ok-text.ensures
-    ∙ ap₂ text_by (c.in_ok-rules.ensures.ok ∙ ap rules_of rules_are) paths_are) in
+    ∙ ap₂ (text_by (styled c.args.style)) (c.in_ok-rules.ensures.ok ∙ ap rules_of rules_are) paths_are) in
     let within = subst (λ (l : List ℕ). length l ≤ max_rule_bytes) rules_are
     (not_long c.in_ok-rules.rules (length c.split_joined.result.0.now) c.in_ok-rules.ensures.too_long.1) in (
       bytes,

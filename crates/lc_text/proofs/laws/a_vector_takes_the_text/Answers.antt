@@ -1,6 +1,8 @@
-use Rattle.std.proofs.Common.{◌∙◌, [], sym, append-nil}
-use Rattle.lc_text.proofs.Taking.{appends_all}
+use Rattle.lc_text.proofs.Taking.{appends_text, appends_in_pieces}
 use Rattle.lc_text.proofs.laws.a_vector_takes_the_text.Goals as goal
 
-pub returns : goal.returns
-returns c old new text wrote = sym (append-nil new.items) ∙ appends_all old text wrote.0 new [] wrote.1
+pub returns-clause-whole : goal.returns-clause-whole
+returns-clause-whole c = appends_text
+
+pub returns-clause-in_pieces : goal.returns-clause-in_pieces
+returns-clause-in_pieces c = appends_in_pieces

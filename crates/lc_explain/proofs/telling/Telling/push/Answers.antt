@@ -3,9 +3,11 @@ use Rattle.lc_text.specs.declared.outcome.Outcome.TheVariants.{SomeFaults}
 use Rattle.lc_explain.specs.Explained.{cited}
 use Rattle.lc_explain.specs.ExplainText.{is_fault}
 use Rattle.lc_explain.specs.Findings.{explanation_of}
+use Rattle.lc_explain.specs.Waypoints.{way_to}
 use Rattle.lc_explain.proofs.telling.Telling.push.Goals as goal
 
 pub returns-in-Fault-clause-outcome : goal.returns-in-Fault-clause-outcome
 returns-in-Fault-clause-outcome c =
-    sym (ap (λ f. if is_fault (explanation_of (cited c.args.exclude.now c.args.way.now) f) then SomeFaults else c.args.self.now.outcome)
+    sym (ap (λ f. if is_fault (explanation_of (cited c.args.exclude.now (way_to c.args.kept.now c.args.found.now.to)) f) then SomeFaults
+    else c.args.self.now.outcome)
     c.in-Fault.is)

@@ -1,8 +1,8 @@
 use Rattle.std.proofs.Common.{◌++◌, ◌∙◌, [], ◌∷◌, ap, ap₂}
 use Rattle.std.specs.Prelude.{option_map}
 use Rattle.lc_text.specs.CheckText.{file_verdict, path_word}
-use Rattle.lc_text.specs.Escape.{escape_bytes}
 use Rattle.lc_text.specs.ExplainedText.{path_rule, rule_fields}
+use Rattle.lc_text.specs.Styles.{styled}
 use Rattle.lc_text.proofs.Explained.{found_on_line, fields_found, six_pieces, last_piece}
 use Rattle.lc_text.proofs.checking.explained.push_explained.Goals as goal
 
@@ -13,6 +13,7 @@ push_rule-requires c =
 
 pub returns-clause-text : goal.returns-clause-text
 returns-clause-text c =
+    let escape = styled c.args.lines.now.style in
     let name = c.args.lines.now.name.now in
     let bytes = c.args.lines.now.rules.now in
     let line = c.args.line.now in
@@ -24,11 +25,11 @@ returns-clause-text c =
     let dir = c.split_slash-is_dir.ensures.dir in
     let by_word = c.as_bytes.ensures.value ∙ c.word.ensures ∙ c.find-finding.ensures.word ∙ ap₂ (path_word (file_verdict rules)) path dir in
     let by_rule = c.rule.ensures ∙ c.find-finding.ensures.rule ∙ ap₂ (path_rule rules) path dir in
-    let pushed = c.in_ok-push_escaped.ensures ∙ ap (λ t. t ++ escape_bytes line) (c.in_ok-extend_from_slice-3.ensures.items
-    ∙ ap (λ t. t ++ 9 ∷ []) (c.in_ok-push_rule.ensures ∙ ap (λ t. t ++ rule_fields name bytes found)
+    let pushed = c.in_ok-push_styled.ensures ∙ ap (λ t. t ++ escape line) (c.in_ok-extend_from_slice-3.ensures.items
+    ∙ ap (λ t. t ++ 9 ∷ []) (c.in_ok-push_rule.ensures ∙ ap (λ t. t ++ rule_fields escape name bytes found)
     (c.in_ok-extend_from_slice-2.ensures.items ∙ ap (λ t. t ++ 9 ∷ []) c.in_ok-extend_from_slice.ensures.items))) in
-    last_piece c.extend_from_slice-4.result c.extend_from_slice-4.new.self.items c.push_escaped.new.text.items (10 ∷ []) _
+    last_piece c.extend_from_slice-4.result c.extend_from_slice-4.new.self.items c.push_styled.new.text.items (10 ∷ []) _
     c.extend_from_slice-4.ensures.items
     (ap (λ t. t ++ 10 ∷ []) pushed
-    ∙ six_pieces old word (9 ∷ []) (rule_fields name bytes found) (9 ∷ []) (escape_bytes line) (10 ∷ [])
-    ∙ ap (λ l. old ++ l) (fields_found name bytes line rules word found c.requires by_word by_rule))
+    ∙ six_pieces old word (9 ∷ []) (rule_fields escape name bytes found) (9 ∷ []) (escape line) (10 ∷ [])
+    ∙ ap (λ l. old ++ l) (fields_found escape name bytes line rules word found c.requires by_word by_rule))

@@ -1,5 +1,6 @@
 use Rattle.std.proofs.Common.{◌≡◌, ◌++◌, length}
 use Rattle.lc_text.specs.CheckText.{file_verdict, check_text_of}
+use Rattle.lc_text.specs.Styles.{styled}
 use Rattle.lc_text.proofs.checking.text.check_text.Given as goal
 
 abbrev pub decreases-lines : goal.decreases-lines
@@ -7,6 +8,7 @@ decreases-lines l = length l.rest
 
 abbrev pub invariant-lines : goal.invariant-lines
 invariant-lines l = record {
-  text : l.text.items ++ check_text_of (file_verdict l.fn.rules) l.rest ≡ check_text_of (file_verdict l.fn.rules) l.fn.paths;
+  text : l.text.items ++ check_text_of (styled l.fn.style) (file_verdict l.fn.rules) l.rest
+      ≡ check_text_of (styled l.fn.style) (file_verdict l.fn.rules) l.fn.paths;
   rules : l.checker.rules.now ≡ l.fn.rules;
 }

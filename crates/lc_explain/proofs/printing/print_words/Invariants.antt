@@ -1,16 +1,16 @@
 use Rattle.std.proofs.Common.{map, take}
-use Rattle.lc_explain.specs.Explain.{Explains}
 use Rattle.lc_explain.specs.Explained.{IsExplained}
 use Rattle.lc_explain.specs.Waypoints.{MayEnter}
-use Rattle.lc_explain.specs.Ways.{IsWay}
-use Rattle.lc_explain.proofs.telling.Telling.of_words.Given as goal
+use Rattle.lc_explain.specs.Ways.{AreWays}
+use Rattle.lc_explain.proofs.SoFar.{SoFar}
+use Rattle.lc_explain.proofs.printing.print_words.Given as goal
 
 abbrev pub invariant-loop-word : goal.invariant-loop-word
 invariant-loop-word g l = record {
-  way : IsWay (MayEnter (g.T.Tree.lists l.explainer.levels.tree.now) (g.T.Tree.gives l.explainer.levels.tree.now))
-      l.explainer.levels.selection l.explainer.exclude.now l.explainer.top l.way;
-  done : Explains
+  ways : AreWays (MayEnter (g.T.Tree.lists l.explainer.levels.tree.now) (g.T.Tree.gives l.explainer.levels.tree.now))
+      l.explainer.levels.selection l.explainer.exclude.now l.explainer.top l.kept;
+  so_far : SoFar g.O.Sink.may_take l.explainer.style
       (IsExplained (MayEnter (g.T.Tree.lists l.explainer.levels.tree.now) (g.T.Tree.gives l.explainer.levels.tree.now))
       l.explainer.levels.selection l.explainer.exclude.now l.explainer.top) (map (λ word. word.now) (take l.word-index l.words))
-      l.telling.text.items l.telling.outcome;
+      l.initial.out l.telling.block.text.items l.telling.outcome l.out;
 }

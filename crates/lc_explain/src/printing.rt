@@ -1,0 +1,62 @@
+//! The text of what is found, written in blocks as it is made.
+
+ghost use Rattle.std.specs.Prelude.{map};
+ghost use Rattle.lc_text.specs.Lines.{input_lines_of};
+ghost use Rattle.lc_explain.specs.Explain.{AnswersLines};
+ghost use Rattle.lc_explain.specs.Explained.{IsExplained};
+ghost use Rattle.lc_explain.specs.Waypoints.{MayEnter};
+
+use crate::explainer::Explainer;
+use crate::kept_ways::KeptWays;
+use crate::telling::Telling;
+use lc_text::{Outcome, PrintFault, Sink, split_line};
+use lc_tree::Tree;
+use std::alloc::Global;
+
+/// Writes a line for each line of an input.
+pub(crate) fn print_lines<T: Tree, O: Sink>(
+    alloc: Global,
+    explainer: &Explainer<'_, T>,
+    paths: &[u8],
+    out: &mut O,
+) -> Result<Outcome, PrintFault>
+    ensures { AnswersLines O.may_take explainer.now.style
+        (IsExplained (MayEnter (T.lists explainer.now.levels.tree.now) (T.gives explainer.now.levels.tree.now))
+        explainer.now.levels.selection explainer.now.exclude.now explainer.now.top) (input_lines_of paths.now) out.old result out.new }
+{
+    let mut kept = KeptWays::new(alloc)?;
+    let mut telling = Telling::new(alloc);
+    let mut rest = paths;
+    'lines: while !rest.is_empty() {
+        let (line, others) = split_line(rest);
+        telling.tell(explainer, &mut kept, line)?;
+        telling.block.print_if_full(out)?;
+        rest = others;
+    }
+    let Telling { block, outcome } = telling;
+    block.print_rest(out)?;
+    Ok(outcome)
+}
+
+/// Writes a line for each word.
+pub(crate) fn print_words<T: Tree, O: Sink>(
+    alloc: Global,
+    explainer: &Explainer<'_, T>,
+    words: &[&str],
+    out: &mut O,
+) -> Result<Outcome, PrintFault>
+    ensures { AnswersLines O.may_take explainer.now.style
+        (IsExplained (MayEnter (T.lists explainer.now.levels.tree.now) (T.gives explainer.now.levels.tree.now))
+        explainer.now.levels.selection explainer.now.exclude.now explainer.now.top) (map (λ word. word.now) words.now) out.old result
+        out.new }
+{
+    let mut kept = KeptWays::new(alloc)?;
+    let mut telling = Telling::new(alloc);
+    for word in words {
+        telling.tell(explainer, &mut kept, word.as_bytes())?;
+        telling.block.print_if_full(out)?;
+    }
+    let Telling { block, outcome } = telling;
+    block.print_rest(out)?;
+    Ok(outcome)
+}

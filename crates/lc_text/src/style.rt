@@ -1,0 +1,52 @@
+//! How paths are printed for a program, and for a terminal.
+
+ghost use Rattle.std.specs.Prelude.{◌≡◌, ◌++◌, OnOk};
+ghost use Rattle.lc_text.specs.Styles.{styled, styled_path};
+ghost use Rattle.lc_text.specs.Visible.{visible_bytes};
+
+use crate::escaping::push_escaped;
+use crate::visible::push_visible;
+use std::alloc::AllocError;
+
+/// How the bytes of paths and of patterns are printed.
+#[derive(Debug, Clone, Copy, PartialEq, Eq)]
+pub enum PathStyle {
+    /// For a pipe or a file: a program can read the bytes back ([`push_escaped`]).
+    Escaped,
+    /// For a terminal: nothing in them moves the cursor or turns the direction of text ([`push_visible`]).
+    Visible,
+}
+
+fn push_visible_bytes(text: &mut Vec<u8>, bytes: &[u8]) -> Result<(), AllocError>
+    ensures { OnOk result (text.new.items ≡ text.old.items ++ visible_bytes bytes.now) }
+{
+    let mut shown = String::new(*text.allocator());
+    push_visible(&mut shown, bytes)?;
+    text.extend_from_slice(shown.as_bytes())
+}
+
+/// Appends bytes in a style.
+///
+/// ```
+/// push_styled(&mut text, PathStyle::Escaped, "a\u{202e}b\n".as_bytes())?; // the bytes of a\u{202e}b, then \x0a
+/// push_styled(&mut text, PathStyle::Visible, "a\u{202e}b\n".as_bytes())?; // a\xe2\x80\xaeb\x0a
+/// ```
+pub fn push_styled(text: &mut Vec<u8>, style: PathStyle, bytes: &[u8]) -> Result<(), AllocError>
+    ensures { OnOk result (text.new.items ≡ text.old.items ++ styled style bytes.now) }
+{
+    match style {
+        PathStyle::Escaped => push_escaped(text, bytes),
+        PathStyle::Visible => push_visible_bytes(text, bytes),
+    }
+}
+
+/// Appends a path in a style; the top's empty path is a dot.
+pub fn push_styled_path(text: &mut Vec<u8>, style: PathStyle, path: &[u8]) -> Result<(), AllocError>
+    ensures { OnOk result (text.new.items ≡ text.old.items ++ styled_path style path.now) }
+{
+    if path.is_empty() {
+        text.extend_from_slice(b".")
+    } else {
+        push_styled(text, style, path)
+    }
+}
