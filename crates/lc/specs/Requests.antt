@@ -23,7 +23,6 @@ use Rattle.lc_walk.specs.Walks.{Walks}
 use Rattle.lc_table.specs.Runs.{AnswersRun}
 use Rattle.lc_arguments.specs.declared.request.Request.{Request}
 use Rattle.lc_arguments.specs.declared.request.Request.TheVariants.{CheckJoined, Check, Count, Explain}
-use Rattle.lc_arguments.specs.declared.check.CheckRequest.{CheckRequest}
 use Rattle.lc_arguments.specs.declared.count.CountRequest.{CountRequest}
 use Rattle.lc_arguments.specs.declared.explain.ExplainRequest.{ExplainRequest}
 use Rattle.lc.specs.declared.cause.Cause.{Cause}
