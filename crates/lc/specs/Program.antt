@@ -12,14 +12,22 @@ use Rattle.lc.specs.declared.cause.Cause.{Cause}
 use Rattle.lc.specs.declared.cause.Cause.TheVariants.{Memory, Unwritten}
 use Rattle.lc.specs.declared.program.Ending.{Ending}
 use Rattle.lc.specs.declared.program.Ending.TheVariants.{Done, SomeFaults, Misused, GaveUp}
+use Rattle.lc.specs.declared.program.Terminals.{Terminals}
 use Rattle.lc_text.specs.declared.outcome.Outcome.{Outcome}
 use Rattle.lc_text.specs.declared.outcome.Outcome.TheVariants as outcome
+use Rattle.lc_text.specs.declared.style.PathStyle.{PathStyle}
+use Rattle.lc_text.specs.declared.style.PathStyle.TheVariants.{Escaped, Visible}
 
 abbrev pub status_of : Ending → ℕ
 status_of Done = 0
 status_of SomeFaults = 1
 status_of Misused = 2
 status_of (GaveUp _) = 3
+
+-- how paths are printed on an output that is a terminal, or is none
+abbrev pub style_for : Bool → PathStyle
+style_for true = Visible
+style_for false = Escaped
 
 -- what the program reads without words
 abbrev pub introduction : List ℕ
@@ -82,21 +90,22 @@ module _ {I O E : Type 0} where
       → (E → List ℕ → Result ℕ Failed → E → Type 0) → StreamsMay I O E
   streams_may give load take tell = record { give = give; load = load; take = take; tell = tell }
 
-module _ {I O E : Type 0} (may : StreamsMay I O E) (words : List (List ℕ)) where
+module _ {I O E : Type 0} (may : StreamsMay I O E) (words : List (List ℕ)) (terminals : Terminals) where
   -- the request of the words had this reply
   abbrev pub Replies : Streams I O E → Reply → Streams I O E → Type 0
   Replies before reply after =
       (faults_in words ≡ [])
       × ((request : Request) × Asks words request
-      × AnswersRequest may.give may.load may.take request before.input before.out reply after.input after.out)
+      × AnswersRequest may.give may.load may.take (style_for terminals.output) request before.input before.out reply after.input after.out)
 
   -- it was answered so, and perhaps a hint was told
-  abbrev pub EndsAnswered : Bool → Streams I O E → Outcome → Streams I O E → Type 0
-  EndsAnswered is_seen before outcome after =
+  abbrev pub EndsAnswered : Streams I O E → Outcome → Streams I O E → Type 0
+  EndsAnswered before outcome after =
       (faults_in words ≡ [])
       × ((request : Request) × Asks words request
-      × AnswersRequest may.give may.load may.take request before.input before.out (Ok outcome) after.input after.out
-      × Hints may.tell is_seen request before.err after.err)
+      × AnswersRequest may.give may.load may.take (style_for terminals.output) request before.input before.out (Ok outcome) after.input
+      after.out
+      × Hints may.tell terminals.error request before.err after.err)
 
   -- the words ask for a text, nothing was read, and it was shown
   abbrev pub Shows : Streams I O E → Ending → Streams I O E → Type 0
@@ -104,17 +113,17 @@ module _ {I O E : Type 0} (may : StreamsMay I O E) (words : List (List ℕ)) whe
       MayShow (faults_in words) × (after.input ≡ before.input)
       × ((text : List ℕ) × EndsShown may.take may.tell text before.out before.err ending after.out after.err)
 
-  abbrev pub Ends : Bool → Streams I O E → Ending → Streams I O E → Type 0
+  abbrev pub Ends : Streams I O E → Ending → Streams I O E → Type 0
   -- a request was answered and all is well, or a text was shown
-  Ends is_seen before Done after = EndsAnswered is_seen before outcome.Clean after ⊎ Shows before Done after
+  Ends before Done after = EndsAnswered before outcome.Clean after ⊎ Shows before Done after
   -- an answer was written that tells of a fault
-  Ends is_seen before SomeFaults after = EndsAnswered is_seen before outcome.SomeFaults after
+  Ends before SomeFaults after = EndsAnswered before outcome.SomeFaults after
   -- the words fail, nothing was read or written, and why was told
-  Ends is_seen before Misused after =
+  Ends before Misused after =
       AreRefused words × (after.input ≡ before.input) × (after.out ≡ before.out)
       × ((why : List ℕ) × Tells may.tell before.err why after.err)
   -- a request was given up for this cause, or a text was not shown, or there was no memory to read the words
-  Ends is_seen before (GaveUp cause) after =
+  Ends before (GaveUp cause) after =
       (Replies before (Err cause) after × TellsCause may.tell before.err cause after.err)
       ⊎ (Shows before (GaveUp cause) after
       ⊎ ((cause ≡ Memory) × (after.input ≡ before.input) × (after.out ≡ before.out) × TellsCause may.tell before.err cause after.err))

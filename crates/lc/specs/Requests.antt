@@ -1,5 +1,5 @@
 -- How a request is answered, by what was read and written.
-use Rattle.std.specs.Prelude.{◌≡◌, ◌⊎◌, ℕ, cond, List, [], ◌∷◌, map, Option, Some, None, Result, Ok, Err, option_map}
+use Rattle.std.specs.Prelude.{◌≡◌, ◌⊎◌, ℕ, Bool, true, false, List, [], ◌∷◌, map, Option, Some, None, Result, Ok, Err, option_map}
 use Rattle.std.specs.Borrow.{Bor}
 use Rattle.lc_census.specs.declared.source.Failed.{Failed}
 use Rattle.lc_census.specs.Reads.{Answer}
@@ -12,16 +12,17 @@ use Rattle.lc.specs.Causes.{check_cause, explain_cause, print_cause, rules_cause
 use Rattle.lc_explain.specs.Explain.{AnswersExplain, AnswersLines, MaySay}
 use Rattle.lc_explain.specs.declared.explaining.ExplainFault.{ExplainFault}
 use Rattle.lc_explain.specs.declared.question.Question.{Question}
-use Rattle.lc_text.specs.Check.{AnswersCheck, no_rules}
+use Rattle.lc_text.specs.Check.{AnswersCheck, AnswersExplainedCheck, no_rules}
 use Rattle.lc_text.specs.CheckText.{text_by}
 use Rattle.lc_text.specs.Joined.{rules_part, joined_text}
 use Rattle.lc_text.specs.ExplainedText.{explained_text_of}
 use Rattle.lc_text.specs.RuleReads.{ReadsRuleText}
+use Rattle.lc_text.specs.Styles.{styled}
+use Rattle.lc_text.specs.declared.style.PathStyle.{PathStyle}
 use Rattle.lc_walk.specs.Walks.{Walks}
 use Rattle.lc_table.specs.Runs.{AnswersRun}
 use Rattle.lc_arguments.specs.declared.request.Request.{Request}
 use Rattle.lc_arguments.specs.declared.request.Request.TheVariants.{CheckJoined, Check, Count, Explain}
-use Rattle.lc_arguments.specs.declared.check.CheckRequest.{CheckRequest}
 use Rattle.lc_arguments.specs.declared.count.CountRequest.{CountRequest}
 use Rattle.lc_arguments.specs.declared.explain.ExplainRequest.{ExplainRequest}
 use Rattle.lc.specs.declared.cause.Cause.{Cause}
@@ -102,10 +103,11 @@ AnswersCount loads may_take c out reply wrote =
     × AnswersRun may_take (Walks (λ path. AnyListing) (λ path. AnyContents) o) c.shape out answer wrote)
     ⊎ ((IsWithoutRules loads reply ⊎ (reply ≡ Err Memory)) × (wrote ≡ out))
 
--- a question that asks what the words of an explanation ask
-pub record IsQuestionOf (loads : Loaded) (c : ExplainRequest) (q : Question) : Type 0 where
+-- a question that asks what the words of an explanation ask, with paths in this style
+pub record IsQuestionOf (loads : Loaded) (style : PathStyle) (c : ExplainRequest) (q : Question) : Type 0 where
   pub selection : q.selection ≡ selection_of c.exclusions.archive (map (λ name. name.now) c.exclusions.without.items)
   pub exclude : Excludes loads c.exclusions.from q.exclude
+  pub printed : q.style ≡ style
 
 -- what may be said of paths in a tree of the system
 abbrev pub AnswersPaths : {I O : Type 0} → (I → ℕ → Answer → I → Type 0) → (O → List ℕ → Result ℕ Failed → O → Type 0)
@@ -113,45 +115,44 @@ abbrev pub AnswersPaths : {I O : Type 0} → (I → ℕ → Answer → I → Typ
 -- those of the input
 AnswersPaths may_give may_take q [] input out reply read wrote =
     (answer : Result Outcome ExplainFault) × (reply ≡ explained answer)
-    × AnswersExplain may_take (MaySay (λ path. AnyListing) (λ path. AnyContents) q) may_give input out answer read wrote
+    × AnswersExplain may_take q.style (MaySay (λ path. AnyListing) (λ path. AnyContents) q) may_give input out answer read wrote
 -- those of the words
 AnswersPaths may_give may_take q (path ∷ paths) input out reply read wrote =
     (answer : Result Outcome PrintFault) × (reply ≡ told answer) × (read ≡ input)
-    × AnswersLines may_take (MaySay (λ path. AnyListing) (λ path. AnyContents) q) (map (λ p. p.now) (path ∷ paths)) out answer wrote
-
--- what a check of some paths prints by the bytes of its file
-abbrev pub text_by_bytes : List ℕ → List ℕ → List ℕ
-text_by_bytes bytes paths = text_by (rules_of bytes) paths
-
--- and what that prints for which the words ask
-abbrev pub text_asked : CheckRequest → List ℕ → List ℕ → List ℕ
-text_asked c bytes = cond c.explain (explained_text_of c.file.now bytes) (text_by_bytes bytes)
+    × AnswersLines may_take q.style (MaySay (λ path. AnyListing) (λ path. AnyContents) q) (map (λ p. p.now) (path ∷ paths)) out answer wrote
 
 -- a check of rules and paths that come joined
 abbrev pub AnswersJoined : {I O : Type 0} → (I → ℕ → Answer → I → Type 0) → (O → List ℕ → Result ℕ Failed → O → Type 0)
-    → I → O → Reply → I → O → Type 0
-AnswersJoined may_give may_take input out reply read wrote =
+    → PathStyle → I → O → Reply → I → O → Type 0
+AnswersJoined may_give may_take style input out reply read wrote =
     (answer : Result (Unit {0}) CheckFault) × (reply ≡ checked answer)
-    × AnswersCheck may_give may_take rules_part joined_text input out answer read wrote
+    × AnswersCheck may_give may_take rules_part (joined_text (styled style)) input out answer read wrote
 
 module _ {I O : Type 0} (may_give : I → ℕ → Answer → I → Type 0) (loads : Loaded)
     (may_take : O → List ℕ → Result ℕ Failed → O → Type 0) where
-  -- a check of paths that prints so by the bytes of the file, or this gave no rules and nothing was read or written
-  abbrev pub AnswersFile : (List ℕ → List ℕ → List ℕ) → I → O → Reply → I → O → Type 0
-  AnswersFile text_of input out reply read wrote =
+  -- a check of paths by the bytes of the file with this name, explained or not
+  abbrev pub AnswersPathCheck : PathStyle → List ℕ → Bool → List ℕ → I → O → Result (Unit {0}) CheckFault → I → O → Type 0
+  AnswersPathCheck style name true bytes input out answer read wrote =
+      AnswersExplainedCheck may_give may_take (explained_text_of (styled style) name bytes) input out answer read wrote
+  AnswersPathCheck style name false bytes input out answer read wrote =
+      AnswersCheck may_give may_take no_rules (text_by (styled style) (rules_of bytes)) input out answer read wrote
+
+  -- such a check by the bytes that were read of the file, or this gave no rules and nothing was read or written
+  abbrev pub AnswersFile : PathStyle → List ℕ → Bool → I → O → Reply → I → O → Type 0
+  AnswersFile style name is_explained input out reply read wrote =
       ((bytes : List ℕ) × loads (Ok bytes) × (answer : Result (Unit {0}) CheckFault) × (reply ≡ checked answer)
-      × AnswersCheck may_give may_take no_rules (text_of bytes) input out answer read wrote)
+      × AnswersPathCheck style name is_explained bytes input out answer read wrote)
       ⊎ (IsWithoutRules loads reply × (read ≡ input) × (wrote ≡ out))
 
   -- what may be said of the paths by what the words ask, or there were no rules or no memory and nothing was read or written
-  abbrev pub AnswersExplanation : ExplainRequest → I → O → Reply → I → O → Type 0
-  AnswersExplanation c input out reply read wrote =
-      ((q : Question) × IsQuestionOf loads c q × AnswersPaths may_give may_take q c.paths.items input out reply read wrote)
+  abbrev pub AnswersExplanation : PathStyle → ExplainRequest → I → O → Reply → I → O → Type 0
+  AnswersExplanation style c input out reply read wrote =
+      ((q : Question) × IsQuestionOf loads style c q × AnswersPaths may_give may_take q c.paths.items input out reply read wrote)
       ⊎ ((IsWithoutRules loads reply ⊎ (reply ≡ Err Memory)) × (read ≡ input) × (wrote ≡ out))
 
-  -- a count leaves the input as it was
-  abbrev pub AnswersRequest : Request → I → O → Reply → I → O → Type 0
-  AnswersRequest CheckJoined input out reply read wrote = AnswersJoined may_give may_take input out reply read wrote
-  AnswersRequest (Check c) input out reply read wrote = AnswersFile (text_asked c) input out reply read wrote
-  AnswersRequest (Count c) input out reply read wrote = (read ≡ input) × AnswersCount loads may_take c out reply wrote
-  AnswersRequest (Explain c) input out reply read wrote = AnswersExplanation c input out reply read wrote
+  -- paths are printed in this style, but in a table; a count leaves the input as it was
+  abbrev pub AnswersRequest : PathStyle → Request → I → O → Reply → I → O → Type 0
+  AnswersRequest style CheckJoined input out reply read wrote = AnswersJoined may_give may_take style input out reply read wrote
+  AnswersRequest style (Check c) input out reply read wrote = AnswersFile style c.file.now c.explain input out reply read wrote
+  AnswersRequest style (Count c) input out reply read wrote = (read ≡ input) × AnswersCount loads may_take c out reply wrote
+  AnswersRequest style (Explain c) input out reply read wrote = AnswersExplanation style c input out reply read wrote

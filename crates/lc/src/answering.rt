@@ -1,12 +1,11 @@
 //! What a request is answered, by what it reads.
 
-ghost use Rattle.std.specs.Prelude.{◌≡◌, IfOk, option_map};
+ghost use Rattle.std.specs.Prelude.{◌≡◌, true, false, IfOk, option_map};
 ghost use Rattle.lc_arguments.specs.Words.{IsWithinLimits, IsCountWithinLimits};
 ghost use Rattle.lc_level.specs.RuleReads.{shared};
 ghost use Rattle.lc_rules.specs.IgnoreRules.{rules_of};
-ghost use Rattle.lc_text.specs.ExplainedText.{explained_text_of};
 ghost use Rattle.lc.specs.Requests.{LoadsFile, AnswersExcluded, AnswersFile, AnswersJoined, AnswersCount, AnswersRequest};
-ghost use Rattle.lc.specs.Requests.{AnswersPaths, AnswersExplanation, text_asked, text_by_bytes};
+ghost use Rattle.lc.specs.Requests.{AnswersPaths, AnswersExplanation};
 
 use crate::cause::Cause;
 use crate::rules_file::rule_text_of_file;
@@ -16,7 +15,7 @@ use lc_explain::{Question, explain, explain_words};
 use lc_level::Selection;
 use lc_rules::IgnoreFile;
 use lc_table::run;
-use lc_text::{Outcome, RuleText, Sink, check, check_explained, check_joined};
+use lc_text::{Outcome, PathStyle, RuleText, Sink, check, check_explained, check_joined};
 use lc_tree::SysTree;
 use lc_walk::{Lists, Options};
 use std::alloc::{AllocError, Global};
@@ -28,57 +27,61 @@ use std::thread::Threads;
 fn check_plainly<R: Files + AllocGlobal, S: Source, O: Sink>(
     rt: &R,
     file: &str,
+    style: PathStyle,
     input: &mut S,
     out: &mut O,
 ) -> Result<Outcome, Cause>
-    ensures { AnswersFile S.may_give (LoadsFile ⟦<StdSource<R::File> as Source>⟧.may_give) O.may_take text_by_bytes
+    ensures { AnswersFile S.may_give (LoadsFile ⟦<StdSource<R::File> as Source>⟧.may_give) O.may_take style file.entry.now false
         input.old out.old result input.new out.new }
 {
     let text = rule_text_of_file(rt, file)?;
-    check(rt.alloc(), text.rules(), input, out)?;
+    check(rt.alloc(), text.rules(), style, input, out)?;
     Ok(Outcome::Clean)
 }
 
-/// The same, and tells of the rules by their lines.
+/// Reads the rules of a file, and checks the paths of the input, each with the line of the rule that gives its word.
 fn check_explaining<R: Files + AllocGlobal, S: Source, O: Sink>(
     rt: &R,
     file: &str,
+    style: PathStyle,
     input: &mut S,
     out: &mut O,
 ) -> Result<Outcome, Cause>
-    ensures { AnswersFile S.may_give (LoadsFile ⟦<StdSource<R::File> as Source>⟧.may_give) O.may_take (explained_text_of file.entry.now)
+    ensures { AnswersFile S.may_give (LoadsFile ⟦<StdSource<R::File> as Source>⟧.may_give) O.may_take style file.entry.now true
         input.old out.old result input.new out.new }
 {
     let text = rule_text_of_file(rt, file)?;
-    check_explained(rt.alloc(), file.as_bytes(), &text, input, out)?;
+    check_explained(rt.alloc(), file.as_bytes(), &text, style, input, out)?;
     Ok(Outcome::Clean)
 }
 
 fn check_file<R: Files + AllocGlobal, S: Source, O: Sink>(
     rt: &R,
     asked: &CheckRequest<'_>,
+    style: PathStyle,
     input: &mut S,
     out: &mut O,
 ) -> Result<Outcome, Cause>
-    ensures { AnswersFile S.may_give (LoadsFile ⟦<StdSource<R::File> as Source>⟧.may_give) O.may_take (text_asked asked.now)
-        input.old out.old result input.new out.new }
+    ensures { AnswersFile S.may_give (LoadsFile ⟦<StdSource<R::File> as Source>⟧.may_give) O.may_take style asked.now.file.now
+        asked.now.explain input.old out.old result input.new out.new }
 {
     if asked.explain {
-        check_explaining(rt, asked.file, input, out)
+        check_explaining(rt, asked.file, style, input, out)
     } else {
-        check_plainly(rt, asked.file, input, out)
+        check_plainly(rt, asked.file, style, input, out)
     }
 }
 
 /// Checks the paths of the input by the rules before them.
 fn check_input<S: Source, O: Sink>(
     alloc: Global,
+    style: PathStyle,
     input: &mut S,
     out: &mut O,
 ) -> Result<Outcome, Cause>
-    ensures { AnswersJoined S.may_give O.may_take input.old out.old result input.new out.new }
+    ensures { AnswersJoined S.may_give O.may_take style input.old out.old result input.new out.new }
 {
-    check_joined(alloc, input, out)?;
+    check_joined(alloc, style, input, out)?;
     Ok(Outcome::Clean)
 }
 
@@ -162,13 +165,14 @@ where
 fn explain_asked<R: Files + Sync + AllocGlobal, S: Source, O: Sink>(
     rt: &R,
     asked: &ExplainRequest<'_>,
+    style: PathStyle,
     input: &mut S,
     out: &mut O,
 ) -> Result<Outcome, Cause>
 where
     R::File: Send,
     R::Dir: Send,
-    ensures { AnswersExplanation S.may_give (LoadsFile ⟦<StdSource<R::File> as Source>⟧.may_give) O.may_take asked.now
+    ensures { AnswersExplanation S.may_give (LoadsFile ⟦<StdSource<R::File> as Source>⟧.may_give) O.may_take style asked.now
         input.old out.old result input.new out.new }
 {
     let text = excluded(rt, asked.exclusions.from)?;
@@ -176,14 +180,16 @@ where
     let question = Question {
         exclude: text,
         selection: Selection::new(asked.exclusions.archive, &asked.exclusions.without),
+        style,
     };
     explain_paths(rt, &tree, &question, &asked.paths, input, out)
 }
 
-/// Answers a request.
+/// Answers a request. Paths are printed in a style, but in a table.
 pub(crate) fn answer<R: Files + Threads + Wait + Sync + AllocGlobal, S: Source, O: Sink>(
     rt: &R,
     request: &Request<'_>,
+    style: PathStyle,
     input: &mut S,
     out: &mut O,
 ) -> Result<Outcome, Cause>
@@ -191,13 +197,13 @@ where
     R::File: Send,
     R::Dir: Send,
     requires limits { IsWithinLimits request.now }
-    ensures { AnswersRequest S.may_give (LoadsFile ⟦<StdSource<R::File> as Source>⟧.may_give) O.may_take request.now
+    ensures { AnswersRequest S.may_give (LoadsFile ⟦<StdSource<R::File> as Source>⟧.may_give) O.may_take style request.now
         input.old out.old result input.new out.new }
 {
     match request {
-        Request::CheckJoined => check_input(rt.alloc(), input, out),
-        Request::Check(asked) => check_file(rt, asked, input, out),
+        Request::CheckJoined => check_input(rt.alloc(), style, input, out),
+        Request::Check(asked) => check_file(rt, asked, style, input, out),
         Request::Count(asked) => count(rt, asked, out),
-        Request::Explain(asked) => explain_asked(rt, asked, input, out),
+        Request::Explain(asked) => explain_asked(rt, asked, style, input, out),
     }
 }

@@ -14,6 +14,7 @@ mod rules_file;
 use cause::Cause;
 use lc_census::StdSource;
 use lc_text::StdSink;
+use program::Terminals;
 use std::alloc::AllocError;
 use std::env;
 use std::io::{ErrorKind, IsTerminal};
@@ -38,7 +39,10 @@ fn main(rt: HostRuntime) -> ExitCode {
     program::introduce(&words, rt.stdin().is_terminal(), &mut err);
     let mut input = StdSource(rt.stdin());
     let mut out = StdSink(rt.stdout());
-    let is_seen = rt.stderr().is_terminal();
-    let status = program::program(&rt, &words, is_seen, &mut input, &mut out, &mut err);
+    let terminals = Terminals {
+        output: rt.stdout().is_terminal(),
+        error: rt.stderr().is_terminal(),
+    };
+    let status = program::program(&rt, &words, terminals, &mut input, &mut out, &mut err);
     ExitCode::from(status)
 }

@@ -1,7 +1,7 @@
 //! The program but for its streams.
 
 ghost use Rattle.std.specs.Prelude.{◌≡◌, map};
-ghost use Rattle.lc.specs.Program.{Tells, TellsCause, Introduces, Hints, EndsShown, Ends, status_of, streams, streams_may};
+ghost use Rattle.lc.specs.Program.{Tells, TellsCause, Introduces, Hints, EndsShown, Ends, status_of, style_for, streams, streams_may};
 ghost use Rattle.lc.specs.Requests.{LoadsFile};
 ghost use Rattle.lc.specs.declared.program.Ending.{Ending};
 ghost use Rattle.lc.specs.declared.program.Ending.TheVariants as ending;
@@ -11,12 +11,34 @@ use crate::cause::Cause;
 use crate::repository::lies_in_repository;
 use lc_arguments::{NoRequest, Request};
 use lc_census::{Source, StdSource};
-use lc_text::{Outcome, Sink, print};
+use lc_text::{Outcome, PathStyle, Sink, print};
 use std::alloc::{AllocError, Global};
 use std::convert::AsStr;
 use std::rt::Files;
 use std::sync::Wait;
 use std::thread::Threads;
+
+/// Which of the program's streams are terminals.
+#[derive(Clone, Copy)]
+pub struct Terminals {
+    /// Standard output is one: paths of a check and of an explanation are printed so that it can show them.
+    pub output: bool,
+    /// Standard error is one: a count may be followed by a hint.
+    pub error: bool,
+}
+
+impl Terminals {
+    /// How paths are printed on standard output.
+    fn style(self) -> PathStyle
+        ensures { result ≡ style_for self.output }
+    {
+        if self.output {
+            PathStyle::Visible
+        } else {
+            PathStyle::Escaped
+        }
+    }
+}
 
 /// How a run of the program ends.
 #[derive(Clone, Copy)]
@@ -110,7 +132,7 @@ fn show<O: Sink, E: Sink>(alloc: Global, text: &str, out: &mut O, err: &mut E) -
 fn end_of<R: Files + Threads + Wait + Sync + AllocGlobal, W: AsStr, S: Source, O: Sink, E: Sink>(
     rt: &R,
     words: &[W],
-    is_seen: bool,
+    terminals: Terminals,
     input: &mut S,
     out: &mut O,
     err: &mut E,
@@ -119,7 +141,7 @@ where
     R::File: Send,
     R::Dir: Send,
     ensures { Ends (streams_may S.may_give (LoadsFile ⟦<StdSource<R::File> as Source>⟧.may_give) O.may_take E.may_take)
-        (map W.text words.now) is_seen (streams input.old out.old err.old) result (streams input.new out.new err.new) }
+        (map W.text words.now) terminals (streams input.old out.old err.old) result (streams input.new out.new err.new) }
 {
     let request = match Request::read(rt.alloc(), words) {
         Ok(request) => request,
@@ -127,11 +149,11 @@ where
         Err(NoRequest::Refused(why)) => return misuse(&why, err),
         Err(NoRequest::Memory) => return give_up(rt.alloc(), Cause::Memory, err),
     };
-    let outcome = match answer(rt, &request, input, out) {
+    let outcome = match answer(rt, &request, terminals.style(), input, out) {
         Ok(outcome) => outcome,
         Err(cause) => return give_up(rt.alloc(), cause, err),
     };
-    hint(rt, &request, is_seen, err);
+    hint(rt, &request, terminals.error, err);
     match outcome {
         Outcome::Clean => Ending::Done,
         Outcome::SomeFaults => Ending::SomeFaults,
@@ -148,20 +170,21 @@ where
 /// - `explain DIR`: what the rules of a directory of the system say of the paths of `input` ([`explain`](lc_explain::explain)), or of
 ///   those among the words.
 ///
-/// Where standard error is a terminal (`is_seen`), `err` may have a hint after the table of a count.
+/// Where standard output is a terminal, paths and patterns of a check and of an explanation are printed for it. Where standard error is
+/// one, `err` may have a hint after the table of a count.
 pub fn program<
     R: Files + Threads + Wait + Sync + AllocGlobal,
     W: AsStr,
     S: Source,
     O: Sink,
     E: Sink,
->(rt: &R, words: &[W], is_seen: bool, input: &mut S, out: &mut O, err: &mut E) -> u8
+>(rt: &R, words: &[W], terminals: Terminals, input: &mut S, out: &mut O, err: &mut E) -> u8
 where
     R::File: Send,
     R::Dir: Send,
     ensures { (ending : Ending) × (result ≡ status_of ending)
         × Ends (streams_may S.may_give (LoadsFile ⟦<StdSource<R::File> as Source>⟧.may_give) O.may_take E.may_take)
-        (map W.text words.now) is_seen (streams input.old out.old err.old) ending (streams input.new out.new err.new) }
+        (map W.text words.now) terminals (streams input.old out.old err.old) ending (streams input.new out.new err.new) }
 {
-    end_of(rt, words, is_seen, input, out, err).status()
+    end_of(rt, words, terminals, input, out, err).status()
 }

@@ -1,7 +1,7 @@
 //! A text that is written in blocks as it is made, so that it never stands whole in memory.
 
 ghost use Rattle.std.specs.Prelude.{◌≡◌, ◌≢◌, []};
-ghost use Rattle.lc_text.specs.Blocks.{AnswersBlock, block_size};
+ghost use Rattle.lc_text.specs.Blocks.{AnswersBlock};
 ghost use Rattle.lc_text.specs.Writes.{AnswersPrint};
 ghost use Rattle.lc_text.specs.declared.printing.PrintFault.TheVariants.{Memory};
 
