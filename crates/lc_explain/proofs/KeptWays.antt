@@ -41,7 +41,8 @@ pub none_first : (ways : Ways) (way : Way) → ways ≡ [] → AreFirstOf ways w
 none_first ways way none = subst (λ (l : Ways). AreFirstOf l way) (sym none) (λ at. (way, refl))
 
 -- a beginning more
-pub first_more : (old new : Ways) (first way : Way) → AreFirstOf old way → IsFirstOf first way → new ≡ old ++ first ∷ [] → AreFirstOf new way
+pub first_more : (old new : Ways) (first way : Way) → AreFirstOf old way → IsFirstOf first way → new ≡ old ++ first ∷ []
+    → AreFirstOf new way
 first_more old new first way are is more at =
     subst (λ (l : Ways). IsFirstOf (way_at l at) way) (sym more) (by (pushed_at old first at))
   where

@@ -76,7 +76,8 @@ module _ {O : Type 0} (may_take : O → List ℕ → Result ℕ Failed → O →
           (all_but-prefix may_take start so_far.made block now so_far.written []))
 
     -- the last block was written, or not
-    pub so_far_ended : (new : O) → AnswersPrint may_take now block (Ok tt) new → AnswersLines may_take style Says lines start (Ok outcome) new
+    pub so_far_ended : (new : O) → AnswersPrint may_take now block (Ok tt) new
+        → AnswersLines may_take style Says lines start (Ok outcome) new
     so_far_ended new printed =
         (so_far.made, so_far.explains, all_but-answered may_take start so_far.made block now so_far.written (Ok tt) new printed)
 

@@ -64,7 +64,8 @@ module _ {O : Type 0} (may_take : O → List ℕ → Result ℕ Failed → O →
   -- of lines, whose text is written as it is made: it was written whole; or of the first of them a prefix was, when a write stopped it or
   -- there was no memory for the rest
   abbrev pub AnswersLines : List (List ℕ) → O → Result Outcome PrintFault → O → Type 0
-  AnswersLines lines out (Ok outcome) wrote = (text : List ℕ) × Explains style Says lines text outcome × WritesInPieces may_take out text wrote
+  AnswersLines lines out (Ok outcome) wrote =
+      (text : List ℕ) × Explains style Says lines text outcome × WritesInPieces may_take out text wrote
   AnswersLines lines out (Err fault) wrote = ExplainsFirst style Says lines (λ text. AnswersInPieces may_take out text (Err fault) wrote)
 
   module _ {I : Type 0} (may_give : I → ℕ → Answer → I → Type 0) where

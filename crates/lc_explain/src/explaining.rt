@@ -22,10 +22,10 @@ pub enum ExplainFault {
     /// The input has over 16,777,216 bytes.
     #[error("input too long")]
     InputTooLong,
-    /// There is no memory for the input, for a directory or for the text. What was written is a prefix of the text of some first lines.
+    /// There is no memory for the input, for a directory or for the text. What was written is a prefix of the text.
     #[error("out of memory")]
     Memory,
-    /// A write failed, or took nothing. What was written is a prefix of the text of some first lines.
+    /// A write failed, or took nothing. What was written is a prefix of the text.
     #[error("cannot write")]
     Write,
 }
@@ -63,9 +63,9 @@ impl From<PrintFault> for ExplainFault {
 
 /// Reads paths to the input's end, at most `MAX_INPUT` bytes, and writes a line for each: what decides it in a tree.
 ///
-/// A line of the text is four fields with tabs between: a word, where that comes from, a pattern, and the line of paths as it came,
-/// in the question's style. One slash at a path's end means a directory; else the tree is asked,
-/// and what isn't there is taken for a file. The word is the first that holds on the way from the top down to the path of
+/// A line of the text is four fields with tabs between: a word, where that comes from, a pattern, and the line of paths as it came.
+/// Paths and patterns are printed in the question's style. One slash at a path's end means a directory; else the tree is asked, and what
+/// isn't there is taken for a file. The word is the first that holds on the way from the top down to the path of
 ///
 /// - `bad`: no entry of a tree can have this path;
 /// - `fault`: a directory on the way could not be listed, or a rule file of it not be read; then come the word of the fault, a dash, and
@@ -75,12 +75,13 @@ impl From<PrintFault> for ExplainFault {
 /// - `left`: no rule leaves it out, but a walk does, it or a directory above it: it is named `.git` (`git`), an attribute is Set for it
 ///   (`attribute:NAME`), or it is neither a file nor a directory (`other`).
 ///
-/// Of a rule the file and the number of its line are told, as `src/.gitignore:3`, and the text of that line. After a fault of
-/// the input nothing was written. The text is written in blocks as it is made ([`Block`](lc_text::Block)): after any other fault a prefix
-/// of the text of some first lines was written.
+/// Of a rule the file and the number of its line are told, as `src/.gitignore:3`, and the text of that line.
+///
+/// The text is written in blocks as it is made ([`Block`](lc_text::Block)). After a fault of the input nothing was written, and after any
+/// other a prefix of the text of the first lines, which may be all.
 ///
 /// A directory is listed and its rules are read once, in whatever order the paths come, while the directories that were entered take no
-/// more than about [`MAX_KEPT`](crate::MAX_KEPT) bytes. Past that this holds for paths in the order of a walk.
+/// more than about [`MAX_KEPT`](crate::MAX_KEPT) bytes. Past that this holds only for paths in the order of a walk.
 ///
 /// ```
 /// let tree = SysTree::new(&rt, rt.alloc(), ".")?;
@@ -94,8 +95,8 @@ pub fn explain<T: Tree, S: Source, O: Sink>(
     input: &mut S,
     out: &mut O,
 ) -> Result<Outcome, ExplainFault>
-    ensures { AnswersExplain O.may_take question.now.style (MaySay (T.lists tree.now) (T.gives tree.now) question.now) S.may_give input.old out.old result
-        input.new out.new }
+    ensures { AnswersExplain O.may_take question.now.style (MaySay (T.lists tree.now) (T.gives tree.now) question.now) S.may_give input.old
+        out.old result input.new out.new }
 {
     let mut buffer = new_buffer(alloc)?;
     let mut paths = Vec::new(alloc);
@@ -107,7 +108,7 @@ pub fn explain<T: Tree, S: Source, O: Sink>(
 
 /// Writes a line for each of these paths, as [`explain`] does for the lines of an input.
 ///
-/// After any fault a prefix of the text of some first words was written.
+/// After any fault a prefix of the text of the first words was written.
 pub fn explain_words<T: Tree, O: Sink>(
     alloc: Global,
     tree: &T,
@@ -115,8 +116,8 @@ pub fn explain_words<T: Tree, O: Sink>(
     words: &[&str],
     out: &mut O,
 ) -> Result<Outcome, PrintFault>
-    ensures { AnswersLines O.may_take question.now.style (MaySay (T.lists tree.now) (T.gives tree.now) question.now) (map (λ word. word.now) words.now)
-        out.old result out.new }
+    ensures { AnswersLines O.may_take question.now.style (MaySay (T.lists tree.now) (T.gives tree.now) question.now)
+        (map (λ word. word.now) words.now) out.old result out.new }
 {
     let explainer = Explainer::new(alloc, tree, question)?;
     print_words(alloc, &explainer, words, out)

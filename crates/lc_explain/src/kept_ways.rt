@@ -14,9 +14,10 @@ use std::alloc::{AllocError, Global};
 use std::collections::BTreeMap;
 use std::marker::Model;
 
-/// About how many bytes of directories are kept, so that paths that come back to one don't list it again: 96 MiB.
+/// About how many bytes of directories are kept beside those above a path, so that paths that come back to one don't list it again:
+/// 96 MiB.
 ///
-/// A directory that is entered while more than this is kept displaces all others but those above it, however large these are.
+/// A directory that is entered while more is kept displaces all others but those above it, however large these are.
 pub const MAX_KEPT: usize = 96 * 1024 * 1024;
 
 /// A kept way to a directory above a path, by its number, and what is left of the path below that directory.
@@ -33,8 +34,9 @@ pub(crate) struct KeptWays {
     ways: Vec<Way>,
     // The numbers of the ways by the paths to which they lead. These are hints alone: a way is taken for what it is.
     places: BTreeMap<Vec<u8>, usize>,
-    // About how many bytes the directories take to which the ways lead.
+    // About how many bytes the directories take to which the ways lead, and how many they may take before some are dropped.
     held: usize,
+    limit: usize,
     pub(crate) scratch: Scratch,
 }
 
@@ -57,6 +59,7 @@ impl KeptWays {
             ways: Vec::new(alloc),
             places: BTreeMap::new(alloc),
             held: 0,
+            limit: MAX_KEPT,
             scratch: Scratch::new(alloc)?,
         })
     }
@@ -156,7 +159,7 @@ impl KeptWays {
         Ok(at)
     }
 
-    /// Drops all but the beginnings of a way, which are then kept.
+    /// Drops all but the beginnings of a way, and sets the limit beyond what these hold.
     fn drop_beside(&mut self, way: &Way) -> Result<(), AllocError>
         ensures { OnOk result (AreFirstOf self.new way.now) }
     {
@@ -167,15 +170,16 @@ impl KeptWays {
             let first = way.first(self.alloc, count)?;
             self.push(first)?;
         }
+        self.limit = self.held.saturating_add(MAX_KEPT);
         Ok(())
     }
 
-    /// Keeps a way, and gives its number. If more than `MAX_KEPT` bytes are held, this first drops all but the beginnings of the way, so
-    /// that paths in the order of a walk still enter no directory twice.
+    /// Keeps a way, and gives its number. If more bytes are held than the limit, this first drops all but the beginnings of the way. It
+    /// does so again only after another `MAX_KEPT` bytes, so that what is dropped cost more to enter.
     pub(crate) fn keep(&mut self, way: Way) -> Result<usize, AllocError>
         ensures { IfOk result (λ at. Keeps self.old way self.new at) }
     {
-        if self.held > MAX_KEPT {
+        if self.held > self.limit {
             self.drop_beside(&way)?;
         }
         let at = self.push(way)?;

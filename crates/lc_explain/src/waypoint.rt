@@ -18,6 +18,9 @@ const DIRECTORY_BYTES: usize = 512;
 /// About how many bytes an entry takes beside its name.
 const ENTRY_BYTES: usize = 64;
 
+/// About how many bytes a byte of the directory's path takes: the path is there twice, and each name on it makes the way longer.
+const PATH_BYTES: usize = 6;
+
 /// About how many bytes a byte of a file of rules takes: itself, and its part of the rules that it was read as.
 const TEXT_BYTES: usize = 16;
 
@@ -81,7 +84,7 @@ impl Waypoint {
         } = entered;
         let RuleTexts { info, own } = texts;
         let size = DIRECTORY_BYTES
-            .saturating_add(job.path().len())
+            .saturating_add(job.path().len().saturating_mul(PATH_BYTES))
             .saturating_add(size_of_entries(&entries))
             .saturating_add(size_of_text(&info))
             .saturating_add(size_of_text(&own));
