@@ -180,7 +180,10 @@ fn rows_of_many_keys_rise(rt: HostRuntime) -> Result<(), Fail> {
     assert!(rt; rows.len() == 256);
     for (row, byte) in rows.iter().zip(0..=255u8) {
         let extension: &[u8] = &[byte];
-        assert!(rt; is_sum(row, (Some(extension), NONE, Eol::Lf, [2, 2, 0, 4])), "{row:?}");
+        assert!(rt;
+            is_sum(row, (Some(extension), NONE, Eol::Lf, [2, 2, 0, 4])),
+            "{row:?}"
+        );
     }
     Ok(())
 }
