@@ -1,13 +1,10 @@
 -- Rows in order, of which those of one key are made one row.
 use Rattle.std.proofs.Common.{◌≡◌, ℕ, ◌+◌, ◌<◌, Bool, true, false, cond, List, [], ◌∷◌, map, get_or, refl, sym, ◌∙◌, ap, arith, subst}
-use Rattle.std.proofs.lemmas.Bool.{false≢true}
 use Rattle.std.specs.Bool.{MatchBool}
 use Rattle.std.specs.List.{sum_by, dedup, dedup_from}
 use Rattle.std.specs.List.Retain.{DedupsFrom, IsDeduped}
 use Rattle.std.specs.List.Sorted.{IsPermutation, IsSorted, IsSortedByKey, IsStrictlySortedBy}
-use Rattle.std.specs.Ordering.{is_eq}
-use Rattle.std.specs.declared.cmp.Ordering.{Ordering}
-use Rattle.std.specs.declared.cmp.Ordering.TheVariants.{Less, Equal, Greater}
+use Rattle.std.specs.declared.cmp.Ordering.TheVariants.{Equal}
 use Rattle.std.proofs.lemmas.List.{get_or-map, length-map}
 use Rattle.std.proofs.lemmas.List.Sums.{sum_by-cons}
 use Rattle.std.proofs.lemmas.List.Elements.{All-cons, All-tail}
@@ -102,7 +99,8 @@ module _ {S : Type 0} (R : S → TallyRowModel → TallyRowModel → Bool → S 
   leaves_step true t k x y l xs ys rest step left room =
       let fits : IsInRange (plus k.sums x.sums) = range_of_two k x xs room in
       let both = one_for_two k x l xs (equal_if _ (sym step.test)) step.key (step.sums fits) in
-      has_further (k ∷ x ∷ xs) (l ∷ xs) ys both (rest t l ys left (subst IsInRange (sym (same_totals (l ∷ xs) (k ∷ x ∷ xs) both.sums)) room))
+      let same = same_totals (l ∷ xs) (k ∷ x ∷ xs) both.sums in
+      has_further (k ∷ x ∷ xs) (l ∷ xs) ys both (rest t l ys left (subst IsInRange (sym same) room))
   leaves_step false t k x y l xs ys rest step left room =
       let fits : IsInRange (plus k.sums x.sums) = range_of_two k x xs room in
       let last : l ≡ k = same_rows l k step.key (step.sums fits) in

@@ -1,9 +1,8 @@
 -- Sums over what passes a test, after an edit of the list.
-use Rattle.std.proofs.Common.{◌≡◌, ℕ, ◌+◌, ◌<◌, Bool, true, false, cond, List, [], ◌∷◌, ◌++◌, length, get_or, refl, sym, ◌∙◌, ap, arith}
+use Rattle.std.proofs.Common.{◌≡◌, ℕ, ◌+◌, Bool, true, false, cond, List, [], ◌∷◌, ◌++◌, length, refl, sym, ◌∙◌, ap}
 use Rattle.std.proofs.Common.{zero-add}
-use Rattle.std.proofs.Math.ListN.{set}
-use Rattle.std.specs.List.{filter, sum_by, insert}
-use Rattle.std.proofs.lemmas.List.Sums.{sum_by-cons, sum_by-set, sum_by-insert, sum_by_push, length-filter}
+use Rattle.std.specs.List.{filter, sum_by}
+use Rattle.std.proofs.lemmas.List.Sums.{sum_by-cons, sum_by_push, length-filter}
 
 -- v of what passes, and 0 of the others
 abbrev pub part : {X : Type 0} → (X → Bool) → (X → ℕ) → X → ℕ
@@ -17,26 +16,6 @@ sum_by-filter p v (x ∷ xs) =
       | true ↦ sum_by-cons v x (filter p xs) ∙ ap (λ n. v x + n) (sum_by-filter p v xs)
       | false ↦ sum_by-filter p v xs ∙ sym (zero-add _)
     ] ∙ sym (sum_by-cons (part p v) x xs)
-
-gained : (b : Bool) (u w m s t : ℕ) → w ≡ u + m → s + cond b u 0 ≡ t + cond b w 0 → s ≡ t + cond b m 0
-gained true u w m s t e f = omega arith
-gained false u w m s t e f = omega arith
-
--- after one element gives more
-pub filter_set : {X : Type 0} (p : X → Bool) (v : X → ℕ) (m : ℕ) (xs : List X) (i : ℕ) (y d : X) → i < length xs
-    → p y ≡ p (get_or xs i d) → v y ≡ v (get_or xs i d) + m → sum_by v (filter p (set xs i y)) ≡ sum_by v (filter p xs) + cond (p y) m 0
-filter_set p v m xs i y d within same more =
-    let kept = sum_by-set (part p v) xs i y d within in
-    gained (p y) (v (get_or xs i d)) (v y) m _ _ more
-    (ap (λ n. n + cond (p y) (v (get_or xs i d)) 0) (sum_by-filter p v (set xs i y))
-    ∙ ap (λ b. sum_by (part p v) (set xs i y) + cond b (v (get_or xs i d)) 0) same ∙ kept ∙ ap (λ n. n + cond (p y) (v y) 0)
-    (sym (sum_by-filter p v xs)))
-
--- after one is put between
-pub filter_insert : {X : Type 0} (p : X → Bool) (v : X → ℕ) (xs : List X) (i : ℕ) (y : X)
-    → sum_by v (filter p (insert xs i y)) ≡ sum_by v (filter p xs) + cond (p y) (v y) 0
-filter_insert p v xs i y =
-    sum_by-filter p v (insert xs i y) ∙ sum_by-insert (part p v) xs i y ∙ ap (λ n. n + cond (p y) (v y) 0) (sym (sum_by-filter p v xs))
 
 -- after one is put at the end
 pub filter_push : {X : Type 0} (p : X → Bool) (v : X → ℕ) (xs : List X) (y : X)

@@ -96,9 +96,9 @@ kept_grown t rs k s u kept gained is modest few =
 pub kept_both : (t o : TallyModel) (rs : List TallyRowModel) (u : Sums) → IsKept t → IsKept o → HasSumsOf (t.rows ++ o.rows) rs
     → u ≡ plus t.totals o.totals → t.totals.files + o.totals.files ≤ 2 ^ 63 → IsKept (record { rows = rs; totals = u })
 kept_both t o rs u left right joined is few =
-    kept_as rs t.totals o.totals u
-    (same_totals rs (t.rows ++ o.rows) joined.sums ∙ sums_of_both t.rows o.rows
-    ∙ ap (λ (a : Sums). plus a (sums_of_rows o.rows)) (sym left.totals) ∙ ap (plus t.totals) (sym right.totals)) is left.modest right.modest few
+    let all = same_totals rs (t.rows ++ o.rows) joined.sums ∙ sums_of_both t.rows o.rows
+    ∙ ap (λ (a : Sums). plus a (sums_of_rows o.rows)) (sym left.totals) ∙ ap (plus t.totals) (sym right.totals) in
+    kept_as rs t.totals o.totals u all is left.modest right.modest few
 
 kept_empty : IsKept (record { rows = []; totals = no_files })
 kept_empty = record {

@@ -44,7 +44,7 @@ pub struct Report {
 }
 
 impl Report {
-    /// Sorts the rows of the tally by their keys, and each list of the findings by its paths. It takes no memory.
+    /// Sorts the rows of the tally by their keys, and each list of the findings by its paths, in place. It takes no memory.
     ///
     /// ```
     /// let report = Report::new(tally, lists, findings);

@@ -31,7 +31,7 @@ pub(crate) const MAX_FILES: u64 = 1 << 63;
 /// The tally of the files counted so far.
 ///
 /// It stands for a list of files: after `new` for the empty one, after `add` for one file more, after `merge` for the
-/// files of both. The order of the files does not matter (`a_tally_has_no_order`). An add takes time that grows with the
+/// files of both. The order of the files does not matter (`a_tally_has_no_order`). The time of an add grows with the
 /// logarithm of the number of keys.
 ///
 /// The order of keys: first no extension, then extensions by their bytes; then the text state in the order set, unset,
@@ -76,8 +76,8 @@ impl Tally {
         self.totals
     }
 
-    /// Adds a file of an extension, a text state and a census. It needs memory for a key that no file had before, a row and
-    /// the extension's bytes, and changes nothing where this is refused.
+    /// Adds a file of an extension, a text state and a census. Only a key that no file had before needs memory, for a row and
+    /// the extension's bytes. If that allocation fails, the tally stays as it was.
     pub fn add(
         &mut self,
         ext: Option<&[u8]>,
@@ -117,7 +117,7 @@ impl Tally {
         })
     }
 
-    /// The rows in the order of their keys, one for each key. It takes no memory.
+    /// The rows in the order of their keys, one for each key. It sorts them in place and takes no memory.
     pub fn into_rows(self) -> Vec<TallyRow>
         ensures added_up { AddsUp self.rows result.items }
         ensures tally { (fs : List CountedFile) → StandsFor self fs → IsTally fs result.items }

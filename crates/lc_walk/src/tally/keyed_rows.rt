@@ -17,15 +17,15 @@ use std::marker::Model;
 // So few rows are not worth a sort.
 const FEW: usize = 64;
 
-/// Rows that are found by their keys, in time that grows with the logarithm of their number.
+/// Rows that are found by their keys. A gain costs on average what one row of a sort costs.
 ///
-/// A key is looked for where its hint points, and then among the first rows, which are sorted. Where it is in neither place
-/// a row is pushed, so several of the rows behind the sorted ones may have one key. Once these are the larger half, all
-/// rows are added up: sorted, with one row a key.
+/// It looks for the key where the key's hint points, and then among the sorted rows in front. If neither has the key, it
+/// pushes a row, so several of the unsorted rows may have one key. Once more than half of the rows are unsorted, it sorts
+/// them all and makes one row of those of each key.
 #[derive(Drop)]
 pub(crate) struct KeyedRows {
     rows: Vec<TallyRow>,
-    // The number of the first rows that are in order of their keys, each key once.
+    // How many rows in front are in order of their keys, each key once.
     sorted: usize,
     hints: RowHints,
 }
@@ -52,7 +52,7 @@ impl KeyedRows {
         }
     }
 
-    /// Adds some files of one key. Where memory is refused, a key that has a row is found by going through all rows.
+    /// Adds some files of one key. If an allocation fails, it looks for the key in all rows.
     pub(crate) fn gain(&mut self, key: &KeyRef<'_>, more: Sums) -> Result<(), AllocError>
         requires room { IsInRange (plus (sums_of_rows self.old) more) }
         ensures gains { OnOk result (Gains self.old self.new key.now more) }
@@ -74,7 +74,7 @@ impl KeyedRows {
         }
     }
 
-    /// Adds the rows of another tally.
+    /// Adds the rows of another tally, which keep their extensions' memory.
     pub(crate) fn append(&mut self, other: KeyedRows) -> Result<(), AllocError>
         requires { IsInRange (sums_of_rows (self.old ++ other)) }
         ensures { OnOk result (HasSumsOf (self.old ++ other) self.new) }
@@ -95,7 +95,7 @@ impl KeyedRows {
         rows
     }
 
-    // The hint's row or a sorted row, if one of these has the key.
+    // Finds the key in the row of its hint, or in the sorted rows.
     fn find(&self, slot: usize, key: &KeyRef<'_>) -> Option<usize>
         requires { slot < 512 }
         ensures within { IfSome result (λ at. at < length self.now) }
@@ -113,7 +113,7 @@ impl KeyedRows {
             .ok()
     }
 
-    // The first row of all that has the key.
+    // Finds the key in all rows.
     fn position(&self, key: &KeyRef<'_>) -> Option<usize>
         ensures within { IfSome result (λ at. at < length self.now) }
         ensures found { IfSome result (HoldsAt (λ r. key_cmp r.key key.now ≡ Equal) self.now) }
@@ -133,7 +133,7 @@ impl KeyedRows {
         row.absorb(more);
     }
 
-    // Adds some files of a key that has a row, and takes no memory.
+    // Adds some files of a key that has a row. It takes no memory.
     fn gain_known(&mut self, key: &KeyRef<'_>, more: Sums) -> Result<(), AllocError>
         requires room { IsInRange (plus (sums_of_rows self.old) more) }
         ensures gains { OnOk result (Gains self.old self.new key.now more) }
