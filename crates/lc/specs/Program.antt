@@ -4,6 +4,7 @@ use Rattle.lc_census.specs.declared.source.Failed.{Failed}
 use Rattle.lc_census.specs.Reads.{Answer}
 use Rattle.lc.specs.Causes.{HasNumber, cause_line}
 use Rattle.lc.specs.Requests.{Loaded, Reply, AnswersRequest}
+use Rattle.lc_arguments.specs.Refusals.{IsMessage}
 use Rattle.lc_arguments.specs.Words.{AreRefused, Asks, MayShow, faults_in}
 use Rattle.lc_text.specs.Writes.{Writes, StopsWriting}
 use Rattle.lc_arguments.specs.declared.request.Request.{Request}
@@ -118,10 +119,10 @@ module _ {I O E : Type 0} (may : StreamsMay I O E) (words : List (List ℕ)) (te
   Ends before Done after = EndsAnswered before outcome.Clean after ⊎ Shows before Done after
   -- an answer was written that tells of a fault
   Ends before SomeFaults after = EndsAnswered before outcome.SomeFaults after
-  -- the words fail, nothing was read or written, and why was told
+  -- the words fail, nothing was read or written, and why was told, in lines in which nothing moves a terminal's cursor
   Ends before Misused after =
       AreRefused words × (after.input ≡ before.input) × (after.out ≡ before.out)
-      × ((why : List ℕ) × Tells may.tell before.err why after.err)
+      × ((why : List ℕ) × IsMessage why × Tells may.tell before.err why after.err)
   -- a request was given up for this cause, or a text was not shown, or there was no memory to read the words
   Ends before (GaveUp cause) after =
       (Replies before (Err cause) after × TellsCause may.tell before.err cause after.err)

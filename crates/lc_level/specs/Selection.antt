@@ -1,6 +1,5 @@
 -- What decides, beside the rules of a tree, which of its entries are left out.
-use Rattle.std.specs.Prelude.{ℕ, Bool, cond, List, [], ◌∷◌, Option, Some, None, codes}
-use Rattle.std.specs.Borrow.{Bor}
+use Rattle.std.specs.Prelude.{ℕ, Bool, cond, List, [], ◌∷◌, codes}
 
 -- attributes: what has one of them Set is left out; and paths: where there are some, only what stands at or below one of them takes part
 pub record SelectionModel : Type 0 where
@@ -14,8 +13,3 @@ selection_of archive without = record { without = cond archive (codes "export-ig
 -- the same of these paths alone
 abbrev pub narrowed : SelectionModel → List (List ℕ) → SelectionModel
 narrowed s only = record { without = s.without; only = only }
-
--- the paths that are lent; none where nothing is
-abbrev pub lent_paths : Option (Bor (List (List ℕ))) → List (List ℕ)
-lent_paths None = []
-lent_paths (Some only) = only.now

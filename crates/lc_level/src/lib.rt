@@ -4,8 +4,8 @@
 //! - `entering`: a directory's listing and its rule files, read whole; `opening`: which of its entries these leave in
 //! - `git_info`, `rule_files`, `rule_pair`: its rule files; `chains`: both chains by them
 //! - `entry_looks`, `left_in`: what is looked for among its entries, and which of them stay; `deciding`, `reason`: why the others don't
-//! - `selection`: what decides beside the rules; `only_paths`: the paths that alone are asked for, `sorted_paths`, `below`: looking among
-//!   them; `narrowing`: which entries take part by them
+//! - `selection`: what decides beside the rules; `only_paths`, `lent_paths`: the paths that alone are asked for;
+//!   `sorted_paths`, `below`: looking among them; `narrowing`: which entries take part by them
 //! - `counted`, `counting`: what became of its files, and counting them
 //! - `files`, `content_fault`: opening one file, to count it or to read it as rules, and why that was not possible
 //! - `paths`: the path of a name in a directory
@@ -30,6 +30,7 @@ mod git_info;
 mod job;
 mod laws;
 mod left_in;
+mod lent_paths;
 mod level_reader;
 mod narrowing;
 mod only_paths;

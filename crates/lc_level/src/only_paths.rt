@@ -1,14 +1,8 @@
 //! The paths that alone are asked for, sorted once for a whole walk.
-ghost use Rattle.std.specs.Prelude.{◌≡◌, ◌≤◌, IfOk, false, true, length, map};
-ghost use Rattle.std.specs.List.{filter_map, AllByRecursion};
-ghost use Rattle.std.specs.List.Sorted.{IsPartitionPoint};
-ghost use Rattle.lc_level.specs.Narrowing.{each_once, is_whole, rest_from, rests, wanted_in};
-ghost use Rattle.lc_level.specs.PathSteps.{comes_before};
-ghost use Rattle.lc_tree.specs.ByteOrder.{AreInOrder};
+ghost use Rattle.std.specs.Prelude.{◌≡◌, IfOk, map};
+ghost use Rattle.lc_level.specs.Narrowing.{each_once};
 
-use crate::below::{is_before_below, rest_from};
-use crate::narrowing::Wanted;
-use crate::sorted_paths::is_within;
+use crate::lent_paths::LentPaths;
 use std::alloc::{AllocError, Global};
 use std::marker::Model;
 
@@ -27,7 +21,6 @@ pub struct OnlyPaths<'o> {
 
 impl<'o> Model for OnlyPaths<'o> {
     ghost use Rattle.std.specs.Prelude.{◌≡◌, ℕ, List, map};
-    ghost use Rattle.std.specs.List.Sorted.{IsPartitionPoint};
     ghost use Rattle.lc_level.specs.Narrowing.{each_once};
 
     ghost Value = { List (List ℕ) };
@@ -47,47 +40,6 @@ fn sorted_once<'o>(alloc: Global, asked: &[&'o [u8]]) -> Result<Vec<&'o [u8]>, A
     Ok(paths)
 }
 
-/// Whether a path comes before all that stand below a directory, in the order of their bytes.
-fn comes_before(path: &[u8], directory: &[u8]) -> bool
-    ensures { result ≡ comes_before directory.now path.now }
-{
-    if directory.is_empty() {
-        return path.is_empty();
-    }
-    is_before_below(path, directory)
-}
-
-/// The place of the first of sorted paths that doesn't come before those below a directory.
-fn first_past(paths: &[&[u8]], directory: &[u8]) -> usize
-    requires { AreInOrder (map (λ path. path.now) paths.now) }
-    ensures within { result ≤ length paths.now }
-    ensures place { IsPartitionPoint (λ path. comes_before directory.now path.now ≡ true)
-        (λ path. comes_before directory.now path.now ≡ false) paths.now result }
-{
-    paths.partition_point(|path| comes_before(path, directory))
-}
-
-/// The sorted paths that stand below a directory, seen from it, where none of the paths comes before these.
-fn seen_from<'o>(
-    alloc: Global,
-    directory: &[u8],
-    paths: &[&'o [u8]],
-) -> Result<Vec<&'o [u8]>, AllocError>
-    requires order { AreInOrder (map (λ path. path.now) paths.now) }
-    requires past { AllByRecursion (λ path. comes_before directory.now path ≡ false) (map (λ path. path.now) paths.now) }
-    ensures { IfOk result (λ seen. map (λ rest. rest.now) seen.items
-        ≡ filter_map (rest_from directory.now) (map (λ path. path.now) paths.now)) }
-{
-    let mut seen = Vec::new(alloc);
-    for path in paths {
-        let Some(rest) = rest_from(directory, path) else {
-            return Ok(seen);
-        };
-        seen.push(rest)?;
-    }
-    Ok(seen)
-}
-
 impl<'o> OnlyPaths<'o> {
     /// Sorts the paths, which are relative to the top, with no slash at the end. Where there are none, all of a tree is asked for.
     pub fn new(alloc: Global, asked: &'o [&'o [u8]]) -> Result<OnlyPaths<'o>, AllocError>
@@ -97,35 +49,13 @@ impl<'o> OnlyPaths<'o> {
         Ok(OnlyPaths { asked, sorted })
     }
 
-    /// Whether a directory is asked for as a whole.
-    fn is_whole(&self, directory: &[u8]) -> bool
-        ensures { result ≡ is_whole self.now directory.now }
+    /// Lends the paths.
+    pub(crate) fn lend<'s>(&'s self) -> LentPaths<'s>
+        ensures { result ≡ self.entry.now }
     {
-        self.asked.is_empty() || is_within(&self.sorted, directory)
-    }
-
-    /// The paths that stand below a directory, seen from it. Where there are none, this costs no memory.
-    fn rests(&self, alloc: Global, directory: &[u8]) -> Result<Vec<&'o [u8]>, AllocError>
-        ensures { IfOk result (λ seen. map (λ rest. rest.now) seen.items ≡ rests self.now directory.now) }
-    {
-        let paths = self.sorted.as_slice();
-        let at = first_past(paths, directory);
-        let seen = seen_from(alloc, directory, &paths[at..])?;
-        Ok(seen)
-    }
-
-    /// What is asked for of a directory.
-    pub(crate) fn wanted_in(
-        &self,
-        alloc: Global,
-        directory: &[u8],
-    ) -> Result<Wanted<'o>, AllocError>
-        ensures { IfOk result (λ wanted. wanted ≡ wanted_in self.now directory.now) }
-    {
-        let rests = self.rests(alloc, directory)?;
-        Ok(Wanted {
-            whole: self.is_whole(directory),
-            rests,
-        })
+        LentPaths {
+            asked: self.asked,
+            sorted: &self.sorted,
+        }
     }
 }

@@ -6,6 +6,7 @@ ghost use Rattle.lc_level.specs.Selection.{narrowed, selection_of};
 ghost use Rattle.lc_rules.specs.AttrStates.{state_of};
 
 use crate::job::Job;
+use crate::lent_paths::LentPaths;
 use crate::narrowing::Wanted;
 use crate::only_paths::OnlyPaths;
 use lc_rules::State;
@@ -25,16 +26,16 @@ use std::marker::Model;
 pub struct Selection<'o> {
     archive: bool,
     without: &'o [&'o str],
-    only: Option<&'o OnlyPaths<'o>>,
+    only: LentPaths<'o>,
 }
 
 impl<'o> Model for Selection<'o> {
     ghost use Rattle.std.specs.Prelude.{map};
-    ghost use Rattle.lc_level.specs.Selection.{SelectionModel, lent_paths, narrowed, selection_of};
+    ghost use Rattle.lc_level.specs.Selection.{SelectionModel, narrowed, selection_of};
 
     ghost Value = { SelectionModel };
 
-    ghost view = { λ s. narrowed (selection_of s.archive (map (λ name. name.now) s.without.now)) (lent_paths s.only) };
+    ghost view = { λ s. narrowed (selection_of s.archive (map (λ name. name.now) s.without.now)) s.only };
 }
 
 /// Whether an attribute is Set at a path. Memory is taken for the attribute's macros alone.
@@ -63,7 +64,7 @@ impl<'o> Selection<'o> {
         Selection {
             archive,
             without,
-            only: None,
+            only: LentPaths::none(),
         }
     }
 
@@ -74,18 +75,18 @@ impl<'o> Selection<'o> {
         Selection {
             archive: self.archive,
             without: self.without,
-            only: self.only,
+            only: self.only.copy(),
         }
     }
 
     /// The same of these paths alone, where there are some: what stands at or below one of them takes part.
-    pub fn narrowed(self, only: &'o OnlyPaths<'o>) -> Selection<'o>
+    pub fn narrowed(self, only: &'o OnlyPaths<'_>) -> Selection<'o>
         ensures { result ≡ narrowed self.entry only.entry.now }
     {
         Selection {
             archive: self.archive,
             without: self.without,
-            only: Some(only),
+            only: only.lend(),
         }
     }
 
@@ -97,13 +98,8 @@ impl<'o> Selection<'o> {
     ) -> Result<Wanted<'o>, AllocError>
         ensures { IfOk result (λ wanted. wanted ≡ wanted_in self.now.only directory.now) }
     {
-        match self.only {
-            Some(only) => Ok(only.wanted_in(alloc, directory)?),
-            None => Ok(Wanted {
-                whole: true,
-                rests: Vec::new(alloc),
-            }),
-        }
+        let wanted = self.only.wanted_in(alloc, directory)?;
+        Ok(wanted)
     }
 
     /// The first attribute that leaves out what stands at a path. Memory is taken for the attributes' macros alone.

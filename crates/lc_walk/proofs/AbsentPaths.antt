@@ -103,9 +103,11 @@ rests_apart d (r ∷ rs) a = (others rs a.0, rests_apart d rs a.1)
 rising_distinct : (paths : List (List ℕ)) → AreInOrder paths → Distinct paths
 unfolding IsStrictlySortedBy
 rising_distinct [] order = tt
-rising_distinct (path ∷ paths) order =
-    (each-map (λ p. bytes_cmp path p ≡ Less) (λ p. path ≢ p) (λ p less same. not_itself p (subst (λ q. bytes_cmp q p ≡ Less) same less))
-    paths order.0, rising_distinct paths order.1)
+rising_distinct (path ∷ paths) order = (
+  each-map (λ p. bytes_cmp path p ≡ Less) (λ p. path ≢ p) (λ p less same. not_itself p (subst (λ q. bytes_cmp q p ≡ Less) same less))
+      paths order.0,
+  rising_distinct paths order.1,
+)
 
 -- ---- the paths seen from a directory
 

@@ -45,19 +45,20 @@ pub struct Worked<P> {
 /// A worker, by what is lent to it for all its directories.
 ///
 /// ```
+/// let options = PreparedOptions::new(alloc, &options)?;
 /// let worker = Worker { rt, alloc, board: &board, tree: &tree, options: &options };
 /// let Worked { pass, end, tally } = worker.run(pass);
 /// ```
 #[derive(Drop)]
-pub struct Worker<'w, B, T, W> {
+pub struct Worker<'w, 'o, B, T, W> {
     pub rt: &'w W,
     pub alloc: Global,
     pub board: &'w B,
     pub tree: &'w T,
-    pub options: &'w PreparedOptions<'w>,
+    pub options: &'w PreparedOptions<'o>,
 }
 
-impl<B: Shared<Job, Row>, T: Tree, W: Wait> Worker<'_, B, T, W> {
+impl<B: Shared<Job, Row>, T: Tree, W: Wait> Worker<'_, '_, B, T, W> {
     /// Claims directories and serves each, until there are no more.
     pub fn run(&self, pass: B::Pass) -> Worked<B::Pass>
         requires { IsPassOf B.owns B.Pass.view self.now.board.now IsFree pass }

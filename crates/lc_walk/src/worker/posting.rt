@@ -11,7 +11,7 @@ use lc_level::{ChildDirectory, Job};
 use lc_tree::Tree;
 use std::sync::Wait;
 
-impl<B: Shared<Job, Row>, T: Tree, W: Wait> Worker<'_, B, T, W> {
+impl<B: Shared<Job, Row>, T: Tree, W: Wait> Worker<'_, '_, B, T, W> {
     /// Posts one child directory, and notes its number.
     fn post_child(
         &self,

@@ -20,7 +20,7 @@ use lc_tree::Tree;
 use std::alloc::AllocError;
 use std::sync::Wait;
 
-impl<'w, B: Shared<Job, Row>, T: Tree, W: Wait> Worker<'w, B, T, W> {
+impl<'w, B: Shared<Job, Row>, T: Tree, W: Wait> Worker<'w, '_, B, T, W> {
     /// What reads its tree.
     fn levels(&self) -> LevelReader<'w, T>
         ensures tree { result.tree.now ≡ self.now.tree.now }

@@ -29,6 +29,22 @@ const TREE: Sketch = Sketch::Dir(&[
     ),
 ]);
 
+/// A tree with names that begin alike, whose bytes come before and after the slash: those beside `a` can't be read.
+const ALIKE: Sketch = Sketch::Dir(&[
+    (
+        b"a",
+        Sketch::Dir(&[
+            (b"b", Sketch::Dir(&[(b"c.c", LINE), (b"d.c", LINE)])),
+            (b"b.c", Sketch::Failing(b"x\n")),
+            (b"b0", Sketch::Closed),
+            (b"x.c", LINE),
+        ]),
+    ),
+    (b"a-b", Sketch::Closed),
+    (b"a.b", Sketch::Closed),
+    (b"a0", Sketch::Closed),
+]);
+
 /// Both lists are asked for.
 const NARROWED: Asked = Asked {
     tree: TREE,
@@ -183,6 +199,40 @@ const CASES: &[Case] = &[
             left: &[Y_LOG, GEN],
             entries: Some(4),
             calls: Some(12),
+            ..FOUND
+        }),
+    },
+    Case {
+        name: "names that begin alike, in no order, and a directory with paths below it",
+        asked: Asked {
+            tree: ALIKE,
+            only: &[
+                b"a/x.c",
+                b"a/b/none",
+                b"a/b",
+                b"a/x.c/k",
+                b"a/b/d.c",
+                b"a/b-",
+                b"a-",
+                b"a/b/none",
+            ],
+            ..NARROWED
+        },
+        wanted: Ok(Found {
+            rows: &[(Some(b"c"), NONE, Eol::Lf, [3, 3, 0, 6])],
+            directories: 3,
+            faults: &[
+                (b"a-", ABSENT),
+                (b"a/b-", ABSENT),
+                (b"a/b/none", ABSENT),
+                (b"a/x.c/k", ABSENT),
+            ],
+            files: &[
+                (b"a/b/c.c", NONE, 2),
+                (b"a/b/d.c", NONE, 2),
+                (b"a/x.c", NONE, 2),
+            ],
+            entries: Some(5),
             ..FOUND
         }),
     },

@@ -8,8 +8,8 @@ use lc_board::{Claim, CloseFault, Closed, Ended, Locked, Shared, Words};
 use lc_level::{FaultSite, FaultWord, Job, Kept, LevelReader, Scratch, Selection};
 use lc_tree::{MemTree, Sketch};
 use lc_walk::{
-    BrokenRow, End, GivenUp, Lists, Options, PreparedOptions, Row, ServedJob, Tally, WalkFault, Worked, Worker,
-    assemble,
+    BrokenRow, End, GivenUp, Lists, Options, PreparedOptions, Row, ServedJob, Tally, WalkFault,
+    Worked, Worker, assemble,
 };
 use std::alloc::{AllocError, Global};
 use std::process::Abort;

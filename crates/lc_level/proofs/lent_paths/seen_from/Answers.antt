@@ -1,7 +1,7 @@
 use Rattle.std.proofs.Common.{[], ◌++◌, map, sym, ◌∙◌, ap, append-nil}
 use Rattle.std.proofs.lemmas.List.{drop_more}
 use Rattle.lc_level.proofs.SeenPaths.{none_left}
-use Rattle.lc_level.proofs.only_paths.seen_from.Goals as goal
+use Rattle.lc_level.proofs.lent_paths.seen_from.Goals as goal
 
 pub returns-in_default : goal.returns-in_default
 returns-in_default c =

@@ -3,7 +3,7 @@ use Rattle.std.proofs.lemmas.List.Sorted.{IsPartitionPoint-from_clause}
 use Rattle.lc_level.specs.PathSteps.{comes_before}
 use Rattle.lc_level.proofs.ByHalves.{in_front}
 use Rattle.lc_level.proofs.PathOrder.{comes_falls}
-use Rattle.lc_level.proofs.only_paths.first_past.Goals as goal
+use Rattle.lc_level.proofs.lent_paths.first_past.Goals as goal
 
 pub returns-clause-place : goal.returns-clause-place
 returns-clause-place c =

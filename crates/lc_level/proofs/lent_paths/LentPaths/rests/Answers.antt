@@ -6,25 +6,22 @@ use Rattle.lc_level.specs.PathSteps.{comes_before}
 use Rattle.lc_level.proofs.EachOnce.{once_in_order}
 use Rattle.lc_level.proofs.SeenPaths.{lent, seen, order_left, past_left, skipped}
 use Rattle.lc_tree.specs.ByteOrder.{AreInOrder}
-use Rattle.lc_level.proofs.only_paths.OnlyPaths.rests.Goals as goal
+use Rattle.lc_level.proofs.lent_paths.LentPaths.rests.Goals as goal
 
 pub first_past-at-requires : goal.first_past-at-requires
-first_past-at-requires c =
-    subst AreInOrder (sym (ap lent c.as_slice-paths.ensures.value ∙ c.self.invariant))
-    (once_in_order (map (λ path. path.now) c.self.inside.asked.now))
+first_past-at-requires c = subst AreInOrder (sym c.self.invariant) (once_in_order (map (λ path. path.now) c.self.inside.asked.now))
 
 pub seen_from-requires-clause-order : goal.seen_from-requires-clause-order
 seen_from-requires-clause-order c =
-    let paths = c.as_slice-paths.result.now in
+    let paths = c.self.inside.sorted.now in
     let at = c.first_past-at.result in
-    let order = subst AreInOrder (sym (ap lent c.as_slice-paths.ensures.value ∙ c.self.invariant))
-    (once_in_order (map (λ path. path.now) c.self.inside.asked.now)) in
+    let order = subst AreInOrder (sym c.self.invariant) (once_in_order (map (λ path. path.now) c.self.inside.asked.now)) in
     subst (λ ps. AreInOrder (lent ps)) (sym (take_all (length paths - at) (drop at paths) (omega (arith, length-drop at paths))))
     (order_left at paths order)
 
 pub seen_from-requires-clause-past : goal.seen_from-requires-clause-past
 seen_from-requires-clause-past c =
-    let paths = c.as_slice-paths.result.now in
+    let paths = c.self.inside.sorted.now in
     let at = c.first_past-at.result in
     subst (λ ps. AllByRecursion (λ path. comes_before c.args.directory.now path ≡ false) (lent ps))
     (sym (take_all (length paths - at) (drop at paths) (omega (arith, length-drop at paths))))
@@ -33,9 +30,8 @@ seen_from-requires-clause-past c =
 pub returns : goal.returns
 returns c =
     let d = c.args.directory.now in
-    let paths = c.as_slice-paths.result.now in
+    let paths = c.self.inside.sorted.now in
     let at = c.first_past-at.result in
     c.in_ok-seen.ensures ∙ ap (seen d) (take_all (length paths - at) (drop at paths) (omega (arith, length-drop at paths)))
-    ∙ skipped d paths at c.first_past-at.ensures.place
-    ∙ ap (filter_map (rest_from d)) (ap lent c.as_slice-paths.ensures.value ∙ c.self.invariant)
+    ∙ skipped d paths at c.first_past-at.ensures.place ∙ ap (filter_map (rest_from d)) c.self.invariant
     ∙ ap (λ only. rests only d) c.self.view_is

@@ -1,6 +1,6 @@
 use Rattle.std.proofs.Common.{◌≡◌, ◌++◌, map, drop}
 use Rattle.lc_level.proofs.SeenPaths.{seen}
-use Rattle.lc_level.proofs.only_paths.seen_from.Given as goal
+use Rattle.lc_level.proofs.lent_paths.seen_from.Given as goal
 
 abbrev pub invariant-loop-path : goal.invariant-loop-path
 invariant-loop-path l =

@@ -5,20 +5,16 @@ use Rattle.lc_level.proofs.AskedPaths.{any_once}
 use Rattle.lc_level.proofs.EachOnce.{once_in_order}
 use Rattle.lc_level.proofs.SeenPaths.{none_lent}
 use Rattle.lc_tree.specs.ByteOrder.{AreInOrder}
-use Rattle.lc_level.proofs.only_paths.OnlyPaths.is_whole.Goals as goal
+use Rattle.lc_level.proofs.lent_paths.LentPaths.is_whole.Goals as goal
 
 pub is_within-requires : goal.is_within-requires
-is_within-requires c =
-    subst AreInOrder (sym (ap (map (λ path. path.now)) c.deref.ensures.value ∙ c.self.invariant))
-    (once_in_order (map (λ path. path.now) c.self.inside.asked.now))
+is_within-requires c = subst AreInOrder (sym c.self.invariant) (once_in_order (map (λ path. path.now) c.self.inside.asked.now))
 
 pub returns-else-is_empty : goal.returns-else-is_empty
 returns-else-is_empty c =
     let d = c.args.directory.now in
     let asked = map (λ path. path.now) c.self.inside.asked.now in
-    c.is_within.ensures
-    ∙ ap (list_any (λ path. bytes_eq path d || stands_below d path))
-    (ap (map (λ path. path.now)) c.deref.ensures.value ∙ c.self.invariant)
+    c.is_within.ensures ∙ ap (list_any (λ path. bytes_eq path d || stands_below d path)) c.self.invariant
     ∙ any_once (λ path. bytes_eq path d || stands_below d path) asked
     ∙ sym (ap (λ b. b || list_any (λ path. bytes_eq path d || stands_below d path) asked)
     (none_lent c.self.inside.asked.now ∙ sym c.if-is_empty.ensures))

@@ -3,7 +3,7 @@ use Rattle.lc_level.specs.Narrowing.{each_once}
 use Rattle.lc_level.proofs.EachOnce.{once_in_order}
 use Rattle.lc_level.proofs.PathOrder.{seen_in_order}
 use Rattle.lc_tree.specs.ByteOrder.{AreInOrder}
-use Rattle.lc_level.proofs.only_paths.OnlyPaths.wanted_in.Goals as goal
+use Rattle.lc_level.proofs.lent_paths.LentPaths.wanted_in.Goals as goal
 
 pub invariant_of-result : goal.invariant_of-result
 invariant_of-result c =
