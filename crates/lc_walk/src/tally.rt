@@ -117,6 +117,15 @@ impl Tally {
         })
     }
 
+    /// Copies of the rows in the order of their keys, one for each key.
+    pub fn rows(&self) -> Result<Vec<TallyRow>, AllocError>
+        ensures added_up { IfOk result (λ v. AddsUp self.now.rows v.items) }
+        ensures tally { IfOk result (λ v. (fs : List CountedFile) → StandsFor self.now fs → IsTally fs v.items) }
+    {
+        let rows = self.rows.to_sorted()?;
+        Ok(rows)
+    }
+
     /// The rows in the order of their keys, one for each key. It sorts them in place and takes no memory.
     pub fn into_rows(self) -> Vec<TallyRow>
         ensures added_up { AddsUp self.rows result.items }

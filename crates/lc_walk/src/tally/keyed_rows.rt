@@ -1,5 +1,5 @@
 //! The rows of a tally, found by their keys.
-ghost use Rattle.std.specs.Prelude.{◌≡◌, ◌<◌, [], ◌∷◌, ◌++◌, length, IfSome, IsSome, IsOk, IsTrue, OnOk, OnErr};
+ghost use Rattle.std.specs.Prelude.{◌≡◌, ◌<◌, [], ◌∷◌, ◌++◌, length, IfOk, IfSome, IsSome, IsOk, IsTrue, OnOk, OnErr};
 ghost use Rattle.std.specs.List.{HoldsAt};
 ghost use Rattle.std.specs.List.Sorted.{IsPermutation, IsSortedByKey};
 ghost use Rattle.std.specs.declared.cmp.Ordering.TheVariants.{Equal};
@@ -95,6 +95,16 @@ impl KeyedRows {
         rows
     }
 
+    /// Copies of the rows in order of their keys, each key once.
+    pub(crate) fn to_sorted(&self) -> Result<Vec<TallyRow>, AllocError>
+        requires { IsInRange (sums_of_rows self.now) }
+        ensures { IfOk result (λ rows. AddsUp self.now rows.items) }
+    {
+        let mut rows = copies_of(&self.rows)?;
+        add_up(&mut rows);
+        Ok(rows)
+    }
+
     // Finds the key in the row of its hint, or in the sorted rows.
     fn find(&self, slot: usize, key: &KeyRef<'_>) -> Option<usize>
         requires { slot < 512 }
@@ -169,6 +179,17 @@ impl KeyedRows {
             self.sorted = self.rows.len();
         }
     }
+}
+
+fn copies_of(rows: &Vec<TallyRow>) -> Result<Vec<TallyRow>, AllocError>
+    ensures { IfOk result (λ copies. copies.items ≡ rows.now.items) }
+{
+    let alloc = *rows.allocator();
+    let mut copies = Vec::with_capacity(alloc, rows.len())?;
+    for row in rows {
+        copies.push(row.copy(alloc)?)?;
+    }
+    Ok(copies)
 }
 
 // Sorts the rows, and makes one row of those of each key.

@@ -140,7 +140,7 @@ const CASES: &[Case] = &[
 fn check(rt: &impl Abort, alloc: Global, case: &Case) -> Result<(), AllocError> {
     let tally = merged(rt, alloc, case.files, case.others)?;
     let (totals, name) = (tally.totals(), case.name);
-    let rows = tally.into_rows();
+    let rows = tally.rows()?;
     assert!(rt;
         has_rows(&rows, totals.files, case.rows) && is_totals(totals, case.totals),
         "{name}: {rows:?}, {totals:?}"
