@@ -1,6 +1,7 @@
 -- Which paths have a directory in them, and which entries lead to them.
 use Rattle.std.proofs.Common.{◌≡◌, ℕ, zero, suc, ◌==◌, ◌+◌, ◌<◌, ◌≤◌, Bool, true, false, not, ◌&&◌, ◌||◌, cond, List, [], ◌∷◌, ◌++◌}
-use Rattle.std.proofs.Common.{map, length, get_or, take, drop, refl, sym, ◌∙◌, ap, subst, append_assoc, bytes_eq, Option, Some, None, arith, Bor}
+use Rattle.std.proofs.Common.{map, length, get_or, take, drop, refl, sym, ◌∙◌, ap, subst, append_assoc, bytes_eq, Option, Some, None}
+use Rattle.std.proofs.Common.{arith, Bor}
 use Rattle.std.specs.List.{filter, list_any, before_first, position_or_len, AllByRecursion}
 use Rattle.std.specs.Option.{is_some}
 use Rattle.std.proofs.lemmas.Bool.{and_parts, eqb-true, or_parts}
