@@ -139,7 +139,7 @@ const WHAT_IS_PRINTED: &str = "What is printed";
 /// The heading of the options that limit a count.
 const LIMITS: &str = "Limits";
 
-/// What help says of an option: `-h` in one line, `--help` in several.
+/// The help of an option: for `-h` in one line, for `--help` in several.
 #[derive(Clone, Copy)]
 pub(crate) struct OptionHelp {
     pub(crate) heading: &'static str,
@@ -226,6 +226,6 @@ table",
 pub(crate) const EXPLAIN: OptionHelp = OptionHelp {
     heading: WHAT_IS_PRINTED,
     short: "Also print the rule that decides, and its line",
-    long: "Also print the rule that decides: FILE with the number of its line, and
-its pattern. - where no rule decides",
+    long: "Also print the rule that decides: FILE with the number of its line,
+and its pattern; - and - if no rule decides",
 };
