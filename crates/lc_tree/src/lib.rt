@@ -4,12 +4,14 @@
 //! - `entry`, `listing`: the entries of one directory, in the order of their names
 //! - `read_fault`: why a tree did not answer
 //! - `sys_tree`, `sys_entries`: a directory of the system as a tree; `system_call`: calls that signals interrupt
+//! - `idle_threads`: how many threads have nothing to do, as a hint
 //! - `node`, `mem_tree`, `mem_file`: a tree of memory
 //! - `sketch`, `trials`: trees for tests of any crate
 //! - `laws`: what is true of the definitions that the contracts cite
 #![tactic(auto)]
 
 mod entry;
+mod idle_threads;
 mod laws;
 mod listing;
 mod mem_file;
@@ -24,6 +26,7 @@ mod tree;
 pub mod trials;
 
 pub use entry::{Entry, Kind};
+pub use idle_threads::IdleThreads;
 pub use laws::{the_limit_is_this_number, trees_of_memory_list_once};
 pub use listing::{Listing, ListingFault, MAX_ENTRIES};
 pub use mem_file::MemFile;
