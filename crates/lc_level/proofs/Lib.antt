@@ -20,6 +20,7 @@ pub mod Leading
 pub mod NodeTrees
 pub mod OneLevel
 pub mod OpenLevels
+pub mod PartsJoined
 pub mod PassedOn
 pub mod PathOrder
 pub mod ReadOnce
