@@ -33,3 +33,10 @@ pub record Joins (parts : List (Result CountedFiles AllocError)) (absent : List 
   pub each : AllByRecursion IsOk parts
   pub files : found.files.items ≡ flat_map files_of parts
   pub faults : found.faults.items ≡ absent ++ flat_map faults_of parts
+
+-- the files of these names are counted but for those of the last, which are left
+pub record CountsSome (gives : List ℕ → Contents) (j : JobModel) (names : List (Vec ℕ Global)) (absent : List FileFaultModel)
+    (left : List (Vec ℕ Global)) (found : CountedFiles) : Type 0 where
+  pub done : List (Vec ℕ Global)
+  pub all : done ++ left ≡ names
+  pub counted : IsCounted gives j (bytes_of done) absent found

@@ -19,7 +19,7 @@ use std::{mem, thread};
 const PART_FILES: usize = 256;
 
 /// So many threads at most help with one directory, as a walk has no more workers beside its own.
-const MOST_HELPERS: usize = 15;
+pub(crate) const MOST_HELPERS: usize = 15;
 
 // Takes as many idle threads as are of use with so many files.
 fn take_helpers(idle: &IdleThreads, files: usize) -> u32 {
@@ -82,7 +82,7 @@ fn joined(
 
 impl CountedFiles {
     // Adds the files that were counted after these.
-    fn append(&mut self, later: CountedFiles) -> Result<(), AllocError>
+    pub(crate) fn append(&mut self, later: CountedFiles) -> Result<(), AllocError>
         ensures files { OnOk result (self.new.files.items ≡ self.old.files.items ++ later.files.items) }
         ensures faults { OnOk result (self.new.faults.items ≡ self.old.faults.items ++ later.faults.items) }
     {
@@ -125,7 +125,7 @@ impl<T: Tree> LevelReader<'_, T> {
     }
 
     // Counts the files of these names in so many parts.
-    fn count_side_by_side<R: Threads + Sync>(
+    pub(crate) fn count_side_by_side<R: Threads + Sync>(
         &self,
         rt: &R,
         parts: usize,
@@ -142,7 +142,7 @@ impl<T: Tree> LevelReader<'_, T> {
     }
 
     /// Counts the files of these names as `count` does. Where they are many and threads are idle, they are counted in parts side by
-    /// side: as many as idle threads can be taken, and one.
+    /// side: as many as idle threads can be taken, and one. So are the few that are left after one of over 16 MiB.
     ///
     /// Each part takes a buffer of its own.
     pub fn count_in_parts<R: Threads + Sync>(
@@ -159,7 +159,7 @@ impl<T: Tree> LevelReader<'_, T> {
     {
         let helpers = take_helpers(idle, names.len());
         if helpers == 0 {
-            return self.count(job, names, absent, scratch);
+            return self.count_few(rt, idle, job, names, absent, scratch);
         }
         let found = self.count_side_by_side(rt, helpers as usize + 1, job, names, absent);
         idle.give_back(helpers);
