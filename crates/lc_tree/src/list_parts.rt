@@ -1,4 +1,5 @@
 //! The listing of a large directory, whose entries are looked at in parts side by side.
+ghost use Rattle.std.specs.Prelude.{◌≡◌, ◌<◌};
 ghost use Rattle.lc_tree.specs.Trees.{Lists};
 
 use crate::{Entry, IdleThreads, Listing, ReadFault, Tree};
@@ -59,7 +60,10 @@ fn look_at_all<T: Tree, R: Threads + Sync>(
 }
 
 // How many threads may help with this many names.
-fn most_helpers(names: usize) -> u32 {
+fn most_helpers(names: usize) -> u32
+    ensures few { names < 1024 → result ≡ 0 }
+    ensures most { result < 16 }
+{
     let parts = MAX_PARTS.min(names / NAMES_OF_A_PART);
     parts.saturating_sub(1) as u32
 }
