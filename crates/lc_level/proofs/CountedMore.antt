@@ -20,27 +20,39 @@ use Rattle.lc_level.specs.declared.content_fault.ContentFault.{ContentFault}
 use Rattle.lc_level.specs.declared.content_fault.ContentFault.TheVariants as content_fault
 use Rattle.lc_level.specs.declared.fault_word.FaultWord.{FaultWord}
 
+module _ (gives : List ℕ → Contents) (j : JobModel) (ms : List (List ℕ)) (ss : List (Result Count FaultWord))
+    (later : AreCounted gives j ms ss) where
+  -- the files of more names may have given their results too
+  pub are_appended : (ns : List (List ℕ)) (rs : List (Result Count FaultWord)) → AreCounted gives j ns rs
+      → AreCounted gives j (ns ++ ms) (rs ++ ss)
+  are_appended [] [] a = later
+  are_appended [] (s ∷ rs) a = absurd a
+  are_appended (m ∷ ns) [] a = absurd a
+  are_appended (m ∷ ns) (s ∷ rs) a = (a.0, are_appended ns rs a.1)
+
+  fates_appended : (ns : List (List ℕ)) (rs : List (Result Count FaultWord)) → AreCounted gives j ns rs →
+      file_fates j (ns ++ ms) (rs ++ ss) ≡ file_fates j ns rs ++ file_fates j ms ss
+  fates_appended [] [] a = refl
+  fates_appended [] (s ∷ rs) a = absurd a
+  fates_appended (m ∷ ns) [] a = absurd a
+  fates_appended (m ∷ ns) (s ∷ rs) a = ap (λ l. (m, file_fate j m s) ∷ l) (fates_appended ns rs a.1)
+
+  -- what their fates add
+  pub appended : {A : Type 0} (f : List ℕ × Fate → List A) (ns : List (List ℕ)) (rs : List (Result Count FaultWord))
+      → AreCounted gives j ns rs →
+      flat_map f (file_fates j (ns ++ ms) (rs ++ ss)) ≡ flat_map f (file_fates j ns rs) ++ flat_map f (file_fates j ms ss)
+  appended f ns rs a = ap (flat_map f) (fates_appended ns rs a) ∙ flat_map-append f (file_fates j ns rs) (file_fates j ms ss)
+
 module _ (gives : List ℕ → Contents) (j : JobModel) (n : List ℕ) (r : Result Count FaultWord)
     (may : MayCount (gives (path_in j.path n)) r) where
-  are_more : (ns : List (List ℕ)) (rs : List (Result Count FaultWord)) → AreCounted gives j ns rs
-      → AreCounted gives j (ns ++ n ∷ []) (rs ++ r ∷ [])
-  are_more [] [] a = (may, tt)
-  are_more [] (s ∷ rs) a = absurd a
-  are_more (m ∷ ns) [] a = absurd a
-  are_more (m ∷ ns) (s ∷ rs) a = (a.0, are_more ns rs a.1)
-
-  fates_more : (ns : List (List ℕ)) (rs : List (Result Count FaultWord)) → AreCounted gives j ns rs →
-      file_fates j (ns ++ n ∷ []) (rs ++ r ∷ []) ≡ file_fates j ns rs ++ (n, file_fate j n r) ∷ []
-  fates_more [] [] a = refl
-  fates_more [] (s ∷ rs) a = absurd a
-  fates_more (m ∷ ns) [] a = absurd a
-  fates_more (m ∷ ns) (s ∷ rs) a = ap (λ l. (m, file_fate j m s) ∷ l) (fates_more ns rs a.1)
+  one : AreCounted gives j (n ∷ []) (r ∷ [])
+  one = (may, tt)
 
   -- what one fate more adds
   more : {A : Type 0} (f : List ℕ × Fate → List A) (ns : List (List ℕ)) (rs : List (Result Count FaultWord)) → AreCounted gives j ns rs →
       flat_map f (file_fates j (ns ++ n ∷ []) (rs ++ r ∷ [])) ≡ flat_map f (file_fates j ns rs) ++ f (n, file_fate j n r)
   more f ns rs a =
-      ap (flat_map f) (fates_more ns rs a) ∙ flat_map-append f (file_fates j ns rs) ((n, file_fate j n r) ∷ [])
+      appended gives j (n ∷ []) (r ∷ []) one f ns rs a
       ∙ ap (λ l. flat_map f (file_fates j ns rs) ++ l) (append-nil (f (n, file_fate j n r)))
 
   -- the files so far, and that of one name more
@@ -50,7 +62,7 @@ module _ (gives : List ℕ → Contents) (j : JobModel) (n : List ℕ) (r : Resu
       IsCounted gives j (ns ++ n ∷ []) absent new
   counted_more ns absent old new c files faults = record {
     results = c.results ++ r ∷ [];
-    may = are_more ns c.results c.may;
+    may = are_appended gives j (n ∷ []) (r ∷ []) one ns c.results c.may;
     files = files ∙ ap (λ l. l ++ counted_of (n, file_fate j n r)) c.files ∙ sym (more counted_of ns c.results c.may);
     faults = faults ∙ ap (λ l. l ++ failed_of (n, file_fate j n r)) c.faults
         ∙ append_assoc absent (failed_in (file_fates j ns c.results)) (failed_of (n, file_fate j n r))

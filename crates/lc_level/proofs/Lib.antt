@@ -17,9 +17,11 @@ pub mod GivenItems
 pub mod GivenPairs
 pub mod Ignoring
 pub mod Leading
+pub mod LeftFiles
 pub mod NodeTrees
 pub mod OneLevel
 pub mod OpenLevels
+pub mod PartsJoined
 pub mod PassedOn
 pub mod PathOrder
 pub mod ReadOnce

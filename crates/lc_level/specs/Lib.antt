@@ -1,5 +1,6 @@
 pub mod Answers
 pub mod CountedNames
+pub mod CountedParts
 pub mod Deep
 pub mod Enters
 pub mod EntryLooks

@@ -53,7 +53,7 @@ impl CountedFiles {
 
 impl<T: Tree> LevelReader<'_, T> {
     /// Counts the file of a name, which moves to the counted files or to the faults.
-    fn count_one(
+    pub(crate) fn count_one(
         &self,
         job: &Job,
         name: Vec<u8>,

@@ -6,7 +6,8 @@
 //! - `entry_looks`, `left_in`: what is looked for among its entries, and which of them stay; `deciding`, `reason`: why the others don't
 //! - `selection`: what decides beside the rules; `only_paths`, `lent_paths`: the paths that alone are asked for;
 //!   `sorted_paths`, `below`: looking among them; `narrowing`: which entries take part by them
-//! - `counted`, `counting`: what became of its files, and counting them
+//! - `counted`, `counting`: what became of its files, and counting them; `in_parts`, `after_large`: counting
+//!   many, and few large ones, by several threads
 //! - `files`, `content_fault`: opening one file, to count it or to read it as rules, and why that was not possible
 //! - `paths`: the path of a name in a directory
 //! - `level_reader`: what is lent for all of this; `scratch`, `path_buffer`: its buffers, and the paths of entries one after another
@@ -14,6 +15,7 @@
 //! - `laws`: that this work makes the level of the definitions
 #![tactic(auto)]
 
+mod after_large;
 mod below;
 mod cause;
 mod chains;
@@ -27,6 +29,7 @@ mod fault_site;
 mod fault_word;
 mod files;
 mod git_info;
+mod in_parts;
 mod job;
 mod laws;
 mod left_in;

@@ -1,8 +1,8 @@
 -- What the calls of a tree answer.
-use Rattle.std.specs.Prelude.{◌≡◌, ◌≢◌, ℕ, Bool, List, [], ◌++◌, Result, Ok, Err, MatchResult, IsTrue, IsFalse}
+use Rattle.std.specs.Prelude.{◌≡◌, ◌≢◌, ℕ, Bool, List, [], ◌++◌, Result, Ok, Err, Option, None, Some, MatchResult, IsTrue, IsFalse}
 use Rattle.std.specs.List.{concat, AllByRecursion}
 use Rattle.lc_census.specs.Reads.{Answer, AnyRoom, Stop, at_end, at_failure, at_neither, Reads}
-use Rattle.lc_tree.specs.Listing.{EntryModel}
+use Rattle.lc_tree.specs.Listing.{EntryModel, IsListing}
 use Rattle.lc_tree.specs.declared.read_fault.ReadFault.{ReadFault}
 use Rattle.lc_tree.specs.declared.read_fault.ReadFault.TheVariants as fault
 
@@ -23,6 +23,16 @@ Lists may (Err fault.BadName) = may (Err fault.BadName)
 Lists may (Err fault.Twice) = may (Err fault.Twice)
 Lists may (Err fault.TooMany) = may (Err fault.TooMany)
 Lists may (Err fault.Memory) = Unit {0}
+
+-- any listing and any fault may come
+abbrev pub AllowsAny : Listings → Type 0
+AllowsAny may = ((entries : List EntryModel) → IsListing entries → may (Ok entries)) × ((found : ReadFault) → may (Err found))
+
+-- the names of a directory are given, or there is a fault, only where any listing may come
+abbrev pub LeavesLooks : {N : Type 0} → Listings → Result (Option N) ReadFault → Type 0
+LeavesLooks may (Ok None) = Unit {0}
+LeavesLooks may (Ok (Some names)) = AllowsAny may
+LeavesLooks may (Err found) = AllowsAny may
 
 -- whatever reads of a file give is one of these
 abbrev pub GivesOnly : {F : Type 0} → (F → ℕ → Answer → F → Type 0) → Contents → F → Type 0

@@ -3,14 +3,17 @@
 //! - `tree`: the trait `Tree`
 //! - `entry`, `listing`: the entries of one directory, in the order of their names
 //! - `read_fault`: why a tree did not answer
-//! - `sys_tree`, `sys_entries`: a directory of the system as a tree; `system_call`: calls that signals interrupt
+//! - `sys_tree`, `sys_names`, `sys_entries`: a directory of the system as a tree; `system_call`: calls that signals interrupt
+//! - `list_parts`: the listing of a large directory, with the help of idle threads; `idle_threads`: how many there are
 //! - `node`, `mem_tree`, `mem_file`: a tree of memory
 //! - `sketch`, `trials`: trees for tests of any crate
 //! - `laws`: what is true of the definitions that the contracts cite
 #![tactic(auto)]
 
 mod entry;
+mod idle_threads;
 mod laws;
+mod list_parts;
 mod listing;
 mod mem_file;
 mod mem_tree;
@@ -18,13 +21,16 @@ mod node;
 mod read_fault;
 mod sketch;
 mod sys_entries;
+mod sys_names;
 mod sys_tree;
 mod system_call;
 mod tree;
 pub mod trials;
 
 pub use entry::{Entry, Kind};
+pub use idle_threads::IdleThreads;
 pub use laws::{the_limit_is_this_number, trees_of_memory_list_once};
+pub use list_parts::list_in_parts;
 pub use listing::{Listing, ListingFault, MAX_ENTRIES};
 pub use mem_file::MemFile;
 pub use mem_tree::MemTree;

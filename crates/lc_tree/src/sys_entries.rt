@@ -7,88 +7,32 @@ ghost use Rattle.lc_tree.specs.declared.entry.Kind.TheVariants.{Other};
 
 use crate::system_call::uninterrupted;
 use crate::{Entry, Kind, ReadFault};
-use lc_census::{Failed, Source, StdSource};
 use lc_glob::path::MAX_PATH;
 use std::alloc::Global;
 use std::fs::Metadata;
 use std::io::ErrorKind;
 use std::rt::Files;
 
-/// The length of the buffer of one read of a directory, which has room for the names of a few hundred entries.
-const NAMES_LEN: usize = 8_192;
-
-/// All entries of a directory at a path of the tree and at one of the system, but for `.` and `..`.
-pub(crate) fn entries_of<R: Files>(
+/// The entries of those names that are still there, in the directory at a path of the tree and at one of the system, which ends with a
+/// slash. The names are looked at one after another, up to the first fault.
+pub(crate) fn look_at_each<R: Files>(
     files: &R,
     alloc: Global,
     directory: &[u8],
     path: String,
+    names: Vec<Vec<u8>>,
 ) -> Result<Vec<Entry>, ReadFault> {
-    let Ok(dir) = uninterrupted(|| files.open_dir(path.as_str())) else {
-        return Err(ReadFault::Failed);
-    };
-    let mut dir = StdSource(dir);
     let mut path = path;
-    if !path.as_str().ends_with('/') {
-        path.push('/')?;
-    }
-    read_names(files, alloc, directory, &mut dir, &mut path)
-}
-
-// The entries of the names that are left to be read.
-fn read_names<R: Files>(
-    files: &R,
-    alloc: Global,
-    directory: &[u8],
-    dir: &mut StdSource<R::Dir>,
-    path: &mut String,
-) -> Result<Vec<Entry>, ReadFault> {
-    let mut entries = Vec::new(alloc);
-    let mut names = [0; NAMES_LEN];
-    for _ in 0..u64::MAX {
-        match dir.read(&mut names) {
-            Ok(0) => return Ok(entries),
-            Ok(len) => add_entries(files, alloc, directory, &names[..len], path, &mut entries)?,
-            Err(Failed) => return Err(ReadFault::Failed),
+    let mut entries = Vec::with_capacity(alloc, names.len())?;
+    for name in names {
+        let Ok(text) = str::from_utf8(&name) else {
+            return Err(ReadFault::Unnamed);
+        };
+        if let Some(kind) = kind_of(files, directory, &mut path, text)? {
+            entries.push(Entry { name, kind })?;
         }
     }
-    Err(ReadFault::Failed)
-}
-
-// Adds the entries of names that each end with a NUL byte.
-fn add_entries<R: Files>(
-    files: &R,
-    alloc: Global,
-    directory: &[u8],
-    names: &[u8],
-    path: &mut String,
-    entries: &mut Vec<Entry>,
-) -> Result<(), ReadFault> {
-    for name in names.split(|b| *b == 0) {
-        if !matches!(name, [] | [b'.'] | [b'.', b'.']) {
-            add_entry(files, alloc, directory, name, path, entries)?;
-        }
-    }
-    Ok(())
-}
-
-// Adds the entry of a name, if it is still there.
-fn add_entry<R: Files>(
-    files: &R,
-    alloc: Global,
-    directory: &[u8],
-    name: &[u8],
-    path: &mut String,
-    entries: &mut Vec<Entry>,
-) -> Result<(), ReadFault> {
-    let Ok(text) = str::from_utf8(name) else {
-        return Err(ReadFault::Unnamed);
-    };
-    if let Some(kind) = kind_of(files, directory, path, text)? {
-        let name = name.to_vec(alloc)?;
-        entries.push(Entry { name, kind })?;
-    }
-    Ok(())
+    Ok(entries)
 }
 
 // What stands under a name in a directory. An entry whose path in the tree is too long is not looked at: the system may refuse so

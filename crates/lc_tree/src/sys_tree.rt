@@ -2,9 +2,10 @@
 ghost use Rattle.std.specs.Prelude.{◌≡◌, ◌++◌, IfOk, MatchResult, string_bytes};
 ghost use Rattle.lc_tree.specs.SysTrees.{top_text, IsFaultOfOpening};
 
-use crate::sys_entries::entries_of;
+use crate::sys_entries::look_at_each;
+use crate::sys_names::{names_of, with_slash};
 use crate::system_call::uninterrupted;
-use crate::{Listing, ReadFault, Tree};
+use crate::{Entry, Listing, ReadFault, Tree};
 use lc_census::StdSource;
 use std::alloc::{AllocError, Global};
 use std::fs::OpenOptions;
@@ -95,8 +96,25 @@ where
 
     fn list(&self, alloc: Global, path: &[u8]) -> Result<Listing, ReadFault> {
         let text = self.full_path(alloc, path)?;
-        let entries = entries_of(self.files, alloc, path, text)?;
+        let names = names_of(self.files, alloc, text.as_str())?;
+        let entries = look_at_each(self.files, alloc, path, with_slash(text)?, names)?;
         Ok(Listing::new(entries)?)
+    }
+
+    fn names(&self, alloc: Global, path: &[u8]) -> Result<Option<Vec<Vec<u8>>>, ReadFault> {
+        let text = self.full_path(alloc, path)?;
+        let names = names_of(self.files, alloc, text.as_str())?;
+        Ok(Some(names))
+    }
+
+    fn look(
+        &self,
+        alloc: Global,
+        path: &[u8],
+        names: Vec<Vec<u8>>,
+    ) -> Result<Vec<Entry>, ReadFault> {
+        let text = self.full_path(alloc, path)?;
+        look_at_each(self.files, alloc, path, with_slash(text)?, names)
     }
 
     fn open_file(&self, alloc: Global, path: &[u8]) -> Result<StdSource<R::File>, ReadFault> {

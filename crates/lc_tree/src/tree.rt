@@ -1,8 +1,8 @@
 //! The trait of trees of directories and files.
 ghost use Rattle.std.specs.Prelude.{ℕ, List};
-ghost use Rattle.lc_tree.specs.Trees.{Content, Contents, Listings, Lists, MayHold, Opens};
+ghost use Rattle.lc_tree.specs.Trees.{Content, Contents, LeavesLooks, Listings, Lists, MayHold, Opens};
 
-use crate::{Listing, ReadFault};
+use crate::{Entry, Listing, ReadFault};
 use lc_census::Source;
 use std::alloc::Global;
 
@@ -27,6 +27,27 @@ pub trait Tree: Sync {
     /// Opens the file at a path. It is refused by `ReadFault::Failed` or `ReadFault::Memory` alone.
     fn open_file(&self, alloc: Global, path: &[u8]) -> Result<Self::File, ReadFault>
         ensures { Opens Self.File.may_give (gives self.now path.now) result };
+
+    /// The names in the directory at a path, whose entries `look` then tells; or `None` where the tree only lists a directory as a
+    /// whole.
+    ///
+    /// A tree that gives names allows any listing there, since entries come and go between the calls.
+    fn names(&self, _alloc: Global, path: &[u8]) -> Result<Option<Vec<Vec<u8>>>, ReadFault>
+        ensures { LeavesLooks (lists self.now path.now) result }
+    {
+        Ok(None)
+    }
+
+    /// The entries of those names in the directory at a path that are still there, in the order of the names. The names are looked at
+    /// one after another, up to the first fault.
+    fn look(
+        &self,
+        _alloc: Global,
+        _path: &[u8],
+        _names: Vec<Vec<u8>>,
+    ) -> Result<Vec<Entry>, ReadFault> {
+        Err(ReadFault::Failed)
+    }
 
     // Each file may be read in some way.
     ghost some_content: { (t : Self) (path : List ℕ) → (c : Content) × MayHold (gives t path) c };

@@ -1,0 +1,127 @@
+//! Counting the files that are left in a directory after a large one by several threads side by side.
+ghost use Rattle.std.specs.Prelude.{◌≡◌, ◌++◌, ◌∷◌, [], List, ℕ, IfOk, OnOk, Vec};
+ghost use Rattle.std.specs.Global.{Global};
+ghost use Rattle.lc_level.specs.CountedNames.{IsCounted};
+ghost use Rattle.lc_level.specs.CountedParts.{CountsSome};
+ghost use Rattle.lc_level.specs.Level.{FileFaultModel};
+ghost use Rattle.lc_level.specs.LeftIn.{bytes_of};
+
+use crate::FileFault;
+use crate::counting::CountedFiles;
+use crate::in_parts::MOST_HELPERS;
+use crate::job::Job;
+use crate::level_reader::LevelReader;
+use crate::scratch::Scratch;
+use lc_tree::{IdleThreads, Tree};
+use std::alloc::AllocError;
+use std::thread::Threads;
+
+/// Of a file with more bytes one may expect that those after it are large too: to count such a file takes some milliseconds, many times
+/// as long as to start a thread.
+const LARGE_FILE: u64 = 16 << 20;
+
+/// Takes as many idle threads as are of use with so many files that may be large.
+fn take_helpers(idle: &IdleThreads, files: usize) -> u32 {
+    if files < 2 {
+        return 0;
+    }
+    idle.take((files - 1).min(MOST_HELPERS) as u32)
+}
+
+impl CountedFiles {
+    /// The file that was counted last is large.
+    fn ends_large(&self) -> bool {
+        match self.files.last() {
+            Some(file) => file.count.bytes > LARGE_FILE,
+            None => false,
+        }
+    }
+}
+
+impl<T: Tree> LevelReader<'_, T> {
+    /// Counts the file of a name, unless files are left already or a large one was counted last: then its file is left too.
+    fn count_or_leave(
+        &self,
+        job: &Job,
+        name: Vec<u8>,
+        scratch: &mut Scratch,
+        found: &mut CountedFiles,
+        left: &mut Vec<Vec<u8>>,
+    ) -> Result<(), AllocError>
+        requires { scratch.old.path.directory ≡ job.now.path }
+        ensures same { scratch.new.path.directory ≡ scratch.old.path.directory }
+        ensures more { OnOk result ((names : List (Vec ℕ Global)) → (absent : List FileFaultModel) →
+            CountsSome (T.gives self.now.tree.now) job.now names absent left.old.items found.old →
+            CountsSome (T.gives self.now.tree.now) job.now (names ++ name ∷ []) absent left.new.items found.new) }
+    {
+        if left.is_empty() && !found.ends_large() {
+            return self.count_one(job, name, scratch, found);
+        }
+        left.push(name)?;
+        Ok(())
+    }
+
+    /// Counts the files of these names, in order, up to the first that is large, and returns the names that are left.
+    fn count_to_large(
+        &self,
+        job: &Job,
+        names: Vec<Vec<u8>>,
+        absent: Vec<FileFault>,
+        scratch: &mut Scratch,
+    ) -> Result<(CountedFiles, Vec<Vec<u8>>), AllocError>
+        requires { scratch.old.path.directory ≡ job.now.path }
+        ensures same { scratch.new.path.directory ≡ scratch.old.path.directory }
+        ensures some { IfOk result (λ r. CountsSome (T.gives self.now.tree.now) job.now names.items absent.items r.1.items r.0) }
+    {
+        let mut found = CountedFiles {
+            files: Vec::new(self.alloc),
+            faults: absent,
+        };
+        let mut left = Vec::new(self.alloc);
+        for name in names {
+            self.count_or_leave(job, name, scratch, &mut found, &mut left)?;
+        }
+        Ok((found, left))
+    }
+
+    /// Counts the files of these names with the help of so many threads.
+    fn count_by_helpers<R: Threads + Sync>(
+        &self,
+        rt: &R,
+        helpers: u32,
+        job: &Job,
+        names: Vec<Vec<u8>>,
+        scratch: &mut Scratch,
+    ) -> Result<CountedFiles, AllocError>
+        requires { scratch.old.path.directory ≡ job.now.path }
+        ensures { IfOk result (IsCounted (T.gives self.now.tree.now) job.now (bytes_of names.items) []) }
+    {
+        let absent = Vec::new(self.alloc);
+        if helpers == 0 {
+            return self.count(job, names, absent, scratch);
+        }
+        self.count_side_by_side(rt, helpers as usize + 1, job, names, absent)
+    }
+
+    /// Counts the files of these names as `count` does, one after another up to a large one. Those after it are counted in parts where
+    /// threads are idle.
+    pub(crate) fn count_few<R: Threads + Sync>(
+        &self,
+        rt: &R,
+        idle: &IdleThreads,
+        job: &Job,
+        names: Vec<Vec<u8>>,
+        absent: Vec<FileFault>,
+        scratch: &mut Scratch,
+    ) -> Result<CountedFiles, AllocError>
+        requires { scratch.old.path.directory ≡ job.now.path }
+        ensures { IfOk result (IsCounted (T.gives self.now.tree.now) job.now (bytes_of names.items) absent.items) }
+    {
+        let (mut found, left) = self.count_to_large(job, names, absent, scratch)?;
+        let helpers = take_helpers(idle, left.len());
+        let later = self.count_by_helpers(rt, helpers, job, left, scratch);
+        idle.give_back(helpers);
+        found.append(later?)?;
+        Ok(found)
+    }
+}

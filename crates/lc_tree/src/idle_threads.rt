@@ -1,0 +1,90 @@
+//! How many threads have nothing to do.
+ghost use Rattle.std.specs.Prelude.{◌≤◌};
+
+use std::sync::atomic::{AtomicU32, Ordering};
+
+/// A count of the threads that have nothing to do, which threads share so that one with much work can split it.
+///
+/// It is a hint: the count may be old when it is used, so it decides only how much is done side by side, never what the answer is.
+///
+/// Two numbers are kept, and each is never below 0:
+///
+/// - idle: how many threads have begun to be idle and have not ended
+/// - lent: how many idle threads were taken and not given back
+///
+/// What may be taken is idle less lent, and nothing where more are lent than idle. So two callers never take the same idle
+/// thread. A thread that finds work while it is lent only lowers what may be taken, and the count is right again once what was
+/// taken is given back.
+///
+/// ```
+/// let idle = IdleThreads::new();
+/// idle.begin(); // in a thread that waits for work
+/// let taken = idle.take(15); // in a thread with much work: 1
+/// // Do the work in `taken + 1` parts side by side.
+/// idle.give_back(taken);
+/// idle.end(); // in the first thread, which has work again
+/// ```
+#[derive(Drop)]
+pub struct IdleThreads {
+    idle: AtomicU32,
+    lent: AtomicU32,
+}
+
+impl IdleThreads {
+    /// A count of no idle threads.
+    pub const fn new() -> IdleThreads {
+        IdleThreads {
+            idle: AtomicU32::new(0),
+            lent: AtomicU32::new(0),
+        }
+    }
+
+    /// One thread more is idle.
+    pub fn begin(&self) {
+        let more = |idle: u32| idle.checked_add(1);
+        let _ = self
+            .idle
+            .fetch_update(Ordering::SeqCst, Ordering::SeqCst, more);
+    }
+
+    /// One thread less is idle, also where it was taken. Where none is idle, nothing changes.
+    pub fn end(&self) {
+        lower(&self.idle, 1);
+    }
+
+    /// Takes up to `most` idle threads, and returns how many. They must be given back with `give_back`.
+    pub fn take(&self, most: u32) -> u32
+        ensures { result ≤ most }
+    {
+        let idle = self.idle.load(Ordering::SeqCst);
+        let more = |lent: u32| match free(idle, lent, most) {
+            0 => None,
+            taken => lent.checked_add(taken),
+        };
+        match self
+            .lent
+            .fetch_update(Ordering::SeqCst, Ordering::SeqCst, more)
+        {
+            Ok(lent) => free(idle, lent, most),
+            Err(_) => 0,
+        }
+    }
+
+    /// Gives back this many threads that `take` returned.
+    pub fn give_back(&self, taken: u32) {
+        lower(&self.lent, taken);
+    }
+}
+
+// How many threads may be taken, up to `most`.
+fn free(idle: u32, lent: u32, most: u32) -> u32
+    ensures { result ≤ most }
+{
+    idle.saturating_sub(lent).min(most)
+}
+
+// Subtracts from a count, down to 0.
+fn lower(count: &AtomicU32, by: u32) {
+    let less = |n: u32| Some(n.saturating_sub(by));
+    let _ = count.fetch_update(Ordering::SeqCst, Ordering::SeqCst, less);
+}

@@ -1,0 +1,109 @@
+//! The listing of a large directory, whose entries are looked at in parts side by side.
+ghost use Rattle.std.specs.Prelude.{◌≡◌, ◌<◌};
+ghost use Rattle.lc_tree.specs.Trees.{Lists};
+
+use crate::{Entry, IdleThreads, Listing, ReadFault, Tree};
+use std::alloc::{AllocError, Global};
+use std::thread;
+use std::thread::Threads;
+
+/// The fewest names that are worth a part of their own: looks at them take several times as long as a thread takes to start.
+const NAMES_OF_A_PART: usize = 512;
+
+/// The most parts of a directory.
+const MAX_PARTS: usize = 16;
+
+/// Lists the directory at a path of a tree, as `Tree::list` does, with the help of idle threads.
+///
+/// Where the tree gives names, at least 1,024 of them, and idle threads can be taken, up to 15 of them look at a part of the entries
+/// each. They are given back before the listing is returned. The entries and the faults are as if one entry was looked at after another.
+///
+/// ```
+/// let idle = IdleThreads::new();
+/// let listing = list_in_parts(&rt, rt.alloc(), &tree, b"src", &idle)?;
+/// ```
+pub fn list_in_parts<T: Tree, R: Threads + Sync>(
+    rt: &R,
+    alloc: Global,
+    tree: &T,
+    path: &[u8],
+    idle: &IdleThreads,
+) -> Result<Listing, ReadFault>
+    ensures { Lists (T.lists tree.now path.now) result }
+{
+    match tree.names(alloc, path)? {
+        None => tree.list(alloc, path),
+        Some(names) => {
+            let entries = look_at_all(rt, alloc, tree, path, names, idle)?;
+            Ok(Listing::new(entries)?)
+        }
+    }
+}
+
+// The entries of names, in parts where idle threads can be taken.
+fn look_at_all<T: Tree, R: Threads + Sync>(
+    rt: &R,
+    alloc: Global,
+    tree: &T,
+    path: &[u8],
+    names: Vec<Vec<u8>>,
+    idle: &IdleThreads,
+) -> Result<Vec<Entry>, ReadFault> {
+    let taken = idle.take(most_helpers(names.len()));
+    let entries = if taken == 0 {
+        tree.look(alloc, path, names)
+    } else {
+        look_in_parts(rt, alloc, tree, path, names, taken)
+    };
+    idle.give_back(taken);
+    entries
+}
+
+// How many threads may help with this many names.
+fn most_helpers(names: usize) -> u32
+    ensures few { names < 1024 → result ≡ 0 }
+    ensures most { result < 16 }
+{
+    let parts = MAX_PARTS.min(names / NAMES_OF_A_PART);
+    parts.saturating_sub(1) as u32
+}
+
+// The entries of names that are looked at in a part for each helper and one more.
+fn look_in_parts<T: Tree, R: Threads + Sync>(
+    rt: &R,
+    alloc: Global,
+    tree: &T,
+    path: &[u8],
+    names: Vec<Vec<u8>>,
+    helpers: u32,
+) -> Result<Vec<Entry>, ReadFault> {
+    let parts = cut(alloc, names, helpers.saturating_add(1) as usize)?;
+    let look = |part: Vec<Vec<u8>>| -> Result<Vec<Entry>, ReadFault> {
+        tree.look(alloc, path, part)
+    };
+    join(alloc, thread::map_vec(rt, parts, &look)?)
+}
+
+// Cuts names into so many parts of nearly equal length, in order.
+fn cut(alloc: Global, names: Vec<Vec<u8>>, count: usize) -> Result<Vec<Vec<Vec<u8>>>, AllocError> {
+    let mut names = names;
+    let mut parts = Vec::with_capacity(alloc, count)?;
+    // From the last to the second, so that each name is moved once.
+    for left in (2..=count).rev() {
+        let part = names.split_off(names.len() - names.len() / left)?;
+        parts.push(part)?;
+    }
+    parts.push(names)?;
+    parts.reverse();
+    Ok(parts)
+}
+
+// The entries of all parts, or the first fault.
+fn join(alloc: Global, parts: Vec<Result<Vec<Entry>, ReadFault>>) -> Result<Vec<Entry>, ReadFault> {
+    let mut entries = Vec::new(alloc);
+    for part in parts {
+        let mut part = part?;
+        entries.append(&mut part)?;
+    }
+    Ok(entries)
+}

@@ -1,0 +1,143 @@
+//! Large directories are listed in parts as they are by one thread.
+
+use crate::tree::system::{Reads, Signals, System};
+use lc_tree::{IdleThreads, Listing, MemTree, ReadFault, Sketch, SysTree, Tree, list_in_parts};
+use std::alloc::Global;
+use std::os::unix::fs::symlink;
+use std::process::Abort;
+use std::sync::atomic::AtomicU64;
+use std::test::Fail;
+use std::thread::Threads;
+use std::{fs, io};
+
+const FOLDER: &str = "lc_tree_large_folder";
+
+/// How many files the folder has.
+const FILES: u32 = 3_000;
+
+/// A folder with many files, a directory and a link to it.
+fn make_folder(rt: &HostRuntime) -> io::Result<()> {
+    let _ = fs::remove_dir_all(rt, FOLDER);
+    fs::create_dir_all(rt, "lc_tree_large_folder/1b")?;
+    symlink(rt, "1b", "lc_tree_large_folder/2c")?;
+    for number in 0..FILES {
+        let path = format!(in rt.alloc(); "{FOLDER}/{number}")?;
+        fs::write(rt, path.as_str(), b"")?;
+    }
+    Ok(())
+}
+
+fn are_same(listing: &Listing, wanted: &Listing) -> bool {
+    let (entries, wanted) = (listing.entries(), wanted.entries());
+    if entries.len() != wanted.len() {
+        return false;
+    }
+    for (entry, wanted) in entries.iter().zip(wanted) {
+        if entry.name != wanted.name || entry.kind != wanted.kind {
+            return false;
+        }
+    }
+    true
+}
+
+/// The top's listing with the help of so many idle threads is that of one thread, and all are given back. Returns how many entries it has.
+fn check_listing<T: Tree, R: Threads + Abort + Sync>(
+    rt: &R,
+    alloc: Global,
+    tree: &T,
+    threads: u32,
+) -> Result<usize, ReadFault> {
+    let idle = IdleThreads::new();
+    for _ in 0..threads {
+        idle.begin();
+    }
+    let listed = list_in_parts(rt, alloc, tree, b"", &idle);
+    assert!(rt; idle.take(u32::MAX) == threads);
+    let listing = listed?;
+    assert!(rt;
+        are_same(&listing, &tree.list(alloc, b"")?),
+        "{threads} threads"
+    );
+    Ok(listing.entries().len())
+}
+
+#[test]
+fn large_folders_are_listed(rt: HostRuntime) -> Result<(), Fail> {
+    make_folder(&rt)?;
+    let tree = SysTree::new(&rt, rt.alloc(), FOLDER)?;
+    for threads in [0, 1, 3, 40] {
+        let len = check_listing(&rt, rt.alloc(), &tree, threads)?;
+        assert_eq!(&rt; len, 3_002);
+    }
+    fs::remove_dir_all(&rt, FOLDER)?;
+    Ok(())
+}
+
+#[test]
+fn trees_without_names_are_listed(rt: HostRuntime) -> Result<(), Fail> {
+    let node = Sketch::Dir(&[(b"f", Sketch::File(b""))]).node(rt.alloc())?;
+    let len = check_listing(&rt, rt.alloc(), &MemTree::new(&node), 3)?;
+    assert_eq!(&rt; len, 1);
+    Ok(())
+}
+
+/// Files of one name.
+const F: Option<&[u8]> = Some(
+    b"f\0f\0f\0f\0f\0f\0f\0f\0f\0f\0f\0f\0f\0f\0f\0f\0f\0f\0f\0f\0f\0f\0f\0f\0f\0f\0f\0f\0f\0f\0f\0f\0f\0f\0f\0f\0f\0f\0f\0f\0f\0f\0",
+);
+
+const UNNAMED: Option<&[u8]> = Some(b"f\xFF\0");
+
+const DENIED: Option<&[u8]> = Some(b"x\0");
+
+/// Over 1,024 names, and the fault of the directory.
+const FAULTS: [(Reads, ReadFault); 4] = [
+    (
+        &[
+            F, F, F, F, F, F, F, F, F, F, F, F, F, F, F, F, F, F, F, F, F, F, F, F, F,
+        ],
+        ReadFault::Twice,
+    ),
+    (
+        &[
+            F, F, UNNAMED, F, F, F, F, F, F, F, F, F, F, F, F, F, F, F, F, F, F, F, DENIED, F, F,
+            F, F,
+        ],
+        ReadFault::Unnamed,
+    ),
+    (
+        &[
+            F, F, DENIED, F, F, F, F, F, F, F, F, F, F, F, F, F, F, F, F, F, F, F, UNNAMED, F, F,
+            F, F,
+        ],
+        ReadFault::Failed,
+    ),
+    (
+        &[
+            F, F, UNNAMED, F, F, F, F, F, F, F, F, F, F, F, F, F, F, F, F, F, F, F, F, F, F, F,
+            None,
+        ],
+        ReadFault::Failed,
+    ),
+];
+
+#[test]
+fn the_first_fault_is_answered(rt: HostRuntime) -> Result<(), Fail> {
+    for (reads, wanted) in FAULTS {
+        let signals = Signals {
+            calls: AtomicU64::new(0),
+            period: 1,
+        };
+        let system = System {
+            host: &rt,
+            given: Some(reads),
+            signals: &signals,
+        };
+        let tree = SysTree::new(&system, rt.alloc(), "top")?;
+        match check_listing(&rt, rt.alloc(), &tree, 1) {
+            Err(ReadFault::Memory) => return Err(Fail::from(ReadFault::Memory)),
+            found => assert!(&rt; found.err() == Some(wanted)),
+        }
+    }
+    Ok(())
+}
