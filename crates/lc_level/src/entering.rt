@@ -5,6 +5,7 @@ ghost use Rattle.lc_level.specs.Enters.{EntersLevel};
 ghost use Rattle.lc_level.specs.GitInfo.{ReadsGit};
 ghost use Rattle.lc_level.specs.RuleFiles.{Pair, is_top, extended};
 ghost use Rattle.lc_level.specs.RulePairs.{AreFilesOf, own_asked, ReadsBoth};
+ghost use Rattle.lc_tree.specs.Trees.{Lists};
 
 use crate::chains::{attributes_below, ignore_below};
 use crate::job::Job;
@@ -13,7 +14,7 @@ use crate::open_fault::OpenFault;
 use crate::rule_pair::{PairNames, PairRead, RuleName, RulePair};
 use crate::scratch::Scratch;
 use crate::{Cause, FaultSite};
-use lc_tree::{Entry, Tree};
+use lc_tree::{Entry, Listing, ReadFault, Tree};
 use std::alloc::AllocError;
 
 /// The bytes of the ignore files that speak of a directory for the first time, as far as they are there and texts are kept.
@@ -98,13 +99,20 @@ impl<T: Tree> LevelReader<'_, T> {
         job.with_chains(self.alloc, ignore, attributes)
     }
 
-    /// Enters the directory of a job: what stops it is its first fault. The scratch paths are then those of the directory.
-    pub fn enter(&self, job: &Job, scratch: &mut Scratch) -> Result<Entered, OpenFault>
+    /// Enters the directory of a job, which was listed so: what stops it is its first fault. The scratch paths are then those of the
+    /// directory.
+    pub(crate) fn enter_listed(
+        &self,
+        job: &Job,
+        listing: Result<Listing, ReadFault>,
+        scratch: &mut Scratch,
+    ) -> Result<Entered, OpenFault>
+        requires { Lists (T.lists self.now.tree.now job.now.path) listing }
         ensures at { IfOk result (λ e. scratch.new.path.directory ≡ e.job.path) }
         ensures enters { EntersLevel (T.lists self.now.tree.now) (T.gives self.now.tree.now) job.now self.now.kept.texts result }
     {
         let path = job.path();
-        let listing = self.list_for(path, FaultSite::Directory)?;
+        let listing = self.listed_for(path, listing, FaultSite::Directory)?;
         let info = self.read_info(path, listing.entries(), scratch)?;
         let own = self.read_own(path, listing.entries(), scratch)?;
         let Ok(inside) = self.with_files(job, info.files, own.files) else {
@@ -119,5 +127,14 @@ impl<T: Tree> LevelReader<'_, T> {
             entries: listing.into_entries(),
             texts,
         })
+    }
+
+    /// Lists and enters the directory of a job: what stops it is its first fault. The scratch paths are then those of the directory.
+    pub fn enter(&self, job: &Job, scratch: &mut Scratch) -> Result<Entered, OpenFault>
+        ensures at { IfOk result (λ e. scratch.new.path.directory ≡ e.job.path) }
+        ensures enters { EntersLevel (T.lists self.now.tree.now) (T.gives self.now.tree.now) job.now self.now.kept.texts result }
+    {
+        let listing = self.tree.list(self.alloc, job.path());
+        self.enter_listed(job, listing, scratch)
     }
 }

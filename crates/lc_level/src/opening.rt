@@ -1,6 +1,7 @@
 //! Opening a directory: which of its entries take part, and which its rule files leave in.
 ghost use Rattle.std.specs.Prelude.{◌≡◌, IfOk};
 ghost use Rattle.lc_level.specs.Opens.{OpensLevel};
+ghost use Rattle.lc_tree.specs.Trees.{Lists};
 
 use crate::cause::Cause;
 use crate::counted::FileFault;
@@ -11,7 +12,8 @@ use crate::level_reader::LevelReader;
 use crate::open_fault::OpenFault;
 use crate::reason::LeftOut;
 use crate::scratch::Scratch;
-use lc_tree::Tree;
+use lc_tree::{IdleThreads, Listing, ReadFault, Tree, list_in_parts};
+use std::thread::Threads;
 
 /// A directory whose entries are known, before its files are counted.
 #[derive(Drop)]
@@ -31,14 +33,20 @@ pub struct Opened {
 }
 
 impl<T: Tree> LevelReader<'_, T> {
-    /// Opens the directory of a job: what stops it is its first fault, or an entry that is too deep for a walk. The scratch
-    /// paths are then those of the directory.
-    pub fn open(&self, job: &Job, scratch: &mut Scratch) -> Result<Opened, OpenFault>
+    /// Opens the directory of a job, which was listed so: what stops it is its first fault, or an entry that is too deep for a walk. The
+    /// scratch paths are then those of the directory.
+    fn open_listed(
+        &self,
+        job: &Job,
+        listing: Result<Listing, ReadFault>,
+        scratch: &mut Scratch,
+    ) -> Result<Opened, OpenFault>
+        requires { Lists (T.lists self.now.tree.now job.now.path) listing }
         ensures at { IfOk result (λ o. scratch.new.path.directory ≡ o.job.path) }
         ensures opens { OpensLevel (T.lists self.now.tree.now) (T.gives self.now.tree.now) self.now.kept.left_out
             self.now.selection job.now result }
     {
-        let Entered { job, entries, .. } = self.enter(job, scratch)?;
+        let Entered { job, entries, .. } = self.enter_listed(job, listing, scratch)?;
         let Ok(wanted) = self.selection.wanted_in(self.alloc, job.path()) else {
             return Err(OpenFault::Broken(Cause::Memory));
         };
@@ -60,5 +68,32 @@ impl<T: Tree> LevelReader<'_, T> {
             }),
             Err(cause) => Err(OpenFault::Broken(cause)),
         }
+    }
+
+    /// Opens the directory of a job: what stops it is its first fault, or an entry that is too deep for a walk. The scratch
+    /// paths are then those of the directory.
+    pub fn open(&self, job: &Job, scratch: &mut Scratch) -> Result<Opened, OpenFault>
+        ensures at { IfOk result (λ o. scratch.new.path.directory ≡ o.job.path) }
+        ensures opens { OpensLevel (T.lists self.now.tree.now) (T.gives self.now.tree.now) self.now.kept.left_out
+            self.now.selection job.now result }
+    {
+        let listing = self.tree.list(self.alloc, job.path());
+        self.open_listed(job, listing, scratch)
+    }
+
+    /// Opens the directory of a job, as `open` does. If it is large, idle threads help to look at its entries.
+    pub fn open_in_parts<R: Threads + Sync>(
+        &self,
+        rt: &R,
+        idle: &IdleThreads,
+        job: &Job,
+        scratch: &mut Scratch,
+    ) -> Result<Opened, OpenFault>
+        ensures at { IfOk result (λ o. scratch.new.path.directory ≡ o.job.path) }
+        ensures opens { OpensLevel (T.lists self.now.tree.now) (T.gives self.now.tree.now) self.now.kept.left_out
+            self.now.selection job.now result }
+    {
+        let listing = list_in_parts(rt, self.alloc, self.tree, job.path(), idle);
+        self.open_listed(job, listing, scratch)
     }
 }

@@ -1,7 +1,7 @@
 use Rattle.std.proofs.Common.{rules, arith, subst, sym}
 use Rattle.lc_level.proofs.OpenLevels.{part_by, absent_by, are_listed, few, take_refused, opened}
 use Rattle.lc_tree.specs.Listing.{IsListing}
-use Rattle.lc_level.proofs.level_reader.LevelReader.open.Goals as goal
+use Rattle.lc_level.proofs.level_reader.LevelReader.open_listed.Goals as goal
 
 pub absent-requires : goal.absent-requires
 absent-requires g c =

@@ -11,7 +11,7 @@ use Rattle.lc_level.specs.declared.open_fault.OpenFault.{OpenFault}
 use Rattle.lc_level.specs.declared.fault_site.FaultSite.TheVariants.{Directory}
 use Rattle.lc_level.proofs.EnterLevels.{list_refused, info_refused, own_refused, has_read, entered}
 use Rattle.lc_level.proofs.PassedOn.{passed_on}
-use Rattle.lc_level.proofs.level_reader.LevelReader.enter.Goals as goal
+use Rattle.lc_level.proofs.level_reader.LevelReader.enter_listed.Goals as goal
 
 -- the same of a directory's path and its entries
 git_of : (lists : List ℕ → Listings) (gives : List ℕ → Contents) (texts : Bool) (p q : List ℕ) (es fs : List EntryModel)
