@@ -20,9 +20,10 @@ use crate::tally::Tally;
 use crate::worker::idle::Idle;
 use lc_board::{Claim, Shared};
 use lc_level::{Job, Scratch};
-use lc_tree::Tree;
+use lc_tree::{IdleThreads, Tree};
 use std::alloc::Global;
 use std::sync::{Wait, WaitMethods};
+use std::thread::Threads;
 
 /// How a worker has come to its end.
 #[derive(Clone, Copy, Debug, Drop, PartialEq, Eq)]
@@ -46,7 +47,8 @@ pub struct Worked<P> {
 ///
 /// ```
 /// let options = PreparedOptions::new(alloc, &options)?;
-/// let worker = Worker { rt, alloc, board: &board, tree: &tree, options: &options };
+/// let idle = IdleThreads::new();
+/// let worker = Worker { rt, alloc, board: &board, tree: &tree, options: &options, idle: &idle };
 /// let Worked { pass, end, tally } = worker.run(pass);
 /// ```
 #[derive(Drop)]
@@ -56,9 +58,11 @@ pub struct Worker<'w, 'o, B, T, W> {
     pub board: &'w B,
     pub tree: &'w T,
     pub options: &'w PreparedOptions<'o>,
+    /// The idle workers, which help one that has a large directory.
+    pub idle: &'w IdleThreads,
 }
 
-impl<B: Shared<Job, Row>, T: Tree, W: Wait> Worker<'_, '_, B, T, W> {
+impl<B: Shared<Job, Row>, T: Tree, W: Threads + Wait + Sync> Worker<'_, '_, B, T, W> {
     /// Claims directories and serves each, until there are no more.
     pub fn run(&self, pass: B::Pass) -> Worked<B::Pass>
         requires { IsPassOf B.owns B.Pass.view self.now.board.now IsFree pass }
@@ -70,7 +74,7 @@ impl<B: Shared<Job, Row>, T: Tree, W: Wait> Worker<'_, '_, B, T, W> {
         let mut pass = pass;
         let mut scratch = Scratch::new(self.alloc).ok();
         let mut tally = Some(Tally::new(self.alloc));
-        let mut idle = Idle::new();
+        let mut idle = Idle::new(self.idle);
         for _ in self.rt.forever() {
             let end = match self.board.claim(self.rt, &mut pass) {
                 Claim::Got(_, job) => {
@@ -85,6 +89,7 @@ impl<B: Shared<Job, Row>, T: Tree, W: Wait> Worker<'_, '_, B, T, W> {
                 Claim::Over => End::Over,
                 Claim::Memory => End::Memory,
             };
+            idle.end();
             return Worked { pass, end, tally };
         }
         unreachable!()

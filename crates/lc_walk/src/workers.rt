@@ -14,7 +14,7 @@ use crate::tally::{MAX_FILES, Tally};
 use crate::worker::{End, Worked, Worker};
 use lc_board::Shared;
 use lc_level::Job;
-use lc_tree::Tree;
+use lc_tree::{IdleThreads, Tree};
 use std::alloc::{AllocError, Global};
 use std::sync::Wait;
 use std::thread;
@@ -41,6 +41,7 @@ pub(crate) fn run_all<B: Shared<Job, Row>, T: Tree, R: Threads + Wait + Sync>(
     ensures each { IfOk result (λ v. HaveRunOn B.owns B.Pass.view board.now (asked_by options.now)
         (MayAnswer (T.lists tree.now) (T.gives tree.now)) passes.items v.items) }
 {
+    let idle = IdleThreads::new();
     let run = |pass: B::Pass| -> Worked<B::Pass>
         requires { IsPassOf B.owns B.Pass.view board.now IsFree pass }
         ensures { HasRunOn B.owns B.Pass.view board.entry.now (asked_by options.entry.now)
@@ -52,6 +53,7 @@ pub(crate) fn run_all<B: Shared<Job, Row>, T: Tree, R: Threads + Wait + Sync>(
             board,
             tree,
             options,
+            idle: &idle,
         };
         worker.run(pass)
     };

@@ -10,8 +10,9 @@ use lc_board::{PostFault, Shared};
 use lc_level::{ChildDirectory, Job};
 use lc_tree::Tree;
 use std::sync::Wait;
+use std::thread::Threads;
 
-impl<B: Shared<Job, Row>, T: Tree, W: Wait> Worker<'_, '_, B, T, W> {
+impl<B: Shared<Job, Row>, T: Tree, W: Threads + Wait + Sync> Worker<'_, '_, B, T, W> {
     /// Posts one child directory, and notes its number.
     fn post_child(
         &self,

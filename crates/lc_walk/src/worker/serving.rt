@@ -19,8 +19,9 @@ use lc_level::{Counted, CountedFiles, Job, Kept, LevelReader, OpenFault, Opened,
 use lc_tree::Tree;
 use std::alloc::AllocError;
 use std::sync::Wait;
+use std::thread::Threads;
 
-impl<'w, B: Shared<Job, Row>, T: Tree, W: Wait> Worker<'w, '_, B, T, W> {
+impl<'w, B: Shared<Job, Row>, T: Tree, W: Threads + Wait + Sync> Worker<'w, '_, B, T, W> {
     /// What reads its tree.
     fn levels(&self) -> LevelReader<'w, T>
         ensures tree { result.tree.now ≡ self.now.tree.now }
@@ -90,7 +91,10 @@ impl<'w, B: Shared<Job, Row>, T: Tree, W: Wait> Worker<'w, '_, B, T, W> {
             Ok(children) => children,
             Err(cause) => return self.give_up(pass, job, cause),
         };
-        let Ok(found) = self.levels().count(&inside, files, absent, scratch) else {
+        let Ok(found) = self
+            .levels()
+            .count_in_parts(self.rt, self.idle, &inside, files, absent, scratch)
+        else {
             return self.give_up(pass, job, GivenUp::Memory);
         };
         let Ok(()) = add_files(tally, &found.files) else {
