@@ -131,7 +131,8 @@ impl<'w, B: Shared<Job, Row>, T: Tree, W: Threads + Wait + Sync> Worker<'w, '_, 
         ensures serves { Serves (asked_by self.now.options.now) (MayAnswer (T.lists self.now.tree.now) (T.gives self.now.tree.now))
             (B.Pass.view pass.old) (B.Pass.view pass.new) tally.old tally.new result }
     {
-        match self.levels().open(&job, scratch) {
+        let levels = self.levels();
+        match levels.open_in_parts(self.rt, self.idle, &job, scratch) {
             Ok(opened) => {
                 let job = ServedJob::of(job);
                 self.serve_opened(pass, job, opened, scratch, tally)
