@@ -4,6 +4,7 @@ mod around_slash;
 mod deep;
 mod entering;
 mod faults;
+mod in_parts;
 mod left_out;
 mod levels;
 mod narrowed;

@@ -1,0 +1,98 @@
+//! A directory with many files, which idle threads help to count.
+
+use crate::level::work::{AS_IT_IS, NOTHING, selection_of};
+use lc_level::{CountedFiles, FaultWord, FileFault, Job, LevelReader, Opened, Scratch};
+use lc_tree::{IdleThreads, MemTree, Node};
+use std::alloc::{AllocError, Global};
+use std::process::Abort;
+use std::test::Fail;
+use std::thread::Threads;
+
+const FILES: u32 = 2000;
+
+/// So many files of their names' bytes. Every seventh fails in place of its end.
+fn flat(alloc: Global) -> Result<Node, AllocError> {
+    let mut entries = Vec::new(alloc);
+    for number in 0..FILES {
+        let name = format!(in alloc; "{}", 10_000 + number)?.into_bytes();
+        let bytes = name.to_vec(alloc)?;
+        let node = if number % 7 == 3 {
+            Node::Failing(bytes)
+        } else {
+            Node::File(bytes)
+        };
+        entries.push((name, node))?;
+    }
+    Ok(Node::Dir(entries))
+}
+
+fn is_same(found: &CountedFiles, wanted: &CountedFiles) -> bool {
+    let files = found.files.iter().zip(&wanted.files).all(|(file, other)| {
+        file.name == other.name && file.text == other.text && file.count == other.count
+    });
+    let faults = found.faults.iter().zip(&wanted.faults).all(|(fault, other)| {
+        fault.name == other.name && fault.word == other.word
+    });
+    files
+        && faults
+        && found.files.len() == wanted.files.len()
+        && found.faults.len() == wanted.faults.len()
+}
+
+/// The files of the directory, and an absent path, counted with the help of these threads or by `count`.
+fn count_flat<R: Threads + Sync>(
+    rt: &R,
+    alloc: Global,
+    node: &Node,
+    idle: Option<&IdleThreads>,
+) -> Result<CountedFiles, AllocError> {
+    let tree = MemTree::new(node);
+    let levels = LevelReader::new(alloc, &tree, selection_of(&AS_IT_IS), NOTHING);
+    let mut scratch = Scratch::new(alloc)?;
+    let Ok(opened) = levels.open(&Job::top(alloc, None)?, &mut scratch) else {
+        return Err(AllocError);
+    };
+    let Opened {
+        job,
+        files,
+        mut absent,
+        ..
+    } = opened;
+    absent.push(FileFault {
+        name: b"absent".to_vec(alloc)?,
+        word: FaultWord::Absent,
+    })?;
+    match idle {
+        Some(idle) => levels.count_in_parts(rt, idle, &job, files, absent, &mut scratch),
+        None => levels.count(&job, files, absent, &mut scratch),
+    }
+}
+
+/// With so many idle threads the files are what they are without, and the threads are free again, also where memory is refused.
+fn check<R: Threads + Sync + Abort>(
+    rt: &R,
+    alloc: Global,
+    node: &Node,
+    wanted: &CountedFiles,
+    threads: u32,
+) -> Result<(), AllocError> {
+    let idle = IdleThreads::new();
+    for _ in 0..threads {
+        idle.begin();
+    }
+    let counted = count_flat(rt, alloc, node, Some(&idle));
+    assert!(rt; idle.take(FILES) == threads, "{threads}");
+    assert!(rt; is_same(&counted?, wanted), "{threads}");
+    Ok(())
+}
+
+#[test]
+fn many_files_are_counted_in_parts(rt: HostRuntime) -> Result<(), Fail> {
+    let node = flat(rt.alloc())?;
+    let wanted = count_flat(&rt, rt.alloc(), &node, None)?;
+    assert!(rt; wanted.files.len() == 1714 && wanted.faults.len() == 287);
+    for threads in [0, 1, 2, 15, 40] {
+        check(&rt, rt.alloc(), &node, &wanted, threads)?;
+    }
+    Ok(())
+}
