@@ -4,7 +4,8 @@
 //! - `count`, `check`, `explain`: the words of each command; `shape`: what a count's words say of its table, `paths`: which paths they
 //!   ask for
 //! - `exclusions`: what leaves entries out, for counts and explanations; `arguments`: what several commands have
-//! - `refusals`: what is written of arguments that are refused; `suggestions`: what they may have meant; `help`: the texts of help and of the version
+//! - `refusals`: what is written of arguments that are refused; `suggestions`: what they may have meant
+//! - `help`: the texts of help and of the version
 #![tactic(auto)]
 
 mod arguments;
