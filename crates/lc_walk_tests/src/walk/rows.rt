@@ -6,7 +6,7 @@ use crate::walk::walked::{Board, walk_options};
 use crate::walk::walks::LINE;
 use lc_board::{Claim, CloseFault, Closed, Ended, Locked, Shared, Words};
 use lc_level::{FaultSite, FaultWord, Job, Kept, LevelReader, Scratch, Selection};
-use lc_tree::{MemTree, Sketch};
+use lc_tree::{IdleThreads, MemTree, Sketch};
 use lc_walk::{
     BrokenRow, End, GivenUp, Lists, Options, PreparedOptions, Row, ServedJob, Tally, WalkFault,
     Worked, Worker, assemble,
@@ -15,6 +15,7 @@ use std::alloc::{AllocError, Global};
 use std::process::Abort;
 use std::sync::Wait;
 use std::test::Fail;
+use std::thread::Threads;
 
 /// What a row says, but for names.
 #[derive(Clone, Copy, Debug, Drop, PartialEq, Eq)]
@@ -134,7 +135,7 @@ fn begin<B: Shared<Job, Row>, W: Wait>(
 type Left = (Closed<Row>, Option<Tally>);
 
 /// What one worker leaves of a tree on a board of this type.
-fn work<B: Shared<Job, Row>, R: Wait + Abort>(
+fn work<B: Shared<Job, Row>, R: Threads + Wait + Sync + Abort>(
     rt: &R,
     alloc: Global,
     case: &Case,
@@ -145,12 +146,14 @@ fn work<B: Shared<Job, Row>, R: Wait + Abort>(
     let (board, mut pass) = start_one::<B>(alloc)?;
     begin(rt, alloc, &board, &mut pass, &tree, case.is_broken)?;
     let options = PreparedOptions::new(alloc, options)?;
+    let idle = IdleThreads::new();
     let worker = Worker {
         rt,
         alloc,
         board: &board,
         tree: &tree,
         options: &options,
+        idle: &idle,
     };
     let Worked { pass, end, tally } = worker.run(pass);
     if end == End::Memory {
@@ -159,7 +162,7 @@ fn work<B: Shared<Job, Row>, R: Wait + Abort>(
     Ok((close_one(rt, alloc, board, pass)?, tally))
 }
 
-fn work_over<R: Wait + Abort>(
+fn work_over<R: Threads + Wait + Sync + Abort>(
     rt: &R,
     alloc: Global,
     board: Board,
@@ -283,7 +286,7 @@ fn check_report(
 }
 
 /// Wherever memory is refused to a worker, each number that it posted has ended, so that the board closes; then there is no report.
-fn check<R: Wait + Abort>(
+fn check<R: Threads + Wait + Sync + Abort>(
     rt: &R,
     alloc: Global,
     board: Board,

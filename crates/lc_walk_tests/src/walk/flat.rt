@@ -1,0 +1,83 @@
+//! A directory with many files, which the other workers help to count.
+
+use crate::walk::same::is_same;
+use crate::walk::walked::{BOARDS, Board, NO_LISTS, report_of, walk_options};
+use lc_tree::{MemTree, Node};
+use lc_walk::{Lists, Options, Report, Sums};
+use std::alloc::{AllocError, Global};
+use std::process::Abort;
+use std::sync::Wait;
+use std::test::Fail;
+use std::thread::Threads;
+
+const FILES: u32 = 3000;
+
+/// What its files that don't fail add up to.
+const SUMS: Sums = Sums {
+    files: 2970,
+    bytes: 14_850,
+    lines: 2970,
+    blank: 0,
+};
+
+/// So many files of one line, their names' five bytes. Every hundredth fails in place of its end.
+fn flat(alloc: Global) -> Result<Node, AllocError> {
+    let mut entries = Vec::new(alloc);
+    for number in 0..FILES {
+        let name = format!(in alloc; "{}", 10_000 + number)?.into_bytes();
+        let bytes = name.to_vec(alloc)?;
+        let node = if number % 100 == 99 {
+            Node::Failing(bytes)
+        } else {
+            Node::File(bytes)
+        };
+        entries.push((name, node))?;
+    }
+    Ok(Node::Dir(entries))
+}
+
+/// What so many workers find, with a line for each file.
+fn walk_flat<R: Threads + Wait + Sync + Abort>(
+    rt: &R,
+    alloc: Global,
+    tree: &Node,
+    board: Board,
+    workers: u32,
+) -> Result<Report, AllocError> {
+    let options = Options {
+        lists: Lists {
+            files: true,
+            ..NO_LISTS
+        },
+        ..walk_options(rt, workers, 1)
+    };
+    report_of(rt, board.walk(rt, alloc, &MemTree::new(tree), &options))
+}
+
+/// Each number of workers finds what one does.
+fn check<R: Threads + Wait + Sync + Abort>(
+    rt: &R,
+    alloc: Global,
+    tree: &Node,
+    board: Board,
+) -> Result<(), AllocError> {
+    let wanted = walk_flat(rt, alloc, tree, board, 1)?;
+    assert!(rt;
+        wanted.totals == SUMS && wanted.faults.len() == 30,
+        "{wanted:?}"
+    );
+    for workers in [2, 16] {
+        let report = walk_flat(rt, alloc, tree, board, workers)?;
+        assert!(rt; is_same(&report, &wanted), "{board:?}, {workers}");
+    }
+    Ok(())
+}
+
+#[test]
+fn workers_count_a_large_directory_together(rt: HostRuntime) -> Result<(), Fail> {
+    let tree = flat(rt.alloc())?;
+    for board in BOARDS {
+        check(&rt, rt.alloc(), &tree, *board)?;
+    }
+    Ok(())
+}
