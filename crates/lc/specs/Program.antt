@@ -47,15 +47,15 @@ module _ {E : Type 0} (may_take : E → List ℕ → Result ℕ Failed → E →
   abbrev pub Introduces : {W : Type 0} → List W → Bool → E → E → Type 0
   Introduces [] true err told = Tells err introduction told
   Introduces [] false err told = told ≡ err
-  Introduces (_ ∷ _) is_typed err told = told ≡ err
+  Introduces (_ ∷ _) stdin_is_terminal err told = told ≡ err
 
   -- after a count it may be told, where this is seen, that rules above its directory were not read; else nothing is
   abbrev pub Hints : Bool → Request → E → E → Type 0
   Hints true (Count c) err told = (told ≡ err) ⊎ Tells err hint told
   Hints false (Count c) err told = told ≡ err
-  Hints is_seen CheckJoined err told = told ≡ err
-  Hints is_seen (Check c) err told = told ≡ err
-  Hints is_seen (Explain c) err told = told ≡ err
+  Hints stderr_is_terminal CheckJoined err told = told ≡ err
+  Hints stderr_is_terminal (Check c) err told = told ≡ err
+  Hints stderr_is_terminal (Explain c) err told = told ≡ err
 
   -- the line of the cause; in place of one with a number perhaps that of want of memory
   abbrev pub TellsCause : E → Cause → E → Type 0

@@ -11,7 +11,7 @@ use Rattle.lc_walk.specs.declared.options.Options.{Options}
 use Rattle.lc.specs.Causes.{check_cause, explain_cause, print_cause, rules_cause, run_cause}
 use Rattle.lc_explain.specs.Explain.{AnswersExplain, AnswersLines, MaySay}
 use Rattle.lc_explain.specs.declared.explaining.ExplainFault.{ExplainFault}
-use Rattle.lc_explain.specs.declared.question.Question.{Question}
+use Rattle.lc_explain.specs.declared.explain_options.ExplainOptions.{ExplainOptions}
 use Rattle.lc_text.specs.Check.{AnswersCheck, AnswersExplainedCheck, no_rules}
 use Rattle.lc_text.specs.CheckText.{text_by}
 use Rattle.lc_text.specs.Joined.{rules_part, joined_text}
@@ -104,14 +104,14 @@ AnswersCount loads may_take c out reply wrote =
     ⊎ ((IsWithoutRules loads reply ⊎ (reply ≡ Err Memory)) × (wrote ≡ out))
 
 -- a question that asks what the words of an explanation ask, with paths in this style
-pub record IsQuestionOf (loads : Loaded) (style : PathStyle) (c : ExplainRequest) (q : Question) : Type 0 where
+pub record IsOptionsOf (loads : Loaded) (style : PathStyle) (c : ExplainRequest) (q : ExplainOptions) : Type 0 where
   pub selection : q.selection ≡ selection_of c.exclusions.archive (map (λ name. name.now) c.exclusions.without.items)
   pub exclude : Excludes loads c.exclusions.from q.exclude
   pub printed : q.style ≡ style
 
 -- what may be said of paths in a tree of the system
 abbrev pub AnswersPaths : {I O : Type 0} → (I → ℕ → Answer → I → Type 0) → (O → List ℕ → Result ℕ Failed → O → Type 0)
-    → Question → List (Bor (List ℕ)) → I → O → Reply → I → O → Type 0
+    → ExplainOptions → List (Bor (List ℕ)) → I → O → Reply → I → O → Type 0
 -- those of the input
 AnswersPaths may_give may_take q [] input out reply read wrote =
     (answer : Result Outcome ExplainFault) × (reply ≡ explained answer)
@@ -147,7 +147,7 @@ module _ {I O : Type 0} (may_give : I → ℕ → Answer → I → Type 0) (load
   -- what may be said of the paths by what the words ask, or there were no rules or no memory and nothing was read or written
   abbrev pub AnswersExplanation : PathStyle → ExplainRequest → I → O → Reply → I → O → Type 0
   AnswersExplanation style c input out reply read wrote =
-      ((q : Question) × IsQuestionOf loads style c q × AnswersPaths may_give may_take q c.paths.items input out reply read wrote)
+      ((q : ExplainOptions) × IsOptionsOf loads style c q × AnswersPaths may_give may_take q c.paths.items input out reply read wrote)
       ⊎ ((IsWithoutRules loads reply ⊎ (reply ≡ Err Memory)) × (read ≡ input) × (wrote ≡ out))
 
   -- paths are printed in this style, but in a table; a count leaves the input as it was

@@ -11,13 +11,13 @@ use crate::cause::Cause;
 use crate::rules_file::rule_text_of_file;
 use lc_arguments::{CheckRequest, CountRequest, ExplainRequest, Request};
 use lc_census::{Source, StdSource};
-use lc_explain::{Question, explain, explain_words};
+use lc_explain::{ExplainOptions, explain, explain_words};
 use lc_level::Selection;
 use lc_rules::IgnoreFile;
 use lc_table::run;
 use lc_text::{Outcome, PathStyle, RuleText, Sink, check, check_explained, check_joined};
 use lc_tree::SysTree;
-use lc_walk::{Lists, Options};
+use lc_walk::{Options, ReportLists};
 use std::alloc::{AllocError, Global};
 use std::rt::Files;
 use std::sync::{Arc, Wait};
@@ -126,7 +126,7 @@ where
     let options = Options {
         threads: asked.threads,
         max_dirs: asked.max_dirs,
-        lists: Lists {
+        lists: ReportLists {
             files: asked.files,
             left_out: asked.left_out,
         },
@@ -143,7 +143,7 @@ where
 fn explain_paths<R: Files + Sync + AllocGlobal, S: Source, O: Sink>(
     rt: &R,
     tree: &SysTree<'_, R>,
-    question: &Question<'_>,
+    options: &ExplainOptions<'_>,
     paths: &[&str],
     input: &mut S,
     out: &mut O,
@@ -151,13 +151,13 @@ fn explain_paths<R: Files + Sync + AllocGlobal, S: Source, O: Sink>(
 where
     R::File: Send,
     R::Dir: Send,
-    ensures { AnswersPaths S.may_give O.may_take question.now paths.now input.old out.old result input.new out.new }
+    ensures { AnswersPaths S.may_give O.may_take options.now paths.now input.old out.old result input.new out.new }
 {
     if paths.is_empty() {
-        let outcome = explain(rt.alloc(), tree, question, input, out)?;
+        let outcome = explain(rt.alloc(), tree, options, input, out)?;
         return Ok(outcome);
     }
-    let outcome = explain_words(rt.alloc(), tree, question, paths, out)?;
+    let outcome = explain_words(rt.alloc(), tree, options, paths, out)?;
     Ok(outcome)
 }
 
@@ -177,12 +177,12 @@ where
 {
     let text = excluded(rt, asked.exclusions.from)?;
     let tree = SysTree::new(rt, rt.alloc(), asked.directory)?;
-    let question = Question {
+    let options = ExplainOptions {
         exclude: text,
         selection: Selection::new(asked.exclusions.archive, &asked.exclusions.without),
         style,
     };
-    explain_paths(rt, &tree, &question, &asked.paths, input, out)
+    explain_paths(rt, &tree, &options, &asked.paths, input, out)
 }
 
 /// Answers a request. Paths are printed in a style, but in a table.

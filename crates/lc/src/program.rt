@@ -9,7 +9,7 @@ ghost use Rattle.lc.specs.declared.program.Ending.TheVariants as ending;
 use crate::answering::answer;
 use crate::cause::Cause;
 use crate::repository::lies_in_repository;
-use lc_arguments::{NoRequest, Request};
+use lc_arguments::{ParseExit, Request};
 use lc_census::{Source, StdSource};
 use lc_text::{Outcome, PathStyle, Sink, print};
 use std::alloc::{AllocError, Global};
@@ -68,10 +68,10 @@ impl Ending {
 }
 
 /// Says what is read, where no words are given and the input is typed: else the program would seem to hang.
-pub(crate) fn introduce<W, E: Sink>(words: &[W], is_typed: bool, err: &mut E)
-    ensures { Introduces E.may_take words.now is_typed err.old err.new }
+pub(crate) fn introduce<W, E: Sink>(words: &[W], stdin_is_terminal: bool, err: &mut E)
+    ensures { Introduces E.may_take words.now stdin_is_terminal err.old err.new }
 {
-    if words.is_empty() && is_typed {
+    if words.is_empty() && stdin_is_terminal {
         // Help says it too.
         let _ = print(
             err,
@@ -104,13 +104,18 @@ pub(crate) fn give_up<E: Sink>(alloc: Global, cause: Cause, err: &mut E) -> Endi
 
 /// Says of a count whose answer was written that rules above its directory were not read, where that lies in a repository and
 /// standard error is a terminal.
-fn hint<R: Files + AllocGlobal, E: Sink>(rt: &R, request: &Request<'_>, is_seen: bool, err: &mut E)
-    ensures { Hints E.may_take is_seen request.now err.old err.new }
+fn hint<R: Files + AllocGlobal, E: Sink>(
+    rt: &R,
+    request: &Request<'_>,
+    stderr_is_terminal: bool,
+    err: &mut E,
+)
+    ensures { Hints E.may_take stderr_is_terminal request.now err.old err.new }
 {
     let Request::Count(asked) = request else {
         return;
     };
-    if is_seen && lies_in_repository(rt, asked.directory) {
+    if stderr_is_terminal && lies_in_repository(rt, asked.directory) {
         let _ = print(
             err,
             b"lc: rules above this directory were not read; lc count --only PATH TOP counts PATH of the repository TOP by all of them\n",
@@ -145,9 +150,9 @@ where
 {
     let request = match Request::read(rt.alloc(), words) {
         Ok(request) => request,
-        Err(NoRequest::Shown(text)) => return show(rt.alloc(), &text, out, err),
-        Err(NoRequest::Refused(why)) => return misuse(&why, err),
-        Err(NoRequest::Memory) => return give_up(rt.alloc(), Cause::Memory, err),
+        Err(ParseExit::Shown(text)) => return show(rt.alloc(), &text, out, err),
+        Err(ParseExit::Refused(why)) => return misuse(&why, err),
+        Err(ParseExit::Memory) => return give_up(rt.alloc(), Cause::Memory, err),
     };
     let outcome = match answer(rt, &request, terminals.style(), input, out) {
         Ok(outcome) => outcome,

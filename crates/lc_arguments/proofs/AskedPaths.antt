@@ -7,8 +7,8 @@ use Rattle.std.proofs.lemmas.Simd.{map-map}
 use Rattle.clap.proofs.WalkLemmas.{list_any-map}
 use Rattle.lc_text.specs.PathLines.{is_bad_path, path_of}
 use Rattle.lc_arguments.specs.Explained.{AnswersPaths, IsRefusal}
-use Rattle.lc_arguments.specs.declared.request.NoRequest.{NoRequest}
-use Rattle.lc_arguments.specs.declared.request.NoRequest.TheVariants.{Shown, Refused, Memory}
+use Rattle.lc_arguments.specs.declared.request.ParseExit.{ParseExit}
+use Rattle.lc_arguments.specs.declared.request.ParseExit.TheVariants.{Shown, Refused, Memory}
 
 -- the paths of lent words are those of the words
 pub paths_lent : (words : List (Bor (List ℕ)))
@@ -30,7 +30,7 @@ one_misplaced words k d low bad = sym (some_bad words)
     ∙ list_any_at (λ (word : Bor (List ℕ)). is_bad_path (path_of word.now)) words k d low bad
 
 -- they are refused for that
-pub misplaced_for : (words : List (List ℕ)) (why : NoRequest) → IsRefusal why → list_any is_bad_path (map path_of words) ≡ true
+pub misplaced_for : (words : List (List ℕ)) (why : ParseExit) → IsRefusal why → list_any is_bad_path (map path_of words) ≡ true
     → AnswersPaths words (Err why)
 misplaced_for words (Shown text) refusal bad = refusal
 misplaced_for words (Refused text) refusal bad = bad

@@ -8,14 +8,14 @@ use Rattle.clap.specs.Simple.{matches_of}
 use Rattle.std.specs.Prelude.{codes}
 use Rattle.clap.specs.Walk.{Row}
 use Rattle.lc_rules.specs.AttrWords.{is_name}
-use Rattle.lc_text.specs.declared.shape.Shape.{Shape}
+use Rattle.lc_text.specs.declared.table_options.TableOptions.{TableOptions}
 use Rattle.lc_arguments.specs.CommandLine.{count_app, explain_app}
 use Rattle.lc_arguments.specs.Explained.{AnswersCountWords, AnswersExclusions, AnswersExplainWords}
 use Rattle.lc_arguments.specs.Explained.{AnswersNames, AnswersShape, AnswersShapeIn}
 use Rattle.lc_arguments.specs.Explained.{AnswersPathsIn, IsRefusal}
 use Rattle.lc_arguments.specs.Words.{AskNothing, texts_read}
-use Rattle.lc_arguments.specs.declared.request.NoRequest.{NoRequest}
-use Rattle.lc_arguments.specs.declared.request.NoRequest.TheVariants.{Shown, Refused, Memory}
+use Rattle.lc_arguments.specs.declared.request.ParseExit.{ParseExit}
+use Rattle.lc_arguments.specs.declared.request.ParseExit.TheVariants.{Shown, Refused, Memory}
 
 and_false : (a : Bool) → (a && false) ≡ false
 and_false true = refl
@@ -30,7 +30,7 @@ one_misnamed (name ∷ names) (suc k) d low bad =
     ap (λ b. is_name name.now && b) (one_misnamed names k d (omega arith) bad) ∙ and_false (is_name name.now)
 
 -- what is answered to the same texts of a shape
-pub answers_shape_as : (format by sort format' by' sort' : Option (List ℕ)) (answer : Result Shape NoRequest) → format' ≡ format
+pub answers_shape_as : (format by sort format' by' sort' : Option (List ℕ)) (answer : Result TableOptions ParseExit) → format' ≡ format
     → by' ≡ by → sort' ≡ sort → AnswersShape format' by' sort' answer → AnswersShape format by sort answer
 answers_shape_as format by sort format' by' sort' answer f b o is =
     subst (λ (t : Option (List ℕ)). AnswersShape t by sort answer) f
@@ -38,48 +38,48 @@ answers_shape_as format by sort format' by' sort' answer f b o is =
     (subst (λ (t : Option (List ℕ)). AnswersShape format' by' t answer) o is))
 
 -- they are refused for that
-pub refused_for : (names : List (List ℕ)) (why : NoRequest) → IsRefusal why → list_all is_name names ≡ false → AnswersNames names (Err why)
+pub refused_for : (names : List (List ℕ)) (why : ParseExit) → IsRefusal why → list_all is_name names ≡ false → AnswersNames names (Err why)
 refused_for names (Shown text) refusal bad = refusal
 refused_for names (Refused text) refusal bad = bad
 refused_for names Memory refusal bad = tt
 
 -- and so are those by which entries would be left out
-pub misnamed_by : (rows : List Row) (why : NoRequest) → AnswersNames (texts_read (codes "without") rows) (Err why)
+pub misnamed_by : (rows : List Row) (why : ParseExit) → AnswersNames (texts_read (codes "without") rows) (Err why)
     → AnswersExclusions rows (Err why)
 misnamed_by rows (Shown text) bad = absurd bad
 misnamed_by rows (Refused text) bad = bad
 misnamed_by rows Memory bad = tt
 
 -- the words after `count` that name them
-pub count_refused_for : (words : List (List ℕ)) (why : NoRequest) → fault_of count_app words ≡ []
+pub count_refused_for : (words : List (List ℕ)) (why : ParseExit) → fault_of count_app words ≡ []
     → AnswersExclusions (matches_of count_app words) (Err why) → AnswersCountWords words (Err why)
 count_refused_for words (Shown text) fine bad = absurd bad
 count_refused_for words (Refused text) fine bad = inr (fine, inl bad)
 count_refused_for words Memory fine bad = tt
 
 -- and those after `explain`
-pub explain_refused_for : (words : List (List ℕ)) (why : NoRequest) → fault_of explain_app words ≡ []
+pub explain_refused_for : (words : List (List ℕ)) (why : ParseExit) → fault_of explain_app words ≡ []
     → AnswersExclusions (matches_of explain_app words) (Err why) → AnswersExplainWords words (Err why)
 explain_refused_for words (Shown text) fine bad = absurd bad
 explain_refused_for words (Refused text) fine bad = inr (fine, bad)
 explain_refused_for words Memory fine bad = tt
 
 -- so are those that ask for what can be no path
-pub paths_refused_for : (words : List (List ℕ)) (why : NoRequest) → fault_of count_app words ≡ []
+pub paths_refused_for : (words : List (List ℕ)) (why : ParseExit) → fault_of count_app words ≡ []
     → AnswersPathsIn (matches_of count_app words) (Err why) → AnswersCountWords words (Err why)
 paths_refused_for words (Shown text) fine bad = absurd bad
 paths_refused_for words (Refused text) fine bad = inr (fine, inr (inl bad))
 paths_refused_for words Memory fine bad = tt
 
 -- and those that ask for no shape
-pub shape_refused_for : (words : List (List ℕ)) (why : NoRequest) → fault_of count_app words ≡ []
+pub shape_refused_for : (words : List (List ℕ)) (why : ParseExit) → fault_of count_app words ≡ []
     → AnswersShapeIn (matches_of count_app words) (Err why) → AnswersCountWords words (Err why)
 shape_refused_for words (Shown text) fine bad = absurd bad
 shape_refused_for words (Refused text) fine bad = inr (fine, inr (inr bad))
 shape_refused_for words Memory fine bad = tt
 
 -- words that begin with `explain` ask for nothing where those after it do not
-pub no_explanation_of : (words more : List (List ℕ)) (why : NoRequest) → words ≡ codes "explain" ∷ more
+pub no_explanation_of : (words more : List (List ℕ)) (why : ParseExit) → words ≡ codes "explain" ∷ more
     → AnswersExplainWords more (Err why) → AskNothing words why
 no_explanation_of words more (Shown text) is shown = subst (λ (ws : List (List ℕ)). AskNothing ws (Shown text)) (sym is) shown
 no_explanation_of words more (Refused text) is refused =

@@ -20,8 +20,8 @@ use Rattle.clap.proofs.OnLiterals.{clap_on_literals}
 use Rattle.lc_arguments.specs.CommandLine.{count_app, check_app, explain_app, lc_app}
 use Rattle.lc_arguments.specs.Explained.{AnswersCountWords, AnswersExplainWords, Explains}
 use Rattle.lc_arguments.specs.Words.{IsFlag, IsNumber, IsText, IsNoRequestBy, texts_read}
-use Rattle.lc_arguments.specs.declared.request.NoRequest.{NoRequest}
-use Rattle.lc_arguments.specs.declared.request.NoRequest.TheVariants.{Shown, Refused, Memory}
+use Rattle.lc_arguments.specs.declared.request.ParseExit.{ParseExit}
+use Rattle.lc_arguments.specs.declared.request.ParseExit.TheVariants.{Shown, Refused, Memory}
 
 -- the command count is of the simple kind, of which clap says all
 pub count_is_simple : is_simple count_app ≡ true
@@ -66,7 +66,7 @@ memory_is_no_text e is text = elim text [
 ]
 
 -- what an error of these kinds becomes
-pub no_request_by : (kinds : Kinds) (e : Error) (why : NoRequest) → HasKind kinds e → Explains e why → IsNoRequestBy kinds why
+pub no_request_by : (kinds : Kinds) (e : Error) (why : ParseExit) → HasKind kinds e → Explains e why → IsNoRequestBy kinds why
 no_request_by kinds e (Shown text) has is = elim has [
   | inl memory ↦ absurd (memory_is_no_text e memory is)
   | inr among ↦ (kind_of e, among, is)
@@ -91,7 +91,7 @@ matches_as c a words m is simple has =
     (subst (λ (b : App). HasMatchesOf b words m) is has simple).0
 
 -- what an error of such a command becomes
-pub no_request_of : (c : Command) (a : App) (words : List Text) (e : Error) (why : NoRequest) → app_of c ≡ a → is_simple_and_free a ≡ true
+pub no_request_of : (c : Command) (a : App) (words : List Text) (e : Error) (why : ParseExit) → app_of c ≡ a → is_simple_and_free a ≡ true
     → (is_simple_and_free (app_of c) ≡ true → FailsBy {T = ArgMatches} (fault_of (app_of c) words) (Err e)) → Explains e why
     → IsNoRequestBy (fault_of a words) why
 no_request_of c a words e why is free kinds explains =
@@ -130,14 +130,14 @@ number_of rows f id default n are is =
     is ∙ ap (λ (o : Option Text). digits_value 10 (without_leading_plus (unwrap_or o default))) same
 
 -- words that fail as those of a count
-pub no_count_by : (words : List Text) (why : NoRequest) → IsNoRequestBy (fault_of count_app words) why
+pub no_count_by : (words : List Text) (why : ParseExit) → IsNoRequestBy (fault_of count_app words) why
     → AnswersCountWords words (Err why)
 no_count_by words (Shown text) by = by
 no_count_by words (Refused text) by = inl by
 no_count_by words Memory by = tt
 
 -- and as those of an explanation
-pub no_explanation_by : (words : List Text) (why : NoRequest) → IsNoRequestBy (fault_of explain_app words) why
+pub no_explanation_by : (words : List Text) (why : ParseExit) → IsNoRequestBy (fault_of explain_app words) why
     → AnswersExplainWords words (Err why)
 no_explanation_by words (Shown text) by = by
 no_explanation_by words (Refused text) by = inl by

@@ -2,8 +2,8 @@
 use Rattle.std.specs.Prelude.{◌≡◌, ◌||◌, ℕ, nat_eq, cond, List, flat_map, encode_utf8, string_bytes}
 use Rattle.lc_glob.specs.Bytes.{backslash}
 use Rattle.lc_text.specs.Visible.{visible_bytes}
-use Rattle.lc_arguments.specs.declared.request.NoRequest.{NoRequest}
-use Rattle.lc_arguments.specs.declared.request.NoRequest.TheVariants.{Shown, Refused, Memory}
+use Rattle.lc_arguments.specs.declared.request.ParseExit.{ParseExit}
+use Rattle.lc_arguments.specs.declared.request.ParseExit.TheVariants.{Shown, Refused, Memory}
 
 -- a character of a message: line feeds and backslashes as they are, any other as a terminal shows it
 abbrev pub message_char : ℕ → List ℕ
@@ -14,7 +14,7 @@ abbrev pub IsMessage : List ℕ → Type 0
 IsMessage bytes = (text : List ℕ) × (bytes ≡ flat_map message_char text)
 
 -- why arguments are refused is such a message
-abbrev pub IsRefusedVisibly : NoRequest → Type 0
+abbrev pub IsRefusedVisibly : ParseExit → Type 0
 IsRefusedVisibly (Shown _) = Unit {0}
 IsRefusedVisibly (Refused why) = IsMessage (string_bytes why)
 IsRefusedVisibly Memory = Unit {0}

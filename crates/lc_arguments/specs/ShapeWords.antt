@@ -2,12 +2,12 @@
 use Rattle.std.specs.Prelude.{◌≡◌, ℕ, ◌+◌, Bool, true, false, List, length, filter, Option, option_map, unwrap_or, codes}
 use Rattle.std.specs.Str.{bytes_eq}
 use Rattle.lc_glob.specs.Pieces.{pieces_of}
-use Rattle.lc_text.specs.declared.shape.Columns.{Columns}
-use Rattle.lc_text.specs.declared.shape.Format.{Format}
-use Rattle.lc_text.specs.declared.shape.Format.TheVariants.{Tsv, Json, Table}
-use Rattle.lc_text.specs.declared.shape.Shape.{Shape}
-use Rattle.lc_text.specs.declared.shape.SortBy.{SortBy}
-use Rattle.lc_text.specs.declared.shape.SortBy.TheVariants.{Files, Lines, Blank, Bytes}
+use Rattle.lc_text.specs.declared.table_options.Columns.{Columns}
+use Rattle.lc_text.specs.declared.table_options.Format.{Format}
+use Rattle.lc_text.specs.declared.table_options.Format.TheVariants.{Tsv, Json, Table}
+use Rattle.lc_text.specs.declared.table_options.TableOptions.{TableOptions}
+use Rattle.lc_text.specs.declared.table_options.SortBy.{SortBy}
+use Rattle.lc_text.specs.declared.table_options.SortBy.TheVariants.{Files, Lines, Blank, Bytes}
 
 abbrev pub format_word : Format → List ℕ
 format_word Tsv = codes "tsv"
@@ -46,7 +46,7 @@ abbrev pub IsColumnsText : List ℕ → Columns → Type 0
 IsColumnsText text c = AreNamesOf (pieces_of comma text) c
 
 -- the shape that the texts of three options ask for, as far as they are given
-pub record IsShapeBy (format by sort : Option (List ℕ)) (s : Shape) : Type 0 where
+pub record IsShapeBy (format by sort : Option (List ℕ)) (s : TableOptions) : Type 0 where
   pub format_is : format_word s.format ≡ unwrap_or format (codes "tsv")
   pub by_is : IsColumnsText (unwrap_or by (codes "ext,text,eol")) s.by
   pub sort_is : option_map sort_word s.sort ≡ sort

@@ -20,12 +20,12 @@ use Rattle.clap.specs.declared.error.kind.ErrorKind.TheVariants.{DisplayHelp, Di
 use Rattle.clap.specs.declared.parser.matches.ArgMatches.{ArgMatches}
 use Rattle.lc_rules.specs.AttrWords.{is_name}
 use Rattle.lc_arguments.specs.CommandLine.{count_app, check_app, explain_app, lc_app}
-use Rattle.lc_arguments.specs.declared.request.NoRequest.{NoRequest}
-use Rattle.lc_arguments.specs.declared.request.NoRequest.TheVariants.{Shown, Refused, Memory}
+use Rattle.lc_arguments.specs.declared.request.ParseExit.{ParseExit}
+use Rattle.lc_arguments.specs.declared.request.ParseExit.TheVariants.{Shown, Refused, Memory}
 use Rattle.lc_arguments.specs.declared.request.Request.{Request}
 use Rattle.lc_arguments.specs.declared.request.Request.TheVariants.{CheckJoined, Check, Count, Explain}
 use Rattle.lc_text.specs.PathLines.{is_bad_path, path_of}
-use Rattle.lc_text.specs.declared.shape.Shape.{Shape}
+use Rattle.lc_text.specs.declared.table_options.TableOptions.{TableOptions}
 use Rattle.lc_arguments.specs.ShapeWords.{IsShapeBy}
 use Rattle.lc_arguments.specs.declared.check.CheckRequest.{CheckRequest}
 use Rattle.lc_arguments.specs.declared.count.CountRequest.{CountRequest}
@@ -89,7 +89,7 @@ pub record AreExclusionsOf (rows : List Row) (e : Exclusions) : Type 0 where
   pub named : list_all is_name (texts_read (codes "without") rows) ≡ true
 
 -- the shape that was asked for
-abbrev pub IsShapeIn : List Row → Shape → Type 0
+abbrev pub IsShapeIn : List Row → TableOptions → Type 0
 IsShapeIn rows s = IsShapeBy (first_of (codes "format") rows) (first_of (codes "by") rows) (first_of (codes "sort") rows) s
 
 -- the count that was asked for, by what was read of each argument
@@ -126,7 +126,7 @@ abbrev pub MayRefuse : Kinds → Type 0
 MayRefuse kinds = (k : ErrorKind) × IsAmong k kinds × (IsText k → ⊥)
 
 -- why there is no request, where words may fail in these ways; there may be no memory for any words
-abbrev pub IsNoRequestBy : Kinds → NoRequest → Type 0
+abbrev pub IsNoRequestBy : Kinds → ParseExit → Type 0
 IsNoRequestBy kinds (Shown _) = MayShow kinds
 IsNoRequestBy kinds (Refused _) = MayRefuse kinds
 IsNoRequestBy kinds Memory = Unit {0}
@@ -157,7 +157,7 @@ abbrev pub AskForNoCount : List (List ℕ) → Type 0
 AskForNoCount words =
     (fault_of count_app words ≡ [])
     × (Misname (matches_of count_app words)
-    ⊎ (Misplace (matches_of count_app words) ⊎ ((s : Shape) → ¬ IsShapeIn (matches_of count_app words) s)))
+    ⊎ (Misplace (matches_of count_app words) ⊎ ((s : TableOptions) → ¬ IsShapeIn (matches_of count_app words) s)))
 
 -- and those after `explain`, but name what is no attribute
 abbrev pub AskForNoExplanation : List (List ℕ) → Type 0
@@ -171,12 +171,12 @@ AreRefused words =
     ⊎ ((more : List (List ℕ)) × (words ≡ codes "explain" ∷ more) × AskForNoExplanation more))
 
 -- why words ask for nothing; there may be no memory for any words
-abbrev pub AskNothing : List (List ℕ) → NoRequest → Type 0
+abbrev pub AskNothing : List (List ℕ) → ParseExit → Type 0
 AskNothing words (Shown _) = MayShow (faults_in words)
 AskNothing words (Refused _) = AreRefused words
 AskNothing words Memory = Unit {0}
 
 -- the request of words
-abbrev pub AnswersWords : List (List ℕ) → Result Request NoRequest → Type 0
+abbrev pub AnswersWords : List (List ℕ) → Result Request ParseExit → Type 0
 AnswersWords words (Ok request) = (faults_in words ≡ []) × Asks words request
 AnswersWords words (Err why) = AskNothing words why

@@ -6,7 +6,7 @@ ghost use Rattle.lc_arguments.specs.CountArgs.{AreArgsOf, IsCommandOf};
 ghost use Rattle.lc_arguments.specs.Explained.{AnswersCheckWords};
 
 use crate::arguments::{bare, flag, word};
-use crate::request::{NoRequest, explained};
+use crate::request::{ParseExit, explained};
 use crate::{help, suggestions};
 use clap::{Arg, Command};
 use std::alloc::{AllocError, Global};
@@ -51,11 +51,11 @@ impl<'w> CheckRequest<'w> {
     pub(crate) fn read<W: AsStr>(
         alloc: Global,
         words: &'w [W],
-    ) -> Result<CheckRequest<'w>, NoRequest>
+    ) -> Result<CheckRequest<'w>, ParseExit>
         ensures { AnswersCheckWords (map W.text words.entry.now) result }
     {
         let Ok(command) = command(alloc) else {
-            return Err(NoRequest::Memory);
+            return Err(ParseExit::Memory);
         };
         match command.try_get_matches_from(words) {
             Ok(matches) => Ok(CheckRequest {

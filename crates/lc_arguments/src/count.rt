@@ -8,11 +8,11 @@ ghost use Rattle.lc_arguments.specs.Explained.{AnswersCountWords, Explains};
 use crate::arguments::{bare, flag, number_option, text_option, word};
 use crate::exclusions::{Exclusions, exclusion_options};
 use crate::paths::{only, paths_in};
-use crate::request::{NoRequest, explained};
+use crate::request::{ParseExit, explained};
 use crate::shape::shape_in;
 use crate::{help, suggestions};
 use clap::{Arg, Command, Error};
-use lc_text::Shape;
+use lc_text::TableOptions;
 use std::alloc::{AllocError, Global};
 use std::convert::AsStr;
 
@@ -32,7 +32,7 @@ pub struct CountRequest<'w> {
     /// The paths that alone are counted, relative to the directory and without a slash at their end; where there are none, all of it is.
     pub only: Vec<&'w [u8]>,
     /// What the table is to look like: as `Tsv`, by all columns and in the order of keys where no word says it.
-    pub shape: Shape,
+    pub shape: TableOptions,
     /// The directory, as its path was given: `.` is the one that the program runs in.
     pub directory: &'w str,
 }
@@ -103,12 +103,12 @@ pub(crate) fn command<'a>(alloc: Global) -> Result<Command<'a>, AllocError>
 }
 
 /// What an error of `clap` says of the arguments after `count`.
-fn explained_count<W: AsStr>(alloc: Global, error: &Error, words: &[W]) -> NoRequest
+fn explained_count<W: AsStr>(alloc: Global, error: &Error, words: &[W]) -> ParseExit
     ensures { Explains error.now result }
 {
     match suggestions::count(alloc, words) {
         Ok(example) => explained(alloc, error, &example),
-        Err(AllocError) => NoRequest::Memory,
+        Err(AllocError) => ParseExit::Memory,
     }
 }
 
@@ -117,11 +117,11 @@ impl<'w> CountRequest<'w> {
     pub(crate) fn read<W: AsStr>(
         alloc: Global,
         words: &'w [W],
-    ) -> Result<CountRequest<'w>, NoRequest>
+    ) -> Result<CountRequest<'w>, ParseExit>
         ensures { AnswersCountWords (map W.text words.entry.now) result }
     {
         let Ok(command) = command(alloc) else {
-            return Err(NoRequest::Memory);
+            return Err(ParseExit::Memory);
         };
         let matches = match command.try_get_matches_from(words) {
             Ok(matches) => matches,

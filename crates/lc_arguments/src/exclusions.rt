@@ -9,7 +9,7 @@ ghost use Rattle.lc_arguments.specs.Explained.{AnswersExclusions, AnswersNames, 
 
 use crate::arguments::{flag, text_option, texts_option};
 use crate::help;
-use crate::request::{NoRequest, refused};
+use crate::request::{ParseExit, refused};
 use clap::{Arg, ArgMatches};
 use lc_rules::is_attribute_name;
 use std::alloc::{AllocError, Global};
@@ -37,7 +37,7 @@ pub(crate) fn exclusion_options<'a>(alloc: Global) -> (Arg<'a>, Arg<'a>, Arg<'a>
 }
 
 /// Why the words are refused that name what is no attribute's name.
-fn misnamed(alloc: Global, name: &str) -> NoRequest
+fn misnamed(alloc: Global, name: &str) -> ParseExit
     ensures { IsRefusal result }
 {
     refused(
@@ -49,7 +49,7 @@ fn misnamed(alloc: Global, name: &str) -> NoRequest
 }
 
 /// The attributes of these names.
-fn attributes<'w>(alloc: Global, names: &[&'w str]) -> Result<Vec<&'w str>, NoRequest>
+fn attributes<'w>(alloc: Global, names: &[&'w str]) -> Result<Vec<&'w str>, ParseExit>
     ensures { AnswersNames (map (λ name. name.now) names.now) result }
 {
     for name in names {
@@ -59,13 +59,13 @@ fn attributes<'w>(alloc: Global, names: &[&'w str]) -> Result<Vec<&'w str>, NoRe
     }
     match names.to_vec(alloc) {
         Ok(attributes) => Ok(attributes),
-        Err(AllocError) => Err(NoRequest::Memory),
+        Err(AllocError) => Err(ParseExit::Memory),
     }
 }
 
 impl<'w> Exclusions<'w> {
     /// Those that were read.
-    pub(crate) fn read(alloc: Global, matches: &ArgMatches<'w>) -> Result<Exclusions<'w>, NoRequest>
+    pub(crate) fn read(alloc: Global, matches: &ArgMatches<'w>) -> Result<Exclusions<'w>, ParseExit>
         ensures { AnswersExclusions (rows_of (found_of matches.now)) result }
     {
         let names = matches.get_strs("without").unwrap_or(&[]);

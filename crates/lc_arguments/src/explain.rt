@@ -7,7 +7,7 @@ ghost use Rattle.lc_arguments.specs.Explained.{AnswersExplainWords};
 
 use crate::arguments::{bare, word};
 use crate::exclusions::{Exclusions, exclusion_options};
-use crate::request::{NoRequest, explained};
+use crate::request::{ParseExit, explained};
 use crate::{help, suggestions};
 use clap::{Arg, ArgAction, Command};
 use std::alloc::{AllocError, Global};
@@ -66,11 +66,11 @@ impl<'w> ExplainRequest<'w> {
     pub(crate) fn read<W: AsStr>(
         alloc: Global,
         words: &'w [W],
-    ) -> Result<ExplainRequest<'w>, NoRequest>
+    ) -> Result<ExplainRequest<'w>, ParseExit>
         ensures { AnswersExplainWords (map W.text words.entry.now) result }
     {
         let Ok(command) = command(alloc) else {
-            return Err(NoRequest::Memory);
+            return Err(ParseExit::Memory);
         };
         let matches = match command.try_get_matches_from(words) {
             Ok(matches) => matches,
@@ -81,7 +81,7 @@ impl<'w> ExplainRequest<'w> {
             Err(no) => return Err(no),
         };
         let Ok(paths) = matches.get_strs("PATH").unwrap_or(&[]).to_vec(alloc) else {
-            return Err(NoRequest::Memory);
+            return Err(ParseExit::Memory);
         };
         Ok(ExplainRequest {
             exclusions,

@@ -24,4 +24,4 @@ pub use check::CheckRequest;
 pub use count::CountRequest;
 pub use exclusions::Exclusions;
 pub use explain::ExplainRequest;
-pub use request::{NoRequest, Request};
+pub use request::{ParseExit, Request};

@@ -9,7 +9,7 @@ ghost use Rattle.lc_arguments.specs.Explained.{AnswersPaths, AnswersPathsIn, IsR
 
 use crate::arguments::texts_option;
 use crate::help;
-use crate::request::{NoRequest, refused};
+use crate::request::{ParseExit, refused};
 use clap::{Arg, ArgMatches};
 use lc_text::{is_bad_path, split_slash};
 use std::alloc::Global;
@@ -21,7 +21,7 @@ pub(crate) fn only<'a>(alloc: Global) -> Arg<'a>
 }
 
 /// Why words are refused that ask for what can't be a path.
-fn misplaced(alloc: Global, word: &str) -> NoRequest
+fn misplaced(alloc: Global, word: &str) -> ParseExit
     ensures { IsRefusal result }
 {
     refused(
@@ -33,7 +33,7 @@ fn misplaced(alloc: Global, word: &str) -> NoRequest
 }
 
 /// The paths of these words, each without a slash at its end.
-fn paths_of<'w>(alloc: Global, words: &[&'w str]) -> Result<Vec<&'w [u8]>, NoRequest>
+fn paths_of<'w>(alloc: Global, words: &[&'w str]) -> Result<Vec<&'w [u8]>, ParseExit>
     ensures { AnswersPaths (map (λ word. word.now) words.now) result }
 {
     let mut paths = Vec::new(alloc);
@@ -43,7 +43,7 @@ fn paths_of<'w>(alloc: Global, words: &[&'w str]) -> Result<Vec<&'w [u8]>, NoReq
             return Err(misplaced(alloc, word));
         }
         let Ok(()) = paths.push(path) else {
-            return Err(NoRequest::Memory);
+            return Err(ParseExit::Memory);
         };
     }
     Ok(paths)
@@ -53,7 +53,7 @@ fn paths_of<'w>(alloc: Global, words: &[&'w str]) -> Result<Vec<&'w [u8]>, NoReq
 pub(crate) fn paths_in<'w>(
     alloc: Global,
     matches: &ArgMatches<'w>,
-) -> Result<Vec<&'w [u8]>, NoRequest>
+) -> Result<Vec<&'w [u8]>, ParseExit>
     ensures { AnswersPathsIn (rows_of (found_of matches.now)) result }
 {
     let words = matches.get_strs("only").unwrap_or(&[]);

@@ -32,7 +32,7 @@ pub enum Request<'w> {
 
 /// Why the words ask for nothing.
 #[derive(Drop)]
-pub enum NoRequest {
+pub enum ParseExit {
     /// They want help or the version, which is this text, as for `--help`. It belongs on standard output.
     Shown(String),
     /// They are refused, and this text says why, as for `count --threads 17 .`. It belongs on standard error.
@@ -78,56 +78,56 @@ fn command<'a>(alloc: Global) -> Result<Command<'a>, AllocError>
 }
 
 /// What an error of `clap` says, with a command that works where an argument is missing, unknown or no command.
-pub(crate) fn explained(alloc: Global, error: &Error, example: &str) -> NoRequest
+pub(crate) fn explained(alloc: Global, error: &Error, example: &str) -> ParseExit
     ensures { Explains error.now result }
 {
     let text = match error.kind() {
-        ErrorKind::OutOfMemory => return NoRequest::Memory,
+        ErrorKind::OutOfMemory => return ParseExit::Memory,
         ErrorKind::MissingRequiredArgument
         | ErrorKind::InvalidSubcommand
         | ErrorKind::UnknownArgument => format!(in alloc; "{error}\nExample: {example}\n"),
         _ => format!(in alloc; "{error}"),
     };
     let Ok(text) = text else {
-        return NoRequest::Memory;
+        return ParseExit::Memory;
     };
     if error.use_stderr() {
-        NoRequest::Refused(text)
+        ParseExit::Refused(text)
     } else {
-        NoRequest::Shown(text)
+        ParseExit::Shown(text)
     }
 }
 
 /// Why the value of an option is refused.
-pub(crate) fn refused(alloc: Global, option: &str, value: &str, why: &str) -> NoRequest
+pub(crate) fn refused(alloc: Global, option: &str, value: &str, why: &str) -> ParseExit
     ensures { IsRefusal result }
 {
     let text = format!(in alloc;
         "error: invalid value '{value}' for '{option}'{why}\n\nFor more information, try '--help'.\n"
     );
     match text {
-        Ok(text) => NoRequest::Refused(text),
-        Err(AllocError) => NoRequest::Memory,
+        Ok(text) => ParseExit::Refused(text),
+        Err(AllocError) => ParseExit::Memory,
     }
 }
 
 /// What an error of `clap` says of arguments that name no command.
-fn explained_others<W: AsStr>(alloc: Global, error: &Error, words: &[W]) -> NoRequest
+fn explained_others<W: AsStr>(alloc: Global, error: &Error, words: &[W]) -> ParseExit
     ensures { Explains error.now result }
 {
     let first = words.first().map_or("", |word| word.as_str());
     let Ok(why) = format!(in alloc; "{error}") else {
-        return NoRequest::Memory;
+        return ParseExit::Memory;
     };
     explained(alloc, error, suggestions::command(first, &why))
 }
 
 /// What words ask for that name no command.
-fn read_others<'w, W: AsStr>(alloc: Global, words: &'w [W]) -> Result<Request<'w>, NoRequest>
+fn read_others<'w, W: AsStr>(alloc: Global, words: &'w [W]) -> Result<Request<'w>, ParseExit>
     ensures { AnswersOthers (map W.text words.entry.now) result }
 {
     let Ok(command) = command(alloc) else {
-        return Err(NoRequest::Memory);
+        return Err(ParseExit::Memory);
     };
     match command.try_get_matches_from(words) {
         // As `--` alone.
@@ -138,7 +138,7 @@ fn read_others<'w, W: AsStr>(alloc: Global, words: &'w [W]) -> Result<Request<'w
 
 /// What arguments ask for. A command reads the arguments after its name by itself, so that what it reads of them is known to lie in its
 /// ranges.
-fn read_words<'w, W: AsStr>(alloc: Global, words: &'w [W]) -> Result<Request<'w>, NoRequest>
+fn read_words<'w, W: AsStr>(alloc: Global, words: &'w [W]) -> Result<Request<'w>, ParseExit>
     ensures { AnswersWords (map W.text words.entry.now) result }
 {
     let Some((first, rest)) = words.split_first() else {
@@ -172,7 +172,7 @@ fn refusal<W: AsStr>(alloc: Global, words: &[W], why: &str) -> Result<String, Al
     // As a terminal shows them they are refused for the same reason, and quoted so.
     let visible = visible_words(alloc, words)?;
     match read_words(alloc, &visible) {
-        Err(NoRequest::Refused(text)) => message(alloc, &text),
+        Err(ParseExit::Refused(text)) => message(alloc, &text),
         _ => message(alloc, why),
     }
 }
@@ -181,15 +181,15 @@ impl<'w> Request<'w> {
     /// What the arguments after the program's name ask for: those of `count .` the table of this directory.
     ///
     /// Why they are refused quotes them as a terminal shows them ([`push_visible`](lc_text::push_visible)).
-    pub fn read<W: AsStr>(alloc: Global, words: &'w [W]) -> Result<Request<'w>, NoRequest>
+    pub fn read<W: AsStr>(alloc: Global, words: &'w [W]) -> Result<Request<'w>, ParseExit>
         ensures answers { AnswersWords (map W.text words.entry.now) result }
         ensures visible { IfErr result IsRefusedVisibly }
     {
         match read_words(alloc, words) {
             Ok(request) => Ok(request),
-            Err(NoRequest::Refused(why)) => match refusal(alloc, words, &why) {
-                Ok(why) => Err(NoRequest::Refused(why)),
-                Err(AllocError) => Err(NoRequest::Memory),
+            Err(ParseExit::Refused(why)) => match refusal(alloc, words, &why) {
+                Ok(why) => Err(ParseExit::Refused(why)),
+                Err(AllocError) => Err(ParseExit::Memory),
             },
             Err(no) => Err(no),
         }

@@ -3,16 +3,16 @@
 ghost use Rattle.std.specs.Prelude.{◌≡◌, ◌≢◌, MatchOption, option_map};
 ghost use Rattle.clap.specs.Matches.{found_of};
 ghost use Rattle.clap.specs.Walk.{rows_of};
-ghost use Rattle.lc_text.specs.declared.shape.Columns.{Columns as ColumnsModel};
-ghost use Rattle.lc_text.specs.declared.shape.Format.{Format as FormatModel};
-ghost use Rattle.lc_text.specs.declared.shape.SortBy.{SortBy as SortModel};
+ghost use Rattle.lc_text.specs.declared.table_options.Columns.{Columns as ColumnsModel};
+ghost use Rattle.lc_text.specs.declared.table_options.Format.{Format as FormatModel};
+ghost use Rattle.lc_text.specs.declared.table_options.SortBy.{SortBy as SortModel};
 ghost use Rattle.lc_arguments.specs.Explained.{AnswersShape, AnswersShapeIn};
 ghost use Rattle.lc_arguments.specs.ShapeWords.{IsColumnsText, format_word, sort_word};
 
-use crate::request::{NoRequest, refused};
+use crate::request::{ParseExit, refused};
 use clap::ArgMatches;
 use lc_glob::cut_at_first;
-use lc_text::{Columns, Format, Shape, SortBy};
+use lc_text::{Columns, Format, SortBy, TableOptions};
 use std::alloc::Global;
 
 /// The format of a name.
@@ -72,7 +72,7 @@ fn shape_of(
     format: Option<&str>,
     by: Option<&str>,
     sort: Option<&str>,
-) -> Result<Shape, NoRequest>
+) -> Result<TableOptions, ParseExit>
     ensures { AnswersShape (option_map (λ s. s.now) format.entry) (option_map (λ s. s.now) by.entry)
         (option_map (λ s. s.now) sort.entry) result }
 {
@@ -108,11 +108,11 @@ fn shape_of(
             by => by,
         },
     };
-    Ok(Shape { format, by, sort })
+    Ok(TableOptions { format, by, sort })
 }
 
 /// The shape that was read.
-pub(crate) fn shape_in(alloc: Global, matches: &ArgMatches<'_>) -> Result<Shape, NoRequest>
+pub(crate) fn shape_in(alloc: Global, matches: &ArgMatches<'_>) -> Result<TableOptions, ParseExit>
     ensures { AnswersShapeIn (rows_of (found_of matches.now)) result }
 {
     let format = matches.get_str("format");

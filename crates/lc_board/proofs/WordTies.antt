@@ -11,7 +11,7 @@ use Rattle.lc_board.specs.WordRow.{Seated}
 use Rattle.lc_board.specs.declared.words.coding.Word.{Word}
 use Rattle.lc_board.specs.WordSteps.{AddsEvent, ExtendsFairly, HasLooked, low_after, last_look}
 use Rattle.lc_board.specs.WordSteps.{Leaves, looked, TakesJob, claimed, TriesDraw}
-use Rattle.lc_board.specs.WordSteps.{Opens, stepped_over}
+use Rattle.lc_board.specs.WordSteps.{OpensDrawn, stepped_over}
 use Rattle.lc_board.specs.WordPass.{IsTied, kind, tag, tags_as, carried_as}
 use Rattle.lc_board.specs.declared.event.Event.{Event}
 use Rattle.lc_board.specs.declared.event.Event.TheVariants.{Over}
@@ -197,7 +197,7 @@ module _ {J R : Type 0} where
 
   -- a number is drawn, gets the job, and is opened
   pub tied_posted : (cap slots i worker : ℕ) (claim : Option ℕ) (job : J) (posts low : ℕ) (m m1 m2 m3 : Seated J R) → i < slots
-      → TriesDraw cap i true m m1 → m2 ≡ (m1.0, (i, Job job) ∷ rest m1.1) → Opens cap i m2 m3
+      → TriesDraw cap i true m m1 → m2 ≡ (m1.0, (i, Job job) ∷ rest m1.1) → OpensDrawn cap i m2 m3
       → IsTied slots worker claim posts i low m → IsTied slots worker claim (posts + 1) (i + 1) low m3
   tied_posted cap slots i worker claim job posts low m m1 m2 m3 near did now opens t = let hit = did.4 in let did2 = opens.0 in
       let me : Path (View J R) m2.0 m1.0 = ap (λ (x : Seated J R). x.0) now in record {

@@ -147,14 +147,14 @@ module _ {J R : Type 0} where
       × ((j : J) × (m.1 ≡ (i, Job j) ∷ rest m.1))
 
   -- the number that was drawn is opened with the job in its slot, under the claim that is held
-  abbrev pub Opens : ℕ → ℕ → Seated J R → Seated J R → Type 0
-  Opens cap i m m' = Leaves m m'
+  abbrev pub OpensDrawn : ℕ → ℕ → Seated J R → Seated J R → Type 0
+  OpensDrawn cap i m m' = Leaves m m'
       × ((p : ℕ) × (j : J) × (holding m.0.mine ≡ Some p) × (m.1 ≡ (i, Job j) ∷ rest m.1)
       × AddsEvent cap m.0 (Post m.0.worker p i j) m'.0)
 
   -- an exchange of the word, which opens the number
   abbrev pub opened : Step (Slot J R) → Seated J R → ℕ → Seated J R → Type 0
-  opened st m r m' = Opens st.slots st.word m m'
+  opened st m r m' = OpensDrawn st.slots st.word m m'
 
   -- the claim is ended by the row in its slot, in the way that the code says
   abbrev pub ended : Step (Slot J R) → Seated J R → ℕ → Seated J R → Type 0

@@ -5,7 +5,7 @@
 ghost use Rattle.std.specs.Prelude.{◌≡◌, ◌≤◌};
 ghost use Rattle.lc_board.specs.Limits.{capacity_limit, workers_limit};
 
-use crate::words::rule::{OneHistory, Origin};
+use crate::words::rule::{BoardSetup, OneHistory};
 use crate::words::view::{Slot, View};
 use atomic_table::Table;
 use std::alloc::Global;
@@ -26,11 +26,11 @@ pub mod view;
 /// A board of words. It keeps values: the rows that it gives back are in place.
 #[derive(Drop)]
 pub struct Words<J, R> {
-    pub(crate) table: Table<Slot<J, R>, View<J, R>, Origin<J>, OneHistory, Global>,
+    pub(crate) table: Table<Slot<J, R>, View<J, R>, BoardSetup<J>, OneHistory, Global>,
     pub(crate) capacity: u32,
     pub(crate) workers: u32,
     pub(crate) alloc: Global,
     ghost square: { (table.shared.table_id.words ≡ capacity) × (table.shared.table_id.slots ≡ capacity) },
     ghost small: { (1 ≤ capacity) × (capacity ≤ capacity_limit) × (1 ≤ workers) × (workers ≤ workers_limit) },
-    ghost origin: { table.shared.key.workers ≡ workers },
+    ghost setup: { table.shared.key.workers ≡ workers },
 }

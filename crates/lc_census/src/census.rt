@@ -4,9 +4,9 @@ ghost use Rattle.lc_census.specs.Bytes.{is_end};
 ghost use Rattle.lc_census.specs.Census.{IsCensus, class_of};
 ghost use Rattle.lc_census.specs.Fed.{LeadTo};
 
-use crate::lanes::scan_lanes;
+use crate::count::{Count, Eol};
 use crate::scan::Scan;
-use crate::totals::{Count, Eol};
+use crate::simd::scan_simd;
 use std::marker::Model;
 
 /// The census of the bytes that it was fed so far.
@@ -56,7 +56,7 @@ impl Census {
         ensures bytes { self.new.bytes ≡ self.old.bytes + length piece.now }
         ensures goes_on { (before : List ℕ) → LeadTo before self.old → LeadTo (before ++ piece.now) self.new }
     {
-        self.scan = scan_lanes(self.scan, piece);
+        self.scan = scan_simd(self.scan, piece);
         self.bytes += piece.len() as u64;
         if let [.., last] = piece {
             self.has_rest = !ends_line(*last);

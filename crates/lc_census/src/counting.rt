@@ -5,8 +5,8 @@ ghost use Rattle.lc_census.specs.declared.counting.CensusFault.TheVariants.{Memo
 ghost use Rattle.lc_census.specs.Limits.{buffer_len, max_turns};
 
 use crate::census::Census;
+use crate::count::Count;
 use crate::source::Source;
-use crate::totals::Count;
 use std::alloc::{AllocError, Global};
 
 /// Why there is no count. The reader has then given what it gave.

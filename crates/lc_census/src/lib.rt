@@ -12,24 +12,24 @@
 #![tactic(auto)]
 
 mod census;
+mod count;
 mod counting;
-mod lanes;
 mod laws;
-mod plain;
+mod scalar;
 mod scan;
+mod simd;
 mod source;
 mod std_source;
-mod totals;
 pub mod trials;
 mod whole;
 
 pub use census::Census;
+pub use count::{Count, Eol};
 pub use counting::{BUFFER_LEN, CensusFault, MAX_TURNS, count, count_in, count_within, new_buffer};
-pub use lanes::scan_lanes;
 pub use laws::{a_slice_gives_its_bytes, bytes_have_one_cutting, the_limits_are_these_numbers};
-pub use plain::scan_plain;
+pub use scalar::scan_scalar;
 pub use scan::Scan;
+pub use simd::scan_simd;
 pub use source::{Failed, Source};
 pub use std_source::{MAX_TRIES, StdSource};
-pub use totals::{Count, Eol};
 pub use whole::{WholeFault, read_whole};

@@ -15,8 +15,8 @@ use Rattle.lc_text.specs.declared.style.PathStyle.{PathStyle}
 use Rattle.lc_tree.specs.Trees.{Listings, Contents}
 use Rattle.lc_explain.specs.Explain.{MaySay, AnswersLines, AnswersExplain, print_fault}
 use Rattle.lc_explain.specs.Explained.{Explanation, IsExplained}
-use Rattle.lc_explain.specs.Waypoints.{text_or_none, MayEnter}
-use Rattle.lc_explain.specs.declared.question.Question.{Question}
+use Rattle.lc_explain.specs.OpenDirs.{text_or_none, MayEnter}
+use Rattle.lc_explain.specs.declared.explain_options.ExplainOptions.{ExplainOptions}
 
 module _ {O : Type 0} (may_take : O → List ℕ → Result ℕ Failed → O → Type 0) where
   -- what is answered by the parts of a question is answered by the question
@@ -26,7 +26,7 @@ module _ {O : Type 0} (may_take : O → List ℕ → Result ℕ Failed → O →
     By t s exclude top style =
         AnswersLines may_take style (IsExplained (MayEnter (lists t) (gives t)) s exclude top) lines out answer wrote
 
-    pub as_asked : (t u : Tr) (q : Question) (s : SelectionModel) (exclude : List ℕ) (top : JobModel) (style : PathStyle) → t ≡ u
+    pub as_asked : (t u : Tr) (q : ExplainOptions) (s : SelectionModel) (exclude : List ℕ) (top : JobModel) (style : PathStyle) → t ≡ u
         → s ≡ q.selection → top ≡ top_job (option_map rules_of q.exclude) → exclude ≡ text_or_none q.exclude → style ≡ q.style
         → By t s exclude top style → AnswersLines may_take q.style (MaySay (lists u) (gives u) q) lines out answer wrote
     as_asked t u q s exclude top style tree selection at texts printed answers =

@@ -12,10 +12,10 @@ use Rattle.lc_level.specs.declared.fault_site.FaultSite.{FaultSite}
 use Rattle.lc_level.specs.declared.open_fault.OpenFault.TheVariants.{Faulted}
 use Rattle.lc_tree.specs.Trees.{Listings, Contents}
 use Rattle.lc_level.specs.declared.fault_word.FaultWord.{FaultWord}
-use Rattle.lc_explain.specs.Waypoints.{WaypointModel, waypoint_of, waypoint_after, MayEnter}
+use Rattle.lc_explain.specs.OpenDirs.{OpenDirModel, open_dir_of, open_dir_after, MayEnter}
 
 -- a fault in place of a directory
-abbrev as_fault : List ℕ → FaultWord → Result WaypointModel FaultLineModel
+abbrev as_fault : List ℕ → FaultWord → Result OpenDirModel FaultLineModel
 as_fault path word = Err (record { path = path; word = word })
 
 fault_is : (p q : List ℕ) (w v : FaultWord) → faulted_level p w ≡ faulted_level q v → as_fault p w ≡ as_fault q v
@@ -26,12 +26,12 @@ fault_is p q w v e =
 
 after_fault : (s : SelectionModel) (j : JobModel) (path : List ℕ) (word : FaultWord) (items : List Item)
     (r : Result RuleBytes FaultLineModel)
-    → level_after s j items r ≡ faulted_level path word → waypoint_after j items r ≡ as_fault path word
+    → level_after s j items r ≡ faulted_level path word → open_dir_after j items r ≡ as_fault path word
 after_fault s j path word items (Ok files) e = absurd (cc e)
 after_fault s j path word items (Err f) e = fault_is f.path path f.word word e
 
 fault_of : (s : SelectionModel) (j : JobModel) (path : List ℕ) (word : FaultWord) (a : Answers) (items : Items)
-    → level_of s j a items ≡ faulted_level path word → waypoint_of j a items ≡ as_fault path word
+    → level_of s j a items ≡ faulted_level path word → open_dir_of j a items ≡ as_fault path word
 fault_of s j path word a (Ok items) e = after_fault s j path word items (rule_bytes j.path items a) e
 fault_of s j path word a (Err w) e = fault_is j.path path w word e
 
@@ -62,17 +62,17 @@ same_fault lists gives j directory site at word why is says entered =
 
 -- a directory that was entered has the path of its job
 path_after : (j : JobModel) (items : List Item) (r : Result RuleBytes FaultLineModel)
-    → IfOk (waypoint_after j items r) (λ here. here.job.path ≡ j.path)
+    → IfOk (open_dir_after j items r) (λ here. here.job.path ≡ j.path)
 path_after j items (Ok files) = refl
 path_after j items (Err f) = tt
 
-path_of_items : (j : JobModel) (a : Answers) (items : Items) → IfOk (waypoint_of j a items) (λ here. here.job.path ≡ j.path)
+path_of_items : (j : JobModel) (a : Answers) (items : Items) → IfOk (open_dir_of j a items) (λ here. here.job.path ≡ j.path)
 path_of_items j a (Ok items) = path_after j items (rule_bytes j.path items a)
 path_of_items j a (Err w) = tt
 
 -- a directory is entered at the path of its job
-pub entered_path : (lists : List ℕ → Listings) (gives : List ℕ → Contents) (j : JobModel) (here : WaypointModel)
+pub entered_path : (lists : List ℕ → Listings) (gives : List ℕ → Contents) (j : JobModel) (here : OpenDirModel)
     → MayEnter lists gives j (Ok here) → here.job.path ≡ j.path
 entered_path lists gives j here entered =
-    let P : Result WaypointModel FaultLineModel → Type 0 = λ r. IfOk r (λ here. here.job.path ≡ j.path) in
+    let P : Result OpenDirModel FaultLineModel → Type 0 = λ r. IfOk r (λ here. here.job.path ≡ j.path) in
     subst P entered.gives_it (path_of_items j entered.answers entered.answers.here)

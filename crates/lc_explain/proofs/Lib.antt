@@ -1,10 +1,10 @@
 pub mod PathSegments
 pub mod Reaching
-pub mod WayEnds
-pub mod KeptWays
+pub mod StackEnds
+pub mod StackCaching
 pub mod Entering
 pub mod Descending
-pub mod Tellings
+pub mod OutputLines
 pub mod SoFar
 pub mod Answering
 pub mod Agreeing

@@ -12,7 +12,7 @@ use Rattle.std.proofs.lemmas.Cmp.{nat_list_cmp_total}
 use Rattle.std.proofs.lemmas.Map.Text.{is_eq-slice_cmp}
 use Rattle.lc_tree.specs.ByteOrder.{bytes_cmp, AreInOrder}
 use Rattle.lc_tree.specs.Listing.{EntryModel, names}
-use Rattle.lc_explain.specs.Waypoints.{kind_in}
+use Rattle.lc_explain.specs.OpenDirs.{kind_in}
 
 index_few : (o : Ordering) → ordering_index o ≤ 2
 index_few Less = omega arith

@@ -13,7 +13,7 @@ use Rattle.lc_text.proofs.InPieces.{all_but-start, all_but-appended, all_but-pri
 use Rattle.lc_explain.specs.Explain.{Explains, ExplainsLine, AnswersLines}
 use Rattle.lc_explain.specs.Explained.{Explanation}
 use Rattle.lc_explain.specs.ExplainText.{explained_line}
-use Rattle.lc_explain.proofs.Tellings.{explained_none, explained_more}
+use Rattle.lc_explain.proofs.OutputLines.{explained_none, explained_more}
 
 module _ {O : Type 0} (may_take : O → List ℕ → Result ℕ Failed → O → Type 0) (style : PathStyle)
     (Says : List ℕ → Bool → Explanation → Type 0) where

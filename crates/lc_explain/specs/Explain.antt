@@ -17,17 +17,17 @@ use Rattle.lc_text.specs.declared.style.PathStyle.{PathStyle}
 use Rattle.lc_tree.specs.Trees.{Listings, Contents}
 use Rattle.lc_explain.specs.Explained.{Explanation, IsExplained}
 use Rattle.lc_explain.specs.ExplainText.{Told, explained_line, told_text, is_fault, has_fault}
-use Rattle.lc_explain.specs.Waypoints.{text_or_none, MayEnter}
-use Rattle.lc_explain.specs.declared.question.Question.{Question}
+use Rattle.lc_explain.specs.OpenDirs.{text_or_none, MayEnter}
+use Rattle.lc_explain.specs.declared.explain_options.ExplainOptions.{ExplainOptions}
 use Rattle.lc_explain.specs.declared.explaining.ExplainFault.{ExplainFault}
 use Rattle.lc_explain.specs.declared.explaining.ExplainFault.TheVariants.{Read, InputTooLong, Memory, Write}
 use Rattle.lc_text.specs.declared.outcome.Outcome.{Outcome}
 use Rattle.lc_text.specs.declared.outcome.Outcome.TheVariants.{Clean, SomeFaults}
 
 -- what may be said of a path, by what the listings and the files of a tree may answer and by what is asked
-abbrev pub MaySay : (List ℕ → Listings) → (List ℕ → Contents) → Question → List ℕ → Bool → Explanation → Type 0
-MaySay lists gives question path as_dir x =
-    IsExplained (MayEnter lists gives) question.selection (text_or_none question.exclude) (top_job (option_map rules_of question.exclude))
+abbrev pub MaySay : (List ℕ → Listings) → (List ℕ → Contents) → ExplainOptions → List ℕ → Bool → Explanation → Type 0
+MaySay lists gives options path as_dir x =
+    IsExplained (MayEnter lists gives) options.selection (text_or_none options.exclude) (top_job (option_map rules_of options.exclude))
     path as_dir x
 
 abbrev pub outcome_of : List Told → Outcome

@@ -19,7 +19,7 @@ module _ (style : PathStyle) where
   -- why the walk leaves out what no rule leaves out
   abbrev pub reason_text : Reason → List ℕ
   reason_text named_git = codes "git"
-  reason_text (by_rule origin line) = codes "-"
+  reason_text (by_rule source line) = codes "-"
   reason_text (by_attribute name) = codes "attribute:" ++ styled style name
   reason_text other_kind = codes "other"
 
@@ -30,7 +30,7 @@ module _ (style : PathStyle) where
   -- of a line that a rule decides: where the rule stands, and the text of its line
   abbrev pub rule_line : List ℕ → List ℕ → CitedRule → List ℕ
   rule_line word line rule =
-      four_fields word (rule_place (styled style) (path_of line) rule.origin rule.line) (styled style rule.text) (styled style line)
+      four_fields word (rule_place (styled style) (path_of line) rule.source rule.line) (styled style rule.text) (styled style line)
 
   -- the word of what is said of a line's path, where it is said by, the pattern, and the line as it came
   abbrev pub explained_line : List ℕ → Explanation → List ℕ

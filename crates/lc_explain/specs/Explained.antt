@@ -8,18 +8,18 @@ use Rattle.lc_level.specs.Level.{Reason, named_git, by_rule, by_attribute, other
 use Rattle.lc_level.specs.Selection.{SelectionModel}
 use Rattle.lc_rules.specs.IgnoreChains.{rules_in}
 use Rattle.lc_rules.specs.IgnoreRules.{RuleModel}
-use Rattle.lc_rules.specs.Verdicts.{deciding}
-use Rattle.lc_rules.specs.declared.origin.Origin.{Origin}
+use Rattle.lc_rules.specs.Verdicts.{last_match}
+use Rattle.lc_rules.specs.declared.rule_source.RuleSource.{RuleSource}
 use Rattle.lc_text.specs.ExplainedText.{line_text}
 use Rattle.lc_text.specs.PathLines.{is_bad_path}
 use Rattle.lc_tree.specs.Kinds.{is_dir}
 use Rattle.lc_tree.specs.declared.entry.Kind.{Kind}
 use Rattle.lc_tree.specs.declared.entry.Kind.TheVariants.{File, Dir, Other}
-use Rattle.lc_explain.specs.Waypoints.{WaypointModel, Way, kind_in, text_in}
+use Rattle.lc_explain.specs.OpenDirs.{OpenDirModel, DirStack, kind_in, text_in}
 
--- a rule as it is told of: the origin of its file, the number of its line, and the text of that line
+-- a rule as it is told of: the source of its file, the number of its line, and the text of that line
 pub record CitedRule : Type 0 where
-  pub origin : Origin
+  pub source : RuleSource
   pub line : ℕ
   pub text : List ℕ
 
@@ -36,18 +36,18 @@ pub data Explanation : Type 0 where
   left_out : Reason → Explanation
 
 -- a rule of the files that were read on a way
-abbrev pub cited : List ℕ → Way → Origin → ℕ → CitedRule
-cited exclude way origin line = record { origin = origin; line = line; text = line_text (text_in exclude way origin) line }
+abbrev pub cited : List ℕ → DirStack → RuleSource → ℕ → CitedRule
+cited exclude stack source line = record { source = source; line = line; text = line_text (text_in exclude stack source) line }
 
 -- what is left out for a reason is ignored by the rule, or else left out
-abbrev pub said_for : (Origin → ℕ → CitedRule) → (CitedRule → Explanation) → Reason → Explanation
-said_for cite ignores (by_rule origin line) = ignores (cite origin line)
+abbrev pub said_for : (RuleSource → ℕ → CitedRule) → (CitedRule → Explanation) → Reason → Explanation
+said_for cite ignores (by_rule source line) = ignores (cite source line)
 said_for cite ignores named_git = left_out named_git
 said_for cite ignores (by_attribute name) = left_out (by_attribute name)
 said_for cite ignores other_kind = left_out other_kind
 
 -- of what the walk leaves out for a reason, or else by the rule that decides it
-abbrev pub said_by : (Origin → ℕ → CitedRule) → Option Reason → Option (Origin × RuleModel) → Explanation
+abbrev pub said_by : (RuleSource → ℕ → CitedRule) → Option Reason → Option (RuleSource × RuleModel) → Explanation
 said_by cite (Some reason) rule = said_for cite ignored reason
 said_by cite None (Some rule) = included (cite rule.0 rule.1.line)
 said_by cite None None = unruled
@@ -68,44 +68,44 @@ is_directory (Some kind) = is_dir kind
 
 -- a name before the last: there is a reason to leave it out; or it is a directory of the tree, which the walk goes into; or it is none
 abbrev pub OnTheWay : Option Reason → Bool → (Reason → Type 0) → Type 0 → Type 0 → Type 0
-OnTheWay (Some reason) is_there Left Into Beside = Left reason
-OnTheWay None true Left Into Beside = Into
-OnTheWay None false Left Into Beside = Beside
+OnTheWay (Some reason) is_there Skipped Into Beside = Skipped reason
+OnTheWay None true Skipped Into Beside = Into
+OnTheWay None false Skipped Into Beside = Beside
 
 -- and what is said of the names below it
-abbrev pub said_above : (Origin → ℕ → CitedRule) → Option Reason → Explanation → Explanation
+abbrev pub said_above : (RuleSource → ℕ → CitedRule) → Option Reason → Explanation → Explanation
 said_above cite None after = after
 said_above cite (Some reason) after = said_for cite below reason
 
 module _ (s : SelectionModel) (exclude : List ℕ) where
   -- of the last name of a path, in a directory or below one
-  abbrev pub said_of : Way → JobModel → List ℕ → Kind → Explanation
-  said_of way j name kind =
-      said_by (cited exclude way) (reason_for s j name kind) (deciding (rules_in j.ignore) (path_in j.path name) (is_dir kind))
+  abbrev pub said_of : DirStack → JobModel → List ℕ → Kind → Explanation
+  said_of stack j name kind =
+      said_by (cited exclude stack) (reason_for s j name kind) (last_match (rules_in j.ignore) (path_in j.path name) (is_dir kind))
 
   -- of names below what is not there, or is no directory: it has no entries and no rule files, and those of the directories above decide
-  abbrev pub said_beside : Way → JobModel → List (List ℕ) → Bool → Explanation
-  said_beside way j [] as_dir = unruled
-  said_beside way j (name ∷ []) as_dir = said_of way j name (kind_asked as_dir None)
-  said_beside way j (name ∷ next ∷ names) as_dir =
-      said_above (cited exclude way) (reason_for s j name Dir) (said_beside way (child_job j name) (next ∷ names) as_dir)
+  abbrev pub said_beside : DirStack → JobModel → List (List ℕ) → Bool → Explanation
+  said_beside stack j [] as_dir = unruled
+  said_beside stack j (name ∷ []) as_dir = said_of stack j name (kind_asked as_dir None)
+  said_beside stack j (name ∷ next ∷ names) as_dir =
+      said_above (cited exclude stack) (reason_for s j name Dir) (said_beside stack (child_job j name) (next ∷ names) as_dir)
 
-module _ (Enters : JobModel → Result WaypointModel FaultLineModel → Type 0) where
+module _ (Enters : JobModel → Result OpenDirModel FaultLineModel → Type 0) where
   -- a directory is entered, and says this of what stands below it, or is at fault
-  abbrev pub OnEntering : JobModel → Explanation → (WaypointModel → Type 0) → Type 0
+  abbrev pub OnEntering : JobModel → Explanation → (OpenDirModel → Type 0) → Type 0
   OnEntering j x Says =
-      (entered : Result WaypointModel FaultLineModel) × Enters j entered × MatchResult entered Says (λ fault. x ≡ faulted fault)
+      (entered : Result OpenDirModel FaultLineModel) × Enters j entered × MatchResult entered Says (λ fault. x ≡ faulted fault)
 
   module _ (s : SelectionModel) (exclude : List ℕ) where
     -- of names that stand below the last directory of a way
-    abbrev pub IsSaid : Way → WaypointModel → List (List ℕ) → Bool → Explanation → Type 0
-    IsSaid way here [] as_dir x = ⊥
-    IsSaid way here (name ∷ []) as_dir x = x ≡ said_of s exclude way here.job name (kind_asked as_dir (kind_in here.entries name))
-    IsSaid way here (name ∷ next ∷ names) as_dir x =
+    abbrev pub IsSaid : DirStack → OpenDirModel → List (List ℕ) → Bool → Explanation → Type 0
+    IsSaid stack here [] as_dir x = ⊥
+    IsSaid stack here (name ∷ []) as_dir x = x ≡ said_of s exclude stack here.job name (kind_asked as_dir (kind_in here.entries name))
+    IsSaid stack here (name ∷ next ∷ names) as_dir x =
         OnTheWay (reason_for s here.job name (kind_asked true (kind_in here.entries name))) (is_directory (kind_in here.entries name))
-        (λ reason. x ≡ said_for (cited exclude way) below reason)
-        (OnEntering (child_job here.job name) x (λ child. IsSaid (way ++ child ∷ []) child (next ∷ names) as_dir x))
-        (x ≡ said_beside s exclude way (child_job here.job name) (next ∷ names) as_dir)
+        (λ reason. x ≡ said_for (cited exclude stack) below reason)
+        (OnEntering (child_job here.job name) x (λ child. IsSaid (stack ++ child ∷ []) child (next ∷ names) as_dir x))
+        (x ≡ said_beside s exclude stack (child_job here.job name) (next ∷ names) as_dir)
 
     -- of a path, from the top of the tree down; `as_dir` says that it is that of a directory
     abbrev pub IsExplained : JobModel → List ℕ → Bool → Explanation → Type 0

@@ -2,33 +2,33 @@
 use Rattle.std.specs.Prelude.{◌≡◌, ◌⊎◌, ℕ, List, MatchOption}
 use Rattle.lc_level.specs.Answers.{Item, directory_item, entry_of, name_of}
 use Rattle.lc_level.specs.Job.{JobModel}
-use Rattle.lc_level.specs.Level.{Fate, counted, failed, walked, left, reason_for, fate_of, child_job}
+use Rattle.lc_level.specs.Level.{Fate, counted, failed, walked, skipped, reason_for, fate_of, child_job}
 use Rattle.lc_level.specs.Selection.{SelectionModel}
-use Rattle.lc_rules.specs.declared.origin.Origin.{Origin}
+use Rattle.lc_rules.specs.declared.rule_source.RuleSource.{RuleSource}
 use Rattle.lc_tree.specs.declared.entry.Kind.TheVariants.{Dir}
 use Rattle.lc_explain.specs.Explained.{CitedRule, Explanation, ignored, included, unruled, cited, said_for, said_of}
-use Rattle.lc_explain.specs.Waypoints.{Way}
+use Rattle.lc_explain.specs.OpenDirs.{DirStack}
 
 -- no rule decides the path, or one that includes it again
-abbrev pub IsTaken : Explanation → Type 0
-IsTaken x = (x ≡ unruled) ⊎ ((rule : CitedRule) × (x ≡ included rule))
+abbrev pub IsSaidKept : Explanation → Type 0
+IsSaidKept x = (x ≡ unruled) ⊎ ((rule : CitedRule) × (x ≡ included rule))
 
 -- what is said of an entry agrees with its fate: it is left out for the same reason, or taken
-abbrev pub Agrees : (Origin → ℕ → CitedRule) → Fate → Explanation → Type 0
-Agrees cite (counted file) x = IsTaken x
-Agrees cite (failed word) x = IsTaken x
-Agrees cite (walked job) x = IsTaken x
-Agrees cite (left kind reason) x = x ≡ said_for cite ignored reason
+abbrev pub Agrees : (RuleSource → ℕ → CitedRule) → Fate → Explanation → Type 0
+Agrees cite (counted file) x = IsSaidKept x
+Agrees cite (failed word) x = IsSaidKept x
+Agrees cite (walked job) x = IsSaidKept x
+Agrees cite (skipped kind reason) x = x ≡ said_for cite ignored reason
 
 -- so it is for each entry of a directory
 abbrev pub EntryLaw : Type 0
 EntryLaw =
-    (s : SelectionModel) (exclude : List ℕ) (way : Way) (j : JobModel) (item : Item)
-    → Agrees (cited exclude way) (fate_of s j item) (said_of s exclude way j (name_of item) (entry_of item).kind)
+    (s : SelectionModel) (exclude : List ℕ) (stack : DirStack) (j : JobModel) (item : Item)
+    → Agrees (cited exclude stack) (fate_of s j item) (said_of s exclude stack j (name_of item) (entry_of item).kind)
 
 -- a directory on the way is left out for the reason that is told of, or else it is walked, by the job by which it is entered
 abbrev pub IntoLaw : Type 0
 IntoLaw =
     (s : SelectionModel) (j : JobModel) (name : List ℕ)
     → MatchOption (reason_for s j name Dir) (fate_of s j (directory_item name) ≡ walked (child_job j name))
-    (λ reason. fate_of s j (directory_item name) ≡ left Dir reason)
+    (λ reason. fate_of s j (directory_item name) ≡ skipped Dir reason)

@@ -1,7 +1,7 @@
-pub mod Waypoints
+pub mod OpenDirs
 pub mod Explained
 pub mod Findings
 pub mod ExplainText
 pub mod Explain
-pub mod Ways
+pub mod DirStacks
 pub mod Laws

@@ -6,21 +6,21 @@ ghost use Rattle.lc_level.specs.Level.{reason_for};
 ghost use Rattle.lc_level.specs.TopJob.{top_job};
 ghost use Rattle.lc_rules.specs.IgnoreChains.{rules_in};
 ghost use Rattle.lc_rules.specs.IgnoreRules.{rules_of};
-ghost use Rattle.lc_rules.specs.Verdicts.{deciding};
-ghost use Rattle.lc_rules.specs.declared.origin.Origin.{Origin};
+ghost use Rattle.lc_rules.specs.Verdicts.{last_match};
+ghost use Rattle.lc_rules.specs.declared.rule_source.RuleSource.{RuleSource};
 ghost use Rattle.lc_text.specs.PathLines.{is_bad_path};
 ghost use Rattle.lc_tree.specs.Kinds.{is_dir};
 ghost use Rattle.lc_explain.specs.Explained.{CitedRule, cited, kind_asked, is_directory, said_by, said_beside, IsExplained};
 ghost use Rattle.lc_explain.specs.Findings.{explanation_of, explanation_on};
-ghost use Rattle.lc_explain.specs.Waypoints.{WaypointModel, way_at, way_to, text_or_none, MayEnter};
-ghost use Rattle.lc_explain.specs.Ways.{StandsBelow, Goes, AreWays};
+ghost use Rattle.lc_explain.specs.OpenDirs.{OpenDirModel, stack_at, stack_to, text_or_none, MayEnter};
+ghost use Rattle.lc_explain.specs.DirStacks.{StandsBelow, Goes, AreStacks};
 
+use crate::explain_options::ExplainOptions;
 use crate::finding::{DirectoryFault, Finding, Found, RulePlace};
-use crate::kept_ways::{KeptWays, Near};
-use crate::question::Question;
-use crate::waypoint::Waypoint;
+use crate::open_dir::OpenDir;
+use crate::stack_cache::{Near, StackCache};
 use lc_glob::cut_at_first;
-use lc_level::{Job, Kept, LevelReader, OpenFault};
+use lc_level::{Job, LevelReader, OpenFault, ReaderOptions};
 use lc_text::{PathStyle, is_bad_path};
 use lc_tree::{Kind, Tree};
 use std::alloc::{AllocError, Global};
@@ -54,7 +54,7 @@ pub(crate) struct Explainer<'t, T> {
     /// The text of the exclude file.
     pub(crate) exclude: &'t [u8],
     pub(crate) style: PathStyle,
-    ghost keeps: { levels.kept.texts ≡ true },
+    ghost keeps: { levels.options.texts ≡ true },
     ghost starts: { top.path ≡ [] },
 }
 
@@ -62,24 +62,24 @@ impl<'t, T: Tree> Explainer<'t, T> {
     pub(crate) fn new(
         alloc: Global,
         tree: &'t T,
-        question: &'t Question<'t>,
+        options: &'t ExplainOptions<'t>,
     ) -> Result<Explainer<'t, T>, AllocError>
         ensures tree { IfOk result (λ e. e.levels.tree.now ≡ tree.entry.now) }
-        ensures selection { IfOk result (λ e. e.levels.selection ≡ question.entry.now.selection) }
-        ensures top { IfOk result (λ e. e.top ≡ top_job (option_map rules_of question.entry.now.exclude)) }
-        ensures exclude { IfOk result (λ e. e.exclude.now ≡ text_or_none question.entry.now.exclude) }
-        ensures style { IfOk result (λ e. e.style ≡ question.entry.now.style) }
+        ensures selection { IfOk result (λ e. e.levels.selection ≡ options.entry.now.selection) }
+        ensures top { IfOk result (λ e. e.top ≡ top_job (option_map rules_of options.entry.now.exclude)) }
+        ensures exclude { IfOk result (λ e. e.exclude.now ≡ text_or_none options.entry.now.exclude) }
+        ensures style { IfOk result (λ e. e.style ≡ options.entry.now.style) }
     {
-        let kept = Kept {
+        let options = ReaderOptions {
             left_out: false,
             texts: true,
         };
         Ok(Explainer {
             alloc,
-            levels: LevelReader::new(alloc, tree, question.selection.copy(), kept),
-            top: Job::top(alloc, question.exclude_rules()?)?,
-            exclude: question.exclude_text(),
-            style: question.style,
+            levels: LevelReader::new(alloc, tree, options.selection.copy(), reading),
+            top: Job::top(alloc, options.exclude_rules()?)?,
+            exclude: options.exclude_text(),
+            style: options.style,
         })
     }
 
@@ -87,19 +87,19 @@ impl<'t, T: Tree> Explainer<'t, T> {
     /// can't be entered.
     fn enter<'p>(
         &self,
-        kept: &mut KeptWays,
+        kept: &mut StackCache,
         above: Option<usize>,
         job: &Job,
         directory: &'p [u8],
     ) -> Result<Result<usize, DirectoryFault<'p>>, AllocError>
         requires { directory.now ≡ job.now.path }
         ensures { Goes (MayEnter (T.lists self.now.levels.tree.now) (T.gives self.now.levels.tree.now)) job.now
-            (way_to kept.old above) kept.old kept.new result }
+            (stack_to kept.old above) kept.old kept.new result }
     {
         match self.levels.enter(job, &mut kept.scratch) {
             Ok(entered) => {
-                let way = kept.below(above, Waypoint::new(entered))?;
-                let at = kept.keep(way)?;
+                let stack = kept.below(above, OpenDir::new(entered))?;
+                let at = kept.keep(stack)?;
                 Ok(Ok(at))
             }
             Err(OpenFault::Faulted(site, word)) => {
@@ -123,16 +123,16 @@ impl<'t, T: Tree> Explainer<'t, T> {
         kind: Kind,
     ) -> Result<Finding<'p>, AllocError>
         requires { path.now ≡ path_in job.now.path name.now }
-        ensures { IfOk result (λ f. (cite : Origin → ℕ → CitedRule) → explanation_of cite f
+        ensures { IfOk result (λ f. (cite : RuleSource → ℕ → CitedRule) → explanation_of cite f
             ≡ said_by cite (reason_for self.now.levels.selection job.now name.now kind)
-            (deciding (rules_in job.now.ignore) (path_in job.now.path name.now) (is_dir kind))) }
+            (last_match (rules_in job.now.ignore) (path_in job.now.path name.now) (is_dir kind))) }
     {
         if let Some(reason) = self.levels.reason(job, name, path, kind)? {
             return Ok(Finding::left_out(reason));
         }
-        match job.deciding(path, kind.is_dir()) {
-            Some((origin, rule)) => Ok(Finding::Included(RulePlace {
-                origin,
+        match job.last_match(path, kind.is_dir()) {
+            Some((source, rule)) => Ok(Finding::Included(RulePlace {
+                source,
                 line: rule.line(),
             })),
             None => Ok(Finding::NoRule),
@@ -149,8 +149,8 @@ impl<'t, T: Tree> Explainer<'t, T> {
     ) -> Result<Finding<'p>, AllocError>
         requires stands { path.now ≡ path_in job.path rest.now }
         requires good { is_bad_path path.now ≡ false }
-        ensures { IfOk result (λ f. (exclude : List ℕ) (way : List WaypointModel) → explanation_of (cited exclude way) f
-            ≡ said_beside self.now.levels.selection exclude way job (segments_of rest.now) as_dir) }
+        ensures { IfOk result (λ f. (exclude : List ℕ) (stack : List OpenDirModel) → explanation_of (cited exclude stack) f
+            ≡ said_beside self.now.levels.selection exclude stack job (segments_of rest.now) as_dir) }
     {
         let mut job = job;
         let mut rest = rest;
@@ -171,16 +171,16 @@ impl<'t, T: Tree> Explainer<'t, T> {
     /// Of what is left of a path below the last directory of a kept way.
     fn descend<'p>(
         &self,
-        kept: &mut KeptWays,
+        kept: &mut StackCache,
         near: Near<'p>,
         path: &'p [u8],
         as_dir: bool,
     ) -> Result<Found<'p>, AllocError>
-        requires ways { AreWays (MayEnter (T.lists self.now.levels.tree.now) (T.gives self.now.levels.tree.now)) self.now.levels.selection
+        requires stacks { AreStacks (MayEnter (T.lists self.now.levels.tree.now) (T.gives self.now.levels.tree.now)) self.now.levels.selection
             self.now.exclude.now self.now.top kept.old }
-        requires stands { StandsBelow (way_at kept.old near.at) path.now near.rest.now }
+        requires stands { StandsBelow (stack_at kept.old near.at) path.now near.rest.now }
         requires good { is_bad_path path.now ≡ false }
-        ensures ways { OnOk result (AreWays (MayEnter (T.lists self.now.levels.tree.now) (T.gives self.now.levels.tree.now))
+        ensures stacks { OnOk result (AreStacks (MayEnter (T.lists self.now.levels.tree.now) (T.gives self.now.levels.tree.now))
             self.now.levels.selection self.now.exclude.now self.now.top kept.new) }
         ensures found { IfOk result (λ f. IsExplained (MayEnter (T.lists self.now.levels.tree.now) (T.gives self.now.levels.tree.now))
             self.now.levels.selection self.now.exclude.now self.now.top path.now as_dir
@@ -220,13 +220,13 @@ impl<'t, T: Tree> Explainer<'t, T> {
     /// What is found of a path. The ways to the directories that were entered for it are kept.
     pub(crate) fn find<'p>(
         &self,
-        kept: &mut KeptWays,
+        kept: &mut StackCache,
         path: &'p [u8],
         as_dir: bool,
     ) -> Result<Found<'p>, AllocError>
-        requires { AreWays (MayEnter (T.lists self.now.levels.tree.now) (T.gives self.now.levels.tree.now)) self.now.levels.selection
+        requires { AreStacks (MayEnter (T.lists self.now.levels.tree.now) (T.gives self.now.levels.tree.now)) self.now.levels.selection
             self.now.exclude.now self.now.top kept.old }
-        ensures ways { OnOk result (AreWays (MayEnter (T.lists self.now.levels.tree.now) (T.gives self.now.levels.tree.now))
+        ensures stacks { OnOk result (AreStacks (MayEnter (T.lists self.now.levels.tree.now) (T.gives self.now.levels.tree.now))
             self.now.levels.selection self.now.exclude.now self.now.top kept.new) }
         ensures found { IfOk result (λ f. IsExplained (MayEnter (T.lists self.now.levels.tree.now) (T.gives self.now.levels.tree.now))
             self.now.levels.selection self.now.exclude.now self.now.top path.now as_dir

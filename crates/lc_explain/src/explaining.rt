@@ -4,9 +4,9 @@ ghost use Rattle.std.specs.Prelude.{◌≡◌, map};
 ghost use Rattle.lc_explain.specs.Explain.{MaySay, AnswersLines, AnswersExplain, input_fault, print_fault};
 ghost use Rattle.lc_explain.specs.declared.explaining.ExplainFault.TheVariants.{Memory};
 
+use crate::explain_options::ExplainOptions;
 use crate::explainer::Explainer;
 use crate::printing::{print_lines, print_words};
-use crate::question::Question;
 use lc_census::{Source, WholeFault, new_buffer, read_whole};
 use lc_text::{MAX_INPUT, Outcome, PrintFault, Sink};
 use lc_tree::Tree;
@@ -91,17 +91,17 @@ impl From<PrintFault> for ExplainFault {
 pub fn explain<T: Tree, S: Source, O: Sink>(
     alloc: Global,
     tree: &T,
-    question: &Question,
+    options: &ExplainOptions,
     input: &mut S,
     out: &mut O,
 ) -> Result<Outcome, ExplainFault>
-    ensures { AnswersExplain O.may_take question.now.style (MaySay (T.lists tree.now) (T.gives tree.now) question.now) S.may_give input.old
+    ensures { AnswersExplain O.may_take options.now.style (MaySay (T.lists tree.now) (T.gives tree.now) options.now) S.may_give input.old
         out.old result input.new out.new }
 {
     let mut buffer = new_buffer(alloc)?;
     let mut paths = Vec::new(alloc);
     read_whole(&mut buffer, &mut paths, input, MAX_INPUT)?;
-    let explainer = Explainer::new(alloc, tree, question)?;
+    let explainer = Explainer::new(alloc, tree, options)?;
     let outcome = print_lines(alloc, &explainer, &paths, out)?;
     Ok(outcome)
 }
@@ -112,13 +112,13 @@ pub fn explain<T: Tree, S: Source, O: Sink>(
 pub fn explain_words<T: Tree, O: Sink>(
     alloc: Global,
     tree: &T,
-    question: &Question,
+    options: &ExplainOptions,
     words: &[&str],
     out: &mut O,
 ) -> Result<Outcome, PrintFault>
-    ensures { AnswersLines O.may_take question.now.style (MaySay (T.lists tree.now) (T.gives tree.now) question.now)
+    ensures { AnswersLines O.may_take options.now.style (MaySay (T.lists tree.now) (T.gives tree.now) options.now)
         (map (λ word. word.now) words.now) out.old result out.new }
 {
-    let explainer = Explainer::new(alloc, tree, question)?;
+    let explainer = Explainer::new(alloc, tree, options)?;
     print_words(alloc, &explainer, words, out)
 }

@@ -2,18 +2,18 @@
 
 ghost use Rattle.std.specs.Prelude.{◌≡◌, ℕ, Some, None};
 ghost use Rattle.lc_level.specs.Reasons.{reason_model};
-ghost use Rattle.lc_rules.specs.declared.origin.Origin.{Origin};
+ghost use Rattle.lc_rules.specs.declared.rule_source.RuleSource.{RuleSource};
 ghost use Rattle.lc_explain.specs.Explained.{CitedRule, said_for};
 ghost use Rattle.lc_explain.specs.Explained as explained;
 ghost use Rattle.lc_explain.specs.Findings.{explanation_of};
 
 use lc_level::{FaultSite, FaultWord, Reason};
-use lc_rules::Origin;
+use lc_rules::RuleSource;
 
-/// Where a rule stands: the origin of its file, and the number of its line there, from 1.
+/// Where a rule stands: the source of its file, and the number of its line there, from 1.
 #[derive(Clone, Copy, Debug)]
 pub(crate) struct RulePlace {
-    pub(crate) origin: Origin,
+    pub(crate) source: RuleSource,
     pub(crate) line: u32,
 }
 
@@ -41,7 +41,7 @@ pub(crate) enum Finding<'a> {
     /// No rule decides it, and the walk takes it.
     NoRule,
     /// The walk leaves it out, or a directory above it, for this reason, which is no rule.
-    Left(Reason),
+    Skipped(Reason),
 }
 
 /// What is found of a path, and the number of the kept way on which it is, if a directory was entered.
@@ -73,21 +73,21 @@ impl<'a> Found<'a> {
 impl<'a> Finding<'a> {
     /// Of a path that is left out.
     pub(crate) fn left_out(reason: Reason) -> Finding<'a>
-        ensures { (cite : Origin → ℕ → CitedRule) → explanation_of cite result ≡ said_for cite explained.ignored (reason_model reason) }
+        ensures { (cite : RuleSource → ℕ → CitedRule) → explanation_of cite result ≡ said_for cite explained.ignored (reason_model reason) }
     {
         match reason {
-            Reason::Rule { origin, line } => Finding::Ignored(RulePlace { origin, line }),
-            other => Finding::Left(other),
+            Reason::Rule { source, line } => Finding::Ignored(RulePlace { source, line }),
+            other => Finding::Skipped(other),
         }
     }
 
     /// Of a path below a directory that is left out.
     pub(crate) fn below(reason: Reason) -> Finding<'a>
-        ensures { (cite : Origin → ℕ → CitedRule) → explanation_of cite result ≡ said_for cite explained.below (reason_model reason) }
+        ensures { (cite : RuleSource → ℕ → CitedRule) → explanation_of cite result ≡ said_for cite explained.below (reason_model reason) }
     {
         match reason {
-            Reason::Rule { origin, line } => Finding::Below(RulePlace { origin, line }),
-            other => Finding::Left(other),
+            Reason::Rule { source, line } => Finding::Below(RulePlace { source, line }),
+            other => Finding::Skipped(other),
         }
     }
 }

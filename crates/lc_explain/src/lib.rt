@@ -1,25 +1,25 @@
 //! Explanations of paths: which rule of a tree decides a path, as `git check-ignore -v -n` tells it.
 //!
-//! - `question`: what is asked, beside the paths
-//! - `waypoint`, `way`: the directories that were entered on the way to a path; `kept_ways`: the ways to those that paths came by
+//! - `explain_options`: what is asked, beside the paths
+//! - `open_dir`, `dir_stack`: the directories that were opened on the way to a path; `stack_cache`: the stacks of earlier paths
 //! - `finding`: what is found of a path; `explainer`: finding it, from the top of the tree down
-//! - `telling`: the text of what is found, a line for each path; `printing`: it is written as it is made
+//! - `output`: the text of what is found, a line for each path; `printing`: it is written as it is made
 //! - `explaining`: the lines of an input, or words, explained and written
 //! - `laws`: that an entry is explained as its level decides it
 #![tactic(auto)]
 
+mod dir_stack;
+mod explain_options;
 mod explainer;
 mod explaining;
 mod finding;
-mod kept_ways;
 mod laws;
+mod open_dir;
+mod output;
 mod printing;
-mod question;
-mod telling;
-mod way;
-mod waypoint;
+mod stack_cache;
 
+pub use explain_options::ExplainOptions;
 pub use explaining::{ExplainFault, explain, explain_words};
-pub use kept_ways::MAX_KEPT;
 pub use laws::entries_are_explained_as_decided;
-pub use question::Question;
+pub use stack_cache::MAX_KEPT;

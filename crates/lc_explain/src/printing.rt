@@ -4,11 +4,11 @@ ghost use Rattle.std.specs.Prelude.{map};
 ghost use Rattle.lc_text.specs.Lines.{input_lines_of};
 ghost use Rattle.lc_explain.specs.Explain.{AnswersLines};
 ghost use Rattle.lc_explain.specs.Explained.{IsExplained};
-ghost use Rattle.lc_explain.specs.Waypoints.{MayEnter};
+ghost use Rattle.lc_explain.specs.OpenDirs.{MayEnter};
 
 use crate::explainer::Explainer;
-use crate::kept_ways::KeptWays;
-use crate::telling::Telling;
+use crate::output::ExplainOutput;
+use crate::stack_cache::StackCache;
 use lc_text::{Outcome, PrintFault, Sink, split_line};
 use lc_tree::Tree;
 use std::alloc::Global;
@@ -24,16 +24,16 @@ pub(crate) fn print_lines<T: Tree, O: Sink>(
         (IsExplained (MayEnter (T.lists explainer.now.levels.tree.now) (T.gives explainer.now.levels.tree.now))
         explainer.now.levels.selection explainer.now.exclude.now explainer.now.top) (input_lines_of paths.now) out.old result out.new }
 {
-    let mut kept = KeptWays::new(alloc)?;
-    let mut telling = Telling::new(alloc);
+    let mut kept = StackCache::new(alloc)?;
+    let mut output = ExplainOutput::new(alloc);
     let mut rest = paths;
     'lines: while !rest.is_empty() {
         let (line, others) = split_line(rest);
-        telling.tell(explainer, &mut kept, line)?;
-        telling.block.print_if_full(out)?;
+        output.tell(explainer, &mut kept, line)?;
+        output.block.print_if_full(out)?;
         rest = others;
     }
-    let Telling { block, outcome } = telling;
+    let ExplainOutput { block, outcome } = output;
     block.print_rest(out)?;
     Ok(outcome)
 }
@@ -50,13 +50,13 @@ pub(crate) fn print_words<T: Tree, O: Sink>(
         explainer.now.levels.selection explainer.now.exclude.now explainer.now.top) (map (λ word. word.now) words.now) out.old result
         out.new }
 {
-    let mut kept = KeptWays::new(alloc)?;
-    let mut telling = Telling::new(alloc);
+    let mut kept = StackCache::new(alloc)?;
+    let mut output = ExplainOutput::new(alloc);
     for word in words {
-        telling.tell(explainer, &mut kept, word.as_bytes())?;
-        telling.block.print_if_full(out)?;
+        output.tell(explainer, &mut kept, word.as_bytes())?;
+        output.block.print_if_full(out)?;
     }
-    let Telling { block, outcome } = telling;
+    let ExplainOutput { block, outcome } = output;
     block.print_rest(out)?;
     Ok(outcome)
 }

@@ -3,49 +3,49 @@ use Rattle.std.proofs.Common.{◌≡◌, ℕ, ◌+◌, ◌≤◌, true, false, c
 use Rattle.std.proofs.Common.{Option}
 use Rattle.std.specs.List.{Contains}
 use Rattle.lc_explain.specs.Explained.{Explanation, bad, ignored, cited, said_for, IsExplained}
-use Rattle.lc_explain.specs.Laws.{IsTaken, EntryLaw}
-use Rattle.lc_explain.specs.Waypoints.{Way, MayEnter, text_or_none}
+use Rattle.lc_explain.specs.Laws.{IsSaidKept, EntryLaw}
+use Rattle.lc_explain.specs.OpenDirs.{DirStack, MayEnter, text_or_none}
 use Rattle.lc_glob.specs.Path.{path_in, segments_of}
 use Rattle.lc_level.specs.Answers.{Tree}
 use Rattle.lc_level.specs.Job.{JobModel}
-use Rattle.lc_level.specs.Level.{Reason, named_git, by_rule, by_attribute, other_kind, counted, left}
+use Rattle.lc_level.specs.Level.{Reason, named_git, by_rule, by_attribute, other_kind, counted, skipped}
 use Rattle.lc_level.specs.OneAnswer.{GivesOne}
 use Rattle.lc_level.specs.Selection.{SelectionModel}
 use Rattle.lc_level.specs.TopJob.{top_job}
 use Rattle.lc_rules.specs.IgnoreRules.{RuleModel}
 use Rattle.lc_text.specs.PathLines.{is_bad_path}
 use Rattle.lc_tree.specs.Trees.{Listings, Contents}
-use Rattle.lc_walk.specs.ReportLines.{left_paths}
+use Rattle.lc_walk.specs.ReportLines.{skipped_paths}
 use Rattle.lc_walk.specs.TreeOfRows.{tree_of_rows}
 use Rattle.lc_walk.specs.Walk.{walk_of}
 use Rattle.lc_walk.specs.WalkOptions.{asked_by, top_of}
 use Rattle.lc_walk.specs.WalkReport.{IsReportOf}
-use Rattle.lc_walk.specs.declared.options.Lists.{Lists}
+use Rattle.lc_walk.specs.declared.options.ReportLists.{ReportLists}
 use Rattle.lc_walk.specs.declared.report.Report.{Report}
 use Rattle.lc_walk.proofs.FoundByPlace.{place_by_walk}
-use Rattle.lc_laws.specs.CountsExplained.{IsSaidLeft, AgreesOn, ExplainedLaw}
+use Rattle.lc_laws.specs.CountsExplained.{IsSaidSkipped, AgreesOn, ExplainedLaw}
 use Rattle.lc_laws.specs.Entries.{LeadDown}
-use Rattle.lc_laws.specs.ReportedPaths.{IsCounted, IsLeft}
+use Rattle.lc_laws.specs.ReportedPaths.{IsCounted, IsSkipped}
 use Rattle.lc_laws.proofs.Following.{IsSaidBelow, entry_agrees}
 use Rattle.lc_laws.proofs.OneWay.{IsGiven}
-use Rattle.lc_laws.proofs.ReportLists.{counted_found, left_found, left_somehow}
+use Rattle.lc_laws.proofs.ReportLists.{counted_found, skipped_found, skipped_somehow}
 use Rattle.lc_laws.proofs.RowTrees.{rows_given}
-use Rattle.lc_laws.proofs.Telling.{told}
+use Rattle.lc_laws.proofs.ExplainedEntries.{told}
 
 -- what is said for a reason, by any citing of its rule
-said_left : (exclude : List ℕ) (way : Way) (reason : Reason) (x : Explanation) → x ≡ said_for (cited exclude way) ignored reason
-    → IsSaidLeft reason x
-said_left exclude way named_git x e = e
-said_left exclude way (by_rule origin line) x e = ((cited exclude way origin line).text, e)
-said_left exclude way (by_attribute name) x e = e
-said_left exclude way other_kind x e = e
+said_skipped : (exclude : List ℕ) (stack : DirStack) (reason : Reason) (x : Explanation) → x ≡ said_for (cited exclude stack) ignored reason
+    → IsSaidSkipped reason x
+said_skipped exclude stack named_git x e = e
+said_skipped exclude stack (by_rule source line) x e = ((cited exclude stack source line).text, e)
+said_skipped exclude stack (by_attribute name) x e = e
+said_skipped exclude stack other_kind x e = e
 
 -- what is said to be left out is not said to be taken
-not_both : (reason : Reason) (x : Explanation) → IsSaidLeft reason x → IsTaken x → ⊥
+not_both : (reason : Reason) (x : Explanation) → IsSaidSkipped reason x → IsSaidKept x → ⊥
 not_both named_git x e (inl u) = absurd (cc (sym e ∙ u))
 not_both named_git x e (inr u) = absurd (cc (sym e ∙ u.1))
-not_both (by_rule origin line) x e (inl u) = absurd (cc (sym e.1 ∙ u))
-not_both (by_rule origin line) x e (inr u) = absurd (cc (sym e.1 ∙ u.1))
+not_both (by_rule source line) x e (inl u) = absurd (cc (sym e.1 ∙ u))
+not_both (by_rule source line) x e (inr u) = absurd (cc (sym e.1 ∙ u.1))
 not_both (by_attribute name) x e (inl u) = absurd (cc (sym e ∙ u))
 not_both (by_attribute name) x e (inr u) = absurd (cc (sym e ∙ u.1))
 not_both other_kind x e (inl u) = absurd (cc (sym e ∙ u))
@@ -54,10 +54,10 @@ not_both other_kind x e (inr u) = absurd (cc (sym e ∙ u.1))
 module _ (law : EntryLaw) (lists : List ℕ → Listings) (gives : List ℕ → Contents) (one : GivesOne lists gives) (s : SelectionModel)
     (whole : s.only ≡ []) (exclude : List ℕ) (x : Explanation) (top : JobModel) (at_top : top.path ≡ []) (t : Tree)
     (given : IsGiven lists gives s top t)
-    (asked : Lists) (depth : ℕ) (r : Report) (report : IsReportOf asked (walk_of s depth top t) r) (files : asked.files ≡ true)
-    (lefts : asked.left_out ≡ true) (path : List ℕ) (good : is_bad_path path ≡ false)
+    (asked : ReportLists) (depth : ℕ) (r : Report) (report : IsReportOf asked (walk_of s depth top t) r) (files : asked.files ≡ true)
+    (skipped_ones : asked.left_out ≡ true) (path : List ℕ) (good : is_bad_path path ≡ false)
     (said : IsExplained (MayEnter lists gives) s exclude top path false x) where
-  counted_said : IsCounted r path → IsTaken x
+  counted_said : IsCounted r path → IsSaidKept x
   counted_said has =
       let c = counted_found asked (walk_of s depth top t) r report files path has in
       let p = place_by_walk s depth top t _ c.found in
@@ -65,24 +65,24 @@ module _ (law : EntryLaw) (lists : List ℕ → Listings) (gives : List ℕ → 
       (entry_agrees lists gives one s exclude x law top t at_top given p.place p.job p.leads c.file.name (counted c.file) p.gives.1 path
       (c.path_is ∙ ap (λ d. path_in d c.file.name) d) good said).1
 
-  left_said : (reason : Reason) → IsLeft r path reason → IsSaidLeft reason x
-  left_said reason has =
-      let l = left_found asked (walk_of s depth top t) r report lefts path reason has in
+  skipped_said : (reason : Reason) → IsSkipped r path reason → IsSaidSkipped reason x
+  skipped_said reason has =
+      let l = skipped_found asked (walk_of s depth top t) r report skipped_ones path reason has in
       let p = place_by_walk s depth top t _ l.found in
       let a = entry_agrees lists gives one s exclude x law top t at_top given p.place p.job p.leads l.entry.name
-      (left l.entry.kind l.entry.reason) p.gives.1 path (l.path_is ∙ ap (λ d. path_in d l.entry.name) p.gives.0) good said in
-      subst (λ w. IsSaidLeft w x) l.reason_is (said_left exclude a.0 l.entry.reason x a.1)
+      (skipped l.entry.kind l.entry.reason) p.gives.1 path (l.path_is ∙ ap (λ d. path_in d l.entry.name) p.gives.0) good said in
+      subst (λ w. IsSaidSkipped w x) l.reason_is (said_skipped exclude a.0 l.entry.reason x a.1)
 
-  taken_kept : IsTaken x → Contains (left_paths r.left.items) path → ⊥
-  taken_kept taken has = let l = left_somehow r path has in not_both l.0 x (left_said l.0 l.1) taken
+  taken_kept : IsSaidKept x → Contains (skipped_paths r.skipped.items) path → ⊥
+  taken_kept taken has = let l = skipped_somehow r path has in not_both l.0 x (skipped_said l.0 l.1) taken
 
   -- a report agrees on the path with what is said of it
   pub agrees : length (segments_of path) ≤ depth → AgreesOn lists r path x
   agrees deep = record {
     counted = counted_said;
-    left = left_said;
+    skipped = skipped_said;
     told = λ kind entry.
-        told lists gives one s whole exclude x top t given asked depth r report files lefts path kind taken_kept
+        told lists gives one s whole exclude x top t given asked depth r report files skipped_ones path kind taken_kept
         (segments_of path) [] [] top refl
         (omega (arith, deep)) path refl (sym (ap (λ d. path_in d path) at_top))
         (subst (λ d. LeadDown lists d (segments_of path) kind) (sym at_top) entry)

@@ -2,7 +2,7 @@
 use Rattle.std.proofs.Common.{◌≡◌, ℕ, ◌+◌, ◌<◌, Bool, true, false, cond, nat_eq, List, [], ◌∷◌, ◌++◌, length, take, get_or, refl}
 use Rattle.std.proofs.Common.{sym, ◌∙◌, ap, subst, arith, Option, Some, None, ◌⊎◌, inl, inr, length-append, codes}
 use Rattle.std.proofs.Math.Seq.{get_or-append_seam, take-append_seam}
-use Rattle.lc_explain.specs.Waypoints.{kind_in}
+use Rattle.lc_explain.specs.OpenDirs.{kind_in}
 use Rattle.lc_explain.proofs.PathSegments.{names_below}
 use Rattle.lc_glob.proofs.Naming.{has_first, segments_apart}
 use Rattle.lc_glob.specs.Bytes.{slash}
@@ -15,10 +15,10 @@ use Rattle.lc_level.specs.Selection.{SelectionModel}
 use Rattle.lc_level.specs.TopJob.{top_job}
 use Rattle.lc_level.proofs.WellFormed.{Spread}
 use Rattle.lc_rules.specs.IgnoreChains.{rules_in}
-use Rattle.lc_rules.specs.IgnoreLaws.{DecidingLaw}
+use Rattle.lc_rules.specs.IgnoreLaws.{LastMatchLaw}
 use Rattle.lc_rules.specs.IgnoreRules.{RuleModel, rules_of}
-use Rattle.lc_rules.specs.Verdicts.{at_depth, deciding, verdict_from}
-use Rattle.lc_rules.specs.declared.origin.Origin.{Origin}
+use Rattle.lc_rules.specs.Verdicts.{at_depth, last_match, verdict_from}
+use Rattle.lc_rules.specs.declared.rule_source.RuleSource.{RuleSource}
 use Rattle.lc_rules.specs.declared.verdicts.Verdict.{Verdict}
 use Rattle.lc_rules.specs.declared.verdicts.Verdict.TheVariants.{Ignored, Included, NoRule}
 use Rattle.lc_text.specs.CheckText.{file_verdict, is_ignored, has_ignored_parent, verdict_word, path_word}
@@ -31,18 +31,18 @@ use Rattle.lc_tree.specs.declared.entry.Kind.{Kind}
 use Rattle.lc_tree.specs.declared.entry.Kind.TheVariants.{Dir}
 use Rattle.lc_walk.specs.Accounts.{RuleLaw}
 use Rattle.lc_walk.specs.FoundAt.{IsListed, LeadsTo}
-use Rattle.lc_walk.specs.ReportLines.{LeftLineModel}
+use Rattle.lc_walk.specs.ReportLines.{SkippedLineModel}
 use Rattle.lc_walk.specs.TreeOfRows.{tree_of_rows}
 use Rattle.lc_walk.specs.Walk.{walk_of}
 use Rattle.lc_walk.specs.WalkOptions.{asked_by, top_of}
 use Rattle.lc_walk.specs.WalkReport.{IsReportOf}
-use Rattle.lc_walk.specs.declared.options.Lists.{Lists}
+use Rattle.lc_walk.specs.declared.options.ReportLists.{ReportLists}
 use Rattle.lc_walk.specs.declared.report.Report.{Report}
 use Rattle.lc_walk.proofs.Elements.{In, is_in, contains}
 use Rattle.lc_walk.proofs.Levels.{well_formed_items}
 use Rattle.lc_laws.specs.CountsChecked.{IsCheckedOut, IsRuledOut, CheckedLaw}
 use Rattle.lc_laws.specs.Entries.{HasListed, LeadDown, IsEntry}
-use Rattle.lc_laws.specs.ReportedPaths.{IsLeft}
+use Rattle.lc_laws.specs.ReportedPaths.{IsSkipped}
 use Rattle.lc_laws.proofs.Checking.{plain, decided}
 use Rattle.lc_laws.proofs.Items.{item_of}
 use Rattle.lc_laws.proofs.OneWay.{kind_found, good_name, one_segment, IsGiven, place_names}
@@ -152,31 +152,31 @@ module _ (lists : List ℕ → Listings) (gives : List ℕ → Contents) (one : 
 
 -- ---- by the report
 
-module _ (law : RuleLaw) (last : DecidingLaw) (lists : List ℕ → Listings) (gives : List ℕ → Contents) (one : GivesOne lists gives)
-    (t : Tree) (given : IsGiven lists gives plain (top_job None) t) (asked : Lists) (depth : ℕ) (r : Report)
+module _ (law : RuleLaw) (last : LastMatchLaw) (lists : List ℕ → Listings) (gives : List ℕ → Contents) (one : GivesOne lists gives)
+    (t : Tree) (given : IsGiven lists gives plain (top_job None) t) (asked : ReportLists) (depth : ℕ) (r : Report)
     (report : IsReportOf asked (walk_of plain depth (top_job None) t) r) (rules : List RuleModel)
     (chain : (place : List (List ℕ)) (k : JobModel) → LeadsTo plain (top_job None) t place k → (items : List Item) (inside : JobModel)
     → IsListed k (t place) items inside → rules_in inside.ignore ≡ at_depth 0 rules) where
   -- what a rule leaves out is ignored by the check
-  ignored_there : (path : List ℕ) (kind : Kind) (origin : Origin) (line : ℕ) → IsEntry lists path kind → IsLeft r path (by_rule origin line)
+  ignored_there : (path : List ℕ) (kind : Kind) (source : RuleSource) (line : ℕ) → IsEntry lists path kind → IsSkipped r path (by_rule source line)
       → is_ignored (file_verdict rules path (is_dir kind)) ≡ true
-  ignored_there path kind origin line entry has =
-      let left : LeftLineModel = record { path = path; kind = has.0; reason = by_rule origin line } in
-      let by = law asked plain depth (top_job None) t r report left origin line has.1 refl in
+  ignored_there path kind source line entry has =
+      let skipped : SkippedLineModel = record { path = path; kind = has.0; reason = by_rule source line } in
+      let by = law asked plain depth (top_job None) t r report skipped source line has.1 refl in
       let own = kind_same lists gives one plain (top_job None) t refl given by.place by.job by.leads by.items by.inside by.listed by.item
       (is_in by.item by.items by.has) path by.path_is kind entry in
-      let decides = (last (rules_in by.inside.ignore) path (is_dir (entry_of by.item).kind)).1 (origin, by.rule) by.decides in
-      ap (λ rs. is_ignored (verdict_from (deciding rs path (is_dir kind))))
+      let decides = (last (rules_in by.inside.ignore) path (is_dir (entry_of by.item).kind)).1 (source, by.rule) by.decides in
+      ap (λ rs. is_ignored (verdict_from (last_match rs path (is_dir kind))))
       (sym (chain by.place by.job by.leads by.items by.inside by.listed))
-      ∙ ap (λ (d : Kind). is_ignored (verdict_from (deciding (rules_in by.inside.ignore) path (is_dir d)))) (sym own)
+      ∙ ap (λ (d : Kind). is_ignored (verdict_from (last_match (rules_in by.inside.ignore) path (is_dir d)))) (sym own)
       ∙ ap (λ found. is_ignored (verdict_from found)) decides ∙ ap (λ b. is_ignored (cond b Included Ignored)) by.ignores
 
   -- what a report says to be ruled out, itself or by a directory above it, a check calls ignored or below
   pub checked_out : (path : List ℕ) (kind : Kind) → IsEntry lists path kind → is_bad_path path ≡ false → IsRuledOut r path
       → IsCheckedOut rules path kind
-  checked_out path kind entry good (origin, line, inl has) =
-      out_itself (file_verdict rules) path (is_dir kind) good (ignored_there path kind origin line entry has)
-  checked_out path kind entry good (origin, line, inr (directory, rest, is, has)) =
+  checked_out path kind entry good (source, line, inl has) =
+      out_itself (file_verdict rules) path (is_dir kind) good (ignored_there path kind source line entry has)
+  checked_out path kind entry good (source, line, inr (directory, rest, is, has)) =
       let first = has_first directory in
       let next = has_first rest in
       let names : segments_of path ≡ segments_of directory ++ next.first ∷ next.others =
@@ -184,10 +184,10 @@ module _ (law : RuleLaw) (last : DecidingLaw) (lists : List ℕ → Listings) (g
       let some : segments_of directory ≡ [] → ⊥ = λ e. let none : first.first ∷ first.others ≡ [] = sym first.are ∙ e in absurd (cc none) in
       let above = down_above lists [] (segments_of directory) next.first next.others kind some
       (subst (λ l. LeadDown lists [] l kind) names entry) in
-      out_below (file_verdict rules) path (is_dir kind) good directory rest is (ignored_there directory Dir origin line above has)
+      out_below (file_verdict rules) path (is_dir kind) good directory rest is (ignored_there directory Dir source line above has)
 
 -- so does the report of a walk
-pub checked_law : RuleLaw → DecidingLaw → (lists : List ℕ → Listings) (gives : List ℕ → Contents) → CheckedLaw lists gives
+pub checked_law : RuleLaw → LastMatchLaw → (lists : List ℕ → Listings) (gives : List ℕ → Contents) → CheckedLaw lists gives
 checked_law law last lists gives one bytes has o r asks walks faultless path kind entry good no_git = (
   λ out. by out (decided lists gives one t given o.lists depth r report asks.left_out faultless (rules_of bytes) chain path kind
       (segments_of path) [] [] (top_job None) refl (omega arith) path refl refl (λ m. refl)

@@ -6,7 +6,7 @@ use Rattle.std.proofs.Common.{append-nil, codes}
 use Rattle.std.specs.List.{Contains, AllByRecursion}
 use Rattle.std.specs.Option.{is_none, option_map_or, option_or}
 use Rattle.std.proofs.Math.Seq.{get_or-append_seam, take-append_seam}
-use Rattle.lc_explain.specs.Waypoints.{WaypointModel, waypoint}
+use Rattle.lc_explain.specs.OpenDirs.{OpenDirModel, open_dir}
 use Rattle.lc_explain.proofs.PathSegments.{below_child, joined_end}
 use Rattle.lc_glob.specs.Bytes.{slash}
 use Rattle.lc_glob.specs.Path.{path_in, segments_of}
@@ -14,7 +14,7 @@ use Rattle.lc_level.specs.Answers.{Item, file_item, directory_item, other_item, 
 use Rattle.lc_level.specs.FaultLines.{FaultLineModel}
 use Rattle.lc_level.specs.Job.{JobModel}
 use Rattle.lc_level.specs.Level.{Reason, named_git, by_rule, other_kind, walked}
-use Rattle.lc_level.specs.Level.{left, rule_reason, reason_at, reason_of, file_fate, fate_of}
+use Rattle.lc_level.specs.Level.{skipped, rule_reason, reason_at, reason_of, file_fate, fate_of}
 use Rattle.lc_level.specs.Level.{child_job}
 use Rattle.lc_level.specs.OneAnswer.{GivesOne}
 use Rattle.lc_level.specs.Selection.{SelectionModel, selection_of}
@@ -22,8 +22,8 @@ use Rattle.lc_level.specs.TopJob.{top_job}
 use Rattle.lc_level.proofs.WellFormed.{Spread, other_bytes}
 use Rattle.lc_rules.specs.IgnoreChains.{rules_in}
 use Rattle.lc_rules.specs.IgnoreRules.{RuleModel}
-use Rattle.lc_rules.specs.Verdicts.{at_depth, deciding, verdict_from}
-use Rattle.lc_rules.specs.declared.origin.Origin.{Origin}
+use Rattle.lc_rules.specs.Verdicts.{at_depth, last_match, verdict_from}
+use Rattle.lc_rules.specs.declared.rule_source.RuleSource.{RuleSource}
 use Rattle.lc_rules.specs.declared.verdicts.Verdict.{Verdict}
 use Rattle.lc_rules.specs.declared.verdicts.Verdict.TheVariants.{Ignored, Included}
 use Rattle.lc_text.specs.CheckText.{file_verdict, is_ignored, is_ignored_parent, has_ignored_parent, IsClearTo}
@@ -35,18 +35,18 @@ use Rattle.lc_tree.specs.declared.entry.Kind.TheVariants.{File, Dir, Other}
 use Rattle.lc_walk.specs.FoundAt.{IsListed, WalksInto, LeadsTo}
 use Rattle.lc_walk.specs.Walk.{walk_of}
 use Rattle.lc_walk.specs.WalkReport.{IsReportOf}
-use Rattle.lc_walk.specs.declared.options.Lists.{Lists}
+use Rattle.lc_walk.specs.declared.options.ReportLists.{ReportLists}
 use Rattle.lc_walk.specs.declared.report.Report.{Report}
 use Rattle.lc_walk.proofs.Elements.{In, is_in}
 use Rattle.lc_walk.proofs.Levels.{well_formed_items}
 use Rattle.lc_walk.proofs.OneTree.{leads_on}
 use Rattle.lc_laws.specs.CountsChecked.{IsRuledOut}
 use Rattle.lc_laws.specs.Entries.{LeadDown}
-use Rattle.lc_laws.specs.ReportedPaths.{IsLeft}
+use Rattle.lc_laws.specs.ReportedPaths.{IsSkipped}
 use Rattle.lc_laws.proofs.FirstSegments.{first_cut}
 use Rattle.lc_laws.proofs.Items.{IsItem, item_of, directory_is}
 use Rattle.lc_laws.proofs.OneWay.{entered_listed, good_name, IsGiven}
-use Rattle.lc_laws.proofs.Placed.{fault_there, left_there}
+use Rattle.lc_laws.proofs.Placed.{fault_there, skipped_there}
 use Rattle.lc_laws.proofs.TakingPart.{part_has}
 
 -- ---- a path whose directories are not ignored
@@ -84,15 +84,15 @@ module _ (verdict : List ℕ → Bool → Verdict) (path : List ℕ) where
 -- ---- one entry
 
 -- by the rule that decides: it ignores, or nothing does
-ruled : (found : Option (Origin × RuleModel))
-    → ((origin : Origin) × (line : ℕ) × (option_or (rule_reason found) None ≡ Some (by_rule origin line)))
+ruled : (found : Option (RuleSource × RuleModel))
+    → ((source : RuleSource) × (line : ℕ) × (option_or (rule_reason found) None ≡ Some (by_rule source line)))
     ⊎ ((option_or (rule_reason found) None ≡ None) × (is_ignored (verdict_from found) ≡ false))
 ruled None = inr (refl, refl)
 ruled (Some rule) = at rule.1.is_negated
   where
     at : (b : Bool)
-        → ((origin : Origin) × (line : ℕ)
-        × (option_or (cond b None (Some (by_rule rule.0 rule.1.line))) None ≡ Some (by_rule origin line)))
+        → ((source : RuleSource) × (line : ℕ)
+        × (option_or (cond b None (Some (by_rule rule.0 rule.1.line))) None ≡ Some (by_rule source line)))
         ⊎ ((option_or (cond b None (Some (by_rule rule.0 rule.1.line))) None ≡ None) × (is_ignored (cond b Included Ignored) ≡ false))
     at true = inr (refl, refl)
     at false = inl (rule.0, rule.1.line, refl)
@@ -103,41 +103,41 @@ plain = selection_of false []
 
 reason_ruled : (inside : JobModel) (rules : List RuleModel) → rules_in inside.ignore ≡ at_depth 0 rules → (name : List ℕ) (as_dir : Bool)
     → name ≢ codes ".git"
-    → ((origin : Origin) × (line : ℕ) × (reason_of plain inside name as_dir ≡ Some (by_rule origin line)))
+    → ((source : RuleSource) × (line : ℕ) × (reason_of plain inside name as_dir ≡ Some (by_rule source line)))
     ⊎ ((reason_of plain inside name as_dir ≡ None) × (is_ignored (file_verdict rules (path_in inside.path name) as_dir) ≡ false))
-reason_ruled inside rules chain name as_dir other = at (ruled (deciding (at_depth 0 rules) path as_dir))
+reason_ruled inside rules chain name as_dir other = at (ruled (last_match (at_depth 0 rules) path as_dir))
   where
     path : List ℕ
     path = path_in inside.path name
 
     shown : reason_of plain inside name as_dir ≡ option_or
-        (rule_reason (deciding (at_depth 0 rules) (path_in inside.path name) as_dir)) None
+        (rule_reason (last_match (at_depth 0 rules) (path_in inside.path name) as_dir)) None
     shown =
         ap (λ b. cond b (Some named_git) (reason_at plain inside (path_in inside.path name) as_dir)) (other_bytes name (codes ".git") other)
-        ∙ ap (λ rs. option_or (rule_reason (deciding rs (path_in inside.path name) as_dir)) None) chain
+        ∙ ap (λ rs. option_or (rule_reason (last_match rs (path_in inside.path name) as_dir)) None) chain
 
-    at : ((origin : Origin) × (line : ℕ)
-        × (option_or (rule_reason (deciding (at_depth 0 rules) (path_in inside.path name) as_dir)) None ≡ Some (by_rule origin line)))
-        ⊎ ((option_or (rule_reason (deciding (at_depth 0 rules) (path_in inside.path name) as_dir)) None ≡ None)
-        × (is_ignored (verdict_from (deciding (at_depth 0 rules) (path_in inside.path name) as_dir)) ≡ false))
-        → ((origin : Origin) × (line : ℕ) × (reason_of plain inside name as_dir ≡ Some (by_rule origin line)))
+    at : ((source : RuleSource) × (line : ℕ)
+        × (option_or (rule_reason (last_match (at_depth 0 rules) (path_in inside.path name) as_dir)) None ≡ Some (by_rule source line)))
+        ⊎ ((option_or (rule_reason (last_match (at_depth 0 rules) (path_in inside.path name) as_dir)) None ≡ None)
+        × (is_ignored (verdict_from (last_match (at_depth 0 rules) (path_in inside.path name) as_dir)) ≡ false))
+        → ((source : RuleSource) × (line : ℕ) × (reason_of plain inside name as_dir ≡ Some (by_rule source line)))
         ⊎ ((reason_of plain inside name as_dir ≡ None) × (is_ignored (file_verdict rules (path_in inside.path name) as_dir) ≡ false))
-    at (inl (origin, line, e)) = inl (origin, line, shown ∙ e)
+    at (inl (source, line, e)) = inl (source, line, shown ∙ e)
     at (inr (none, kept)) = inr (shown ∙ none, kept)
 
 -- what has a reason is left out for it
-fate_left : (s : SelectionModel) (inside : JobModel) (item : Item) (reason : Reason)
+fate_skipped : (s : SelectionModel) (inside : JobModel) (item : Item) (reason : Reason)
     → reason_of s inside (name_of item) (is_dir (entry_of item).kind) ≡ Some reason
-    → fate_of s inside item ≡ left (entry_of item).kind reason
-fate_left s inside (file_item n c rules) reason e = ap (λ o. option_map_or (left File) o (file_fate inside n c)) e
-fate_left s inside (directory_item n) reason e = ap (λ o. option_map_or (left Dir) o (walked (child_job inside n))) e
-fate_left s inside (other_item n) reason e = ap (λ o. option_map_or (left Other) o (left Other other_kind)) e
+    → fate_of s inside item ≡ skipped (entry_of item).kind reason
+fate_skipped s inside (file_item n c rules) reason e = ap (λ o. option_map_or (skipped File) o (file_fate inside n c)) e
+fate_skipped s inside (directory_item n) reason e = ap (λ o. option_map_or (skipped Dir) o (walked (child_job inside n))) e
+fate_skipped s inside (other_item n) reason e = ap (λ o. option_map_or (skipped Other) o (skipped Other other_kind)) e
 
 -- ---- down to the entry
 
 module _ (lists : List ℕ → Listings) (gives : List ℕ → Contents) (one : GivesOne lists gives) (t : Tree)
-    (given : IsGiven lists gives plain (top_job None) t) (asked : Lists) (depth : ℕ) (r : Report)
-    (report : IsReportOf asked (walk_of plain depth (top_job None) t) r) (lefts : asked.left_out ≡ true)
+    (given : IsGiven lists gives plain (top_job None) t) (asked : ReportLists) (depth : ℕ) (r : Report)
+    (report : IsReportOf asked (walk_of plain depth (top_job None) t) r) (skipped_ones : asked.left_out ≡ true)
     (faultless : r.faults.items ≡ []) (rules : List RuleModel)
     (chain : (place : List (List ℕ)) (k : JobModel) → LeadsTo plain (top_job None) t place k → (items : List Item) (inside : JobModel)
     → IsListed k (t place) items inside → rules_in inside.ignore ≡ at_depth 0 rules)
@@ -154,9 +154,9 @@ module _ (lists : List ℕ → Listings) (gives : List ℕ → Contents) (one : 
     listed : IsListed k (t place) items inside
 
   met : (place : List (List ℕ)) (k : JobModel) → LeadsTo plain (top_job None) t place k → length place < depth → IsMet k place
-  met place k leads shallow = by (waypoint k (t place)) refl
+  met place k leads shallow = by (open_dir k (t place)) refl
     where
-      by : (w : Result WaypointModel FaultLineModel) → waypoint k (t place) ≡ w → IsMet k place
+      by : (w : Result OpenDirModel FaultLineModel) → open_dir k (t place) ≡ w → IsMet k place
       by (Ok here) is =
           let l = entered_listed k (t place) here is in record { items = l.items; inside = here.job; listed = l.listed }
       by (Err fault) is =
@@ -195,17 +195,17 @@ module _ (lists : List ℕ → Listings) (gives : List ℕ → Contents) (one : 
       inside_path : m.inside.path ≡ k.path
       inside_path = ap (λ (j : JobModel). j.path) m.listed.is
 
-      by : ((origin : Origin) × (line : ℕ) × (reason_of plain m.inside name (is_dir kind) ≡ Some (by_rule origin line)))
+      by : ((source : RuleSource) × (line : ℕ) × (reason_of plain m.inside name (is_dir kind) ≡ Some (by_rule source line)))
           ⊎ ((reason_of plain m.inside name (is_dir kind) ≡ None)
           × (is_ignored (file_verdict rules (path_in m.inside.path name) (is_dir kind)) ≡ false)) → IsDecided
-      by (inl (origin, line, e)) =
-          let fate = fate_left plain m.inside i.item (by_rule origin line)
+      by (inl (source, line, e)) =
+          let fate = fate_skipped plain m.inside i.item (by_rule source line)
           (ap (λ n. reason_of plain m.inside n (is_dir (entry_of i.item).kind)) i.named
           ∙ ap (λ (d : Kind). reason_of plain m.inside name (is_dir d)) i.kind_is ∙ e) in
-          let there = left_there plain refl (top_job None) t asked depth r report place k leads shallow m.items m.inside m.listed lefts
+          let there = skipped_there plain refl (top_job None) t asked depth r report place k leads shallow m.items m.inside m.listed skipped_ones
           i.item
-          i.has (entry_of i.item).kind (by_rule origin line) fate in
-          inl (origin, line, inl (subst (λ p. IsLeft r p (by_rule origin line)) (ap (path_in k.path) i.named ∙ sym path_is) there))
+          i.has (entry_of i.item).kind (by_rule source line) fate in
+          inl (source, line, inl (subst (λ p. IsSkipped r p (by_rule source line)) (ap (path_in k.path) i.named ∙ sym path_is) there))
       by (inr (none, kept)) =
           let good = good_name m.items spread i.item i.has in
           let no_slash : AllByRecursion (λ b. nat_eq b 47 ≡ false) name =
@@ -249,14 +249,14 @@ module _ (lists : List ℕ → Listings) (gives : List ℕ → Contents) (one : 
       inside_path : m.inside.path ≡ k.path
       inside_path = ap (λ (j : JobModel). j.path) m.listed.is
 
-      by : ((origin : Origin) × (line : ℕ) × (reason_of plain m.inside name true ≡ Some (by_rule origin line)))
+      by : ((source : RuleSource) × (line : ℕ) × (reason_of plain m.inside name true ≡ Some (by_rule source line)))
           ⊎ ((reason_of plain m.inside name true ≡ None)
           × (is_ignored (file_verdict rules (path_in m.inside.path name) true) ≡ false)) → IsDecided
-      by (inl (origin, line, e)) =
-          let there = left_there plain refl (top_job None) t asked depth r report place k leads shallow m.items m.inside m.listed lefts
-          (directory_item name) has Dir (by_rule origin line) (fate_left plain m.inside (directory_item name) (by_rule origin line) e) in
+      by (inl (source, line, e)) =
+          let there = skipped_there plain refl (top_job None) t asked depth r report place k leads shallow m.items m.inside m.listed skipped_ones
+          (directory_item name) has Dir (by_rule source line) (fate_skipped plain m.inside (directory_item name) (by_rule source line) e) in
           inl (
-            origin,
+            source,
             line,
             inr (
               path_in k.path name,

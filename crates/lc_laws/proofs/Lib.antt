@@ -11,5 +11,5 @@ pub mod RowTrees
 pub mod SaidOnce
 pub mod SlashesSaidAlike
 pub mod TakingPart
-pub mod Telling
+pub mod ExplainedEntries
 pub mod TopRules

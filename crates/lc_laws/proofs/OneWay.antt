@@ -2,7 +2,7 @@
 use Rattle.std.proofs.Common.{◌≡◌, ℕ, false, List, [], ◌∷◌, ◌++◌, refl, sym, ◌∙◌, ap, subst, Option, Some, None, Result, Ok, Err}
 use Rattle.std.proofs.Common.{find, bytes_eq, cond, append_assoc, append-nil, inl, inr}
 use Rattle.std.specs.List.{AllByRecursion}
-use Rattle.lc_explain.specs.Waypoints.{WaypointModel, waypoint, waypoint_of, waypoint_after, MayEnter, kind_in}
+use Rattle.lc_explain.specs.OpenDirs.{OpenDirModel, open_dir, open_dir_of, open_dir_after, MayEnter, kind_in}
 use Rattle.lc_glob.specs.Path.{segments_of}
 use Rattle.lc_level.specs.Answers.{Item, directory_item, name_of, entry_of, entries_of, Items, Answers, Tree}
 use Rattle.lc_level.specs.FaultLines.{FaultLineModel}
@@ -28,90 +28,90 @@ use Rattle.lc_laws.proofs.TakingPart.{in_part}
 -- ---- entering
 
 -- a listed directory is entered, with its items
-pub record Entered (items : List Item) (inside : JobModel) (entered : Result WaypointModel FaultLineModel) : Type 0 where
-  pub here : WaypointModel
+pub record Entered (items : List Item) (inside : JobModel) (entered : Result OpenDirModel FaultLineModel) : Type 0 where
+  pub here : OpenDirModel
   pub is : entered ≡ Ok here
   pub job : here.job ≡ inside
   pub entries : here.entries ≡ entries_of items
 
 -- what is listed may be entered
 pub listed_entered : (j : JobModel) (a : Answers) (items : List Item) (inside : JobModel) → IsListed j a items inside
-    → Entered items inside (waypoint j a)
+    → Entered items inside (open_dir j a)
 listed_entered j a items inside l = record {
   here = record { job = extended j l.bytes; entries = entries_of items; info = l.bytes.info.rules; own = l.bytes.own.rules };
-  is = ap (waypoint_of j a) l.here ∙ ap (waypoint_after j items) l.read;
+  is = ap (open_dir_of j a) l.here ∙ ap (open_dir_after j items) l.read;
   job = sym l.is;
   entries = refl;
 }
 
 -- what is entered is listed
-pub record Listed (j : JobModel) (a : Answers) (here : WaypointModel) : Type 0 where
+pub record Listed (j : JobModel) (a : Answers) (here : OpenDirModel) : Type 0 where
   pub items : List Item
   pub listed : IsListed j a items here.job
   pub entries : here.entries ≡ entries_of items
 
-abbrev as_entered : WaypointModel → Result WaypointModel FaultLineModel
+abbrev as_entered : OpenDirModel → Result OpenDirModel FaultLineModel
 as_entered here = Ok here
 
-abbrev as_fault : FaultLineModel → Result WaypointModel FaultLineModel
+abbrev as_fault : FaultLineModel → Result OpenDirModel FaultLineModel
 as_fault fault = Err fault
 
-same_ok : (x y : WaypointModel) → as_entered x ≡ as_entered y → x ≡ y
+same_ok : (x y : OpenDirModel) → as_entered x ≡ as_entered y → x ≡ y
 same_ok x y e = cc
 
 same_err : (x y : FaultLineModel) → as_fault x ≡ as_fault y → x ≡ y
 same_err x y e = cc
 
 -- what may be entered is listed
-pub entered_listed : (j : JobModel) (a : Answers) (here : WaypointModel) → waypoint j a ≡ Ok here → Listed j a here
+pub entered_listed : (j : JobModel) (a : Answers) (here : OpenDirModel) → open_dir j a ≡ Ok here → Listed j a here
 entered_listed j a here = at a.here refl
   where
     after : (items : List Item) → a.here ≡ Ok items → (read : Result RuleBytes FaultLineModel) → rule_bytes j.path items a ≡ read
-        → waypoint_after j items read ≡ Ok here → Listed j a here
+        → open_dir_after j items read ≡ Ok here → Listed j a here
     after items e (Ok files) read is =
-        let made : WaypointModel =
+        let made : OpenDirModel =
         record { job = extended j files; entries = entries_of items; info = files.info.rules; own = files.own.rules } in
         let same : made ≡ here = same_ok made here is in
         record {
           items = items;
-          listed = record { here = e; bytes = files; read = read; is = sym (ap (λ (w : WaypointModel). w.job) same) };
-          entries = sym (ap (λ (w : WaypointModel). w.entries) same);
+          listed = record { here = e; bytes = files; read = read; is = sym (ap (λ (w : OpenDirModel). w.job) same) };
+          entries = sym (ap (λ (w : OpenDirModel). w.entries) same);
         }
     after items e (Err fault) read is = absurd (cc is)
 
-    at : (o : Items) → a.here ≡ o → waypoint_of j a o ≡ Ok here → Listed j a here
+    at : (o : Items) → a.here ≡ o → open_dir_of j a o ≡ Ok here → Listed j a here
     at (Ok items) e is = after items e (rule_bytes j.path items a) refl is
     at (Err word) e is = absurd (cc is)
 
 -- what can't be entered has its fault as its level
-pub fault_level : (s : SelectionModel) (j : JobModel) (a : Answers) (fault : FaultLineModel) → waypoint j a ≡ Err fault
+pub fault_level : (s : SelectionModel) (j : JobModel) (a : Answers) (fault : FaultLineModel) → open_dir j a ≡ Err fault
     → level s j a ≡ faulted_level fault.path fault.word
 fault_level s j a fault = at a.here
   where
-    after : (items : List Item) (read : Result RuleBytes FaultLineModel) → waypoint_after j items read ≡ Err fault
+    after : (items : List Item) (read : Result RuleBytes FaultLineModel) → open_dir_after j items read ≡ Err fault
         → level_after s j items read ≡ faulted_level fault.path fault.word
     after items (Ok files) is = absurd (cc is)
     after items (Err f) is = ap (λ (g : FaultLineModel). faulted_level g.path g.word) (same_err f fault is)
 
-    at : (o : Items) → waypoint_of j a o ≡ Err fault → level_of s j a o ≡ faulted_level fault.path fault.word
+    at : (o : Items) → open_dir_of j a o ≡ Err fault → level_of s j a o ≡ faulted_level fault.path fault.word
     at (Ok items) is = after items (rule_bytes j.path items a) is
     at (Err word) is =
         ap (λ (g : FaultLineModel). faulted_level g.path g.word) (same_err (record { path = j.path; word = word }) fault is)
 
 module _ (lists : List ℕ → Listings) (gives : List ℕ → Contents) (one : GivesOne lists gives) (s : SelectionModel) where
   -- any two answers are entered as the same
-  pub one_waypoint : (j : JobModel) (a b : Answers) → MayAnswer lists gives j.path a → MayAnswer lists gives j.path b
-      → waypoint j a ≡ waypoint j b
-  one_waypoint j a b may also = at a.here refl ∙ ap (waypoint_of j b) (here lists gives one s j a b may also)
+  pub one_open_dir : (j : JobModel) (a b : Answers) → MayAnswer lists gives j.path a → MayAnswer lists gives j.path b
+      → open_dir j a ≡ open_dir j b
+  one_open_dir j a b may also = at a.here refl ∙ ap (open_dir_of j b) (here lists gives one s j a b may also)
     where
-      at : (o : Items) → a.here ≡ o → waypoint_of j a o ≡ waypoint_of j b o
-      at (Ok items) e = ap (waypoint_after j items) (same_rules lists gives one s j a b may also items e)
+      at : (o : Items) → a.here ≡ o → open_dir_of j a o ≡ open_dir_of j b o
+      at (Ok items) e = ap (open_dir_after j items) (same_rules lists gives one s j a b may also items e)
       at (Err word) e = refl
 
   -- what is entered is entered by the answers that are known
-  pub entered_by : (j : JobModel) (a : Answers) (entered : Result WaypointModel FaultLineModel) → MayAnswer lists gives j.path a
-      → MayEnter lists gives j entered → entered ≡ waypoint j a
-  entered_by j a entered may enters = sym enters.gives_it ∙ one_waypoint j enters.answers a enters.may may
+  pub entered_by : (j : JobModel) (a : Answers) (entered : Result OpenDirModel FaultLineModel) → MayAnswer lists gives j.path a
+      → MayEnter lists gives j entered → entered ≡ open_dir j a
+  entered_by j a entered may enters = sym enters.gives_it ∙ one_open_dir j enters.answers a enters.may may
 
 -- ---- the names of items
 

@@ -2,31 +2,31 @@
 use Rattle.std.proofs.Common.{◌≡◌, ℕ, ◌<◌, true, false, List, [], length, refl, ap, None, Result, Ok, Err, inl, inr}
 use Rattle.std.specs.List.{Contains}
 use Rattle.std.specs.Option.{option_map_or}
-use Rattle.lc_census.specs.declared.totals.Count.{Count}
-use Rattle.lc_explain.specs.Waypoints.{waypoint}
+use Rattle.lc_census.specs.declared.count.Count.{Count}
+use Rattle.lc_explain.specs.OpenDirs.{open_dir}
 use Rattle.lc_glob.specs.Path.{path_in}
 use Rattle.lc_level.specs.Answers.{Item, file_item, name_of, Tree}
 use Rattle.lc_level.specs.FaultLines.{FaultLineModel}
 use Rattle.lc_level.specs.Job.{JobModel}
-use Rattle.lc_level.specs.Level.{Reason, Fate, left, file_fate, fate_of, reason_of}
+use Rattle.lc_level.specs.Level.{Reason, Fate, skipped, file_fate, fate_of, reason_of}
 use Rattle.lc_level.specs.Selection.{SelectionModel}
 use Rattle.lc_tree.specs.declared.entry.Kind.{Kind}
 use Rattle.lc_tree.specs.declared.entry.Kind.TheVariants.{File}
 use Rattle.lc_level.specs.declared.fault_word.FaultWord.{FaultWord}
-use Rattle.lc_walk.specs.Found.{Found, found_file, found_fault, found_left}
+use Rattle.lc_walk.specs.Found.{Found, found_file, found_fault, found_skipped}
 use Rattle.lc_walk.specs.FoundAt.{IsListed, LeadsTo, HasEntry, Gives}
 use Rattle.lc_walk.specs.Walk.{walk_of}
 use Rattle.lc_walk.specs.WalkReport.{IsReportOf}
-use Rattle.lc_walk.specs.declared.options.Lists.{Lists}
+use Rattle.lc_walk.specs.declared.options.ReportLists.{ReportLists}
 use Rattle.lc_walk.specs.declared.report.Report.{Report}
 use Rattle.lc_walk.proofs.Elements.{In}
 use Rattle.lc_walk.proofs.FoundByPlace.{walk_by_place}
-use Rattle.lc_laws.specs.ReportedPaths.{IsLeft, IsKept}
+use Rattle.lc_laws.specs.ReportedPaths.{IsSkipped, IsKept}
 use Rattle.lc_laws.proofs.OneWay.{fault_level}
-use Rattle.lc_laws.proofs.ReportLists.{found_counted, found_is_left, found_faults, found_at_fault}
+use Rattle.lc_laws.proofs.ReportLists.{found_counted, found_is_skipped, found_faults, found_at_fault}
 use Rattle.lc_laws.proofs.TakingPart.{part_has}
 
-module _ (s : SelectionModel) (whole : s.only ≡ []) (top : JobModel) (t : Tree) (asked : Lists) (depth : ℕ) (r : Report)
+module _ (s : SelectionModel) (whole : s.only ≡ []) (top : JobModel) (t : Tree) (asked : ReportLists) (depth : ℕ) (r : Report)
     (report : IsReportOf asked (walk_of s depth top t) r) where
   abbrev xs : List Found
   xs = walk_of s depth top t
@@ -38,7 +38,7 @@ module _ (s : SelectionModel) (whole : s.only ≡ []) (top : JobModel) (t : Tree
         walk_by_place s depth top t y (record { place = place; shallow = shallow; job = k; leads = leads; gives = gives_it })
 
     -- its fault
-    pub fault_there : (fault : FaultLineModel) → waypoint k (t place) ≡ Err fault → Contains r.faults.items fault
+    pub fault_there : (fault : FaultLineModel) → open_dir k (t place) ≡ Err fault → Contains r.faults.items fault
     fault_there fault is =
         found_faults asked xs r report fault.path fault.word
         (found (found_fault fault.path fault.word) (inl (fault_level s k (t place) fault is)))
@@ -56,13 +56,13 @@ module _ (s : SelectionModel) (whole : s.only ≡ []) (top : JobModel) (t : Tree
       }
 
       -- an entry that is left out
-      pub left_there : asked.left_out ≡ true → (item : Item) → In item items → (own : Kind) (reason : Reason)
-          → fate_of s inside item ≡ left own reason
-          → IsLeft r (path_in k.path (name_of item)) reason
-      left_there lefts item has own reason is =
-          found_is_left asked xs r report lefts k.path (record { name = name_of item; kind = own; reason = reason })
-          (found (found_left k.path (record { name = name_of item; kind = own; reason = reason }))
-          (refl, entry_has item has (left own reason) is))
+      pub skipped_there : asked.left_out ≡ true → (item : Item) → In item items → (own : Kind) (reason : Reason)
+          → fate_of s inside item ≡ skipped own reason
+          → IsSkipped r (path_in k.path (name_of item)) reason
+      skipped_there skipped_ones item has own reason is =
+          found_is_skipped asked xs r report skipped_ones k.path (record { name = name_of item; kind = own; reason = reason })
+          (found (found_skipped k.path (record { name = name_of item; kind = own; reason = reason }))
+          (refl, entry_has item has (skipped own reason) is))
 
       -- a file that is taken
       pub file_there : asked.files ≡ true → (n : List ℕ) (c : Result Count FaultWord) (rules : Result (List ℕ) FaultWord)
@@ -73,7 +73,7 @@ module _ (s : SelectionModel) (whole : s.only ≡ []) (top : JobModel) (t : Tree
           (found (found_file k.path _) (
             refl,
             entry_has (file_item n (Ok count) rules) has _
-                (ap (λ o. option_map_or (left File) o (file_fate inside n (Ok count))) none),
+                (ap (λ o. option_map_or (skipped File) o (file_fate inside n (Ok count))) none),
           )))
       file_there files n (Err word) rules has none =
           inr (found_at_fault asked xs r report (path_in k.path n) word
@@ -82,5 +82,5 @@ module _ (s : SelectionModel) (whole : s.only ≡ []) (top : JobModel) (t : Tree
             n,
             refl,
             entry_has (file_item n (Err word) rules) has _
-                (ap (λ o. option_map_or (left File) o (file_fate inside n (Err word))) none),
+                (ap (λ o. option_map_or (skipped File) o (file_fate inside n (Err word))) none),
           )))))

@@ -5,16 +5,16 @@ use Rattle.std.specs.List.Sorted.{IsPermutation}
 use Rattle.std.proofs.lemmas.List.Sorted.{Contains-permutation, IsPermutation-sym}
 use Rattle.lc_glob.specs.Path.{path_in}
 use Rattle.lc_level.specs.FaultLines.{FaultLineModel}
-use Rattle.lc_level.specs.Level.{CountedModel, LeftModel, Reason}
+use Rattle.lc_level.specs.Level.{CountedModel, SkippedModel, Reason}
 use Rattle.lc_tree.specs.declared.entry.Kind.{Kind}
 use Rattle.lc_level.specs.declared.fault_word.FaultWord.{FaultWord}
-use Rattle.lc_walk.specs.Found.{Found, found_file, found_fault, found_directory, found_left}
-use Rattle.lc_walk.specs.ReportLines.{FileLineModel, LeftLineModel, file_paths, fault_paths, left_paths}
-use Rattle.lc_walk.specs.WalkReport.{line_of, left_line, file_in, fault_in, left_out_in, files_of, faults_of, left_out_of, IsReportOf}
-use Rattle.lc_walk.specs.declared.options.Lists.{Lists}
+use Rattle.lc_walk.specs.Found.{Found, found_file, found_fault, found_directory, found_skipped}
+use Rattle.lc_walk.specs.ReportLines.{FileLineModel, SkippedLineModel, file_paths, fault_paths, skipped_paths}
+use Rattle.lc_walk.specs.WalkReport.{line_of, skipped_line, file_in, fault_in, skipped_lines_in, files_of, faults_of, skipped_lines_of, IsReportOf}
+use Rattle.lc_walk.specs.declared.options.ReportLists.{ReportLists}
 use Rattle.lc_walk.specs.declared.report.Report.{Report}
 use Rattle.lc_walk.proofs.Elements.{In, is_in, contains, in_lists, of_lists, in_mapped, of_mapped}
-use Rattle.lc_laws.specs.ReportedPaths.{IsCounted, IsAtFault, IsLeft}
+use Rattle.lc_laws.specs.ReportedPaths.{IsCounted, IsAtFault, IsSkipped}
 
 -- a counted file of a path
 pub record CountedAt (xs : List Found) (path : List ℕ) : Type 0 where
@@ -24,10 +24,10 @@ pub record CountedAt (xs : List Found) (path : List ℕ) : Type 0 where
   pub path_is : path ≡ path_in directory file.name
 
 -- an entry of a path that is left out for a reason
-pub record LeftAt (xs : List Found) (path : List ℕ) (reason : Reason) : Type 0 where
+pub record SkippedAt (xs : List Found) (path : List ℕ) (reason : Reason) : Type 0 where
   pub directory : List ℕ
-  pub entry : LeftModel
-  pub found : In (found_left directory entry) xs
+  pub entry : SkippedModel
+  pub found : In (found_skipped directory entry) xs
   pub path_is : path ≡ path_in directory entry.name
   pub reason_is : entry.reason ≡ reason
 
@@ -38,23 +38,23 @@ counted_by xs path line at (found_file directory f) has (inl e) =
 counted_by xs path line at (found_file directory f) has (inr i) = absurd i
 counted_by xs path line at (found_fault p w) has i = absurd i
 counted_by xs path line at (found_directory p n) has i = absurd i
-counted_by xs path line at (found_left directory l) has i = absurd i
+counted_by xs path line at (found_skipped directory l) has i = absurd i
 
-left_by : (xs : List Found) (path : List ℕ) (kind : Kind) (reason : Reason) (x : Found) → In x xs
-    → In (record { path = path; kind = kind; reason = reason }) (left_out_in x) → LeftAt xs path reason
-left_by xs path kind reason (found_file directory f) has i = absurd i
-left_by xs path kind reason (found_fault p w) has i = absurd i
-left_by xs path kind reason (found_directory p n) has i = absurd i
-left_by xs path kind reason (found_left directory l) has (inl e) = record {
+skipped_by : (xs : List Found) (path : List ℕ) (kind : Kind) (reason : Reason) (x : Found) → In x xs
+    → In (record { path = path; kind = kind; reason = reason }) (skipped_lines_in x) → SkippedAt xs path reason
+skipped_by xs path kind reason (found_file directory f) has i = absurd i
+skipped_by xs path kind reason (found_fault p w) has i = absurd i
+skipped_by xs path kind reason (found_directory p n) has i = absurd i
+skipped_by xs path kind reason (found_skipped directory l) has (inl e) = record {
   directory = directory;
   entry = l;
   found = has;
-  path_is = sym (ap (λ (e : LeftLineModel). e.path) e);
-  reason_is = ap (λ (e : LeftLineModel). e.reason) e;
+  path_is = sym (ap (λ (e : SkippedLineModel). e.path) e);
+  reason_is = ap (λ (e : SkippedLineModel). e.reason) e;
 }
-left_by xs path kind reason (found_left directory l) has (inr i) = absurd i
+skipped_by xs path kind reason (found_skipped directory l) has (inr i) = absurd i
 
-module _ (lists : Lists) (xs : List Found) (r : Report) (is : IsReportOf lists xs r) where
+module _ (lists : ReportLists) (xs : List Found) (r : Report) (is : IsReportOf lists xs r) where
   module _ (asked : lists.files ≡ true) where
     files : IsPermutation (files_of xs) r.files.items
     files = subst (λ b. IsPermutation (cond b (files_of xs) []) r.files.items) asked is.files_are
@@ -79,25 +79,25 @@ module _ (lists : Lists) (xs : List Found) (r : Report) (is : IsReportOf lists x
         (is_in line r.files.items (Contains-permutation _ _ line files (contains line (files_of xs) there))))
 
   module _ (asked : lists.left_out ≡ true) where
-    lefts : IsPermutation (left_out_of xs) r.left.items
-    lefts = subst (λ b. IsPermutation (cond b (left_out_of xs) []) r.left.items) asked is.left_are
+    skipped_ones : IsPermutation (skipped_lines_of xs) r.skipped.items
+    skipped_ones = subst (λ b. IsPermutation (cond b (skipped_lines_of xs) []) r.skipped.items) asked is.skipped_are
 
     -- what the report has as left out was found
-    pub left_found : (path : List ℕ) (reason : Reason) → IsLeft r path reason → LeftAt xs path reason
-    left_found path reason (kind, has) =
-        let line : LeftLineModel = record { path = path; kind = kind; reason = reason } in
-        let there : In line (left_out_of xs) = is_in line (left_out_of xs)
-        (Contains-permutation _ _ line (IsPermutation-sym _ _ lefts) has) in
-        let x = in_lists left_out_in line xs there in
-        left_by xs path kind reason x.0 x.1 x.2
+    pub skipped_found : (path : List ℕ) (reason : Reason) → IsSkipped r path reason → SkippedAt xs path reason
+    skipped_found path reason (kind, has) =
+        let line : SkippedLineModel = record { path = path; kind = kind; reason = reason } in
+        let there : In line (skipped_lines_of xs) = is_in line (skipped_lines_of xs)
+        (Contains-permutation _ _ line (IsPermutation-sym _ _ skipped_ones) has) in
+        let x = in_lists skipped_lines_in line xs there in
+        skipped_by xs path kind reason x.0 x.1 x.2
 
     -- and the other way round
-    pub found_is_left : (directory : List ℕ) (l : LeftModel) → In (found_left directory l) xs → IsLeft r (path_in directory l.name) l.reason
-    found_is_left directory l has =
-        let line : LeftLineModel = left_line directory l in (
+    pub found_is_skipped : (directory : List ℕ) (l : SkippedModel) → In (found_skipped directory l) xs → IsSkipped r (path_in directory l.name) l.reason
+    found_is_skipped directory l has =
+        let line : SkippedLineModel = skipped_line directory l in (
           l.kind,
-          Contains-permutation _ _ line lefts
-              (contains line (left_out_of xs) (of_lists left_out_in line (found_left directory l) xs has (inl refl))),
+          Contains-permutation _ _ line skipped_ones
+              (contains line (skipped_lines_of xs) (of_lists skipped_lines_in line (found_skipped directory l) xs has (inl refl))),
         )
 
   -- a fault that was found is one of the report
@@ -116,9 +116,9 @@ module _ (lists : Lists) (xs : List Found) (r : Report) (is : IsReportOf lists x
       (of_mapped (λ (l : FaultLineModel). l.path) line r.faults.items (is_in line r.faults.items (found_faults path word has)))
 
 -- a path among those left out is left out for a reason
-pub left_somehow : (r : Report) (path : List ℕ) → Contains (left_paths r.left.items) path → (reason : Reason) × IsLeft r path reason
-left_somehow r path has =
-    let line = in_mapped (λ (l : LeftLineModel). l.path) path r.left.items (is_in path (left_paths r.left.items) has) in
+pub skipped_somehow : (r : Report) (path : List ℕ) → Contains (skipped_paths r.skipped.items) path → (reason : Reason) × IsSkipped r path reason
+skipped_somehow r path has =
+    let line = in_mapped (λ (l : SkippedLineModel). l.path) path r.skipped.items (is_in path (skipped_paths r.skipped.items) has) in
     let same : line.0 ≡ record { path = path; kind = line.0.kind; reason = line.0.reason } =
     ap (λ p. record { path = p; kind = line.0.kind; reason = line.0.reason }) line.2 in
-    (line.0.reason, (line.0.kind, subst (λ (l : LeftLineModel). Contains r.left.items l) same (contains line.0 r.left.items line.1)))
+    (line.0.reason, (line.0.kind, subst (λ (l : SkippedLineModel). Contains r.skipped.items l) same (contains line.0 r.skipped.items line.1)))

@@ -3,7 +3,7 @@ use Rattle.std.proofs.Common.{◌≡◌, ℕ, Bool, true, false, cond, List, [],
 use Rattle.std.proofs.Common.{MatchResult, option_map}
 use Rattle.lc_explain.specs.Explained.{Explanation, bad, faulted, below, cited, said_for, said_beside, kind_asked, is_directory, OnTheWay}
 use Rattle.lc_explain.specs.Explained.{OnEntering, IsSaid, IsExplained}
-use Rattle.lc_explain.specs.Waypoints.{WaypointModel, Way, MayEnter, kind_in, text_or_none}
+use Rattle.lc_explain.specs.OpenDirs.{OpenDirModel, DirStack, MayEnter, kind_in, text_or_none}
 use Rattle.lc_glob.specs.Path.{segments_of}
 use Rattle.lc_level.specs.FaultLines.{FaultLineModel}
 use Rattle.lc_level.specs.Job.{JobModel}
@@ -15,50 +15,50 @@ use Rattle.lc_rules.specs.IgnoreRules.{rules_of}
 use Rattle.lc_text.specs.PathLines.{is_bad_path}
 use Rattle.lc_tree.specs.Trees.{Listings, Contents}
 use Rattle.lc_laws.specs.OneExplanation.{OneExplanationLaw}
-use Rattle.lc_laws.proofs.OneWay.{one_waypoint}
+use Rattle.lc_laws.proofs.OneWay.{one_open_dir}
 
 -- two things that are said on the way are the same, where they are in each case
-on_one_way : (x y : Explanation) (reason : Option Reason) (is_there : Bool) (Left Other : Reason → Type 0) (Into Onto Beside Near : Type 0)
-    → ((r : Reason) → Left r → Other r → x ≡ y) → (Into → Onto → x ≡ y) → (Beside → Near → x ≡ y)
-    → OnTheWay reason is_there Left Into Beside → OnTheWay reason is_there Other Onto Near → x ≡ y
-on_one_way x y (Some r) is_there Left Other Into Onto Beside Near lefts ins besides a b = lefts r a b
-on_one_way x y None true Left Other Into Onto Beside Near lefts ins besides a b = ins a b
-on_one_way x y None false Left Other Into Onto Beside Near lefts ins besides a b = besides a b
+on_one_way : (x y : Explanation) (reason : Option Reason) (is_there : Bool) (Skipped Other : Reason → Type 0) (Into Onto Beside Near : Type 0)
+    → ((r : Reason) → Skipped r → Other r → x ≡ y) → (Into → Onto → x ≡ y) → (Beside → Near → x ≡ y)
+    → OnTheWay reason is_there Skipped Into Beside → OnTheWay reason is_there Other Onto Near → x ≡ y
+on_one_way x y (Some r) is_there Skipped Other Into Onto Beside Near skipped_ones ins besides a b = skipped_ones r a b
+on_one_way x y None true Skipped Other Into Onto Beside Near skipped_ones ins besides a b = ins a b
+on_one_way x y None false Skipped Other Into Onto Beside Near skipped_ones ins besides a b = besides a b
 
 module _ (lists : List ℕ → Listings) (gives : List ℕ → Contents) (one : GivesOne lists gives) (s : SelectionModel) (exclude : List ℕ)
     (as_dir : Bool) (x y : Explanation) where
   -- a directory is entered once
-  same_entered : (j : JobModel) (a b : Result WaypointModel FaultLineModel) → MayEnter lists gives j a → MayEnter lists gives j b → a ≡ b
+  same_entered : (j : JobModel) (a b : Result OpenDirModel FaultLineModel) → MayEnter lists gives j a → MayEnter lists gives j b → a ≡ b
   same_entered j a b one_way other =
-      sym one_way.gives_it ∙ one_waypoint lists gives one s j one_way.answers other.answers one_way.may other.may ∙ other.gives_it
+      sym one_way.gives_it ∙ one_open_dir lists gives one s j one_way.answers other.answers one_way.may other.may ∙ other.gives_it
 
-  once_entered : (j : JobModel) (IsSaidBelow Tells : WaypointModel → Type 0)
-      → ((here : WaypointModel) → IsSaidBelow here → Tells here → x ≡ y)
+  once_entered : (j : JobModel) (IsSaidBelow Tells : OpenDirModel → Type 0)
+      → ((here : OpenDirModel) → IsSaidBelow here → Tells here → x ≡ y)
       → OnEntering (MayEnter lists gives) j x IsSaidBelow → OnEntering (MayEnter lists gives) j y Tells → x ≡ y
   once_entered j IsSaidBelow Tells same (Ok here, enters, said) (other, enters_too, told) =
       same here said
-      (subst (λ (r : Result WaypointModel FaultLineModel). MatchResult r Tells (λ fault. y ≡ faulted fault))
+      (subst (λ (r : Result OpenDirModel FaultLineModel). MatchResult r Tells (λ fault. y ≡ faulted fault))
       (same_entered j other (Ok here) enters_too enters) told)
   once_entered j IsSaidBelow Tells same (Err fault, enters, said) (other, enters_too, told) =
       said
-      ∙ sym (subst (λ (r : Result WaypointModel FaultLineModel). MatchResult r Tells (λ f. y ≡ faulted f))
+      ∙ sym (subst (λ (r : Result OpenDirModel FaultLineModel). MatchResult r Tells (λ f. y ≡ faulted f))
       (same_entered j other (Err fault) enters_too enters) told)
 
-  said_once : (names : List (List ℕ)) (way : Way) (here : WaypointModel) → IsSaid (MayEnter lists gives) s exclude way here names as_dir x
-      → IsSaid (MayEnter lists gives) s exclude way here names as_dir y → x ≡ y
-  said_once [] way here a b = absurd a
-  said_once (name ∷ []) way here a b = a ∙ sym b
-  said_once (name ∷ next ∷ names) way here a b =
+  said_once : (names : List (List ℕ)) (stack : DirStack) (here : OpenDirModel) → IsSaid (MayEnter lists gives) s exclude stack here names as_dir x
+      → IsSaid (MayEnter lists gives) s exclude stack here names as_dir y → x ≡ y
+  said_once [] stack here a b = absurd a
+  said_once (name ∷ []) stack here a b = a ∙ sym b
+  said_once (name ∷ next ∷ names) stack here a b =
       on_one_way x y (reason_for s here.job name (kind_asked true (kind_in here.entries name))) (is_directory (kind_in here.entries name))
-      (λ r. x ≡ said_for (cited exclude way) below r) (λ r. y ≡ said_for (cited exclude way) below r)
+      (λ r. x ≡ said_for (cited exclude stack) below r) (λ r. y ≡ said_for (cited exclude stack) below r)
       (OnEntering (MayEnter lists gives) (child_job here.job name) x
-      (λ child. IsSaid (MayEnter lists gives) s exclude (way ++ child ∷ []) child (next ∷ names) as_dir x))
+      (λ child. IsSaid (MayEnter lists gives) s exclude (stack ++ child ∷ []) child (next ∷ names) as_dir x))
       (OnEntering (MayEnter lists gives) (child_job here.job name) y
-      (λ child. IsSaid (MayEnter lists gives) s exclude (way ++ child ∷ []) child (next ∷ names) as_dir y))
-      (x ≡ said_beside s exclude way (child_job here.job name) (next ∷ names) as_dir)
-      (y ≡ said_beside s exclude way (child_job here.job name) (next ∷ names) as_dir)
+      (λ child. IsSaid (MayEnter lists gives) s exclude (stack ++ child ∷ []) child (next ∷ names) as_dir y))
+      (x ≡ said_beside s exclude stack (child_job here.job name) (next ∷ names) as_dir)
+      (y ≡ said_beside s exclude stack (child_job here.job name) (next ∷ names) as_dir)
       (λ r e f. e ∙ sym f)
-      (λ e f. once_entered (child_job here.job name) _ _ (λ child. said_once (next ∷ names) (way ++ child ∷ []) child) e f)
+      (λ e f. once_entered (child_job here.job name) _ _ (λ child. said_once (next ∷ names) (stack ++ child ∷ []) child) e f)
       (λ e f. e ∙ sym f) a b
 
   explained_once : (top : JobModel) (path : List ℕ) → IsExplained (MayEnter lists gives) s exclude top path as_dir x

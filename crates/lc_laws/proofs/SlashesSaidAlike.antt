@@ -4,7 +4,7 @@ use Rattle.std.proofs.Common.{option_map}
 use Rattle.std.specs.List.{Contains}
 use Rattle.lc_explain.specs.Explained.{Explanation, bad, below, cited, said_for, said_of, said_beside, kind_asked, is_directory, OnTheWay}
 use Rattle.lc_explain.specs.Explained.{OnEntering, IsSaid}
-use Rattle.lc_explain.specs.Waypoints.{WaypointModel, Way, MayEnter, kind_in, text_or_none}
+use Rattle.lc_explain.specs.OpenDirs.{OpenDirModel, DirStack, MayEnter, kind_in, text_or_none}
 use Rattle.lc_glob.specs.Path.{path_in, segments_of}
 use Rattle.lc_level.specs.Answers.{entry_of, entries_of, Items}
 use Rattle.lc_level.specs.Job.{JobModel}
@@ -26,20 +26,20 @@ use Rattle.lc_laws.specs.SlashAtEnd.{SlashLaw}
 use Rattle.lc_laws.proofs.OneWay.{entered_listed, kind_found}
 
 -- what the walk goes into is said alike, where it is in each case
-on_a_directory : (reason : Option Reason) (is_there : Bool) (Left : Reason → Type 0) (Into Onto Beside Near : Type 0) → is_there ≡ true
-    → (Into → Onto) → OnTheWay reason is_there Left Into Beside → OnTheWay reason is_there Left Onto Near
-on_a_directory (Some r) is_there Left Into Onto Beside Near e on a = a
-on_a_directory None true Left Into Onto Beside Near e on a = on a
-on_a_directory None false Left Into Onto Beside Near e on a = absurd (cc e)
+on_a_directory : (reason : Option Reason) (is_there : Bool) (Skipped : Reason → Type 0) (Into Onto Beside Near : Type 0) → is_there ≡ true
+    → (Into → Onto) → OnTheWay reason is_there Skipped Into Beside → OnTheWay reason is_there Skipped Onto Near
+on_a_directory (Some r) is_there Skipped Into Onto Beside Near e on a = a
+on_a_directory None true Skipped Into Onto Beside Near e on a = on a
+on_a_directory None false Skipped Into Onto Beside Near e on a = absurd (cc e)
 
 module _ (lists : List ℕ → Listings) (gives : List ℕ → Contents) (one : GivesOne lists gives) (s : SelectionModel) (exclude : List ℕ)
     (x : Explanation) where
-  abbrev IsSaidBelow : Bool → Way → JobModel → List (List ℕ) → Type 0
-  IsSaidBelow as_dir way j names =
-      OnEntering (MayEnter lists gives) j x (λ here. IsSaid (MayEnter lists gives) s exclude (way ++ here ∷ []) here names as_dir x)
+  abbrev IsSaidBelow : Bool → DirStack → JobModel → List (List ℕ) → Type 0
+  IsSaidBelow as_dir stack j names =
+      OnEntering (MayEnter lists gives) j x (λ here. IsSaid (MayEnter lists gives) s exclude (stack ++ here ∷ []) here names as_dir x)
 
   -- what is listed there is found in the directory that was entered
-  listed_kind : (j : JobModel) (here : WaypointModel) (name : List ℕ) (kind : Kind) → MayEnter lists gives j (Ok here)
+  listed_kind : (j : JobModel) (here : OpenDirModel) (name : List ℕ) (kind : Kind) → MayEnter lists gives j (Ok here)
       → HasListed lists j.path name kind → (kind_in here.entries name ≡ Some kind) × (here.job.path ≡ j.path)
   listed_kind j here name kind enters (entries, may, has) =
       let l = entered_listed j enters.answers here enters.gives_it in
@@ -56,32 +56,32 @@ module _ (lists : List ℕ → Listings) (gives : List ℕ → Contents) (one : 
         ap (λ (i : JobModel). i.path) l.listed.is,
       )
 
-  said_alike : (names : List (List ℕ)) (way : Way) (j : JobModel) → LeadDown lists j.path names Dir → IsSaidBelow true way j names
-      → IsSaidBelow false way j names
-  said_alike [] way j down said = absurd down
-  said_alike (name ∷ []) way j down (Err fault, enters, said) = (Err fault, enters, said)
-  said_alike (name ∷ []) way j down (Ok here, enters, said) =
+  said_alike : (names : List (List ℕ)) (stack : DirStack) (j : JobModel) → LeadDown lists j.path names Dir → IsSaidBelow true stack j names
+      → IsSaidBelow false stack j names
+  said_alike [] stack j down said = absurd down
+  said_alike (name ∷ []) stack j down (Err fault, enters, said) = (Err fault, enters, said)
+  said_alike (name ∷ []) stack j down (Ok here, enters, said) =
       let there = (listed_kind j here name Dir enters down).0 in (
         Ok here,
         enters,
-        said ∙ ap (λ (o : Option Kind). said_of s exclude (way ++ here ∷ []) here.job name (kind_asked true o)) there
-            ∙ sym (ap (λ (o : Option Kind). said_of s exclude (way ++ here ∷ []) here.job name (kind_asked false o)) there),
+        said ∙ ap (λ (o : Option Kind). said_of s exclude (stack ++ here ∷ []) here.job name (kind_asked true o)) there
+            ∙ sym (ap (λ (o : Option Kind). said_of s exclude (stack ++ here ∷ []) here.job name (kind_asked false o)) there),
       )
-  said_alike (name ∷ next ∷ names) way j down (Err fault, enters, said) = (Err fault, enters, said)
-  said_alike (name ∷ next ∷ names) way j down (Ok here, enters, said) =
+  said_alike (name ∷ next ∷ names) stack j down (Err fault, enters, said) = (Err fault, enters, said)
+  said_alike (name ∷ next ∷ names) stack j down (Ok here, enters, said) =
       let there = listed_kind j here name Dir enters down.0 in
       let below_here : LeadDown lists (path_in here.job.path name) (next ∷ names) Dir =
       subst (λ d. LeadDown lists (path_in d name) (next ∷ names) Dir) (sym there.1) down.1 in (
         Ok here,
         enters,
         on_a_directory (reason_for s here.job name (kind_asked true (kind_in here.entries name))) (is_directory (kind_in here.entries name))
-            (λ r. x ≡ said_for (cited exclude (way ++ here ∷ [])) below r)
-            (IsSaidBelow true (way ++ here ∷ []) (child_job here.job name) (next ∷ names))
-            (IsSaidBelow false (way ++ here ∷ []) (child_job here.job name) (next ∷ names))
-            (x ≡ said_beside s exclude (way ++ here ∷ []) (child_job here.job name) (next ∷ names) true)
-            (x ≡ said_beside s exclude (way ++ here ∷ []) (child_job here.job name) (next ∷ names) false)
+            (λ r. x ≡ said_for (cited exclude (stack ++ here ∷ [])) below r)
+            (IsSaidBelow true (stack ++ here ∷ []) (child_job here.job name) (next ∷ names))
+            (IsSaidBelow false (stack ++ here ∷ []) (child_job here.job name) (next ∷ names))
+            (x ≡ said_beside s exclude (stack ++ here ∷ []) (child_job here.job name) (next ∷ names) true)
+            (x ≡ said_beside s exclude (stack ++ here ∷ []) (child_job here.job name) (next ∷ names) false)
             (ap is_directory there.0)
-            (said_alike (next ∷ names) (way ++ here ∷ []) (child_job here.job name) below_here) said,
+            (said_alike (next ∷ names) (stack ++ here ∷ []) (child_job here.job name) below_here) said,
       )
 
 -- so is what may be said

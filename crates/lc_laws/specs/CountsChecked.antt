@@ -7,7 +7,7 @@ use Rattle.lc_level.specs.OneAnswer.{GivesOne}
 use Rattle.lc_level.specs.RuleReads.{shared}
 use Rattle.lc_level.specs.Selection.{selection_of}
 use Rattle.lc_rules.specs.IgnoreRules.{RuleModel, rules_of}
-use Rattle.lc_rules.specs.declared.origin.Origin.{Origin}
+use Rattle.lc_rules.specs.declared.rule_source.RuleSource.{RuleSource}
 use Rattle.lc_text.specs.CheckText.{file_verdict, path_word}
 use Rattle.lc_text.specs.PathLines.{is_bad_path}
 use Rattle.lc_tree.specs.Kinds.{is_dir}
@@ -20,7 +20,7 @@ use Rattle.lc_walk.specs.Walks.{Walks}
 use Rattle.lc_walk.specs.declared.options.Options.{Options}
 use Rattle.lc_walk.specs.declared.report.Report.{Report}
 use Rattle.lc_laws.specs.Entries.{HasListed, IsEntry}
-use Rattle.lc_laws.specs.ReportedPaths.{IsLeft, IsLeftAbove}
+use Rattle.lc_laws.specs.ReportedPaths.{IsSkipped, IsSkippedAbove}
 
 -- the only ignore file of a tree is the top's `.gitignore`, with these bytes
 pub record HasTopRules (lists : List ℕ → Listings) (gives : List ℕ → Contents) (bytes : List ℕ) : Type 0 where
@@ -43,7 +43,7 @@ IsCheckedOut rules path kind =
 
 -- a report has the path as left out by a rule, or a directory above it
 abbrev pub IsRuledOut : Report → List ℕ → Type 0
-IsRuledOut r path = (origin : Origin) × (line : ℕ) × (IsLeft r path (by_rule origin line) ⊎ IsLeftAbove r path (by_rule origin line))
+IsRuledOut r path = (source : RuleSource) × (line : ℕ) × (IsSkipped r path (by_rule source line) ⊎ IsSkippedAbove r path (by_rule source line))
 
 -- where nothing is at fault these are the same, for each entry that neither is named `.git` nor stands below one of this name
 abbrev pub CheckedLaw : (List ℕ → Listings) → (List ℕ → Contents) → Type 0

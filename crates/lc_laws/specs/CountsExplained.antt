@@ -3,8 +3,8 @@ use Rattle.std.specs.Prelude.{◌≡◌, ◌⊎◌, ℕ, true, false, List, [], 
 use Rattle.std.specs.List.{Contains}
 use Rattle.lc_explain.specs.Explain.{MaySay}
 use Rattle.lc_explain.specs.Explained.{Explanation, bad, faulted, below, ignored, included, unruled, left_out}
-use Rattle.lc_explain.specs.Laws.{IsTaken}
-use Rattle.lc_explain.specs.declared.question.Question.{Question}
+use Rattle.lc_explain.specs.Laws.{IsSaidKept}
+use Rattle.lc_explain.specs.declared.explain_options.ExplainOptions.{ExplainOptions}
 use Rattle.lc_level.specs.Level.{Reason, named_git, by_rule, by_attribute, other_kind}
 use Rattle.lc_level.specs.OneAnswer.{GivesOne}
 use Rattle.lc_level.specs.RuleReads.{shared}
@@ -17,11 +17,11 @@ use Rattle.lc_walk.specs.Walks.{Walks}
 use Rattle.lc_walk.specs.declared.options.Options.{Options}
 use Rattle.lc_walk.specs.declared.report.Report.{Report}
 use Rattle.lc_laws.specs.Entries.{IsEntry}
-use Rattle.lc_laws.specs.ReportedPaths.{IsCounted, IsLeft, IsKept, IsLeftAbove}
+use Rattle.lc_laws.specs.ReportedPaths.{IsCounted, IsSkipped, IsKept, IsSkippedAbove}
 
 -- a count of the whole tree that lists its files and what it leaves out, and an explanation by the same attributes and the same exclude
 -- file
-pub record AskAlike (o : Options) (q : Question) : Type 0 where
+pub record AskAlike (o : Options) (q : ExplainOptions) : Type 0 where
   pub files : o.lists.files ≡ true
   pub left_out : o.lists.left_out ≡ true
   pub selection : (asked_by o).selection ≡ q.selection
@@ -29,11 +29,11 @@ pub record AskAlike (o : Options) (q : Question) : Type 0 where
   pub exclude : shared o.exclude ≡ option_map rules_of q.exclude
 
 -- it is said to be left out for a reason: ignored by that rule, or left
-abbrev pub IsSaidLeft : Reason → Explanation → Type 0
-IsSaidLeft named_git x = x ≡ left_out named_git
-IsSaidLeft (by_rule origin line) x = (text : List ℕ) × (x ≡ ignored (record { origin = origin; line = line; text = text }))
-IsSaidLeft (by_attribute name) x = x ≡ left_out (by_attribute name)
-IsSaidLeft other_kind x = x ≡ left_out other_kind
+abbrev pub IsSaidSkipped : Reason → Explanation → Type 0
+IsSaidSkipped named_git x = x ≡ left_out named_git
+IsSaidSkipped (by_rule source line) x = (text : List ℕ) × (x ≡ ignored (record { source = source; line = line; text = text }))
+IsSaidSkipped (by_attribute name) x = x ≡ left_out (by_attribute name)
+IsSaidSkipped other_kind x = x ≡ left_out other_kind
 
 -- what is said of an entry tells where the report has it: a fault that is said is one of the report; by a rule that is said to ignore
 -- it the report leaves it out, and by one that it is said to stand below a directory above it; for a reason that is said it leaves out
@@ -41,23 +41,23 @@ IsSaidLeft other_kind x = x ≡ left_out other_kind
 abbrev pub TellsOf : Report → List ℕ → Kind → Explanation → Type 0
 TellsOf r path kind bad = ⊥
 TellsOf r path kind (faulted fault) = Contains r.faults.items fault
-TellsOf r path kind (below rule) = IsLeftAbove r path (by_rule rule.origin rule.line)
-TellsOf r path kind (ignored rule) = IsLeft r path (by_rule rule.origin rule.line)
+TellsOf r path kind (below rule) = IsSkippedAbove r path (by_rule rule.source rule.line)
+TellsOf r path kind (ignored rule) = IsSkipped r path (by_rule rule.source rule.line)
 TellsOf r path kind (included rule) = IsKept r path kind
 TellsOf r path kind unruled = IsKept r path kind
-TellsOf r path kind (left_out reason) = IsLeft r path reason ⊎ IsLeftAbove r path reason
+TellsOf r path kind (left_out reason) = IsSkipped r path reason ⊎ IsSkippedAbove r path reason
 
 -- a report agrees with what is said of a path
 pub record AgreesOn (lists : List ℕ → Listings) (r : Report) (path : List ℕ) (x : Explanation) : Type 0 where
   -- a counted file is said to be included, or decided by no rule
-  pub counted : IsCounted r path → IsTaken x
+  pub counted : IsCounted r path → IsSaidKept x
   -- what is left out is said to be, for the same reason
-  pub left : (reason : Reason) → IsLeft r path reason → IsSaidLeft reason x
+  pub skipped : (reason : Reason) → IsSkipped r path reason → IsSaidSkipped reason x
   -- and what is said of an entry tells where the report has it
   pub told : (kind : Kind) → IsEntry lists path kind → TellsOf r path kind x
 
 -- so does each report of a walk, with anything that may be said of a path that is not bad and asked about with no slash at its end
 abbrev pub ExplainedLaw : (List ℕ → Listings) → (List ℕ → Contents) → Type 0
 ExplainedLaw lists gives =
-    GivesOne lists gives → (o : Options) (q : Question) (r : Report) → AskAlike o q → Walks lists gives o (Ok r)
+    GivesOne lists gives → (o : Options) (q : ExplainOptions) (r : Report) → AskAlike o q → Walks lists gives o (Ok r)
     → (path : List ℕ) (x : Explanation) → is_bad_path path ≡ false → MaySay lists gives q path false x → AgreesOn lists r path x

@@ -5,7 +5,7 @@ use Rattle.lc_glob.specs.Bytes.{slash}
 use Rattle.lc_level.specs.Level.{Reason}
 use Rattle.lc_tree.specs.declared.entry.Kind.{Kind}
 use Rattle.lc_tree.specs.declared.entry.Kind.TheVariants.{File, Dir, Other}
-use Rattle.lc_walk.specs.ReportLines.{file_paths, fault_paths, left_paths}
+use Rattle.lc_walk.specs.ReportLines.{file_paths, fault_paths, skipped_paths}
 use Rattle.lc_walk.specs.declared.report.Report.{Report}
 
 module _ (r : Report) (path : List ℕ) where
@@ -18,15 +18,15 @@ module _ (r : Report) (path : List ℕ) where
   IsAtFault = Contains (fault_paths r.faults.items) path
 
   -- it is left out, for this reason
-  abbrev pub IsLeft : Reason → Type 0
-  IsLeft reason = (kind : Kind) × Contains r.left.items (record { path = path; kind = kind; reason = reason })
+  abbrev pub IsSkipped : Reason → Type 0
+  IsSkipped reason = (kind : Kind) × Contains r.skipped.items (record { path = path; kind = kind; reason = reason })
 
   -- what has this path is taken: a file is counted, or at fault; a directory is not left out
   abbrev pub IsKept : Kind → Type 0
   IsKept File = IsCounted ⊎ IsAtFault
-  IsKept Dir = Contains (left_paths r.left.items) path → ⊥
+  IsKept Dir = Contains (skipped_paths r.skipped.items) path → ⊥
   IsKept Other = ⊥
 
 -- a directory above it is left out, for this reason
-abbrev pub IsLeftAbove : Report → List ℕ → Reason → Type 0
-IsLeftAbove r path reason = (directory : List ℕ) × (rest : List ℕ) × (path ≡ directory ++ slash ∷ rest) × IsLeft r directory reason
+abbrev pub IsSkippedAbove : Report → List ℕ → Reason → Type 0
+IsSkippedAbove r path reason = (directory : List ℕ) × (rest : List ℕ) × (path ≡ directory ++ slash ∷ rest) × IsSkipped r directory reason

@@ -2,12 +2,12 @@
 use Rattle.std.proofs.Common.{◌≡◌, ℕ, Bool, true, false, ◌&&◌, ◌||◌, cond, List, [], ◌∷◌, ◌++◌, length, refl, sym, ◌∙◌, ap, subst, Some}
 use Rattle.std.proofs.Common.{Result, suc, if◌then◌else◌, bytes_eq}
 use Rattle.std.specs.List.{filter, flat_map, AllByRecursion}
-use Rattle.lc_census.specs.declared.totals.Count.{Count}
+use Rattle.lc_census.specs.declared.count.Count.{Count}
 use Rattle.lc_glob.specs.Path.{path_in}
 use Rattle.lc_level.specs.Answers.{Item, file_item, directory_item, other_item, entry_of, entries_of}
 use Rattle.lc_level.specs.CountedNames.{AreCounted, file_fates}
 use Rattle.lc_level.specs.Job.{JobModel}
-use Rattle.lc_level.specs.LeftIn.{kept_file, kept_directory, left_entry}
+use Rattle.lc_level.specs.Classified.{kept_file, kept_directory, skipped_entry}
 use Rattle.lc_level.specs.Level.{Fate, is_taken}
 use Rattle.lc_level.specs.Level.{file_fate, fates_of, counted_of, failed_of, counted_in, failed_in}
 use Rattle.lc_level.specs.Selection.{SelectionModel}
@@ -17,7 +17,7 @@ use Rattle.lc_level.specs.RuleFiles.{file_named, has_directory}
 use Rattle.lc_level.specs.TreeAnswers.{MayHave}
 use Rattle.lc_tree.specs.Trees.{Listings, Contents}
 use Rattle.lc_level.specs.FileReads.{MayCount}
-use Rattle.lc_level.proofs.Fates.{counted_by, fault_by, files_by, faults_by, children_by, left_by_item}
+use Rattle.lc_level.proofs.Fates.{counted_by, fault_by, files_by, faults_by, children_by, skipped_by_item}
 use Rattle.lc_level.specs.declared.fault_word.FaultWord.{FaultWord}
 
 abbrev pub Results : Type 0
@@ -188,13 +188,13 @@ module _ (s : SelectionModel) (k : JobModel) where
   same_children (other_item n ∷ items) rs = same_children items rs
 
   -- and what is left out
-  pub same_left : (items : List Item) (rs : Results)
-      → flat_map (left_by_item s k) (counted_all items rs) ≡ flat_map (left_by_item s k) items
-  same_left [] rs = refl
-  same_left (file_item n c rules ∷ items) rs =
-      ap (λ l. left_by_item s k (file_item n c rules) ++ l) (same_left items (results_after (is_taken s k n false) rs))
-  same_left (directory_item n ∷ items) rs = ap (λ l. left_by_item s k (directory_item n) ++ l) (same_left items rs)
-  same_left (other_item n ∷ items) rs = ap (λ l. left_by_item s k (other_item n) ++ l) (same_left items rs)
+  pub same_skipped : (items : List Item) (rs : Results)
+      → flat_map (skipped_by_item s k) (counted_all items rs) ≡ flat_map (skipped_by_item s k) items
+  same_skipped [] rs = refl
+  same_skipped (file_item n c rules ∷ items) rs =
+      ap (λ l. skipped_by_item s k (file_item n c rules) ++ l) (same_skipped items (results_after (is_taken s k n false) rs))
+  same_skipped (directory_item n ∷ items) rs = ap (λ l. skipped_by_item s k (directory_item n) ++ l) (same_skipped items rs)
+  same_skipped (other_item n ∷ items) rs = ap (λ l. skipped_by_item s k (other_item n) ++ l) (same_skipped items rs)
 
   -- there are as many
   pub same_number : (items : List Item) (rs : Results) → length (counted_all items rs) ≡ length items
@@ -251,16 +251,16 @@ module _ (s : SelectionModel) (k : JobModel) where
   children_of_items (directory_item n ∷ items) = ap (λ l. kept_directory s k (entry_of (directory_item n)) ++ l) (children_of_items items)
   children_of_items (other_item n ∷ items) = children_of_items items
 
-  nothing_left : (items : List Item) → flat_map (left_entry false s k) (entries_of items) ≡ []
-  nothing_left [] = refl
-  nothing_left (item ∷ items) = nothing_left items
+  nothing_skipped : (items : List Item) → flat_map (skipped_entry false s k) (entries_of items) ≡ []
+  nothing_skipped [] = refl
+  nothing_skipped (item ∷ items) = nothing_skipped items
 
-  all_left : (items : List Item) → flat_map (left_by_item s k) items ≡ flat_map (left_entry true s k) (entries_of items)
+  all_left : (items : List Item) → flat_map (skipped_by_item s k) items ≡ flat_map (skipped_entry true s k) (entries_of items)
   all_left [] = refl
-  all_left (item ∷ items) = ap (λ l. left_by_item s k item ++ l) (all_left items)
+  all_left (item ∷ items) = ap (λ l. skipped_by_item s k item ++ l) (all_left items)
 
   -- the entries that are left out are kept where they are asked for
-  pub left_of_items : (left_out : Bool) (items : List Item)
-      → (if left_out then flat_map (left_by_item s k) items else []) ≡ flat_map (left_entry left_out s k) (entries_of items)
-  left_of_items true items = all_left items
-  left_of_items false items = sym (nothing_left items)
+  pub skipped_of_items : (left_out : Bool) (items : List Item)
+      → (if left_out then flat_map (skipped_by_item s k) items else []) ≡ flat_map (skipped_entry left_out s k) (entries_of items)
+  skipped_of_items true items = all_left items
+  skipped_of_items false items = sym (nothing_skipped items)

@@ -8,9 +8,9 @@ use Rattle.lc_level.specs.CountedNames.{AreCounted, file_fates, IsCounted}
 use Rattle.lc_level.specs.Deep.{is_too_deep, has_too_deep}
 use Rattle.lc_level.specs.Job.{JobModel}
 use Rattle.lc_level.specs.Laws.{parts_with}
-use Rattle.lc_level.specs.LeftIn.{kept_file, bytes_of}
-use Rattle.lc_level.specs.Level.{LeftModel, IsLevelOf, listed_level, level, level_of, level_after, absent_faults}
-use Rattle.lc_level.specs.Level.{fates_of, counted_in, failed_in, walked_in, left_in}
+use Rattle.lc_level.specs.Classified.{kept_file, bytes_of}
+use Rattle.lc_level.specs.Level.{SkippedModel, IsLevelOf, listed_level, level, level_of, level_after, absent_faults}
+use Rattle.lc_level.specs.Level.{fates_of, counted_in, failed_in, walked_in, classify}
 use Rattle.lc_level.specs.Narrowing.{rests, takes_part, part_of, absent_from}
 use Rattle.lc_level.specs.PathSteps.{unled}
 use Rattle.lc_level.specs.Selection.{SelectionModel}
@@ -23,16 +23,16 @@ use Rattle.lc_level.specs.TreeAnswers.{MayHave, MayList, MayAnswer, items_of}
 use Rattle.lc_tree.specs.Trees.{Listings, Contents}
 use Rattle.lc_level.specs.declared.counting.CountedFiles.{CountedFiles}
 use Rattle.lc_level.specs.declared.opening.Opened.{Opened}
-use Rattle.lc_level.proofs.Fates.{counted_items_are, failed_items_are, walked_items_are, left_items_are}
+use Rattle.lc_level.proofs.Fates.{counted_items_are, failed_items_are, walked_items_are, skipped_items_are}
 use Rattle.lc_level.proofs.AskedPaths.{absent_is}
 use Rattle.lc_level.proofs.DeepEntries.{deep_by_entries}
 use Rattle.lc_level.proofs.CountedItems.{counted_items, counted_all, part_counted, same_entries, same_file, same_directory, may_counted}
-use Rattle.lc_level.proofs.CountedItems.{same_children, same_left, same_number, number_of_fates, files_of_items, faults_of_items}
-use Rattle.lc_level.proofs.CountedItems.{children_of_items, left_of_items}
+use Rattle.lc_level.proofs.CountedItems.{same_children, same_skipped, same_number, number_of_fates, files_of_items, faults_of_items}
+use Rattle.lc_level.proofs.CountedItems.{children_of_items, skipped_of_items}
 
 -- what is left out, where that is asked for
-abbrev asked : Bool → List LeftModel → List LeftModel
-asked left_out left = if left_out then left else []
+abbrev asked : Bool → List SkippedModel → List SkippedModel
+asked left_out skipped = if left_out then skipped else []
 
 module _ (lists : List ℕ → Listings) (gives : List ℕ → Contents) (left_out : Bool) (s : SelectionModel) (j : JobModel) (o : Opened)
     (c : IsOpened lists gives left_out s j o) where
@@ -68,7 +68,7 @@ module _ (lists : List ℕ → Listings) (gives : List ℕ → Contents) (left_o
     counts = refl;
     fails = refl;
     walks = walked_items_are s o.job part ∙ children_of_items s o.job part ∙ sym c.children;
-    leaves = ap (asked left_out) (left_items_are s o.job part) ∙ left_of_items s o.job left_out part ∙ sym c.left;
+    leaves = ap (asked left_out) (skipped_items_are s o.job part) ∙ skipped_of_items s o.job left_out part ∙ sym c.skipped;
     numbers = number_of_fates s o.job part ∙ sym c.entries;
   }
 
@@ -152,9 +152,9 @@ module _ (lists : List ℕ → Listings) (gives : List ℕ → Contents) (left_o
           ∙ ap (λ l. l ++ failed_in (file_fates o.job (bytes_of o.files.items) f.results)) (sym c.absent) ∙ sym f.faults;
       walks = ap (λ l. walked_in (fates_of s o.job l)) part_is ∙ walked_items_are s o.job (counted_all s o.job part f.results)
           ∙ same_children s o.job part f.results ∙ children_of_items s o.job part ∙ sym c.children;
-      leaves = ap (asked left_out) (ap (λ l. left_in (fates_of s o.job l)) part_is
-          ∙ left_items_are s o.job (counted_all s o.job part f.results) ∙ same_left s o.job part f.results)
-          ∙ left_of_items s o.job left_out part ∙ sym c.left;
+      leaves = ap (asked left_out) (ap (λ l. classify (fates_of s o.job l)) part_is
+          ∙ skipped_items_are s o.job (counted_all s o.job part f.results) ∙ same_skipped s o.job part f.results)
+          ∙ skipped_of_items s o.job left_out part ∙ sym c.skipped;
       numbers = ap (λ l. length (fates_of s o.job l)) part_is ∙ number_of_fates s o.job (counted_all s o.job part f.results)
           ∙ same_number s o.job part f.results ∙ sym c.entries;
     }

@@ -4,12 +4,12 @@ use Rattle.std.specs.Global.{Global}
 use Rattle.std.specs.List.{flat_map}
 use Rattle.std.proofs.lemmas.Grind.{flat_map-append}
 use Rattle.std.specs.declared.alloc.AllocError.{AllocError}
-use Rattle.lc_census.specs.declared.totals.Count.{Count}
+use Rattle.lc_census.specs.declared.count.Count.{Count}
 use Rattle.lc_glob.specs.Path.{path_in}
 use Rattle.lc_level.specs.CountedNames.{AreCounted, file_fates, AddsResult, AddsCounted, IsCounted}
 use Rattle.lc_level.specs.FileReads.{IsAnswer}
 use Rattle.lc_level.specs.Job.{JobModel}
-use Rattle.lc_level.specs.LeftIn.{bytes_of}
+use Rattle.lc_level.specs.Classified.{bytes_of}
 use Rattle.lc_level.specs.Level.{CountedModel, Fate, FileFaultModel, file_fate, counted_of, failed_of, failed_in, text_of}
 use Rattle.lc_rules.specs.AttrStates.{AttrChainModel, state_of, as_text}
 use Rattle.lc_rules.specs.declared.states.TextState.{TextState}

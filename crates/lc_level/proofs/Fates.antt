@@ -2,13 +2,13 @@
 use Rattle.std.proofs.Common.{◌≡◌, ℕ, true, false, cond, List, [], ◌∷◌, ◌++◌, refl, ◌∙◌, ap, Option, Some, None, Result, Ok, Err}
 use Rattle.std.specs.List.{flat_map}
 use Rattle.std.specs.Option.{is_none, option_map_or, option_or}
-use Rattle.lc_census.specs.declared.totals.Count.{Count}
+use Rattle.lc_census.specs.declared.count.Count.{Count}
 use Rattle.lc_level.specs.Answers.{Item, file_item, directory_item, other_item, name_of, entry_of}
 use Rattle.lc_level.specs.Job.{JobModel}
-use Rattle.lc_level.specs.Level.{CountedModel, FileFaultModel, Reason, other_kind, LeftModel, Fate, walked, left, reason_of}
-use Rattle.lc_level.specs.Level.{is_taken, child_job, file_fate, fate_of, fates_of, counted_of, failed_of, walked_of, left_of}
-use Rattle.lc_level.specs.Level.{counted_in, failed_in, walked_in, left_in}
-use Rattle.lc_level.specs.LeftIn.{left_by, left_entry}
+use Rattle.lc_level.specs.Level.{CountedModel, FileFaultModel, Reason, other_kind, SkippedModel, Fate, walked, skipped, reason_of}
+use Rattle.lc_level.specs.Level.{is_taken, child_job, file_fate, fate_of, fates_of, counted_of, failed_of, walked_of, skipped_of}
+use Rattle.lc_level.specs.Level.{counted_in, failed_in, walked_in, classify}
+use Rattle.lc_level.specs.Classified.{skipped_by, skipped_entry}
 use Rattle.lc_level.specs.Selection.{SelectionModel}
 use Rattle.lc_tree.specs.declared.entry.Kind.{Kind}
 use Rattle.lc_tree.specs.declared.entry.Kind.TheVariants.{File, Dir, Other}
@@ -39,34 +39,34 @@ children_by s j (other_item name) = []
 
 -- what a kept entry gives, and nothing where it is left out
 none_or : {A : Type 0} (f : List ℕ × Fate → List A) (name : List ℕ) (kind : Kind) (fate : Fate)
-    → ((reason : Reason) → f (name, left kind reason) ≡ [])
-    → (o : Option Reason) → f (name, option_map_or (left kind) o fate) ≡ cond (is_none o) (f (name, fate)) []
+    → ((reason : Reason) → f (name, skipped kind reason) ≡ [])
+    → (o : Option Reason) → f (name, option_map_or (skipped kind) o fate) ≡ cond (is_none o) (f (name, fate)) []
 none_or f name kind fate none None = refl
 none_or f name kind fate none (Some reason) = none reason
 
 -- the same of what gives nothing in either case
 nothing : {A : Type 0} (f : List ℕ × Fate → List A) (name : List ℕ) (kind : Kind) (fate : Fate)
-    → ((reason : Reason) → f (name, left kind reason) ≡ [])
-    → f (name, fate) ≡ [] → (o : Option Reason) → f (name, option_map_or (left kind) o fate) ≡ []
+    → ((reason : Reason) → f (name, skipped kind reason) ≡ [])
+    → f (name, fate) ≡ [] → (o : Option Reason) → f (name, option_map_or (skipped kind) o fate) ≡ []
 nothing f name kind fate none is None = is
 nothing f name kind fate none is (Some reason) = none reason
 
-abbrev pub left_by_item : SelectionModel → JobModel → Item → List LeftModel
-left_by_item s j item = left_entry true s j (entry_of item)
+abbrev pub skipped_by_item : SelectionModel → JobModel → Item → List SkippedModel
+skipped_by_item s j item = skipped_entry true s j (entry_of item)
 
 module _ (s : SelectionModel) (j : JobModel) where
   counted_one : (item : Item) → counted_of (name_of item, fate_of s j item) ≡ files_by s j item
   counted_one (file_item n r rules) = none_or counted_of n File (file_fate j n r) (λ reason. refl) (reason_of s j n false)
   counted_one (directory_item n) = nothing counted_of n Dir (walked (child_job j n)) (λ reason. refl) refl (reason_of s j n true)
-  counted_one (other_item n) = nothing counted_of n Other (left Other other_kind) (λ reason. refl) refl (reason_of s j n false)
+  counted_one (other_item n) = nothing counted_of n Other (skipped Other other_kind) (λ reason. refl) refl (reason_of s j n false)
 
   failed_one : (item : Item) → failed_of (name_of item, fate_of s j item) ≡ faults_by s j item
   failed_one (file_item n r rules) = none_or failed_of n File (file_fate j n r) (λ reason. refl) (reason_of s j n false)
   failed_one (directory_item n) = nothing failed_of n Dir (walked (child_job j n)) (λ reason. refl) refl (reason_of s j n true)
-  failed_one (other_item n) = nothing failed_of n Other (left Other other_kind) (λ reason. refl) refl (reason_of s j n false)
+  failed_one (other_item n) = nothing failed_of n Other (skipped Other other_kind) (λ reason. refl) refl (reason_of s j n false)
 
   -- counting a file leaves it in, and makes it no directory
-  none_left : (n : List ℕ) (r : Result Count FaultWord) → left_of (n, file_fate j n r) ≡ []
+  none_left : (n : List ℕ) (r : Result Count FaultWord) → skipped_of (n, file_fate j n r) ≡ []
   none_left n (Ok count) = refl
   none_left n (Err word) = refl
 
@@ -77,24 +77,24 @@ module _ (s : SelectionModel) (j : JobModel) where
   walked_one : (item : Item) → walked_of (name_of item, fate_of s j item) ≡ children_by s j item
   walked_one (file_item n r rules) = nothing walked_of n File (file_fate j n r) (λ reason. refl) (no_child n r) (reason_of s j n false)
   walked_one (directory_item n) = none_or walked_of n Dir (walked (child_job j n)) (λ reason. refl) (reason_of s j n true)
-  walked_one (other_item n) = nothing walked_of n Other (left Other other_kind) (λ reason. refl) refl (reason_of s j n false)
+  walked_one (other_item n) = nothing walked_of n Other (skipped Other other_kind) (λ reason. refl) refl (reason_of s j n false)
 
   -- what is left out is left for the reason that the entry has
-  left_one : (item : Item) → left_of (name_of item, fate_of s j item) ≡ left_by_item s j item
-  left_one (file_item n r rules) = at (reason_of s j n false)
+  skipped_one : (item : Item) → skipped_of (name_of item, fate_of s j item) ≡ skipped_by_item s j item
+  skipped_one (file_item n r rules) = at (reason_of s j n false)
     where
-      at : (o : Option Reason) → left_of (n, option_map_or (left File) o (file_fate j n r)) ≡ left_by n File o
+      at : (o : Option Reason) → skipped_of (n, option_map_or (skipped File) o (file_fate j n r)) ≡ skipped_by n File o
       at None = none_left n r
       at (Some reason) = refl
-  left_one (directory_item n) = at (reason_of s j n true)
+  skipped_one (directory_item n) = at (reason_of s j n true)
     where
-      at : (o : Option Reason) → left_of (n, option_map_or (left Dir) o (walked (child_job j n))) ≡ left_by n Dir o
+      at : (o : Option Reason) → skipped_of (n, option_map_or (skipped Dir) o (walked (child_job j n))) ≡ skipped_by n Dir o
       at None = refl
       at (Some reason) = refl
-  left_one (other_item n) = at (reason_of s j n false)
+  skipped_one (other_item n) = at (reason_of s j n false)
     where
       at : (o : Option Reason)
-          → left_of (n, option_map_or (left Other) o (left Other other_kind)) ≡ left_by n Other (option_or o (Some other_kind))
+          → skipped_of (n, option_map_or (skipped Other) o (skipped Other other_kind)) ≡ skipped_by n Other (option_or o (Some other_kind))
       at None = refl
       at (Some reason) = refl
 
@@ -116,5 +116,5 @@ module _ (s : SelectionModel) (j : JobModel) where
   walked_items_are items = by_items walked_of (children_by s j) walked_one items
 
   -- and the entries left out
-  pub left_items_are : (items : List Item) → left_in (fates_of s j items) ≡ flat_map (left_by_item s j) items
-  left_items_are items = by_items left_of (left_by_item s j) left_one items
+  pub skipped_items_are : (items : List Item) → classify (fates_of s j items) ≡ flat_map (skipped_by_item s j) items
+  skipped_items_are items = by_items skipped_of (skipped_by_item s j) skipped_one items

@@ -18,7 +18,7 @@ use Rattle.lc_level.specs.declared.open_fault.OpenFault.TheVariants.{Faulted, Br
 use Rattle.lc_level.specs.declared.fault_word.FaultWord.{FaultWord}
 use Rattle.lc_level.specs.declared.cause.Cause.TheVariants.{Memory, TooDeep}
 use Rattle.lc_level.specs.declared.fault_site.FaultSite.{FaultSite}
-use Rattle.lc_level.specs.declared.fault_site.FaultSite.TheVariants.{Git, GitInfo, ExcludeFile, InfoAttributes}
+use Rattle.lc_level.specs.declared.fault_site.FaultSite.TheVariants.{Git, GitInfo, InfoExclude, InfoAttributes}
 use Rattle.lc_level.proofs.GivenItems.{Counted, AsRules, items_at, entries_items, directory_items, may_items}
 use Rattle.lc_level.proofs.GivenPairs.{PairGiven, pair_given}
 use Rattle.lc_level.proofs.SomeReads.{some_count, some_rules}
@@ -32,7 +32,7 @@ abbrev pub info_asked : Bool → List ℕ → List EntryModel → PairAsked
 info_asked texts directory entries = record {
   directory = directory;
   entries = entries;
-  rules = record { name = codes "exclude"; site = ExcludeFile };
+  rules = record { name = codes "exclude"; site = InfoExclude };
   attributes = record { name = codes "attributes"; site = InfoAttributes };
   top = true;
   texts = texts;

@@ -11,17 +11,17 @@ use Rattle.lc_tree.specs.declared.entry.Kind.{Kind}
 use Rattle.lc_tree.specs.declared.entry.Kind.TheVariants.{Other}
 use Rattle.lc_rules.specs.IgnoreRules.{RuleModel}
 use Rattle.lc_rules.specs.Verdicts.{verdict_by}
-use Rattle.lc_rules.specs.declared.origin.Origin.{Origin}
+use Rattle.lc_rules.specs.declared.rule_source.RuleSource.{RuleSource}
 use Rattle.lc_rules.specs.declared.verdicts.Verdict.TheVariants.{Ignored, Included}
 
 -- a rule that ignores is told by its line
-pub by_ignoring : (origin : Origin) (rule : RuleModel) (line : ℕ) (decides : Option (Origin × RuleModel)) → Some (origin, rule) ≡ decides
-    → Ignored ≡ verdict_by rule → line ≡ rule.line → Some (by_rule origin line) ≡ rule_reason decides
-by_ignoring origin rule line decides is ignores at =
-    ap (λ n. Some (by_rule origin n)) at ∙ told rule.is_negated ignores ∙ ap rule_reason is
+pub by_ignoring : (source : RuleSource) (rule : RuleModel) (line : ℕ) (decides : Option (RuleSource × RuleModel)) → Some (source, rule) ≡ decides
+    → Ignored ≡ verdict_by rule → line ≡ rule.line → Some (by_rule source line) ≡ rule_reason decides
+by_ignoring source rule line decides is ignores at =
+    ap (λ n. Some (by_rule source n)) at ∙ told rule.is_negated ignores ∙ ap rule_reason is
   where
     told : (negated : Bool) → Ignored ≡ (if negated then Included else Ignored)
-        → Some (by_rule origin rule.line) ≡ (if negated then None else Some (by_rule origin rule.line))
+        → Some (by_rule source rule.line) ≡ (if negated then None else Some (by_rule source rule.line))
     told true e = cc
     told false e = refl
 

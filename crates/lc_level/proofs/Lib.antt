@@ -17,7 +17,7 @@ pub mod GivenItems
 pub mod GivenPairs
 pub mod Ignoring
 pub mod Leading
-pub mod LeftFiles
+pub mod RestFiles
 pub mod NodeTrees
 pub mod OneLevel
 pub mod OpenLevels

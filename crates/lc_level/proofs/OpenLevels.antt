@@ -8,7 +8,7 @@ use Rattle.lc_level.specs.Answers.{Item, Items, entry_of, entries_of}
 use Rattle.lc_level.specs.Deep.{is_too_deep, has_too_deep}
 use Rattle.lc_level.specs.Enters.{IsEntered, EntersLevel}
 use Rattle.lc_level.specs.Job.{JobModel}
-use Rattle.lc_level.specs.LeftIn.{kept_file, kept_directory, left_entry, LeavesIn}
+use Rattle.lc_level.specs.Classified.{kept_file, kept_directory, skipped_entry, Classifies}
 use Rattle.lc_level.specs.Level.{FileFaultModel, absent_faults}
 use Rattle.lc_level.specs.Narrowing.{WantedModel, wanted_in, has_part, rests, takes_part, part_of}
 use Rattle.lc_level.specs.Opens.{IsOpened, OpensLevel}
@@ -18,7 +18,7 @@ use Rattle.lc_level.specs.WellFormed.{listed_in}
 use Rattle.lc_tree.specs.Listing.{EntryModel, IsListing}
 use Rattle.lc_tree.specs.Trees.{Listings, Contents}
 use Rattle.lc_level.specs.declared.entering.Entered.{Entered}
-use Rattle.lc_level.specs.declared.left_in.LeftIn.{LeftIn}
+use Rattle.lc_level.specs.declared.classify.Classified.{Classified}
 use Rattle.lc_level.specs.declared.open_fault.OpenFault.{OpenFault}
 use Rattle.lc_level.specs.declared.open_fault.OpenFault.TheVariants.{Faulted, Broken}
 use Rattle.lc_level.specs.declared.cause.Cause.{Cause}
@@ -98,28 +98,28 @@ module _ (lists : List ℕ → Listings) (gives : List ℕ → Contents) (left_o
         ∙ ap (list_any (is_too_deep s e.job)) (sym listed_part) ∙ is_so
 
     -- its entries were not taken
-    pub take_refused : (cause : Cause) → LeavesIn left_out s e.job part (Err cause)
+    pub take_refused : (cause : Cause) → Classifies left_out s e.job part (Err cause)
         → OpensLevel lists gives left_out s j (Err (Broken cause))
     take_refused Memory l = tt
     take_refused TooDeep l = (c.inside.answers, c.inside.may, c.inside.well_formed, deep_is true l)
 
     -- they were taken
-    pub opened : (found : LeftIn) (absent : Vec FileFaultModel Global) (number : ℕ)
+    pub opened : (found : Classified) (absent : Vec FileFaultModel Global) (number : ℕ)
         → absent.items ≡ absent_faults (unled e.entries.items (rests s.only e.job.path)) → number ≡ length part
-        → LeavesIn left_out s e.job part (Ok found)
+        → Classifies left_out s e.job part (Ok found)
         → IsOpened lists gives left_out s j (record {
           job = e.job;
           files = found.files;
           children = found.children;
-          left = found.left;
+          skipped = found.skipped;
           absent = absent;
           entries = number;
         })
-    opened found absent number are counted (files, children, left, shallow) = record {
+    opened found absent number are counted (files, children, skipped, shallow) = record {
       inside = c.inside;
       files = files ∙ ap (flat_map (kept_file s e.job)) part_is;
       children = children ∙ ap (flat_map (kept_directory s e.job)) part_is;
-      left = left ∙ ap (flat_map (left_entry left_out s e.job)) part_is;
+      skipped = skipped ∙ ap (flat_map (skipped_entry left_out s e.job)) part_is;
       absent = are ∙ ap (λ d. absent_faults (unled e.entries.items (rests s.only d))) same_path
           ∙ ap (λ es. absent_faults (unled es (rests s.only j.path))) c.entries
           ∙ ap absent_faults (absent_is s.only j.path c.inside.items);

@@ -5,11 +5,11 @@ use Rattle.std.specs.Global.{Global}
 use Rattle.std.specs.List.{flat_map, AllByRecursion}
 use Rattle.std.proofs.lemmas.List.{map-append}
 use Rattle.std.specs.declared.alloc.AllocError.{AllocError}
-use Rattle.lc_census.specs.declared.totals.Count.{Count}
+use Rattle.lc_census.specs.declared.count.Count.{Count}
 use Rattle.lc_level.specs.CountedNames.{AreCounted, file_fates, IsCounted}
 use Rattle.lc_level.specs.CountedParts.{HaveCounted, Joins, files_of, faults_of, names_of}
 use Rattle.lc_level.specs.Job.{JobModel}
-use Rattle.lc_level.specs.LeftIn.{bytes_of}
+use Rattle.lc_level.specs.Classified.{bytes_of}
 use Rattle.lc_level.specs.Level.{CountedModel, FileFaultModel, counted_of, failed_of, counted_in, failed_in}
 use Rattle.lc_level.specs.declared.counting.CountedFiles.{CountedFiles}
 use Rattle.lc_level.specs.declared.fault_word.FaultWord.{FaultWord}

@@ -21,11 +21,11 @@ order_left zero paths order = order
 order_left (suc i) [] order = order
 order_left (suc i) (path ∷ paths) order = order_left i paths order.1
 
-each_left : (P : List ℕ → Type 0) (i : ℕ) (paths : List (Bor (List ℕ))) → AllByRecursion P (lent paths)
+each_skipped : (P : List ℕ → Type 0) (i : ℕ) (paths : List (Bor (List ℕ))) → AllByRecursion P (lent paths)
     → AllByRecursion P (lent (drop i paths))
-each_left P zero paths all = all
-each_left P (suc i) [] all = all
-each_left P (suc i) (path ∷ paths) all = each_left P i paths all.1
+each_skipped P zero paths all = all
+each_skipped P (suc i) [] all = all
+each_skipped P (suc i) (path ∷ paths) all = each_skipped P i paths all.1
 
 module _ (d : List ℕ) where
   -- what is seen of some paths
@@ -73,7 +73,7 @@ module _ (d : List ℕ) where
         ∙ none_seen d path.now (lent others)
         (sorted_head bytes_cmp path.now (lent others) (subst (λ ps. AreInOrder (lent ps)) left (order_left i paths order)))
         (subst (λ ps. AllByRecursion (λ p. comes_before d p ≡ false) (lent ps)) left
-        (each_left (λ p. comes_before d p ≡ false) i paths past)).0 none
+        (each_skipped (λ p. comes_before d p ≡ false) i paths past)).0 none
 
     -- what is seen of the first and of those after it
     pub one_seen : (rest : List ℕ) → rest_from d path.now ≡ Some rest → seen (drop i paths) ≡ rest ∷ seen others

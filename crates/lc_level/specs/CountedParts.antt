@@ -5,7 +5,7 @@ use Rattle.std.specs.List.{flat_map, AllByRecursion}
 use Rattle.std.specs.declared.alloc.AllocError.{AllocError}
 use Rattle.lc_level.specs.CountedNames.{IsCounted}
 use Rattle.lc_level.specs.Job.{JobModel}
-use Rattle.lc_level.specs.LeftIn.{bytes_of}
+use Rattle.lc_level.specs.Classified.{bytes_of}
 use Rattle.lc_level.specs.Level.{CountedModel, FileFaultModel}
 use Rattle.lc_level.specs.declared.counting.CountedFiles.{CountedFiles}
 use Rattle.lc_tree.specs.Trees.{Contents}
@@ -36,7 +36,7 @@ pub record Joins (parts : List (Result CountedFiles AllocError)) (absent : List 
 
 -- the files of these names are counted but for those of the last, which are left
 pub record CountsSome (gives : List ℕ → Contents) (j : JobModel) (names : List (Vec ℕ Global)) (absent : List FileFaultModel)
-    (left : List (Vec ℕ Global)) (found : CountedFiles) : Type 0 where
+    (rest : List (Vec ℕ Global)) (found : CountedFiles) : Type 0 where
   pub done : List (Vec ℕ Global)
-  pub all : done ++ left ≡ names
+  pub all : done ++ rest ≡ names
   pub counted : IsCounted gives j (bytes_of done) absent found

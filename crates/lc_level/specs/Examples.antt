@@ -4,11 +4,11 @@ use Rattle.std.specs.declared.alloc.Global.{Global}
 use Rattle.std.proofs.Math.Nat.{le_refl}
 use Rattle.std.proofs.lemmas.Bool.{ltb-true}
 use denote.RawPtr.{null_ptr}
-use Rattle.lc_census.specs.declared.totals.Eol.TheVariants.{Lf}
+use Rattle.lc_census.specs.declared.count.Eol.TheVariants.{Lf}
 use Rattle.lc_level.specs.Answers.{Item, file_item, directory_item, other_item}
-use Rattle.lc_rules.specs.declared.origin.Origin.TheVariants.{Directory}
-use Rattle.lc_level.specs.Level.{named_git, by_rule, by_attribute, other_kind, LeftModel, Level, faulted_level, listed_level, level}
-use Rattle.lc_level.specs.Level.{counted_in, failed_in, walked_in, left_in}
+use Rattle.lc_rules.specs.declared.rule_source.RuleSource.TheVariants.{Gitignore}
+use Rattle.lc_level.specs.Level.{named_git, by_rule, by_attribute, other_kind, SkippedModel, Level, faulted_level, listed_level, level}
+use Rattle.lc_level.specs.Level.{counted_in, failed_in, walked_in, classify}
 use Rattle.lc_level.specs.NodeTrees.{tree_of_node}
 use Rattle.lc_level.specs.Selection.{SelectionModel, selection_of}
 use Rattle.lc_level.specs.TopJob.{top_job}
@@ -91,7 +91,7 @@ pub record Names : Type 0 where
   pub files : List (List ℕ)
   pub faults : List (List ℕ)
   pub children : List (List ℕ)
-  pub outside : List LeftModel
+  pub outside : List SkippedModel
 
 abbrev pub names_in : Level → Names
 names_in (faulted_level path word) = record { files = []; faults = []; children = []; outside = [] }
@@ -99,7 +99,7 @@ names_in (listed_level fates absent) = record {
   files = map (λ f. f.name) (counted_in fates);
   faults = map (λ f. f.name) (failed_in fates);
   children = map (λ c. c.0) (walked_in fates);
-  outside = left_in fates;
+  outside = classify fates;
 }
 
 -- a tree as it is, and as git exports it
@@ -114,10 +114,10 @@ abbrev pub small_names : Global → SelectionModel → Names
 small_names alloc s = names_in (level s (top_job None) (tree_of_node (small_node alloc) []))
 
 -- what is left out of it in any case
-abbrev pub small_outside : List LeftModel
+abbrev pub small_outside : List SkippedModel
 small_outside =
     record { name = codes ".git"; kind = File; reason = named_git }
-    ∷ record { name = codes "a.o"; kind = File; reason = by_rule (Directory 0) 1 }
+    ∷ record { name = codes "a.o"; kind = File; reason = by_rule (Gitignore 0) 1 }
     ∷ record { name = codes "l"; kind = Other; reason = other_kind } ∷ []
 
 abbrev pub small_as_it_is : Names

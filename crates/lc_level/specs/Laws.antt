@@ -5,7 +5,7 @@ use Rattle.lc_level.specs.Answers.{Answers}
 use Rattle.lc_level.specs.CountedNames.{IsCounted}
 use Rattle.lc_level.specs.Deep.{has_too_deep}
 use Rattle.lc_level.specs.Job.{JobModel}
-use Rattle.lc_level.specs.LeftIn.{bytes_of}
+use Rattle.lc_level.specs.Classified.{bytes_of}
 use Rattle.lc_level.specs.Level.{CountedModel, FileFaultModel, LevelParts, IsLevelOf, level}
 use Rattle.lc_level.specs.Opens.{IsOpened}
 use Rattle.lc_level.specs.Selection.{SelectionModel, selection_of}
@@ -24,7 +24,7 @@ parts_with o files faults = record {
   files = files;
   faults = faults;
   children = o.children.items;
-  left = o.left.items;
+  skipped = o.skipped.items;
   entries = o.entries;
 }
 

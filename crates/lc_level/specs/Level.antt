@@ -6,10 +6,10 @@ use Rattle.std.specs.Option.{is_none, option_map_or, option_or}
 use Rattle.lc_rules.specs.Attributes.{StateModel, set, unset, value, unspecified}
 use Rattle.lc_rules.specs.IgnoreChains.{rules_in}
 use Rattle.lc_rules.specs.IgnoreRules.{RuleModel}
-use Rattle.lc_rules.specs.Verdicts.{deciding}
-use Rattle.lc_rules.specs.declared.origin.Origin.{Origin}
+use Rattle.lc_rules.specs.Verdicts.{last_match}
+use Rattle.lc_rules.specs.declared.rule_source.RuleSource.{RuleSource}
 use Rattle.lc_rules.specs.declared.states.TextState.{TextState}
-use Rattle.lc_census.specs.declared.totals.Count.{Count}
+use Rattle.lc_census.specs.declared.count.Count.{Count}
 use Rattle.lc_tree.specs.declared.entry.Kind.{Kind}
 use Rattle.lc_tree.specs.declared.entry.Kind.TheVariants.{File, Dir, Other}
 use Rattle.lc_level.specs.declared.fault_word.FaultWord.{FaultWord}
@@ -35,15 +35,15 @@ pub record FileFaultModel : Type 0 where
   pub word : FaultWord
 
 -- why an entry is left out, the first that holds: it is named `.git`; the rule that decides ignores it, and stands in a file of this
--- origin, on the line with this number; an attribute that leaves out is Set for it; it is neither a file nor a directory
+-- source, on the line with this number; an attribute that leaves out is Set for it; it is neither a file nor a directory
 pub data Reason : Type 0 where
   named_git : Reason
-  by_rule : Origin → (line : ℕ) → Reason
+  by_rule : RuleSource → (line : ℕ) → Reason
   by_attribute : (name : List ℕ) → Reason
   other_kind : Reason
 
 -- an entry that is left out: what stands under its name, and why it is
-pub record LeftModel : Type 0 where
+pub record SkippedModel : Type 0 where
   pub name : List ℕ
   pub kind : Kind
   pub reason : Reason
@@ -54,7 +54,7 @@ pub data Fate : Type 0 where
   counted : CountedModel → Fate
   failed : FaultWord → Fate
   walked : JobModel → Fate
-  left : Kind → Reason → Fate
+  skipped : Kind → Reason → Fate
 
 -- a directory gives a fault at some path and nothing else, or the names with their fates of the entries that take part, in the order of
 -- its listing, and the paths that are asked for and absent, seen from it
@@ -75,14 +75,14 @@ abbrev pub attribute_reason : SelectionModel → JobModel → List ℕ → Bool 
 attribute_reason s j path is_dir = option_map by_attribute (find (λ name. is_set (state_of j.attributes path is_dir name)) s.without)
 
 -- the rule that decides, where it ignores
-abbrev pub rule_reason : Option (Origin × RuleModel) → Option Reason
+abbrev pub rule_reason : Option (RuleSource × RuleModel) → Option Reason
 rule_reason None = None
 rule_reason (Some rule) = if rule.1.is_negated then None else Some (by_rule rule.0 rule.1.line)
 
 -- by a path
 abbrev pub reason_at : SelectionModel → JobModel → List ℕ → Bool → Option Reason
 reason_at s j path is_dir =
-    option_or (rule_reason (deciding (rules_in j.ignore) path is_dir)) (attribute_reason s j path is_dir)
+    option_or (rule_reason (last_match (rules_in j.ignore) path is_dir)) (attribute_reason s j path is_dir)
 
 -- by a name in the directory
 abbrev pub reason_of : SelectionModel → JobModel → List ℕ → Bool → Option Reason
@@ -119,9 +119,9 @@ file_fate j name (Ok count) = counted (record { name = name; text = text_of j (p
 file_fate j name (Err word) = failed word
 
 abbrev pub fate_of : SelectionModel → JobModel → Item → Fate
-fate_of s j (file_item name count rules) = option_map_or (left File) (reason_of s j name false) (file_fate j name count)
-fate_of s j (directory_item name) = option_map_or (left Dir) (reason_of s j name true) (walked (child_job j name))
-fate_of s j (other_item name) = option_map_or (left Other) (reason_of s j name false) (left Other other_kind)
+fate_of s j (file_item name count rules) = option_map_or (skipped File) (reason_of s j name false) (file_fate j name count)
+fate_of s j (directory_item name) = option_map_or (skipped Dir) (reason_of s j name true) (walked (child_job j name))
+fate_of s j (other_item name) = option_map_or (skipped Other) (reason_of s j name false) (skipped Other other_kind)
 
 abbrev pub fates_of : SelectionModel → JobModel → List Item → List (List ℕ × Fate)
 fates_of s j items = map (λ item. (name_of item, fate_of s j item)) items
@@ -140,9 +140,9 @@ abbrev pub walked_of : List ℕ × Fate → List (List ℕ × JobModel)
 walked_of (name, walked job) = (name, job) ∷ []
 walked_of (name, _) = []
 
-abbrev pub left_of : List ℕ × Fate → List LeftModel
-left_of (name, left kind reason) = record { name = name; kind = kind; reason = reason } ∷ []
-left_of (name, _) = []
+abbrev pub skipped_of : List ℕ × Fate → List SkippedModel
+skipped_of (name, skipped kind reason) = record { name = name; kind = kind; reason = reason } ∷ []
+skipped_of (name, _) = []
 
 -- the counted files, the faults of files, the child directories with their jobs, the entries left out
 abbrev pub counted_in : List (List ℕ × Fate) → List CountedModel
@@ -154,8 +154,8 @@ failed_in fates = flat_map failed_of fates
 abbrev pub walked_in : List (List ℕ × Fate) → List (List ℕ × JobModel)
 walked_in fates = flat_map walked_of fates
 
-abbrev pub left_in : List (List ℕ × Fate) → List LeftModel
-left_in fates = flat_map left_of fates
+abbrev pub classify : List (List ℕ × Fate) → List SkippedModel
+classify fates = flat_map skipped_of fates
 
 -- the faults of paths that are absent
 abbrev pub absent_faults : List (List ℕ) → List FileFaultModel
@@ -167,7 +167,7 @@ pub record LevelParts : Type 0 where
   pub files : List CountedModel
   pub faults : List FileFaultModel
   pub children : List (List ℕ × JobModel)
-  pub left : List LeftModel
+  pub skipped : List SkippedModel
   pub entries : ℕ
 
 -- a level that was listed has these parts; the entries left out where they are asked for
@@ -178,7 +178,7 @@ pub record IsLevelOf (l : Level) (left_out : Bool) (parts : LevelParts) : Type 0
   pub counts : counted_in fates ≡ parts.files
   pub fails : absent_faults absent ++ failed_in fates ≡ parts.faults
   pub walks : walked_in fates ≡ parts.children
-  pub leaves : (if left_out then left_in fates else []) ≡ parts.left
+  pub leaves : (if left_out then classify fates else []) ≡ parts.skipped
   pub numbers : length fates ≡ parts.entries
 
 -- ---- the whole

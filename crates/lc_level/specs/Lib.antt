@@ -12,7 +12,7 @@ pub mod FileReads
 pub mod GitInfo
 pub mod Job
 pub mod Laws
-pub mod LeftIn
+pub mod Classified
 pub mod Level
 pub mod Narrowing
 pub mod NodeTrees

@@ -6,7 +6,7 @@ use Rattle.lc_level.specs.Deep.{has_too_deep}
 use Rattle.lc_level.specs.Enters.{IsInside}
 use Rattle.lc_level.specs.Job.{JobModel}
 use Rattle.lc_level.specs.WellFormed.{IsWellFormed}
-use Rattle.lc_level.specs.LeftIn.{kept_file, kept_directory, left_entry, bytes_of}
+use Rattle.lc_level.specs.Classified.{kept_file, kept_directory, skipped_entry, bytes_of}
 use Rattle.lc_level.specs.Level.{absent_faults, faulted_level, level}
 use Rattle.lc_level.specs.Narrowing.{part_of, absent_from}
 use Rattle.lc_level.specs.SitePaths.{site_path}
@@ -25,7 +25,7 @@ module _ (lists : List ℕ → Listings) (gives : List ℕ → Contents) (left_o
     pub inside : IsInside lists gives j o.job
     pub files : bytes_of o.files.items ≡ flat_map (kept_file s o.job) (entries_of (part_of s.only j.path inside.items))
     pub children : o.children.items ≡ flat_map (kept_directory s o.job) (entries_of (part_of s.only j.path inside.items))
-    pub left : o.left.items ≡ flat_map (left_entry left_out s o.job) (entries_of (part_of s.only j.path inside.items))
+    pub skipped : o.skipped.items ≡ flat_map (skipped_entry left_out s o.job) (entries_of (part_of s.only j.path inside.items))
     pub absent : o.absent.items ≡ absent_faults (absent_from s.only j.path inside.items)
     pub entries : o.entries ≡ length (part_of s.only j.path inside.items)
     pub shallow : has_too_deep s j inside.answers ≡ false

@@ -7,12 +7,12 @@ use Rattle.lc_level.specs.declared.reason.ReasonRef.TheVariants as lent
 
 abbrev pub reason_model : OwnedReason → Reason
 reason_model owned.Git = named_git
-reason_model (owned.Rule origin line) = by_rule origin line
+reason_model (owned.Rule source line) = by_rule source line
 reason_model (owned.Attribute name) = by_attribute name.items
 reason_model owned.OtherKind = other_kind
 
 abbrev pub reason_ref_model : ReasonRef → Reason
 reason_ref_model lent.Git = named_git
-reason_ref_model (lent.Rule origin line) = by_rule origin line
+reason_ref_model (lent.Rule source line) = by_rule source line
 reason_ref_model (lent.Attribute name) = by_attribute name.now
 reason_ref_model lent.OtherKind = other_kind

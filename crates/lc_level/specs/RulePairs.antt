@@ -17,7 +17,7 @@ use Rattle.lc_level.specs.declared.content_fault.ContentFault.{ContentFault}
 use Rattle.lc_level.specs.declared.content_fault.ContentFault.TheVariants as content_fault
 use Rattle.lc_level.specs.declared.cause.Cause.TheVariants.{Memory, TooDeep}
 use Rattle.lc_level.specs.declared.fault_site.FaultSite.{FaultSite}
-use Rattle.lc_level.specs.declared.fault_site.FaultSite.TheVariants.{IgnoreFile, AttributeFile}
+use Rattle.lc_level.specs.declared.fault_site.FaultSite.TheVariants.{Gitignore, Gitattributes}
 use Rattle.lc_level.specs.declared.fault_word.FaultWord.{FaultWord}
 
 -- what becomes of a directory whose file at a site was not read
@@ -66,8 +66,8 @@ abbrev pub own_asked : Bool → List ℕ → List EntryModel → PairAsked
 own_asked texts directory entries = record {
   directory = directory;
   entries = entries;
-  rules = record { name = codes ".gitignore"; site = IgnoreFile };
-  attributes = record { name = codes ".gitattributes"; site = AttributeFile };
+  rules = record { name = codes ".gitignore"; site = Gitignore };
+  attributes = record { name = codes ".gitattributes"; site = Gitattributes };
   top = is_top directory;
   texts = texts;
 }

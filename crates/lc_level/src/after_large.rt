@@ -4,7 +4,7 @@ ghost use Rattle.std.specs.Global.{Global};
 ghost use Rattle.lc_level.specs.CountedNames.{IsCounted};
 ghost use Rattle.lc_level.specs.CountedParts.{CountsSome};
 ghost use Rattle.lc_level.specs.Level.{FileFaultModel};
-ghost use Rattle.lc_level.specs.LeftIn.{bytes_of};
+ghost use Rattle.lc_level.specs.Classified.{bytes_of};
 
 use crate::FileFault;
 use crate::counting::CountedFiles;
@@ -46,18 +46,18 @@ impl<T: Tree> LevelReader<'_, T> {
         name: Vec<u8>,
         scratch: &mut Scratch,
         found: &mut CountedFiles,
-        left: &mut Vec<Vec<u8>>,
+        rest: &mut Vec<Vec<u8>>,
     ) -> Result<(), AllocError>
         requires { scratch.old.path.directory ≡ job.now.path }
         ensures same { scratch.new.path.directory ≡ scratch.old.path.directory }
         ensures more { OnOk result ((names : List (Vec ℕ Global)) → (absent : List FileFaultModel) →
-            CountsSome (T.gives self.now.tree.now) job.now names absent left.old.items found.old →
-            CountsSome (T.gives self.now.tree.now) job.now (names ++ name ∷ []) absent left.new.items found.new) }
+            CountsSome (T.gives self.now.tree.now) job.now names absent rest.old.items found.old →
+            CountsSome (T.gives self.now.tree.now) job.now (names ++ name ∷ []) absent rest.new.items found.new) }
     {
-        if left.is_empty() && !found.ends_large() {
+        if rest.is_empty() && !found.ends_large() {
             return self.count_one(job, name, scratch, found);
         }
-        left.push(name)?;
+        rest.push(name)?;
         Ok(())
     }
 
@@ -77,11 +77,11 @@ impl<T: Tree> LevelReader<'_, T> {
             files: Vec::new(self.alloc),
             faults: absent,
         };
-        let mut left = Vec::new(self.alloc);
+        let mut rest = Vec::new(self.alloc);
         for name in names {
-            self.count_or_leave(job, name, scratch, &mut found, &mut left)?;
+            self.count_or_leave(job, name, scratch, &mut found, &mut rest)?;
         }
-        Ok((found, left))
+        Ok((found, rest))
     }
 
     /// Counts the files of these names with the help of so many threads.
@@ -117,9 +117,9 @@ impl<T: Tree> LevelReader<'_, T> {
         requires { scratch.old.path.directory ≡ job.now.path }
         ensures { IfOk result (IsCounted (T.gives self.now.tree.now) job.now (bytes_of names.items) absent.items) }
     {
-        let (mut found, left) = self.count_to_large(job, names, absent, scratch)?;
-        let helpers = take_helpers(idle, left.len());
-        let later = self.count_by_helpers(rt, helpers, job, left, scratch);
+        let (mut found, rest) = self.count_to_large(job, names, absent, scratch)?;
+        let helpers = take_helpers(idle, rest.len());
+        let later = self.count_by_helpers(rt, helpers, job, rest, scratch);
         idle.give_back(helpers);
         found.append(later?)?;
         Ok(found)

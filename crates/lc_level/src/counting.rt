@@ -2,7 +2,7 @@
 ghost use Rattle.std.specs.Prelude.{◌≡◌, IfOk, Ok, Err};
 ghost use Rattle.lc_glob.specs.Path.{path_in};
 ghost use Rattle.lc_level.specs.CountedNames.{AddsResult, AddsCounted, IsCounted};
-ghost use Rattle.lc_level.specs.LeftIn.{bytes_of};
+ghost use Rattle.lc_level.specs.Classified.{bytes_of};
 
 use crate::content_fault::ContentFault;
 use crate::job::Job;

@@ -45,7 +45,7 @@ impl<T: Tree> LevelReader<'_, T> {
         entries: &[Entry],
         scratch: &mut Scratch,
     ) -> Result<PairRead, OpenFault>
-        ensures { ReadsGit (T.lists self.now.tree.now) (T.gives self.now.tree.now) self.now.kept.texts
+        ensures { ReadsGit (T.lists self.now.tree.now) (T.gives self.now.tree.now) self.now.options.texts
             (is_top directory.now && has_dir (codes ".git") entries.now) result }
     {
         if !directory.is_empty() {
@@ -62,7 +62,7 @@ impl<T: Tree> LevelReader<'_, T> {
         scratch: &mut Scratch,
     ) -> Result<PairRead, OpenFault>
         ensures at { OnOk result (scratch.new.path.directory ≡ directory.now) }
-        ensures read { ReadsBoth (T.gives self.now.tree.now) (own_asked self.now.kept.texts directory.now entries.now) result }
+        ensures read { ReadsBoth (T.gives self.now.tree.now) (own_asked self.now.options.texts directory.now entries.now) result }
     {
         let Ok(()) = scratch.path.enter(directory) else {
             return Err(OpenFault::Broken(Cause::Memory));
@@ -70,11 +70,11 @@ impl<T: Tree> LevelReader<'_, T> {
         let names = PairNames {
             rules: RuleName {
                 name: b".gitignore",
-                site: FaultSite::IgnoreFile,
+                site: FaultSite::Gitignore,
             },
             attributes: RuleName {
                 name: b".gitattributes",
-                site: FaultSite::AttributeFile,
+                site: FaultSite::Gitattributes,
             },
             top: directory.is_empty(),
         };
@@ -109,7 +109,7 @@ impl<T: Tree> LevelReader<'_, T> {
     ) -> Result<Entered, OpenFault>
         requires { Lists (T.lists self.now.tree.now job.now.path) listing }
         ensures at { IfOk result (λ e. scratch.new.path.directory ≡ e.job.path) }
-        ensures enters { EntersLevel (T.lists self.now.tree.now) (T.gives self.now.tree.now) job.now self.now.kept.texts result }
+        ensures enters { EntersLevel (T.lists self.now.tree.now) (T.gives self.now.tree.now) job.now self.now.options.texts result }
     {
         let path = job.path();
         let listing = self.listed_for(path, listing, FaultSite::Directory)?;
@@ -132,7 +132,7 @@ impl<T: Tree> LevelReader<'_, T> {
     /// Lists and enters the directory of a job: what stops it is its first fault. The scratch paths are then those of the directory.
     pub fn enter(&self, job: &Job, scratch: &mut Scratch) -> Result<Entered, OpenFault>
         ensures at { IfOk result (λ e. scratch.new.path.directory ≡ e.job.path) }
-        ensures enters { EntersLevel (T.lists self.now.tree.now) (T.gives self.now.tree.now) job.now self.now.kept.texts result }
+        ensures enters { EntersLevel (T.lists self.now.tree.now) (T.gives self.now.tree.now) job.now self.now.options.texts result }
     {
         let listing = self.tree.list(self.alloc, job.path());
         self.enter_listed(job, listing, scratch)

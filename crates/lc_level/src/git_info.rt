@@ -47,7 +47,7 @@ impl<T: Tree> LevelReader<'_, T> {
         entries: &[Entry],
         scratch: &mut Scratch,
     ) -> Result<PairRead, OpenFault>
-        ensures { ReadsGit (T.lists self.now.tree.now) (T.gives self.now.tree.now) self.now.kept.texts
+        ensures { ReadsGit (T.lists self.now.tree.now) (T.gives self.now.tree.now) self.now.options.texts
             (has_dir (codes ".git") entries.now) result }
     {
         if !has_dir(entries, b".git") {
@@ -64,7 +64,7 @@ impl<T: Tree> LevelReader<'_, T> {
         let names = PairNames {
             rules: RuleName {
                 name: b"exclude",
-                site: FaultSite::ExcludeFile,
+                site: FaultSite::InfoExclude,
             },
             attributes: RuleName {
                 name: b"attributes",

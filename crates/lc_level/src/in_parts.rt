@@ -2,7 +2,7 @@
 ghost use Rattle.std.specs.Prelude.{◌≡◌, ◌++◌, [], IfOk, OnOk, vec_len};
 ghost use Rattle.lc_level.specs.CountedNames.{IsCounted};
 ghost use Rattle.lc_level.specs.CountedParts.{HaveCounted, Joins, names_of};
-ghost use Rattle.lc_level.specs.LeftIn.{bytes_of};
+ghost use Rattle.lc_level.specs.Classified.{bytes_of};
 
 use crate::FileFault;
 use crate::counting::CountedFiles;

@@ -6,10 +6,10 @@ ghost use Rattle.lc_level.specs.Level.{job_at};
 ghost use Rattle.lc_level.specs.RuleReads.{shared};
 ghost use Rattle.lc_level.specs.TopJob.{top_job};
 ghost use Rattle.lc_rules.specs.IgnoreChains.{rules_in};
-ghost use Rattle.lc_rules.specs.Verdicts.{deciding};
+ghost use Rattle.lc_rules.specs.Verdicts.{last_match};
 
 use lc_glob::path::depth_of;
-use lc_rules::{AttrChain, Chain, IgnoreFile, Origin, Rule};
+use lc_rules::{AttrChain, Chain, IgnoreFile, Rule, RuleSource};
 use std::alloc::{AllocError, Global};
 use std::marker::Model;
 use std::sync::Arc;
@@ -134,10 +134,10 @@ impl Job {
     }
 
     /// The rule that decides what stands at a path, and where its file stands.
-    pub fn deciding(&self, path: &[u8], is_dir: bool) -> Option<(Origin, &Rule)>
-        ensures { option_map (λ r. (r.0, r.1.now)) result ≡ deciding (rules_in self.now.ignore) path.now is_dir }
+    pub fn last_match(&self, path: &[u8], is_dir: bool) -> Option<(RuleSource, &Rule)>
+        ensures { option_map (λ r. (r.0, r.1.now)) result ≡ last_match (rules_in self.now.ignore) path.now is_dir }
     {
-        self.parts.ignore.deciding(path, is_dir)
+        self.parts.ignore.last_match(path, is_dir)
     }
 
     /// The path of the directory: at most 4,096 bytes.

@@ -6,7 +6,7 @@ use std::alloc::Global;
 
 /// What is kept beside what a count needs. What isn't kept costs nothing.
 #[derive(Clone, Copy, Debug, Drop)]
-pub struct Kept {
+pub struct ReaderOptions {
     /// The entries that are left out, with their reasons.
     pub left_out: bool,
     /// The bytes of `.git/info/exclude` and of each `.gitignore`.
@@ -28,7 +28,7 @@ pub struct LevelReader<'t, T> {
     pub(crate) alloc: Global,
     pub(crate) tree: &'t T,
     pub(crate) selection: Selection<'t>,
-    pub(crate) kept: Kept,
+    pub(crate) options: ReaderOptions,
 }
 
 impl<'t, T> LevelReader<'t, T> {
@@ -37,17 +37,17 @@ impl<'t, T> LevelReader<'t, T> {
         alloc: Global,
         tree: &'t T,
         selection: Selection<'t>,
-        kept: Kept,
+        options: ReaderOptions,
     ) -> LevelReader<'t, T>
         ensures tree { result.tree.now ≡ tree.entry.now }
         ensures selection { result.selection ≡ selection.entry }
-        ensures kept { result.kept ≡ kept }
+        ensures options { result.options ≡ options }
     {
         LevelReader {
             alloc,
             tree,
             selection,
-            kept,
+            options,
         }
     }
 }

@@ -3,7 +3,7 @@
 //! - `job`: a directory to be walked; `cause`, `fault_site`: why it is given up, and where it is at fault
 //! - `entering`: a directory's listing and its rule files, read whole; `opening`: which of its entries these leave in
 //! - `git_info`, `rule_files`, `rule_pair`: its rule files; `chains`: both chains by them
-//! - `entry_looks`, `left_in`: what is looked for among its entries, and which of them stay; `deciding`, `reason`: why the others don't
+//! - `entry_looks`, `classify`: what is looked for among its entries, and which of them stay; `skip_reason`, `reason`: why the others don't
 //! - `selection`: what decides beside the rules; `only_paths`, `lent_paths`: the paths that alone are asked for;
 //!   `sorted_paths`, `below`: looking among them; `narrowing`: which entries take part by them
 //! - `counted`, `counting`: what became of its files, and counting them; `in_parts`, `after_large`: counting
@@ -19,10 +19,10 @@ mod after_large;
 mod below;
 mod cause;
 mod chains;
+mod classify;
 mod content_fault;
 mod counted;
 mod counting;
-mod deciding;
 mod entering;
 mod entry_looks;
 mod fault_site;
@@ -32,7 +32,6 @@ mod git_info;
 mod in_parts;
 mod job;
 mod laws;
-mod left_in;
 mod lent_paths;
 mod level_reader;
 mod narrowing;
@@ -46,9 +45,11 @@ mod rule_files;
 mod rule_pair;
 mod scratch;
 mod selection;
+mod skip_reason;
 mod sorted_paths;
 
 pub use cause::Cause;
+pub use classify::ChildDirectory;
 pub use counted::{Counted, FileFault};
 pub use counting::CountedFiles;
 pub use entering::{Entered, RuleTexts};
@@ -59,12 +60,11 @@ pub use laws::{
     a_node_is_one_tree, export_ignore_is_one_more_attribute, files_of_memory_are_read_once,
     level_examples_hold, one_answer_is_one_level, trees_of_memory_give_one, work_is_a_level,
 };
-pub use left_in::ChildDirectory;
-pub use level_reader::{Kept, LevelReader};
+pub use level_reader::{LevelReader, ReaderOptions};
 pub use only_paths::OnlyPaths;
 pub use open_fault::OpenFault;
 pub use opening::Opened;
 pub use paths::path_in;
-pub use reason::{LeftOut, Reason};
+pub use reason::{Reason, SkippedEntry};
 pub use scratch::Scratch;
 pub use selection::Selection;

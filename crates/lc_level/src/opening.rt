@@ -4,13 +4,13 @@ ghost use Rattle.lc_level.specs.Opens.{OpensLevel};
 ghost use Rattle.lc_tree.specs.Trees.{Lists};
 
 use crate::cause::Cause;
+use crate::classify::ChildDirectory;
 use crate::counted::FileFault;
 use crate::entering::Entered;
 use crate::job::Job;
-use crate::left_in::ChildDirectory;
 use crate::level_reader::LevelReader;
 use crate::open_fault::OpenFault;
-use crate::reason::LeftOut;
+use crate::reason::SkippedEntry;
 use crate::scratch::Scratch;
 use lc_tree::{IdleThreads, Listing, ReadFault, Tree, list_in_parts};
 use std::thread::Threads;
@@ -25,7 +25,7 @@ pub struct Opened {
     /// The directories that are to be walked.
     pub children: Vec<ChildDirectory>,
     /// The entries that are left out, in the order of the listing; none unless they are kept.
-    pub left: Vec<LeftOut>,
+    pub skipped: Vec<SkippedEntry>,
     /// The paths that are asked for and absent, seen from the directory.
     pub absent: Vec<FileFault>,
     /// The number of the entries that take part.
@@ -43,7 +43,7 @@ impl<T: Tree> LevelReader<'_, T> {
     ) -> Result<Opened, OpenFault>
         requires { Lists (T.lists self.now.tree.now job.now.path) listing }
         ensures at { IfOk result (λ o. scratch.new.path.directory ≡ o.job.path) }
-        ensures opens { OpensLevel (T.lists self.now.tree.now) (T.gives self.now.tree.now) self.now.kept.left_out
+        ensures opens { OpensLevel (T.lists self.now.tree.now) (T.gives self.now.tree.now) self.now.options.left_out
             self.now.selection job.now result }
     {
         let Entered { job, entries, .. } = self.enter_listed(job, listing, scratch)?;
@@ -57,12 +57,12 @@ impl<T: Tree> LevelReader<'_, T> {
             return Err(OpenFault::Broken(Cause::Memory));
         };
         let number = entries.len() as u32;
-        match self.left_in(&job, entries, &mut scratch.path) {
+        match self.classify(&job, entries, &mut scratch.path) {
             Ok(found) => Ok(Opened {
                 job,
                 files: found.files,
                 children: found.children,
-                left: found.left,
+                skipped: found.skipped,
                 absent,
                 entries: number,
             }),
@@ -74,7 +74,7 @@ impl<T: Tree> LevelReader<'_, T> {
     /// paths are then those of the directory.
     pub fn open(&self, job: &Job, scratch: &mut Scratch) -> Result<Opened, OpenFault>
         ensures at { IfOk result (λ o. scratch.new.path.directory ≡ o.job.path) }
-        ensures opens { OpensLevel (T.lists self.now.tree.now) (T.gives self.now.tree.now) self.now.kept.left_out
+        ensures opens { OpensLevel (T.lists self.now.tree.now) (T.gives self.now.tree.now) self.now.options.left_out
             self.now.selection job.now result }
     {
         let listing = self.tree.list(self.alloc, job.path());
@@ -90,7 +90,7 @@ impl<T: Tree> LevelReader<'_, T> {
         scratch: &mut Scratch,
     ) -> Result<Opened, OpenFault>
         ensures at { IfOk result (λ o. scratch.new.path.directory ≡ o.job.path) }
-        ensures opens { OpensLevel (T.lists self.now.tree.now) (T.gives self.now.tree.now) self.now.kept.left_out
+        ensures opens { OpensLevel (T.lists self.now.tree.now) (T.gives self.now.tree.now) self.now.options.left_out
             self.now.selection job.now result }
     {
         let listing = list_in_parts(rt, self.alloc, self.tree, job.path(), idle);

@@ -3,7 +3,7 @@
 ghost use Rattle.std.specs.Prelude.{◌≡◌, IfOk};
 ghost use Rattle.lc_level.specs.Reasons.{reason_model, reason_ref_model};
 
-use lc_rules::Origin;
+use lc_rules::RuleSource;
 use lc_tree::Kind;
 use std::alloc::{AllocError, Global};
 use std::marker::Model;
@@ -13,8 +13,8 @@ use std::marker::Model;
 pub enum Reason {
     /// It is named `.git`.
     Git,
-    /// The rule that decides ignores it. The rule stands in the file of this origin, on the line with this number, from 1.
-    Rule { origin: Origin, line: u32 },
+    /// The rule that decides ignores it. The rule stands in the file of this source, on the line with this number, from 1.
+    Rule { source: RuleSource, line: u32 },
     /// This attribute, one of those that leave out, is Set for it.
     Attribute(Vec<u8>),
     /// It is neither a file nor a directory.
@@ -28,8 +28,8 @@ impl Reason {
     {
         match self {
             Reason::Git => Ok(Reason::Git),
-            Reason::Rule { origin, line } => Ok(Reason::Rule {
-                origin: *origin,
+            Reason::Rule { source, line } => Ok(Reason::Rule {
+                source: *source,
                 line: *line,
             }),
             Reason::Attribute(name) => Ok(Reason::Attribute(name.to_vec(alloc)?)),
@@ -42,7 +42,7 @@ impl Reason {
 #[derive(Clone, Copy, Debug)]
 pub(crate) enum ReasonRef<'a> {
     Git,
-    Rule { origin: Origin, line: u32 },
+    Rule { source: RuleSource, line: u32 },
     Attribute(&'a [u8]),
     OtherKind,
 }
@@ -54,7 +54,7 @@ impl ReasonRef<'_> {
     {
         match self {
             ReasonRef::Git => Ok(Reason::Git),
-            ReasonRef::Rule { origin, line } => Ok(Reason::Rule { origin, line }),
+            ReasonRef::Rule { source, line } => Ok(Reason::Rule { source, line }),
             ReasonRef::Attribute(name) => Ok(Reason::Attribute(name.to_vec(alloc)?)),
             ReasonRef::OtherKind => Ok(Reason::OtherKind),
         }
@@ -63,7 +63,7 @@ impl ReasonRef<'_> {
 
 /// An entry that is left out.
 #[derive(Debug, Drop)]
-pub struct LeftOut {
+pub struct SkippedEntry {
     /// Its name in its directory.
     pub name: Vec<u8>,
     /// What stands under the name.
@@ -72,11 +72,11 @@ pub struct LeftOut {
     pub reason: Reason,
 }
 
-impl Model for LeftOut {
-    ghost use Rattle.lc_level.specs.Level.{LeftModel};
+impl Model for SkippedEntry {
+    ghost use Rattle.lc_level.specs.Level.{SkippedModel};
     ghost use Rattle.lc_level.specs.Reasons.{reason_model};
 
-    ghost Value = { LeftModel };
+    ghost Value = { SkippedModel };
 
     ghost view = { λ l. record { name = l.name.items; kind = l.kind; reason = reason_model l.reason } };
 }

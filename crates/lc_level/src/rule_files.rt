@@ -25,9 +25,9 @@ pub(crate) struct IgnoreRead {
 impl<T: Tree> LevelReader<'_, T> {
     /// The bytes that were read, where texts are kept.
     fn text_of(&self, bytes: &[u8]) -> Result<Option<Vec<u8>>, AllocError>
-        ensures { IfOk result (λ text. text_items text ≡ text_if self.now.kept.texts (Some bytes.now)) }
+        ensures { IfOk result (λ text. text_items text ≡ text_if self.now.options.texts (Some bytes.now)) }
     {
-        if !self.kept.texts {
+        if !self.options.texts {
             return Ok(None);
         }
         Ok(Some(bytes.to_vec(self.alloc)?))
@@ -66,7 +66,7 @@ impl<T: Tree> LevelReader<'_, T> {
         scratch: &mut Scratch,
     ) -> Result<IgnoreRead, ContentFault>
         ensures same { scratch.new.path.directory ≡ scratch.old.path.directory }
-        ensures read { IsIgnoreRead self.now.kept.texts (T.gives self.now.tree.now (path_in scratch.old.path.directory name.now))
+        ensures read { IsIgnoreRead self.now.options.texts (T.gives self.now.tree.now (path_in scratch.old.path.directory name.now))
             (has_file name.now entries.now) result }
     {
         if !self.read_named(entries, name, scratch)? {

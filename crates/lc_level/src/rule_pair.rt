@@ -65,7 +65,7 @@ impl<T: Tree> LevelReader<'_, T> {
     ) -> Result<PairRead, OpenFault>
         ensures same { scratch.new.path.directory ≡ scratch.old.path.directory }
         ensures read { ReadsBoth (T.gives self.now.tree.now)
-            (pair_asked names.entry self.now.kept.texts scratch.old.path.directory entries.now) result }
+            (pair_asked names.entry self.now.options.texts scratch.old.path.directory entries.now) result }
     {
         let rules = match self.ignore_file(entries, names.rules.name, scratch) {
             Ok(read) => read,

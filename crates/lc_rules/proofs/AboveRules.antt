@@ -15,10 +15,10 @@ use Rattle.lc_glob.specs.Patterns.{PatternModel}
 use Rattle.lc_glob.proofs.Naming.{segments_apart}
 use Rattle.lc_rules.specs.Above.{AreDecided, AreCut, AreFound, IsOwn}
 use Rattle.lc_rules.specs.IgnoreRules.{RuleModel}
-use Rattle.lc_rules.specs.Verdicts.{at_depth, deciding}
-use Rattle.lc_rules.specs.declared.origin.Origin.{Origin}
-use Rattle.lc_rules.specs.declared.origin.Origin.TheVariants.{Directory}
-use Rattle.lc_rules.proofs.LastRule.{deciding-append, deciding_one}
+use Rattle.lc_rules.specs.Verdicts.{at_depth, last_match}
+use Rattle.lc_rules.specs.declared.rule_source.RuleSource.{RuleSource}
+use Rattle.lc_rules.specs.declared.rule_source.RuleSource.TheVariants.{Gitignore}
+use Rattle.lc_rules.proofs.LastRule.{last_match-append, last_match_one}
 
 -- what was cut off before a slash is one segment
 pub one_segment : (left name rest : List ℕ) → segments_of left ≡ name ∷ segments_of rest → left ≡ name ++ 47 ∷ rest
@@ -75,10 +75,10 @@ module _ (path front left : List ℕ) (name rest : Bor (List ℕ)) (names : List
       (cases_lt k count)
 
 -- a rule of the top, in the words of those that decide
-abbrev tag : Option RuleModel → Option (Origin × RuleModel)
-tag found = option_map (λ r. (Directory 0, r)) found
+abbrev tag : Option RuleModel → Option (RuleSource × RuleModel)
+tag found = option_map (λ r. (Gitignore 0, r)) found
 
-tagged : (found : Option (Bor RuleModel)) → option_map (λ r. (Directory 0, r.now)) found ≡ tag (option_map (λ r. r.now) found)
+tagged : (found : Option (Bor RuleModel)) → option_map (λ r. (Gitignore 0, r.now)) found ≡ tag (option_map (λ r. r.now) found)
 tagged None = refl
 tagged (Some r) = refl
 
@@ -86,7 +86,7 @@ tag_or : (one other : Option RuleModel) → tag (option_or one other) ≡ option
 tag_or None other = refl
 tag_or (Some r) other = refl
 
-tag_cond : (b : Bool) (r : RuleModel) → tag (cond b (Some r) None) ≡ cond b (Some (Directory 0, r)) None
+tag_cond : (b : Bool) (r : RuleModel) → tag (cond b (Some r) None) ≡ cond b (Some (Gitignore 0, r)) None
 tag_cond true r = refl
 tag_cond false r = refl
 
@@ -100,8 +100,8 @@ decided_more newer r names count flags old new within told settled before k dir 
     tagged (get_or new k None) ∙ ap tag (settled k low)
     ∙ tag_or (option_map (λ x. x.now) (get_or old k None)) (cond (get_or flags k false) (Some r) None)
     ∙ ap₂ option_or (sym (tagged (get_or old k None)) ∙ before k dir low is) (tag_cond (get_or flags k false) r
-    ∙ sym (deciding_one (Directory 0, r) dir true (get_or flags k false) (sym (told k dir (omega (arith, within, low)) is))))
-    ∙ sym (deciding-append ((Directory 0, r) ∷ []) (at_depth 0 newer) dir true)
+    ∙ sym (last_match_one (Gitignore 0, r) dir true (get_or flags k false) (sym (told k dir (omega (arith, within, low)) is))))
+    ∙ sym (last_match-append ((Gitignore 0, r) ∷ []) (at_depth 0 newer) dir true)
 
 -- what the first flags settle
 pub settled_front : (r : RuleModel) (count : ℕ) (flags : List Bool) (old new : List (Option (Bor RuleModel))) → count ≤ length flags
@@ -120,16 +120,16 @@ pub decided_early : (rules older newer : List RuleModel) (names : List (List ℕ
 decided_early rules older newer names count all found whole room some before k dir low is =
     let within : k < all = omega (arith, low, some.0, length-take-le all found room) in
     at (get_or found k None) (ap is_some (sym (get_or-take all found k None within)) ∙ some.1 k low) (before k dir within is)
-    ∙ sym (ap (λ l. deciding (at_depth 0 l) dir true) whole
-    ∙ ap (λ l. deciding l dir true) (map-append (λ (x : RuleModel). (Directory 0, x)) older newer)
-    ∙ deciding-append (at_depth 0 older) (at_depth 0 newer) dir true)
+    ∙ sym (ap (λ l. last_match (at_depth 0 l) dir true) whole
+    ∙ ap (λ l. last_match l dir true) (map-append (λ (x : RuleModel). (Gitignore 0, x)) older newer)
+    ∙ last_match-append (at_depth 0 older) (at_depth 0 newer) dir true)
   where
     at : (o : Option (Bor RuleModel)) → is_some o ≡ true
-        → option_map (λ r. (Directory 0, r.now)) o ≡ deciding (at_depth 0 newer) dir true
-        → option_map (λ r. (Directory 0, r.now)) o
-        ≡ option_or (deciding (at_depth 0 newer) dir true) (deciding (at_depth 0 older) dir true)
+        → option_map (λ r. (Gitignore 0, r.now)) o ≡ last_match (at_depth 0 newer) dir true
+        → option_map (λ r. (Gitignore 0, r.now)) o
+        ≡ option_or (last_match (at_depth 0 newer) dir true) (last_match (at_depth 0 older) dir true)
     at None some e = absurd (cc)
-    at (Some r) some e = ap (λ o. option_or o (deciding (at_depth 0 older) dir true)) e
+    at (Some r) some e = ap (λ o. option_or o (last_match (at_depth 0 older) dir true)) e
 
 -- a name put after those of the first directories leaves them
 pub cut_kept : (path ends : List ℕ) (names : List (Bor (List ℕ))) (count : ℕ) (name : Bor (List ℕ)) → AreCut path ends names count
@@ -175,14 +175,14 @@ own_more newer r names n is_dir flags old new last told settled before path is =
     tagged new ∙ ap tag settled
     ∙ tag_or (option_map (λ x. x.now) old) (cond (get_or flags n false && (not r.pattern.is_dir_only || is_dir)) (Some r) None)
     ∙ ap₂ option_or (sym (tagged old) ∙ before path is) (tag_cond (get_or flags n false && (not r.pattern.is_dir_only || is_dir)) r
-    ∙ sym (deciding_one (Directory 0, r) path is_dir (get_or flags n false && (not r.pattern.is_dir_only || is_dir)) matched))
-    ∙ sym (deciding-append ((Directory 0, r) ∷ []) (at_depth 0 newer) path is_dir)
+    ∙ sym (last_match_one (Gitignore 0, r) path is_dir (get_or flags n false && (not r.pattern.is_dir_only || is_dir)) matched))
+    ∙ sym (last_match-append ((Gitignore 0, r) ∷ []) (at_depth 0 newer) path is_dir)
 
 -- the directories that end at these places are decided
 pub decided_above : (rules : List RuleModel) (path ends : List ℕ) (names : List (Bor (List ℕ))) (all count : ℕ)
     (found : List (Option (Bor RuleModel))) → all ≤ length names → count < all → AreCut path ends names (all - 1)
     → AreDecided rules (names_of (take all names)) count found → (k : ℕ) → k < count
-    → option_map (λ r. (Directory 0, r.now)) (get_or found k None) ≡ deciding (at_depth 0 rules) (take (get_or ends k 0) path) true
+    → option_map (λ r. (Gitignore 0, r.now)) (get_or found k None) ≡ last_match (at_depth 0 rules) (take (get_or ends k 0) path) true
 decided_above rules path ends names all count found room within cut decided k low =
     decided k (take (get_or ends k 0) path) low
     (cut k (omega (arith, low, within)) ∙ ap names_of (sym (take-take (k + 1) all names (omega (arith, low, within))))
@@ -191,9 +191,9 @@ decided_above rules path ends names all count found room within cut decided k lo
 -- the path is decided
 pub decided_own : (rules : List RuleModel) (path : List ℕ) (names : List (List ℕ)) (is_dir : Bool) (own : Option (Option (Bor RuleModel)))
     → segments_of path ≡ names → IfSome own (λ o. IsOwn rules names is_dir o) → (o : Option (Bor RuleModel)) → own ≡ Some o
-    → option_map (λ r. (Directory 0, r.now)) o ≡ deciding (at_depth 0 rules) path is_dir
+    → option_map (λ r. (Gitignore 0, r.now)) o ≡ last_match (at_depth 0 rules) path is_dir
 decided_own rules path names is_dir None all told o is = absurd (cc)
 decided_own rules path names is_dir (Some x) all told o is =
     let same : x ≡ o = cc in
-    subst (λ (y : Option (Bor RuleModel)). option_map (λ r. (Directory 0, r.now)) y ≡ deciding (at_depth 0 rules) path is_dir) same
+    subst (λ (y : Option (Bor RuleModel)). option_map (λ r. (Gitignore 0, r.now)) y ≡ last_match (at_depth 0 rules) path is_dir) same
     (told path all)

@@ -6,7 +6,7 @@ use Rattle.lc_rules.specs.AttrLines.{AttrFileModel}
 use Rattle.lc_rules.specs.AttrStates.{AttrChainModel, assignments_of, by_lines, info_assignments, macros_of, state_of, tree_assignments}
 use Rattle.lc_rules.specs.Models.{state_model, seen_state}
 use Rattle.lc_rules.specs.KnownMacros.{macros_for, matters}
-use Rattle.lc_rules.specs.Resolving.{IsReady, Moves, Reads, Decides, names_in, stacked}
+use Rattle.lc_rules.specs.Resolving.{IsReady, Moves, ReadsAssignments, Decides, names_in, stacked}
 use Rattle.lc_rules.specs.Verdicts.{below}
 use Rattle.lc_rules.specs.declared.resolver.Query.{Query}
 use Rattle.lc_rules.specs.declared.resolver.Resolver.{Resolver}
@@ -53,7 +53,7 @@ rest_decides {query} {first} {rest} {old} {middle} {new} {passed} {found} is d e
 -- reading these assignments found nothing, and others are left; no macro's are still to be read
 pub record Passes (query : Query) (todo : List AssignmentModel) (old : Resolver) (left : List AssignmentModel) (new : Resolver)
     : Type 0 where
-  pub moves : Reads query todo old None left new
+  pub moves : ReadsAssignments query todo old None left new
   pub empty : new.pending.items ≡ []
 
 -- the next of what is left decides
@@ -76,7 +76,7 @@ next_passes {query} {whole} {todo} {next} rest {old} {middle} {new} {found} befo
     record {
       moves = moves_then (macros_for query) query.name.now whole todo rest (names_in old.decided) (names_in middle.decided)
           (names_in new.decided) None before.moves
-          (subst (λ (l : List AssignmentModel). Reads query l middle None rest new) (sym split)
+          (subst (λ (l : List AssignmentModel). ReadsAssignments query l middle None rest new) (sym split)
           (moves_more (macros_for query) query.name.now next [] rest (names_in middle.decided) (names_in new.decided) None none.moves));
       empty = none.empty;
     }
@@ -84,24 +84,24 @@ next_passes {query} {whole} {todo} {next} rest {old} {middle} {new} {found} befo
 -- one assignment decides, where nothing else is left to be read
 pub word_decides : {query : Query} {word : AssignmentModel} {old new : Resolver} {found : Option State} {state : State}
     → IsReady query old → found ≡ Some state
-    → Reads query (word ∷ stacked old.pending.items) old found (stacked new.pending.items) new
+    → ReadsAssignments query (word ∷ stacked old.pending.items) old found (stacked new.pending.items) new
     → Decides query (word ∷ []) old (Some state) new
 word_decides {query} {word} {old} {new} {found} {state} ready is moves = record {
-  moves = subst (λ pending. Reads query (word ∷ stacked pending) old (Some state) [] new) ready.empty
-      (subst (λ (o : Option State). Reads query (word ∷ stacked old.pending.items) old o (stacked new.pending.items) new) is moves);
+  moves = subst (λ pending. ReadsAssignments query (word ∷ stacked pending) old (Some state) [] new) ready.empty
+      (subst (λ (o : Option State). ReadsAssignments query (word ∷ stacked old.pending.items) old o (stacked new.pending.items) new) is moves);
   empty = tt;
 }
 
 -- where it doesn't, what it leads to decides
 pub expansion_decides : {query : Query} {word : AssignmentModel} {old middle new : Resolver} {passed found : Option State}
     → IsReady query old → passed ≡ None
-    → Reads query (word ∷ stacked old.pending.items) old passed (stacked middle.pending.items) middle
+    → ReadsAssignments query (word ∷ stacked old.pending.items) old passed (stacked middle.pending.items) middle
     → Decides query (stacked middle.pending.items) middle found new → Decides query (word ∷ []) old found new
 expansion_decides {query} {word} {old} {middle} {new} {passed} {found} ready is moves e = record {
   moves = moves_then (macros_for query) query.name.now (word ∷ []) (stacked middle.pending.items) [] (names_in old.decided)
       (names_in middle.decided) (names_in new.decided) (seen_state found)
-      (subst (λ pending. Reads query (word ∷ stacked pending) old None (stacked middle.pending.items) middle) ready.empty
-      (subst (λ (o : Option State). Reads query (word ∷ stacked old.pending.items) old o (stacked middle.pending.items) middle) is moves))
+      (subst (λ pending. ReadsAssignments query (word ∷ stacked pending) old None (stacked middle.pending.items) middle) ready.empty
+      (subst (λ (o : Option State). ReadsAssignments query (word ∷ stacked old.pending.items) old o (stacked middle.pending.items) middle) is moves))
       e.moves;
   empty = e.empty;
 }

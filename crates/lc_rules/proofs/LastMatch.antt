@@ -4,10 +4,10 @@ use Rattle.std.proofs.Common.{refl, sym, ◌∙◌, ap, ap₂, subst}
 use Rattle.std.specs.Option.{option_or}
 use Rattle.std.specs.List.{list_any, last_or}
 use Rattle.lc_rules.specs.IgnoreRules.{RuleModel}
-use Rattle.lc_rules.specs.declared.origin.Origin.{Origin}
-use Rattle.lc_rules.specs.IgnoreLaws.{IsLastMatch, DecidingLaw}
-use Rattle.lc_rules.specs.Verdicts.{rule_matches, deciding}
-use Rattle.lc_rules.proofs.LastRule.{deciding-append, deciding_one}
+use Rattle.lc_rules.specs.declared.rule_source.RuleSource.{RuleSource}
+use Rattle.lc_rules.specs.IgnoreLaws.{IsLastMatch, LastMatchLaw}
+use Rattle.lc_rules.specs.Verdicts.{rule_matches, last_match}
+use Rattle.lc_rules.proofs.LastRule.{last_match-append, last_match_one}
 
 filter_step : {X : Type 0} (p : X → Bool) (x : X) (xs : List X) → (list_any p xs ≡ false → filter p xs ≡ []) → (b : Bool) → p x ≡ b
     → (b || list_any p xs) ≡ false → filter p (x ∷ xs) ≡ []
@@ -21,10 +21,10 @@ filter_none p (x ∷ xs) none = filter_step p x xs (filter_none p xs) (p x) refl
 
 module _ (path : List ℕ) (is_dir : Bool) where
   -- what was found among these rules decides
-  abbrev Told : List (Origin × RuleModel) → Option (Origin × RuleModel) → Type 0
+  abbrev Told : List (RuleSource × RuleModel) → Option (RuleSource × RuleModel) → Type 0
   Told rules found = MatchOption found (list_any (rule_matches path is_dir) rules ≡ false) (IsLastMatch rules path is_dir)
 
-  told_more : (r : Origin × RuleModel) (rules : List (Origin × RuleModel)) (found : Option (Origin × RuleModel)) → Told rules found
+  told_more : (r : RuleSource × RuleModel) (rules : List (RuleSource × RuleModel)) (found : Option (RuleSource × RuleModel)) → Told rules found
       → (b : Bool) → rule_matches path is_dir r ≡ b → Told (r ∷ rules) (option_or found (cond b (Some r) None))
   told_more r rules (Some x) last b e = record {
     older = r ∷ last.older;
@@ -36,25 +36,25 @@ module _ (path : List ℕ) (is_dir : Bool) where
   told_more r rules None none true e = record { older = []; later = rules; stands = refl; matches = e; last = none }
   told_more r rules None none false e = ap (λ b. b || list_any (rule_matches path is_dir) rules) e ∙ none
 
-  told : (rules : List (Origin × RuleModel)) → Told rules (deciding rules path is_dir)
+  told : (rules : List (RuleSource × RuleModel)) → Told rules (last_match rules path is_dir)
   told [] = refl
   told (r ∷ rules) =
       subst (Told (r ∷ rules))
-      (sym (deciding-append (r ∷ []) rules path is_dir
-      ∙ ap (option_or (deciding rules path is_dir)) (deciding_one r path is_dir (rule_matches path is_dir r) refl)))
-      (told_more r rules (deciding rules path is_dir) (told rules) (rule_matches path is_dir r) refl)
+      (sym (last_match-append (r ∷ []) rules path is_dir
+      ∙ ap (option_or (last_match rules path is_dir)) (last_match_one r path is_dir (rule_matches path is_dir r) refl)))
+      (told_more r rules (last_match rules path is_dir) (told rules) (rule_matches path is_dir r) refl)
 
   -- the last rule that matches decides
-  last_decides : (rules : List (Origin × RuleModel)) (r : Origin × RuleModel) → IsLastMatch rules path is_dir r → deciding rules path
+  last_decides : (rules : List (RuleSource × RuleModel)) (r : RuleSource × RuleModel) → IsLastMatch rules path is_dir r → last_match rules path
       is_dir ≡ Some r
   last_decides rules r last =
-      ap (λ l. deciding l path is_dir) last.stands
-      ∙ deciding-append last.older (r ∷ last.later) path is_dir
-      ∙ ap (λ o. option_or o (deciding last.older path is_dir))
-      (deciding-append (r ∷ []) last.later path is_dir
+      ap (λ l. last_match l path is_dir) last.stands
+      ∙ last_match-append last.older (r ∷ last.later) path is_dir
+      ∙ ap (λ o. option_or o (last_match last.older path is_dir))
+      (last_match-append (r ∷ []) last.later path is_dir
       ∙ ap₂ option_or (ap (last_or None) (filter_none (rule_matches path is_dir) last.later last.last))
-      (deciding_one r path is_dir true last.matches))
+      (last_match_one r path is_dir true last.matches))
 
 -- the rule that decides is the last one that matches, and no other rule is
-pub decides_by_last : DecidingLaw
+pub decides_by_last : LastMatchLaw
 decides_by_last rules path is_dir = (told path is_dir rules, last_decides path is_dir rules)

@@ -8,9 +8,9 @@ use Rattle.std.proofs.lemmas.List.Elements.{filter-append}
 use Rattle.lc_glob.specs.IsMatch.{is_match}
 use Rattle.lc_rules.specs.IgnoreRules.{RuleModel}
 use Rattle.lc_rules.specs.IgnoreChains.{ChainModel, joined, rules_if, rules_in}
-use Rattle.lc_rules.specs.Verdicts.{below, rule_matches, deciding, depth_at, at_depth, from_file}
-use Rattle.lc_rules.specs.declared.origin.Origin.{Origin}
-use Rattle.lc_rules.specs.declared.origin.Origin.TheVariants.{ExcludeFile, GitInfo, Directory}
+use Rattle.lc_rules.specs.Verdicts.{below, rule_matches, last_match, depth_at, at_depth, from_file}
+use Rattle.lc_rules.specs.declared.rule_source.RuleSource.{RuleSource}
+use Rattle.lc_rules.specs.declared.rule_source.RuleSource.TheVariants.{ExcludeFrom, InfoExclude, Gitignore}
 
 last_or-append : {A : Type 0} (o : Option A) (xs ys : List A) → last_or o (xs ++ ys) ≡ last_or (last_or o xs) ys
 last_or-append o [] ys = refl
@@ -25,41 +25,41 @@ last_or_else o [] = refl
 last_or_else o (y ∷ ys) = last_or_some y ys o
 
 -- the newer rules decide, and where none of them matches the older
-pub deciding-append : (older newer : List (Origin × RuleModel)) (path : List ℕ) (is_dir : Bool)
-    → deciding (older ++ newer) path is_dir ≡ option_or (deciding newer path is_dir) (deciding older path is_dir)
-deciding-append older newer path is_dir =
+pub last_match-append : (older newer : List (RuleSource × RuleModel)) (path : List ℕ) (is_dir : Bool)
+    → last_match (older ++ newer) path is_dir ≡ option_or (last_match newer path is_dir) (last_match older path is_dir)
+last_match-append older newer path is_dir =
     ap (last_or None) (filter-append (rule_matches path is_dir) older newer)
     ∙ last_or-append None (filter (rule_matches path is_dir) older) (filter (rule_matches path is_dir) newer)
-    ∙ last_or_else (deciding older path is_dir) (filter (rule_matches path is_dir) newer)
+    ∙ last_or_else (last_match older path is_dir) (filter (rule_matches path is_dir) newer)
 
 -- one rule alone decides where it matches
-pub deciding_one : (r : Origin × RuleModel) (path : List ℕ) (is_dir : Bool) (b : Bool) → rule_matches path is_dir r ≡ b
-    → deciding (r ∷ []) path is_dir ≡ cond b (Some r) None
-deciding_one r path is_dir true e = ap (λ t. last_or None (cond t (r ∷ []) [])) e
-deciding_one r path is_dir false e = ap (λ t. last_or None (cond t (r ∷ []) [])) e
+pub last_match_one : (r : RuleSource × RuleModel) (path : List ℕ) (is_dir : Bool) (b : Bool) → rule_matches path is_dir r ≡ b
+    → last_match (r ∷ []) path is_dir ≡ cond b (Some r) None
+last_match_one r path is_dir true e = ap (λ t. last_or None (cond t (r ∷ []) [])) e
+last_match_one r path is_dir false e = ap (λ t. last_or None (cond t (r ∷ []) [])) e
 
 -- the newest rule of one file decides where it matches, and else the others do
 module _ (whole older : List RuleModel) (r : RuleModel) (path : List ℕ) (is_dir : Bool) (split : whole ≡ older ++ r ∷ []) where
-  file_newest : deciding (at_depth 0 whole) path is_dir
-      ≡ option_or (deciding ((Directory 0, r) ∷ []) path is_dir) (deciding (at_depth 0 older) path is_dir)
+  file_newest : last_match (at_depth 0 whole) path is_dir
+      ≡ option_or (last_match ((Gitignore 0, r) ∷ []) path is_dir) (last_match (at_depth 0 older) path is_dir)
   file_newest =
-      ap (λ l. deciding (at_depth 0 l) path is_dir) split
-      ∙ ap (λ l. deciding l path is_dir) (map-append (λ (x : RuleModel). (Directory 0, x)) older (r ∷ []))
-      ∙ deciding-append (at_depth 0 older) ((Directory 0, r) ∷ []) path is_dir
+      ap (λ l. last_match (at_depth 0 l) path is_dir) split
+      ∙ ap (λ l. last_match l path is_dir) (map-append (λ (x : RuleModel). (Gitignore 0, x)) older (r ∷ []))
+      ∙ last_match-append (at_depth 0 older) ((Gitignore 0, r) ∷ []) path is_dir
 
   -- where it matches
-  pub newest_decides : is_match r.pattern path is_dir ≡ true → Some (Directory 0, r) ≡ deciding (at_depth 0 whole) path is_dir
+  pub newest_decides : is_match r.pattern path is_dir ≡ true → Some (Gitignore 0, r) ≡ last_match (at_depth 0 whole) path is_dir
   newest_decides h =
-      sym (file_newest ∙ ap (λ o. option_or o (deciding (at_depth 0 older) path is_dir)) (deciding_one (Directory 0, r) path is_dir true h))
+      sym (file_newest ∙ ap (λ o. option_or o (last_match (at_depth 0 older) path is_dir)) (last_match_one (Gitignore 0, r) path is_dir true h))
 
   -- where it doesn't match
   pub newest_passes : is_match r.pattern path is_dir ≡ false
-      → deciding (at_depth 0 whole) path is_dir ≡ deciding (at_depth 0 older) path is_dir
+      → last_match (at_depth 0 whole) path is_dir ≡ last_match (at_depth 0 older) path is_dir
   newest_passes h =
-      file_newest ∙ ap (λ o. option_or o (deciding (at_depth 0 older) path is_dir)) (deciding_one (Directory 0, r) path is_dir false h)
+      file_newest ∙ ap (λ o. option_or o (last_match (at_depth 0 older) path is_dir)) (last_match_one (Gitignore 0, r) path is_dir false h)
 
 -- the rules of one file that match are those that match by the path below its directory
-filter_file : (o : Origin) (rules : List RuleModel) (path : List ℕ) (is_dir : Bool)
+filter_file : (o : RuleSource) (rules : List RuleModel) (path : List ℕ) (is_dir : Bool)
     → filter (rule_matches path is_dir) (from_file o rules)
     ≡ from_file o (filter (λ r. is_match r.pattern (below (depth_at o) path) is_dir) rules)
 filter_file o [] path is_dir = refl
@@ -70,57 +70,57 @@ filter_file o (r ∷ rs) path is_dir =
     (filter (λ r. is_match r.pattern (below (depth_at o) path) is_dir) rs)))
     [ true ↦ ap (λ l. (o, r) ∷ l) (filter_file o rs path is_dir) | false ↦ filter_file o rs path is_dir ]
 
-last_or-file : (o p : Origin) (x : Option (Origin × RuleModel)) (rules : List RuleModel)
+last_or-file : (o p : RuleSource) (x : Option (RuleSource × RuleModel)) (rules : List RuleModel)
     → last_or (option_map (λ r. (o, r.1)) x) (from_file o rules) ≡ option_map (λ r. (o, r.1)) (last_or x (from_file p rules))
 last_or-file o p x [] = refl
 last_or-file o p x (r ∷ rs) = last_or-file o p (Some (p, r)) rs
 
 -- a file's rules see the path without the segments above it
-pub file_below : (o : Origin) (rules : List RuleModel) (path : List ℕ) (is_dir : Bool)
-    → deciding (from_file o rules) path is_dir ≡ option_map (λ r. (o, r.1)) (deciding (at_depth 0 rules) (below (depth_at o) path) is_dir)
+pub file_below : (o : RuleSource) (rules : List RuleModel) (path : List ℕ) (is_dir : Bool)
+    → last_match (from_file o rules) path is_dir ≡ option_map (λ r. (o, r.1)) (last_match (at_depth 0 rules) (below (depth_at o) path) is_dir)
 file_below o rules path is_dir =
     ap (last_or None) (filter_file o rules path is_dir)
-    ∙ last_or-file o (Directory 0) None (filter (λ r. is_match r.pattern (below (depth_at o) path) is_dir) rules)
-    ∙ ap (λ l. option_map (λ r. (o, r.1)) (last_or None l)) (sym (filter_file (Directory 0) rules (below (depth_at o) path) is_dir))
+    ∙ last_or-file o (Gitignore 0) None (filter (λ r. is_match r.pattern (below (depth_at o) path) is_dir) rules)
+    ∙ ap (λ l. option_map (λ r. (o, r.1)) (last_or None l)) (sym (filter_file (Gitignore 0) rules (below (depth_at o) path) is_dir))
 
 -- of a chain whose first file stands at this depth
 module _ (files nearer : List (ℕ × List RuleModel)) (d : ℕ) (rules : List RuleModel) (split : files ≡ (d, rules) ∷ nearer)
     (path inner : List ℕ) (cut : inner ≡ below d path) (is_dir : Bool) where
   -- the nearer files decide, or else the first, which sees the path below its directory
-  pub nearer_decide : (found here : Option (Origin × RuleModel)) → found ≡ deciding (joined nearer) path is_dir
-      → here ≡ deciding (at_depth 0 rules) inner is_dir
-      → option_or found (option_map (λ r. (Directory d, r.1)) here) ≡ deciding (joined files) path is_dir
+  pub nearer_decide : (found here : Option (RuleSource × RuleModel)) → found ≡ last_match (joined nearer) path is_dir
+      → here ≡ last_match (at_depth 0 rules) inner is_dir
+      → option_or found (option_map (λ r. (Gitignore d, r.1)) here) ≡ last_match (joined files) path is_dir
   nearer_decide found here by_nearer by_first =
-      ap₂ (λ x y. option_or x (option_map (λ r. (Directory d, r.1)) y)) by_nearer
-      (by_first ∙ ap (λ p. deciding (at_depth 0 rules) p is_dir) cut)
-      ∙ ap (option_or (deciding (joined nearer) path is_dir)) (sym (file_below (Directory d) rules path is_dir))
-      ∙ sym (ap (λ l. deciding (joined l) path is_dir) split ∙ deciding-append (at_depth d rules) (joined nearer) path is_dir)
+      ap₂ (λ x y. option_or x (option_map (λ r. (Gitignore d, r.1)) y)) by_nearer
+      (by_first ∙ ap (λ p. last_match (at_depth 0 rules) p is_dir) cut)
+      ∙ ap (option_or (last_match (joined nearer) path is_dir)) (sym (file_below (Gitignore d) rules path is_dir))
+      ∙ sym (ap (λ l. last_match (joined l) path is_dir) split ∙ last_match-append (at_depth d rules) (joined nearer) path is_dir)
 
 -- the files of the tree decide, or else that of `.git/info`, or else the exclude file
-pub chain_decides : (c : ChainModel) (path : List ℕ) (is_dir : Bool) (tree info exclude : Option (Origin × RuleModel))
-    → tree ≡ deciding (joined c.tree) path is_dir → info ≡ deciding (rules_if GitInfo c.info) path is_dir
-    → exclude ≡ deciding (rules_if ExcludeFile c.exclude) path is_dir
-    → option_or tree (option_or info exclude) ≡ deciding (rules_in c) path is_dir
+pub chain_decides : (c : ChainModel) (path : List ℕ) (is_dir : Bool) (tree info exclude : Option (RuleSource × RuleModel))
+    → tree ≡ last_match (joined c.tree) path is_dir → info ≡ last_match (rules_if InfoExclude c.info) path is_dir
+    → exclude ≡ last_match (rules_if ExcludeFrom c.exclude) path is_dir
+    → option_or tree (option_or info exclude) ≡ last_match (rules_in c) path is_dir
 chain_decides c path is_dir tree info exclude by_tree by_info by_exclude =
     ap₂ option_or by_tree (ap₂ option_or by_info by_exclude)
-    ∙ sym (deciding-append (rules_if ExcludeFile c.exclude ++ rules_if GitInfo c.info) (joined c.tree) path is_dir
-    ∙ ap (option_or (deciding (joined c.tree) path is_dir))
-    (deciding-append (rules_if ExcludeFile c.exclude) (rules_if GitInfo c.info) path is_dir))
+    ∙ sym (last_match-append (rules_if ExcludeFrom c.exclude ++ rules_if InfoExclude c.info) (joined c.tree) path is_dir
+    ∙ ap (option_or (last_match (joined c.tree) path is_dir))
+    (last_match-append (rules_if ExcludeFrom c.exclude) (rules_if InfoExclude c.info) path is_dir))
 
--- a file at the top decides as it does alone, by rules of its own origin
-pub file_decides : {B : Type 0} (now : B → RuleModel) (o : Origin) (file : Option (List RuleModel)) (rules : List RuleModel)
+-- a file at the top decides as it does alone, by rules of its own source
+pub file_decides : {B : Type 0} (now : B → RuleModel) (o : RuleSource) (file : Option (List RuleModel)) (rules : List RuleModel)
     (path : List ℕ) (is_dir : Bool) (found : Option B) → depth_at o ≡ 0 → file ≡ Some rules
-    → option_map (λ r. (Directory 0, now r)) found ≡ deciding (at_depth 0 rules) path is_dir
-    → option_map (λ r. (o, now r)) found ≡ deciding (rules_if o file) path is_dir
+    → option_map (λ r. (Gitignore 0, now r)) found ≡ last_match (at_depth 0 rules) path is_dir
+    → option_map (λ r. (o, now r)) found ≡ last_match (rules_if o file) path is_dir
 file_decides {B} now o file rules path is_dir found top is by_file =
     same found
-    ∙ (ap of_origin by_file
-    ∙ (ap (λ d. of_origin (deciding (at_depth 0 rules) (below d path) is_dir)) (sym top)
-    ∙ (sym (file_below o rules path is_dir) ∙ ap (λ f. deciding (rules_if o f) path is_dir) (sym is))))
+    ∙ (ap of_source by_file
+    ∙ (ap (λ d. of_source (last_match (at_depth 0 rules) (below d path) is_dir)) (sym top)
+    ∙ (sym (file_below o rules path is_dir) ∙ ap (λ f. last_match (rules_if o f) path is_dir) (sym is))))
   where
-    of_origin : Option (Origin × RuleModel) → Option (Origin × RuleModel)
-    of_origin x = option_map (λ r. (o, r.1)) x
+    of_source : Option (RuleSource × RuleModel) → Option (RuleSource × RuleModel)
+    of_source x = option_map (λ r. (o, r.1)) x
 
-    same : (x : Option B) → option_map (λ r. (o, now r)) x ≡ of_origin (option_map (λ r. (Directory 0, now r)) x)
+    same : (x : Option B) → option_map (λ r. (o, now r)) x ≡ of_source (option_map (λ r. (Gitignore 0, now r)) x)
     same None = refl
     same (Some r) = refl

@@ -5,8 +5,8 @@ use Rattle.std.specs.declared.sync.Arc.{Arc}
 use Rattle.lc_rules.specs.Chains.{lent, with_file}
 use Rattle.lc_rules.specs.IgnoreRules.{RuleModel}
 use Rattle.lc_rules.specs.Verdicts.{at_depth, from_file}
-use Rattle.lc_rules.specs.declared.origin.Origin.{Origin}
-use Rattle.lc_rules.specs.declared.origin.Origin.TheVariants.{ExcludeFile, GitInfo}
+use Rattle.lc_rules.specs.declared.rule_source.RuleSource.{RuleSource}
+use Rattle.lc_rules.specs.declared.rule_source.RuleSource.TheVariants.{ExcludeFrom, InfoExclude}
 
 -- the ignore files that speak of a directory's entries: the exclude file, that of `.git/info`, and those of the tree from the
 -- top down, each with the depth of its directory
@@ -16,18 +16,18 @@ pub record ChainModel : Type 0 where
   pub tree : List (ℕ × List RuleModel)
 
 -- the rules of a file, where it is there
-abbrev pub rules_if : Origin → Option (List RuleModel) → List (Origin × RuleModel)
-rules_if origin None = []
-rules_if origin (Some rules) = from_file origin rules
+abbrev pub rules_if : RuleSource → Option (List RuleModel) → List (RuleSource × RuleModel)
+rules_if source None = []
+rules_if source (Some rules) = from_file source rules
 
 -- those of the tree's files, from the top down
-abbrev pub joined : List (ℕ × List RuleModel) → List (Origin × RuleModel)
+abbrev pub joined : List (ℕ × List RuleModel) → List (RuleSource × RuleModel)
 joined [] = []
 joined (f ∷ fs) = at_depth f.0 f.1 ++ joined fs
 
 -- all rules in one list, each file's after those of the files that it overrides
-abbrev pub rules_in : ChainModel → List (Origin × RuleModel)
-rules_in chain = rules_if ExcludeFile chain.exclude ++ rules_if GitInfo chain.info ++ joined chain.tree
+abbrev pub rules_in : ChainModel → List (RuleSource × RuleModel)
+rules_in chain = rules_if ExcludeFrom chain.exclude ++ rules_if InfoExclude chain.info ++ joined chain.tree
 
 -- ---- chains as they grow
 

@@ -3,23 +3,23 @@ use Rattle.std.specs.Prelude.{◌≡◌, ◌<◌, ◌+◌, ℕ, Bool, true, fals
 use Rattle.std.specs.List.{All, list_any, slice_index_or}
 use Rattle.lc_rules.specs.IgnoreRules.{RuleModel, rule_of_line, rules_of}
 use Rattle.lc_rules.specs.RuleLines.{lines_of}
-use Rattle.lc_rules.specs.declared.origin.Origin.{Origin}
-use Rattle.lc_rules.specs.Verdicts.{rule_matches, deciding}
+use Rattle.lc_rules.specs.declared.rule_source.RuleSource.{RuleSource}
+use Rattle.lc_rules.specs.Verdicts.{rule_matches, last_match}
 
 -- a rule that stands among the rules and matches, where no later one matches
-pub record IsLastMatch (rules : List (Origin × RuleModel)) (path : List ℕ) (is_dir : Bool) (rule : Origin × RuleModel) : Type 0 where
-  pub older : List (Origin × RuleModel)
-  pub later : List (Origin × RuleModel)
+pub record IsLastMatch (rules : List (RuleSource × RuleModel)) (path : List ℕ) (is_dir : Bool) (rule : RuleSource × RuleModel) : Type 0 where
+  pub older : List (RuleSource × RuleModel)
+  pub later : List (RuleSource × RuleModel)
   pub stands : rules ≡ older ++ rule ∷ later
   pub matches : rule_matches path is_dir rule ≡ true
   pub last : list_any (rule_matches path is_dir) later ≡ false
 
 -- the rule that decides is such a one, and the only one; where none decides, none matches
-abbrev pub DecidingLaw : Type 0
-DecidingLaw =
-    (rules : List (Origin × RuleModel)) (path : List ℕ) (is_dir : Bool)
-    → MatchOption (deciding rules path is_dir) (list_any (rule_matches path is_dir) rules ≡ false) (IsLastMatch rules path is_dir)
-    × ((rule : Origin × RuleModel) → IsLastMatch rules path is_dir rule → deciding rules path is_dir ≡ Some rule)
+abbrev pub LastMatchLaw : Type 0
+LastMatchLaw =
+    (rules : List (RuleSource × RuleModel)) (path : List ℕ) (is_dir : Bool)
+    → MatchOption (last_match rules path is_dir) (list_any (rule_matches path is_dir) rules ≡ false) (IsLastMatch rules path is_dir)
+    × ((rule : RuleSource × RuleModel) → IsLastMatch rules path is_dir rule → last_match rules path is_dir ≡ Some rule)
 
 -- a rule that the line with its number gives
 pub record IsOnLine (lines : List (List ℕ)) (rule : RuleModel) : Type 0 where

@@ -46,8 +46,8 @@ abbrev pub stacked : List Assignment → List AssignmentModel
 stacked words = reverse (map assignment_model words)
 
 -- reading these assignments for a query takes one resolver to another, finds a state or not, and leaves others to be read
-abbrev pub Reads : Query → List AssignmentModel → Resolver → Option State → List AssignmentModel → Resolver → Type 0
-Reads query todo old found left new =
+abbrev pub ReadsAssignments : Query → List AssignmentModel → Resolver → Option State → List AssignmentModel → Resolver → Type 0
+ReadsAssignments query todo old found left new =
     Moves (macros_for query) query.name.now todo (names_in old.decided) (seen_state found) left (names_in new.decided)
 
 -- the attribute is still to be decided, and nothing is left to be read
@@ -57,7 +57,7 @@ pub record IsReady (query : Query) (r : Resolver) : Type 0 where
 
 -- reading these assignments, and what they lead to, finds a state or leaves nothing to be read
 pub record Decides (query : Query) (todo : List AssignmentModel) (old : Resolver) (found : Option State) (new : Resolver) : Type 0 where
-  pub moves : Reads query todo old found [] new
+  pub moves : ReadsAssignments query todo old found [] new
   pub empty : IfNone found (new.pending.items ≡ [])
 
 -- how many assignments a resolver may still read for a query

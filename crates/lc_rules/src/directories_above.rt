@@ -8,8 +8,8 @@ ghost use Rattle.lc_glob.specs.Above.{names_of};
 ghost use Rattle.lc_glob.specs.Path.{segments_of};
 ghost use Rattle.lc_rules.specs.Above.{AreDecided, AreCut, AreFound, IsOwn};
 ghost use Rattle.lc_rules.specs.IgnoreRules.{RuleModel};
-ghost use Rattle.lc_rules.specs.Verdicts.{at_depth, deciding};
-ghost use Rattle.lc_rules.specs.declared.origin.Origin.TheVariants.{Directory};
+ghost use Rattle.lc_rules.specs.Verdicts.{at_depth, last_match};
+ghost use Rattle.lc_rules.specs.declared.rule_source.RuleSource.TheVariants.{Gitignore};
 
 use crate::ignore_file::IgnoreFile;
 use crate::ignore_line::Rule;
@@ -25,7 +25,7 @@ use std::marker::Model;
 /// ```
 /// let file = IgnoreFile::read(alloc, b"**/b/\n!/a\n")?;
 /// let above = DirectoriesAbove::of(&file, b"a/b/c", false);
-/// assert!(rt; above.deciding(1, 3).map(|rule| rule.line()) == Some(1));
+/// assert!(rt; above.last_match(1, 3).map(|rule| rule.line()) == Some(1));
 /// ```
 #[derive(Drop)]
 pub struct DirectoriesAbove<'a> {
@@ -44,9 +44,9 @@ pub struct DirectoriesAbove<'a> {
     own: Option<Option<&'a Rule>>,
     ghost within: { count ≤ 256 },
     ghost decided: { (k : ℕ) → k < count → option_map (λ r. (Directory 0, r.now)) (slice_index_or found k None)
-        ≡ deciding (at_depth 0 file.now) (take (slice_index_or ends k 0) path.now) true },
+        ≡ last_match (at_depth 0 file.now) (take (slice_index_or ends k 0) path.now) true },
     ghost own_decided: { IsTrue is_whole → (o : Option (Bor RuleModel)) → own ≡ Some o
-        → option_map (λ r. (Directory 0, r.now)) o ≡ deciding (at_depth 0 file.now) path.now is_dir },
+        → option_map (λ r. (Directory 0, r.now)) o ≡ last_match (at_depth 0 file.now) path.now is_dir },
 }
 
 impl<'a> Model for DirectoriesAbove<'a> {
@@ -83,27 +83,27 @@ impl<'a> DirectoriesAbove<'a> {
     }
 
     /// The rule by which the file alone decides the directory of so many bytes of the path, above which stand `place` others.
-    pub fn deciding(&self, place: usize, len: usize) -> Option<&'a Rule>
+    pub fn last_match(&self, place: usize, len: usize) -> Option<&'a Rule>
         requires { len ≤ length self.now.path }
-        ensures { option_map (λ r. (Directory 0, r.now)) result ≡ deciding (at_depth 0 self.now.rules) (take len self.now.path) true }
+        ensures { option_map (λ r. (Gitignore 0, r.now)) result ≡ last_match (at_depth 0 self.now.rules) (take len self.now.path) true }
     {
         if place < self.count && self.ends[place] == len {
             let found = &self.found[..];
             return found[place];
         }
-        self.file.deciding(&self.path[..len], true)
+        self.file.last_match(&self.path[..len], true)
     }
 
     /// The rule by which the file alone decides the path itself.
-    pub fn deciding_path(&self) -> Option<&'a Rule>
-        ensures { option_map (λ r. (Directory 0, r.now)) result ≡ deciding (at_depth 0 self.now.rules) self.now.path self.now.is_dir }
+    pub fn last_match_of_path(&self) -> Option<&'a Rule>
+        ensures { option_map (λ r. (Gitignore 0, r.now)) result ≡ last_match (at_depth 0 self.now.rules) self.now.path self.now.is_dir }
     {
         if self.is_whole {
             if let Some(own) = self.own {
                 return own;
             }
         }
-        self.file.deciding(self.path, self.is_dir)
+        self.file.last_match(self.path, self.is_dir)
     }
 }
 

@@ -3,15 +3,15 @@
 ghost use Rattle.std.specs.Prelude.{◌≡◌, ℕ, option_map, IfOk};
 ghost use Rattle.lc_rules.specs.Chains.{lent};
 ghost use Rattle.lc_rules.specs.IgnoreChains.{joined, no_ignore_files, rules_if, rules_in, with_exclude, with_info, with_own};
-ghost use Rattle.lc_rules.specs.Verdicts.{deciding, depth_at, verdict_of};
-ghost use Rattle.lc_rules.specs.declared.origin.Origin.{Origin as OriginModel};
-ghost use Rattle.lc_rules.specs.declared.origin.Origin.TheVariants.{Directory};
+ghost use Rattle.lc_rules.specs.Verdicts.{last_match, depth_at, verdict_of};
+ghost use Rattle.lc_rules.specs.declared.rule_source.RuleSource.{RuleSource as RuleSourceModel};
+ghost use Rattle.lc_rules.specs.declared.rule_source.RuleSource.TheVariants.{Gitignore};
 
 use crate::chain_files::{ChainFiles, FilesLeft, share};
 use crate::ignore_file::IgnoreFile;
 use crate::ignore_line::Rule;
-use crate::origin::Origin;
 use crate::paths::PathBelow;
+use crate::rule_source::RuleSource;
 use crate::verdicts::Verdict;
 use std::alloc::{AllocError, Global};
 use std::marker::Model;
@@ -99,56 +99,56 @@ impl Chain {
     pub fn verdict(&self, path: &[u8], is_dir: bool) -> Verdict
         ensures { result ≡ verdict_of (rules_in self.now) path.now is_dir }
     {
-        match self.deciding(path, is_dir) {
+        match self.last_match(path, is_dir) {
             Some((_, rule)) => rule.verdict(),
             None => Verdict::NoRule,
         }
     }
 
     /// The rule that decides a path, and where its file stands.
-    pub fn deciding(&self, path: &[u8], is_dir: bool) -> Option<(Origin, &Rule)>
-        ensures { option_map (λ r. (r.0, r.1.now)) result ≡ deciding (rules_in self.now) path.now is_dir }
+    pub fn last_match(&self, path: &[u8], is_dir: bool) -> Option<(RuleSource, &Rule)>
+        ensures { option_map (λ r. (r.0, r.1.now)) result ≡ last_match (rules_in self.now) path.now is_dir }
     {
-        let by_tree = deciding_by_files(self.tree.left(), PathBelow::new(path), is_dir);
+        let by_tree = last_match_in_files(self.tree.left(), PathBelow::new(path), is_dir);
         if let Some((depth, rule)) = by_tree {
-            return Some((Origin::Directory(depth), rule));
+            return Some((RuleSource::Gitignore(depth), rule));
         }
-        if let Some(rule) = deciding_by_file(&self.info, path, is_dir) {
-            return Some((Origin::GitInfo, rule));
+        if let Some(rule) = last_match_in_file(&self.info, path, is_dir) {
+            return Some((RuleSource::InfoExclude, rule));
         }
-        let rule = deciding_by_file(&self.exclude, path, is_dir)?;
-        Some((Origin::ExcludeFile, rule))
+        let rule = last_match_in_file(&self.exclude, path, is_dir)?;
+        Some((RuleSource::ExcludeFrom, rule))
     }
 }
 
 /// Asks a file at the top, if it is there.
-fn deciding_by_file<'a>(
+fn last_match_in_file<'a>(
     file: &'a Option<Arc<IgnoreFile, Global>>,
     path: &[u8],
     is_dir: bool,
 ) -> Option<&'a Rule>
-    ensures { (origin : OriginModel) → depth_at origin ≡ 0
-        → option_map (λ r. (origin, r.now)) result ≡ deciding (rules_if origin (lent file.now)) path.now is_dir }
+    ensures { (source : RuleSourceModel) → depth_at source ≡ 0
+        → option_map (λ r. (source, r.now)) result ≡ last_match (rules_if source (lent file.now)) path.now is_dir }
 {
     match file {
-        Some(file) => file.deciding(path, is_dir),
+        Some(file) => file.last_match(path, is_dir),
         None => None,
     }
 }
 
 /// Asks the files of the tree, the nearest to the path first.
-fn deciding_by_files<'a>(
+fn last_match_in_files<'a>(
     files: FilesLeft<'a, IgnoreFile>,
     path: PathBelow,
     is_dir: bool,
 ) -> Option<(u32, &'a Rule)>
-    ensures { option_map (λ r. (Directory r.0, r.1.now)) result ≡ deciding (joined files.entry) path.entry.path.now is_dir }
+    ensures { option_map (λ r. (Gitignore r.0, r.1.now)) result ≡ last_match (joined files.entry) path.entry.path.now is_dir }
 {
     let (depth, file, nearer) = files.split_first()?;
     let inner = path.at(depth);
-    if let Some(found) = deciding_by_files(nearer, inner, is_dir) {
+    if let Some(found) = last_match_in_files(nearer, inner, is_dir) {
         return Some(found);
     }
-    let rule = file.deciding(inner.rest, is_dir)?;
+    let rule = file.last_match(inner.rest, is_dir)?;
     Some((depth, rule))
 }

@@ -4,9 +4,9 @@ ghost use Rattle.std.specs.Prelude.{◌≡◌, ◌↔◌, ◌<◌, ◌≤◌, []
 ghost use Rattle.std.specs.List.{list_any};
 ghost use Rattle.lc_glob.specs.Above.{searches};
 ghost use Rattle.lc_rules.specs.IgnoreRules.{RuleModel, rules_of};
-ghost use Rattle.lc_rules.specs.Verdicts.{at_depth, deciding, verdict_of};
+ghost use Rattle.lc_rules.specs.Verdicts.{at_depth, last_match, verdict_of};
 ghost use Rattle.lc_rules.specs.Limits.{max_rule_bytes};
-ghost use Rattle.lc_rules.specs.declared.origin.Origin.TheVariants.{Directory};
+ghost use Rattle.lc_rules.specs.declared.rule_source.RuleSource.TheVariants.{Gitignore};
 
 use crate::faults::{RuleFault, is_too_long};
 use crate::ignore_line::{Rule, read_rule};
@@ -94,7 +94,7 @@ impl IgnoreFile {
     pub fn verdict(&self, path: &[u8], is_dir: bool) -> Verdict
         ensures { result ≡ verdict_of (at_depth 0 self.now) path.now is_dir }
     {
-        match self.deciding(path, is_dir) {
+        match self.last_match(path, is_dir) {
             Some(rule) => rule.verdict(),
             None => Verdict::NoRule,
         }
@@ -104,18 +104,18 @@ impl IgnoreFile {
     ///
     /// ```
     /// let file = IgnoreFile::read(alloc, b"*.log\n\n!keep.log\n")?;
-    /// assert!(rt; file.deciding(b"keep.log", false).map(|rule| rule.line()) == Some(3));
+    /// assert!(rt; file.last_match(b"keep.log", false).map(|rule| rule.line()) == Some(3));
     /// ```
-    pub fn deciding(&self, path: &[u8], is_dir: bool) -> Option<&Rule>
-        ensures { option_map (λ r. (Directory 0, r.now)) result ≡ deciding (at_depth 0 self.now) path.now is_dir }
+    pub fn last_match(&self, path: &[u8], is_dir: bool) -> Option<&Rule>
+        ensures { option_map (λ r. (Gitignore 0, r.now)) result ≡ last_match (at_depth 0 self.now) path.now is_dir }
     {
         let path = Candidate::for_patterns(path, self.rules.len());
-        self.last_match(&path, is_dir)
+        self.last_match_for(&path, is_dir)
     }
 
     /// The last rule that matches a path, looked for from the newest to the oldest.
-    fn last_match<'f>(&'f self, path: &Candidate, is_dir: bool) -> Option<&'f Rule>
-        ensures { option_map (λ r. (Directory 0, r.now)) result ≡ deciding (at_depth 0 self.now) path.now is_dir }
+    fn last_match_for<'f>(&'f self, path: &Candidate, is_dir: bool) -> Option<&'f Rule>
+        ensures { option_map (λ r. (Gitignore 0, r.now)) result ≡ last_match (at_depth 0 self.now) path.now is_dir }
     {
         let mut left = self.rules();
         'rules: while let Some((rule, older)) = left.split_last() {

@@ -2,7 +2,7 @@
 
 ghost use Rattle.std.specs.Prelude.{◌≡◌, ◌≤◌, ◌∷◌, [], ◌++◌, false, map, reverse, IfOk, IfNone};
 ghost use Rattle.lc_rules.specs.Decision.{DecidesByEquations};
-ghost use Rattle.lc_rules.specs.Resolving.{is_marked, Reads, IsReady, Decides, still_to_read, names_in, stacked};
+ghost use Rattle.lc_rules.specs.Resolving.{is_marked, ReadsAssignments, IsReady, Decides, still_to_read, names_in, stacked};
 ghost use Rattle.lc_rules.specs.Models.{state_model, assignment_model};
 ghost use Rattle.lc_rules.specs.KnownMacros.{macro_body_model, expanded};
 ghost use Rattle.lc_rules.specs.AttrStates.{by_line, by_lines};
@@ -69,7 +69,7 @@ fn decide_at<'a>(
 ) -> Result<Option<State<'a>>, AllocError>
     requires { is_marked (names_in resolver.old.decided) query.name.now ≡ false }
     ensures moves { IfOk result
-        (λ r. Reads query.entry (assignment_model word.entry ∷ stacked resolver.old.pending.items) resolver.old r
+        (λ r. ReadsAssignments query.entry (assignment_model word.entry ∷ stacked resolver.old.pending.items) resolver.old r
         (stacked resolver.new.pending.items) resolver.new) }
     ensures smaller { IfOk result (λ r. IfNone r (still_to_read query.entry resolver.new ≤ still_to_read query.entry resolver.old)) }
 {

@@ -16,13 +16,13 @@ use Rattle.lc_rules.specs.declared.states.TextState.TheVariants as text
 use Rattle.lc_level.specs.FaultLines.{FaultLineModel}
 use Rattle.lc_level.specs.Level.{Reason, named_git, by_rule, by_attribute, other_kind}
 use Rattle.lc_text.specs.RulePlaces.{rule_file}
-use Rattle.lc_text.specs.declared.shape.Columns.{Columns}
-use Rattle.lc_walk.specs.ReportLines.{FileLineModel, LeftLineModel}
+use Rattle.lc_text.specs.declared.table_options.Columns.{Columns}
+use Rattle.lc_walk.specs.ReportLines.{FileLineModel, SkippedLineModel}
 use Rattle.lc_walk.specs.TallyRows.{TallyRowModel}
 use Rattle.lc_walk.specs.declared.report.Report.{Report}
 use Rattle.lc_table.specs.JsonText.{Member, items_with, members_with, array_with, integer, bytes_member, extension_member}
 use Rattle.lc_table.specs.JsonText.{text_value, if_kept, key_members, sums_members, row_value, file_value, fault_value}
-use Rattle.lc_table.specs.JsonText.{entries_member, files_member, left_member, left_value, reason_members, report_value, IsDocument}
+use Rattle.lc_table.specs.JsonText.{entries_member, files_member, skipped_member, skipped_value, reason_members, report_value, IsDocument}
 use Rattle.lc_table.specs.TsvText.{eol_word}
 
 -- an array is as deep as its values
@@ -84,14 +84,14 @@ fault_within f = let path = bytes_within (codes "path") (codes "path_bytes") f.p
 
 reason_within : (path : List ℕ) (reason : Reason) → members_depth (members_with (reason_members path reason)) ≤ 1
 reason_within path named_git = omega arith
-reason_within path (by_rule origin line) =
-    let file = bytes_within (codes "file") (codes "file_bytes") (rule_file (λ directory. directory) path origin) in omega arith
+reason_within path (by_rule source line) =
+    let file = bytes_within (codes "file") (codes "file_bytes") (rule_file (λ directory. directory) path source) in omega arith
 reason_within path (by_attribute name) =
     let attribute = bytes_within (codes "attribute") (codes "attribute_bytes") name in omega arith
 reason_within path other_kind = omega arith
 
-left_within : (l : LeftLineModel) → depth (left_value l) ≤ 2
-left_within l =
+skipped_within : (l : SkippedLineModel) → depth (skipped_value l) ≤ 2
+skipped_within l =
     let path = bytes_within (codes "path") (codes "path_bytes") l.path in
     let reason = reason_within l.path l.reason in
     omega arith
@@ -101,16 +101,16 @@ report_within by r rows =
     let faults : Member = (codes "faults", array_with (map fault_value r.faults.items)) in
     let entries = if_kept r.lists.left_out (entries_member r) in
     let files = if_kept r.lists.files (files_member r) in
-    let left = if_kept r.lists.left_out (left_member r) in
+    let skipped = if_kept r.lists.left_out (skipped_member r) in
     let each_row = items_within (row_value by) 2 (row_within by) rows in
     let each_file = items_within file_value 2 file_within r.files.items in
-    let each_left = items_within left_value 2 left_within r.left.items in
+    let each_skipped = items_within skipped_value 2 skipped_within r.skipped.items in
     let each_fault = items_within fault_value 2 fault_within r.faults.items in
     let last : members_depth (members_with (faults ∷ [])) ≤ 3 = omega arith in
-    let with_left = both_within 3 left (faults ∷ []) (kept_within 3 r.lists.left_out (left_member r) (omega arith)) last in
-    let with_files = both_within 3 files (left ++ faults ∷ []) (kept_within 3 r.lists.files (files_member r) (omega arith)) with_left in
+    let with_skipped = both_within 3 skipped (faults ∷ []) (kept_within 3 r.lists.left_out (skipped_member r) (omega arith)) last in
+    let with_files = both_within 3 files (skipped ++ faults ∷ []) (kept_within 3 r.lists.files (files_member r) (omega arith)) with_skipped in
     let all =
-    both_within 3 entries (files ++ (left ++ faults ∷ [])) (kept_within 3 r.lists.left_out (entries_member r) (omega arith)) with_files in
+    both_within 3 entries (files ++ (skipped ++ faults ∷ [])) (kept_within 3 r.lists.left_out (entries_member r) (omega arith)) with_files in
     omega arith
 
 read_back : (j : Json) → depth j ≤ max_depth → (ts : List Token) → ts ≡ json_tokens j

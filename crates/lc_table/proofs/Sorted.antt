@@ -5,7 +5,7 @@ use Rattle.std.specs.Cmp.{IsTotalOrder, IsStrictWeakOrder}
 use Rattle.std.specs.Ordering.{is_lt}
 use Rattle.std.proofs.lemmas.Cmp.{nat_cmp_total, on_total, then_total, alike_right}
 use Rattle.std.proofs.lemmas.List.Sorted.{ranks_by}
-use Rattle.lc_text.specs.declared.shape.SortBy.{SortBy}
+use Rattle.lc_text.specs.declared.table_options.SortBy.{SortBy}
 use Rattle.lc_walk.proofs.Keys.{key_cmp_total}
 use Rattle.lc_walk.specs.TallyRows.{TallyRowModel}
 use Rattle.lc_table.specs.ShownRows.{number_in, row_cmp}

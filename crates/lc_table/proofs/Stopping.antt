@@ -3,7 +3,7 @@ use Rattle.std.proofs.Common.{◌≡◌, Result, Ok, Err, List, ℕ, sym}
 use Rattle.std.specs.Result.{IsErrAnd}
 use Rattle.lc_text.specs.declared.printing.PrintFault.{PrintFault}
 use Rattle.lc_text.specs.declared.printing.PrintFault.TheVariants as print
-use Rattle.lc_text.specs.declared.shape.Shape.{Shape}
+use Rattle.lc_text.specs.declared.table_options.TableOptions.{TableOptions}
 use Rattle.lc_census.specs.declared.source.Failed.{Failed}
 use Rattle.lc_walk.specs.declared.report.Report.{Report}
 use Rattle.lc_walk.specs.declared.walk_fault.WalkFault.{WalkFault}
@@ -15,7 +15,7 @@ use Rattle.lc_table.specs.declared.running.RunFault.{RunFault}
 
 -- a table that was not written whole
 pub run_stops : {O : Type 0} (may_take : O → List ℕ → Result ℕ Failed → O → Type 0) (walks : Result Report WalkFault → Type 0)
-    (shape : Shape) (r : Report) (fault : PrintFault)
+    (shape : TableOptions) (r : Report) (fault : PrintFault)
     (answer : Result Outcome RunFault) (out wrote : O) → walks (Ok r) → AnswersTable may_take shape r out (Err fault) wrote
     → IsErrAnd answer (λ e. e ≡ table_fault fault) → AnswersRun may_take walks shape out answer wrote
 run_stops may_take walks shape r fault (Ok outcome) out wrote walked stopped is = absurd is
@@ -23,13 +23,13 @@ run_stops may_take walks shape r print.Write (Err e) out wrote walked stopped is
 run_stops may_take walks shape r print.Memory (Err e) out wrote walked stopped is = rw is stopped
 
 -- a table that was written whole
-pub table_is_written : {O : Type 0} (may_take : O → List ℕ → Result ℕ Failed → O → Type 0) (shape : Shape) (r : Report)
+pub table_is_written : {O : Type 0} (may_take : O → List ℕ → Result ℕ Failed → O → Type 0) (shape : TableOptions) (r : Report)
     (text taken : List ℕ) (out wrote : O) → IsTextOf shape r text → taken ≡ text → Writes may_take out taken wrote
     → AnswersTable may_take shape r out (Ok tt) wrote
 table_is_written may_take shape r text taken out wrote of same written = (text, of, rw (sym same) written)
 
 -- a table of which a write stopped
-pub table_stops : {O : Type 0} (may_take : O → List ℕ → Result ℕ Failed → O → Type 0) (shape : Shape) (r : Report)
+pub table_stops : {O : Type 0} (may_take : O → List ℕ → Result ℕ Failed → O → Type 0) (shape : TableOptions) (r : Report)
     (text taken : List ℕ) (fault : PrintFault) (answer : Result (Unit {0}) PrintFault) (out wrote : O) → IsTextOf shape r text
     → taken ≡ text → AnswersPrint may_take out taken (Err fault) wrote → IsErrAnd answer (λ e. e ≡ fault)
     → AnswersTable may_take shape r out answer wrote

@@ -52,10 +52,10 @@ in_turn_6 : {A : Type 0} (t b x y z m e : List A)
 in_turn_6 t b x y z m e = simp append_assoc
 
 -- an object of three members and some more, appended in turn
-pub left_tokens : (text : List Token) (a b c : Member) (ms : List Member)
+pub skipped_tokens : (text : List Token) (a b c : Member) (ms : List Member)
     → (((((text ++ begin_object ∷ []) ++ member_tokens a) ++ member_tokens b) ++ member_tokens c) ++ members_tokens_of ms)
     ++ end_object ∷ [] ≡ text ++ json_tokens (object_with (a ∷ b ∷ c ∷ ms))
-left_tokens text a b c ms =
+skipped_tokens text a b c ms =
     in_turn_6 text (begin_object ∷ []) (member_tokens a) (member_tokens b) (member_tokens c) (members_tokens_of ms) (end_object ∷ [])
     ∙ ap (λ (ts : List Token). text ++ begin_object ∷ ts) (sym (object_tokens (a ∷ b ∷ c ∷ ms)))
 

@@ -8,37 +8,37 @@ use Rattle.std.proofs.lemmas.List.{map-append}
 use Rattle.std.proofs.lemmas.List.Elements.{All-append, All-cons, All-head, All-map, All-nil, All-same, All-tail, All-take, All-weaker}
 use Rattle.std.proofs.lemmas.Str.{IsUtf8-append}
 use Rattle.json.proofs.Printed.Utf8.{are_ascii, IsUtf8-are_ascii}
-use Rattle.lc_census.specs.declared.totals.Eol.{Eol}
-use Rattle.lc_census.specs.declared.totals.Eol.TheVariants.{NoEnd, Lf, CrLf, Cr, Mixed, Nul}
+use Rattle.lc_census.specs.declared.count.Eol.{Eol}
+use Rattle.lc_census.specs.declared.count.Eol.TheVariants.{NoEnd, Lf, CrLf, Cr, Mixed, Nul}
 use Rattle.lc_level.specs.FaultLines.{FaultLineModel}
 use Rattle.lc_level.specs.Level.{Reason, named_git, by_rule, by_attribute, other_kind}
 use Rattle.lc_rules.specs.Verdicts.{below}
-use Rattle.lc_rules.specs.declared.origin.Origin.{Origin}
-use Rattle.lc_rules.specs.declared.origin.Origin.TheVariants.{ExcludeFile, GitInfo, Directory}
+use Rattle.lc_rules.specs.declared.rule_source.RuleSource.{RuleSource}
+use Rattle.lc_rules.specs.declared.rule_source.RuleSource.TheVariants.{ExcludeFrom, InfoExclude, Gitignore}
 use Rattle.lc_rules.specs.declared.states.TextState.{TextState}
 use Rattle.lc_rules.specs.declared.states.TextState.TheVariants as state
 use Rattle.lc_text.specs.RulePlaces.{above, rule_file}
 use Rattle.lc_text.specs.Visible.{visible_bytes, visible_path}
-use Rattle.lc_text.specs.declared.shape.Columns.{Columns}
+use Rattle.lc_text.specs.declared.table_options.Columns.{Columns}
 use Rattle.lc_text.specs.Lines.{input_lines_of}
 use Rattle.lc_level.specs.FaultWords.{fault_word}
 use Rattle.lc_tree.specs.declared.entry.Kind.{Kind}
 use Rattle.lc_tree.specs.declared.entry.Kind.TheVariants.{File, Dir, Other}
 use Rattle.lc_level.specs.declared.fault_word.FaultWord.{FaultWord}
-use Rattle.lc_walk.specs.ReportLines.{FileLineModel, LeftLineModel}
+use Rattle.lc_walk.specs.ReportLines.{FileLineModel, SkippedLineModel}
 use Rattle.lc_walk.specs.TallyRows.{TallyRowModel}
 use Rattle.lc_walk.specs.declared.report.Report.{Report}
 use Rattle.lc_walk.specs.declared.tally.sums.Sums.{Sums}
 use Rattle.lc_table.specs.CellWords.{visible_extension}
 use Rattle.lc_table.specs.Columns.{CellModel, word, number, width_of, widths_of, line_in, lines_in, rule_in}
-use Rattle.lc_table.specs.LeftWords.{reason_word, reason_place, left_end, left_path}
+use Rattle.lc_table.specs.SkippedWords.{reason_word, reason_place, skipped_end, skipped_path}
 use Rattle.lc_table.specs.ScreenText.{cell_if, key_cells, name_cells, sums_cells, row_headings}
 use Rattle.lc_table.specs.ScreenText.{row_cells, sums_line, class_lines, sums_lines}
 use Rattle.lc_table.specs.ScreenText.{all_sums, count_cells, file_headings, file_cells}
-use Rattle.lc_table.specs.ScreenText.{left_headings, left_cells, fault_headings, fault_cells, rows_in_columns}
+use Rattle.lc_table.specs.ScreenText.{skipped_headings, skipped_cells, fault_headings, fault_cells, rows_in_columns}
 use Rattle.lc_table.specs.TsvText.{eol_word, text_word}
 use Rattle.lc_table.specs.WidthLaws.{AreAsWide, AreBytes, HasByteName, SummaryWidthLaw, CountsWidthLaw}
-use Rattle.lc_table.specs.WidthLaws.{FilesWidthLaw, LeftWidthLaw, FaultsWidthLaw}
+use Rattle.lc_table.specs.WidthLaws.{FilesWidthLaw, SkippedWidthLaw, FaultsWidthLaw}
 use Rattle.lc_table.specs.declared.cells.Side.{Side}
 use Rattle.lc_table.specs.declared.cells.Side.TheVariants.{Left, Right, End}
 use Rattle.lc_table.specs.declared.classes.ClassSums.{ClassSums}
@@ -88,36 +88,36 @@ one_line_path : (path : List ℕ) → is_one_line (visible_path path) ≡ true
 one_line_path [] = refl
 one_line_path (b ∷ bs) = one_line-visible (b ∷ bs)
 
-sound_file : (path : List ℕ) (origin : Origin) → AreBytes path → IsSound Left (rule_file visible_bytes path origin)
-sound_file path ExcludeFile small = ascii (codes "--exclude-from") refl refl
-sound_file path GitInfo small = ascii (codes ".git/info/exclude") refl refl
-sound_file path (Directory depth) small =
+sound_file : (path : List ℕ) (source : RuleSource) → AreBytes path → IsSound Left (rule_file visible_bytes path source)
+sound_file path ExcludeFrom small = ascii (codes "--exclude-from") refl refl
+sound_file path InfoExclude small = ascii (codes ".git/info/exclude") refl refl
+sound_file path (Gitignore depth) small =
     sound_join (visible_bytes (above depth path)) (codes ".gitignore")
     (sound_bytes (above depth path) (All-take (λ b. b < 256) (length path - length (below depth path)) path small))
     (ascii (codes ".gitignore") refl refl)
 
 sound_reason : (r : Reason) → IsSound Left (reason_word r)
 sound_reason named_git = ascii (codes "git") refl refl
-sound_reason (by_rule origin line) = ascii (codes "rule") refl refl
+sound_reason (by_rule source line) = ascii (codes "rule") refl refl
 sound_reason (by_attribute name) = ascii (codes "attribute") refl refl
 sound_reason other_kind = ascii (codes "other") refl refl
 
 sound_place : (path : List ℕ) (r : Reason) → AreBytes path → HasByteName r → IsSound Left (reason_place visible_bytes path r)
 sound_place path named_git small own = ascii (codes "-") refl refl
-sound_place path (by_rule origin line) small own =
-    sound_join (rule_file visible_bytes path origin ++ codes ":") (decimal line)
-    (sound_join (rule_file visible_bytes path origin) (codes ":") (sound_file path origin small) (ascii (codes ":") refl refl))
+sound_place path (by_rule source line) small own =
+    sound_join (rule_file visible_bytes path source ++ codes ":") (decimal line)
+    (sound_join (rule_file visible_bytes path source) (codes ":") (sound_file path source small) (ascii (codes ":") refl refl))
     (one_line-decimal line)
 sound_place path (by_attribute name) small own = sound_bytes name own
 sound_place path other_kind small own = ascii (codes "-") refl refl
 
-one_line_left_end : (k : Kind) (r : Reason) → is_one_line (left_end k r) ≡ true
-one_line_left_end Dir named_git = refl
-one_line_left_end Dir (by_rule origin line) = refl
-one_line_left_end Dir (by_attribute name) = refl
-one_line_left_end Dir other_kind = refl
-one_line_left_end File r = refl
-one_line_left_end Other r = refl
+one_line_skipped_end : (k : Kind) (r : Reason) → is_one_line (skipped_end k r) ≡ true
+one_line_skipped_end Dir named_git = refl
+one_line_skipped_end Dir (by_rule source line) = refl
+one_line_skipped_end Dir (by_attribute name) = refl
+one_line_skipped_end Dir other_kind = refl
+one_line_skipped_end File r = refl
+one_line_skipped_end Other r = refl
 
 -- ---- what is listed
 
@@ -169,29 +169,29 @@ faults_law fs =
     (All-map (IsLike ss) fault_cells fs (λ k d below. like _)))
 
 -- the lines of entries left out
-pub left_law : LeftWidthLaw
-left_law ls small =
+pub skipped_law : SkippedWidthLaw
+skipped_law ls small =
     let ss = Left ∷ Left ∷ End ∷ [] in
-    let P : LeftLineModel → Type 0 = λ l. AreBytes l.path × HasByteName l.reason in
-    let like : (l : LeftLineModel) → P l → IsLike ss (left_cells l) = λ l own. (
+    let P : SkippedLineModel → Type 0 = λ l. AreBytes l.path × HasByteName l.reason in
+    let like : (l : SkippedLineModel) → P l → IsLike ss (skipped_cells l) = λ l own. (
       refl,
       (
         sound_reason l.reason,
         (
           sound_place l.path l.reason own.0 own.1,
           (
-            one_line-append (visible_bytes l.path) (left_end l.kind l.reason) (one_line-visible l.path)
-                (one_line_left_end l.kind l.reason),
+            one_line-append (visible_bytes l.path) (skipped_end l.kind l.reason) (one_line-visible l.path)
+                (one_line_skipped_end l.kind l.reason),
             tt,
           ),
         ),
       ),
     ) in
-    listing_aligned left_cells (left_path visible_bytes) (λ l. append-nil (left_path visible_bytes l))
-    ss left_headings (codes "path") refl refl ls
-    (All-cons (IsLike ss) left_headings (map left_cells ls)
+    listing_aligned skipped_cells (skipped_path visible_bytes) (λ l. append-nil (skipped_path visible_bytes l))
+    ss skipped_headings (codes "path") refl refl ls
+    (All-cons (IsLike ss) skipped_headings (map skipped_cells ls)
     (refl, (ascii (codes "left out") refl refl, (ascii (codes "by") refl refl, (refl, tt))))
-    (All-map (IsLike ss) left_cells ls (All-weaker P (λ l. IsLike ss (left_cells l)) like ls small)))
+    (All-map (IsLike ss) skipped_cells ls (All-weaker P (λ l. IsLike ss (skipped_cells l)) like ls small)))
 
 -- ---- the rows with their sums
 

@@ -10,13 +10,13 @@ use Rattle.lc_level.specs.FaultLines.{FaultLineModel}
 use Rattle.lc_level.specs.Level.{Reason, named_git, by_rule, by_attribute, other_kind}
 use Rattle.lc_text.specs.RulePlaces.{rule_file}
 use Rattle.lc_level.specs.FaultWords.{fault_word}
-use Rattle.lc_text.specs.declared.shape.Columns.{Columns}
+use Rattle.lc_text.specs.declared.table_options.Columns.{Columns}
 use Rattle.lc_walk.specs.Key.{Key}
-use Rattle.lc_walk.specs.ReportLines.{FileLineModel, LeftLineModel}
+use Rattle.lc_walk.specs.ReportLines.{FileLineModel, SkippedLineModel}
 use Rattle.lc_walk.specs.TallyRows.{TallyRowModel}
 use Rattle.lc_walk.specs.declared.report.Report.{Report}
 use Rattle.lc_walk.specs.declared.tally.sums.Sums.{Sums}
-use Rattle.lc_table.specs.LeftWords.{kind_word, reason_word}
+use Rattle.lc_table.specs.SkippedWords.{kind_word, reason_word}
 use Rattle.lc_table.specs.TsvText.{eol_word, text_word}
 
 abbrev pub items_with : List Json → Items
@@ -87,13 +87,13 @@ fault_value f = object_with ((codes "word", string (fault_word f.word)) ∷ path
 -- which rule or attribute it is
 abbrev pub reason_members : List ℕ → Reason → List Member
 reason_members path named_git = []
-reason_members path (by_rule origin line) =
-    bytes_member (codes "file") (codes "file_bytes") (rule_file (λ directory. directory) path origin) ∷ (codes "line", integer line) ∷ []
+reason_members path (by_rule source line) =
+    bytes_member (codes "file") (codes "file_bytes") (rule_file (λ directory. directory) path source) ∷ (codes "line", integer line) ∷ []
 reason_members path (by_attribute name) = bytes_member (codes "attribute") (codes "attribute_bytes") name ∷ []
 reason_members path other_kind = []
 
-abbrev pub left_value : LeftLineModel → Json
-left_value l =
+abbrev pub skipped_value : SkippedLineModel → Json
+skipped_value l =
     object_with (path_member l.path ∷ (codes "kind", string (kind_word l.kind)) ∷ (codes "reason", string (reason_word l.reason))
     ∷ reason_members l.path l.reason)
 
@@ -104,8 +104,8 @@ entries_member r = (codes "entries", integer r.entries)
 abbrev pub files_member : Report → Member
 files_member r = (codes "files", array_with (map file_value r.files.items))
 
-abbrev pub left_member : Report → Member
-left_member r = (codes "left", array_with (map left_value r.left.items))
+abbrev pub skipped_member : Report → Member
+skipped_member r = (codes "left", array_with (map skipped_value r.skipped.items))
 
 -- the value of a report, with these rows
 abbrev pub report_value : Columns → Report → List TallyRowModel → Json
@@ -113,7 +113,7 @@ report_value by r rows =
     object_with ((codes "rows", array_with (map (row_value by) rows)) ∷ (codes "total", object_with (sums_members r.totals))
     ∷ (codes "directories", integer r.directories)
     ∷ (if_kept r.lists.left_out (entries_member r) ++ (if_kept r.lists.files (files_member r)
-    ++ (if_kept r.lists.left_out (left_member r) ++ (codes "faults", array_with (map fault_value r.faults.items)) ∷ []))))
+    ++ (if_kept r.lists.left_out (skipped_member r) ++ (codes "faults", array_with (map fault_value r.faults.items)) ∷ []))))
 
 -- the value on one line
 abbrev pub json_text_of : Columns → Report → List TallyRowModel → List ℕ

@@ -5,7 +5,7 @@ use Rattle.json.specs.Token.{Token, key}
 use Rattle.json.specs.Tree.{json_tokens}
 use Rattle.lc_walk.specs.declared.report.Report.{Report}
 use Rattle.lc_table.specs.JsonText.{Member, array_with, object_with, integer, if_kept, sums_members, fault_value}
-use Rattle.lc_table.specs.JsonText.{entries_member, files_member, left_member}
+use Rattle.lc_table.specs.JsonText.{entries_member, files_member, skipped_member}
 
 abbrev pub member_tokens : Member → List Token
 member_tokens m = key m.0 ∷ json_tokens m.1
@@ -22,5 +22,5 @@ number_members r =
 -- and those that list
 abbrev pub list_members : Report → List Member
 list_members r =
-    if_kept r.lists.files (files_member r) ++ (if_kept r.lists.left_out (left_member r)
+    if_kept r.lists.files (files_member r) ++ (if_kept r.lists.left_out (skipped_member r)
     ++ (codes "faults", array_with (map fault_value r.faults.items)) ∷ [])

@@ -1,8 +1,8 @@
 -- What is true of the rows that a table shows.
 use Rattle.std.specs.Prelude.{◌≡◌, true, List, Option}
 use Rattle.std.specs.List.Sorted.{IsPermutation}
-use Rattle.lc_text.specs.declared.shape.Columns.{Columns}
-use Rattle.lc_text.specs.declared.shape.SortBy.{SortBy}
+use Rattle.lc_text.specs.declared.table_options.Columns.{Columns}
+use Rattle.lc_text.specs.declared.table_options.SortBy.{SortBy}
 use Rattle.lc_walk.specs.TallyRows.{TallyRowModel, sums_of_rows, IsInOrder, AddsUp}
 use Rattle.lc_table.specs.ShownRows.{AreShown, AreSummed, rows_in}
 

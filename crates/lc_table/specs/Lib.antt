@@ -1,6 +1,6 @@
 pub mod ShownRows
 pub mod LentRows
-pub mod LeftWords
+pub mod SkippedWords
 pub mod TsvText
 pub mod Columns
 pub mod CellWords

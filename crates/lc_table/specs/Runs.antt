@@ -6,7 +6,7 @@ use Rattle.lc_walk.specs.declared.walk_fault.WalkFault.{WalkFault}
 use Rattle.lc_table.specs.TableText.{IsTextOf}
 use Rattle.lc_text.specs.Writes.{Writes, StopsWriting}
 use Rattle.lc_text.specs.declared.printing.PrintFault.{PrintFault}
-use Rattle.lc_text.specs.declared.shape.Shape.{Shape}
+use Rattle.lc_text.specs.declared.table_options.TableOptions.{TableOptions}
 use Rattle.lc_text.specs.declared.printing.PrintFault.TheVariants as print
 use Rattle.lc_text.specs.declared.outcome.Outcome.{Outcome}
 use Rattle.lc_text.specs.declared.outcome.Outcome.TheVariants.{Clean, SomeFaults}
@@ -24,14 +24,14 @@ IsOutcomeOf r Clean = r.faults.items ≡ []
 IsOutcomeOf r SomeFaults = r.faults.items ≢ []
 
 -- what a call answers that writes a report's table of this shape: it was written whole; a write stopped it; nothing was written
-abbrev pub AnswersTable : {O : Type 0} → (O → List ℕ → Result ℕ Failed → O → Type 0) → Shape → Report
+abbrev pub AnswersTable : {O : Type 0} → (O → List ℕ → Result ℕ Failed → O → Type 0) → TableOptions → Report
     → O → Result (Unit {0}) PrintFault → O → Type 0
 AnswersTable may_take shape r out (Ok _) wrote = (text : List ℕ) × IsTextOf shape r text × Writes may_take out text wrote
 AnswersTable may_take shape r out (Err print.Write) wrote = (text : List ℕ) × IsTextOf shape r text × StopsWriting may_take out text wrote
 AnswersTable may_take shape r out (Err print.Memory) wrote = wrote ≡ out
 
 module _ {O : Type 0} (may_take : O → List ℕ → Result ℕ Failed → O → Type 0) (walks : Result Report WalkFault → Type 0)
-    (shape : Shape) where
+    (shape : TableOptions) where
   abbrev pub AnswersRun : O → Result Outcome RunFault → O → Type 0
   -- the table of the report was written whole
   AnswersRun out (Ok outcome) wrote =

@@ -2,13 +2,13 @@
 use Rattle.std.specs.Prelude.{ℕ, Bool, true, false, not, ◌||◌, if◌then◌else◌, List, [], ◌∷◌, ◌++◌, map, filter, codes, decimal, Option}
 use Rattle.std.specs.Prelude.{Some, None}
 use Rattle.std.specs.List.{list_any}
-use Rattle.lc_census.specs.declared.totals.Eol.{Eol}
-use Rattle.lc_census.specs.declared.totals.Eol.TheVariants.{Nul}
+use Rattle.lc_census.specs.declared.count.Eol.{Eol}
+use Rattle.lc_census.specs.declared.count.Eol.TheVariants.{Nul}
 use Rattle.lc_level.specs.FaultLines.{FaultLineModel}
 use Rattle.lc_level.specs.FaultWords.{fault_word}
 use Rattle.lc_text.specs.Visible.{visible_bytes, visible_path}
-use Rattle.lc_text.specs.declared.shape.Columns.{Columns}
-use Rattle.lc_walk.specs.ReportLines.{FileLineModel, LeftLineModel}
+use Rattle.lc_text.specs.declared.table_options.Columns.{Columns}
+use Rattle.lc_walk.specs.ReportLines.{FileLineModel, SkippedLineModel}
 use Rattle.lc_walk.specs.TallyRows.{TallyRowModel, sums_of_rows}
 use Rattle.lc_walk.specs.declared.report.Report.{Report}
 use Rattle.lc_walk.specs.declared.tally.sums.Sums.{Sums}
@@ -16,7 +16,7 @@ use Rattle.lc_table.specs.CellWords.{with_commas, visible_extension}
 use Rattle.lc_table.specs.declared.classes.AllSums.{AllSums}
 use Rattle.lc_table.specs.declared.classes.ClassSums.{ClassSums}
 use Rattle.lc_table.specs.Columns.{CellModel, word, number, ending, widths_of, line_in, lines_in, rule_in}
-use Rattle.lc_table.specs.LeftWords.{reason_word, reason_place, left_path}
+use Rattle.lc_table.specs.SkippedWords.{reason_word, reason_place, skipped_path}
 use Rattle.lc_table.specs.TsvText.{eol_word, text_word}
 
 abbrev pub integer : ℕ → CellModel
@@ -108,12 +108,12 @@ file_cells f =
     word (text_word f.text) ∷ word (eol_word f.count.eol) ∷ integer f.count.lines ∷ integer f.count.blank ∷ integer f.count.bytes
     ∷ ending (visible_path f.path) ∷ []
 
-abbrev pub left_headings : List CellModel
-left_headings = word (codes "left out") ∷ word (codes "by") ∷ ending (codes "path") ∷ []
+abbrev pub skipped_headings : List CellModel
+skipped_headings = word (codes "left out") ∷ word (codes "by") ∷ ending (codes "path") ∷ []
 
-abbrev pub left_cells : LeftLineModel → List CellModel
-left_cells l =
-    word (reason_word l.reason) ∷ word (reason_place visible_bytes l.path l.reason) ∷ ending (left_path visible_bytes l) ∷ []
+abbrev pub skipped_cells : SkippedLineModel → List CellModel
+skipped_cells l =
+    word (reason_word l.reason) ∷ word (reason_place visible_bytes l.path l.reason) ∷ ending (skipped_path visible_bytes l) ∷ []
 
 abbrev pub fault_headings : List CellModel
 fault_headings = word (codes "fault") ∷ ending (codes "path") ∷ []
@@ -137,5 +137,5 @@ counts r = lines_in (widths_of (count_lines r)) (count_lines r)
 -- the table of a report, with these rows: what is listed, and last the rows with their sums
 abbrev pub screen_text_of : Columns → Report → List TallyRowModel → List ℕ
 screen_text_of by r rows =
-    listing file_headings (map file_cells r.files.items) ++ listing left_headings (map left_cells r.left.items)
+    listing file_headings (map file_cells r.files.items) ++ listing skipped_headings (map skipped_cells r.skipped.items)
     ++ listing fault_headings (map fault_cells r.faults.items) ++ summary by r rows ++ codes "\n" ++ counts r

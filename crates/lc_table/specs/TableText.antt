@@ -1,9 +1,9 @@
 -- The text of a table, by its shape.
 use Rattle.std.specs.Prelude.{◌≡◌, ℕ, List}
-use Rattle.lc_text.specs.declared.shape.Columns.{Columns}
-use Rattle.lc_text.specs.declared.shape.Format.{Format}
-use Rattle.lc_text.specs.declared.shape.Format.TheVariants.{Tsv, Table, Json}
-use Rattle.lc_text.specs.declared.shape.Shape.{Shape}
+use Rattle.lc_text.specs.declared.table_options.Columns.{Columns}
+use Rattle.lc_text.specs.declared.table_options.Format.{Format}
+use Rattle.lc_text.specs.declared.table_options.Format.TheVariants.{Tsv, Table, Json}
+use Rattle.lc_text.specs.declared.table_options.TableOptions.{TableOptions}
 use Rattle.lc_table.specs.JsonText.{IsDocument, json_text_of, report_value}
 use Rattle.lc_table.specs.ScreenText.{screen_text_of}
 use Rattle.lc_table.specs.ShownRows.{AreShown}
@@ -18,6 +18,6 @@ IsTextIn Table by r rows text = text ≡ screen_text_of by r rows
 IsTextIn Json by r rows text = (text ≡ json_text_of by r rows) × IsDocument (report_value by r rows) text
 
 -- a text of a report's table of this shape
-abbrev pub IsTextOf : Shape → Report → List ℕ → Type 0
+abbrev pub IsTextOf : TableOptions → Report → List ℕ → Type 0
 IsTextOf shape r text =
     (rows : List TallyRowModel) × AreShown shape.by shape.sort r.rows.items rows × IsTextIn shape.format shape.by r rows text

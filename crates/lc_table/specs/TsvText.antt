@@ -1,19 +1,19 @@
 -- The text of a table with tabs: a header, a line for each key, the totals, the directories, the files, what was left out, the faults.
 use Rattle.std.specs.Prelude.{ℕ, Bool, if◌then◌else◌, List, [], ◌∷◌, ◌++◌, codes, decimal, Option, Some, None}
 use Rattle.std.specs.List.{flat_map}
-use Rattle.lc_census.specs.declared.totals.Eol.{Eol}
-use Rattle.lc_census.specs.declared.totals.Eol.TheVariants.{NoEnd, Lf, CrLf, Cr, Mixed, Nul}
+use Rattle.lc_census.specs.declared.count.Eol.{Eol}
+use Rattle.lc_census.specs.declared.count.Eol.TheVariants.{NoEnd, Lf, CrLf, Cr, Mixed, Nul}
 use Rattle.lc_rules.specs.declared.states.TextState.{TextState}
 use Rattle.lc_rules.specs.declared.states.TextState.TheVariants as text
 use Rattle.lc_walk.specs.TallyRows.{TallyRowModel}
-use Rattle.lc_walk.specs.ReportLines.{FileLineModel, LeftLineModel}
+use Rattle.lc_walk.specs.ReportLines.{FileLineModel, SkippedLineModel}
 use Rattle.lc_level.specs.FaultLines.{FaultLineModel}
 use Rattle.lc_walk.specs.declared.tally.sums.Sums.{Sums}
 use Rattle.lc_level.specs.FaultWords.{fault_word}
 use Rattle.lc_walk.specs.declared.report.Report.{Report}
 use Rattle.lc_text.specs.Escape.{escape_bytes, escape_path}
-use Rattle.lc_text.specs.declared.shape.Columns.{Columns}
-use Rattle.lc_table.specs.LeftWords.{reason_word, reason_place, left_path}
+use Rattle.lc_text.specs.declared.table_options.Columns.{Columns}
+use Rattle.lc_table.specs.SkippedWords.{reason_word, reason_place, skipped_path}
 
 -- the class of line ends
 abbrev pub eol_word : Eol → List ℕ
@@ -73,9 +73,9 @@ file_line f =
     line_with (codes "file" ∷ text_word f.text ∷ eol_word f.count.eol
     ∷ decimal f.count.lines ∷ decimal f.count.blank ∷ decimal f.count.bytes ∷ escape_path f.path ∷ [])
 
-abbrev pub left_line : LeftLineModel → List ℕ
-left_line l =
-    line_with (codes "left" ∷ reason_word l.reason ∷ reason_place escape_bytes l.path l.reason ∷ left_path escape_bytes l ∷ [])
+abbrev pub skipped_line : SkippedLineModel → List ℕ
+skipped_line l =
+    line_with (codes "left" ∷ reason_word l.reason ∷ reason_place escape_bytes l.path l.reason ∷ skipped_path escape_bytes l ∷ [])
 
 abbrev pub fault_line : FaultLineModel → List ℕ
 fault_line f = line_with (codes "fault" ∷ fault_word f.word ∷ escape_path f.path ∷ [])
@@ -84,4 +84,4 @@ fault_line f = line_with (codes "fault" ∷ fault_word f.word ∷ escape_path f.
 abbrev pub tsv_text_of : Columns → Report → List TallyRowModel → List ℕ
 tsv_text_of by r rows =
     header_line ++ flat_map (row_line by) rows ++ totals_line r.totals ++ directories_line r.directories ++ entries_line r
-    ++ flat_map file_line r.files.items ++ flat_map left_line r.left.items ++ flat_map fault_line r.faults.items
+    ++ flat_map file_line r.files.items ++ flat_map skipped_line r.skipped.items ++ flat_map fault_line r.faults.items

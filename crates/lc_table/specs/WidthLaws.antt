@@ -5,14 +5,14 @@ use Rattle.lc_level.specs.FaultLines.{FaultLineModel}
 use Rattle.lc_level.specs.Level.{Reason, named_git, by_rule, by_attribute, other_kind}
 use Rattle.lc_text.specs.Lines.{input_lines_of}
 use Rattle.lc_text.specs.Visible.{visible_bytes, visible_path}
-use Rattle.lc_text.specs.declared.shape.Columns.{Columns}
-use Rattle.lc_walk.specs.ReportLines.{FileLineModel, LeftLineModel}
+use Rattle.lc_text.specs.declared.table_options.Columns.{Columns}
+use Rattle.lc_walk.specs.ReportLines.{FileLineModel, SkippedLineModel}
 use Rattle.lc_walk.specs.TallyRows.{TallyRowModel}
 use Rattle.lc_walk.specs.declared.report.Report.{Report}
 use Rattle.lc_table.specs.Columns.{width_of}
-use Rattle.lc_table.specs.LeftWords.{left_path}
+use Rattle.lc_table.specs.SkippedWords.{skipped_path}
 use Rattle.lc_table.specs.ScreenText.{summary, counts, listing, file_headings, file_cells}
-use Rattle.lc_table.specs.ScreenText.{left_headings, left_cells, fault_headings, fault_cells}
+use Rattle.lc_table.specs.ScreenText.{skipped_headings, skipped_cells, fault_headings, fault_cells}
 
 -- the lines have one width
 abbrev pub AreAsWide : List (List ℕ) → Type 0
@@ -35,7 +35,7 @@ AreBytes bs = All (λ b. b < 256) bs
 
 abbrev pub HasByteName : Reason → Type 0
 HasByteName named_git = ⊤
-HasByteName (by_rule origin line) = ⊤
+HasByteName (by_rule source line) = ⊤
 HasByteName (by_attribute name) = AreBytes name
 HasByteName other_kind = ⊤
 
@@ -55,10 +55,10 @@ FilesWidthLaw =
     (fs : List FileLineModel)
     → IsAlignedListing (codes "file") (map (λ f. visible_path f.path) fs) (listing file_headings (map file_cells fs))
 
-abbrev pub LeftWidthLaw : Type 0
-LeftWidthLaw =
-    (ls : List LeftLineModel) → All (λ l. AreBytes l.path × HasByteName l.reason) ls
-    → IsAlignedListing (codes "path") (map (left_path visible_bytes) ls) (listing left_headings (map left_cells ls))
+abbrev pub SkippedWidthLaw : Type 0
+SkippedWidthLaw =
+    (ls : List SkippedLineModel) → All (λ l. AreBytes l.path × HasByteName l.reason) ls
+    → IsAlignedListing (codes "path") (map (skipped_path visible_bytes) ls) (listing skipped_headings (map skipped_cells ls))
 
 abbrev pub FaultsWidthLaw : Type 0
 FaultsWidthLaw =

@@ -4,15 +4,15 @@ ghost use Rattle.std.specs.Prelude.{◌≡◌, ◌<◌, ◌++◌, IsAscii, IfOk,
 ghost use Rattle.lc_table.specs.CellWords.{comma, visible_extension, with_commas};
 ghost use Rattle.lc_table.specs.Columns.{ending, number, text_at, width_at, width_of, word};
 ghost use Rattle.lc_table.specs.CellTexts.{cell_model, shown_text};
-ghost use Rattle.lc_table.specs.LeftWords.{left_path, reason_place};
+ghost use Rattle.lc_table.specs.SkippedWords.{skipped_path, reason_place};
 ghost use Rattle.lc_text.specs.RulePlaces.{rule_file, rule_place};
 ghost use Rattle.lc_text.specs.Visible.{visible_bytes, visible_path};
 
-use crate::words::left_end;
+use crate::words::skipped_end;
 use lc_level::Reason;
-use lc_rules::Origin;
+use lc_rules::RuleSource;
 use lc_text::{above, push_visible, push_visible_path};
-use lc_walk::LeftLine;
+use lc_walk::SkippedLine;
 use std::alloc::AllocError;
 use unicode_width::UnicodeWidthStr;
 
@@ -34,9 +34,9 @@ pub(crate) enum Shown<'a> {
     Extension(Option<&'a [u8]>),
     Path(&'a [u8]),
     /// Where the rule stands by which an entry is left out, or the attribute's name.
-    LeftPlace(&'a LeftLine),
+    SkippedPlace(&'a SkippedLine),
     /// The path of an entry left out.
-    LeftPath(&'a LeftLine),
+    SkippedPath(&'a SkippedLine),
 }
 
 #[derive(Clone, Copy)]
@@ -59,11 +59,11 @@ fn push_with_commas(text: &mut String, digits: &[u8]) -> Result<(), AllocError>
     requires { IsAscii digits.now }
     ensures { OnOk result (string_bytes text.new ≡ string_bytes text.old ++ with_commas digits.now) }
 {
-    let mut left = digits;
-    'digits: while let Some((digit, others)) = left.split_first() {
+    let mut rest = digits;
+    'digits: while let Some((digit, others)) = rest.split_first() {
         text.push(char::from(*digit))?;
         push_comma(text, others)?;
-        left = others;
+        rest = others;
     }
     Ok(())
 }
@@ -88,13 +88,13 @@ fn push_extension(text: &mut String, extension: Option<&[u8]>) -> Result<(), All
     }
 }
 
-fn push_rule_file(text: &mut String, path: &[u8], origin: Origin) -> Result<(), AllocError>
-    ensures { OnOk result (string_bytes text.new ≡ string_bytes text.old ++ rule_file visible_bytes path.now origin) }
+fn push_rule_file(text: &mut String, path: &[u8], source: RuleSource) -> Result<(), AllocError>
+    ensures { OnOk result (string_bytes text.new ≡ string_bytes text.old ++ rule_file visible_bytes path.now source) }
 {
-    match origin {
-        Origin::ExcludeFile => text.push_str("--exclude-from"),
-        Origin::GitInfo => text.push_str(".git/info/exclude"),
-        Origin::Directory(depth) => {
+    match source {
+        RuleSource::ExcludeFrom => text.push_str("--exclude-from"),
+        RuleSource::InfoExclude => text.push_str(".git/info/exclude"),
+        RuleSource::Gitignore(depth) => {
             push_visible(text, above(path, depth))?;
             text.push_str(".gitignore")
         }
@@ -104,43 +104,43 @@ fn push_rule_file(text: &mut String, path: &[u8], origin: Origin) -> Result<(), 
 fn push_rule_place(
     text: &mut String,
     path: &[u8],
-    origin: Origin,
+    source: RuleSource,
     line: u32,
 ) -> Result<(), AllocError>
-    ensures { OnOk result (string_bytes text.new ≡ string_bytes text.old ++ rule_place visible_bytes path.now origin line) }
+    ensures { OnOk result (string_bytes text.new ≡ string_bytes text.old ++ rule_place visible_bytes path.now source line) }
 {
-    push_rule_file(text, path, origin)?;
+    push_rule_file(text, path, source)?;
     text.push_str(":")?;
     let mut buffer = itoa::Buffer::new();
     text.push_str(buffer.format(line))
 }
 
-fn push_left_place(text: &mut String, left: &LeftLine) -> Result<(), AllocError>
+fn push_skipped_place(text: &mut String, skipped: &SkippedLine) -> Result<(), AllocError>
     ensures { OnOk result (string_bytes text.new ≡ string_bytes text.old
-        ++ reason_place visible_bytes left.now.path left.now.reason) }
+        ++ reason_place visible_bytes skipped.now.path skipped.now.reason) }
 {
-    match &left.reason {
-        Reason::Rule { origin, line } => push_rule_place(text, &left.path, *origin, *line),
+    match &skipped.reason {
+        Reason::Rule { source, line } => push_rule_place(text, &skipped.path, *source, *line),
         Reason::Attribute(name) => push_visible(text, name),
         Reason::Git | Reason::OtherKind => text.push_str("-"),
     }
 }
 
-fn push_left_path(text: &mut String, left: &LeftLine) -> Result<(), AllocError>
-    ensures { OnOk result (string_bytes text.new ≡ string_bytes text.old ++ left_path visible_bytes left.now) }
+fn push_skipped_path(text: &mut String, skipped: &SkippedLine) -> Result<(), AllocError>
+    ensures { OnOk result (string_bytes text.new ≡ string_bytes text.old ++ skipped_path visible_bytes skipped.now) }
 {
-    push_visible(text, &left.path)?;
-    text.push_str(left_end(left))
+    push_visible(text, &skipped.path)?;
+    text.push_str(skipped_end(skipped))
 }
 
 pub(crate) fn push_copies(text: &mut String, c: char, count: usize) -> Result<(), AllocError>
     requires { c < 128 }
     ensures { OnOk result (string_bytes text.new ≡ string_bytes text.old ++ replicate count c) }
 {
-    let mut left = count;
-    'copies: while left > 0 {
+    let mut rest = count;
+    'copies: while rest > 0 {
         text.push(c)?;
-        left -= 1;
+        rest -= 1;
     }
     Ok(())
 }
@@ -154,8 +154,8 @@ impl Shown<'_> {
             Shown::Number(n) => push_number(text, n),
             Shown::Extension(extension) => push_extension(text, extension),
             Shown::Path(path) => push_visible_path(text, path),
-            Shown::LeftPlace(left) => push_left_place(text, left),
-            Shown::LeftPath(left) => push_left_path(text, left),
+            Shown::SkippedPlace(skipped) => push_skipped_place(text, skipped),
+            Shown::SkippedPath(skipped) => push_skipped_path(text, skipped),
         }
     }
 
@@ -227,21 +227,21 @@ impl<'a> Cell<'a> {
         }
     }
 
-    pub(crate) fn left_place(left: &'a LeftLine) -> Cell<'a>
-        ensures { cell_model result ≡ word (reason_place visible_bytes left.entry.now.path left.entry.now.reason) }
+    pub(crate) fn skipped_place(skipped: &'a SkippedLine) -> Cell<'a>
+        ensures { cell_model result ≡ word (reason_place visible_bytes skipped.entry.now.path skipped.entry.now.reason) }
     {
         Cell {
             side: Side::Left,
-            shown: Shown::LeftPlace(left),
+            shown: Shown::SkippedPlace(skipped),
         }
     }
 
-    pub(crate) fn left_path(left: &'a LeftLine) -> Cell<'a>
-        ensures { cell_model result ≡ ending (left_path visible_bytes left.entry.now) }
+    pub(crate) fn skipped_path(skipped: &'a SkippedLine) -> Cell<'a>
+        ensures { cell_model result ≡ ending (skipped_path visible_bytes skipped.entry.now) }
     {
         Cell {
             side: Side::End,
-            shown: Shown::LeftPath(left),
+            shown: Shown::SkippedPath(skipped),
         }
     }
 

@@ -5,11 +5,11 @@ ghost use Rattle.json.specs.Json.{string};
 ghost use Rattle.json.specs.Tree.{json_tokens};
 ghost use Rattle.lc_table.specs.TsvText.{eol_word};
 ghost use Rattle.lc_table.specs.JsonText.{array_with, object_with, extension_member, if_kept, text_value, sums_members, key_members};
-ghost use Rattle.lc_table.specs.JsonText.{row_value, file_value, fault_value, entries_member, files_member, left_member};
+ghost use Rattle.lc_table.specs.JsonText.{row_value, file_value, fault_value, entries_member, files_member, skipped_member};
 ghost use Rattle.lc_table.specs.JsonText.{json_text_of, report_value, IsDocument};
 ghost use Rattle.lc_table.specs.JsonTokens.{list_members, member_tokens, members_tokens_of, number_members};
 
-use crate::json_left::write_left_list;
+use crate::json_skipped::write_skipped_list;
 use crate::json_text::JsonText;
 use crate::words::{eol_word, text_word};
 use lc_census::Eol;
@@ -203,11 +203,11 @@ fn write_entries(text: &mut JsonText, report: &Report) -> Result<(), AllocError>
     Ok(())
 }
 
-fn write_left(text: &mut JsonText, report: &Report, alloc: Global) -> Result<(), AllocError>
-    ensures { OnOk result (text.new ≡ text.old ++ members_tokens_of (if_kept report.now.lists.left_out (left_member report.now))) }
+fn write_skipped(text: &mut JsonText, report: &Report, alloc: Global) -> Result<(), AllocError>
+    ensures { OnOk result (text.new ≡ text.old ++ members_tokens_of (if_kept report.now.lists.left_out (skipped_member report.now))) }
 {
     if report.lists.left_out {
-        write_left_list(text, alloc, &report.left)?;
+        write_skipped_list(text, alloc, &report.skipped)?;
     }
     Ok(())
 }
@@ -246,7 +246,7 @@ fn write_lists(text: &mut JsonText, alloc: Global, report: &Report) -> Result<()
     ensures { OnOk result (text.new ≡ text.old ++ members_tokens_of (list_members report.now)) }
 {
     write_files(text, report)?;
-    write_left(text, report, alloc)?;
+    write_skipped(text, report, alloc)?;
     write_faults(text, &report.faults)?;
     Ok(())
 }

@@ -2,7 +2,7 @@
 
 ghost use Rattle.lc_table.specs.Laws.{PermutationLaw, TotalsLaw, WholeLaw};
 ghost use Rattle.lc_table.specs.ScreenLaws.{ClassesLaw, CommasLaw};
-ghost use Rattle.lc_table.specs.WidthLaws.{CountsWidthLaw, FaultsWidthLaw, FilesWidthLaw, LeftWidthLaw, SummaryWidthLaw};
+ghost use Rattle.lc_table.specs.WidthLaws.{CountsWidthLaw, FaultsWidthLaw, FilesWidthLaw, SkippedWidthLaw, SummaryWidthLaw};
 
 /// The rows of a table are the summed ones, each once.
 pub fn shown_rows_are_the_summed_ones()
@@ -34,6 +34,6 @@ pub fn lines_of_a_part_are_as_wide()
     ensures summary { SummaryWidthLaw }
     ensures counts { CountsWidthLaw }
     ensures files { FilesWidthLaw }
-    ensures left { LeftWidthLaw }
+    ensures skipped { SkippedWidthLaw }
     ensures faults { FaultsWidthLaw }
 {}

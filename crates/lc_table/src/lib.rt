@@ -12,8 +12,8 @@
 mod cells;
 mod classes;
 mod columns;
-mod json_left;
 mod json_report;
+mod json_skipped;
 mod json_text;
 mod laws;
 mod listings;

@@ -3,13 +3,13 @@
 ghost use Rattle.std.specs.Prelude.{◌≡◌, ◌∷◌, ◌++◌, map, OnOk, string_bytes};
 ghost use Rattle.lc_table.specs.CellTexts.{cells_of};
 ghost use Rattle.lc_table.specs.Columns.{lines_in, listing_in, widened};
-ghost use Rattle.lc_table.specs.ScreenText.{fault_cells, fault_headings, file_cells, file_headings, left_cells};
-ghost use Rattle.lc_table.specs.ScreenText.{left_headings, listing};
+ghost use Rattle.lc_table.specs.ScreenText.{fault_cells, fault_headings, file_cells, file_headings, skipped_cells};
+ghost use Rattle.lc_table.specs.ScreenText.{skipped_headings, listing};
 
 use crate::cells::Cell;
 use crate::columns::Widths;
 use crate::words::{eol_word, reason_word, text_word};
-use lc_walk::{FaultLine, FileLine, LeftLine};
+use lc_walk::{FaultLine, FileLine, SkippedLine};
 use std::alloc::{AllocError, Global};
 
 fn file_headings() -> [Cell<'static>; 6]
@@ -94,8 +94,8 @@ pub(crate) fn push_files(
     push_some_files(&mut widths, files, text, made)
 }
 
-fn left_headings() -> [Cell<'static>; 3]
-    ensures { cells_of result ≡ left_headings }
+fn skipped_headings() -> [Cell<'static>; 3]
+    ensures { cells_of result ≡ skipped_headings }
 {
     [
         Cell::word("left out"),
@@ -104,70 +104,74 @@ fn left_headings() -> [Cell<'static>; 3]
     ]
 }
 
-fn left_cells(left: &LeftLine) -> [Cell<'_>; 3]
-    ensures { cells_of result ≡ left_cells left.now }
+fn skipped_cells(skipped: &SkippedLine) -> [Cell<'_>; 3]
+    ensures { cells_of result ≡ skipped_cells skipped.now }
 {
     [
-        Cell::word(reason_word(left)),
-        Cell::left_place(left),
-        Cell::left_path(left),
+        Cell::word(reason_word(skipped)),
+        Cell::skipped_place(skipped),
+        Cell::skipped_path(skipped),
     ]
 }
 
-fn fit_left(widths: &mut Widths, lines: &[LeftLine], made: &mut String) -> Result<(), AllocError>
-    ensures { OnOk result (widths.new ≡ widened widths.old (map left_cells lines.now)) }
+fn fit_skipped(
+    widths: &mut Widths,
+    lines: &[SkippedLine],
+    made: &mut String,
+) -> Result<(), AllocError>
+    ensures { OnOk result (widths.new ≡ widened widths.old (map skipped_cells lines.now)) }
 {
-    for left in lines {
-        widths.fit(&left_cells(left), made)?;
+    for skipped in lines {
+        widths.fit(&skipped_cells(skipped), made)?;
     }
     Ok(())
 }
 
-fn push_left_lines(
+fn push_skipped_lines(
     widths: &Widths,
-    lines: &[LeftLine],
+    lines: &[SkippedLine],
     text: &mut String,
     made: &mut String,
 ) -> Result<(), AllocError>
-    ensures { OnOk result (string_bytes text.new ≡ string_bytes text.old ++ lines_in widths.now (map left_cells lines.now)) }
+    ensures { OnOk result (string_bytes text.new ≡ string_bytes text.old ++ lines_in widths.now (map skipped_cells lines.now)) }
 {
-    for left in lines {
-        widths.push_line(&left_cells(left), text, made)?;
+    for skipped in lines {
+        widths.push_line(&skipped_cells(skipped), text, made)?;
     }
     Ok(())
 }
 
-fn push_some_left(
+fn push_some_skipped(
     widths: &mut Widths,
-    lines: &[LeftLine],
+    lines: &[SkippedLine],
     text: &mut String,
     made: &mut String,
 ) -> Result<(), AllocError>
     ensures { OnOk result (string_bytes text.new ≡ string_bytes text.old
-        ++ listing_in (widened widths.old (left_headings ∷ map left_cells lines.now)) left_headings (map left_cells lines.now)) }
+        ++ listing_in (widened widths.old (skipped_headings ∷ map skipped_cells lines.now)) skipped_headings (map skipped_cells lines.now)) }
 {
-    widths.fit(&left_headings(), made)?;
-    fit_left(widths, lines, made)?;
-    widths.push_line(&left_headings(), text, made)?;
-    push_left_lines(widths, lines, text, made)?;
+    widths.fit(&skipped_headings(), made)?;
+    fit_skipped(widths, lines, made)?;
+    widths.push_line(&skipped_headings(), text, made)?;
+    push_skipped_lines(widths, lines, text, made)?;
     text.push_str("\n")?;
     Ok(())
 }
 
 /// Appends a line for each entry left out below their headings, and an empty line.
-pub(crate) fn push_left(
+pub(crate) fn push_skipped(
     alloc: Global,
-    lines: &[LeftLine],
+    lines: &[SkippedLine],
     text: &mut String,
     made: &mut String,
 ) -> Result<(), AllocError>
-    ensures { OnOk result (string_bytes text.new ≡ string_bytes text.old ++ listing left_headings (map left_cells lines.now)) }
+    ensures { OnOk result (string_bytes text.new ≡ string_bytes text.old ++ listing skipped_headings (map skipped_cells lines.now)) }
 {
     if lines.is_empty() {
         return Ok(());
     }
     let mut widths = Widths::new(alloc);
-    push_some_left(&mut widths, lines, text, made)
+    push_some_skipped(&mut widths, lines, text, made)
 }
 
 fn fault_headings() -> [Cell<'static>; 2]

@@ -7,7 +7,7 @@ ghost use Rattle.lc_table.specs.Runs.{IsOutcomeOf, AnswersRun, table_fault};
 ghost use Rattle.lc_table.specs.declared.running.RunFault.TheVariants.{Walk};
 
 use crate::writing::table;
-use lc_text::{Outcome, PrintFault, Shape, Sink};
+use lc_text::{Outcome, PrintFault, Sink, TableOptions};
 use lc_tree::Tree;
 use lc_walk::{Options, Report, WalkFault, walk};
 use std::alloc::Global;
@@ -71,7 +71,7 @@ pub fn run<T: Tree, R: Threads + Wait + Sync, O: Sink>(
     alloc: Global,
     tree: &T,
     options: &Options<'_>,
-    shape: Shape,
+    shape: TableOptions,
     out: &mut O,
 ) -> Result<Outcome, RunFault>
     requires limits { AreWithinLimits options.now }

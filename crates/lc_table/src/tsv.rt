@@ -3,15 +3,15 @@
 ghost use Rattle.std.specs.Prelude.{◌≡◌, ◌++◌, OnOk, IfOk, option_map};
 ghost use Rattle.std.specs.List.{flat_map};
 ghost use Rattle.lc_table.specs.TsvText.{column, extension_word, row_line, totals_line, directories_line, entries_line};
-ghost use Rattle.lc_table.specs.TsvText.{file_line, left_line, fault_line};
-ghost use Rattle.lc_table.specs.LeftWords.{reason_place};
+ghost use Rattle.lc_table.specs.TsvText.{file_line, skipped_line, fault_line};
+ghost use Rattle.lc_table.specs.SkippedWords.{reason_place};
 ghost use Rattle.lc_text.specs.Escape.{escape_bytes};
 ghost use Rattle.lc_table.specs.TsvText.{tsv_text_of};
 
-use crate::words::{eol_word, left_end, reason_word, text_word};
+use crate::words::{eol_word, reason_word, skipped_end, text_word};
 use lc_level::Reason;
-use lc_text::{Columns, PathStyle, push_escaped, push_origin, push_path};
-use lc_walk::{FaultLine, FileLine, LeftLine, Report, Sums, TallyRow};
+use lc_text::{Columns, PathStyle, push_escaped, push_path, push_rule_source};
+use lc_walk::{FaultLine, FileLine, Report, SkippedLine, Sums, TallyRow};
 use std::alloc::{AllocError, Global};
 use std::io::Write;
 
@@ -101,28 +101,28 @@ fn push_file(text: &mut Vec<u8>, file: &FileLine) -> Result<(), AllocError>
     text.extend_from_slice(b"\n")
 }
 
-fn push_reason_place(text: &mut Vec<u8>, left: &LeftLine) -> Result<(), AllocError>
-    ensures { OnOk result (text.new.items ≡ text.old.items ++ reason_place escape_bytes left.now.path left.now.reason) }
+fn push_reason_place(text: &mut Vec<u8>, skipped: &SkippedLine) -> Result<(), AllocError>
+    ensures { OnOk result (text.new.items ≡ text.old.items ++ reason_place escape_bytes skipped.now.path skipped.now.reason) }
 {
-    match &left.reason {
-        Reason::Rule { origin, line } => {
-            push_origin(text, PathStyle::Escaped, &left.path, *origin, *line)
+    match &skipped.reason {
+        Reason::Rule { source, line } => {
+            push_rule_source(text, PathStyle::Escaped, &skipped.path, *source, *line)
         }
         Reason::Attribute(name) => push_escaped(text, name),
         Reason::Git | Reason::OtherKind => text.extend_from_slice(b"-"),
     }
 }
 
-fn push_left(text: &mut Vec<u8>, left: &LeftLine) -> Result<(), AllocError>
-    ensures { OnOk result (text.new.items ≡ text.old.items ++ left_line left.now) }
+fn push_skipped(text: &mut Vec<u8>, skipped: &SkippedLine) -> Result<(), AllocError>
+    ensures { OnOk result (text.new.items ≡ text.old.items ++ skipped_line skipped.now) }
 {
     text.extend_from_slice(b"left\t")?;
-    text.extend_from_slice(reason_word(left).as_bytes())?;
+    text.extend_from_slice(reason_word(skipped).as_bytes())?;
     text.extend_from_slice(b"\t")?;
-    push_reason_place(text, left)?;
+    push_reason_place(text, skipped)?;
     text.extend_from_slice(b"\t")?;
-    push_escaped(text, &left.path)?;
-    text.extend_from_slice(left_end(left).as_bytes())?;
+    push_escaped(text, &skipped.path)?;
+    text.extend_from_slice(skipped_end(skipped).as_bytes())?;
     text.extend_from_slice(b"\n")?;
     Ok(())
 }
@@ -154,11 +154,11 @@ fn push_files(text: &mut Vec<u8>, files: &[FileLine]) -> Result<(), AllocError>
     Ok(())
 }
 
-fn push_left_lines(text: &mut Vec<u8>, lines: &[LeftLine]) -> Result<(), AllocError>
-    ensures { OnOk result (text.new.items ≡ text.old.items ++ flat_map left_line lines.now) }
+fn push_skipped_lines(text: &mut Vec<u8>, lines: &[SkippedLine]) -> Result<(), AllocError>
+    ensures { OnOk result (text.new.items ≡ text.old.items ++ flat_map skipped_line lines.now) }
 {
-    for left in lines {
-        push_left(text, left)?;
+    for skipped in lines {
+        push_skipped(text, skipped)?;
     }
     Ok(())
 }
@@ -190,7 +190,7 @@ pub(crate) fn tsv_text(
     push_directories(&mut text, report.directories)?;
     push_entries(&mut text, report)?;
     push_files(&mut text, &report.files)?;
-    push_left_lines(&mut text, &report.left)?;
+    push_skipped_lines(&mut text, &report.skipped)?;
     push_faults(&mut text, &report.faults)?;
     Ok(text)
 }

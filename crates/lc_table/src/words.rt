@@ -2,13 +2,13 @@
 
 ghost use Rattle.std.specs.Prelude.{◌≡◌};
 ghost use Rattle.lc_table.specs.TsvText.{eol_word, text_word};
-ghost use Rattle.lc_table.specs.LeftWords.{kind_word, left_end, reason_word};
+ghost use Rattle.lc_table.specs.SkippedWords.{kind_word, skipped_end, reason_word};
 
 use lc_census::Eol;
 use lc_level::Reason;
 use lc_rules::TextState;
 use lc_tree::Kind;
-use lc_walk::LeftLine;
+use lc_walk::SkippedLine;
 
 pub(crate) fn eol_word(eol: Eol) -> &'static str
     ensures { result.now ≡ eol_word eol }
@@ -35,10 +35,10 @@ pub(crate) fn text_word(text: TextState) -> &'static str
     }
 }
 
-pub(crate) fn reason_word(left: &LeftLine) -> &'static str
-    ensures { result.now ≡ reason_word left.now.reason }
+pub(crate) fn reason_word(skipped: &SkippedLine) -> &'static str
+    ensures { result.now ≡ reason_word skipped.now.reason }
 {
-    match left.reason {
+    match skipped.reason {
         Reason::Git => "git",
         Reason::Rule { .. } => "rule",
         Reason::Attribute(_) => "attribute",
@@ -57,10 +57,10 @@ pub(crate) fn kind_word(kind: Kind) -> &'static str
 }
 
 /// What follows the path of an entry left out.
-pub(crate) fn left_end(left: &LeftLine) -> &'static str
-    ensures { result.now ≡ left_end left.now.kind left.now.reason }
+pub(crate) fn skipped_end(skipped: &SkippedLine) -> &'static str
+    ensures { result.now ≡ skipped_end skipped.now.kind skipped.now.reason }
 {
-    match (left.kind, &left.reason) {
+    match (skipped.kind, &skipped.reason) {
         (Kind::Dir, Reason::Git) => "",
         (Kind::Dir, _) => "/",
         (Kind::File | Kind::Other, _) => "",

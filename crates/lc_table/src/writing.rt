@@ -3,7 +3,7 @@
 ghost use Rattle.lc_table.specs.Runs.{AnswersTable};
 
 use crate::text::table_text;
-use lc_text::{PrintFault, Shape, Sink, print};
+use lc_text::{PrintFault, Sink, TableOptions, print};
 use lc_walk::Report;
 use std::alloc::Global;
 
@@ -11,7 +11,7 @@ use std::alloc::Global;
 pub fn table<O: Sink>(
     alloc: Global,
     report: &Report,
-    shape: Shape,
+    shape: TableOptions,
     out: &mut O,
 ) -> Result<(), PrintFault>
     ensures { AnswersTable O.may_take shape report.now out.old result out.new }

@@ -11,9 +11,9 @@ use Rattle.std.proofs.lemmas.List.Elements.{All-map}
 use Rattle.lc_rules.specs.IgnoreRules.{RuleModel, rules_of, text_of_line}
 use Rattle.lc_rules.specs.IgnoreLaws.{IsLastMatch, IsOnLine}
 use Rattle.lc_rules.specs.RuleLines.{lines_of as rule_lines_of}
-use Rattle.lc_rules.specs.Verdicts.{rule_matches, deciding, at_depth}
-use Rattle.lc_rules.specs.declared.origin.Origin.{Origin}
-use Rattle.lc_rules.specs.declared.origin.Origin.TheVariants.{Directory}
+use Rattle.lc_rules.specs.Verdicts.{rule_matches, last_match, at_depth}
+use Rattle.lc_rules.specs.declared.rule_source.RuleSource.{RuleSource}
+use Rattle.lc_rules.specs.declared.rule_source.RuleSource.TheVariants.{Gitignore}
 use Rattle.lc_rules.proofs.LastMatch.{decides_by_last}
 use Rattle.lc_rules.proofs.RuleLineNumbers.{on_their_lines}
 use Rattle.lc_text.specs.CheckText.{file_verdict, has_ignored_parent, path_word}
@@ -23,19 +23,19 @@ use Rattle.lc_text.specs.PathLines.{is_bad_path, is_dir_line, path_of}
 
 -- what holds of all rules holds of the one that decides
 module _ (P : RuleModel → Type 0) (rules : List RuleModel) (all : All P rules) where
-  of_deciding : (path : List ℕ) (is_dir : Bool) (found : Option (Origin × RuleModel))
+  of_last_match : (path : List ℕ) (is_dir : Bool) (found : Option (RuleSource × RuleModel))
       → MatchOption found (list_any (rule_matches path is_dir) (at_depth 0 rules) ≡ false) (IsLastMatch (at_depth 0 rules) path is_dir)
       → IfSome (option_map (λ r. r.1) found) P
-  of_deciding path is_dir None none = tt
-  of_deciding path is_dir (Some r) last =
-      subst (λ (x : Origin × RuleModel). P x.1)
+  of_last_match path is_dir None none = tt
+  of_last_match path is_dir (Some r) last =
+      subst (λ (x : RuleSource × RuleModel). P x.1)
       (ap (λ l. get_or l (length last.older) r) last.stands ∙ get_or-append_seam last.older r last.later r)
-      (All-map (λ (x : Origin × RuleModel). P x.1) (λ (x : RuleModel). (Directory 0, x)) rules all (length last.older) r
+      (All-map (λ (x : RuleSource × RuleModel). P x.1) (λ (x : RuleModel). (Gitignore 0, x)) rules all (length last.older) r
       (omega (arith, ap length last.stands, length-append last.older (r ∷ last.later))))
 
   of_file_rule : (path : List ℕ) (is_dir : Bool) → IfSome (file_rule rules path is_dir) P
   of_file_rule path is_dir =
-      of_deciding path is_dir (deciding (at_depth 0 rules) path is_dir) (decides_by_last (at_depth 0 rules) path is_dir).0
+      of_last_match path is_dir (last_match (at_depth 0 rules) path is_dir) (decides_by_last (at_depth 0 rules) path is_dir).0
 
   by_tests : (bad below : Bool) (above own : Option RuleModel) → IfSome above P → IfSome own P
       → IfSome (cond bad None (cond below above own)) P

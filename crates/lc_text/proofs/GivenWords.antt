@@ -8,8 +8,8 @@ use Rattle.std.proofs.lemmas.List.FromFn.{length-range_with_len}
 use Rattle.std.proofs.lemmas.List.Sums.{passes_at_first, fails_before_first}
 use Rattle.std.proofs.lemmas.Bool.{cases_lt, and_parts}
 use Rattle.lc_rules.specs.IgnoreRules.{RuleModel}
-use Rattle.lc_rules.specs.declared.origin.Origin.{Origin}
-use Rattle.lc_rules.specs.Verdicts.{deciding, at_depth, verdict_from, verdict_by}
+use Rattle.lc_rules.specs.declared.rule_source.RuleSource.{RuleSource}
+use Rattle.lc_rules.specs.Verdicts.{last_match, at_depth, verdict_from, verdict_by}
 use Rattle.lc_rules.specs.declared.verdicts.Verdict.{Verdict}
 use Rattle.lc_rules.specs.declared.verdicts.Verdict.TheVariants.{Ignored, Included, NoRule}
 use Rattle.lc_text.specs.CheckText.{file_verdict, is_ignored, is_ignored_parent, has_ignored_parent, verdict_word}
@@ -23,13 +23,13 @@ only_ignored Included e = absurd (cc)
 only_ignored NoRule e = absurd (cc)
 
 -- of what decides, where that ignores
-by_ignored : (found : Option (Origin × RuleModel)) → is_ignored (verdict_from found) ≡ true
+by_ignored : (found : Option (RuleSource × RuleModel)) → is_ignored (verdict_from found) ≡ true
     → (rule : RuleModel) × (option_map (λ r. r.1) found ≡ Some rule) × (verdict_by rule ≡ Ignored)
 by_ignored None e = absurd (cc)
 by_ignored (Some r) e = (r.1, refl, only_ignored (verdict_by r.1) e)
 
 -- and of what decides in any way
-by_verdict : (found : Option (Origin × RuleModel)) → verdict_word (verdict_from found) ≡ rule_word (option_map (λ r. r.1) found)
+by_verdict : (found : Option (RuleSource × RuleModel)) → verdict_word (verdict_from found) ≡ rule_word (option_map (λ r. r.1) found)
 by_verdict None = refl
 by_verdict (Some r) = refl
 
@@ -63,13 +63,13 @@ rule_gives_word rules path is_dir =
     record {
       bad = λ bad. ap (λ b. cond b None (cond (has_ignored_parent verdict path) above own)) bad;
       below = λ good below.
-          let by = by_ignored (deciding (at_depth 0 rules) (highest_ignored verdict path) true) (highest-ignored verdict path below) in (
+          let by = by_ignored (last_match (at_depth 0 rules) (highest_ignored verdict path) true) (highest-ignored verdict path below) in (
             by.0,
             ap₂ (λ b h. cond b None (cond h above own)) good below ∙ by.1,
             by.2,
           );
       own = λ good none.
           ap₂ (λ b h. cond b (codes "bad") (cond h (codes "below") (verdict_word (verdict path is_dir)))) good none
-          ∙ by_verdict (deciding (at_depth 0 rules) path is_dir)
+          ∙ by_verdict (last_match (at_depth 0 rules) path is_dir)
           ∙ sym (ap rule_word (ap₂ (λ b h. cond b None (cond h above own)) good none));
     }

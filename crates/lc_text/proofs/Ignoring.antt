@@ -3,8 +3,8 @@ use Rattle.std.proofs.Common.{◌≡◌, ℕ, ◌<◌, Bool, true, false, cond, 
 use Rattle.std.proofs.Common.{refl, sym, ap, ◌∙◌}
 use Rattle.std.specs.Prelude.{option_map}
 use Rattle.lc_rules.specs.IgnoreRules.{RuleModel}
-use Rattle.lc_rules.specs.Verdicts.{verdict_from, deciding, at_depth}
-use Rattle.lc_rules.specs.declared.origin.Origin.{Origin}
+use Rattle.lc_rules.specs.Verdicts.{verdict_from, last_match, at_depth}
+use Rattle.lc_rules.specs.declared.rule_source.RuleSource.{RuleSource}
 use Rattle.lc_rules.specs.declared.verdicts.Verdict.TheVariants.{Ignored, Included}
 use Rattle.lc_text.specs.CheckText.{file_verdict, is_ignored, is_ignored_parent, IsClearTo}
 use Rattle.lc_text.specs.ExplainedText.{file_rule}
@@ -12,7 +12,7 @@ use Rattle.lc_text.specs.Findings.{ignoring_rule, IsIgnoringAbove}
 use Rattle.lc_text.proofs.Directories.{is_ignored_parent-slash, has_ignored_parent-some, highest_ignored-is}
 
 -- of what decides: the rule that ignores
-abbrev ignoring_of : Option (Origin × RuleModel) → Option RuleModel
+abbrev ignoring_of : Option (RuleSource × RuleModel) → Option RuleModel
 ignoring_of found = cond (is_ignored (verdict_from found)) (option_map (λ r. r.1) found) None
 
 signed : (rule : RuleModel) (b : Bool) → cond (is_ignored (cond b Included Ignored)) (Some rule) None ≡ None
@@ -20,14 +20,14 @@ signed : (rule : RuleModel) (b : Bool) → cond (is_ignored (cond b Included Ign
 signed rule true e = refl
 signed rule false e = absurd (cc)
 
-none_ignores : (found : Option (Origin × RuleModel)) → ignoring_of found ≡ None → is_ignored (verdict_from found) ≡ false
+none_ignores : (found : Option (RuleSource × RuleModel)) → ignoring_of found ≡ None → is_ignored (verdict_from found) ≡ false
 none_ignores None e = refl
 none_ignores (Some r) e = signed r.1 r.1.is_negated e
 
 -- where no rule ignores a directory, it is not ignored
 pub not_ignored : (rules : List RuleModel) (directory : List ℕ) → ignoring_rule rules directory ≡ None
     → is_ignored (file_verdict rules directory true) ≡ false
-not_ignored rules directory e = none_ignores (deciding (at_depth 0 rules) directory true) e
+not_ignored rules directory e = none_ignores (last_match (at_depth 0 rules) directory true) e
 
 by_test : (b : Bool) (found : Option RuleModel) (r : RuleModel) → cond b found None ≡ Some r → (b ≡ true) × (found ≡ Some r)
 by_test true found r e = (refl, e)

@@ -3,7 +3,7 @@ use Rattle.std.specs.Prelude.{ℕ, ◌-◌, Bool, true, cond, List, [], ◌++◌
 use Rattle.std.specs.List.{flat_map, position_or_len, range_with_len, slice_index_or}
 use Rattle.lc_rules.specs.IgnoreRules.{RuleModel, text_of_line, rules_of}
 use Rattle.lc_rules.specs.RuleLines.{lines_of as rule_lines_of}
-use Rattle.lc_rules.specs.Verdicts.{at_depth, deciding}
+use Rattle.lc_rules.specs.Verdicts.{at_depth, last_match}
 use Rattle.lc_rules.specs.declared.verdicts.Verdict.{Verdict}
 use Rattle.lc_text.specs.CheckText.{file_verdict, is_ignored_parent, has_ignored_parent, path_word}
 use Rattle.lc_text.specs.Lines.{input_lines_of}
@@ -11,7 +11,7 @@ use Rattle.lc_text.specs.PathLines.{is_bad_path, is_dir_line, path_of}
 
 -- the rule of one file that decides a path, or a directory
 abbrev pub file_rule : List RuleModel → List ℕ → Bool → Option RuleModel
-file_rule rules path is_dir = option_map (λ r. r.1) (deciding (at_depth 0 rules) path is_dir)
+file_rule rules path is_dir = option_map (λ r. r.1) (last_match (at_depth 0 rules) path is_dir)
 
 -- the highest ignored directory above a path, where there is one: that which is the first on the way down
 abbrev pub highest_ignored : (List ℕ → Bool → Verdict) → List ℕ → List ℕ

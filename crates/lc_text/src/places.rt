@@ -9,7 +9,7 @@ ghost use Rattle.lc_text.specs.Styles.{styled};
 
 use crate::style::{PathStyle, push_styled};
 use lc_glob::cut_at_first;
-use lc_rules::Origin;
+use lc_rules::RuleSource;
 use std::alloc::AllocError;
 use std::io::Write;
 
@@ -45,14 +45,14 @@ fn push_rule_file(
     text: &mut Vec<u8>,
     style: PathStyle,
     path: &[u8],
-    origin: Origin,
+    source: RuleSource,
 ) -> Result<(), AllocError>
-    ensures { OnOk result (text.new.items ≡ text.old.items ++ rule_file (styled style) path.now origin) }
+    ensures { OnOk result (text.new.items ≡ text.old.items ++ rule_file (styled style) path.now source) }
 {
-    match origin {
-        Origin::ExcludeFile => text.extend_from_slice(b"--exclude-from"),
-        Origin::GitInfo => text.extend_from_slice(b".git/info/exclude"),
-        Origin::Directory(depth) => {
+    match source {
+        RuleSource::ExcludeFrom => text.extend_from_slice(b"--exclude-from"),
+        RuleSource::InfoExclude => text.extend_from_slice(b".git/info/exclude"),
+        RuleSource::Gitignore(depth) => {
             push_styled(text, style, above(path, depth))?;
             text.extend_from_slice(b".gitignore")
         }
@@ -63,17 +63,17 @@ fn push_rule_file(
 /// `src/.gitignore:3`, `.git/info/exclude:2` or `--exclude-from:7`.
 ///
 /// ```
-/// push_origin(&mut text, PathStyle::Escaped, b"src/gen/a.c", Origin::Directory(1), 3)?; // src/.gitignore:3
+/// push_rule_source(&mut text, PathStyle::Escaped, b"src/gen/a.c", RuleSource::Gitignore(1), 3)?; // src/.gitignore:3
 /// ```
-pub fn push_origin(
+pub fn push_rule_source(
     text: &mut Vec<u8>,
     style: PathStyle,
     path: &[u8],
-    origin: Origin,
+    source: RuleSource,
     line: u32,
 ) -> Result<(), AllocError>
-    ensures { OnOk result (text.new.items ≡ text.old.items ++ rule_place (styled style) path.now origin line) }
+    ensures { OnOk result (text.new.items ≡ text.old.items ++ rule_place (styled style) path.now source line) }
 {
-    push_rule_file(text, style, path, origin)?;
+    push_rule_file(text, style, path, source)?;
     write!(text, ":{line}").map_err(|_| AllocError)
 }

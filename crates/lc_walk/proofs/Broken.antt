@@ -5,18 +5,18 @@ use Rattle.lc_walk.specs.Rows.{row_of, IsWhole}
 use Rattle.lc_walk.specs.Walked.{AreWhole}
 use Rattle.lc_walk.specs.Assembled.{IsBrokenBy, RefusesRows}
 use Rattle.lc_walk.specs.Links.{RefusesTree, fault_of_tree}
-use Rattle.lc_walk.specs.declared.given_up.GivenUp.{GivenUp}
-use Rattle.lc_walk.specs.declared.given_up.GivenUp.TheVariants.{Memory, TooManyDirs, TooDeep}
+use Rattle.lc_walk.specs.declared.broken_cause.BrokenCause.{BrokenCause}
+use Rattle.lc_walk.specs.declared.broken_cause.BrokenCause.TheVariants.{Memory, TooManyDirs, TooDeep}
 use Rattle.lc_walk.specs.declared.row.Row.{Row}
 use Rattle.lc_walk.specs.declared.row.Row.TheVariants.{Listed, Faulted, Broken}
 use Rattle.lc_walk.specs.declared.report.tree_check.TreeFault.{TreeFault}
 use Rattle.lc_walk.specs.declared.report.tree_check.TreeFault.TheVariants as tree
 
-abbrev pub NoneFor : GivenUp → List (Ended Row) → Type 0
+abbrev pub NoneFor : BrokenCause → List (Ended Row) → Type 0
 NoneFor cause rows = (i : ℕ) (e : Ended Row) → slice_get rows i ≡ Some e → IsBrokenBy cause (row_of e) → ⊥
 
 -- a whole row is Broken for no cause
-pub unbroken : (r : Row) (c : GivenUp) → IsWhole r → IsBrokenBy c r → ⊥
+pub unbroken : (r : Row) (c : BrokenCause) → IsWhole r → IsBrokenBy c r → ⊥
 unbroken (Listed r) c w b = b
 unbroken (Faulted r) c w b = b
 unbroken (Broken r) c w b = w
@@ -26,7 +26,7 @@ whole_row (Listed r) a b c = tt
 whole_row (Faulted r) a b c = tt
 whole_row (Broken r) a b c = at r.cause a b c
   where
-    at : (x : GivenUp) → (x ≡ Memory → ⊥) → (x ≡ TooManyDirs → ⊥) → (x ≡ TooDeep → ⊥) → ⊥
+    at : (x : BrokenCause) → (x ≡ Memory → ⊥) → (x ≡ TooManyDirs → ⊥) → (x ≡ TooDeep → ⊥) → ⊥
     at Memory a b c = a refl
     at TooManyDirs a b c = b refl
     at TooDeep a b c = c refl

@@ -16,24 +16,24 @@ use Rattle.lc_board.specs.declared.answers.Ended.{Ended}
 use Rattle.lc_board.specs.declared.answers.Ended.TheVariants as ended
 use Rattle.lc_walk.specs.Tally.{TallyModel, CountedFile, StandsFor}
 use Rattle.lc_tree.specs.ByteOrder.{AreApart}
-use Rattle.lc_walk.specs.ReportLines.{file_paths, fault_paths, left_paths}
+use Rattle.lc_walk.specs.ReportLines.{file_paths, fault_paths, skipped_paths}
 use Rattle.lc_walk.specs.Report.{IsReport}
 use Rattle.lc_walk.proofs.Joining.{stands_permuted}
 use Rattle.lc_walk.specs.declared.report.Report.{Report}
 use Rattle.lc_walk.specs.declared.report.findings.Findings.{Findings}
 use Rattle.lc_level.specs.Answers.{Answers, no_answers}
 use Rattle.lc_level.specs.Job.{JobModel}
-use Rattle.lc_level.specs.Level.{counted_in, left_in}
+use Rattle.lc_level.specs.Level.{counted_in, classify}
 use Rattle.lc_walk.specs.Found.{Found, path_of, found_of, found_at}
 use Rattle.lc_walk.specs.Rows.{row_of, job_of, IsWhole}
 use Rattle.lc_walk.specs.Lawful.{Asked, IsLawful, Says, counted_files}
 use Rattle.lc_level.specs.WellFormed.{IsWellFormed}
 use Rattle.lc_walk.specs.TreeOfRows.{numbers_below, child_number, tree_from, children_by_rows, tree_of_rows}
 use Rattle.lc_walk.specs.Walked.{Walked, AreWhole, row_found, rows_found}
-use Rattle.lc_walk.specs.WalkReport.{tallied, line_of, left_line, tallied_in, file_in, fault_in, directory_in, left_out_in, entries_in}
-use Rattle.lc_walk.specs.WalkReport.{tallied_of, files_of, faults_of, directories_of, left_out_of, entry_count, IsReportOf}
-use Rattle.lc_walk.specs.Assembled.{fault_line, directories_by_row, files_by_row, faults_by_row, left_by_row, entries_by_row}
-use Rattle.lc_walk.specs.Assembled.{directories_in_rows, files_in_rows, faults_in_rows, left_in_rows, entries_in_rows, AreFindings}
+use Rattle.lc_walk.specs.WalkReport.{tallied, line_of, skipped_line, tallied_in, file_in, fault_in, directory_in, skipped_lines_in, entries_in}
+use Rattle.lc_walk.specs.WalkReport.{tallied_of, files_of, faults_of, directories_of, skipped_lines_of, entry_count, IsReportOf}
+use Rattle.lc_walk.specs.Assembled.{fault_line, directories_by_row, files_by_row, faults_by_row, skipped_by_row, entries_by_row}
+use Rattle.lc_walk.specs.Assembled.{directories_in_rows, files_in_rows, faults_in_rows, skipped_in_rows, entries_in_rows, AreFindings}
 use Rattle.lc_walk.specs.Worked.{MayStand, IsLawfulEnd, AreLawful, returned_files, files_given, files_of_pass, files_of_passes}
 use Rattle.lc_walk.proofs.Broken.{NoneFor, unbroken}
 use Rattle.lc_walk.proofs.Fuller.{fuller_says, full_pass}
@@ -43,9 +43,9 @@ use Rattle.lc_tree.specs.Listing.{IsListing}
 use Rattle.lc_walk.specs.Walk.{walk_of}
 use Rattle.lc_walk.specs.RowViews.{ChildModel}
 use Rattle.lc_walk.proofs.Reports.{report_law}
-use Rattle.lc_walk.proofs.PathsApart.{paths_once_law, found_apart, file_list_apart, fault_list_apart, left_list_apart}
+use Rattle.lc_walk.proofs.PathsApart.{paths_once_law, found_apart, file_list_apart, fault_list_apart, skipped_list_apart}
 use Rattle.lc_walk.proofs.PathsApart.{all_lists_apart}
-use Rattle.lc_walk.specs.declared.given_up.GivenUp.TheVariants.{Memory}
+use Rattle.lc_walk.specs.declared.broken_cause.BrokenCause.TheVariants.{Memory}
 use Rattle.lc_walk.specs.declared.row.Row.{Row}
 use Rattle.lc_walk.specs.declared.row.Row.TheVariants.{Listed, Faulted, Broken}
 use Rattle.lc_board.proofs.EndsInPlace.{rows_hold}
@@ -54,7 +54,7 @@ use Rattle.lc_board.proofs.Weights.{each-map, flat_map-on}
 use Rattle.lc_walk.proofs.Moves.{lists_moved}
 use Rattle.lc_walk.proofs.Law.{core_law, one_answer_law}
 use Rattle.lc_walk.proofs.OneTree.{agrees}
-use Rattle.lc_walk.proofs.Listings.{flat_twice, sum_twice, flat_asked, tallied_went, files_went, faults_went, left_went, directories_went}
+use Rattle.lc_walk.proofs.Listings.{flat_twice, sum_twice, flat_asked, tallied_went, files_went, faults_went, skipped_went, directories_went}
 use Rattle.lc_walk.proofs.Listings.{entries_went, got_here, by_number, by_place, sums_by_number, below_all, numbers_from_0}
 
 -- whether a post of a pass was answered Full
@@ -204,7 +204,7 @@ module _ (ask : Asked) (MayAnswer : List ℕ → Answers → Type 0) (capacity w
       pub tally : files_by_end ask e a ≡ tallied_of (found_at ask.selection (job_of (row_of e)) a)
       pub files : cond ask.lists.files (files_of (found_at ask.selection (job_of (row_of e)) a)) [] ≡ files_by_row (row_of e)
       pub faults : faults_of (found_at ask.selection (job_of (row_of e)) a) ≡ faults_by_row (row_of e)
-      pub left : cond ask.lists.left_out (left_out_of (found_at ask.selection (job_of (row_of e)) a)) [] ≡ left_by_row (row_of e)
+      pub skipped : cond ask.lists.left_out (skipped_lines_of (found_at ask.selection (job_of (row_of e)) a)) [] ≡ skipped_by_row (row_of e)
       pub directories : directories_of (found_at ask.selection (job_of (row_of e)) a) ≡ directories_by_row (row_of e)
       pub entries : entry_count (found_at ask.selection (job_of (row_of e)) a) ≡ entries_by_row (row_of e)
 
@@ -218,10 +218,10 @@ module _ (ask : Asked) (MayAnswer : List ℕ → Answers → Type 0) (capacity w
               ∙ sym (mapped_asked (line_of r.job.path) ask.lists.files (counted_in s.fates))
               ∙ ap (map (line_of r.job.path)) (sym s.files_are);
           faults = ap (λ x. faults_of (f x)) l ∙ faults_went r.job s.fates s.absent ∙ ap (map (fault_line r.job.path)) (sym s.faults_are);
-          left = ap (λ x. cond ask.lists.left_out (left_out_of (f x)) []) l
-              ∙ ap (λ xs. cond ask.lists.left_out xs []) (left_went r.job s.fates s.absent)
-              ∙ sym (mapped_asked (left_line r.job.path) ask.lists.left_out (left_in s.fates))
-              ∙ ap (map (left_line r.job.path)) (sym s.left_are);
+          skipped = ap (λ x. cond ask.lists.left_out (skipped_lines_of (f x)) []) l
+              ∙ ap (λ xs. cond ask.lists.left_out xs []) (skipped_went r.job s.fates s.absent)
+              ∙ sym (mapped_asked (skipped_line r.job.path) ask.lists.left_out (classify s.fates))
+              ∙ ap (map (skipped_line r.job.path)) (sym s.skipped_are);
           directories = ap (λ x. directories_of (f x)) l ∙ directories_went r.job s.fates s.absent;
           entries = ap (λ x. entry_count (f x)) l ∙ entries_went r.job s.fates s.absent ∙ sym s.entries_are;
         }
@@ -234,7 +234,7 @@ module _ (ask : Asked) (MayAnswer : List ℕ → Answers → Type 0) (capacity w
           tally = sym (ap (λ x. tallied_of (f x)) l);
           files = ap (λ x. cond ask.lists.files (files_of (f x)) []) l ∙ none_asked ask.lists.files;
           faults = ap (λ x. faults_of (f x)) l;
-          left = ap (λ x. cond ask.lists.left_out (left_out_of (f x)) []) l ∙ none_asked ask.lists.left_out;
+          skipped = ap (λ x. cond ask.lists.left_out (skipped_lines_of (f x)) []) l ∙ none_asked ask.lists.left_out;
           directories = ap (λ x. directories_of (f x)) l;
           entries = ap (λ x. entry_count (f x)) l;
         }
@@ -280,8 +280,8 @@ module _ (ask : Asked) (MayAnswer : List ℕ → Answers → Type 0) (capacity w
     file_rows : cond ask.lists.files (files_of found) [] ≡ files_in_rows rows
     file_rows = asked_rows ask.lists.files file_in files_by_row (λ i e is. (finds_here i e is).files)
 
-    left_rows : cond ask.lists.left_out (left_out_of found) [] ≡ left_in_rows rows
-    left_rows = asked_rows ask.lists.left_out left_out_in left_by_row (λ i e is. (finds_here i e is).left)
+    skipped_rows : cond ask.lists.left_out (skipped_lines_of found) [] ≡ skipped_in_rows rows
+    skipped_rows = asked_rows ask.lists.left_out skipped_lines_in skipped_by_row (λ i e is. (finds_here i e is).skipped)
 
     fault_rows : faults_of found ≡ faults_in_rows rows
     fault_rows = spread_out fault_in ∙ by_number (λ i. flat_map fault_in (row_found ask (slice_get rows i) (answers i)))
@@ -314,8 +314,8 @@ module _ (ask : Asked) (MayAnswer : List ℕ → Answers → Type 0) (capacity w
           file_order = is.file_order;
           faults_are = subst (λ l. IsPermutation l r.faults.items) (tells.faults ∙ sym fault_rows) is.faults;
           fault_order = is.fault_order;
-          left_are = subst (λ l. IsPermutation l r.left.items) (tells.left ∙ sym left_rows) is.left;
-          left_order = is.left_order;
+          skipped_are = subst (λ l. IsPermutation l r.skipped.items) (tells.skipped ∙ sym skipped_rows) is.skipped;
+          skipped_order = is.skipped_order;
         }
 
     -- ---- no path stands twice
@@ -366,8 +366,8 @@ module _ (ask : Asked) (MayAnswer : List ℕ → Answers → Type 0) (capacity w
               (subst (λ l. AreApart (file_paths l)) (file_rows ∙ sym tells.files) (file_list_apart found once ask.lists.files));
           faults_once = is.faults_strictly
               (subst (λ l. AreApart (fault_paths l)) (fault_rows ∙ sym tells.faults) (fault_list_apart found once));
-          left_once = is.left_strictly
-              (subst (λ l. AreApart (left_paths l)) (left_rows ∙ sym tells.left) (left_list_apart found once ask.lists.left_out));
+          skipped_once = is.skipped_strictly
+              (subst (λ l. AreApart (skipped_paths l)) (skipped_rows ∙ sym tells.skipped) (skipped_list_apart found once ask.lists.left_out));
           apart = all_lists_apart found once ask.lists r ours;
           one_answer = λ tree one depth deep. report_law ask.lists found (walk_of ask.selection depth top tree) r
               (IsPermutation-sym _ _ (one_answer_law tree ask full capacity workers top history rows answers walked whole at_top

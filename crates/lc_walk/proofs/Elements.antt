@@ -32,10 +32,10 @@ contains x (y ∷ ys) (inl e) = (0, omega arith, e)
 contains x (y ∷ ys) (inr i) = let c = contains x ys i in (suc c.0, omega (arith, c.1), c.2)
 
 -- an element of the first list is one of both
-pub in_left : {X : Type 0} (x : X) (xs ys : List X) → In x xs → In x (xs ++ ys)
-in_left x [] ys i = absurd i
-in_left x (z ∷ xs) ys (inl e) = inl e
-in_left x (z ∷ xs) ys (inr i) = inr (in_left x xs ys i)
+pub in_skipped : {X : Type 0} (x : X) (xs ys : List X) → In x xs → In x (xs ++ ys)
+in_skipped x [] ys i = absurd i
+in_skipped x (z ∷ xs) ys (inl e) = inl e
+in_skipped x (z ∷ xs) ys (inr i) = inr (in_skipped x xs ys i)
 
 -- and so is one of the second
 pub in_right : {X : Type 0} (x : X) (xs ys : List X) → In x ys → In x (xs ++ ys)
@@ -64,7 +64,7 @@ in_lists {X} {Y} f x (y ∷ ys) i = at (λ b. in_lists f x ys b) (in_either x (f
 -- and the other way round
 pub of_lists : {X Y : Type 0} (f : Y → List X) (x : X) (y : Y) (ys : List Y) → In y ys → In x (f y) → In x (flat_map f ys)
 of_lists f x y [] i h = absurd i
-of_lists f x y (z ∷ ys) (inl e) h = in_left x (f z) (flat_map f ys) (subst (λ w. In x (f w)) (sym e) h)
+of_lists f x y (z ∷ ys) (inl e) h = in_skipped x (f z) (flat_map f ys) (subst (λ w. In x (f w)) (sym e) h)
 of_lists f x y (z ∷ ys) (inr i) h = in_right x (f z) (flat_map f ys) (of_lists f x y ys i h)
 
 -- an element of a list that is there under a condition

@@ -8,21 +8,21 @@ use Rattle.std.proofs.lemmas.List.Sums.{sum_by-append, sum_by-cons}
 use Rattle.lc_glob.specs.Path.{path_in}
 use Rattle.lc_level.specs.Answers.{Item, Answers, Tree}
 use Rattle.lc_level.specs.Job.{JobModel}
-use Rattle.lc_level.specs.Level.{Fate, counted, failed, walked, left, Level, faulted_level, listed_level, level, walked_in, fates_of}
+use Rattle.lc_level.specs.Level.{Fate, counted, failed, walked, skipped, Level, faulted_level, listed_level, level, walked_in, fates_of}
 use Rattle.lc_level.specs.Narrowing.{part_of, absent_from}
 use Rattle.lc_level.specs.RuleFiles.{extended}
 use Rattle.lc_level.specs.Selection.{SelectionModel}
 use Rattle.lc_tree.specs.Trees.{Listings, Contents}
 use Rattle.lc_level.specs.declared.fault_word.FaultWord.TheVariants.{Absent}
 use Rattle.lc_walk.specs.Accounts.{absent_line, IsAccounted, EntriesLaw}
-use Rattle.lc_walk.specs.Found.{Found, found_file, found_fault, found_directory, found_left, found_absent, found_by, found_of, found_at}
+use Rattle.lc_walk.specs.Found.{Found, found_file, found_fault, found_directory, found_skipped, found_absent, found_by, found_of, found_at}
 use Rattle.lc_walk.specs.Found.{children_of}
 use Rattle.lc_walk.specs.Found.{children_at}
 use Rattle.lc_walk.specs.TreeOfRows.{tree_of_rows}
 use Rattle.lc_walk.specs.Walk.{walks_below, walk_by, walk_of}
 use Rattle.lc_walk.specs.WalkOptions.{asked_by, top_of}
-use Rattle.lc_walk.specs.WalkReport.{entries_in, tallied_of, faults_of, directories_of, left_out_of, entry_count, IsReportOf}
-use Rattle.lc_walk.specs.declared.options.Lists.{Lists}
+use Rattle.lc_walk.specs.WalkReport.{entries_in, tallied_of, faults_of, directories_of, skipped_lines_of, entry_count, IsReportOf}
+use Rattle.lc_walk.specs.declared.options.ReportLists.{ReportLists}
 use Rattle.lc_walk.specs.declared.report.Report.{Report}
 use Rattle.lc_walk.proofs.Levels.{level_keeps}
 use Rattle.lc_walk.proofs.AbsentPaths.{absent_asked}
@@ -37,7 +37,7 @@ each_fate d [] = refl
 each_fate d ((name, counted file) ∷ fates) = omega (arith, each_fate d fates)
 each_fate d ((name, failed word) ∷ fates) = omega (arith, each_fate d fates)
 each_fate d ((name, walked job) ∷ fates) = omega (arith, each_fate d fates)
-each_fate d ((name, left kind reason) ∷ fates) = omega (arith, each_fate d fates)
+each_fate d ((name, skipped kind reason) ∷ fates) = omega (arith, each_fate d fates)
 
 -- the paths that are absent of a directory
 abbrev absent_of : JobModel → Level → List (List ℕ)
@@ -207,12 +207,12 @@ module _ (selection : SelectionModel) where
 
 -- each thing that is found is of one kind
 by_kinds : (xs : List Found)
-    → length xs ≡ length (tallied_of xs) + length (faults_of xs) + length (directories_of xs) + length (left_out_of xs)
+    → length xs ≡ length (tallied_of xs) + length (faults_of xs) + length (directories_of xs) + length (skipped_lines_of xs)
 by_kinds [] = refl
 by_kinds (found_file directory f ∷ xs) = omega (arith, by_kinds xs)
 by_kinds (found_fault path word ∷ xs) = omega (arith, by_kinds xs)
 by_kinds (found_directory path entries ∷ xs) = omega (arith, by_kinds xs)
-by_kinds (found_left directory l ∷ xs) = omega (arith, by_kinds xs)
+by_kinds (found_skipped directory l ∷ xs) = omega (arith, by_kinds xs)
 
 -- what is absent gives faults alone
 tallied_beside : (ps : List (List ℕ)) (xs : List Found) → tallied_of (map absent_fault ps ++ xs) ≡ tallied_of xs
@@ -223,9 +223,9 @@ directories_beside : (ps : List (List ℕ)) (xs : List Found) → directories_of
 directories_beside [] xs = refl
 directories_beside (p ∷ ps) xs = directories_beside ps xs
 
-left_beside : (ps : List (List ℕ)) (xs : List Found) → left_out_of (map absent_fault ps ++ xs) ≡ left_out_of xs
-left_beside [] xs = refl
-left_beside (p ∷ ps) xs = left_beside ps xs
+skipped_beside : (ps : List (List ℕ)) (xs : List Found) → skipped_lines_of (map absent_fault ps ++ xs) ≡ skipped_lines_of xs
+skipped_beside [] xs = refl
+skipped_beside (p ∷ ps) xs = skipped_beside ps xs
 
 entries_beside : (ps : List (List ℕ)) (xs : List Found) → entry_count (map absent_fault ps ++ xs) ≡ entry_count xs
 entries_beside [] xs = refl
@@ -242,17 +242,17 @@ record Tells (ps : List (List ℕ)) (xs : List Found) (r : Report) : Type 0 wher
   -- as many faults, of either kind
   many : length ps + length (faults_of xs) ≡ length r.faults.items
   -- as many other things
-  all : length xs ≡ r.totals.files + length (faults_of xs) + r.directories + length r.left.items
+  all : length xs ≡ r.totals.files + length (faults_of xs) + r.directories + length r.skipped.items
   entries : r.entries ≡ entry_count xs
 
-tells : (lists : Lists) (ps : List (List ℕ)) (xs : List Found) (r : Report) → lists.left_out ≡ true →
+tells : (lists : ReportLists) (ps : List (List ℕ)) (xs : List Found) (r : Report) → lists.left_out ≡ true →
     IsReportOf lists (map absent_fault ps ++ xs) r → Tells ps xs r
 tells lists ps xs r asked is =
     let faults : IsPermutation (map absent_line ps ++ faults_of xs) r.faults.items =
     subst (λ l. IsPermutation l r.faults.items) (faults_beside ps xs) is.faults_are in
-    let left : IsPermutation (left_out_of xs) r.left.items =
-    subst (λ l. IsPermutation l r.left.items) (left_beside ps xs)
-    (subst (λ b. IsPermutation (cond b (left_out_of (map absent_fault ps ++ xs)) []) r.left.items) asked is.left_are) in record {
+    let skipped : IsPermutation (skipped_lines_of xs) r.skipped.items =
+    subst (λ l. IsPermutation l r.skipped.items) (skipped_beside ps xs)
+    (subst (λ b. IsPermutation (cond b (skipped_lines_of (map absent_fault ps ++ xs)) []) r.skipped.items) asked is.skipped_are) in record {
       faults = faults;
       many = omega (
         arith,
@@ -267,13 +267,13 @@ tells lists ps xs r asked is =
         ap length (tallied_beside ps xs),
         is.directories,
         ap length (directories_beside ps xs),
-        length_permutation (left_out_of xs) r.left.items left,
+        length_permutation (skipped_lines_of xs) r.skipped.items skipped,
       );
       entries = is.entries ∙ entries_beside ps xs;
     }
 
 -- a report of walks to two depths accounts for all entries
-pub accounted : (lists : Lists) (selection : SelectionModel) (depth : ℕ) (top : JobModel) (t : Tree) (r : Report) →
+pub accounted : (lists : ReportLists) (selection : SelectionModel) (depth : ℕ) (top : JobModel) (t : Tree) (r : Report) →
     lists.left_out ≡ true → IsReportOf lists (walk_of selection depth top t) r → IsReportOf lists (walk_of selection (suc depth) top t) r →
     IsAccounted selection.only r
 accounted lists selection depth top t r asked is deeper =

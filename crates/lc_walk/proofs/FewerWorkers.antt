@@ -38,7 +38,7 @@ module _ (MayAnswer : List ℕ → Answers → Type 0) (ask : Asked) (capacity f
     report = w.report;
     files_once = w.files_once;
     faults_once = w.faults_once;
-    left_once = w.left_once;
+    skipped_once = w.skipped_once;
     apart = w.apart;
     one_answer = w.one_answer;
   }

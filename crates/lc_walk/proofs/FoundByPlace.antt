@@ -4,26 +4,26 @@ use Rattle.std.proofs.Common.{inl, inr, map, Option, Some, None, Result, Ok, Err
 use Rattle.std.specs.List.{flat_map}
 use Rattle.std.specs.Option.{option_map_or}
 use Rattle.std.proofs.lemmas.List.{length-map}
-use Rattle.lc_census.specs.declared.totals.Count.{Count}
+use Rattle.lc_census.specs.declared.count.Count.{Count}
 use Rattle.lc_tree.specs.declared.entry.Kind.TheVariants.{File, Dir, Other}
 use Rattle.lc_level.specs.declared.fault_word.FaultWord.{FaultWord}
 use Rattle.lc_glob.specs.Path.{path_in}
 use Rattle.lc_level.specs.Answers.{Item, file_item, directory_item, other_item, name_of, Items, Answers, Tree}
 use Rattle.lc_level.specs.FaultLines.{FaultLineModel}
 use Rattle.lc_level.specs.Job.{JobModel}
-use Rattle.lc_level.specs.Level.{Reason, other_kind, Fate, counted, failed, walked, left, Level, faulted_level, listed_level, level}
+use Rattle.lc_level.specs.Level.{Reason, other_kind, Fate, counted, failed, walked, skipped, Level, faulted_level, listed_level, level}
 use Rattle.lc_level.specs.Level.{level_of}
 use Rattle.lc_level.specs.Level.{level_after, level_of_items, walked_in, fates_of, fate_of, file_fate, reason_of, is_taken, child_job}
 use Rattle.lc_level.specs.Narrowing.{part_of, absent_from}
 use Rattle.lc_level.specs.RuleFiles.{RuleBytes, rule_bytes, extended}
 use Rattle.lc_level.specs.Selection.{SelectionModel}
 use Rattle.lc_level.specs.declared.fault_word.FaultWord.TheVariants.{Absent}
-use Rattle.lc_walk.specs.Found.{Found, found_file, found_fault, found_directory, found_left, found_absent, found_by, found_of, found_at}
+use Rattle.lc_walk.specs.Found.{Found, found_file, found_fault, found_directory, found_skipped, found_absent, found_by, found_of, found_at}
 use Rattle.lc_walk.specs.Found.{children_of, children_at}
 use Rattle.lc_walk.specs.FoundAt.{IsListed, WalksInto, LeadsTo, HasEntry, Gives, IsFoundIn, FoundLaw}
 use Rattle.lc_walk.specs.Walk.{walks_below, walk_of}
 use Rattle.lc_level.proofs.Fates.{children_by, walked_items_are}
-use Rattle.lc_walk.proofs.Elements.{In, is_in, contains, in_left, in_right, in_either, in_lists, of_lists, if_cond, cond_if, in_mapped}
+use Rattle.lc_walk.proofs.Elements.{In, is_in, contains, in_skipped, in_right, in_either, in_lists, of_lists, if_cond, cond_if, in_mapped}
 use Rattle.lc_walk.proofs.Elements.{of_mapped}
 
 -- ---- one directory
@@ -58,7 +58,7 @@ abbrev counted_name : List ℕ → Fate → List ℕ
 counted_name n (counted f) = f.name
 counted_name n (failed word) = n
 counted_name n (walked job) = n
-counted_name n (left kind reason) = n
+counted_name n (skipped kind reason) = n
 
 named_by_reason : (n : List ℕ) (out : Reason → Fate) (own : Fate) (o : Option Reason) →
     ((reason : Reason) → counted_name n (out reason) ≡ n) → counted_name n own ≡ n → counted_name n (option_map_or out o own) ≡ n
@@ -73,11 +73,11 @@ named_by_count n k (Err word) = refl
 counted_named : (selection : SelectionModel) (k : JobModel) (item : Item) →
     counted_name (name_of item) (fate_of selection k item) ≡ name_of item
 counted_named selection k (file_item n c rules) =
-    named_by_reason n (left File) (file_fate k n c) (reason_of selection k n false) (λ reason. refl) (named_by_count n k c)
+    named_by_reason n (skipped File) (file_fate k n c) (reason_of selection k n false) (λ reason. refl) (named_by_count n k c)
 counted_named selection k (directory_item n) =
-    named_by_reason n (left Dir) (walked (child_job k n)) (reason_of selection k n true) (λ reason. refl) refl
+    named_by_reason n (skipped Dir) (walked (child_job k n)) (reason_of selection k n true) (λ reason. refl) refl
 counted_named selection k (other_item n) =
-    named_by_reason n (left Other) (left Other other_kind) (reason_of selection k n false) (λ reason. refl) refl
+    named_by_reason n (skipped Other) (skipped Other other_kind) (reason_of selection k n false) (λ reason. refl) refl
 
 module _ (selection : SelectionModel) (j : JobModel) (a : Answers) where
   abbrev pair_of : JobModel → Item → List ℕ × Fate
@@ -113,9 +113,9 @@ module _ (selection : SelectionModel) (j : JobModel) (a : Answers) where
           (inr (inl (name_of item, refl, entry_here items inside listed item here (failed word) e (name_of item) refl)))
       at (failed word) e (inr i) = absurd i
       at (walked job) e i = absurd i
-      at (left kind reason) e (inl is) =
-          subst (Gives selection j a) is (refl, entry_here items inside listed item here (left kind reason) e (name_of item) refl)
-      at (left kind reason) e (inr i) = absurd i
+      at (skipped kind reason) e (inl is) =
+          subst (Gives selection j a) is (refl, entry_here items inside listed item here (skipped kind reason) e (name_of item) refl)
+      at (skipped kind reason) e (inr i) = absurd i
 
   -- what is found of a directory it gives
   pub given_by_found : (x : Found) → In x (found_at selection j a) → Gives selection j a x
@@ -199,15 +199,15 @@ module _ (selection : SelectionModel) (j : JobModel) (a : Answers) where
       let same : found_absent j.path h.0 ≡ found_fault path word =
       ap (λ p. found_fault p Absent) (sym h.1) ∙ ap (found_fault path) (sym h.2) in
       subst (λ (v : Level). In (found_fault path word) (found_of j v)) (sym (listed_is selection j a h.3.items h.3.inside h.3.listed))
-      (in_left (found_fault path word) (map (found_absent j.path) absent) _
+      (in_skipped (found_fault path word) (map (found_absent j.path) absent) _
       (subst (λ y. In y (map (found_absent j.path) absent)) same
       (of_mapped (found_absent j.path) h.0 absent (is_in h.0 absent h.3.absent))))
   found_by_given (found_fault path word) (inr (inl h)) =
       subst (λ p. In (found_fault p word) (found_at selection j a)) (sym h.1)
       (found_by_entry h.0 (failed word) (found_fault (path_in j.path h.0) word) h.2 (inl refl))
-  found_by_given (found_left directory l) (e, h) =
-      subst (λ d. In (found_left d l) (found_at selection j a)) (sym e)
-      (found_by_entry l.name (left l.kind l.reason) (found_left j.path l) h (inl refl))
+  found_by_given (found_skipped directory l) (e, h) =
+      subst (λ d. In (found_skipped d l) (found_at selection j a)) (sym e)
+      (found_by_entry l.name (skipped l.kind l.reason) (found_skipped j.path l) h (inl refl))
 
 -- the child directories
 module _ (selection : SelectionModel) (j : JobModel) (a : Answers) where
@@ -284,7 +284,7 @@ module _ (selection : SelectionModel) where
       In x (walks_below (found_at selection) (children_at selection) walk t cs)
   of_below walk x t c [] i h = absurd i
   of_below walk x t c (e ∷ cs) (inl s) h =
-      in_left x (walk e.1 (λ place. t (e.0 ∷ place))) (walks_below (found_at selection) (children_at selection) walk t cs)
+      in_skipped x (walk e.1 (λ place. t (e.0 ∷ place))) (walks_below (found_at selection) (children_at selection) walk t cs)
       (subst (λ (d : List ℕ × JobModel). In x (walk d.1 (λ place. t (d.0 ∷ place)))) (sym s) h)
   of_below walk x t c (e ∷ cs) (inr i) h =
       in_right x (walk e.1 (λ place. t (e.0 ∷ place))) (walks_below (found_at selection) (children_at selection) walk t cs)
@@ -337,7 +337,7 @@ module _ (selection : SelectionModel) where
       → LeadsTo selection j t place k → Gives selection k (t place) x → In x (walk_of selection depth j t)
   walk_at zero place lt j k t x leads g = absurd (omega (arith, lt))
   walk_at (suc depth) [] lt j k t x leads g =
-      in_left x (found_at selection j (t []))
+      in_skipped x (found_at selection j (t []))
       (walks_below (found_at selection) (children_at selection) (walk_of selection depth) t (children_at selection j (t [])))
       (found_by_given selection j (t []) x (subst (λ (l : JobModel). Gives selection l (t []) x) (sym leads) g))
   walk_at (suc depth) (name ∷ place) lt j k t x leads g =

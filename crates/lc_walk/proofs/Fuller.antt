@@ -11,8 +11,8 @@ use Rattle.lc_level.specs.Answers.{Answers}
 use Rattle.lc_level.specs.Job.{JobModel}
 use Rattle.lc_walk.specs.Lawful.{Asked, Says, IsCause}
 use Rattle.lc_walk.specs.Worked.{IsLawfulEnd, AreLawfulSince}
-use Rattle.lc_walk.specs.declared.given_up.GivenUp.{GivenUp}
-use Rattle.lc_walk.specs.declared.given_up.GivenUp.TheVariants.{Memory, TooManyDirs, TooDeep}
+use Rattle.lc_walk.specs.declared.broken_cause.BrokenCause.{BrokenCause}
+use Rattle.lc_walk.specs.declared.broken_cause.BrokenCause.TheVariants.{Memory, TooManyDirs, TooDeep}
 use Rattle.lc_walk.specs.declared.row.Row.{Row}
 use Rattle.lc_walk.specs.declared.row.Row.TheVariants.{Listed, Faulted, Broken}
 
@@ -33,7 +33,7 @@ full_pass (p ∷ ps) e = at p.full refl e (full_pass ps)
     at true f e rec = record { worker = 0; pass = p; is = refl; was = f }
     at false f e rec = let r = rec e in record { worker = suc r.worker; pass = r.pass; is = r.is; was = r.was }
 
-fuller_cause : (ask : Asked) (full fuller : Bool) (j : JobModel) (a : Answers) (posts : List (ℕ × JobModel)) (c : GivenUp)
+fuller_cause : (ask : Asked) (full fuller : Bool) (j : JobModel) (a : Answers) (posts : List (ℕ × JobModel)) (c : BrokenCause)
     → (full ≡ true → fuller ≡ true) → IsCause ask full j a posts c → IsCause ask fuller j a posts c
 fuller_cause ask full fuller j a posts Memory f c = tt
 fuller_cause ask full fuller j a posts TooManyDirs f c = (f c.0, c.1)

@@ -7,8 +7,8 @@ use Rattle.lc_walk.specs.Running.{AllOver, TalliesAll}
 use Rattle.lc_walk.specs.Tally.{TallyModel, CountedFile, StandsFor}
 use Rattle.lc_walk.specs.TreeOfRows.{numbers_below}
 use Rattle.lc_walk.specs.Worked.{TalliesFor}
-use Rattle.lc_walk.specs.declared.worker.End.TheVariants.{Over}
-use Rattle.lc_walk.specs.declared.worker.Worked.{Worked}
+use Rattle.lc_walk.specs.declared.worker.StopReason.TheVariants.{Over}
+use Rattle.lc_walk.specs.declared.worker.WorkerResult.{WorkerResult}
 
 -- what stands in a list with one more at its end
 in_longer : {A : Type 0} (xs : List A) (x : A) (i : ℕ) (y : A) → slice_get (xs ++ x ∷ []) i ≡ Some y
@@ -32,14 +32,14 @@ last_in : {A : Type 0} (xs : List A) (x : A) → slice_get (xs ++ x ∷ []) (len
 last_in [] x = refl
 last_in (z ∷ xs) x = last_in xs x
 
-module _ {P : Type 0} (done : List (Worked P)) (x : Worked P) where
+module _ {P : Type 0} (done : List (WorkerResult P)) (x : WorkerResult P) where
   -- all have found the board over, and one more
   pub over_more : AllOver done → x.end ≡ Over → AllOver (done ++ x ∷ [])
   over_more all e w y is = at (in_longer done x w y is)
     where
       at : (slice_get done w ≡ Some y) ⊎ ((w ≡ length done) × (x ≡ y)) → y.end ≡ Over
       at (inl f) = all w y f
-      at (inr f) = ap (λ (z : Worked P). z.end) (sym f.1) ∙ e
+      at (inr f) = ap (λ (z : WorkerResult P). z.end) (sym f.1) ∙ e
 
   one_longer : length (done ++ x ∷ []) ≡ suc (length done)
   one_longer = let l = length-append done (x ∷ []) in omega (arith, l)

@@ -9,7 +9,7 @@ use Rattle.std.proofs.lemmas.List.Elements.{All-append, filter-append}
 use Rattle.lc_walk.specs.Key.{Key, same_key}
 use Rattle.lc_walk.specs.TallyRows.{TallyRowModel, sums_of_rows, rows_with, HasSumsOf, Gains, AddsUp}
 use Rattle.lc_walk.specs.Sums.{plus, no_files, one_file, IsModest}
-use Rattle.lc_walk.specs.Tally.{Grows, TallyModel, IsKept, IsTally, StandsFor, CountedFile, sums_of_files, files_with, key_of}
+use Rattle.lc_walk.specs.Tally.{Grows, TallyModel, TallyHolds, IsTally, StandsFor, CountedFile, sums_of_files, files_with, key_of}
 use Rattle.lc_walk.specs.declared.tally.sums.Sums.{Sums}
 use Rattle.lc_walk.proofs.Filtered.{part, sum_by-filter, filter_push, length-filter_push}
 use Rattle.lc_walk.proofs.RowSums.{same_sums, gained_sums, key_gained, filled_gained, sums_of_both, key_sums_of_both}
@@ -80,27 +80,27 @@ modest_plus a b m n few = record {
 }
 
 kept_as : (rs : List TallyRowModel) (a b t : Sums) → sums_of_rows rs ≡ plus a b → t ≡ plus a b → IsModest a → IsModest b
-    → a.files + b.files ≤ 2 ^ 63 → IsKept (record { rows = rs; totals = t })
+    → a.files + b.files ≤ 2 ^ 63 → TallyHolds (record { rows = rs; totals = t })
 kept_as rs a b t rows is m n few = record {
   totals = is ∙ sym rows;
   modest = subst IsModest (sym is) (modest_plus a b m n few);
 }
 
 -- a tally that has grown is well kept
-pub kept_grown : (t : TallyModel) (rs : List TallyRowModel) (k : Key) (s u : Sums) → IsKept t → Gains t.rows rs k s
-    → u ≡ plus t.totals s → IsModest s → t.totals.files + s.files ≤ 2 ^ 63 → IsKept (record { rows = rs; totals = u })
+pub kept_grown : (t : TallyModel) (rs : List TallyRowModel) (k : Key) (s u : Sums) → TallyHolds t → Gains t.rows rs k s
+    → u ≡ plus t.totals s → IsModest s → t.totals.files + s.files ≤ 2 ^ 63 → TallyHolds (record { rows = rs; totals = u })
 kept_grown t rs k s u kept gained is modest few =
     kept_as rs t.totals s u (totals_gained t.rows rs k s gained ∙ ap (λ (a : Sums). plus a s) (sym kept.totals)) is kept.modest modest few
 
 -- and one that has the rows of two
-pub kept_both : (t o : TallyModel) (rs : List TallyRowModel) (u : Sums) → IsKept t → IsKept o → HasSumsOf (t.rows ++ o.rows) rs
-    → u ≡ plus t.totals o.totals → t.totals.files + o.totals.files ≤ 2 ^ 63 → IsKept (record { rows = rs; totals = u })
+pub kept_both : (t o : TallyModel) (rs : List TallyRowModel) (u : Sums) → TallyHolds t → TallyHolds o → HasSumsOf (t.rows ++ o.rows) rs
+    → u ≡ plus t.totals o.totals → t.totals.files + o.totals.files ≤ 2 ^ 63 → TallyHolds (record { rows = rs; totals = u })
 kept_both t o rs u left right joined is few =
     let all = same_totals rs (t.rows ++ o.rows) joined.sums ∙ sums_of_both t.rows o.rows
     ∙ ap (λ (a : Sums). plus a (sums_of_rows o.rows)) (sym left.totals) ∙ ap (plus t.totals) (sym right.totals) in
     kept_as rs t.totals o.totals u all is left.modest right.modest few
 
-kept_empty : IsKept (record { rows = []; totals = no_files })
+kept_empty : TallyHolds (record { rows = []; totals = no_files })
 kept_empty = record {
   totals = refl;
   modest = record { files = omega arith; lines = omega arith; blank = omega arith; bytes = omega arith };
@@ -110,9 +110,9 @@ stands_empty : StandsFor (record { rows = []; totals = no_files }) []
 stands_empty = record { sums = λ k. refl; filled = λ k d lt. absurd (omega arith); totals = refl }
 
 -- an empty tally is well kept
-pub kept_none : (rs : List TallyRowModel) (s : Sums) → rs ≡ [] → s ≡ no_files → IsKept (record { rows = rs; totals = s })
-kept_none rs s is_none no_sums = subst (λ (l : List TallyRowModel). IsKept (record { rows = l; totals = s })) (sym is_none)
-    (subst (λ (u : Sums). IsKept (record { rows = []; totals = u })) (sym no_sums) kept_empty)
+pub kept_none : (rs : List TallyRowModel) (s : Sums) → rs ≡ [] → s ≡ no_files → TallyHolds (record { rows = rs; totals = s })
+kept_none rs s is_none no_sums = subst (λ (l : List TallyRowModel). TallyHolds (record { rows = l; totals = s })) (sym is_none)
+    (subst (λ (u : Sums). TallyHolds (record { rows = []; totals = u })) (sym no_sums) kept_empty)
 
 -- and stands for no files
 pub stands_none : (rs : List TallyRowModel) (s : Sums) → rs ≡ [] → s ≡ no_files → StandsFor (record { rows = rs; totals = s }) []

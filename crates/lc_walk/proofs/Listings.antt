@@ -6,12 +6,12 @@ use Rattle.std.proofs.lemmas.Grind.{flat_map-append}
 use Rattle.std.proofs.lemmas.List.{map-append}
 use Rattle.std.proofs.lemmas.List.Sums.{sum_by-append, sum_by-cons}
 use Rattle.lc_level.specs.Job.{JobModel}
-use Rattle.lc_level.specs.Level.{Fate, counted, failed, walked, left, listed_level, counted_of, failed_of, left_of, counted_in, failed_in}
-use Rattle.lc_level.specs.Level.{FileFaultModel, left_in, absent_faults}
+use Rattle.lc_level.specs.Level.{Fate, counted, failed, walked, skipped, listed_level, counted_of, failed_of, skipped_of, counted_in, failed_in}
+use Rattle.lc_level.specs.Level.{FileFaultModel, classify, absent_faults}
 use Rattle.lc_level.specs.declared.fault_word.FaultWord.TheVariants.{Absent}
 use Rattle.lc_walk.specs.Found.{Found, found_directory, found_absent, found_by, found_of}
-use Rattle.lc_walk.specs.WalkReport.{tallied, line_of, left_line, tallied_in, file_in, fault_in, directory_in, left_out_in, entries_in}
-use Rattle.lc_walk.specs.WalkReport.{tallied_of, files_of, faults_of, directories_of, left_out_of, entry_count}
+use Rattle.lc_walk.specs.WalkReport.{tallied, line_of, skipped_line, tallied_in, file_in, fault_in, directory_in, skipped_lines_in, entries_in}
+use Rattle.lc_walk.specs.WalkReport.{tallied_of, files_of, faults_of, directories_of, skipped_lines_of, entry_count}
 use Rattle.lc_walk.specs.Assembled.{fault_line}
 use Rattle.lc_walk.specs.TreeOfRows.{numbers_below}
 use Rattle.lc_board.proofs.Weights.{each-map, each-append, flat_map-on}
@@ -49,7 +49,7 @@ tallied_one : (d : List ℕ) (f : List ℕ × Fate) → flat_map tallied_in (fou
 tallied_one d (name, counted file) = refl
 tallied_one d (name, failed word) = refl
 tallied_one d (name, walked job) = refl
-tallied_one d (name, left kind reason) = refl
+tallied_one d (name, skipped kind reason) = refl
 
 -- what a listed directory gives to a tally
 pub tallied_went : (j : JobModel) (fates : List (List ℕ × Fate)) (absent : List (List ℕ)) →
@@ -62,7 +62,7 @@ file_one : (d : List ℕ) (f : List ℕ × Fate) → flat_map file_in (found_by 
 file_one d (name, counted file) = refl
 file_one d (name, failed word) = refl
 file_one d (name, walked job) = refl
-file_one d (name, left kind reason) = refl
+file_one d (name, skipped kind reason) = refl
 
 -- to the lines of files
 pub files_went : (j : JobModel) (fates : List (List ℕ × Fate)) (absent : List (List ℕ)) →
@@ -75,7 +75,7 @@ fault_one : (d : List ℕ) (f : List ℕ × Fate) → flat_map fault_in (found_b
 fault_one d (name, counted file) = refl
 fault_one d (name, failed word) = refl
 fault_one d (name, walked job) = refl
-fault_one d (name, left kind reason) = refl
+fault_one d (name, skipped kind reason) = refl
 
 faults_within : (j : JobModel) (fates : List (List ℕ × Fate))
     → faults_of (found_directory j.path (length fates) ∷ flat_map (found_by j.path) fates) ≡ map (fault_line j.path) (failed_in fates)
@@ -96,24 +96,24 @@ faults_went j fates absent =
     absent_first j.path absent (found_directory j.path (length fates) ∷ flat_map (found_by j.path) fates) (failed_in fates)
     (faults_within j fates)
 
-left_one : (d : List ℕ) (f : List ℕ × Fate) → flat_map left_out_in (found_by d f) ≡ map (left_line d) (left_of f)
-left_one d (name, counted file) = refl
-left_one d (name, failed word) = refl
-left_one d (name, walked job) = refl
-left_one d (name, left kind reason) = refl
+skipped_one : (d : List ℕ) (f : List ℕ × Fate) → flat_map skipped_lines_in (found_by d f) ≡ map (skipped_line d) (skipped_of f)
+skipped_one d (name, counted file) = refl
+skipped_one d (name, failed word) = refl
+skipped_one d (name, walked job) = refl
+skipped_one d (name, skipped kind reason) = refl
 
 -- to the lines of entries left out
-pub left_went : (j : JobModel) (fates : List (List ℕ × Fate)) (absent : List (List ℕ)) →
-    left_out_of (found_of j (listed_level fates absent)) ≡ map (left_line j.path) (left_in fates)
-left_went j fates absent =
-    after_absent left_out_in j.path (λ rest. refl) absent _
-    ∙ went left_out_in left_of (left_line j.path) j.path (left_one j.path) fates
+pub skipped_went : (j : JobModel) (fates : List (List ℕ × Fate)) (absent : List (List ℕ)) →
+    skipped_lines_of (found_of j (listed_level fates absent)) ≡ map (skipped_line j.path) (classify fates)
+skipped_went j fates absent =
+    after_absent skipped_lines_in j.path (λ rest. refl) absent _
+    ∙ went skipped_lines_in skipped_of (skipped_line j.path) j.path (skipped_one j.path) fates
 
 no_directory : (d : List ℕ) (f : List ℕ × Fate) → flat_map directory_in (found_by d f) ≡ []
 no_directory d (name, counted file) = refl
 no_directory d (name, failed word) = refl
 no_directory d (name, walked job) = refl
-no_directory d (name, left kind reason) = refl
+no_directory d (name, skipped kind reason) = refl
 
 -- to the listed directories
 pub directories_went : (j : JobModel) (fates : List (List ℕ × Fate)) (absent : List (List ℕ)) →
@@ -127,7 +127,7 @@ no_entries_by : (d : List ℕ) (f : List ℕ × Fate) → sum_by entries_in (fou
 no_entries_by d (name, counted file) = refl
 no_entries_by d (name, failed word) = refl
 no_entries_by d (name, walked job) = refl
-no_entries_by d (name, left kind reason) = refl
+no_entries_by d (name, skipped kind reason) = refl
 
 -- what its entries give has no number of entries of its own
 pub no_entries_within : (d : List ℕ) (fates : List (List ℕ × Fate)) → sum_by entries_in (flat_map (found_by d) fates) ≡ 0

@@ -1,11 +1,11 @@
 -- What the paths that are asked for don't decide: the fates of entries, and the faults of directories.
 use Rattle.std.proofs.Common.{◌≡◌, ℕ, true, false, List, [], ◌∷◌, refl, ap, subst, inl, inr, Option, Some, None, Result, Ok, Err}
 use Rattle.std.specs.Option.{option_map_or}
-use Rattle.lc_census.specs.declared.totals.Count.{Count}
+use Rattle.lc_census.specs.declared.count.Count.{Count}
 use Rattle.lc_level.specs.Answers.{Item, file_item, directory_item, other_item, entry_of, name_of, Items, Answers}
 use Rattle.lc_level.specs.FaultLines.{FaultLineModel}
 use Rattle.lc_level.specs.Job.{JobModel}
-use Rattle.lc_level.specs.Level.{Reason, other_kind, Fate, counted, failed, walked, left, Level, faulted_level, listed_level, level}
+use Rattle.lc_level.specs.Level.{Reason, other_kind, Fate, counted, failed, walked, skipped, Level, faulted_level, listed_level, level}
 use Rattle.lc_level.specs.Level.{level_of, level_after, fate_of, file_fate, reason_of, child_job}
 use Rattle.lc_level.specs.RuleFiles.{RuleBytes, rule_bytes}
 use Rattle.lc_level.specs.Selection.{SelectionModel, narrowed}
@@ -21,9 +21,9 @@ abbrev pub IsFateOf : Fate → Kind → Type 0
 IsFateOf (counted f) kind = kind ≡ File
 IsFateOf (failed word) kind = kind ≡ File
 IsFateOf (walked job) kind = kind ≡ Dir
-IsFateOf (left out reason) kind = kind ≡ out
+IsFateOf (skipped out reason) kind = kind ≡ out
 
-fits_by : (kind : Kind) (own : Fate) → IsFateOf own kind → (o : Option Reason) → IsFateOf (option_map_or (left kind) o own) kind
+fits_by : (kind : Kind) (own : Fate) → IsFateOf own kind → (o : Option Reason) → IsFateOf (option_map_or (skipped kind) o own) kind
 fits_by kind own is None = is
 fits_by kind own is (Some reason) = refl
 
@@ -35,7 +35,7 @@ fits_count k n (Err word) = refl
 pub fits : (s : SelectionModel) (k : JobModel) (item : Item) → IsFateOf (fate_of s k item) (entry_of item).kind
 fits s k (file_item n c rules) = fits_by File (file_fate k n c) (fits_count k n c) (reason_of s k n false)
 fits s k (directory_item n) = fits_by Dir (walked (child_job k n)) refl (reason_of s k n true)
-fits s k (other_item n) = fits_by Other (left Other other_kind) refl (reason_of s k n false)
+fits s k (other_item n) = fits_by Other (skipped Other other_kind) refl (reason_of s k n false)
 
 -- the paths that are asked for decide no fate
 pub same_fate : (s : SelectionModel) (one two : List (List ℕ)) (k : JobModel) (item : Item)

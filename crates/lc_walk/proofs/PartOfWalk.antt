@@ -4,7 +4,7 @@ use Rattle.std.specs.List.{Contains, AllByRecursion}
 use Rattle.lc_glob.specs.Path.{path_in, is_good_path}
 use Rattle.lc_level.specs.Answers.{Item, directory_item, entry_of, Answers, Tree}
 use Rattle.lc_level.specs.Job.{JobModel}
-use Rattle.lc_level.specs.Level.{CountedModel, LeftModel, Fate, counted, failed, left}
+use Rattle.lc_level.specs.Level.{CountedModel, SkippedModel, Fate, counted, failed, skipped}
 use Rattle.lc_level.specs.Level.{fate_of, child_job}
 use Rattle.lc_level.specs.Narrowing.{part_of, takes_part}
 use Rattle.lc_level.specs.Selection.{SelectionModel, narrowed}
@@ -15,9 +15,9 @@ use Rattle.lc_tree.specs.declared.entry.Kind.{Kind}
 use Rattle.lc_tree.specs.declared.entry.Kind.TheVariants.{File, Dir}
 use Rattle.lc_level.specs.declared.fault_word.FaultWord.{FaultWord}
 use Rattle.lc_level.specs.declared.fault_word.FaultWord.TheVariants.{Absent}
-use Rattle.lc_walk.specs.Found.{Found, found_file, found_fault, found_directory, found_left}
+use Rattle.lc_walk.specs.Found.{Found, found_file, found_fault, found_directory, found_skipped}
 use Rattle.lc_walk.specs.FoundAt.{IsListed, WalksInto, LeadsTo, HasEntry, Gives, IsFoundIn}
-use Rattle.lc_walk.specs.PartOfWalk.{IsWithin, EntryTakesPart, IsOnWay, IsFaultOnWay, Lists, PartOfWalkLaw}
+use Rattle.lc_walk.specs.PartOfWalk.{IsWithin, EntryTakesPart, IsOnWay, IsFaultOnWay, ListsPath, PartOfWalkLaw}
 use Rattle.lc_walk.specs.PartOfWalk.{whole_walk, part_walk}
 use Rattle.lc_walk.proofs.AbsentPaths.{absent_asked}
 use Rattle.lc_walk.proofs.Elements.{In, is_in, contains}
@@ -203,22 +203,22 @@ module _ (s : SelectionModel) (only : List (List ℕ)) where
             );
           })
 
-      left_out : (directory : List ℕ) (l : LeftModel) → IsFoundIn part depth top t (found_left directory l) →
-          Contains (whole_walk s only depth top t) (found_left directory l) × EntryTakesPart only l.kind (path_in directory l.name)
+      left_out : (directory : List ℕ) (l : SkippedModel) → IsFoundIn part depth top t (found_skipped directory l) →
+          Contains (whole_walk s only depth top t) (found_skipped directory l) × EntryTakesPart only l.kind (path_in directory l.name)
       left_out directory l r =
           let leads = leads_whole r.place top r.job t r.leads (inl at_top) in
-          let w = whole_entry r.job (t r.place) l.name (left l.kind l.reason) r.gives.1 in (
+          let w = whole_entry r.job (t r.place) l.name (skipped l.kind l.reason) r.gives.1 in (
             in_whole_walk _ (record { place = r.place; shallow = r.shallow; job = r.job; leads = leads.0; gives = (r.gives.0, w.0) }),
             subst (λ d. EntryTakesPart only l.kind (path_in d l.name)) (sym r.gives.0)
                 (subst (λ k. EntryTakesPart only k (path_in r.job.path l.name)) w.2 w.3),
           )
 
-      has_left_out : (directory : List ℕ) (l : LeftModel) → IsFoundIn whole depth top t (found_left directory l) →
-          EntryTakesPart only l.kind (path_in directory l.name) → Contains (part_walk s only depth top t) (found_left directory l)
+      has_left_out : (directory : List ℕ) (l : SkippedModel) → IsFoundIn whole depth top t (found_skipped directory l) →
+          EntryTakesPart only l.kind (path_in directory l.name) → Contains (part_walk s only depth top t) (found_skipped directory l)
       has_left_out directory l r takes =
           let here : EntryTakesPart only l.kind (path_in r.job.path l.name) =
           subst (λ d. EntryTakesPart only l.kind (path_in d l.name)) r.gives.0 takes in
-          let name = entry_good r.job (t r.place) l.name (left l.kind l.reason) (well_formed r.place) r.gives.1 in
+          let name = entry_good r.job (t r.place) l.name (skipped l.kind l.reason) (well_formed r.place) r.gives.1 in
           in_part_walk _ (record {
             place = r.place;
             shallow = r.shallow;
@@ -226,13 +226,13 @@ module _ (s : SelectionModel) (only : List (List ℕ)) where
             leads = leads_part r.place top r.job t well_formed r.leads (on_way_of_child only r.job.path l.name l.kind name here);
             gives = (
               r.gives.0,
-              part_entry r.job (t r.place) l.name (left l.kind l.reason) (well_formed r.place) r.gives.1
+              part_entry r.job (t r.place) l.name (skipped l.kind l.reason) (well_formed r.place) r.gives.1
                   (λ kind is. subst (λ k. EntryTakesPart only k (path_in r.job.path l.name)) (sym is) here),
             );
           })
 
       directory : (path : List ℕ) (entries : ℕ) → IsFoundIn part depth top t (found_directory path entries) →
-          Lists (whole_walk s only depth top t) path × IsOnWay only path
+          ListsPath (whole_walk s only depth top t) path × IsOnWay only path
       directory path entries r =
           let l = leads_whole r.place top r.job t r.leads (inl at_top) in
           let h = r.gives.1 in (
@@ -250,7 +250,7 @@ module _ (s : SelectionModel) (only : List (List ℕ)) where
           )
 
       has_directory : (path : List ℕ) (entries : ℕ) → IsFoundIn whole depth top t (found_directory path entries) → IsOnWay only path →
-          Lists (part_walk s only depth top t) path
+          ListsPath (part_walk s only depth top t) path
       has_directory path entries r on =
           let h = r.gives.1 in (
             length (part_of only r.job.path h.items),
@@ -344,8 +344,8 @@ part_law s only some good depth top t at_top well_formed =
     record {
       file = λ d f c. file s only some good depth top t at_top well_formed d f ((found_law (narrowed s only) depth top t _).0 c);
       has_file = λ d f c. has_file s only some good depth top t at_top well_formed d f ((found_law (narrowed s []) depth top t _).0 c);
-      left = λ d l c. left_out s only some good depth top t at_top well_formed d l ((found_law (narrowed s only) depth top t _).0 c);
-      has_left = λ d l c. has_left_out s only some good depth top t at_top well_formed d l ((found_law (narrowed s []) depth top t _).0 c);
+      skipped = λ d l c. left_out s only some good depth top t at_top well_formed d l ((found_law (narrowed s only) depth top t _).0 c);
+      has_skipped = λ d l c. has_left_out s only some good depth top t at_top well_formed d l ((found_law (narrowed s []) depth top t _).0 c);
       directory = λ p c. directory s only some good depth top t at_top well_formed p c.0
           ((found_law (narrowed s only) depth top t _).0 c.1);
       has_directory = λ p c. has_directory s only some good depth top t at_top well_formed p c.0

@@ -10,12 +10,12 @@ use Rattle.lc_tree.specs.ByteOrder.{bytes_cmp, AreApart}
 use Rattle.lc_level.specs.FaultLines.{FaultLineModel}
 use Rattle.lc_level.proofs.WellFormed.{other_bytes, bytes_other}
 use Rattle.lc_board.proofs.Weights.{each-append}
-use Rattle.lc_walk.specs.Found.{Found, found_file, found_fault, found_directory, found_left, path_of}
+use Rattle.lc_walk.specs.Found.{Found, found_file, found_fault, found_directory, found_skipped, path_of}
 use Rattle.lc_walk.specs.Laws.{PathsOnceLaw}
-use Rattle.lc_walk.specs.ReportLines.{FileLineModel, LeftLineModel, file_paths, fault_paths, left_paths}
+use Rattle.lc_walk.specs.ReportLines.{FileLineModel, SkippedLineModel, file_paths, fault_paths, skipped_paths}
 use Rattle.lc_walk.specs.Walk.{walk_of}
-use Rattle.lc_walk.specs.WalkReport.{files_of, faults_of, left_out_of, IsReportOf}
-use Rattle.lc_walk.specs.declared.options.Lists.{Lists}
+use Rattle.lc_walk.specs.WalkReport.{files_of, faults_of, skipped_lines_of, IsReportOf}
+use Rattle.lc_walk.specs.declared.options.ReportLists.{ReportLists}
 use Rattle.lc_walk.specs.declared.report.Report.{Report}
 use Rattle.lc_walk.proofs.Distinct.{Distinct, distinct-append, picked, picked_distinct, picked_apart}
 use Rattle.lc_walk.proofs.Listings.{flat_none}
@@ -60,19 +60,19 @@ abbrev is_file : Bool → Found → Bool
 is_file asked (found_file directory f) = asked
 is_file asked (found_fault path word) = false
 is_file asked (found_directory path entries) = false
-is_file asked (found_left directory l) = false
+is_file asked (found_skipped directory l) = false
 
 abbrev is_fault : Found → Bool
 is_fault (found_file directory f) = false
 is_fault (found_fault path word) = true
 is_fault (found_directory path entries) = false
-is_fault (found_left directory l) = false
+is_fault (found_skipped directory l) = false
 
-abbrev is_left : Bool → Found → Bool
-is_left asked (found_file directory f) = false
-is_left asked (found_fault path word) = false
-is_left asked (found_directory path entries) = false
-is_left asked (found_left directory l) = asked
+abbrev is_skipped : Bool → Found → Bool
+is_skipped asked (found_file directory f) = false
+is_skipped asked (found_fault path word) = false
+is_skipped asked (found_directory path entries) = false
+is_skipped asked (found_skipped directory l) = asked
 
 none_picked : (xs : List Found) (keep : Found → Bool) → ((x : Found) → keep x ≡ false) → picked path_of keep xs ≡ []
 none_picked xs keep none = flat_none (λ x. cond (keep x) (path_of x ∷ []) []) xs (λ x. ap (λ b. cond b (path_of x ∷ []) []) (none x))
@@ -81,13 +81,13 @@ no_file : (x : Found) → is_file false x ≡ false
 no_file (found_file directory f) = refl
 no_file (found_fault path word) = refl
 no_file (found_directory path entries) = refl
-no_file (found_left directory l) = refl
+no_file (found_skipped directory l) = refl
 
-no_left : (x : Found) → is_left false x ≡ false
-no_left (found_file directory f) = refl
-no_left (found_fault path word) = refl
-no_left (found_directory path entries) = refl
-no_left (found_left directory l) = refl
+none_skipped : (x : Found) → is_skipped false x ≡ false
+none_skipped (found_file directory f) = refl
+none_skipped (found_fault path word) = refl
+none_skipped (found_directory path entries) = refl
+none_skipped (found_skipped directory l) = refl
 
 -- the paths of a list of lines are those of the things that have a line
 file_paths_are : (asked : Bool) (xs : List Found) → file_paths (cond asked (files_of xs) []) ≡ picked path_of (is_file asked) xs
@@ -96,40 +96,40 @@ file_paths_are true [] = refl
 file_paths_are true (found_file directory f ∷ xs) = ap (λ l. path_of (found_file directory f) ∷ l) (file_paths_are true xs)
 file_paths_are true (found_fault path word ∷ xs) = file_paths_are true xs
 file_paths_are true (found_directory path entries ∷ xs) = file_paths_are true xs
-file_paths_are true (found_left directory l ∷ xs) = file_paths_are true xs
+file_paths_are true (found_skipped directory l ∷ xs) = file_paths_are true xs
 
 fault_paths_are : (xs : List Found) → fault_paths (faults_of xs) ≡ picked path_of is_fault xs
 fault_paths_are [] = refl
 fault_paths_are (found_file directory f ∷ xs) = fault_paths_are xs
 fault_paths_are (found_fault path word ∷ xs) = ap (λ l. path ∷ l) (fault_paths_are xs)
 fault_paths_are (found_directory path entries ∷ xs) = fault_paths_are xs
-fault_paths_are (found_left directory l ∷ xs) = fault_paths_are xs
+fault_paths_are (found_skipped directory l ∷ xs) = fault_paths_are xs
 
-left_paths_are : (asked : Bool) (xs : List Found) → left_paths (cond asked (left_out_of xs) []) ≡ picked path_of (is_left asked) xs
-left_paths_are false xs = sym (none_picked xs (is_left false) no_left)
-left_paths_are true [] = refl
-left_paths_are true (found_file directory f ∷ xs) = left_paths_are true xs
-left_paths_are true (found_fault path word ∷ xs) = left_paths_are true xs
-left_paths_are true (found_directory path entries ∷ xs) = left_paths_are true xs
-left_paths_are true (found_left directory l ∷ xs) = ap (λ ls. path_of (found_left directory l) ∷ ls) (left_paths_are true xs)
+skipped_paths_are : (asked : Bool) (xs : List Found) → skipped_paths (cond asked (skipped_lines_of xs) []) ≡ picked path_of (is_skipped asked) xs
+skipped_paths_are false xs = sym (none_picked xs (is_skipped false) none_skipped)
+skipped_paths_are true [] = refl
+skipped_paths_are true (found_file directory f ∷ xs) = skipped_paths_are true xs
+skipped_paths_are true (found_fault path word ∷ xs) = skipped_paths_are true xs
+skipped_paths_are true (found_directory path entries ∷ xs) = skipped_paths_are true xs
+skipped_paths_are true (found_skipped directory l ∷ xs) = ap (λ ls. path_of (found_skipped directory l) ∷ ls) (skipped_paths_are true xs)
 
 file_no_fault : (asked : Bool) (x : Found) → is_file asked x ≡ true → is_fault x ≡ true → ⊥
 file_no_fault asked (found_file directory f) a b = cc
 file_no_fault asked (found_fault path word) a b = cc
 file_no_fault asked (found_directory path entries) a b = cc
-file_no_fault asked (found_left directory l) a b = cc
+file_no_fault asked (found_skipped directory l) a b = cc
 
-file_no_left : (asked other : Bool) (x : Found) → is_file asked x ≡ true → is_left other x ≡ true → ⊥
-file_no_left asked other (found_file directory f) a b = cc
-file_no_left asked other (found_fault path word) a b = cc
-file_no_left asked other (found_directory path entries) a b = cc
-file_no_left asked other (found_left directory l) a b = cc
+file_not_skipped : (asked other : Bool) (x : Found) → is_file asked x ≡ true → is_skipped other x ≡ true → ⊥
+file_not_skipped asked other (found_file directory f) a b = cc
+file_not_skipped asked other (found_fault path word) a b = cc
+file_not_skipped asked other (found_directory path entries) a b = cc
+file_not_skipped asked other (found_skipped directory l) a b = cc
 
-fault_no_left : (asked : Bool) (x : Found) → is_fault x ≡ true → is_left asked x ≡ true → ⊥
-fault_no_left asked (found_file directory f) a b = cc
-fault_no_left asked (found_fault path word) a b = cc
-fault_no_left asked (found_directory path entries) a b = cc
-fault_no_left asked (found_left directory l) a b = cc
+fault_not_skipped : (asked : Bool) (x : Found) → is_fault x ≡ true → is_skipped asked x ≡ true → ⊥
+fault_not_skipped asked (found_file directory f) a b = cc
+fault_not_skipped asked (found_fault path word) a b = cc
+fault_not_skipped asked (found_directory path entries) a b = cc
+fault_not_skipped asked (found_skipped directory l) a b = cc
 
 module _ (xs : List Found) (once : AreApart (map path_of xs)) where
   distinct : Distinct (map path_of xs)
@@ -147,37 +147,37 @@ module _ (xs : List Found) (once : AreApart (map path_of xs)) where
   fault_list_apart = one_list is_fault _ (fault_paths_are xs)
 
   -- nor among the entries left out
-  pub left_list_apart : (asked : Bool) → AreApart (left_paths (cond asked (left_out_of xs) []))
-  left_list_apart asked = one_list (is_left asked) _ (left_paths_are asked xs)
+  pub skipped_list_apart : (asked : Bool) → AreApart (skipped_paths (cond asked (skipped_lines_of xs) []))
+  skipped_list_apart asked = one_list (is_skipped asked) _ (skipped_paths_are asked xs)
 
-  three_lists : (lists : Lists) → Distinct (picked path_of (is_file lists.files) xs ++ picked path_of is_fault xs
-      ++ picked path_of (is_left lists.left_out) xs)
+  three_lists : (lists : ReportLists) → Distinct (picked path_of (is_file lists.files) xs ++ picked path_of is_fault xs
+      ++ picked path_of (is_skipped lists.left_out) xs)
   three_lists lists =
       let files = picked path_of (is_file lists.files) xs in
       let faults = picked path_of is_fault xs in
-      let out = picked path_of (is_left lists.left_out) xs in
+      let out = picked path_of (is_skipped lists.left_out) xs in
       distinct-append (files ++ faults) out
       (distinct-append files faults (picked_distinct path_of (is_file lists.files) xs distinct)
       (picked_distinct path_of is_fault xs distinct)
       (picked_apart path_of (is_file lists.files) is_fault (file_no_fault lists.files) xs distinct))
-      (picked_distinct path_of (is_left lists.left_out) xs distinct)
+      (picked_distinct path_of (is_skipped lists.left_out) xs distinct)
       (each-append (λ m. AllByRecursion (λ n. m ≢ n) out) files faults
-      (picked_apart path_of (is_file lists.files) (is_left lists.left_out) (file_no_left lists.files lists.left_out) xs distinct)
-      (picked_apart path_of is_fault (is_left lists.left_out) (fault_no_left lists.left_out) xs distinct))
+      (picked_apart path_of (is_file lists.files) (is_skipped lists.left_out) (file_not_skipped lists.files lists.left_out) xs distinct)
+      (picked_apart path_of is_fault (is_skipped lists.left_out) (fault_not_skipped lists.left_out) xs distinct))
 
   -- nor in two of these lists of a report
-  pub all_lists_apart : (lists : Lists) (r : Report) → IsReportOf lists xs r
-      → AreApart (file_paths r.files.items ++ fault_paths r.faults.items ++ left_paths r.left.items)
+  pub all_lists_apart : (lists : ReportLists) (r : Report) → IsReportOf lists xs r
+      → AreApart (file_paths r.files.items ++ fault_paths r.faults.items ++ skipped_paths r.skipped.items)
   all_lists_apart lists r is =
       apart_moved _ _
       (IsPermutation-append _ _ _ _
       (IsPermutation-append _ _ _ _ (IsPermutation-map (λ (f : FileLineModel). f.path) _ _ is.files_are)
       (IsPermutation-map (λ (f : FaultLineModel). f.path) _ _ is.faults_are))
-      (IsPermutation-map (λ (l : LeftLineModel). l.path) _ _ is.left_are))
+      (IsPermutation-map (λ (l : SkippedLineModel). l.path) _ _ is.skipped_are))
       (subst AreApart
-      (ap (λ l. l ++ picked path_of is_fault xs ++ picked path_of (is_left lists.left_out) xs) (sym (file_paths_are lists.files xs))
-      ∙ ap (λ l. file_paths (cond lists.files (files_of xs) []) ++ l ++ picked path_of (is_left lists.left_out) xs)
+      (ap (λ l. l ++ picked path_of is_fault xs ++ picked path_of (is_skipped lists.left_out) xs) (sym (file_paths_are lists.files xs))
+      ∙ ap (λ l. file_paths (cond lists.files (files_of xs) []) ++ l ++ picked path_of (is_skipped lists.left_out) xs)
       (sym (fault_paths_are xs))
       ∙ ap (λ l. file_paths (cond lists.files (files_of xs) []) ++ fault_paths (faults_of xs) ++ l)
-      (sym (left_paths_are lists.left_out xs)))
+      (sym (skipped_paths_are lists.left_out xs)))
       (apart_from_distinct _ (three_lists lists)))

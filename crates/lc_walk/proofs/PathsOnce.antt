@@ -6,7 +6,7 @@ use Rattle.std.specs.List.{flat_map, AllByRecursion}
 use Rattle.std.specs.Option.{is_none, option_map_or}
 use Rattle.std.proofs.lemmas.Grind.{flat_map-append}
 use Rattle.std.proofs.lemmas.List.{map-append}
-use Rattle.lc_census.specs.declared.totals.Count.{Count}
+use Rattle.lc_census.specs.declared.count.Count.{Count}
 use Rattle.lc_tree.specs.declared.entry.Kind.TheVariants.{File, Dir, Other}
 use Rattle.lc_level.specs.declared.fault_word.FaultWord.{FaultWord}
 use Rattle.lc_glob.specs.Path.{path_in, segments_of}
@@ -15,7 +15,7 @@ use Rattle.lc_tree.specs.Paths.{names_of_path}
 use Rattle.lc_level.specs.Answers.{Item, file_item, directory_item, other_item, Tree, entry_of, name_of}
 use Rattle.lc_level.specs.Job.{JobModel}
 use Rattle.lc_level.specs.RuleFiles.{extended}
-use Rattle.lc_level.specs.Level.{Reason, other_kind, Fate, walked, left, level_of_items, reason_of, is_taken, child_job, file_fate, fate_of}
+use Rattle.lc_level.specs.Level.{Reason, other_kind, Fate, walked, skipped, level_of_items, reason_of, is_taken, child_job, file_fate, fate_of}
 use Rattle.lc_level.specs.Level.{listed_level, walked_in, fates_of}
 use Rattle.lc_level.specs.Narrowing.{stands_below, leads_to, part_of, absent_from}
 use Rattle.lc_level.specs.Selection.{SelectionModel}
@@ -73,14 +73,14 @@ always_so false = refl
 path_by_item : (selection : SelectionModel) (j : JobModel) (e : Item)
     → map path_of (found_by j.path (name_of e, fate_of selection j e)) ≡ map (path_in j.path) (picked name_of (stays selection j) (e ∷ []))
 path_by_item selection j (file_item n c r) =
-    path_by_reason j.path n (left File) (file_fate j n c) true (reason_of selection j n false) (λ reason. refl) (path_of_file j.path n j c)
+    path_by_reason j.path n (skipped File) (file_fate j n c) true (reason_of selection j n false) (λ reason. refl) (path_of_file j.path n j c)
     ∙ ap (λ b. map (path_in j.path) (cond b (n ∷ []) [])) (always_so (is_taken selection j n false))
 path_by_item selection j (directory_item n) =
-    path_by_reason j.path n (left Dir) (walked (child_job j n)) false (reason_of selection j n true) (λ reason. refl) refl
+    path_by_reason j.path n (skipped Dir) (walked (child_job j n)) false (reason_of selection j n true) (λ reason. refl) refl
     ∙ ap (λ b. map (path_in j.path) (cond b (n ∷ []) [])) (stays_so (is_taken selection j n true))
     ∙ ap (map (path_in j.path)) (sym (append-nil (cond (stays selection j (directory_item n)) (n ∷ []) [])))
 path_by_item selection j (other_item n) =
-    path_by_reason j.path n (left Other) (left Other other_kind) true (reason_of selection j n false) (λ reason. refl) refl
+    path_by_reason j.path n (skipped Other) (skipped Other other_kind) true (reason_of selection j n false) (λ reason. refl) refl
     ∙ ap (λ b. map (path_in j.path) (cond b (n ∷ []) [])) (always_so (is_taken selection j n false))
 
 paths_by_items : (selection : SelectionModel) (j : JobModel) (es : List Item)

@@ -12,8 +12,8 @@ use Rattle.lc_level.specs.Job.{JobModel}
 use Rattle.lc_walk.specs.Lawful.{jobs_of, named}
 use Rattle.lc_walk.specs.Posting.{IsPost, HasPosted, RefusesPost, PostsMore}
 use Rattle.lc_walk.specs.RowViews.{ChildModel}
-use Rattle.lc_walk.specs.declared.given_up.GivenUp.{GivenUp}
-use Rattle.lc_walk.specs.declared.given_up.GivenUp.TheVariants.{Memory, TooManyDirs, TooDeep}
+use Rattle.lc_walk.specs.declared.broken_cause.BrokenCause.{BrokenCause}
+use Rattle.lc_walk.specs.declared.broken_cause.BrokenCause.TheVariants.{Memory, TooManyDirs, TooDeep}
 use Rattle.lc_walk.specs.declared.row.Row.{Row}
 
 abbrev Events : Type 0
@@ -164,7 +164,7 @@ posted_first p q r done rest all c (suc n) e a b = (
     one (suc n) h = h
 
 -- why the posting of all was refused, where that of the next was
-pub refused_first : (p q r : Pass JobModel Row) (done rest all : List (List ℕ × JobModel)) (c : List ℕ × JobModel) (cause : GivenUp)
+pub refused_first : (p q r : Pass JobModel Row) (done rest all : List (List ℕ × JobModel)) (c : List ℕ × JobModel) (cause : BrokenCause)
     → done ++ c ∷ rest ≡ all →
     HasPosted p q (jobs_of done) → RefusesPost (c.1 ∷ []) q r cause → RefusesPost (jobs_of all) p r cause
 refused_first p q r done rest all c Memory e a b = posted_first p q r done rest all c b.0 e a b.1

@@ -3,8 +3,8 @@ use Rattle.std.proofs.Common.{Bool, true, false, cond, List, [], sym, ◌∙◌,
 use Rattle.std.proofs.lemmas.List.Sorted.{IsPermutation-sym, IsPermutation-trans, IsPermutation-refl, length_permutation}
 use Rattle.std.proofs.lemmas.List.Sorted.{sum_by-IsPermutation}
 use Rattle.lc_walk.proofs.Joining.{tally_permuted, sums_permuted}
-use Rattle.lc_walk.specs.WalkReport.{tallied_in, file_in, fault_in, directory_in, left_out_in, entries_in, tallied_of, files_of}
-use Rattle.lc_walk.specs.WalkReport.{directories_of, left_out_of, ReportLaw}
+use Rattle.lc_walk.specs.WalkReport.{tallied_in, file_in, fault_in, directory_in, skipped_lines_in, entries_in, tallied_of, files_of}
+use Rattle.lc_walk.specs.WalkReport.{directories_of, skipped_lines_of, ReportLaw}
 use Rattle.lc_walk.proofs.Moves.{lists_moved}
 
 cond_moved : {A : Type 0} (b : Bool) (xs ys : List A) → IsPermutation xs ys → IsPermutation (cond b xs []) (cond b ys [])
@@ -27,7 +27,7 @@ report_law lists xs ys r moved is =
       file_order = is.file_order;
       faults_are = IsPermutation-trans _ _ _ (IsPermutation-sym _ _ (lists_moved fault_in xs ys moved)) is.faults_are;
       fault_order = is.fault_order;
-      left_are = IsPermutation-trans _ _ _ (IsPermutation-sym _ _
-          (cond_moved lists.left_out (left_out_of xs) (left_out_of ys) (lists_moved left_out_in xs ys moved))) is.left_are;
-      left_order = is.left_order;
+      skipped_are = IsPermutation-trans _ _ _ (IsPermutation-sym _ _
+          (cond_moved lists.left_out (skipped_lines_of xs) (skipped_lines_of ys) (lists_moved skipped_lines_in xs ys moved))) is.skipped_are;
+      skipped_order = is.skipped_order;
     }

@@ -17,7 +17,7 @@ use Rattle.lc_level.specs.Answers.{Answers, no_answers}
 use Rattle.lc_level.specs.CountedNames.{IsCounted}
 use Rattle.lc_level.specs.Deep.{has_too_deep}
 use Rattle.lc_level.specs.Job.{JobModel}
-use Rattle.lc_level.specs.LeftIn.{bytes_of}
+use Rattle.lc_level.specs.Classified.{bytes_of}
 use Rattle.lc_level.specs.Laws.{parts_with}
 use Rattle.lc_level.specs.Level.{IsLevelOf, level, walked_in}
 use Rattle.lc_level.specs.Opens.{IsOpened, OpensLevel}
@@ -37,9 +37,9 @@ use Rattle.lc_walk.proofs.Posted.{posts_come, job_stays}
 use Rattle.lc_walk.proofs.Working.{works_posts, works_give, works_fault, serves_broken, then_serves}
 use Rattle.lc_level.specs.declared.cause.Cause.{Cause}
 use Rattle.lc_level.specs.declared.cause.Cause.TheVariants as level
-use Rattle.lc_walk.specs.GivenUps.{given_up_for}
-use Rattle.lc_walk.specs.declared.given_up.GivenUp.{GivenUp}
-use Rattle.lc_walk.specs.declared.given_up.GivenUp.TheVariants.{Memory, TooManyDirs, TooDeep}
+use Rattle.lc_walk.specs.BrokenCauses.{broken_cause_for}
+use Rattle.lc_walk.specs.declared.broken_cause.BrokenCause.{BrokenCause}
+use Rattle.lc_walk.specs.declared.broken_cause.BrokenCause.TheVariants.{Memory, TooManyDirs, TooDeep}
 use Rattle.lc_level.specs.declared.counting.CountedFiles.{CountedFiles}
 use Rattle.lc_level.specs.declared.opening.Opened.{Opened}
 use Rattle.lc_level.specs.declared.fault_site.FaultSite.{FaultSite}
@@ -52,7 +52,7 @@ unfolding IsStrictlySortedBy
 no_entries = record { good = refl; order = tt; few = omega arith }
 
 module _ (ask : Asked) (lists : List ℕ → Listings) (gives : List ℕ → Contents) where
-  abbrev Lawful : Pass JobModel Row → JobModel → GivenUp → Answers → Type 0
+  abbrev Lawful : Pass JobModel Row → JobModel → BrokenCause → Answers → Type 0
   Lawful p j c a = IsLawfulEnd ask p.full (MayAnswer lists gives) (job_held p.mine) (posts_held p.mine)
       (ended.Returned (Broken (record { job = j; cause = c }))) a
 
@@ -72,7 +72,7 @@ module _ (ask : Asked) (lists : List ℕ → Listings) (gives : List ℕ → Con
 
   unopened_end : (p : Pass JobModel Row) (j : JobModel) (c : Cause) → HoldsJob j p
       → OpensLevel lists gives ask.lists.left_out ask.selection j (Err (open_fault.Broken c))
-      → (a : Answers) × Lawful p j (given_up_for c) a
+      → (a : Answers) × Lawful p j (broken_cause_for c) a
   unopened_end p j level.Memory h o = (no_answers, memory_end p j h)
   unopened_end p j level.TooDeep h o = (
     o.0,
@@ -87,11 +87,11 @@ module _ (ask : Asked) (lists : List ℕ → Listings) (gives : List ℕ → Con
   -- a directory that was given up before it was opened
   pub serves_unopened : (p : Pass JobModel Row) (j : JobModel) (c : Cause) (t : TallyModel) (result : Result (Unit {0}) AllocError)
       → HoldsJob j p →
-      OpensLevel lists gives ask.lists.left_out ask.selection j (Err (open_fault.Broken c)) → GivesUp (given_up_for c) result →
-      Serves ask (MayAnswer lists gives) p (after_give p (Broken (record { job = j; cause = given_up_for c }))) t t result
+      OpensLevel lists gives ask.lists.left_out ask.selection j (Err (open_fault.Broken c)) → GivesUp (broken_cause_for c) result →
+      Serves ask (MayAnswer lists gives) p (after_give p (Broken (record { job = j; cause = broken_cause_for c }))) t t result
   serves_unopened p j c t result h o g =
       let e = unopened_end p j c h o in
-      serves_broken ask (MayAnswer lists gives) p j (given_up_for c) e.0 t t result e.1 g (λ n. refl)
+      serves_broken ask (MayAnswer lists gives) p j (broken_cause_for c) e.0 t t result e.1 g (λ n. refl)
 
   -- a directory at fault
   pub serves_faulted : (p : Pass JobModel Row) (j : JobModel) (site : FaultSite) (word : FaultWord) (t : TallyModel) → HoldsJob j p →
@@ -116,7 +116,7 @@ module _ (ask : Asked) (lists : List ℕ → Listings) (gives : List ℕ → Con
     posts_now : (jobs : List JobModel) (x : HasPosted p q jobs) → posts_held q.mine ≡ posts_held x.since
     posts_now jobs x = ap posts_held x.mine ∙ posts_come x.since p.mine x.only ∙ ap (λ ps. ps ++ posts_held x.since) h.none
 
-    broken_end : (cause : GivenUp) (n : ℕ) → HasPosted p q (take n (jobs_of o.children.items))
+    broken_end : (cause : BrokenCause) (n : ℕ) → HasPosted p q (take n (jobs_of o.children.items))
         → IsCause ask q.full j c.inside.answers (posts_held q.mine) cause → Lawful q j cause c.inside.answers
     broken_end cause n x is = record {
       job_is = job_now _ x;
@@ -145,7 +145,7 @@ module _ (ask : Asked) (lists : List ℕ → Listings) (gives : List ℕ → Con
     )
 
     -- not all were posted
-    pub serves_refused : (cause : GivenUp) (t : TallyModel) (result : Result (Unit {0}) AllocError)
+    pub serves_refused : (cause : BrokenCause) (t : TallyModel) (result : Result (Unit {0}) AllocError)
         → RefusesPost (jobs_of o.children.items) p q cause → GivesUp cause result →
         Serves ask (MayAnswer lists gives) p (after_give q (Broken (record { job = j; cause = cause }))) t t result
     serves_refused Memory t result x g =
@@ -174,7 +174,7 @@ module _ (ask : Asked) (lists : List ℕ → Listings) (gives : List ℕ → Con
       pub entries : row.entries ≡ o.entries
       pub files : row.files ≡ cond ask.lists.files found.files.items []
       pub faults : row.faults ≡ found.faults.items
-      pub left : row.left ≡ o.left.items
+      pub skipped : row.skipped ≡ o.skipped.items
       pub children : row.children ≡ named o.children.items posts
 
     -- and its files were counted
@@ -211,7 +211,7 @@ module _ (ask : Asked) (lists : List ℕ → Listings) (gives : List ℕ → Con
             entries_are = is.entries ∙ sym here.numbers;
             files_are = is.files ∙ ap (λ fs. cond ask.lists.files fs []) (sym here.counts);
             faults_are = is.faults ∙ sym here.fails;
-            left_are = is.left ∙ sym here.leaves;
+            skipped_are = is.skipped ∙ sym here.leaves;
             posts_are = ap jobs_of (posts_now _ x) ∙ x.jobs_are ∙ ap jobs_of (sym here.walks);
             children_are = is.children ∙ ap (λ cs. named cs (posts_held x.since)) (sym here.walks)
                 ∙ ap (named (walked_in here.fates)) (sym (posts_now _ x));

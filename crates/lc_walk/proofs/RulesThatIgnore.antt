@@ -4,7 +4,7 @@ use Rattle.std.proofs.Common.{Result, Ok, Err, MatchOption, bytes_eq, codes, inl
 use Rattle.std.specs.List.{find, list_any}
 use Rattle.std.specs.Option.{option_map_or, option_or}
 use Rattle.std.proofs.lemmas.List.Sorted.{Contains-permutation, IsPermutation-sym}
-use Rattle.lc_census.specs.declared.totals.Count.{Count}
+use Rattle.lc_census.specs.declared.count.Count.{Count}
 use Rattle.lc_glob.specs.Path.{path_in}
 use Rattle.lc_tree.specs.Kinds.{is_dir}
 use Rattle.lc_tree.specs.declared.entry.Kind.{Kind}
@@ -12,87 +12,87 @@ use Rattle.lc_tree.specs.declared.entry.Kind.TheVariants.{File, Dir, Other}
 use Rattle.lc_level.specs.declared.fault_word.FaultWord.{FaultWord}
 use Rattle.lc_level.specs.Answers.{Item, file_item, directory_item, other_item, name_of, entry_of}
 use Rattle.lc_level.specs.Job.{JobModel}
-use Rattle.lc_level.specs.Level.{LeftModel, Reason, named_git, by_rule, by_attribute, other_kind, Fate, counted, failed, walked, left}
+use Rattle.lc_level.specs.Level.{SkippedModel, Reason, named_git, by_rule, by_attribute, other_kind, Fate, counted, failed, walked, skipped}
 use Rattle.lc_level.specs.Level.{attribute_reason, rule_reason, reason_at, reason_of, file_fate, fate_of, child_job}
 use Rattle.lc_level.specs.Selection.{SelectionModel}
 use Rattle.lc_rules.specs.IgnoreChains.{rules_in}
-use Rattle.lc_rules.specs.IgnoreLaws.{IsLastMatch, DecidingLaw}
+use Rattle.lc_rules.specs.IgnoreLaws.{IsLastMatch, LastMatchLaw}
 use Rattle.lc_rules.specs.IgnoreRules.{RuleModel}
-use Rattle.lc_rules.specs.Verdicts.{deciding, rule_matches}
-use Rattle.lc_rules.specs.declared.origin.Origin.{Origin}
+use Rattle.lc_rules.specs.Verdicts.{last_match, rule_matches}
+use Rattle.lc_rules.specs.declared.rule_source.RuleSource.{RuleSource}
 use Rattle.lc_walk.specs.Accounts.{IsIgnoredBy, RuleLaw}
 use Rattle.lc_walk.specs.FoundAt.{LeadsTo, Gives}
-use Rattle.lc_walk.specs.Found.{Found, found_file, found_fault, found_directory, found_left}
-use Rattle.lc_walk.specs.ReportLines.{LeftLineModel}
+use Rattle.lc_walk.specs.Found.{Found, found_file, found_fault, found_directory, found_skipped}
+use Rattle.lc_walk.specs.ReportLines.{SkippedLineModel}
 use Rattle.lc_walk.specs.Walk.{walk_of}
-use Rattle.lc_walk.specs.WalkReport.{left_line, left_out_in, left_out_of}
+use Rattle.lc_walk.specs.WalkReport.{skipped_line, skipped_lines_in, skipped_lines_of}
 use Rattle.lc_walk.proofs.Elements.{In, is_in, contains, in_lists, if_cond}
 use Rattle.lc_walk.proofs.FoundByPlace.{place_by_walk}
 use Rattle.lc_walk.proofs.TakingPart.{in_filter}
 
 -- ---- the rule that decides
 
--- a rule that decides among rules, which ignores, and stands on this line of a file of this origin
-record Decides (rules : List (Origin × RuleModel)) (path : List ℕ) (is_dir : Bool) (origin : Origin) (line : ℕ) : Type 0 where
+-- a rule that decides among rules, which ignores, and stands on this line of a file of this source
+record Decides (rules : List (RuleSource × RuleModel)) (path : List ℕ) (is_dir : Bool) (source : RuleSource) (line : ℕ) : Type 0 where
   rule : RuleModel
   on_line : rule.line ≡ line
   ignores : rule.is_negated ≡ false
-  decides : deciding rules path is_dir ≡ Some (origin, rule)
+  decides : last_match rules path is_dir ≡ Some (source, rule)
 
-abbrev origin_or : Origin → Reason → Origin
-origin_or o named_git = o
-origin_or o (by_rule origin line) = origin
-origin_or o (by_attribute name) = o
-origin_or o other_kind = o
+abbrev source_or : RuleSource → Reason → RuleSource
+source_or o named_git = o
+source_or o (by_rule source line) = source
+source_or o (by_attribute name) = o
+source_or o other_kind = o
 
 abbrev line_or : ℕ → Reason → ℕ
 line_or n named_git = n
-line_or n (by_rule origin line) = line
+line_or n (by_rule source line) = line
 line_or n (by_attribute name) = n
 line_or n other_kind = n
 
 -- an attribute is no rule
-no_attribute : (found : Option (List ℕ)) (origin : Origin) (line : ℕ) → option_map by_attribute found ≡ Some (by_rule origin line) → ⊥
-no_attribute None origin line e = let h : None ≡ Some (by_rule origin line) = e in absurd (cc h)
-no_attribute (Some name) origin line e = let h : Some (by_attribute name) ≡ Some (by_rule origin line) = e in absurd (cc h)
+no_attribute : (found : Option (List ℕ)) (source : RuleSource) (line : ℕ) → option_map by_attribute found ≡ Some (by_rule source line) → ⊥
+no_attribute None source line e = let h : None ≡ Some (by_rule source line) = e in absurd (cc h)
+no_attribute (Some name) source line e = let h : Some (by_attribute name) ≡ Some (by_rule source line) = e in absurd (cc h)
 
 same_reason : (x y : Reason) → Some x ≡ Some y → x ≡ y
 same_reason x y e = cc
 
-module _ (s : SelectionModel) (k : JobModel) (path : List ℕ) (is_dir : Bool) (origin : Origin) (line : ℕ) where
+module _ (s : SelectionModel) (k : JobModel) (path : List ℕ) (is_dir : Bool) (source : RuleSource) (line : ℕ) where
   abbrev Decided : Type 0
-  Decided = Decides (rules_in k.ignore) path is_dir origin line
+  Decided = Decides (rules_in k.ignore) path is_dir source line
 
-  by_rule_at : (rule : Origin × RuleModel) → deciding (rules_in k.ignore) path is_dir ≡ Some rule → (b : Bool) → rule.1.is_negated ≡ b →
-      option_or (cond b None (Some (by_rule rule.0 rule.1.line))) (attribute_reason s k path is_dir) ≡ Some (by_rule origin line) → Decided
-  by_rule_at rule is true n e = absurd (no_attribute (find (λ name. _) s.without) origin line e)
+  by_rule_at : (rule : RuleSource × RuleModel) → last_match (rules_in k.ignore) path is_dir ≡ Some rule → (b : Bool) → rule.1.is_negated ≡ b →
+      option_or (cond b None (Some (by_rule rule.0 rule.1.line))) (attribute_reason s k path is_dir) ≡ Some (by_rule source line) → Decided
+  by_rule_at rule is true n e = absurd (no_attribute (find (λ name. _) s.without) source line e)
   by_rule_at rule is false n e =
-      let same : by_rule rule.0 rule.1.line ≡ by_rule origin line = same_reason _ _ e in
+      let same : by_rule rule.0 rule.1.line ≡ by_rule source line = same_reason _ _ e in
       record {
         rule = rule.1;
         on_line = ap (line_or line) same;
         ignores = n;
-        decides = is ∙ ap (λ o. Some (o, rule.1)) (ap (origin_or origin) same);
+        decides = is ∙ ap (λ o. Some (o, rule.1)) (ap (source_or source) same);
       }
 
-  by_deciding : (found : Option (Origin × RuleModel)) → deciding (rules_in k.ignore) path is_dir ≡ found →
-      option_or (rule_reason found) (attribute_reason s k path is_dir) ≡ Some (by_rule origin line) → Decided
-  by_deciding None is e = absurd (no_attribute (find (λ name. _) s.without) origin line e)
-  by_deciding (Some rule) is e = by_rule_at rule is rule.1.is_negated refl e
+  by_last_match : (found : Option (RuleSource × RuleModel)) → last_match (rules_in k.ignore) path is_dir ≡ found →
+      option_or (rule_reason found) (attribute_reason s k path is_dir) ≡ Some (by_rule source line) → Decided
+  by_last_match None is e = absurd (no_attribute (find (λ name. _) s.without) source line e)
+  by_last_match (Some rule) is e = by_rule_at rule is rule.1.is_negated refl e
 
   -- so says a reason by a path
-  decided_at : reason_at s k path is_dir ≡ Some (by_rule origin line) → Decided
-  decided_at e = by_deciding (deciding (rules_in k.ignore) path is_dir) refl e
+  decided_at : reason_at s k path is_dir ≡ Some (by_rule source line) → Decided
+  decided_at e = by_last_match (last_match (rules_in k.ignore) path is_dir) refl e
 
 -- and by a name
-decided_of : (s : SelectionModel) (k : JobModel) (n : List ℕ) (is_dir : Bool) (origin : Origin) (line : ℕ) →
-    reason_of s k n is_dir ≡ Some (by_rule origin line) → Decides (rules_in k.ignore) (path_in k.path n) is_dir origin line
-decided_of s k n is_dir origin line = at (bytes_eq n (codes ".git"))
+decided_of : (s : SelectionModel) (k : JobModel) (n : List ℕ) (is_dir : Bool) (source : RuleSource) (line : ℕ) →
+    reason_of s k n is_dir ≡ Some (by_rule source line) → Decides (rules_in k.ignore) (path_in k.path n) is_dir source line
+decided_of s k n is_dir source line = at (bytes_eq n (codes ".git"))
   where
-    at : (b : Bool) → cond b (Some named_git) (reason_at s k (path_in k.path n) is_dir) ≡ Some (by_rule origin line)
-        → Decides (rules_in k.ignore) (path_in k.path n) is_dir origin line
-    at true e = let h : Some named_git ≡ Some (by_rule origin line) = e in absurd (cc h)
-    at false e = decided_at s k (path_in k.path n) is_dir origin line e
+    at : (b : Bool) → cond b (Some named_git) (reason_at s k (path_in k.path n) is_dir) ≡ Some (by_rule source line)
+        → Decides (rules_in k.ignore) (path_in k.path n) is_dir source line
+    at true e = let h : Some named_git ≡ Some (by_rule source line) = e in absurd (cc h)
+    at false e = decided_at s k (path_in k.path n) is_dir source line e
 
 -- ---- the fate of an entry
 
@@ -100,68 +100,68 @@ abbrev reason_or : Reason → Fate → Reason
 reason_or r (counted f) = r
 reason_or r (failed word) = r
 reason_or r (walked job) = r
-reason_or r (left kind reason) = reason
+reason_or r (skipped kind reason) = reason
 
 -- a fate that is left for a rule is so by the reason
-left_by : (o : Option Reason) (own : Kind) (fate : Fate) (kind : Kind) (origin : Origin) (line : ℕ) →
-    (reason_or other_kind fate ≡ other_kind) → option_map_or (left own) o fate ≡ left kind (by_rule origin line)
-    → o ≡ Some (by_rule origin line)
-left_by None own fate kind origin line none e =
-    let h : other_kind ≡ by_rule origin line = sym none ∙ ap (reason_or other_kind) e in absurd (cc h)
-left_by (Some reason) own fate kind origin line none e = ap Some (ap (reason_or other_kind) e)
+skipped_by : (o : Option Reason) (own : Kind) (fate : Fate) (kind : Kind) (source : RuleSource) (line : ℕ) →
+    (reason_or other_kind fate ≡ other_kind) → option_map_or (skipped own) o fate ≡ skipped kind (by_rule source line)
+    → o ≡ Some (by_rule source line)
+skipped_by None own fate kind source line none e =
+    let h : other_kind ≡ by_rule source line = sym none ∙ ap (reason_or other_kind) e in absurd (cc h)
+skipped_by (Some reason) own fate kind source line none e = ap Some (ap (reason_or other_kind) e)
 
 counting_leaves_none : (k : JobModel) (n : List ℕ) (c : Result Count FaultWord) → reason_or other_kind (file_fate k n c) ≡ other_kind
 counting_leaves_none k n (Ok count) = refl
 counting_leaves_none k n (Err word) = refl
 
 -- an entry that is left out by a rule
-decided_item : (s : SelectionModel) (k : JobModel) (item : Item) (kind : Kind) (origin : Origin) (line : ℕ) →
-    fate_of s k item ≡ left kind (by_rule origin line) →
-    Decides (rules_in k.ignore) (path_in k.path (name_of item)) (is_dir (entry_of item).kind) origin line
-decided_item s k (file_item n c rules) kind origin line e =
-    decided_of s k n false origin line
-    (left_by (reason_of s k n false) File (file_fate k n c) kind origin line (counting_leaves_none k n c) e)
-decided_item s k (directory_item n) kind origin line e =
-    decided_of s k n true origin line (left_by (reason_of s k n true) Dir (walked (child_job k n)) kind origin line refl e)
-decided_item s k (other_item n) kind origin line e =
-    decided_of s k n false origin line (left_by (reason_of s k n false) Other (left Other other_kind) kind origin line refl e)
+decided_item : (s : SelectionModel) (k : JobModel) (item : Item) (kind : Kind) (source : RuleSource) (line : ℕ) →
+    fate_of s k item ≡ skipped kind (by_rule source line) →
+    Decides (rules_in k.ignore) (path_in k.path (name_of item)) (is_dir (entry_of item).kind) source line
+decided_item s k (file_item n c rules) kind source line e =
+    decided_of s k n false source line
+    (skipped_by (reason_of s k n false) File (file_fate k n c) kind source line (counting_leaves_none k n c) e)
+decided_item s k (directory_item n) kind source line e =
+    decided_of s k n true source line (skipped_by (reason_of s k n true) Dir (walked (child_job k n)) kind source line refl e)
+decided_item s k (other_item n) kind source line e =
+    decided_of s k n false source line (skipped_by (reason_of s k n false) Other (skipped Other other_kind) kind source line refl e)
 
 -- the rule that decides is the last that matches
-last_match : DecidingLaw → (rules : List (Origin × RuleModel)) (path : List ℕ) (is_dir : Bool) (rule : Origin × RuleModel)
-    → deciding rules path is_dir ≡ Some rule → IsLastMatch rules path is_dir rule
-last_match law rules path is_dir rule e =
+is_last_match : LastMatchLaw → (rules : List (RuleSource × RuleModel)) (path : List ℕ) (is_dir : Bool) (rule : RuleSource × RuleModel)
+    → last_match rules path is_dir ≡ Some rule → IsLastMatch rules path is_dir rule
+is_last_match law rules path is_dir rule e =
     subst (λ o. MatchOption o (list_any (rule_matches path is_dir) rules ≡ false) (IsLastMatch rules path is_dir)) e
     ((law rules path is_dir).0)
 
 -- ---- the lines of a report
 
 -- the thing of which a line was made
-left_found : (x : Found) (entry : LeftLineModel) → In entry (left_out_in x)
-    → (directory : List ℕ) × (l : LeftModel) × (x ≡ found_left directory l) × (left_line directory l ≡ entry)
-left_found (found_file directory f) entry i = absurd i
-left_found (found_fault path word) entry i = absurd i
-left_found (found_directory path entries) entry i = absurd i
-left_found (found_left directory l) entry (inl e) = (directory, l, refl, e)
-left_found (found_left directory l) entry (inr i) = absurd i
+skipped_found : (x : Found) (entry : SkippedLineModel) → In entry (skipped_lines_in x)
+    → (directory : List ℕ) × (l : SkippedModel) × (x ≡ found_skipped directory l) × (skipped_line directory l ≡ entry)
+skipped_found (found_file directory f) entry i = absurd i
+skipped_found (found_fault path word) entry i = absurd i
+skipped_found (found_directory path entries) entry i = absurd i
+skipped_found (found_skipped directory l) entry (inl e) = (directory, l, refl, e)
+skipped_found (found_skipped directory l) entry (inr i) = absurd i
 
 -- each entry that is left out by a rule has that rule
-pub rule_law : DecidingLaw → RuleLaw
-rule_law law lists selection depth top t r is entry origin line has by =
-    let there : In entry (cond lists.left_out (left_out_of (walk_of selection depth top t)) []) =
-    is_in _ _ (Contains-permutation _ _ entry (IsPermutation-sym _ _ is.left_are) has) in
-    let x = in_lists left_out_in entry (walk_of selection depth top t) (if_cond lists.left_out entry _ there).1 in
-    let f = left_found x.0 entry x.2 in
+pub rule_law : LastMatchLaw → RuleLaw
+rule_law law lists selection depth top t r is entry source line has by =
+    let there : In entry (cond lists.left_out (skipped_lines_of (walk_of selection depth top t)) []) =
+    is_in _ _ (Contains-permutation _ _ entry (IsPermutation-sym _ _ is.skipped_are) has) in
+    let x = in_lists skipped_lines_in entry (walk_of selection depth top t) (if_cond lists.left_out entry _ there).1 in
+    let f = skipped_found x.0 entry x.2 in
     let p = place_by_walk selection depth top t x.0 x.1 in
     at p.place p.job p.leads f.0 f.1 f.3 (subst (Gives selection p.job (t p.place)) f.2 p.gives)
   where
-    at : (place : List (List ℕ)) (job : JobModel) → LeadsTo selection top t place job → (directory : List ℕ) (l : LeftModel) →
-        left_line directory l ≡ entry → Gives selection job (t place) (found_left directory l) →
-        IsIgnoredBy selection top t entry.path origin line
+    at : (place : List (List ℕ)) (job : JobModel) → LeadsTo selection top t place job → (directory : List ℕ) (l : SkippedModel) →
+        skipped_line directory l ≡ entry → Gives selection job (t place) (found_skipped directory l) →
+        IsIgnoredBy selection top t entry.path source line
     at place job leads directory l same (d, h) =
-        let reason : l.reason ≡ by_rule origin line = ap (λ (e : LeftLineModel). e.reason) same ∙ by in
-        let decided = decided_item selection h.inside h.item l.kind origin line (h.fate_is ∙ ap (left l.kind) reason) in
+        let reason : l.reason ≡ by_rule source line = ap (λ (e : SkippedLineModel). e.reason) same ∙ by in
+        let decided = decided_item selection h.inside h.item l.kind source line (h.fate_is ∙ ap (skipped l.kind) reason) in
         let path : entry.path ≡ path_in h.inside.path (name_of h.item) =
-        sym (ap (λ (e : LeftLineModel). e.path) same) ∙ ap (λ p. path_in p l.name) (d ∙ sym (ap (λ (j : JobModel). j.path) h.listed.is))
+        sym (ap (λ (e : SkippedLineModel). e.path) same) ∙ ap (λ p. path_in p l.name) (d ∙ sym (ap (λ (j : JobModel). j.path) h.listed.is))
         ∙ ap (path_in h.inside.path) (sym h.named) in
         record {
           place = place;
@@ -176,7 +176,7 @@ rule_law law lists selection depth top t r is entry origin line has by =
           rule = decided.rule;
           on_line = decided.on_line;
           ignores = decided.ignores;
-          decides = subst (λ p. IsLastMatch (rules_in h.inside.ignore) p (is_dir (entry_of h.item).kind) (origin, decided.rule)) (sym path)
-              (last_match law (rules_in h.inside.ignore) (path_in h.inside.path (name_of h.item)) (is_dir (entry_of h.item).kind)
-              (origin, decided.rule) decided.decides);
+          decides = subst (λ p. IsLastMatch (rules_in h.inside.ignore) p (is_dir (entry_of h.item).kind) (source, decided.rule)) (sym path)
+              (is_last_match law (rules_in h.inside.ignore) (path_in h.inside.path (name_of h.item)) (is_dir (entry_of h.item).kind)
+              (source, decided.rule) decided.decides);
         }

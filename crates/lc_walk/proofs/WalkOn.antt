@@ -29,8 +29,8 @@ use Rattle.lc_tree.specs.Trees.{Listings, Contents}
 use Rattle.lc_walk.specs.WalkOptions.{asked_by, top_of}
 use Rattle.lc_walk.specs.Walks.{Walks}
 use Rattle.lc_walk.specs.declared.options.Options.{Options}
-use Rattle.lc_walk.specs.declared.given_up.GivenUp.{GivenUp}
-use Rattle.lc_walk.specs.declared.given_up.GivenUp.TheVariants.{Memory, TooManyDirs, TooDeep}
+use Rattle.lc_walk.specs.declared.broken_cause.BrokenCause.{BrokenCause}
+use Rattle.lc_walk.specs.declared.broken_cause.BrokenCause.TheVariants.{Memory, TooManyDirs, TooDeep}
 use Rattle.lc_walk.specs.declared.row.Row.{Row}
 use Rattle.lc_walk.specs.declared.row.Row.TheVariants.{Listed, Faulted, Broken}
 use Rattle.lc_walk.specs.declared.walk_fault.WalkFault.{WalkFault}
@@ -42,7 +42,7 @@ use Rattle.lc_walk.proofs.Placing.{placed}
 use Rattle.lc_walk.proofs.Listings.{got_here}
 
 -- what a Broken row says of its cause
-cause_said : (ask : Asked) (f : Bool) (c : GivenUp) (e : Ended Row) (a : Answers) (posts : List (ℕ × JobModel)) → Says ask f e a posts
+cause_said : (ask : Asked) (f : Bool) (c : BrokenCause) (e : Ended Row) (a : Answers) (posts : List (ℕ × JobModel)) → Says ask f e a posts
     → IsBrokenBy c (row_of e) → IsCause ask f (job_of (row_of e)) a posts c
 cause_said ask f c (ended.Returned (Listed r)) a posts s b = absurd b
 cause_said ask f c (ended.Returned (Faulted r)) a posts s b = absurd b
@@ -62,7 +62,7 @@ module _ (ask : Asked) (MayAnswer : List ℕ → Answers → Type 0) (capacity w
     rows_so keeps fed = some_rows ask MayAnswer capacity workers top promises passes rows room keeps count settled given lawful
         (λ i e is b. fed (i, (e, is, b)))
 
-    cause_here : (keeps : promises.keeps ≡ true) (c : GivenUp) (i : ℕ) (e : Ended Row) → slice_get rows i ≡ Some e
+    cause_here : (keeps : promises.keeps ≡ true) (c : BrokenCause) (i : ℕ) (e : Ended Row) → slice_get rows i ≡ Some e
         → IsBrokenBy c (row_of e) →
         IsCause ask (list_any (λ (p : Pass JobModel Row). p.full) passes) (job_of (row_of e))
         (answers ask MayAnswer capacity workers top promises passes rows room keeps count settled given lawful i)

@@ -20,8 +20,8 @@ use Rattle.lc_walk.specs.Tally.{TallyModel, CountedFile, StandsFor}
 use Rattle.lc_walk.specs.Worked.{IsLawfulEnd, AreLawful, AreLawfulSince, HasWorked, TalliesFor, GaveUp, files_given, returned_files}
 use Rattle.lc_walk.specs.Assembled.{IsBrokenBy}
 use Rattle.lc_walk.proofs.Fuller.{fuller_since}
-use Rattle.lc_walk.specs.declared.given_up.GivenUp.{GivenUp}
-use Rattle.lc_walk.specs.declared.given_up.GivenUp.TheVariants.{Memory, TooManyDirs, TooDeep}
+use Rattle.lc_walk.specs.declared.broken_cause.BrokenCause.{BrokenCause}
+use Rattle.lc_walk.specs.declared.broken_cause.BrokenCause.TheVariants.{Memory, TooManyDirs, TooDeep}
 use Rattle.lc_walk.specs.declared.row.Row.{Row}
 use Rattle.lc_walk.specs.declared.row.Row.TheVariants.{Broken}
 
@@ -165,7 +165,7 @@ module _ (ask : Asked) (MayAnswer : List ℕ → Answers → Type 0) where
   }
 
   -- a directory was given up
-  pub serves_broken : (p : Pass JobModel Row) (j : JobModel) (c : GivenUp) (a : Answers) (t u : TallyModel)
+  pub serves_broken : (p : Pass JobModel Row) (j : JobModel) (c : BrokenCause) (a : Answers) (t u : TallyModel)
       (result : Result (Unit {0}) AllocError) →
       IsLawfulEnd ask p.full MayAnswer (job_held p.mine) (posts_held p.mine) (ended.Returned (Broken (record { job = j; cause = c })))
       a → GivesUp c result → (c ≢ Memory → t ≡ u) →

@@ -11,17 +11,17 @@ use Rattle.lc_level.specs.Selection.{SelectionModel}
 use Rattle.lc_rules.specs.IgnoreChains.{rules_in}
 use Rattle.lc_rules.specs.IgnoreLaws.{IsLastMatch}
 use Rattle.lc_rules.specs.IgnoreRules.{RuleModel}
-use Rattle.lc_rules.specs.declared.origin.Origin.{Origin}
+use Rattle.lc_rules.specs.declared.rule_source.RuleSource.{RuleSource}
 use Rattle.lc_tree.specs.Kinds.{is_dir}
 use Rattle.lc_tree.specs.Trees.{Listings, Contents}
 use Rattle.lc_level.specs.declared.fault_word.FaultWord.TheVariants.{Absent}
 use Rattle.lc_walk.specs.FoundAt.{IsListed, LeadsTo}
-use Rattle.lc_walk.specs.ReportLines.{LeftLineModel}
+use Rattle.lc_walk.specs.ReportLines.{SkippedLineModel}
 use Rattle.lc_walk.specs.Walk.{walk_of}
 use Rattle.lc_walk.specs.WalkOptions.{asked_by}
 use Rattle.lc_walk.specs.WalkReport.{IsReportOf}
 use Rattle.lc_walk.specs.Walks.{Walks}
-use Rattle.lc_walk.specs.declared.options.Lists.{Lists}
+use Rattle.lc_walk.specs.declared.options.ReportLists.{ReportLists}
 use Rattle.lc_walk.specs.declared.options.Options.{Options}
 use Rattle.lc_walk.specs.declared.report.Report.{Report}
 
@@ -37,7 +37,7 @@ pub record IsAccounted (only : List (List ℕ)) (r : Report) : Type 0 where
   pub asked : AllByRecursion (Contains only) absent
   pub others : List FaultLineModel
   pub faults : IsPermutation (map absent_line absent ++ others) r.faults.items
-  pub all : r.entries + 1 ≡ r.totals.files + length others + r.directories + length r.left.items
+  pub all : r.entries + 1 ≡ r.totals.files + length others + r.directories + length r.skipped.items
 
 -- so is the report of each walk that was asked for entries left out
 abbrev pub EntriesLaw : (List ℕ → Listings) → (List ℕ → Contents) → Type 0
@@ -45,8 +45,8 @@ EntriesLaw lists gives =
     (o : Options) (r : Report) → Walks lists gives o (Ok r) → o.lists.left_out ≡ true → IsAccounted (asked_by o).selection.only r
 
 -- an entry at this path stands in a directory to which names lead, and the last rule that matches it among those that hold there
--- ignores it, and stands in a file of this origin, on the line with this number
-pub record IsIgnoredBy (selection : SelectionModel) (top : JobModel) (t : Tree) (path : List ℕ) (origin : Origin) (line : ℕ) : Type 0 where
+-- ignores it, and stands in a file of this source, on the line with this number
+pub record IsIgnoredBy (selection : SelectionModel) (top : JobModel) (t : Tree) (path : List ℕ) (source : RuleSource) (line : ℕ) : Type 0 where
   pub place : List (List ℕ)
   pub job : JobModel
   pub leads : LeadsTo selection top t place job
@@ -59,12 +59,12 @@ pub record IsIgnoredBy (selection : SelectionModel) (top : JobModel) (t : Tree) 
   pub rule : RuleModel
   pub on_line : rule.line ≡ line
   pub ignores : rule.is_negated ≡ false
-  pub decides : IsLastMatch (rules_in inside.ignore) path (is_dir (entry_of item).kind) (origin, rule)
+  pub decides : IsLastMatch (rules_in inside.ignore) path (is_dir (entry_of item).kind) (source, rule)
 
 -- so is each entry that a report has as left out by a rule
 abbrev pub RuleLaw : Type 0
 RuleLaw =
-    (lists : Lists) (selection : SelectionModel) (depth : ℕ) (top : JobModel) (t : Tree) (r : Report) →
+    (lists : ReportLists) (selection : SelectionModel) (depth : ℕ) (top : JobModel) (t : Tree) (r : Report) →
     IsReportOf lists (walk_of selection depth top t) r →
-    (entry : LeftLineModel) (origin : Origin) (line : ℕ) → Contains r.left.items entry → entry.reason ≡ by_rule origin line →
-    IsIgnoredBy selection top t entry.path origin line
+    (entry : SkippedLineModel) (source : RuleSource) (line : ℕ) → Contains r.skipped.items entry → entry.reason ≡ by_rule source line →
+    IsIgnoredBy selection top t entry.path source line

@@ -2,10 +2,10 @@
 use Rattle.std.specs.Prelude.{◌≡◌, ℕ, zero, suc, ◌<◌, List, [], ◌∷◌, length, map, flat_map, sum_by, slice_get, Some, Result, Ok, Err}
 use Rattle.lc_board.specs.declared.answers.Ended.{Ended}
 use Rattle.lc_walk.specs.Tally.{TallyModel}
-use Rattle.lc_walk.specs.ReportLines.{FileLineModel, LeftLineModel}
+use Rattle.lc_walk.specs.ReportLines.{FileLineModel, SkippedLineModel}
 use Rattle.lc_level.specs.FaultLines.{FaultLineModel}
 use Rattle.lc_walk.specs.Report.{IsReport}
-use Rattle.lc_walk.specs.declared.options.Lists.{Lists}
+use Rattle.lc_walk.specs.declared.options.ReportLists.{ReportLists}
 use Rattle.lc_walk.specs.declared.report.Report.{Report}
 use Rattle.lc_walk.specs.declared.report.findings.Findings.{Findings}
 use Rattle.lc_glob.specs.Path.{path_in}
@@ -13,10 +13,10 @@ use Rattle.lc_level.specs.Level.{FileFaultModel}
 use Rattle.lc_walk.specs.RowViews.{ChildModel}
 use Rattle.lc_walk.specs.Rows.{row_of, job_of, children_in}
 use Rattle.lc_level.specs.SitePaths.{site_path}
-use Rattle.lc_walk.specs.WalkReport.{line_of, left_line}
+use Rattle.lc_walk.specs.WalkReport.{line_of, skipped_line}
 use Rattle.lc_walk.specs.Walked.{AreWhole}
-use Rattle.lc_walk.specs.declared.given_up.GivenUp.{GivenUp}
-use Rattle.lc_walk.specs.declared.given_up.GivenUp.TheVariants.{Memory, TooManyDirs, TooDeep}
+use Rattle.lc_walk.specs.declared.broken_cause.BrokenCause.{BrokenCause}
+use Rattle.lc_walk.specs.declared.broken_cause.BrokenCause.TheVariants.{Memory, TooManyDirs, TooDeep}
 use Rattle.lc_walk.specs.declared.row.Row.{Row}
 use Rattle.lc_walk.specs.declared.row.Row.TheVariants.{Listed, Faulted, Broken}
 use Rattle.lc_walk.specs.declared.walk_fault.WalkFault.{WalkFault}
@@ -42,10 +42,10 @@ faults_by_row (Listed r) = map (fault_line r.job.path) r.faults
 faults_by_row (Faulted r) = record { path = site_path r.job.path r.site; word = r.word } ∷ []
 faults_by_row (Broken r) = []
 
-abbrev pub left_by_row : Row → List LeftLineModel
-left_by_row (Listed r) = map (left_line r.job.path) r.left
-left_by_row (Faulted r) = []
-left_by_row (Broken r) = []
+abbrev pub skipped_by_row : Row → List SkippedLineModel
+skipped_by_row (Listed r) = map (skipped_line r.job.path) r.skipped
+skipped_by_row (Faulted r) = []
+skipped_by_row (Broken r) = []
 
 abbrev pub entries_by_row : Row → ℕ
 entries_by_row (Listed r) = r.entries
@@ -65,8 +65,8 @@ files_in_rows rows = flat_map (λ e. files_by_row (row_of e)) rows
 abbrev pub faults_in_rows : List (Ended Row) → List FaultLineModel
 faults_in_rows rows = flat_map (λ e. faults_by_row (row_of e)) rows
 
-abbrev pub left_in_rows : List (Ended Row) → List LeftLineModel
-left_in_rows rows = flat_map (λ e. left_by_row (row_of e)) rows
+abbrev pub skipped_in_rows : List (Ended Row) → List SkippedLineModel
+skipped_in_rows rows = flat_map (λ e. skipped_by_row (row_of e)) rows
 
 -- findings that are what the rows say
 pub record AreFindings (rows : List (Ended Row)) (found : Findings) : Type 0 where
@@ -74,7 +74,7 @@ pub record AreFindings (rows : List (Ended Row)) (found : Findings) : Type 0 whe
   pub entries : found.entries ≡ entries_in_rows rows
   pub files : found.files.items ≡ files_in_rows rows
   pub faults : found.faults.items ≡ faults_in_rows rows
-  pub left : found.left.items ≡ left_in_rows rows
+  pub skipped : found.skipped.items ≡ skipped_in_rows rows
 
 -- ---- whether they make a tree
 
@@ -103,7 +103,7 @@ IsPlaced rows (suc k) = (e : Ended Row) → slice_get rows (suc k) ≡ Some e �
 -- ---- what `assemble` answers
 
 -- the rows make a tree, none is Broken, and the report is that of the tally and of the rows
-pub record IsAssembled (lists : Lists) (tally : TallyModel) (rows : List (Ended Row)) (r : Report) : Type 0 where
+pub record IsAssembled (lists : ReportLists) (tally : TallyModel) (rows : List (Ended Row)) (r : Report) : Type 0 where
   pub whole : AreWhole rows
   pub placed : (k : ℕ) → IsPlaced rows k
   pub found : Findings
@@ -111,12 +111,12 @@ pub record IsAssembled (lists : Lists) (tally : TallyModel) (rows : List (Ended 
   pub report : IsReport tally lists found r
 
 -- some row is Broken with this cause
-abbrev pub IsBrokenBy : GivenUp → Row → Type 0
+abbrev pub IsBrokenBy : BrokenCause → Row → Type 0
 IsBrokenBy cause (Listed r) = ⊥
 IsBrokenBy cause (Faulted r) = ⊥
 IsBrokenBy cause (Broken r) = r.cause ≡ cause
 
-abbrev pub SomeBroken : GivenUp → List (Ended Row) → Type 0
+abbrev pub SomeBroken : BrokenCause → List (Ended Row) → Type 0
 SomeBroken cause rows = (i : ℕ) × ((e : Ended Row) × (slice_get rows i ≡ Some e) × IsBrokenBy cause (row_of e))
 
 -- a Broken row's cause, Memory first; else the number at which they make no tree; or Memory
@@ -127,6 +127,6 @@ RefusesRows rows fault.TooDeep = SomeBroken TooDeep rows × ¬ SomeBroken Memory
 RefusesRows rows (fault.Torn n) = AreWhole rows × ¬ IsPlaced rows n
 RefusesRows rows (fault.Mismatch w) = ⊥
 
-abbrev pub Assembles : Lists → TallyModel → List (Ended Row) → Result Report WalkFault → Type 0
+abbrev pub Assembles : ReportLists → TallyModel → List (Ended Row) → Result Report WalkFault → Type 0
 Assembles lists tally rows (Ok r) = IsAssembled lists tally rows r
 Assembles lists tally rows (Err f) = RefusesRows rows f

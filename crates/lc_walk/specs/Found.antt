@@ -6,7 +6,7 @@ use Rattle.lc_level.specs.declared.fault_word.FaultWord.TheVariants.{Absent}
 use Rattle.lc_glob.specs.Path.{path_in}
 use Rattle.lc_level.specs.Answers.{Answers}
 use Rattle.lc_level.specs.Job.{JobModel}
-use Rattle.lc_level.specs.Level.{CountedModel, LeftModel, Fate, counted, failed, walked, left, Level, faulted_level, listed_level, level}
+use Rattle.lc_level.specs.Level.{CountedModel, SkippedModel, Fate, counted, failed, walked, skipped, Level, faulted_level, listed_level, level}
 use Rattle.lc_level.specs.Level.{walked_in}
 use Rattle.lc_level.specs.Selection.{SelectionModel}
 
@@ -16,21 +16,21 @@ pub data Found : Type 0 where
   found_file : (directory : List ℕ) → CountedModel → Found
   found_fault : (path : List ℕ) → FaultWord → Found
   found_directory : (path : List ℕ) → (entries : ℕ) → Found
-  found_left : (directory : List ℕ) → LeftModel → Found
+  found_skipped : (directory : List ℕ) → SkippedModel → Found
 
 -- by the fate of an entry of the directory at a path; what a child directory gives is found in its own level
 abbrev pub found_by : List ℕ → List ℕ × Fate → List Found
 found_by directory (name, counted file) = found_file directory file ∷ []
 found_by directory (name, failed word) = found_fault (path_in directory name) word ∷ []
 found_by directory (name, walked job) = []
-found_by directory (name, left kind reason) = found_left directory (record { name = name; kind = kind; reason = reason }) ∷ []
+found_by directory (name, skipped kind reason) = found_skipped directory (record { name = name; kind = kind; reason = reason }) ∷ []
 
 -- where it stands
 abbrev pub path_of : Found → List ℕ
 path_of (found_file directory f) = path_in directory f.name
 path_of (found_fault path word) = path
 path_of (found_directory path entries) = path
-path_of (found_left directory l) = path_in directory l.name
+path_of (found_skipped directory l) = path_in directory l.name
 
 -- a path that is asked for and absent, seen from the directory at a path
 abbrev pub found_absent : List ℕ → List ℕ → Found

@@ -4,12 +4,12 @@ use Rattle.std.specs.List.{Contains}
 use Rattle.lc_glob.specs.Path.{path_in}
 use Rattle.lc_level.specs.Answers.{Item, directory_item, name_of, Answers, Tree}
 use Rattle.lc_level.specs.Job.{JobModel}
-use Rattle.lc_level.specs.Level.{Fate, counted, failed, left, faulted_level, level, fate_of, is_taken, child_job}
+use Rattle.lc_level.specs.Level.{Fate, counted, failed, skipped, faulted_level, level, fate_of, is_taken, child_job}
 use Rattle.lc_level.specs.Narrowing.{part_of, absent_from}
 use Rattle.lc_level.specs.RuleFiles.{RuleBytes, rule_bytes, extended}
 use Rattle.lc_level.specs.Selection.{SelectionModel}
 use Rattle.lc_level.specs.declared.fault_word.FaultWord.TheVariants.{Absent}
-use Rattle.lc_walk.specs.Found.{Found, found_file, found_fault, found_directory, found_left}
+use Rattle.lc_walk.specs.Found.{Found, found_file, found_fault, found_directory, found_skipped}
 use Rattle.lc_walk.specs.Walk.{walk_of}
 
 -- the directory of a job is listed without a fault, and so are its rule files read: its items, and its job with these files
@@ -67,7 +67,7 @@ module _ (selection : SelectionModel) where
       (level selection j a ≡ faulted_level path word)
       ⊎ ((name : List ℕ) × (path ≡ path_in j.path name) × HasEntry j a name (failed word))
       ⊎ ((rest : List ℕ) × (path ≡ path_in j.path rest) × (word ≡ Absent) × HasAbsent j a rest)
-  Gives j a (found_left directory l) = (directory ≡ j.path) × HasEntry j a l.name (left l.kind l.reason)
+  Gives j a (found_skipped directory l) = (directory ≡ j.path) × HasEntry j a l.name (skipped l.kind l.reason)
 
   -- a directory that such names lead to gives it
   pub record IsFoundIn (depth : ℕ) (top : JobModel) (t : Tree) (x : Found) : Type 0 where

@@ -9,16 +9,16 @@ use Rattle.lc_level.specs.Answers.{Answers}
 use Rattle.lc_level.specs.WellFormed.{IsWellFormed}
 use Rattle.lc_level.specs.Job.{JobModel}
 use Rattle.lc_level.specs.Level.{CountedModel, Fate, Level, faulted_level, listed_level, level, absent_faults, counted_in, failed_in}
-use Rattle.lc_level.specs.Level.{walked_in, left_in}
+use Rattle.lc_level.specs.Level.{walked_in, classify}
 use Rattle.lc_level.specs.Selection.{SelectionModel}
 use Rattle.lc_walk.specs.Found.{children_at}
 use Rattle.lc_level.specs.Deep.{has_too_deep}
 use Rattle.lc_walk.specs.RowViews.{ChildModel, ListedRowModel}
 use Rattle.lc_walk.specs.Rows.{row_of, job_of}
 use Rattle.lc_level.specs.SitePaths.{site_path}
-use Rattle.lc_walk.specs.declared.given_up.GivenUp.{GivenUp}
-use Rattle.lc_walk.specs.declared.given_up.GivenUp.TheVariants.{Memory, TooManyDirs, TooDeep}
-use Rattle.lc_walk.specs.declared.options.Lists.{Lists}
+use Rattle.lc_walk.specs.declared.broken_cause.BrokenCause.{BrokenCause}
+use Rattle.lc_walk.specs.declared.broken_cause.BrokenCause.TheVariants.{Memory, TooManyDirs, TooDeep}
+use Rattle.lc_walk.specs.declared.options.ReportLists.{ReportLists}
 use Rattle.lc_walk.specs.declared.row.FaultedRow.{FaultedRow}
 use Rattle.lc_walk.specs.declared.row.BrokenRow.{BrokenRow}
 use Rattle.lc_walk.specs.declared.row.Row.{Row}
@@ -26,7 +26,7 @@ use Rattle.lc_walk.specs.declared.row.Row.TheVariants.{Listed, Faulted, Broken}
 
 -- what was asked of a walk: the lists of its report, and what decides beside the rules which entries are left out
 pub record Asked : Type 0 where
-  pub lists : Lists
+  pub lists : ReportLists
   pub selection : SelectionModel
 
 abbrev pub counted_files : Level → List CountedModel
@@ -56,7 +56,7 @@ pub record SaysListed (ask : Asked) (r : ListedRowModel) (a : Answers) (posts : 
   pub entries_are : r.entries ≡ length fates
   pub files_are : r.files ≡ (if ask.lists.files then counted_in fates else [])
   pub faults_are : r.faults ≡ absent_faults absent ++ failed_in fates
-  pub left_are : r.left ≡ (if ask.lists.left_out then left_in fates else [])
+  pub skipped_are : r.skipped ≡ (if ask.lists.left_out then classify fates else [])
   pub posts_are : jobs_of posts ≡ jobs_of (walked_in fates)
   pub children_are : r.children ≡ named (walked_in fates) posts
   pub shallow : has_too_deep ask.selection r.job a ≡ false
@@ -67,7 +67,7 @@ pub record SaysFaulted (ask : Asked) (r : FaultedRow) (a : Answers) (posts : Lis
   pub posts_are : posts ≡ []
 
 -- why a directory was given up, by what was posted; `full` says whether a post of the row's pass was answered Full
-abbrev pub IsCause : Asked → Bool → JobModel → Answers → List (ℕ × JobModel) → GivenUp → Type 0
+abbrev pub IsCause : Asked → Bool → JobModel → Answers → List (ℕ × JobModel) → BrokenCause → Type 0
 IsCause ask full j a posts Memory = Unit {0}
 IsCause ask full j a posts TooManyDirs = (full ≡ true) × (length posts < length (children_at ask.selection j a))
 IsCause ask full j a posts TooDeep = has_too_deep ask.selection j a ≡ true

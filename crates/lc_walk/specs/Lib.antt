@@ -5,8 +5,8 @@ pub mod Examples
 pub mod Extension
 pub mod Found
 pub mod FoundAt
-pub mod GivenUps
-pub mod KeptParts
+pub mod BrokenCauses
+pub mod RowParts
 pub mod Key
 pub mod Lawful
 pub mod Laws

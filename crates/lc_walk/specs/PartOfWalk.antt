@@ -5,14 +5,14 @@ use Rattle.lc_glob.specs.Bytes.{slash}
 use Rattle.lc_glob.specs.Path.{path_in, is_good_path}
 use Rattle.lc_level.specs.Answers.{Tree}
 use Rattle.lc_level.specs.Job.{JobModel}
-use Rattle.lc_level.specs.Level.{CountedModel, LeftModel, faulted_level, level}
+use Rattle.lc_level.specs.Level.{CountedModel, SkippedModel, faulted_level, level}
 use Rattle.lc_level.specs.Selection.{SelectionModel, narrowed}
 use Rattle.lc_level.specs.WellFormed.{IsWellFormed}
 use Rattle.lc_tree.specs.Kinds.{is_dir}
 use Rattle.lc_tree.specs.declared.entry.Kind.{Kind}
 use Rattle.lc_level.specs.declared.fault_word.FaultWord.{FaultWord}
 use Rattle.lc_level.specs.declared.fault_word.FaultWord.TheVariants.{Absent}
-use Rattle.lc_walk.specs.Found.{Found, found_file, found_fault, found_directory, found_left}
+use Rattle.lc_walk.specs.Found.{Found, found_file, found_fault, found_directory, found_skipped}
 use Rattle.lc_walk.specs.FoundAt.{LeadsTo}
 use Rattle.lc_walk.specs.Walk.{walk_of}
 
@@ -38,8 +38,8 @@ module _ (only : List (List ℕ)) where
   IsOnWay path = (path ≡ []) ⊎ (IsWithin path ⊎ IsAbove path)
 
 -- a directory at a path is listed
-abbrev pub Lists : List Found → List ℕ → Type 0
-Lists xs path = (entries : ℕ) × Contains xs (found_directory path entries)
+abbrev pub ListsPath : List Found → List ℕ → Type 0
+ListsPath xs path = (entries : ℕ) × Contains xs (found_directory path entries)
 
 module _ (selection : SelectionModel) (only : List (List ℕ)) (depth : ℕ) (top : JobModel) (t : Tree) where
   -- what is found in the whole tree, and of these paths
@@ -65,12 +65,12 @@ module _ (selection : SelectionModel) (only : List (List ℕ)) (depth : ℕ) (to
         Contains whole_walk (found_file directory f) × IsWithin only (path_in directory f.name)
     pub has_file : (directory : List ℕ) (f : CountedModel) → Contains whole_walk (found_file directory f) →
         IsWithin only (path_in directory f.name) → Contains part_walk (found_file directory f)
-    pub left : (directory : List ℕ) (l : LeftModel) → Contains part_walk (found_left directory l) →
-        Contains whole_walk (found_left directory l) × EntryTakesPart only l.kind (path_in directory l.name)
-    pub has_left : (directory : List ℕ) (l : LeftModel) → Contains whole_walk (found_left directory l) →
-        EntryTakesPart only l.kind (path_in directory l.name) → Contains part_walk (found_left directory l)
-    pub directory : (path : List ℕ) → Lists part_walk path → Lists whole_walk path × IsOnWay only path
-    pub has_directory : (path : List ℕ) → Lists whole_walk path → IsOnWay only path → Lists part_walk path
+    pub skipped : (directory : List ℕ) (l : SkippedModel) → Contains part_walk (found_skipped directory l) →
+        Contains whole_walk (found_skipped directory l) × EntryTakesPart only l.kind (path_in directory l.name)
+    pub has_skipped : (directory : List ℕ) (l : SkippedModel) → Contains whole_walk (found_skipped directory l) →
+        EntryTakesPart only l.kind (path_in directory l.name) → Contains part_walk (found_skipped directory l)
+    pub directory : (path : List ℕ) → ListsPath part_walk path → ListsPath whole_walk path × IsOnWay only path
+    pub has_directory : (path : List ℕ) → ListsPath whole_walk path → IsOnWay only path → ListsPath part_walk path
     pub fault : (path : List ℕ) (word : FaultWord) → Contains part_walk (found_fault path word) →
         (Contains whole_walk (found_fault path word) × (IsWithin only path ⊎ IsFaultOnWay path word))
         ⊎ ((word ≡ Absent) × Contains only path)

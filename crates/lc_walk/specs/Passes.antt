@@ -8,7 +8,7 @@ use Rattle.lc_level.specs.Job.{JobModel}
 use Rattle.lc_level.specs.Selection.{SelectionModel}
 use Rattle.lc_walk.specs.Lawful.{Asked}
 use Rattle.lc_walk.specs.Worked.{AreLawful, FoundOver, files_of_passes}
-use Rattle.lc_walk.specs.declared.options.Lists.{Lists}
+use Rattle.lc_walk.specs.declared.options.ReportLists.{ReportLists}
 use Rattle.lc_walk.specs.declared.row.Row.{Row}
 
 -- a board of this capacity and number of workers may be closed with these passes: it has room, workers and the top of a tree, and they are
@@ -29,5 +29,5 @@ pub record HaveWorked (ask : Asked) (MayAnswer : List ℕ → Answers → Type 0
   pub ended : (w : ℕ) (p : Pass JobModel Row) → slice_get passes w ≡ Some p → (p.worker ≡ w) × FoundOver p
   pub tallied : StandsFor tally (files_of_passes ask given passes)
 
-abbrev pub asked : Lists → SelectionModel → Asked
+abbrev pub asked : ReportLists → SelectionModel → Asked
 asked lists selection = record { lists = lists; selection = selection }

@@ -9,8 +9,8 @@ use Rattle.lc_board.specs.declared.event.Event.TheVariants.{Post, Claim, Return,
 use Rattle.lc_level.specs.Job.{JobModel}
 use Rattle.lc_walk.specs.Lawful.{jobs_of, named}
 use Rattle.lc_walk.specs.RowViews.{ChildModel}
-use Rattle.lc_walk.specs.declared.given_up.GivenUp.{GivenUp}
-use Rattle.lc_walk.specs.declared.given_up.GivenUp.TheVariants.{Memory, TooManyDirs, TooDeep}
+use Rattle.lc_walk.specs.declared.broken_cause.BrokenCause.{BrokenCause}
+use Rattle.lc_walk.specs.declared.broken_cause.BrokenCause.TheVariants.{Memory, TooManyDirs, TooDeep}
 use Rattle.lc_walk.specs.declared.row.Row.{Row}
 
 abbrev pub IsPost : Event JobModel Row → Type 0
@@ -30,21 +30,21 @@ pub record HasPosted (old new : Pass JobModel Row) (jobs : List JobModel) : Type
   pub jobs_are : jobs_of (posts_held since) ≡ jobs
 
 -- why not all were posted, but the first of them: fewer than all, where a post was refused
-abbrev pub RefusesPost : List JobModel → Pass JobModel Row → Pass JobModel Row → GivenUp → Type 0
+abbrev pub RefusesPost : List JobModel → Pass JobModel Row → Pass JobModel Row → BrokenCause → Type 0
 RefusesPost jobs old new Memory = (n : ℕ) × HasPosted old new (take n jobs)
 RefusesPost jobs old new TooManyDirs = (n : ℕ) × HasPosted old new (take n jobs) × (new.full ≡ true) × (n < length jobs)
 RefusesPost jobs old new TooDeep = ⊥
 
 -- what posting child directories after others answers: their names with the numbers of the posts come to those of the others
 abbrev pub PostsMore : List (List ℕ × JobModel) → Pass JobModel Row → Pass JobModel Row →
-    List ChildModel → List ChildModel → Result (Unit {0}) GivenUp → Type 0
+    List ChildModel → List ChildModel → Result (Unit {0}) BrokenCause → Type 0
 PostsMore children old new before after (Ok _) =
     (p : HasPosted old new (jobs_of children)) × (after ≡ before ++ named children (posts_held p.since))
 PostsMore children old new before after (Err cause) = RefusesPost (jobs_of children) old new cause
 
 -- what posting child directories answers: their names with the numbers of the posts
 abbrev pub PostsChildren : List (List ℕ × JobModel) → Pass JobModel Row → Pass JobModel Row
-    → Result (Vec ChildModel Global) GivenUp → Type 0
+    → Result (Vec ChildModel Global) BrokenCause → Type 0
 PostsChildren children old new (Ok posted) =
     (p : HasPosted old new (jobs_of children)) × (posted.items ≡ named children (posts_held p.since))
 PostsChildren children old new (Err cause) = RefusesPost (jobs_of children) old new cause

@@ -3,16 +3,16 @@ use Rattle.std.specs.Prelude.{◌≡◌, List}
 use Rattle.std.specs.List.Sorted.{IsPermutation, IsSortedByKey}
 use Rattle.lc_walk.specs.Tally.{TallyModel, CountedFile, StandsFor, IsTally}
 use Rattle.lc_walk.specs.TallyRows.{AddsUp}
-use Rattle.lc_walk.specs.ReportLines.{FileLineModel, LeftLineModel, file_paths, fault_paths, left_paths}
+use Rattle.lc_walk.specs.ReportLines.{FileLineModel, SkippedLineModel, file_paths, fault_paths, skipped_paths}
 use Rattle.lc_level.specs.FaultLines.{FaultLineModel}
 use Rattle.lc_tree.specs.ByteOrder.{bytes_cmp, AreApart, AreInOrder}
-use Rattle.lc_walk.specs.declared.options.Lists.{Lists}
+use Rattle.lc_walk.specs.declared.options.ReportLists.{ReportLists}
 use Rattle.lc_walk.specs.declared.report.Report.{Report}
 use Rattle.lc_walk.specs.declared.report.findings.Findings.{Findings}
 
 -- the report of a tally and of findings, by the lists that were asked for: each list of lines in order of their paths' bytes,
 -- strictly where no path stands twice in it
-pub record IsReport (t : TallyModel) (lists : Lists) (found : Findings) (r : Report) : Type 0 where
+pub record IsReport (t : TallyModel) (lists : ReportLists) (found : Findings) (r : Report) : Type 0 where
   pub lists_are : r.lists ≡ lists
   pub tally : (fs : List CountedFile) → StandsFor t fs → IsTally fs r.rows.items
   pub rows : AddsUp t.rows r.rows.items
@@ -25,6 +25,6 @@ pub record IsReport (t : TallyModel) (lists : Lists) (found : Findings) (r : Rep
   pub faults : IsPermutation found.faults.items r.faults.items
   pub fault_order : IsSortedByKey (λ (f : FaultLineModel). f.path) bytes_cmp r.faults.items
   pub faults_strictly : AreApart (fault_paths found.faults.items) → AreInOrder (fault_paths r.faults.items)
-  pub left : IsPermutation found.left.items r.left.items
-  pub left_order : IsSortedByKey (λ (l : LeftLineModel). l.path) bytes_cmp r.left.items
-  pub left_strictly : AreApart (left_paths found.left.items) → AreInOrder (left_paths r.left.items)
+  pub skipped : IsPermutation found.skipped.items r.skipped.items
+  pub skipped_order : IsSortedByKey (λ (l : SkippedLineModel). l.path) bytes_cmp r.skipped.items
+  pub skipped_strictly : AreApart (skipped_paths found.skipped.items) → AreInOrder (skipped_paths r.skipped.items)

@@ -1,7 +1,7 @@
 -- The lines of a report.
 use Rattle.std.specs.Prelude.{ℕ, List, map}
 use Rattle.lc_rules.specs.declared.states.TextState.{TextState}
-use Rattle.lc_census.specs.declared.totals.Count.{Count}
+use Rattle.lc_census.specs.declared.count.Count.{Count}
 use Rattle.lc_level.specs.FaultLines.{FaultLineModel}
 use Rattle.lc_level.specs.Level.{Reason}
 use Rattle.lc_tree.specs.declared.entry.Kind.{Kind}
@@ -13,7 +13,7 @@ pub record FileLineModel : Type 0 where
   pub count : Count
 
 -- an entry that was left out
-pub record LeftLineModel : Type 0 where
+pub record SkippedLineModel : Type 0 where
   pub path : List ℕ
   pub kind : Kind
   pub reason : Reason
@@ -27,5 +27,5 @@ abbrev pub fault_paths : List FaultLineModel → List (List ℕ)
 fault_paths fs = map (λ f. f.path) fs
 
 -- the paths of entries left out, in order
-abbrev pub left_paths : List LeftLineModel → List (List ℕ)
-left_paths ls = map (λ l. l.path) ls
+abbrev pub skipped_paths : List SkippedLineModel → List (List ℕ)
+skipped_paths ls = map (λ l. l.path) ls

@@ -1,7 +1,7 @@
 -- The parts of a row that was listed, as contracts see them.
 use Rattle.std.specs.Prelude.{ℕ, List}
 use Rattle.lc_level.specs.Job.{JobModel}
-use Rattle.lc_level.specs.Level.{CountedModel, FileFaultModel, LeftModel}
+use Rattle.lc_level.specs.Level.{CountedModel, FileFaultModel, SkippedModel}
 
 -- a child directory: its name, and the number of its post
 pub record ChildModel : Type 0 where
@@ -15,5 +15,5 @@ pub record ListedRowModel : Type 0 where
   pub entries : ℕ
   pub files : List CountedModel
   pub faults : List FileFaultModel
-  pub left : List LeftModel
+  pub skipped : List SkippedModel
   pub children : List ChildModel

@@ -11,13 +11,13 @@ use Rattle.lc_walk.specs.Tally.{TallyModel, CountedFile, StandsFor}
 use Rattle.lc_walk.specs.TreeOfRows.{numbers_below}
 use Rattle.lc_walk.specs.Worked.{TalliesFor, HasWorked}
 use Rattle.lc_walk.specs.declared.row.Row.{Row}
-use Rattle.lc_walk.specs.declared.worker.End.{End}
-use Rattle.lc_walk.specs.declared.worker.End.TheVariants.{Over}
-use Rattle.lc_walk.specs.declared.worker.Worked.{Worked}
+use Rattle.lc_walk.specs.declared.worker.StopReason.{StopReason}
+use Rattle.lc_walk.specs.declared.worker.StopReason.TheVariants.{Over}
+use Rattle.lc_walk.specs.declared.worker.WorkerResult.{WorkerResult}
 
 -- from its first pass to its last a worker has worked, and has come to this end with this tally
 pub record HasRun (ask : Asked) (MayAnswer : List ℕ → Answers → Type 0)
-    (first last : Pass JobModel Row) (end : End) (tally : Option TallyModel) : Type 0 where
+    (first last : Pass JobModel Row) (end : StopReason) (tally : Option TallyModel) : Type 0 where
   pub ends : EndsAs end last
   pub worked : HasWorked ask MayAnswer first last tally
 
@@ -28,21 +28,21 @@ module _ {B P : Type 0} (owns : B → P → Type 0) (view : P → Pass JobModel 
   AreFree passes = (i : ℕ) (p : P) → i < length passes → p ≡ slice_index_or passes i p → IsPassOf owns view board IsFree p
 
   -- a worker that was given one has run, and leaves one that is the board's own
-  abbrev pub HasRunOn : Asked → (List ℕ → Answers → Type 0) → P → Worked P → Type 0
-  HasRunOn ask MayAnswer given left = owns board left.pass × HasRun ask MayAnswer (view given) (view left.pass) left.end left.tally
+  abbrev pub HasRunOn : Asked → (List ℕ → Answers → Type 0) → P → WorkerResult P → Type 0
+  HasRunOn ask MayAnswer given skipped = owns board skipped.pass × HasRun ask MayAnswer (view given) (view skipped.pass) skipped.end skipped.tally
 
   -- so has each worker that was given one of them, in order
-  abbrev pub HaveRunOn : Asked → (List ℕ → Answers → Type 0) → List P → List (Worked P) → Type 0
-  HaveRunOn ask MayAnswer passes workers = (i : ℕ) (p : P) (w : Worked P) → i < length passes →
+  abbrev pub HaveRunOn : Asked → (List ℕ → Answers → Type 0) → List P → List (WorkerResult P) → Type 0
+  HaveRunOn ask MayAnswer passes workers = (i : ℕ) (p : P) (w : WorkerResult P) → i < length passes →
       HasRunOn ask MayAnswer (slice_index_or passes i p) (slice_index_or workers i w)
 
 module _ {P : Type 0} where
   -- each has found the board over
-  abbrev pub AllOver : List (Worked P) → Type 0
-  AllOver workers = (w : ℕ) (x : Worked P) → slice_get workers w ≡ Some x → x.end ≡ Over
+  abbrev pub AllOver : List (WorkerResult P) → Type 0
+  AllOver workers = (w : ℕ) (x : WorkerResult P) → slice_get workers w ≡ Some x → x.end ≡ Over
 
   -- the tally is that of the files of all their tallies
-  abbrev pub TalliesAll : List (Worked P) → TallyModel → Type 0
+  abbrev pub TalliesAll : List (WorkerResult P) → TallyModel → Type 0
   TalliesAll workers tally =
-      (files : ℕ → List CountedFile) → ((w : ℕ) (x : Worked P) → slice_get workers w ≡ Some x → TalliesFor x.tally (files w)) →
+      (files : ℕ → List CountedFile) → ((w : ℕ) (x : WorkerResult P) → slice_get workers w ≡ Some x → TalliesFor x.tally (files w)) →
       StandsFor tally (flat_map files (numbers_below (length workers)))

@@ -8,11 +8,11 @@ use Rattle.lc_level.specs.Job.{JobModel}
 use Rattle.lc_walk.specs.Lawful.{Asked}
 use Rattle.lc_walk.specs.Tally.{TallyModel, CountedFile, StandsFor}
 use Rattle.lc_walk.specs.Worked.{HasWorked, FoundOver}
-use Rattle.lc_walk.specs.declared.given_up.GivenUp.{GivenUp}
-use Rattle.lc_walk.specs.declared.given_up.GivenUp.TheVariants.{Memory, TooManyDirs, TooDeep}
+use Rattle.lc_walk.specs.declared.broken_cause.BrokenCause.{BrokenCause}
+use Rattle.lc_walk.specs.declared.broken_cause.BrokenCause.TheVariants.{Memory, TooManyDirs, TooDeep}
 use Rattle.lc_walk.specs.declared.row.Row.{Row}
-use Rattle.lc_walk.specs.declared.worker.End.{End}
-use Rattle.lc_walk.specs.declared.worker.End.TheVariants.{Over, Memory as NoMemory}
+use Rattle.lc_walk.specs.declared.worker.StopReason.{StopReason}
+use Rattle.lc_walk.specs.declared.worker.StopReason.TheVariants.{Over, Memory as NoMemory}
 
 -- a claim is held that was got with this job, and nothing was posted under it
 pub record HoldsJob (j : JobModel) (p : Pass JobModel Row) : Type 0 where
@@ -23,7 +23,7 @@ pub record HoldsJob (j : JobModel) (p : Pass JobModel Row) : Type 0 where
   pub nothing : posted p ≡ 0
 
 -- what giving up a directory for a cause answers: whether it was for want of memory
-abbrev pub GivesUp : GivenUp → Result (Unit {0}) AllocError → Type 0
+abbrev pub GivesUp : BrokenCause → Result (Unit {0}) AllocError → Type 0
 GivesUp Memory (Ok _) = ⊥
 GivesUp Memory (Err _) = Unit {0}
 GivesUp TooManyDirs (Ok _) = Unit {0}
@@ -49,6 +49,6 @@ Serves ask MayAnswer old new before after (Ok _) = WorksOn ask MayAnswer old new
 Serves ask MayAnswer old new before after (Err _) = WorksOn ask MayAnswer old new (Some before) None
 
 -- how a worker has come to its end
-abbrev pub EndsAs : End → Pass JobModel Row → Type 0
+abbrev pub EndsAs : StopReason → Pass JobModel Row → Type 0
 EndsAs Over p = FoundOver p
 EndsAs NoMemory p = p.refused ≡ true

@@ -5,7 +5,7 @@ use Rattle.lc_walk.specs.Key.{Key, same_key}
 use Rattle.lc_walk.specs.Sums.{plus, IsModest}
 use Rattle.lc_walk.specs.TallyRows.{TallyRowModel, sums_of_rows, rows_with, IsInOrder, Gains}
 use Rattle.lc_rules.specs.declared.states.TextState.{TextState}
-use Rattle.lc_census.specs.declared.totals.Count.{Count}
+use Rattle.lc_census.specs.declared.count.Count.{Count}
 use Rattle.lc_walk.specs.declared.tally.sums.Sums.{Sums}
 
 -- what a tally needs of a counted file
@@ -53,7 +53,7 @@ pub record StandsFor (t : TallyModel) (fs : List CountedFile) : Type 0 where
   pub totals : t.totals ≡ sums_of_files fs
 
 -- what is true of every tally
-pub record IsKept (t : TallyModel) : Type 0 where
+pub record TallyHolds (t : TallyModel) : Type 0 where
   pub totals : t.totals ≡ sums_of_rows t.rows
   pub modest : IsModest t.totals
 

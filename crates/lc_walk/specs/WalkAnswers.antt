@@ -4,7 +4,7 @@ use Rattle.lc_board.specs.ClosedBoard.{Promises}
 use Rattle.lc_board.specs.LegalHistory.{posts_under}
 use Rattle.lc_board.specs.declared.event.Event.{Event}
 use Rattle.lc_board.specs.declared.answers.Ended.{Ended}
-use Rattle.lc_walk.specs.ReportLines.{file_paths, fault_paths, left_paths}
+use Rattle.lc_walk.specs.ReportLines.{file_paths, fault_paths, skipped_paths}
 use Rattle.lc_tree.specs.ByteOrder.{AreApart, AreInOrder}
 use Rattle.lc_walk.specs.declared.report.Report.{Report}
 use Rattle.lc_tree.specs.Paths.{names_of_path}
@@ -54,8 +54,8 @@ module _ (MayAnswer : List ℕ → Answers → Type 0) (ask : Asked) (capacity w
         IsReportOf ask.lists (walk_of ask.selection depth top (tree_of_rows found.rows found.answers)) r
     pub files_once : AreInOrder (file_paths r.files.items)
     pub faults_once : AreInOrder (fault_paths r.faults.items)
-    pub left_once : AreInOrder (left_paths r.left.items)
-    pub apart : AreApart (file_paths r.files.items ++ fault_paths r.faults.items ++ left_paths r.left.items)
+    pub skipped_once : AreInOrder (skipped_paths r.skipped.items)
+    pub apart : AreApart (file_paths r.files.items ++ fault_paths r.faults.items ++ skipped_paths r.skipped.items)
     pub one_answer : (t : Tree) → IsOneAnswer ask.selection MayAnswer top t →
         (depth : ℕ) → capacity ≤ depth → IsReportOf ask.lists (walk_of ask.selection depth top t) r
 

@@ -3,14 +3,14 @@ use Rattle.std.specs.Prelude.{◌≡◌, ℕ, if◌then◌else◌, List, [], ◌
 use Rattle.std.specs.List.Sorted.{IsPermutation, IsSortedByKey}
 use Rattle.lc_walk.specs.Extension.{extension_of}
 use Rattle.lc_walk.specs.Tally.{CountedFile, counted, sums_of_files, IsTally}
-use Rattle.lc_walk.specs.ReportLines.{FileLineModel, LeftLineModel}
+use Rattle.lc_walk.specs.ReportLines.{FileLineModel, SkippedLineModel}
 use Rattle.lc_level.specs.FaultLines.{FaultLineModel}
 use Rattle.lc_tree.specs.ByteOrder.{bytes_cmp}
-use Rattle.lc_walk.specs.declared.options.Lists.{Lists}
+use Rattle.lc_walk.specs.declared.options.ReportLists.{ReportLists}
 use Rattle.lc_walk.specs.declared.report.Report.{Report}
 use Rattle.lc_glob.specs.Path.{path_in}
-use Rattle.lc_level.specs.Level.{CountedModel, LeftModel}
-use Rattle.lc_walk.specs.Found.{Found, found_file, found_fault, found_directory, found_left}
+use Rattle.lc_level.specs.Level.{CountedModel, SkippedModel}
+use Rattle.lc_walk.specs.Found.{Found, found_file, found_fault, found_directory, found_skipped}
 
 -- what the tally needs of a counted file, and its line
 abbrev pub tallied : CountedModel → CountedFile
@@ -20,44 +20,44 @@ abbrev pub line_of : List ℕ → CountedModel → FileLineModel
 line_of directory f = record { path = path_in directory f.name; text = f.text; count = f.count }
 
 -- the line of an entry left out
-abbrev pub left_line : List ℕ → LeftModel → LeftLineModel
-left_line directory l = record { path = path_in directory l.name; kind = l.kind; reason = l.reason }
+abbrev pub skipped_line : List ℕ → SkippedModel → SkippedLineModel
+skipped_line directory l = record { path = path_in directory l.name; kind = l.kind; reason = l.reason }
 
 abbrev pub tallied_in : Found → List CountedFile
 tallied_in (found_file directory f) = tallied f ∷ []
 tallied_in (found_fault path word) = []
 tallied_in (found_directory path entries) = []
-tallied_in (found_left directory l) = []
+tallied_in (found_skipped directory l) = []
 
 abbrev pub file_in : Found → List FileLineModel
 file_in (found_file directory f) = line_of directory f ∷ []
 file_in (found_fault path word) = []
 file_in (found_directory path entries) = []
-file_in (found_left directory l) = []
+file_in (found_skipped directory l) = []
 
 abbrev pub fault_in : Found → List FaultLineModel
 fault_in (found_file directory f) = []
 fault_in (found_fault path word) = record { path = path; word = word } ∷ []
 fault_in (found_directory path entries) = []
-fault_in (found_left directory l) = []
+fault_in (found_skipped directory l) = []
 
 abbrev pub directory_in : Found → List (List ℕ)
 directory_in (found_file directory f) = []
 directory_in (found_fault path word) = []
 directory_in (found_directory path entries) = path ∷ []
-directory_in (found_left directory l) = []
+directory_in (found_skipped directory l) = []
 
-abbrev pub left_out_in : Found → List LeftLineModel
-left_out_in (found_file directory f) = []
-left_out_in (found_fault path word) = []
-left_out_in (found_directory path entries) = []
-left_out_in (found_left directory l) = left_line directory l ∷ []
+abbrev pub skipped_lines_in : Found → List SkippedLineModel
+skipped_lines_in (found_file directory f) = []
+skipped_lines_in (found_fault path word) = []
+skipped_lines_in (found_directory path entries) = []
+skipped_lines_in (found_skipped directory l) = skipped_line directory l ∷ []
 
 abbrev pub entries_in : Found → ℕ
 entries_in (found_file directory f) = 0
 entries_in (found_fault path word) = 0
 entries_in (found_directory path entries) = entries
-entries_in (found_left directory l) = 0
+entries_in (found_skipped directory l) = 0
 
 -- the files as the tally needs them, the lines of files, faults and entries left out, the listed directories, the number of
 -- their entries
@@ -73,15 +73,15 @@ faults_of xs = flat_map fault_in xs
 abbrev pub directories_of : List Found → List (List ℕ)
 directories_of xs = flat_map directory_in xs
 
-abbrev pub left_out_of : List Found → List LeftLineModel
-left_out_of xs = flat_map left_out_in xs
+abbrev pub skipped_lines_of : List Found → List SkippedLineModel
+skipped_lines_of xs = flat_map skipped_lines_in xs
 
 abbrev pub entry_count : List Found → ℕ
 entry_count xs = sum_by entries_in xs
 
 -- its tally, totals, number of listed directories and of their entries, files and entries left out if asked for, and faults, each
 -- list in order of paths' bytes
-pub record IsReportOf (lists : Lists) (xs : List Found) (r : Report) : Type 0 where
+pub record IsReportOf (lists : ReportLists) (xs : List Found) (r : Report) : Type 0 where
   pub lists_are : r.lists ≡ lists
   pub tally : IsTally (tallied_of xs) r.rows.items
   pub totals : r.totals ≡ sums_of_files (tallied_of xs)
@@ -91,9 +91,9 @@ pub record IsReportOf (lists : Lists) (xs : List Found) (r : Report) : Type 0 wh
   pub file_order : IsSortedByKey (λ (f : FileLineModel). f.path) bytes_cmp r.files.items
   pub faults_are : IsPermutation (faults_of xs) r.faults.items
   pub fault_order : IsSortedByKey (λ (f : FaultLineModel). f.path) bytes_cmp r.faults.items
-  pub left_are : IsPermutation (if lists.left_out then left_out_of xs else []) r.left.items
-  pub left_order : IsSortedByKey (λ (l : LeftLineModel). l.path) bytes_cmp r.left.items
+  pub skipped_are : IsPermutation (if lists.left_out then skipped_lines_of xs else []) r.skipped.items
+  pub skipped_order : IsSortedByKey (λ (l : SkippedLineModel). l.path) bytes_cmp r.skipped.items
 
 -- it tells nothing of the order in which things were found
 abbrev pub ReportLaw : Type 0
-ReportLaw = (lists : Lists) (xs ys : List Found) (r : Report) → IsPermutation xs ys → IsReportOf lists xs r → IsReportOf lists ys r
+ReportLaw = (lists : ReportLists) (xs ys : List Found) (r : Report) → IsPermutation xs ys → IsReportOf lists xs r → IsReportOf lists ys r

@@ -16,7 +16,7 @@ use Rattle.lc_level.specs.WellFormed.{IsWellFormed}
 use Rattle.lc_walk.specs.TreeOfRows.{numbers_below}
 use Rattle.lc_walk.specs.WalkReport.{tallied}
 use Rattle.lc_walk.specs.Assembled.{IsBrokenBy}
-use Rattle.lc_walk.specs.declared.given_up.GivenUp.TheVariants.{Memory}
+use Rattle.lc_walk.specs.declared.broken_cause.BrokenCause.TheVariants.{Memory}
 use Rattle.lc_walk.specs.declared.row.Row.{Row}
 use Rattle.lc_walk.specs.declared.row.Row.TheVariants.{Listed, Faulted, Broken}
 

@@ -7,7 +7,7 @@ ghost use Rattle.lc_walk.specs.WalkAnswers.{WalkAnswers};
 ghost use Rattle.lc_walk.specs.WalkOn.{fault_of_close};
 ghost use Rattle.lc_level.specs.Job.{JobModel};
 
-use crate::options::Lists;
+use crate::options::ReportLists;
 use crate::report::{Report, assemble};
 use crate::row::Row;
 use crate::tally::Tally;
@@ -37,7 +37,7 @@ pub fn finish<B: Shared<Job, Row>, T: Tree>(
     alloc: Global,
     board: B,
     passes: Vec<B::Pass>,
-    lists: Lists,
+    lists: ReportLists,
     tally: Tally,
 ) -> Result<Report, WalkFault>
     requires { IsClosable (B.capacity_of board) (B.workers_of board) (B.is_root board) (B.owns board) B.Pass.view passes.items }

@@ -1,6 +1,6 @@
 //! The walk over a tree: its workers, their rows and tallies, and what it reports.
 //!
-//! - `row`: what a worker gives for a directory, `served_job` among it; `given_up`: why one was given up
+//! - `row`: what a worker gives for a directory, `served_job` among it; `broken_cause`: why one was given up
 //! - `tally`: the sums over the counted files, a row for each key
 //! - `report`: what a walk reports, and how the rows of a closed board make it
 //! - `worker`, with what is below it: one worker; `workers`: all workers at the same time
@@ -9,8 +9,8 @@
 //! - `laws`: what is true of the definitions that the contracts cite
 #![tactic(auto)]
 
+mod broken_cause;
 mod closing;
-mod given_up;
 mod laws;
 mod options;
 mod prepared_options;
@@ -23,20 +23,20 @@ mod walking;
 mod worker;
 mod workers;
 
+pub use broken_cause::BrokenCause;
 pub use closing::finish;
-pub use given_up::GivenUp;
 pub use laws::{
     a_part_is_the_whole_filtered, a_report_has_no_order, a_tally_has_no_order,
     all_that_is_found_is_given, entries_are_accounted_for, lawful_in_part_is_lawful,
     paths_stand_once, reports_of_memory_are_those_of_its_node, rows_are_the_walk_of_one_tree,
     rows_are_the_walk_of_their_tree, the_rule_of_a_line_ignores_it, walk_examples_hold,
 };
-pub use options::{Lists, Options};
+pub use options::{Options, ReportLists};
 pub use prepared_options::PreparedOptions;
-pub use report::{FaultLine, FileLine, Findings, LeftLine, Report, assemble};
+pub use report::{FaultLine, FileLine, Findings, Report, SkippedLine, assemble};
 pub use row::{BrokenRow, Child, FaultedRow, ListedParts, ListedRow, Row};
 pub use served_job::ServedJob;
 pub use tally::{KeyRef, Sums, Tally, TallyRow, extension};
 pub use walk_fault::WalkFault;
 pub use walking::{walk, walk_on};
-pub use worker::{End, Worked, Worker};
+pub use worker::{StopReason, Worker, WorkerResult};

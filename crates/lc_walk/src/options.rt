@@ -7,7 +7,7 @@ use std::sync::Arc;
 
 /// Which lists a report is to have, beside its rows and its faults.
 #[derive(Clone, Copy, Debug, Drop, PartialEq, Eq)]
-pub struct Lists {
+pub struct ReportLists {
     /// A line for each counted file.
     pub files: bool,
     /// A line for each entry that was left out. What stands below one is neither read nor listed.
@@ -26,7 +26,7 @@ pub struct Options<'o> {
     /// The most directories that are walked, the top included: 1 to 1,048,576.
     pub max_dirs: u32,
     /// The lists of the report.
-    pub lists: Lists,
+    pub lists: ReportLists,
     /// Rules for the whole tree, which every `.gitignore` overrides, as Git's `core.excludesFile` (gitignore(5)).
     pub exclude: Option<Arc<IgnoreFile, Global>>,
     /// What has the attribute `export-ignore` is left out, as `git archive` does (gitattributes(5)).
@@ -45,7 +45,7 @@ impl<'o> Options<'o> {
         Options {
             threads,
             max_dirs,
-            lists: Lists {
+            lists: ReportLists {
                 files: false,
                 left_out: false,
             },

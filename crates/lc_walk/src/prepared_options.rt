@@ -2,7 +2,7 @@
 ghost use Rattle.std.specs.Prelude.{◌≡◌, IfOk};
 ghost use Rattle.lc_walk.specs.WalkOptions.{asked_by};
 
-use crate::options::{Lists, Options};
+use crate::options::{Options, ReportLists};
 use lc_level::{OnlyPaths, Selection};
 use std::alloc::{AllocError, Global};
 use std::marker::Model;
@@ -39,7 +39,7 @@ impl<'o> PreparedOptions<'o> {
     }
 
     /// Which lists the report is to have, beside its rows and its faults.
-    pub(crate) fn lists(&self) -> Lists
+    pub(crate) fn lists(&self) -> ReportLists
         ensures { result ≡ self.now.lists }
     {
         self.options.lists

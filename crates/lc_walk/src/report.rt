@@ -6,7 +6,7 @@
 ghost use Rattle.std.specs.Prelude.{◌≡◌};
 ghost use Rattle.std.specs.List.Sorted.{IsPermutation, IsSortedByKey};
 ghost use Rattle.lc_walk.specs.Report.{IsReport};
-ghost use Rattle.lc_walk.specs.ReportLines.{FileLineModel, LeftLineModel, file_paths, fault_paths, left_paths};
+ghost use Rattle.lc_walk.specs.ReportLines.{FileLineModel, SkippedLineModel, file_paths, fault_paths, skipped_paths};
 ghost use Rattle.lc_level.specs.FaultLines.{FaultLineModel};
 ghost use Rattle.lc_tree.specs.ByteOrder.{bytes_cmp, AreApart, AreInOrder};
 
@@ -16,11 +16,11 @@ mod report_lines;
 mod row_lines;
 mod tree_check;
 
-use crate::options::Lists;
+use crate::options::ReportLists;
 use crate::tally::{Sums, Tally, TallyRow};
 pub use assembly::assemble;
 pub use findings::Findings;
-pub use report_lines::{FaultLine, FileLine, LeftLine};
+pub use report_lines::{FaultLine, FileLine, SkippedLine};
 
 /// What a walk found.
 #[derive(Debug, Drop)]
@@ -34,13 +34,13 @@ pub struct Report {
     /// The number of their entries that take part.
     pub entries: u64,
     /// Which lists were asked for.
-    pub lists: Lists,
+    pub lists: ReportLists,
     /// The counted files in order of their paths' bytes, if they were asked for.
     pub files: Vec<FileLine>,
     /// The faults in order of their paths' bytes.
     pub faults: Vec<FaultLine>,
     /// The entries that were left out in order of their paths' bytes, if they were asked for.
-    pub left: Vec<LeftLine>,
+    pub skipped: Vec<SkippedLine>,
 }
 
 impl Report {
@@ -50,7 +50,7 @@ impl Report {
     /// let report = Report::new(tally, lists, findings);
     /// assert_eq!(report.lists, lists);
     /// ```
-    pub fn new(tally: Tally, lists: Lists, findings: Findings) -> Report
+    pub fn new(tally: Tally, lists: ReportLists, findings: Findings) -> Report
         ensures { IsReport tally lists findings result }
     {
         let Findings {
@@ -58,11 +58,11 @@ impl Report {
             entries,
             mut files,
             mut faults,
-            mut left,
+            mut skipped,
         } = findings;
         sort_files(&mut files);
         sort_faults(&mut faults);
-        sort_left(&mut left);
+        sort_skipped(&mut skipped);
         Report {
             totals: tally.totals(),
             rows: tally.into_rows(),
@@ -71,7 +71,7 @@ impl Report {
             lists,
             files,
             faults,
-            left,
+            skipped,
         }
     }
 }
@@ -92,10 +92,10 @@ fn sort_faults(faults: &mut Vec<FaultLine>)
     faults.sort_unstable_by(|a, b| a.path.cmp(&b.path));
 }
 
-fn sort_left(left: &mut Vec<LeftLine>)
-    ensures same { IsPermutation left.old.items left.new.items }
-    ensures order { IsSortedByKey (λ (l : LeftLineModel). l.path) bytes_cmp left.new.items }
-    ensures strict { AreApart (left_paths left.old.items) → AreInOrder (left_paths left.new.items) }
+fn sort_skipped(skipped: &mut Vec<SkippedLine>)
+    ensures same { IsPermutation skipped.old.items skipped.new.items }
+    ensures order { IsSortedByKey (λ (l : SkippedLineModel). l.path) bytes_cmp skipped.new.items }
+    ensures strict { AreApart (skipped_paths skipped.old.items) → AreInOrder (skipped_paths skipped.new.items) }
 {
-    left.sort_unstable_by(|a, b| a.path.cmp(&b.path));
+    skipped.sort_unstable_by(|a, b| a.path.cmp(&b.path));
 }

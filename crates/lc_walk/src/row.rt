@@ -1,10 +1,10 @@
 //! What a worker gives for a directory.
 ghost use Rattle.std.specs.Prelude.{◌≡◌, IfOk, IfErr};
-ghost use Rattle.lc_walk.specs.KeptParts.{listed_in};
+ghost use Rattle.lc_walk.specs.RowParts.{listed_in};
 
-use crate::given_up::GivenUp;
+use crate::broken_cause::BrokenCause;
 use crate::served_job::ServedJob;
-use lc_level::{Counted, FaultSite, FaultWord, FileFault, LeftOut};
+use lc_level::{Counted, FaultSite, FaultWord, FileFault, SkippedEntry};
 use std::alloc::Global;
 use std::marker::Model;
 
@@ -35,7 +35,7 @@ pub struct ListedParts {
     /// The paths that are asked for and absent, then the files that were not counted, in the order of their names.
     pub faults: Vec<FileFault>,
     /// The entries that were left out, in the order of their names, where the report is to have them.
-    pub left: Vec<LeftOut>,
+    pub skipped: Vec<SkippedEntry>,
     /// The posted child directories, in the order of their names.
     pub children: Vec<Child>,
 }
@@ -50,34 +50,34 @@ impl Model for ListedParts {
       entries = r.entries;
       files = r.files.items;
       faults = r.faults.items;
-      left = r.left.items;
+      skipped = r.skipped.items;
       children = r.children.items;
     } };
 }
 
 /// What is kept of a listed directory. Most have nothing to list, and take no room for it.
 #[derive(Drop)]
-enum KeptParts {
+enum RowParts {
     Bare { job: ServedJob, entries: u32 },
     Full(Box<ListedParts, Global>),
 }
 
-impl KeptParts {
+impl RowParts {
     /// Where memory is refused the job comes back.
-    fn new(alloc: Global, parts: ListedParts) -> Result<KeptParts, ServedJob>
+    fn new(alloc: Global, parts: ListedParts) -> Result<RowParts, ServedJob>
         ensures kept { IfOk result (λ k. listed_in k ≡ parts) }
         ensures job { IfErr result (λ j. j ≡ parts.job) }
     {
         if parts.files.is_empty()
             && parts.faults.is_empty()
-            && parts.left.is_empty()
+            && parts.skipped.is_empty()
             && parts.children.is_empty()
         {
             let ListedParts { job, entries, .. } = parts;
-            return Ok(KeptParts::Bare { job, entries });
+            return Ok(RowParts::Bare { job, entries });
         }
         match Box::new(alloc, parts) {
-            Ok(parts) => Ok(KeptParts::Full(parts)),
+            Ok(parts) => Ok(RowParts::Full(parts)),
             Err(refused) => Err(refused.value.job),
         }
     }
@@ -86,8 +86,8 @@ impl KeptParts {
         ensures { result ≡ (listed_in self).job }
     {
         match self {
-            KeptParts::Bare { job, .. } => job,
-            KeptParts::Full(parts) => Box::into_inner(parts).job,
+            RowParts::Bare { job, .. } => job,
+            RowParts::Full(parts) => Box::into_inner(parts).job,
         }
     }
 }
@@ -95,12 +95,12 @@ impl KeptParts {
 /// A directory that was listed. It is one word long, so that a board takes little room for a row.
 #[derive(Drop)]
 pub struct ListedRow {
-    parts: Box<KeptParts, Global>,
+    parts: Box<RowParts, Global>,
 }
 
 impl Model for ListedRow {
     ghost use Rattle.std.specs.Box.{box_value};
-    ghost use Rattle.lc_walk.specs.KeptParts.{listed_in};
+    ghost use Rattle.lc_walk.specs.RowParts.{listed_in};
     ghost use Rattle.lc_walk.specs.RowViews.{ListedRowModel};
 
     ghost Value = { ListedRowModel };
@@ -114,7 +114,7 @@ impl ListedRow {
         ensures row { IfOk result (λ r. r ≡ parts) }
         ensures job { IfErr result (λ j. j ≡ parts.job) }
     {
-        let parts = KeptParts::new(alloc, parts)?;
+        let parts = RowParts::new(alloc, parts)?;
         match Box::new(alloc, parts) {
             Ok(parts) => Ok(ListedRow { parts }),
             Err(refused) => Err(refused.value.into_job()),
@@ -126,8 +126,8 @@ impl ListedRow {
         ensures { result.now ≡ self.now.job }
     {
         match &*self.parts {
-            KeptParts::Bare { job, .. } => job,
-            KeptParts::Full(parts) => &parts.job,
+            RowParts::Bare { job, .. } => job,
+            RowParts::Full(parts) => &parts.job,
         }
     }
 
@@ -136,8 +136,8 @@ impl ListedRow {
         ensures { result ≡ self.now.entries }
     {
         match &*self.parts {
-            KeptParts::Bare { entries, .. } => *entries,
-            KeptParts::Full(parts) => parts.entries,
+            RowParts::Bare { entries, .. } => *entries,
+            RowParts::Full(parts) => parts.entries,
         }
     }
 
@@ -146,8 +146,8 @@ impl ListedRow {
         ensures { result.now ≡ self.now.files }
     {
         match &*self.parts {
-            KeptParts::Bare { .. } => &[],
-            KeptParts::Full(parts) => &parts.files,
+            RowParts::Bare { .. } => &[],
+            RowParts::Full(parts) => &parts.files,
         }
     }
 
@@ -156,18 +156,18 @@ impl ListedRow {
         ensures { result.now ≡ self.now.faults }
     {
         match &*self.parts {
-            KeptParts::Bare { .. } => &[],
-            KeptParts::Full(parts) => &parts.faults,
+            RowParts::Bare { .. } => &[],
+            RowParts::Full(parts) => &parts.faults,
         }
     }
 
     /// The entries that were left out, in the order of their names, where the report is to have them.
-    pub fn left(&self) -> &[LeftOut]
-        ensures { result.now ≡ self.now.left }
+    pub fn skipped(&self) -> &[SkippedEntry]
+        ensures { result.now ≡ self.now.skipped }
     {
         match &*self.parts {
-            KeptParts::Bare { .. } => &[],
-            KeptParts::Full(parts) => &parts.left,
+            RowParts::Bare { .. } => &[],
+            RowParts::Full(parts) => &parts.skipped,
         }
     }
 
@@ -176,8 +176,8 @@ impl ListedRow {
         ensures { result.now ≡ self.now.children }
     {
         match &*self.parts {
-            KeptParts::Bare { .. } => &[],
-            KeptParts::Full(parts) => &parts.children,
+            RowParts::Bare { .. } => &[],
+            RowParts::Full(parts) => &parts.children,
         }
     }
 }
@@ -194,7 +194,7 @@ pub struct FaultedRow {
 #[derive(Drop)]
 pub struct BrokenRow {
     pub job: ServedJob,
-    pub cause: GivenUp,
+    pub cause: BrokenCause,
 }
 
 /// What a worker gives for a directory.

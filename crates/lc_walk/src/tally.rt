@@ -49,13 +49,13 @@ pub struct Tally {
 }
 
 impl Model for Tally {
-    ghost use Rattle.lc_walk.specs.Tally.{TallyModel, IsKept};
+    ghost use Rattle.lc_walk.specs.Tally.{TallyModel, TallyHolds};
 
     ghost Value = { TallyModel };
 
     ghost view = { λ a. record { rows = a.rows; totals = a.totals } };
 
-    ghost invariant = { λ a. IsKept (record { rows = a.rows; totals = a.totals }) };
+    ghost invariant = { λ a. TallyHolds (record { rows = a.rows; totals = a.totals }) };
 }
 
 impl Tally {

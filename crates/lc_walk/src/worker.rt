@@ -27,7 +27,7 @@ use std::thread::Threads;
 
 /// How a worker has come to its end.
 #[derive(Clone, Copy, Debug, Drop, PartialEq, Eq)]
-pub enum End {
+pub enum StopReason {
     /// It found the board over.
     Over,
     /// There was no memory to claim with.
@@ -36,9 +36,9 @@ pub enum End {
 
 /// A worker that has come to its end.
 #[derive(Drop)]
-pub struct Worked<P> {
+pub struct WorkerResult<P> {
     pub pass: P,
-    pub end: End,
+    pub end: StopReason,
     /// The tally of the files of the directories that it listed. There is none where memory was refused.
     pub tally: Option<Tally>,
 }
@@ -49,7 +49,7 @@ pub struct Worked<P> {
 /// let options = PreparedOptions::new(alloc, &options)?;
 /// let idle = IdleThreads::new();
 /// let worker = Worker { rt, alloc, board: &board, tree: &tree, options: &options, idle: &idle };
-/// let Worked { pass, end, tally } = worker.run(pass);
+/// let WorkerResult { pass, end, tally } = worker.run(pass);
 /// ```
 #[derive(Drop)]
 pub struct Worker<'w, 'o, B, T, W> {
@@ -64,7 +64,7 @@ pub struct Worker<'w, 'o, B, T, W> {
 
 impl<B: Shared<Job, Row>, T: Tree, W: Threads + Wait + Sync> Worker<'_, '_, B, T, W> {
     /// Claims directories and serves each, until there are no more.
-    pub fn run(&self, pass: B::Pass) -> Worked<B::Pass>
+    pub fn run(&self, pass: B::Pass) -> WorkerResult<B::Pass>
         requires { IsPassOf B.owns B.Pass.view self.now.board.now IsFree pass }
         ensures pass { IsPassOf B.owns B.Pass.view self.now.board.now IsFree result.pass }
         ensures end { EndsAs result.end (B.Pass.view result.pass) }
@@ -86,11 +86,11 @@ impl<B: Shared<Job, Row>, T: Tree, W: Threads + Wait + Sync> Worker<'_, '_, B, T
                     idle.wait(self.rt);
                     continue;
                 }
-                Claim::Over => End::Over,
-                Claim::Memory => End::Memory,
+                Claim::Over => StopReason::Over,
+                Claim::Memory => StopReason::Memory,
             };
             idle.end();
-            return Worked { pass, end, tally };
+            return WorkerResult { pass, end, tally };
         }
         unreachable!()
     }

@@ -4,14 +4,14 @@ ghost use Rattle.lc_level.specs.TreeAnswers.{MayAnswer};
 ghost use Rattle.lc_walk.specs.BoardPasses.{IsFree, IsPassOf};
 ghost use Rattle.lc_walk.specs.Running.{AreFree, HasRunOn, HaveRunOn, AllOver, TalliesAll};
 ghost use Rattle.lc_walk.specs.Worked.{TalliesFor};
-ghost use Rattle.lc_walk.specs.declared.worker.End.TheVariants.{Over};
+ghost use Rattle.lc_walk.specs.declared.worker.StopReason.TheVariants.{Over};
 ghost use Rattle.lc_walk.specs.Tally.{CountedFile, StandsFor};
 ghost use Rattle.lc_walk.specs.WalkOptions.{asked_by};
 
 use crate::prepared_options::PreparedOptions;
 use crate::row::Row;
 use crate::tally::{MAX_FILES, Tally};
-use crate::worker::{End, Worked, Worker};
+use crate::worker::{StopReason, Worker, WorkerResult};
 use lc_board::Shared;
 use lc_level::Job;
 use lc_tree::{IdleThreads, Tree};
@@ -35,14 +35,14 @@ pub(crate) fn run_all<B: Shared<Job, Row>, T: Tree, R: Threads + Wait + Sync>(
     tree: &T,
     passes: Vec<B::Pass>,
     options: &PreparedOptions<'_>,
-) -> Result<Vec<Worked<B::Pass>>, AllocError>
+) -> Result<Vec<WorkerResult<B::Pass>>, AllocError>
     requires { AreFree B.owns B.Pass.view board.now passes.items }
     ensures all { IfOk result (λ v. vec_len v ≡ vec_len passes) }
     ensures each { IfOk result (λ v. HaveRunOn B.owns B.Pass.view board.now (asked_by options.now)
         (MayAnswer (T.lists tree.now) (T.gives tree.now)) passes.items v.items) }
 {
     let idle = IdleThreads::new();
-    let run = |pass: B::Pass| -> Worked<B::Pass>
+    let run = |pass: B::Pass| -> WorkerResult<B::Pass>
         requires { IsPassOf B.owns B.Pass.view board.now IsFree pass }
         ensures { HasRunOn B.owns B.Pass.view board.entry.now (asked_by options.entry.now)
             (MayAnswer (T.lists tree.entry.now) (T.gives tree.entry.now)) pass result }
@@ -72,21 +72,21 @@ fn merge(first: Tally, second: Tally) -> Option<Tally>
 }
 
 /// The passes and the tally of one worker more.
-fn join<P: Drop>(gathered: Gathered<P>, worked: Worked<P>) -> Option<Gathered<P>>
+fn join<P: Drop>(gathered: Gathered<P>, worked: WorkerResult<P>) -> Option<Gathered<P>>
     ensures over { IfSome result (λ r. worked.end ≡ Over) }
     ensures pass { IfSome result (λ r. r.passes.items ≡ gathered.passes.items ++ worked.pass ∷ []) }
     ensures tally { IfSome result (λ r. (fs gs : List CountedFile) → StandsFor gathered.tally fs → TalliesFor worked.tally gs →
         StandsFor r.tally (fs ++ gs)) }
 {
     let Gathered { mut passes, tally } = gathered;
-    let Worked {
+    let WorkerResult {
         pass,
         end,
         tally: own,
     } = worked;
     match end {
-        End::Over => {}
-        End::Memory => return None,
+        StopReason::Over => {}
+        StopReason::Memory => return None,
     }
     let Some(own) = own else {
         return None;
@@ -101,7 +101,7 @@ fn join<P: Drop>(gathered: Gathered<P>, worked: Worked<P>) -> Option<Gathered<P>
 }
 
 /// What all workers leave. There is nothing where memory was refused to one of them, or is refused here.
-pub(crate) fn gather<P: Drop>(alloc: Global, workers: Vec<Worked<P>>) -> Option<Gathered<P>>
+pub(crate) fn gather<P: Drop>(alloc: Global, workers: Vec<WorkerResult<P>>) -> Option<Gathered<P>>
     ensures over { IfSome result (λ r. AllOver workers.items) }
     ensures passes { IfSome result (λ r. r.passes.items ≡ map (λ w. w.pass) workers.items) }
     ensures tally { IfSome result (λ r. TalliesAll workers.items r.tally) }

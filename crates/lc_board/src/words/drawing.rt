@@ -1,7 +1,7 @@
 //! The steps of a post on the seat of a pass: a number is drawn, its slot is filled, and it is opened.
 ghost use Rattle.std.specs.Prelude.{◌≡◌, ◌<◌, ◌∷◌};
 ghost use Rattle.atomic_table.specs.Table.{rest};
-ghost use Rattle.lc_board.specs.WordSteps.{MayDraw, TriesDraw, MayOpen, Opens};
+ghost use Rattle.lc_board.specs.WordSteps.{MayDraw, TriesDraw, MayOpen, OpensDrawn};
 ghost use Rattle.lc_board.specs.declared.words.view.Slot.TheVariants.{Empty};
 
 use crate::words::Words;
@@ -54,7 +54,7 @@ impl<J, R> Words<J, R> {
         requires near { number < self.now.capacity }
         requires may { MayOpen number seat.old.me }
         ensures board { seat.new.table_id ≡ seat.old.table_id }
-        ensures rule { Opens self.now.capacity number seat.old.me seat.new.me }
+        ensures rule { OpensDrawn self.now.capacity number seat.old.me seat.new.me }
     {
         self.table.shared.swap::<Open>(seat, number as usize, OPEN);
     }

@@ -5,7 +5,7 @@ use std::snapshot::Snapshot;
 
 /// What a board was started with.
 #[derive(Drop)]
-pub struct Origin<J> {
+pub struct BoardSetup<J> {
     pub root: Snapshot<J>,
     pub workers: u32,
 }
@@ -13,7 +13,7 @@ pub struct Origin<J> {
 /// The words show the state of one legal history.
 pub struct OneHistory;
 
-impl<J, R> TableRule<Slot<J, R>, View<J, R>, Origin<J>> for OneHistory {
+impl<J, R> TableRule<Slot<J, R>, View<J, R>, BoardSetup<J>> for OneHistory {
     ghost use Rattle.lc_board.specs.WordRow.{IsRow};
     ghost use Rattle.lc_board.specs.WordSteps.{view_before_split};
     ghost use Rattle.std.specs.Prelude.{Some};

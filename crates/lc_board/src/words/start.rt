@@ -11,7 +11,7 @@ use crate::words::Words;
 use crate::words::coding::{ABSENT, OPEN};
 use crate::words::pass::WordsPass;
 use crate::words::recent::Recent;
-use crate::words::rule::{Deal, Origin};
+use crate::words::rule::{BoardSetup, Deal};
 use crate::words::view::Slot;
 use atomic_table::Table;
 use std::alloc::{AllocError, Global};
@@ -57,13 +57,13 @@ impl<J: Drop, R: Drop> Words<J, R> {
             (λ b. (b.0.capacity ≡ capacity) × (b.0.workers ≡ workers) × (b.0.table.shared.key.root.value ≡ root)) }
         ensures pass { IfOk result (λ b. IsNewPass b.0 0 (view_before_split (Some root) workers) b.1) }
     {
-        let origin = Origin {
+        let setup = BoardSetup {
             root: Snapshot::of(&root),
             workers,
         };
         let words = word_row(alloc, capacity - 1)?;
         let slots = slot_row(alloc, root, capacity - 1)?;
-        match Table::new(alloc, words.as_slice(), slots, &origin) {
+        match Table::new(alloc, words.as_slice(), slots, &setup) {
             Ok((table, seat)) => {
                 let pass = WordsPass {
                     seat,

@@ -1,7 +1,7 @@
 //! Asking about paths of a tree of memory.
 
 use lc_census::Source;
-use lc_explain::{ExplainFault, Question, explain, explain_words};
+use lc_explain::{ExplainFault, ExplainOptions, explain, explain_words};
 use lc_level::Selection;
 use lc_text::trials::{Narrow, WhenFull};
 use lc_text::{Outcome, PathStyle, PrintFault, RuleText, read_rule_text};
@@ -14,8 +14,8 @@ use std::test::Fail;
 pub(crate) type Case = (&'static str, Sketch<'static>, &'static [u8], &'static [u8]);
 
 /// What is asked by the rules of the tree alone.
-pub(crate) fn plain() -> Question<'static> {
-    Question {
+pub(crate) fn plain() -> ExplainOptions<'static> {
+    ExplainOptions {
         exclude: None,
         selection: Selection::new(false, &[]),
         style: PathStyle::Escaped,
@@ -36,11 +36,11 @@ pub(crate) fn explained<T: Tree, S: Source>(
     rt: &impl Abort,
     alloc: Global,
     tree: &T,
-    question: &Question,
+    options: &ExplainOptions,
     input: &mut S,
     out: &mut Narrow,
 ) -> Result<Result<Outcome, ExplainFault>, AllocError> {
-    match explain(alloc, tree, question, input, out) {
+    match explain(alloc, tree, options, input, out) {
         Err(ExplainFault::Memory) => {
             assert!(rt; out.taken.is_empty());
             Err(AllocError)
@@ -70,7 +70,7 @@ pub(crate) fn explained_words<T: Tree>(
 pub(crate) fn check<R: Abort + AllocGlobal>(
     rt: &R,
     case: &Case,
-    question: &Question,
+    options: &ExplainOptions,
     outcome: Outcome,
 ) -> Result<(), Fail> {
     let (name, sketch, paths, text) = case;
@@ -78,7 +78,7 @@ pub(crate) fn check<R: Abort + AllocGlobal>(
     let tree = MemTree::new(&node);
     let mut input: &[u8] = paths;
     let mut out = Narrow::new(rt.alloc(), 64, text.len(), WhenFull::Fails)?;
-    let answer = explained(rt, rt.alloc(), &tree, question, &mut input, &mut out)?;
+    let answer = explained(rt, rt.alloc(), &tree, options, &mut input, &mut out)?;
     assert!(rt; answer == Ok(outcome), "{name}");
     assert!(rt; out.taken.as_slice() == *text, "{name}");
     Ok(())

@@ -1,7 +1,7 @@
 //! Paths and patterns in each style.
 
 use crate::explain::asking::{Case, check, plain};
-use lc_explain::Question;
+use lc_explain::ExplainOptions;
 use lc_text::{Outcome, PathStyle};
 use lc_tree::Sketch;
 use std::test::Fail;
@@ -41,9 +41,9 @@ static FOR_A_TERMINAL: Case = (
 #[test]
 fn paths_and_patterns_have_the_style(rt: HostRuntime) -> Result<(), Fail> {
     check(&rt, &FOR_A_PIPE, &plain(), Outcome::SomeFaults)?;
-    let question = Question {
+    let options = ExplainOptions {
         style: PathStyle::Visible,
         ..plain()
     };
-    check(&rt, &FOR_A_TERMINAL, &question, Outcome::SomeFaults)
+    check(&rt, &FOR_A_TERMINAL, &options, Outcome::SomeFaults)
 }

@@ -1,7 +1,7 @@
 //! Trees and paths, and the text of what decides them.
 
 use crate::explain::asking::{Case, check, explained_words, plain, rule_text};
-use lc_explain::Question;
+use lc_explain::ExplainOptions;
 use lc_level::Selection;
 use lc_text::trials::{Narrow, WhenFull};
 use lc_text::{Outcome, PathStyle};
@@ -152,12 +152,12 @@ static BESIDE_THE_TREE: Case = (
 
 #[test]
 fn what_is_asked_decides(rt: HostRuntime) -> Result<(), Fail> {
-    let question = Question {
+    let options = ExplainOptions {
         exclude: Some(rule_text(rt.alloc(), b"!a.o\n*.bak\n")?),
         selection: Selection::new(true, &["vendored"]),
         style: PathStyle::Escaped,
     };
-    check(&rt, &BESIDE_THE_TREE, &question, Outcome::Clean)
+    check(&rt, &BESIDE_THE_TREE, &options, Outcome::Clean)
 }
 
 /// A word is a path, whatever its bytes.

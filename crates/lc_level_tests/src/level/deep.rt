@@ -63,12 +63,12 @@ fn check_entry(
 
 fn check_longest(rt: &impl Abort, alloc: Global, name: &[u8]) -> Result<(), AllocError> {
     let node = Sketch::Dir(&[(name, Sketch::Other)]).node(alloc)?;
-    let left = [(name, Kind::Other, Why::OtherKind)];
+    let skipped = [(name, Kind::Other, Why::OtherKind)];
     let wanted = Level {
         files: &[],
         faults: &[],
         children: &[],
-        left: &left,
+        skipped: &skipped,
         absent: &[],
     };
     assert!(rt;

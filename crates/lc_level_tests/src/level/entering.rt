@@ -4,15 +4,16 @@ use crate::level::work::{
     AS_IT_IS, Case, LINE, NOTHING, Selected, TOP, Why, is_reason, job_of, selection_of,
 };
 use lc_level::{
-    Cause, Entered, FaultSite, FaultWord, Job, Kept, LevelReader, OpenFault, Scratch, path_in,
+    Cause, Entered, FaultSite, FaultWord, Job, LevelReader, OpenFault, ReaderOptions, Scratch,
+    path_in,
 };
-use lc_rules::{Origin, Verdict};
+use lc_rules::{RuleSource, Verdict};
 use lc_tree::{Entry, Kind, MemTree, Sketch};
 use std::alloc::{AllocError, Global};
 use std::process::Abort;
 use std::test::Fail;
 
-const TEXTS: Kept = Kept {
+const TEXTS: ReaderOptions = ReaderOptions {
     left_out: false,
     texts: true,
 };
@@ -62,7 +63,7 @@ fn is_text(found: &Option<Vec<u8>>, wanted: Option<&[u8]>) -> bool {
 /// A directory that is entered, what is kept of it, and its entries and the texts of its rules, or what stops it.
 struct Entering<'a> {
     case: Case<'a>,
-    kept: Kept,
+    kept: ReaderOptions,
     wanted: Result<Wanted<'a>, OpenFault>,
 }
 
@@ -167,28 +168,31 @@ fn entries_and_texts(rt: HostRuntime) -> Result<(), Fail> {
 }
 
 /// A path, and its rule that decides with where it stands.
-type Deciding = (&'static [u8], Option<(Origin, u32, Verdict)>);
+type Deciding = (&'static [u8], Option<(RuleSource, u32, Verdict)>);
 
 const DECIDING: &[Deciding] = &[
-    (b"a.log", Some((Origin::Directory(0), 1, Verdict::Ignored))),
+    (
+        b"a.log",
+        Some((RuleSource::Gitignore(0), 1, Verdict::Ignored)),
+    ),
     (
         b"s/keep.log",
-        Some((Origin::Directory(0), 2, Verdict::Included)),
+        Some((RuleSource::Gitignore(0), 2, Verdict::Included)),
     ),
     (b"m.c", None),
 ];
 
 fn decides(inside: &Job, (path, wanted): &Deciding) -> bool {
-    match (inside.deciding(path, false), wanted) {
-        (Some((origin, rule)), Some(wanted)) => (origin, rule.line(), rule.verdict()) == *wanted,
+    match (inside.last_match(path, false), wanted) {
+        (Some((source, rule)), Some(wanted)) => (source, rule.line(), rule.verdict()) == *wanted,
         (None, None) => true,
         (Some(_), None) | (None, Some(_)) => false,
     }
 }
 
-fn check_deciding(rt: &impl Abort, inside: &Job) {
-    for deciding in DECIDING {
-        assert!(rt; decides(inside, deciding), "{:?}", deciding.0);
+fn check_last_match(rt: &impl Abort, inside: &Job) {
+    for last_match in DECIDING {
+        assert!(rt; decides(inside, last_match), "{:?}", last_match.0);
     }
 }
 
@@ -202,7 +206,7 @@ const JUDGED: &[Judged] = &[
     (b".git", Kind::Dir, Some(Why::Git)),
 ];
 
-const BY_RULE: Why = Why::Rule(Origin::Directory(0), 1);
+const BY_RULE: Why = Why::Rule(RuleSource::Gitignore(0), 1);
 
 fn is_judged(
     alloc: Global,
@@ -249,7 +253,7 @@ fn check_top(rt: &impl Abort, alloc: Global, tree: &MemTree) -> Result<(), Alloc
     let levels = LevelReader::new(alloc, tree, selection_of(&REPOSITORY.selected), NOTHING);
     match inside_of(&levels, alloc)? {
         Some(inside) => {
-            check_deciding(rt, &inside);
+            check_last_match(rt, &inside);
             check_inside(rt, alloc, &levels, &inside)
         }
         None => {

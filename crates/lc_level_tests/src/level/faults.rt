@@ -46,19 +46,19 @@ const OF_A_DIRECTORY: &[Case] = &[
     Case {
         name: "its rules fail",
         tree: Sketch::Dir(&[(b".gitignore", FAILING)]),
-        stop: Some(OpenFault::Faulted(FaultSite::IgnoreFile, FaultWord::Read)),
+        stop: Some(OpenFault::Faulted(FaultSite::Gitignore, FaultWord::Read)),
         ..ANYWHERE
     },
     Case {
         name: "its attributes fail",
         tree: Sketch::Dir(&[(b".gitattributes", FAILING)]),
-        stop: Some(OpenFault::Faulted(FaultSite::AttributeFile, FaultWord::Read)),
+        stop: Some(OpenFault::Faulted(FaultSite::Gitattributes, FaultWord::Read)),
         ..ANYWHERE
     },
     Case {
         name: "both fail, the rules first",
         tree: Sketch::Dir(&[(b".gitattributes", FAILING), (b".gitignore", FAILING)]),
-        stop: Some(OpenFault::Faulted(FaultSite::IgnoreFile, FaultWord::Read)),
+        stop: Some(OpenFault::Faulted(FaultSite::Gitignore, FaultWord::Read)),
         ..ANYWHERE
     },
 ];
@@ -86,7 +86,7 @@ const OF_THE_REPOSITORY: &[Case] = &[
             (b".git", Sketch::Dir(&[(b"info", INFO_FAILS)])),
             (b".gitignore", FAILING),
         ]),
-        stop: Some(OpenFault::Faulted(FaultSite::ExcludeFile, FaultWord::Read)),
+        stop: Some(OpenFault::Faulted(FaultSite::InfoExclude, FaultWord::Read)),
         ..TOP
     },
     Case {

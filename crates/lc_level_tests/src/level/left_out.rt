@@ -5,7 +5,7 @@ use crate::level::work::{
     check_parts, is_reason,
 };
 use lc_level::Reason;
-use lc_rules::Origin;
+use lc_rules::RuleSource;
 use lc_tree::{Kind, Sketch};
 use std::alloc::{AllocError, Global};
 use std::test::Fail;
@@ -79,7 +79,7 @@ const BY_EXPORT_IGNORE: Why = Why::Attribute(b"export-ignore");
 const EXPORTED: Level = Level {
     files: &[(b".gitattributes", NONE), (b"b.y", NONE), (b"x.tmp", NONE)],
     children: &[b"s"],
-    left: &[
+    skipped: &[
         (b"a.tmp", Kind::File, BY_EXPORT_IGNORE),
         (b"docs", Kind::Dir, BY_EXPORT_IGNORE),
     ],
@@ -130,15 +130,23 @@ const CASES: &[Case] = &[
                 (b"keep.log", NONE),
             ],
             children: &[b"src"],
-            left: &[
+            skipped: &[
                 (b".git", Kind::Dir, Why::Git),
-                (b"a.log", Kind::File, Why::Rule(Origin::Directory(0), 1)),
+                (b"a.log", Kind::File, Why::Rule(RuleSource::Gitignore(0), 1)),
                 (b"docs", Kind::Dir, BY_EXPORT_IGNORE),
-                (b"gen", Kind::Dir, Why::Rule(Origin::Directory(0), 3)),
+                (b"gen", Kind::Dir, Why::Rule(RuleSource::Gitignore(0), 3)),
                 (b"link.c", Kind::Other, Why::OtherKind),
-                (b"notes.txt", Kind::File, Why::Rule(Origin::GitInfo, 3)),
-                (b"old.log", Kind::Other, Why::Rule(Origin::Directory(0), 1)),
-                (b"x.bak", Kind::File, Why::Rule(Origin::ExcludeFile, 2)),
+                (
+                    b"notes.txt",
+                    Kind::File,
+                    Why::Rule(RuleSource::InfoExclude, 3),
+                ),
+                (
+                    b"old.log",
+                    Kind::Other,
+                    Why::Rule(RuleSource::Gitignore(0), 1),
+                ),
+                (b"x.bak", Kind::File, Why::Rule(RuleSource::ExcludeFrom, 2)),
             ],
             ..NO_ENTRY
         },
@@ -150,10 +158,10 @@ const CASES: &[Case] = &[
         below: Some(b"s"),
         found: Level {
             files: &[(b".gitignore", NONE)],
-            left: &[
+            skipped: &[
                 (b".git", Kind::File, Why::Git),
-                (b"a", Kind::Dir, Why::Rule(Origin::Directory(0), 1)),
-                (b"b", Kind::File, Why::Rule(Origin::Directory(1), 2)),
+                (b"a", Kind::Dir, Why::Rule(RuleSource::Gitignore(0), 1)),
+                (b"b", Kind::File, Why::Rule(RuleSource::Gitignore(1), 2)),
             ],
             ..NO_ENTRY
         },
@@ -167,11 +175,11 @@ const CASES: &[Case] = &[
             ..AS_IT_IS
         },
         found: Level {
-            left: &[
+            skipped: &[
                 (b".git", Kind::Other, Why::Git),
                 (b".gitattributes", Kind::File, Why::Attribute(b"first")),
                 (b".gitignore", Kind::File, Why::Attribute(b"first")),
-                (b"both", Kind::Other, Why::Rule(Origin::Directory(0), 3)),
+                (b"both", Kind::Other, Why::Rule(RuleSource::Gitignore(0), 3)),
                 (b"in", Kind::Other, Why::Attribute(b"second")),
             ],
             ..NO_ENTRY
@@ -189,7 +197,7 @@ fn entries_are_left_out(rt: HostRuntime) -> Result<(), Fail> {
 
 const REASONS: &[Why] = &[
     Why::Git,
-    Why::Rule(Origin::GitInfo, 7),
+    Why::Rule(RuleSource::InfoExclude, 7),
     Why::Attribute(b"export-ignore"),
     Why::OtherKind,
 ];
@@ -197,8 +205,8 @@ const REASONS: &[Why] = &[
 fn reason_of(alloc: Global, why: &Why) -> Result<Reason, AllocError> {
     match why {
         Why::Git => Ok(Reason::Git),
-        Why::Rule(origin, line) => Ok(Reason::Rule {
-            origin: *origin,
+        Why::Rule(source, line) => Ok(Reason::Rule {
+            source: *source,
             line: *line,
         }),
         Why::Attribute(name) => Ok(Reason::Attribute(name.to_vec(alloc)?)),

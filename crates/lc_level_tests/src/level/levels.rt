@@ -2,7 +2,7 @@
 
 use crate::level::work::{Case, EMPTY, LINE, Level, NO_ENTRY, NONE, TOP, Why, check_all};
 use lc_level::FaultWord;
-use lc_rules::{Origin, TextState};
+use lc_rules::{RuleSource, TextState};
 use lc_tree::{Kind, Sketch};
 use std::test::Fail;
 
@@ -12,7 +12,7 @@ const WITH_HEAD: Sketch = Sketch::Dir(&[(b"HEAD", LINE)]);
 
 const A_BESIDE_GIT: Level = Level {
     files: &[(b"a", NONE)],
-    left: &[(b".git", Kind::Dir, Why::Git)],
+    skipped: &[(b".git", Kind::Dir, Why::Git)],
     ..NO_ENTRY
 };
 
@@ -37,7 +37,7 @@ const LISTED: &[Case] = &[
             files: &[(b"f", NONE)],
             faults: &[(b"e", FaultWord::Read)],
             children: &[b"c", b"d"],
-            left: &[(b"o", Kind::Other, Why::OtherKind)],
+            skipped: &[(b"o", Kind::Other, Why::OtherKind)],
             ..NO_ENTRY
         },
         ..BESIDE_GIT
@@ -51,7 +51,7 @@ const LISTED: &[Case] = &[
         name: ".git is a file",
         tree: Sketch::Dir(&[(b".git", LINE), A]),
         found: Level {
-            left: &[(b".git", Kind::File, Why::Git)],
+            skipped: &[(b".git", Kind::File, Why::Git)],
             ..A_BESIDE_GIT
         },
         ..BESIDE_GIT
@@ -60,7 +60,7 @@ const LISTED: &[Case] = &[
         name: ".git is another kind",
         tree: Sketch::Dir(&[(b".git", Sketch::Other), A]),
         found: Level {
-            left: &[(b".git", Kind::Other, Why::Git)],
+            skipped: &[(b".git", Kind::Other, Why::Git)],
             ..A_BESIDE_GIT
         },
         ..BESIDE_GIT
@@ -85,11 +85,11 @@ const A_AND_D: Level = Level {
     ..NO_ENTRY
 };
 
-const FIRST_LINE: Why = Why::Rule(Origin::Directory(0), 1);
+const FIRST_LINE: Why = Why::Rule(RuleSource::Gitignore(0), 1);
 
-const SECOND_LINE: Why = Why::Rule(Origin::Directory(0), 2);
+const SECOND_LINE: Why = Why::Rule(RuleSource::Gitignore(0), 2);
 
-const THIRD_LINE: Why = Why::Rule(Origin::Directory(0), 3);
+const THIRD_LINE: Why = Why::Rule(RuleSource::Gitignore(0), 3);
 
 const BY_RULES: &[Case] = &[
     Case {
@@ -106,7 +106,7 @@ const BY_RULES: &[Case] = &[
         tree: Sketch::Dir(&[(b".gitignore", Sketch::File(b"a/\nd/\n")), A, B, D]),
         found: Level {
             files: THREE_FILES,
-            left: &[(b"d", Kind::Dir, SECOND_LINE)],
+            skipped: &[(b"d", Kind::Dir, SECOND_LINE)],
             ..NO_ENTRY
         },
         ..TOP
@@ -115,7 +115,7 @@ const BY_RULES: &[Case] = &[
         name: "ignored and included",
         tree: Sketch::Dir(&[(b".gitignore", Sketch::File(b"*\n!a\n!d/\n")), A, B, D]),
         found: Level {
-            left: &[
+            skipped: &[
                 (b".gitignore", Kind::File, FIRST_LINE),
                 (b"b", Kind::File, FIRST_LINE),
             ],
@@ -127,7 +127,7 @@ const BY_RULES: &[Case] = &[
         name: "it ignores itself, and applies",
         tree: Sketch::Dir(&[(b".gitignore", Sketch::File(b".*\nb\n")), A, B, D]),
         found: Level {
-            left: &[
+            skipped: &[
                 (b".gitignore", Kind::File, FIRST_LINE),
                 (b"b", Kind::File, SECOND_LINE),
             ],
@@ -144,7 +144,7 @@ const BY_RULES: &[Case] = &[
             D,
         ]),
         found: Level {
-            left: &[
+            skipped: &[
                 (b".gitignore", Kind::File, THIRD_LINE),
                 (b"b", Kind::File, SECOND_LINE),
             ],
@@ -163,9 +163,9 @@ const BY_RULES: &[Case] = &[
         exclude: Some(b"*.c\n"),
         found: Level {
             files: &[(b".gitignore", NONE), (b"x.c", NONE)],
-            left: &[
-                (b"y.c", Kind::File, Why::Rule(Origin::ExcludeFile, 1)),
-                (b"z.c", Kind::File, Why::Rule(Origin::ExcludeFile, 1)),
+            skipped: &[
+                (b"y.c", Kind::File, Why::Rule(RuleSource::ExcludeFrom, 1)),
+                (b"z.c", Kind::File, Why::Rule(RuleSource::ExcludeFrom, 1)),
             ],
             ..NO_ENTRY
         },
@@ -181,7 +181,7 @@ const BY_RULES: &[Case] = &[
         found: Level {
             files: &[(b"a", NONE)],
             children: &[b".gitignore"],
-            left: &[(b".gitattributes", Kind::Other, Why::OtherKind)],
+            skipped: &[(b".gitattributes", Kind::Other, Why::OtherKind)],
             ..NO_ENTRY
         },
         ..TOP

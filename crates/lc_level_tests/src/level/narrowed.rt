@@ -1,10 +1,11 @@
 //! Directories of which some paths alone are asked for: which entries take part, and which paths are absent.
 
 use crate::level::work::{
-    AS_IT_IS, Case, EMPTY, LINE, Left, Level, NO_ENTRY, NONE, Part, Selected, TOP, Why, check_parts,
+    AS_IT_IS, Case, EMPTY, LINE, Level, NO_ENTRY, NONE, Part, Selected, Skipped, TOP, Why,
+    check_parts,
 };
 use lc_level::FaultWord;
-use lc_rules::{Origin, TextState};
+use lc_rules::{RuleSource, TextState};
 use lc_tree::{Kind, Sketch};
 use std::test::Fail;
 
@@ -40,15 +41,15 @@ const B_C: (&[u8], TextState) = (b"b.c", NONE);
 
 const FAILING: (&[u8], FaultWord) = (b"e", FaultWord::Read);
 
-const GIT: Left = (b".git", Kind::Dir, Why::Git);
+const GIT: Skipped = (b".git", Kind::Dir, Why::Git);
 
-const LOG: Left = (b"a.log", Kind::File, Why::Rule(Origin::Directory(0), 1));
+const LOG: Skipped = (b"a.log", Kind::File, Why::Rule(RuleSource::Gitignore(0), 1));
 
-const LINK: Left = (b"link", Kind::Other, Why::OtherKind);
+const LINK: Skipped = (b"link", Kind::Other, Why::OtherKind);
 
-const OUT: Left = (b"out", Kind::Dir, Why::Rule(Origin::Directory(0), 2));
+const OUT: Skipped = (b"out", Kind::Dir, Why::Rule(RuleSource::Gitignore(0), 2));
 
-const GEN: Left = (b"gen", Kind::Dir, Why::Rule(Origin::Directory(1), 1));
+const GEN: Skipped = (b"gen", Kind::Dir, Why::Rule(RuleSource::Gitignore(1), 1));
 
 const PARTS_OF_TOP: &[Part] = &[
     (
@@ -58,7 +59,7 @@ const PARTS_OF_TOP: &[Part] = &[
             files: &[(b".gitignore", NONE), B_C],
             faults: &[FAILING],
             children: &[b"src", b"srcs"],
-            left: &[GIT, LOG, LINK, OUT],
+            skipped: &[GIT, LOG, LINK, OUT],
             ..NO_ENTRY
         },
     ),
@@ -205,7 +206,7 @@ const PARTS_OF_TOP: &[Part] = &[
             ..AS_IT_IS
         },
         Level {
-            left: &[LINK],
+            skipped: &[LINK],
             ..NO_ENTRY
         },
     ),
@@ -216,7 +217,7 @@ const PARTS_OF_TOP: &[Part] = &[
             ..AS_IT_IS
         },
         Level {
-            left: &[LOG],
+            skipped: &[LOG],
             ..NO_ENTRY
         },
     ),
@@ -227,7 +228,7 @@ const PARTS_OF_TOP: &[Part] = &[
             ..AS_IT_IS
         },
         Level {
-            left: &[OUT],
+            skipped: &[OUT],
             ..NO_ENTRY
         },
     ),
@@ -238,7 +239,7 @@ const PARTS_OF_TOP: &[Part] = &[
             ..AS_IT_IS
         },
         Level {
-            left: &[GIT],
+            skipped: &[GIT],
             ..NO_ENTRY
         },
     ),
@@ -254,7 +255,7 @@ const PARTS_OF_SOURCES: &[Part] = &[
         Level {
             files: &[(b".gitignore", NONE), (b"main.c", NONE)],
             children: &[b"deep", b"deeper"],
-            left: &[GEN],
+            skipped: &[GEN],
             ..NO_ENTRY
         },
     ),
@@ -287,7 +288,7 @@ const PARTS_OF_SOURCES: &[Part] = &[
             ..AS_IT_IS
         },
         Level {
-            left: &[GEN],
+            skipped: &[GEN],
             ..NO_ENTRY
         },
     ),
@@ -300,7 +301,7 @@ const PARTS_OF_SOURCES: &[Part] = &[
         Level {
             files: &[(b".gitignore", NONE), (b"main.c", NONE)],
             children: &[b"deep", b"deeper"],
-            left: &[GEN],
+            skipped: &[GEN],
             absent: &[b"no.c"],
             ..NO_ENTRY
         },

@@ -1,7 +1,7 @@
 //! The rules of a repository, which stand in `.git/info` of the top.
 
 use crate::level::work::{Case, EMPTY, LINE, Level, NO_ENTRY, NONE, TOP, Why, check_all};
-use lc_rules::{Origin, TextState};
+use lc_rules::{RuleSource, TextState};
 use lc_tree::{Kind, Sketch};
 use std::test::Fail;
 
@@ -27,10 +27,10 @@ const BY_REPOSITORY: Case = Case {
             (b".gitignore", NONE),
             (b"m.c", TextState::Set),
         ],
-        left: &[
+        skipped: &[
             (b".git", Kind::Dir, Why::Git),
-            (b"a.o", Kind::File, Why::Rule(Origin::GitInfo, 1)),
-            (b"k.c", Kind::File, Why::Rule(Origin::Directory(0), 1)),
+            (b"a.o", Kind::File, Why::Rule(RuleSource::InfoExclude, 1)),
+            (b"k.c", Kind::File, Why::Rule(RuleSource::Gitignore(0), 1)),
         ],
         ..NO_ENTRY
     },
@@ -41,7 +41,7 @@ const BY_REPOSITORY: Case = Case {
 const A_ALONE: Case = Case {
     found: Level {
         files: &[(b"a", NONE)],
-        left: &[(b".git", Kind::Dir, Why::Git)],
+        skipped: &[(b".git", Kind::Dir, Why::Git)],
         ..NO_ENTRY
     },
     ..TOP
@@ -76,9 +76,9 @@ const CASES: &[Case] = &[
                 (b"a.o", NONE),
                 (b"m.c", TextState::Unset),
             ],
-            left: &[
+            skipped: &[
                 (b".git", Kind::Dir, Why::Git),
-                (b"k.c", Kind::File, Why::Rule(Origin::Directory(1), 1)),
+                (b"k.c", Kind::File, Why::Rule(RuleSource::Gitignore(1), 1)),
             ],
             ..NO_ENTRY
         },

@@ -1,10 +1,10 @@
 //! One directory's work on a sketch, and what is wanted of it.
 
 use lc_level::{
-    Cause, ChildDirectory, CountedFiles, FaultWord, FileFault, Job, Kept, LeftOut, LevelReader,
-    OnlyPaths, OpenFault, Opened, Reason, Scratch, Selection,
+    Cause, ChildDirectory, CountedFiles, FaultWord, FileFault, Job, LevelReader, OnlyPaths,
+    OpenFault, Opened, ReaderOptions, Reason, Scratch, Selection, SkippedEntry,
 };
-use lc_rules::{IgnoreFile, Origin, RuleFault, TextState};
+use lc_rules::{IgnoreFile, RuleFault, RuleSource, TextState};
 use lc_tree::{Kind, MemTree, Node, Sketch};
 use std::alloc::{AllocError, Global};
 use std::process::Abort;
@@ -41,7 +41,7 @@ pub(crate) struct Level<'a> {
     pub(crate) files: &'a [(&'a [u8], TextState)],
     pub(crate) faults: &'a [(&'a [u8], FaultWord)],
     pub(crate) children: &'a [&'a [u8]],
-    pub(crate) left: &'a [Left<'a>],
+    pub(crate) skipped: &'a [Skipped<'a>],
     pub(crate) absent: &'a [&'a [u8]],
 }
 
@@ -49,13 +49,13 @@ pub(crate) struct Level<'a> {
 pub(crate) type Part<'a> = (&'a str, Selected<'a>, Level<'a>);
 
 /// A name, what stands under it, and why it is left out.
-pub(crate) type Left<'a> = (&'a [u8], Kind, Why<'a>);
+pub(crate) type Skipped<'a> = (&'a [u8], Kind, Why<'a>);
 
 /// Why an entry is left out.
 #[derive(Clone, Copy, Debug)]
 pub(crate) enum Why<'a> {
     Git,
-    Rule(Origin, u32),
+    Rule(RuleSource, u32),
     Attribute(&'a [u8]),
     OtherKind,
 }
@@ -76,7 +76,7 @@ pub(crate) const NO_ENTRY: Level = Level {
     files: &[],
     faults: &[],
     children: &[],
-    left: &[],
+    skipped: &[],
     absent: &[],
 };
 
@@ -93,12 +93,12 @@ pub(crate) const TOP: Case = Case {
 };
 
 /// Nothing beside what a count needs.
-pub(crate) const NOTHING: Kept = Kept {
+pub(crate) const NOTHING: ReaderOptions = ReaderOptions {
     left_out: false,
     texts: false,
 };
 
-pub(crate) const LEFT_OUT: Kept = Kept {
+pub(crate) const LEFT_OUT: ReaderOptions = ReaderOptions {
     left_out: true,
     texts: false,
 };
@@ -167,7 +167,7 @@ pub(crate) fn job_of(
 struct Found {
     counted: CountedFiles,
     children: Vec<ChildDirectory>,
-    left: Vec<LeftOut>,
+    skipped: Vec<SkippedEntry>,
     entries: u32,
 }
 
@@ -186,7 +186,7 @@ fn work(
         job,
         files,
         children,
-        left,
+        skipped,
         absent,
         entries,
     } = opened;
@@ -194,7 +194,7 @@ fn work(
         Ok(counted) => Ok(Ok(Found {
             counted,
             children,
-            left,
+            skipped,
             entries,
         })),
         Err(_) => Err(AllocError),
@@ -230,8 +230,8 @@ fn are_children(found: &[ChildDirectory], wanted: &[&[u8]]) -> bool {
 pub(crate) fn is_reason(found: &Reason, wanted: &Why) -> bool {
     match (found, wanted) {
         (Reason::Git, Why::Git) => true,
-        (Reason::Rule { origin, line }, Why::Rule(wanted, number)) => {
-            *origin == *wanted && *line == *number
+        (Reason::Rule { source, line }, Why::Rule(wanted, number)) => {
+            *source == *wanted && *line == *number
         }
         (Reason::Attribute(name), Why::Attribute(wanted)) => name.as_slice() == *wanted,
         (Reason::OtherKind, Why::OtherKind) => true,
@@ -239,29 +239,30 @@ pub(crate) fn is_reason(found: &Reason, wanted: &Why) -> bool {
     }
 }
 
-fn are_left(found: &[LeftOut], wanted: &[Left]) -> bool {
+fn are_skipped(found: &[SkippedEntry], wanted: &[Skipped]) -> bool {
     found.len() == wanted.len()
-        && found.iter().zip(wanted).all(|(left, (name, kind, why))| left.name.as_slice() == *name
-            && left.kind == *kind
-            && is_reason(&left.reason, why))
+        && found.iter().zip(wanted).all(|(skipped, (name, kind, why))| skipped.name.as_slice()
+            == *name
+            && skipped.kind == *kind
+            && is_reason(&skipped.reason, why))
 }
 
 /// Each entry that takes part is counted, at fault, walked or left out.
 fn are_all(entries: u32, wanted: &Level) -> bool {
     entries as usize
-        == wanted.files.len() + wanted.faults.len() + wanted.children.len() + wanted.left.len()
+        == wanted.files.len() + wanted.faults.len() + wanted.children.len() + wanted.skipped.len()
 }
 
-fn is_level(found: &Found, wanted: &Level, kept: Kept) -> bool {
+fn is_level(found: &Found, wanted: &Level, kept: ReaderOptions) -> bool {
     let Some((absent, faults)) = found.counted.faults.split_at_checked(wanted.absent.len()) else {
         return false;
     };
-    let is_left = if kept.left_out {
-        are_left(&found.left, wanted.left)
+    let is_skipped = if kept.left_out {
+        are_skipped(&found.skipped, wanted.skipped)
     } else {
-        found.left.is_empty()
+        found.skipped.is_empty()
     };
-    is_left
+    is_skipped
         && are_files(&found.counted, wanted.files)
         && are_absent(absent, wanted.absent)
         && are_faults(faults, wanted.faults)
@@ -276,7 +277,7 @@ pub(crate) fn is_found(
     below: Option<&[u8]>,
     case: &Case,
     wanted: &Level,
-    kept: Kept,
+    kept: ReaderOptions,
 ) -> Result<bool, AllocError> {
     let tree = MemTree::new(node);
     let only = OnlyPaths::new(alloc, case.selected.only)?;

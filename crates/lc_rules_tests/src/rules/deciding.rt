@@ -1,6 +1,6 @@
 //! Which rule decides, by the line that it stands on.
 
-use lc_rules::{Chain, DirectoriesAbove, IgnoreFile, Lines, Origin, Verdict, text_of_line};
+use lc_rules::{Chain, DirectoriesAbove, IgnoreFile, Lines, RuleSource, Verdict, text_of_line};
 use std::alloc::{AllocError, Global};
 use std::sync::Arc;
 use std::test::Fail;
@@ -62,7 +62,7 @@ const CASES: &[Case] = &[
 fn each_case_holds(rt: HostRuntime) -> Result<(), Fail> {
     for (rules, path, is_dir, wanted) in CASES {
         let file = read(rt.alloc(), rules)?;
-        let found = match file.deciding(path, *is_dir) {
+        let found = match file.last_match(path, *is_dir) {
             Some(rule) => Some((rule.line(), rule.verdict())),
             None => None,
         };
@@ -104,15 +104,15 @@ fn chain_of(alloc: Global, files: &[(Put, &'static [u8])]) -> Result<Chain, Allo
 }
 
 /// A path, and where the rule stands that decides it.
-type Place = (&'static [u8], Option<(Origin, u32)>);
+type Place = (&'static [u8], Option<(RuleSource, u32)>);
 
 const NEARER: &[Place] = &[
-    (b"s/k.t", Some((Origin::Directory(1), 4))),
-    (b"s/j.t", Some((Origin::Directory(0), 2))),
-    (b"s/u.c", Some((Origin::Directory(1), 5))),
-    (b"s/v/u.c", Some((Origin::Directory(0), 3))),
-    (b"s/a.p", Some((Origin::GitInfo, 2))),
-    (b"s/a.o", Some((Origin::ExcludeFile, 1))),
+    (b"s/k.t", Some((RuleSource::Gitignore(1), 4))),
+    (b"s/j.t", Some((RuleSource::Gitignore(0), 2))),
+    (b"s/u.c", Some((RuleSource::Gitignore(1), 5))),
+    (b"s/v/u.c", Some((RuleSource::Gitignore(0), 3))),
+    (b"s/a.p", Some((RuleSource::InfoExclude, 2))),
+    (b"s/a.o", Some((RuleSource::ExcludeFrom, 1))),
     (b"s/u", None),
 ];
 
@@ -120,8 +120,8 @@ const NEARER: &[Place] = &[
 fn a_nearer_file_decides(rt: HostRuntime) -> Result<(), Fail> {
     let chain = chain_of(rt.alloc(), FILES)?;
     for (path, wanted) in NEARER {
-        let found = match chain.deciding(path, FILE) {
-            Some((origin, rule)) => Some((origin, rule.line())),
+        let found = match chain.last_match(path, FILE) {
+            Some((source, rule)) => Some((source, rule.line())),
             None => None,
         };
         assert!(rt; found == *wanted, "{path:?}: {found:?}");
@@ -183,13 +183,13 @@ fn a_path_is_decided_at_once_with_the_directories_above_it(rt: HostRuntime) -> R
         let mut found = Vec::new(rt.alloc());
         for len in 0..path.len() {
             if path[len] == b'/' {
-                let rule = above.deciding(found.len(), len);
+                let rule = above.last_match(found.len(), len);
                 found.push(rule.map(|rule| rule.line()))?;
             }
         }
         assert!(rt; found.as_slice() == *lines, "{rules:?} above {path:?}");
         assert!(rt;
-            above.deciding_path().map(|rule| rule.line()) == *own,
+            above.last_match_of_path().map(|rule| rule.line()) == *own,
             "{rules:?} at {path:?}"
         );
     }

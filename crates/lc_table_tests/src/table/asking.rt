@@ -8,10 +8,10 @@ use lc_level::Job;
 use lc_rules::IgnoreFile;
 use lc_table::{RunFault, run, table};
 use lc_text::trials::{Narrow, WhenFull};
-use lc_text::{Columns, Format, Outcome, Shape};
+use lc_text::{Columns, Format, Outcome, TableOptions};
 use lc_tree::trials::BytewiseTree;
 use lc_tree::{MemTree, Sketch, Tree};
-use lc_walk::{Lists, Options, Row, WalkFault, walk_on};
+use lc_walk::{Options, ReportLists, Row, WalkFault, walk_on};
 use std::alloc::{AllocError, Global};
 use std::process::Abort;
 use std::sync::{Arc, Wait};
@@ -22,13 +22,13 @@ use std::thread::Threads;
 #[derive(Clone, Copy)]
 pub(super) struct Asked<'a> {
     pub(super) exclude: &'a [u8],
-    pub(super) lists: Lists,
+    pub(super) lists: ReportLists,
     pub(super) archive: bool,
 }
 
 pub(super) const PLAIN: Asked<'static> = Asked {
     exclude: b"",
-    lists: Lists {
+    lists: ReportLists {
         files: false,
         left_out: false,
     },
@@ -36,7 +36,7 @@ pub(super) const PLAIN: Asked<'static> = Asked {
 };
 
 pub(super) const WITH_FILES: Asked<'static> = Asked {
-    lists: Lists {
+    lists: ReportLists {
         files: true,
         left_out: false,
     },
@@ -44,7 +44,7 @@ pub(super) const WITH_FILES: Asked<'static> = Asked {
 };
 
 pub(super) const WITH_LEFT_OUT: Asked<'static> = Asked {
-    lists: Lists {
+    lists: ReportLists {
         files: false,
         left_out: true,
     },
@@ -62,7 +62,7 @@ pub(super) struct Case<'a> {
 }
 
 /// A table with tabs, of all columns, in the order of its keys.
-pub(super) const TSV: Shape = Shape {
+pub(super) const TSV: TableOptions = TableOptions {
     format: Format::Tsv,
     by: Columns::ALL,
     sort: None,

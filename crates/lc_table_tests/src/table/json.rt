@@ -5,10 +5,10 @@ use crate::table::tables::{Case, NONE, TEXT_STATES, compare_all};
 use lc_census::Eol;
 use lc_level::FaultWord;
 use lc_rules::TextState;
-use lc_text::{Columns, Format, Shape, SortBy};
+use lc_text::{Columns, Format, SortBy, TableOptions};
 use std::test::Fail;
 
-const JSON: Shape = Shape {
+const JSON: TableOptions = TableOptions {
     format: Format::Json,
     ..TSV
 };
@@ -62,7 +62,7 @@ const EMPTY: Case = Case {
     lines: b"{\"rows\":[],\"total\":{\"files\":0,\"lines\":0,\"blank\":0,\"bytes\":0},\"directories\":1,\"faults\":[]}\n",
 };
 
-const BY_TEXT: Shape = Shape {
+const BY_TEXT: TableOptions = TableOptions {
     by: Columns {
         ext: false,
         text: true,
@@ -84,7 +84,7 @@ const SUMMED: Case = Case {
 
 const SORTED: Case = Case {
     name: "sorted_rows",
-    shape: Shape {
+    shape: TableOptions {
         sort: Some(SortBy::Bytes),
         ..BY_TEXT
     },

@@ -5,10 +5,10 @@ use crate::table::tables::{Case, NONE, compare_all};
 use lc_census::Eol;
 use lc_level::FaultWord;
 use lc_rules::TextState;
-use lc_text::{Columns, Format, Shape, SortBy};
+use lc_text::{Columns, Format, SortBy, TableOptions};
 use std::test::Fail;
 
-const SCREEN: Shape = Shape {
+const SCREEN: TableOptions = TableOptions {
     format: Format::Table,
     ..TSV
 };
@@ -122,7 +122,7 @@ const CASES: &[Case] = &[
     },
     Case {
         name: "classes_by_text_sorted_by_lines",
-        shape: Shape {
+        shape: TableOptions {
             by: BY_TEXT,
             sort: Some(SortBy::Lines),
             ..SCREEN
@@ -153,7 +153,7 @@ const CASES: &[Case] = &[
         ..WIDE
     },
     Case {
-        shape: Shape {
+        shape: TableOptions {
             by: BY_EOL,
             ..SCREEN
         },

@@ -4,7 +4,7 @@ use crate::table::asking::{HEADER, TSV};
 use crate::table::tables::{Case, NONE, compare_all, has_parts, report_of};
 use lc_census::Eol;
 use lc_rules::TextState;
-use lc_text::{Columns, Shape, SortBy};
+use lc_text::{Columns, SortBy, TableOptions};
 use lc_walk::Report;
 use std::alloc::{AllocError, Global};
 use std::process::Abort;
@@ -32,7 +32,7 @@ const SUMMED: Case = Case {
 
 const NO_ROWS: &[Case] = &[Case {
     name: "no_rows",
-    shape: Shape {
+    shape: TableOptions {
         by: Columns {
             ext: false,
             text: false,
@@ -137,7 +137,7 @@ const CASES: &[ShapeCase] = &[
 fn has_rows(alloc: Global, report: &Report, case: &ShapeCase) -> Result<bool, AllocError> {
     let (_, [ext, text, eol], sort, rows) = *case;
     let by = Columns { ext, text, eol };
-    let shape = Shape { by, sort, ..TSV };
+    let shape = TableOptions { by, sort, ..TSV };
     has_parts(alloc, report, shape, (HEADER, rows, TOTALS))
 }
 

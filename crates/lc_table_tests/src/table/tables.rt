@@ -6,8 +6,8 @@ use lc_level::FaultWord;
 use lc_rules::TextState;
 use lc_table::{table, table_text};
 use lc_text::trials::{Narrow, WRITERS, WhenFull};
-use lc_text::{PrintFault, Shape};
-use lc_walk::{FaultLine, FileLine, Lists, Report, Sums, TallyRow};
+use lc_text::{PrintFault, TableOptions};
+use lc_walk::{FaultLine, FileLine, Report, ReportLists, Sums, TallyRow};
 use std::alloc::{AllocError, Global};
 use std::process::Abort;
 use std::test::Fail;
@@ -22,7 +22,7 @@ pub(super) type File = (&'static [u8], TextState, Eol, [u64; 3]);
 #[derive(Clone, Copy)]
 pub(super) struct Case {
     pub(super) name: &'static str,
-    pub(super) shape: Shape,
+    pub(super) shape: TableOptions,
     pub(super) rows: &'static [Row],
     pub(super) totals: [u64; 4],
     pub(super) directories: u64,
@@ -205,13 +205,13 @@ pub(super) fn report_of(alloc: Global, case: &Case) -> Result<Report, AllocError
         totals,
         directories: case.directories,
         entries: 0,
-        lists: Lists {
+        lists: ReportLists {
             files: !case.files.is_empty(),
             left_out: false,
         },
         files: files_of(alloc, case)?,
         faults: faults_of(alloc, case)?,
-        left: Vec::new(alloc),
+        skipped: Vec::new(alloc),
     })
 }
 
@@ -229,7 +229,7 @@ fn is_made_of(text: &[u8], (header, rows, below): Parts<'_>) -> bool {
 pub(super) fn has_parts(
     alloc: Global,
     report: &Report,
-    shape: Shape,
+    shape: TableOptions,
     parts: Parts<'_>,
 ) -> Result<bool, AllocError> {
     let text = table_text(alloc, report, shape)?;

@@ -43,7 +43,7 @@ fn is_ignored(verdict: Verdict) -> bool
 fn ignoring<'a>(rules: &'a IgnoreFile, directory: &[u8]) -> Option<&'a Rule>
     ensures { option_map (λ r. r.now) result ≡ ignoring_rule rules.now directory.now }
 {
-    let rule = rules.deciding(directory, true)?;
+    let rule = rules.last_match(directory, true)?;
     if is_ignored(rule.verdict()) {
         Some(rule)
     } else {
@@ -67,7 +67,7 @@ fn ignoring_among<'a>(
     let Some(above) = above else {
         return ignoring(rules, &path[..len]);
     };
-    let rule = above.deciding(place, len)?;
+    let rule = above.last_match(place, len)?;
     if is_ignored(rule.verdict()) {
         Some(rule)
     } else {
@@ -89,7 +89,7 @@ fn found_below<'a>(
 {
     match above {
         Some(rule) => Finding::Below(rule),
-        None => Finding::Decided(rules.deciding(path, is_dir)),
+        None => Finding::Decided(rules.last_match(path, is_dir)),
     }
 }
 
@@ -155,7 +155,7 @@ impl<'a> Checker<'a> {
         let place = path[..known].iter().filter(|b| **b == b'/').count();
         match self.ignoring_from(path, known, Some(&above), place) {
             Some(rule) => Finding::Below(rule),
-            None => Finding::Decided(above.deciding_path()),
+            None => Finding::Decided(above.last_match_of_path()),
         }
     }
 

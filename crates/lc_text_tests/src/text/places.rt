@@ -1,54 +1,60 @@
 //! Where a rule stands, as it is printed.
 
-use lc_rules::Origin;
-use lc_text::{PathStyle, push_origin};
+use lc_rules::RuleSource;
+use lc_text::{PathStyle, push_rule_source};
 use std::process::Abort;
 use std::test::Fail;
 
 /// What is shown, a path, where the file of its rule stands, the number of the line, and the text.
-type Case = (&'static str, &'static [u8], Origin, u32, &'static [u8]);
+type Case = (&'static str, &'static [u8], RuleSource, u32, &'static [u8]);
 
 const CASES: &[Case] = &[
-    ("top", b"a.log", Origin::Directory(0), 1, b".gitignore:1"),
+    (
+        "top",
+        b"a.log",
+        RuleSource::Gitignore(0),
+        1,
+        b".gitignore:1",
+    ),
     (
         "directory_of_the_path",
         b"src/gen",
-        Origin::Directory(1),
+        RuleSource::Gitignore(1),
         3,
         b"src/.gitignore:3",
     ),
     (
         "directory_further_up",
         b"a/b/c.c",
-        Origin::Directory(1),
+        RuleSource::Gitignore(1),
         10,
         b"a/.gitignore:10",
     ),
     (
         "two_directories",
         b"a/b/c.c",
-        Origin::Directory(2),
+        RuleSource::Gitignore(2),
         10,
         b"a/b/.gitignore:10",
     ),
     (
         "escaped",
         b"t\x01/a",
-        Origin::Directory(1),
+        RuleSource::Gitignore(1),
         2,
         b"t\\x01/.gitignore:2",
     ),
     (
         "git_info",
         b"notes.txt",
-        Origin::GitInfo,
+        RuleSource::InfoExclude,
         2,
         b".git/info/exclude:2",
     ),
     (
         "exclude_file",
         b"d/x.bak",
-        Origin::ExcludeFile,
+        RuleSource::ExcludeFrom,
         4_294_967_295,
         b"--exclude-from:4294967295",
     ),
@@ -56,9 +62,9 @@ const CASES: &[Case] = &[
 
 #[test]
 fn places_of_rules(rt: HostRuntime) -> Result<(), Fail> {
-    for (name, path, origin, line, expected) in CASES {
+    for (name, path, source, line, expected) in CASES {
         let mut text = Vec::new(rt.alloc());
-        push_origin(&mut text, PathStyle::Escaped, path, *origin, *line)?;
+        push_rule_source(&mut text, PathStyle::Escaped, path, *source, *line)?;
         assert!(rt; text.as_slice() == *expected, "{name}");
     }
     Ok(())
@@ -68,7 +74,13 @@ fn places_of_rules(rt: HostRuntime) -> Result<(), Fail> {
 fn places_for_a_terminal(rt: HostRuntime) -> Result<(), Fail> {
     let mut text = Vec::new(rt.alloc());
     let path = "\u{9b}/\u{e4}/a".as_bytes();
-    push_origin(&mut text, PathStyle::Visible, path, Origin::Directory(2), 2)?;
+    push_rule_source(
+        &mut text,
+        PathStyle::Visible,
+        path,
+        RuleSource::Gitignore(2),
+        2,
+    )?;
     assert!(rt; text.as_slice() == "\\xc2\\x9b/\u{e4}/.gitignore:2".as_bytes());
     Ok(())
 }

@@ -1,6 +1,6 @@
 ghost use Rattle.std.specs.Prelude.{◌<◌};
 
-use lc_census::{Scan, scan_lanes, scan_plain};
+use lc_census::{Scan, scan_scalar, scan_simd};
 
 /// The bytes that a scan tells apart, and `x` for all others.
 const LETTERS: [u8; 6] = [b'\n', b'\r', 0, b' ', b'\t', b'x'];
@@ -26,16 +26,16 @@ fn scan_at(place: usize, parted: &[u8; 8]) -> Scan
     let mut bytes = [b'x'; 128];
     bytes[place..place + 6].copy_from_slice(&parted[1..7]);
     let end = if place < 58 { 64 } else { 128 };
-    scan_lanes(Scan::new(), &bytes[..end])
+    scan_simd(Scan::new(), &bytes[..end])
 }
 
 /// The plain scan of a word between two `x`, or at the start with one after it, is what the vectors must give with `x` all round, so it
 /// is made once a word. A shorter word is one of six letters that ends in `x`.
 fn bodies_agree(parted: &[u8; 8]) -> bool {
-    if scan_at(0, parted) != scan_plain(Scan::new(), &parted[1..]) {
+    if scan_at(0, parted) != scan_scalar(Scan::new(), &parted[1..]) {
         return false;
     }
-    let inside = scan_plain(Scan::new(), parted);
+    let inside = scan_scalar(Scan::new(), parted);
     for place in 1..64usize {
         if scan_at(place, parted) != inside {
             return false;
@@ -53,8 +53,8 @@ fn both_bodies_agree_at_every_place_of_a_vector(rt: HostRuntime) {
 
 #[test]
 fn scans_go_on_where_another_stopped(rt: HostRuntime) {
-    let after_cr = scan_plain(Scan::new(), b"\r");
-    let by_lanes = scan_lanes(after_cr, b"\n");
-    let by_bytes = scan_plain(after_cr, b"\n");
+    let after_cr = scan_scalar(Scan::new(), b"\r");
+    let by_lanes = scan_simd(after_cr, b"\n");
+    let by_bytes = scan_scalar(after_cr, b"\n");
     assert!(&rt; (by_lanes.crlf, by_lanes.blank, by_bytes.crlf) == (1, 1, 1));
 }

@@ -6,8 +6,8 @@ ghost use Rattle.lc_walk.specs.Links.{fault_of_tree};
 ghost use Rattle.lc_board.specs.declared.answers.Ended.{Ended};
 ghost use Rattle.lc_walk.specs.declared.row.Row.{Row};
 
-use crate::given_up::GivenUp;
-use crate::options::Lists;
+use crate::broken_cause::BrokenCause;
+use crate::options::ReportLists;
 use crate::report::Report;
 use crate::report::row_lines::{findings_of, row_of};
 use crate::report::tree_check::{TreeFault, check_tree};
@@ -18,7 +18,7 @@ use lc_board::{Closed, Ended};
 use std::alloc::Global;
 
 /// The row was given up for this cause.
-fn is_broken_by(row: &Row, cause: GivenUp) -> bool
+fn is_broken_by(row: &Row, cause: BrokenCause) -> bool
     ensures broken { result ≡ true → IsBrokenBy cause row.now }
     ensures other { result ≡ false → IsBrokenBy cause row.now → ⊥ }
 {
@@ -30,7 +30,7 @@ fn is_broken_by(row: &Row, cause: GivenUp) -> bool
 }
 
 /// Some row was given up for this cause.
-fn some_broken(rows: &[Ended<Row>], cause: GivenUp) -> bool
+fn some_broken(rows: &[Ended<Row>], cause: BrokenCause) -> bool
     ensures some { result ≡ true → SomeBroken cause rows.now }
     ensures none { result ≡ false → (i : ℕ) (e : Ended Row) → slice_get rows.now i ≡ Some e → IsBrokenBy cause (row_of e) → ⊥ }
 {
@@ -55,20 +55,20 @@ fn fault_of_tree(fault: TreeFault) -> WalkFault
 pub fn assemble(
     alloc: Global,
     closed: Closed<Row>,
-    lists: Lists,
+    lists: ReportLists,
     tally: Tally,
 ) -> Result<Report, WalkFault>
     requires { vec_len closed.rows ≤ 2 ^ 32 }
     ensures { Assembles lists tally closed.rows.items result }
 {
     let rows = closed.rows.as_slice();
-    if some_broken(rows, GivenUp::Memory) {
+    if some_broken(rows, BrokenCause::Memory) {
         return Err(WalkFault::Memory);
     }
-    if some_broken(rows, GivenUp::TooManyDirs) {
+    if some_broken(rows, BrokenCause::TooManyDirs) {
         return Err(WalkFault::TooManyDirs);
     }
-    if some_broken(rows, GivenUp::TooDeep) {
+    if some_broken(rows, BrokenCause::TooDeep) {
         return Err(WalkFault::TooDeep);
     }
     match check_tree(alloc, rows) {

@@ -1,6 +1,6 @@
 //! What a walk has found beside the sums.
 
-use crate::report::{FaultLine, FileLine, LeftLine};
+use crate::report::{FaultLine, FileLine, SkippedLine};
 
 /// What a walk has found beside the sums over its files: the lists in any order.
 #[derive(Drop)]
@@ -14,5 +14,5 @@ pub struct Findings {
     /// The files and directories that were not counted.
     pub faults: Vec<FaultLine>,
     /// The entries that were left out, if they were asked for.
-    pub left: Vec<LeftLine>,
+    pub skipped: Vec<SkippedLine>,
 }

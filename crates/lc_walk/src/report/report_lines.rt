@@ -43,7 +43,7 @@ impl Model for FaultLine {
 
 /// An entry of a listed directory that was left out, and why.
 #[derive(Debug, Drop)]
-pub struct LeftLine {
+pub struct SkippedLine {
     /// The names from the top down to it, joined by slashes.
     pub path: Vec<u8>,
     /// What stands there.
@@ -52,11 +52,11 @@ pub struct LeftLine {
     pub reason: Reason,
 }
 
-impl Model for LeftLine {
+impl Model for SkippedLine {
     ghost use Rattle.lc_level.specs.Reasons.{reason_model};
-    ghost use Rattle.lc_walk.specs.ReportLines.{LeftLineModel};
+    ghost use Rattle.lc_walk.specs.ReportLines.{SkippedLineModel};
 
-    ghost Value = { LeftLineModel };
+    ghost Value = { SkippedLineModel };
 
     ghost view = { λ l. record { path = l.path.items; kind = l.kind; reason = reason_model l.reason } };
 }

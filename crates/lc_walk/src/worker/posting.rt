@@ -3,7 +3,7 @@ ghost use Rattle.std.specs.Prelude.{◌∷◌, []};
 ghost use Rattle.lc_walk.specs.BoardPasses.{HoldsClaim, IsPassOf};
 ghost use Rattle.lc_walk.specs.Posting.{PostsMore, PostsChildren};
 
-use crate::given_up::GivenUp;
+use crate::broken_cause::BrokenCause;
 use crate::row::{Child, Row};
 use crate::worker::Worker;
 use lc_board::{PostFault, Shared};
@@ -19,7 +19,7 @@ impl<B: Shared<Job, Row>, T: Tree, W: Threads + Wait + Sync> Worker<'_, '_, B, T
         pass: &mut B::Pass,
         child: ChildDirectory,
         children: &mut Vec<Child>,
-    ) -> Result<(), GivenUp>
+    ) -> Result<(), BrokenCause>
         requires { IsPassOf B.owns B.Pass.view self.now.board.now HoldsClaim pass.old }
         ensures pass { IsPassOf B.owns B.Pass.view self.now.board.now HoldsClaim pass.new }
         ensures posts { PostsMore (child ∷ []) (B.Pass.view pass.old) (B.Pass.view pass.new) children.old.items children.new.items result }
@@ -27,12 +27,12 @@ impl<B: Shared<Job, Row>, T: Tree, W: Threads + Wait + Sync> Worker<'_, '_, B, T
         let ChildDirectory { name, job } = child;
         let number = match self.board.post(self.rt, pass, job) {
             Ok(number) => number,
-            Err(PostFault::Full(_)) => return Err(GivenUp::TooManyDirs),
-            Err(PostFault::Memory(_)) => return Err(GivenUp::Memory),
+            Err(PostFault::Full(_)) => return Err(BrokenCause::TooManyDirs),
+            Err(PostFault::Memory(_)) => return Err(BrokenCause::Memory),
         };
         match children.push(Child { name, number }) {
             Ok(()) => Ok(()),
-            Err(_) => Err(GivenUp::Memory),
+            Err(_) => Err(BrokenCause::Memory),
         }
     }
 
@@ -41,13 +41,13 @@ impl<B: Shared<Job, Row>, T: Tree, W: Threads + Wait + Sync> Worker<'_, '_, B, T
         &self,
         pass: &mut B::Pass,
         directories: Vec<ChildDirectory>,
-    ) -> Result<Vec<Child>, GivenUp>
+    ) -> Result<Vec<Child>, BrokenCause>
         requires { IsPassOf B.owns B.Pass.view self.now.board.now HoldsClaim pass.old }
         ensures pass { IsPassOf B.owns B.Pass.view self.now.board.now HoldsClaim pass.new }
         ensures posts { PostsChildren directories.items (B.Pass.view pass.old) (B.Pass.view pass.new) result }
     {
         let Ok(mut children) = Vec::with_capacity(self.alloc, directories.len()) else {
-            return Err(GivenUp::Memory);
+            return Err(BrokenCause::Memory);
         };
         for child in directories {
             self.post_child(pass, child, &mut children)?;

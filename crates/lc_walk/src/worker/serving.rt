@@ -8,14 +8,16 @@ ghost use Rattle.lc_walk.specs.Serving.{HoldsJob, GivesUp, WorksOn, Serves};
 ghost use Rattle.lc_walk.specs.WalkOptions.{asked_by};
 ghost use Rattle.lc_walk.specs.declared.row.Row.TheVariants.{Broken};
 
-use crate::given_up::GivenUp;
+use crate::broken_cause::BrokenCause;
 use crate::row::{BrokenRow, FaultedRow, ListedParts, ListedRow, Row};
 use crate::served_job::ServedJob;
 use crate::tally::Tally;
 use crate::worker::Worker;
 use crate::worker::adding::add_files;
 use lc_board::Shared;
-use lc_level::{Counted, CountedFiles, Job, Kept, LevelReader, OpenFault, Opened, Scratch};
+use lc_level::{
+    Counted, CountedFiles, Job, LevelReader, OpenFault, Opened, ReaderOptions, Scratch,
+};
 use lc_tree::Tree;
 use std::alloc::AllocError;
 use std::sync::Wait;
@@ -26,17 +28,22 @@ impl<'w, B: Shared<Job, Row>, T: Tree, W: Threads + Wait + Sync> Worker<'w, '_, 
     fn levels(&self) -> LevelReader<'w, T>
         ensures tree { result.tree.now ≡ self.now.tree.now }
         ensures selection { result.selection ≡ (asked_by self.now.options.now).selection }
-        ensures kept { result.kept.left_out ≡ self.now.options.now.lists.left_out }
+        ensures options { result.options.left_out ≡ self.now.options.now.lists.left_out }
     {
-        let kept = Kept {
+        let options = ReaderOptions {
             left_out: self.options.lists().left_out,
             texts: false,
         };
-        LevelReader::new(self.alloc, self.tree, self.options.selection(), kept)
+        LevelReader::new(self.alloc, self.tree, self.options.selection(), options)
     }
 
     /// Ends the claim of a directory by giving it up. It answers `Err` where that was for want of memory.
-    fn give_up(&self, pass: &mut B::Pass, job: ServedJob, cause: GivenUp) -> Result<(), AllocError>
+    fn give_up(
+        &self,
+        pass: &mut B::Pass,
+        job: ServedJob,
+        cause: BrokenCause,
+    ) -> Result<(), AllocError>
         requires { IsPassOf B.owns B.Pass.view self.now.board.now HoldsClaim pass.old }
         ensures pass { IsPassOf B.owns B.Pass.view self.now.board.now IsFree pass.new }
         ensures mine { B.Pass.view pass.new ≡ after_give (B.Pass.view pass.old) (Broken (record { job = job; cause = cause })) }
@@ -45,9 +52,9 @@ impl<'w, B: Shared<Job, Row>, T: Tree, W: Threads + Wait + Sync> Worker<'w, '_, 
         self.board
             .give(self.rt, pass, Row::Broken(BrokenRow { job, cause }));
         match cause {
-            GivenUp::Memory => Err(AllocError),
-            GivenUp::TooManyDirs => Ok(()),
-            GivenUp::TooDeep => Ok(()),
+            BrokenCause::Memory => Err(AllocError),
+            BrokenCause::TooManyDirs => Ok(()),
+            BrokenCause::TooDeep => Ok(()),
         }
     }
 
@@ -83,7 +90,7 @@ impl<'w, B: Shared<Job, Row>, T: Tree, W: Threads + Wait + Sync> Worker<'w, '_, 
             job: inside,
             files,
             children,
-            left,
+            skipped,
             absent,
             entries,
         } = opened;
@@ -95,10 +102,10 @@ impl<'w, B: Shared<Job, Row>, T: Tree, W: Threads + Wait + Sync> Worker<'w, '_, 
             .levels()
             .count_in_parts(self.rt, self.idle, &inside, files, absent, scratch)
         else {
-            return self.give_up(pass, job, GivenUp::Memory);
+            return self.give_up(pass, job, BrokenCause::Memory);
         };
         let Ok(()) = add_files(tally, &found.files) else {
-            return self.give_up(pass, job, GivenUp::Memory);
+            return self.give_up(pass, job, BrokenCause::Memory);
         };
         let CountedFiles { files, faults } = found;
         let parts = ListedParts {
@@ -106,7 +113,7 @@ impl<'w, B: Shared<Job, Row>, T: Tree, W: Threads + Wait + Sync> Worker<'w, '_, 
             entries,
             files: self.if_asked(files),
             faults,
-            left,
+            skipped,
             children,
         };
         match ListedRow::new(self.alloc, parts) {
@@ -114,7 +121,7 @@ impl<'w, B: Shared<Job, Row>, T: Tree, W: Threads + Wait + Sync> Worker<'w, '_, 
                 self.board.give(self.rt, pass, Row::Listed(row));
                 Ok(())
             }
-            Err(job) => self.give_up(pass, job, GivenUp::Memory),
+            Err(job) => self.give_up(pass, job, BrokenCause::Memory),
         }
     }
 
@@ -144,7 +151,7 @@ impl<'w, B: Shared<Job, Row>, T: Tree, W: Threads + Wait + Sync> Worker<'w, '_, 
             }
             Err(OpenFault::Broken(cause)) => {
                 let job = ServedJob::of(job);
-                self.give_up(pass, job, GivenUp::unopened(cause))
+                self.give_up(pass, job, BrokenCause::unopened(cause))
             }
         }
     }
@@ -168,7 +175,7 @@ impl<'w, B: Shared<Job, Row>, T: Tree, W: Threads + Wait + Sync> Worker<'w, '_, 
         {
             self.serve(pass, job, scratch, tally)
         } else {
-            self.give_up(pass, ServedJob::of(job), GivenUp::Memory)
+            self.give_up(pass, ServedJob::of(job), BrokenCause::Memory)
         };
         if served.is_err() {
             *tally = None;

@@ -4,7 +4,7 @@ ghost use Rattle.lc_walk.specs.WalkOptions.{AreWithinLimits};
 
 use crate::walk::walked::{Board, NO_LISTS, report_of, walk_options};
 use lc_tree::{MemTree, Node};
-use lc_walk::{Lists, Options, Report, Sums, WalkFault};
+use lc_walk::{Options, Report, ReportLists, Sums, WalkFault};
 use std::alloc::{AllocError, Global};
 use std::process::Abort;
 use std::sync::Wait;
@@ -102,19 +102,19 @@ fn draw_files(
 fn hang_all(
     alloc: Global,
     draws: &mut Draws,
-    left: Vec<Entries>,
+    skipped: Vec<Entries>,
     top: Entries,
 ) -> Result<Node, AllocError> {
-    let mut left = left;
+    let mut skipped = skipped;
     let mut top = top;
-    for _ in 0..left.len() {
-        let Some(entries) = left.pop() else {
+    for _ in 0..skipped.len() {
+        let Some(entries) = skipped.pop() else {
             break;
         };
-        let name = format!(in alloc; "d{}", left.len())?.into_bytes();
+        let name = format!(in alloc; "d{}", skipped.len())?.into_bytes();
         let child = (name, Node::Dir(entries));
-        let parent = draws.below(left.len() + 1);
-        match left.get_mut(parent) {
+        let parent = draws.below(skipped.len() + 1);
+        match skipped.get_mut(parent) {
             Some(parent) => parent.push(child)?,
             None => top.push(child)?,
         }
@@ -132,12 +132,12 @@ pub(super) fn draw_tree(alloc: Global, seed: u64, directories: u32) -> Result<Dr
         bytes: 0,
     };
     let top = draw_files(alloc, &mut draws, &mut sums, true)?;
-    let mut left = Vec::new(alloc);
+    let mut skipped = Vec::new(alloc);
     for number in 1..directories {
-        left.push(draw_files(alloc, &mut draws, &mut sums, number % 10 == 0)?)?;
+        skipped.push(draw_files(alloc, &mut draws, &mut sums, number % 10 == 0)?)?;
     }
     Ok(Drawn {
-        top: hang_all(alloc, &mut draws, left, top)?,
+        top: hang_all(alloc, &mut draws, skipped, top)?,
         directories,
         sums,
     })
@@ -157,7 +157,7 @@ impl Drawn {
         ensures { AreWithinLimits result }
     {
         Options {
-            lists: Lists {
+            lists: ReportLists {
                 files: true,
                 ..NO_LISTS
             },

@@ -7,7 +7,7 @@ use crate::walk::walks::{LINE, WITH_INFO};
 use lc_level::FaultWord;
 use lc_tree::trials::{FailingCall, FailingTree};
 use lc_tree::{MemTree, Sketch};
-use lc_walk::{FileLine, Lists, Options, Report, Sums};
+use lc_walk::{FileLine, Options, Report, ReportLists, Sums};
 use std::alloc::{AllocError, Global};
 use std::process::Abort;
 use std::sync::Wait;
@@ -58,7 +58,7 @@ fn walk_failing<R: Threads + Wait + Sync + Abort>(
     (board, threads): (Board, u32),
 ) -> Result<Report, AllocError> {
     let options = Options {
-        lists: Lists {
+        lists: ReportLists {
             files: true,
             ..NO_LISTS
         },

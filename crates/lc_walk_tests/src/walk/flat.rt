@@ -3,7 +3,7 @@
 use crate::walk::same::is_same;
 use crate::walk::walked::{BOARDS, Board, NO_LISTS, report_of, walk_options};
 use lc_tree::{MemTree, Node};
-use lc_walk::{Lists, Options, Report, Sums};
+use lc_walk::{Options, Report, ReportLists, Sums};
 use std::alloc::{AllocError, Global};
 use std::process::Abort;
 use std::sync::Wait;
@@ -45,7 +45,7 @@ fn walk_flat<R: Threads + Wait + Sync + Abort>(
     workers: u32,
 ) -> Result<Report, AllocError> {
     let options = Options {
-        lists: Lists {
+        lists: ReportLists {
             files: true,
             ..NO_LISTS
         },

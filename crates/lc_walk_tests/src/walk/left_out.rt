@@ -1,12 +1,12 @@
 //! What attributes, and rules and kinds, leave out of a walk, and for which reason.
 
-use crate::walk::told::{FOUND, Found, Left, NONE, Sum, Why};
+use crate::walk::told::{FOUND, Found, NONE, Skipped, Sum, Why};
 use crate::walk::walked::{ASKED, Asked, Case, NO_LISTS, check};
 use crate::walk::walks::LINE;
 use lc_census::Eol;
-use lc_rules::Origin;
+use lc_rules::RuleSource;
 use lc_tree::{Kind, Sketch};
-use lc_walk::Lists;
+use lc_walk::ReportLists;
 use std::test::Fail;
 
 const EXPORTED: Sketch = Sketch::Dir(&[
@@ -168,23 +168,31 @@ const ITS_FILES: &[Sum] = &[
     (Some(b"c"), NONE, Eol::Lf, [2, 2, 0, 4]),
 ];
 
-const GIT: Left = (b".git", Kind::Dir, Why::Git);
+const GIT: Skipped = (b".git", Kind::Dir, Why::Git);
 
-const A_LOG: Left = (b"a.log", Kind::File, Why::Rule(Origin::Directory(0), 1));
+const A_LOG: Skipped = (b"a.log", Kind::File, Why::Rule(RuleSource::Gitignore(0), 1));
 
-const LINK_C: Left = (b"link.c", Kind::Other, Why::OtherKind);
+const LINK_C: Skipped = (b"link.c", Kind::Other, Why::OtherKind);
 
-const NOTES_TXT: Left = (b"notes.txt", Kind::File, Why::Rule(Origin::GitInfo, 2));
+const NOTES_TXT: Skipped = (
+    b"notes.txt",
+    Kind::File,
+    Why::Rule(RuleSource::InfoExclude, 2),
+);
 
-const SRC_GEN: Left = (b"src/gen", Kind::Dir, Why::Rule(Origin::Directory(1), 3));
+const SRC_GEN: Skipped = (
+    b"src/gen",
+    Kind::Dir,
+    Why::Rule(RuleSource::Gitignore(1), 3),
+);
 
-const X_BAK: Left = (b"x.bak", Kind::File, Why::Rule(Origin::ExcludeFile, 7));
+const X_BAK: Skipped = (b"x.bak", Kind::File, Why::Rule(RuleSource::ExcludeFrom, 7));
 
 /// The whole of the tree is asked, and what is left out of it.
 const ASKED_FOR_REASONS: Asked = Asked {
     tree: REASONED,
     exclude: Some(EXCLUDE),
-    lists: Lists {
+    lists: ReportLists {
         left_out: true,
         ..NO_LISTS
     },
@@ -203,7 +211,7 @@ const WITH_REASONS: &[Case] = &[
         wanted: Ok(Found {
             rows: ITS_FILES,
             directories: 2,
-            left: &[
+            skipped: &[
                 GIT,
                 A_LOG,
                 (b"docs", Kind::Dir, Why::Attribute(b"export-ignore")),
@@ -222,13 +230,13 @@ const WITH_REASONS: &[Case] = &[
         wanted: Ok(Found {
             rows: ITS_FILES,
             directories: 3,
-            left: &[
+            skipped: &[
                 GIT,
                 A_LOG,
                 (
                     b"docs/d.log",
                     Kind::File,
-                    Why::Rule(Origin::Directory(0), 1),
+                    Why::Rule(RuleSource::Gitignore(0), 1),
                 ),
                 LINK_C,
                 NOTES_TXT,

@@ -1,13 +1,13 @@
 //! Walks of some paths of a tree alone: what they find, and how often they ask the tree.
 
-use crate::walk::told::{FOUND, Fault, File, Found, Left, NONE, Sum, Why};
+use crate::walk::told::{FOUND, Fault, File, Found, NONE, Skipped, Sum, Why};
 use crate::walk::walked::{ASKED, Asked, Case, check};
 use crate::walk::walks::LINE;
 use lc_census::Eol;
 use lc_level::FaultWord;
-use lc_rules::{Origin, TextState};
+use lc_rules::{RuleSource, TextState};
 use lc_tree::{Kind, Sketch};
-use lc_walk::Lists;
+use lc_walk::ReportLists;
 use std::test::Fail;
 
 /// A tree with directories and a file that can't be read beside the rest.
@@ -48,7 +48,7 @@ const ALIKE: Sketch = Sketch::Dir(&[
 /// Both lists are asked for.
 const NARROWED: Asked = Asked {
     tree: TREE,
-    lists: Lists {
+    lists: ReportLists {
         files: true,
         left_out: true,
     },
@@ -65,12 +65,16 @@ const M_C: File = (b"src/m.c", TextState::Set, 2);
 const B_C: Fault = (b"src/b.c", FaultWord::Read);
 
 /// The rule of `src/.gitignore` and that of the top.
-const GEN: Left = (b"src/gen", Kind::Dir, Why::Rule(Origin::Directory(1), 1));
+const GEN: Skipped = (
+    b"src/gen",
+    Kind::Dir,
+    Why::Rule(RuleSource::Gitignore(1), 1),
+);
 
-const Y_LOG: Left = (
+const Y_LOG: Skipped = (
     b"src/deep/y.log",
     Kind::File,
-    Why::Rule(Origin::Directory(0), 1),
+    Why::Rule(RuleSource::Gitignore(0), 1),
 );
 
 const ABSENT: FaultWord = FaultWord::Absent;
@@ -102,7 +106,7 @@ const CASES: &[Case] = &[
                 X_C,
                 M_C,
             ],
-            left: &[Y_LOG, GEN],
+            skipped: &[Y_LOG, GEN],
             entries: Some(13),
             calls: Some(35),
         }),
@@ -132,7 +136,7 @@ const CASES: &[Case] = &[
             rows: ONE_FILE,
             directories: 3,
             files: &[X_C],
-            left: &[Y_LOG],
+            skipped: &[Y_LOG],
             entries: Some(4),
             calls: Some(15),
             ..FOUND
@@ -183,7 +187,7 @@ const CASES: &[Case] = &[
             directories: 3,
             faults: &[(b"src/deep/none", ABSENT)],
             files: &[X_C],
-            left: &[Y_LOG],
+            skipped: &[Y_LOG],
             entries: Some(4),
             calls: Some(15),
         }),
@@ -196,7 +200,7 @@ const CASES: &[Case] = &[
         },
         wanted: Ok(Found {
             directories: 3,
-            left: &[Y_LOG, GEN],
+            skipped: &[Y_LOG, GEN],
             entries: Some(4),
             calls: Some(12),
             ..FOUND

@@ -1,12 +1,12 @@
 //! The lists of a report.
 
 use crate::walk::tallies::tally_of;
-use crate::walk::told::{FOUND, Fault, File, Found, Left, Sum, Why, has_told};
+use crate::walk::told::{FOUND, Fault, File, Found, Skipped, Sum, Why, has_told};
 use lc_census::{Count, Eol};
 use lc_level::{FaultWord, Reason};
 use lc_rules::TextState;
 use lc_tree::Kind;
-use lc_walk::{FaultLine, FileLine, Findings, LeftLine, Lists, Report};
+use lc_walk::{FaultLine, FileLine, Findings, Report, ReportLists, SkippedLine};
 use std::alloc::{AllocError, Global};
 use std::test::Fail;
 
@@ -42,16 +42,16 @@ fn faults(alloc: Global) -> Result<Vec<FaultLine>, AllocError> {
     Ok(faults)
 }
 
-fn left(alloc: Global) -> Result<Vec<LeftLine>, AllocError> {
-    let mut left = Vec::new(alloc);
+fn skipped(alloc: Global) -> Result<Vec<SkippedLine>, AllocError> {
+    let mut skipped = Vec::new(alloc);
     for path in PATHS {
-        left.push(LeftLine {
+        skipped.push(SkippedLine {
             path: path.to_vec(alloc)?,
             kind: Kind::Other,
             reason: Reason::OtherKind,
         })?;
     }
-    Ok(left)
+    Ok(skipped)
 }
 
 fn findings(alloc: Global) -> Result<Findings, AllocError> {
@@ -62,12 +62,12 @@ fn findings(alloc: Global) -> Result<Findings, AllocError> {
         entries: 9,
         files,
         faults,
-        left: left(alloc)?,
+        skipped: skipped(alloc)?,
     })
 }
 
 /// Both lists.
-const LISTS: Lists = Lists {
+const LISTS: ReportLists = ReportLists {
     files: true,
     left_out: true,
 };
@@ -85,7 +85,7 @@ const IN_ORDER: Found = Found {
         (b"d.c", TextState::Set, 1),
         (b"d/a.c", TextState::Set, 1),
     ],
-    left: &[
+    skipped: &[
         (b"a.c", Kind::Other, Why::OtherKind),
         (b"d.c", Kind::Other, Why::OtherKind),
         (b"d/a.c", Kind::Other, Why::OtherKind),

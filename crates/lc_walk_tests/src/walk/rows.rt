@@ -5,11 +5,11 @@ ghost use Rattle.lc_board.specs.Pass.{holding, new_pass};
 use crate::walk::walked::{Board, walk_options};
 use crate::walk::walks::LINE;
 use lc_board::{Claim, CloseFault, Closed, Ended, Locked, Shared, Words};
-use lc_level::{FaultSite, FaultWord, Job, Kept, LevelReader, Scratch, Selection};
+use lc_level::{FaultSite, FaultWord, Job, LevelReader, ReaderOptions, Scratch, Selection};
 use lc_tree::{IdleThreads, MemTree, Sketch};
 use lc_walk::{
-    BrokenRow, End, GivenUp, Lists, Options, PreparedOptions, Row, ServedJob, Tally, WalkFault,
-    Worked, Worker, assemble,
+    BrokenCause, BrokenRow, Options, PreparedOptions, ReportLists, Row, ServedJob, StopReason,
+    Tally, WalkFault, Worker, WorkerResult, assemble,
 };
 use std::alloc::{AllocError, Global};
 use std::process::Abort;
@@ -23,7 +23,7 @@ enum Said {
     /// How many files and child directories it has.
     Listed(usize, usize),
     Faulted(FaultSite, FaultWord),
-    Broken(GivenUp),
+    Broken(BrokenCause),
     /// It was given as no such row is.
     Amiss,
 }
@@ -86,7 +86,7 @@ fn close_one<B: Shared<Job, Row>>(
 
 /// The last child directory of a job's.
 fn last_child(alloc: Global, tree: &MemTree, job: &Job) -> Result<Job, AllocError> {
-    let kept = Kept {
+    let kept = ReaderOptions {
         left_out: false,
         texts: false,
     };
@@ -126,13 +126,13 @@ fn begin<B: Shared<Job, Row>, W: Wait>(
     if board.post(rt, pass, child).is_err() {
         return Err(AllocError);
     }
-    let (job, cause) = (ServedJob::of(job), GivenUp::Memory);
+    let (job, cause) = (ServedJob::of(job), BrokenCause::Memory);
     board.give(rt, pass, Row::Broken(BrokenRow { job, cause }));
     Ok(())
 }
 
 /// What one worker leaves: its rows, and its tally where memory was not refused.
-type Left = (Closed<Row>, Option<Tally>);
+type Skipped = (Closed<Row>, Option<Tally>);
 
 /// What one worker leaves of a tree on a board of this type.
 fn work<B: Shared<Job, Row>, R: Threads + Wait + Sync + Abort>(
@@ -140,7 +140,7 @@ fn work<B: Shared<Job, Row>, R: Threads + Wait + Sync + Abort>(
     alloc: Global,
     case: &Case,
     options: &Options<'_>,
-) -> Result<Left, AllocError> {
+) -> Result<Skipped, AllocError> {
     let node = case.tree.node(alloc)?;
     let tree = MemTree::new(&node);
     let (board, mut pass) = start_one::<B>(alloc)?;
@@ -155,8 +155,8 @@ fn work<B: Shared<Job, Row>, R: Threads + Wait + Sync + Abort>(
         options: &options,
         idle: &idle,
     };
-    let Worked { pass, end, tally } = worker.run(pass);
-    if end == End::Memory {
+    let WorkerResult { pass, end, tally } = worker.run(pass);
+    if end == StopReason::Memory {
         return Err(AllocError);
     }
     Ok((close_one(rt, alloc, board, pass)?, tally))
@@ -168,7 +168,7 @@ fn work_over<R: Threads + Wait + Sync + Abort>(
     board: Board,
     case: &Case,
     options: &Options<'_>,
-) -> Result<Left, AllocError> {
+) -> Result<Skipped, AllocError> {
     match board {
         Board::Words => work::<Words<Job, Row>, R>(rt, alloc, case, options),
         Board::Locked => work::<Locked<Job, Row>, R>(rt, alloc, case, options),
@@ -200,7 +200,7 @@ const CASES: &[Case] = &[
         rows: &[
             Said::Listed(1, 3),
             Said::Faulted(FaultSite::Directory, FaultWord::Read),
-            Said::Broken(GivenUp::TooDeep),
+            Said::Broken(BrokenCause::TooDeep),
             Said::Listed(2, 0),
         ],
         words: &[0, 3, 2, 1],
@@ -212,7 +212,7 @@ const CASES: &[Case] = &[
         tree: ONE_IN_THE_OTHER,
         is_broken: true,
         rows: &[
-            Said::Broken(GivenUp::Memory),
+            Said::Broken(BrokenCause::Memory),
             Said::Listed(0, 1),
             Said::Listed(0, 0),
         ],
@@ -234,7 +234,7 @@ const CASES: &[Case] = &[
 /// In this order of claims the rows of one worker say this up to the first that was refused memory, and all after it were given up for
 /// that. It answers whether one was.
 fn some_refused(rt: &impl Abort, rows: &[Ended<Row>], wanted: &[Said], claims: &[usize]) -> bool {
-    let given_up = Said::Broken(GivenUp::Memory);
+    let given_up = Said::Broken(BrokenCause::Memory);
     let mut refused = false;
     for number in claims {
         if let Some(row) = rows.get(*number)
@@ -250,7 +250,7 @@ fn some_refused(rt: &impl Abort, rows: &[Ended<Row>], wanted: &[Said], claims: &
 }
 
 /// Both lists.
-const LISTS: Lists = Lists {
+const LISTS: ReportLists = ReportLists {
     files: true,
     left_out: true,
 };
@@ -260,10 +260,10 @@ fn check_report(
     rt: &impl Abort,
     alloc: Global,
     case: &Case,
-    left: Left,
+    skipped: Skipped,
     refused: bool,
 ) -> Result<(), AllocError> {
-    let (closed, tally) = left;
+    let (closed, tally) = skipped;
     assert!(rt; closed.rows.len() <= 4);
     let tally = match tally {
         Some(tally) => tally,
@@ -272,7 +272,7 @@ fn check_report(
     let (name, wanted) = (case.name, case.report);
     match assemble(alloc, closed, LISTS, tally) {
         Ok(report) => {
-            let told = (report.totals.files, report.entries, report.left.len());
+            let told = (report.totals.files, report.entries, report.skipped.len());
             assert!(rt; !refused && wanted.ok() == Some(told), "{name}: {report:?}");
         }
         Err(fault) => {
@@ -296,15 +296,15 @@ fn check<R: Threads + Wait + Sync + Abort>(
         lists: LISTS,
         ..walk_options(rt, 1, 4)
     };
-    let left = work_over(rt, alloc, board, case, &options)?;
+    let skipped = work_over(rt, alloc, board, case, &options)?;
     let claims = match board {
         Board::Words => case.words,
         Board::Locked => case.locked,
     };
-    let refused = some_refused(rt, &left.0.rows, case.rows, claims);
-    let (many, all) = (left.0.rows.len(), case.rows.len());
+    let refused = some_refused(rt, &skipped.0.rows, case.rows, claims);
+    let (many, all) = (skipped.0.rows.len(), case.rows.len());
     assert!(rt; many == all || refused && many < all, "{many}");
-    check_report(rt, alloc, case, left, refused)
+    check_report(rt, alloc, case, skipped, refused)
 }
 
 #[test]

@@ -2,9 +2,9 @@
 
 use lc_census::Eol;
 use lc_level::{FaultWord, Reason};
-use lc_rules::{Origin, TextState};
+use lc_rules::{RuleSource, TextState};
 use lc_tree::Kind;
-use lc_walk::{FaultLine, FileLine, LeftLine, Report, TallyRow};
+use lc_walk::{FaultLine, FileLine, Report, SkippedLine, TallyRow};
 
 pub(super) const NONE: TextState = TextState::Unspecified;
 
@@ -18,13 +18,13 @@ pub(super) type File<'a> = (&'a [u8], TextState, u64);
 pub(super) type Fault<'a> = (&'a [u8], FaultWord);
 
 /// The path of an entry left out, its kind and why it is.
-pub(super) type Left<'a> = (&'a [u8], Kind, Why<'a>);
+pub(super) type Skipped<'a> = (&'a [u8], Kind, Why<'a>);
 
 /// Why an entry is left out.
 #[derive(Clone, Copy)]
 pub(super) enum Why<'a> {
     Git,
-    Rule(Origin, u32),
+    Rule(RuleSource, u32),
     Attribute(&'a [u8]),
     OtherKind,
 }
@@ -38,7 +38,7 @@ pub(super) struct Found<'a> {
     /// The counted files, where they are asked for.
     pub(super) files: &'a [File<'a>],
     /// The entries left out, where they are asked for.
-    pub(super) left: &'a [Left<'a>],
+    pub(super) skipped: &'a [Skipped<'a>],
     /// The entries that take part, where the case is about them.
     pub(super) entries: Option<u64>,
     /// How often the tree is asked, where the case is about that. A listing is one call; a file is opened, read, and read to its end.
@@ -51,7 +51,7 @@ pub(super) const FOUND: Found = Found {
     directories: 1,
     faults: &[],
     files: &[],
-    left: &[],
+    skipped: &[],
     entries: None,
     calls: None,
 };
@@ -105,7 +105,7 @@ pub(super) fn has_faults(faults: &[FaultLine], wanted: &[Fault]) -> bool {
 fn is_reason(reason: &Reason, why: Why) -> bool {
     match (reason, why) {
         (Reason::Git, Why::Git) => true,
-        (Reason::Rule { origin, line }, Why::Rule(file, number)) => *origin == file
+        (Reason::Rule { source, line }, Why::Rule(file, number)) => *source == file
             && *line == number,
         (Reason::Attribute(name), Why::Attribute(wanted)) => name.as_slice() == wanted,
         (Reason::OtherKind, Why::OtherKind) => true,
@@ -113,7 +113,7 @@ fn is_reason(reason: &Reason, why: Why) -> bool {
     }
 }
 
-pub(super) fn has_left(lines: &[LeftLine], wanted: &[Left]) -> bool {
+pub(super) fn has_skipped(lines: &[SkippedLine], wanted: &[Skipped]) -> bool {
     for (line, (path, kind, why)) in lines.iter().zip(wanted) {
         if line.path.as_slice() != *path || line.kind != *kind || !is_reason(&line.reason, *why) {
             return false;
@@ -129,5 +129,5 @@ pub(super) fn has_told(report: &Report, found: Found) -> bool {
         && has_rows(&report.rows, report.totals.files, found.rows)
         && has_files(&report.files, found.files)
         && has_faults(&report.faults, found.faults)
-        && has_left(&report.left, found.left)
+        && has_skipped(&report.skipped, found.skipped)
 }

@@ -8,14 +8,14 @@ use lc_level::Job;
 use lc_rules::{IgnoreFile, RuleFault};
 use lc_tree::trials::{FailingCall, FailingTree};
 use lc_tree::{MemTree, Node, Sketch, Tree};
-use lc_walk::{Lists, Options, Report, Row, WalkFault, walk, walk_on};
+use lc_walk::{Options, Report, ReportLists, Row, WalkFault, walk, walk_on};
 use std::alloc::{AllocError, Global};
 use std::process::Abort;
 use std::sync::{Arc, Wait};
 use std::thread::Threads;
 
 /// Neither list.
-pub(super) const NO_LISTS: Lists = Lists {
+pub(super) const NO_LISTS: ReportLists = ReportLists {
     files: false,
     left_out: false,
 };
@@ -28,7 +28,7 @@ pub(super) struct Asked<'a> {
     pub(super) archive: bool,
     pub(super) without: &'a [&'a str],
     pub(super) only: &'a [&'a [u8]],
-    pub(super) lists: Lists,
+    pub(super) lists: ReportLists,
     pub(super) max_dirs: u32,
 }
 

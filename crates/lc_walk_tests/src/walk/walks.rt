@@ -7,7 +7,7 @@ use lc_census::Eol;
 use lc_level::FaultWord;
 use lc_rules::TextState;
 use lc_tree::Sketch;
-use lc_walk::Lists;
+use lc_walk::ReportLists;
 use std::test::Fail;
 
 pub(super) const LINE: Sketch = Sketch::File(b"x\n");
@@ -73,7 +73,7 @@ const RULED: &[Case] = &[
         name: "files that are asked for",
         asked: Asked {
             tree: TEXTS,
-            lists: Lists {
+            lists: ReportLists {
                 files: true,
                 ..NO_LISTS
             },

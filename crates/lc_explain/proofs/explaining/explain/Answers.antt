@@ -7,41 +7,41 @@ use Rattle.lc_explain.proofs.explaining.explain.Goals as goal
 
 pub returns-in_err-outcome : goal.returns-in_err-outcome
 returns-in_err-outcome g c =
-    let question = c.args.question.now in
+    let options = c.args.options.now in
     let may_take = g.O.Sink.may_take in
     let out = c.args.out.now in
     let wrote = c.print_lines.new.out in
-    let says = MaySay (g.T.Tree.lists c.args.tree.now) (g.T.Tree.gives c.args.tree.now) question in
+    let says = MaySay (g.T.Tree.lists c.args.tree.now) (g.T.Tree.gives c.args.tree.now) options in
     let explainer = c.in_ok-explainer.explainer in
     let is = c.in_ok-explainer.ensures in
     let bytes = c.read_whole.new.bytes.items in
     let fault = c.in_err-outcome.field-0.0 in
     let answers = as_asked may_take g.T.Tree.lists g.T.Tree.gives (input_lines_of c.deref.result.now) out (Err fault) wrote
-    explainer.levels.tree.now c.args.tree.now question explainer.levels.selection explainer.exclude.now explainer.top explainer.style
+    explainer.levels.tree.now c.args.tree.now options explainer.levels.selection explainer.exclude.now explainer.top explainer.style
     is.tree is.selection is.top is.exclude is.style c.in_err-outcome.ensures in
-    let lines = subst (λ (b : List ℕ). AnswersLines may_take question.style says (input_lines_of b) out (Err fault) wrote)
+    let lines = subst (λ (b : List ℕ). AnswersLines may_take options.style says (input_lines_of b) out (Err fault) wrote)
     c.deref.ensures.value answers in
-    passed_on (λ answer. AnswersExplain may_take question.style says g.S.Source.may_give c.args.input.now out answer
+    passed_on (λ answer. AnswersExplain may_take options.style says g.S.Source.may_give c.args.input.now out answer
     c.read_whole.new.reader wrote)
     c.from_residual-in_err-outcome.result (print_fault fault) c.from_residual-in_err-outcome.ensures.1
-    (explain_stops may_take g.S.Source.may_give question.style says fault c.args.input.now c.read_whole.new.reader bytes out wrote
+    (explain_stops may_take g.S.Source.may_give options.style says fault c.args.input.now c.read_whole.new.reader bytes out wrote
     c.in_ok-read_whole.ensures lines)
 
 pub returns : goal.returns
 returns g c =
-    let question = c.args.question.now in
+    let options = c.args.options.now in
     let may_take = g.O.Sink.may_take in
     let out = c.args.out.now in
     let wrote = c.print_lines.new.out in
-    let says = MaySay (g.T.Tree.lists c.args.tree.now) (g.T.Tree.gives c.args.tree.now) question in
+    let says = MaySay (g.T.Tree.lists c.args.tree.now) (g.T.Tree.gives c.args.tree.now) options in
     let explainer = c.in_ok-explainer.explainer in
     let is = c.in_ok-explainer.ensures in
     let outcome = c.in_ok-outcome.outcome in
     let answers = as_asked may_take g.T.Tree.lists g.T.Tree.gives (input_lines_of c.deref.result.now) out (Ok outcome) wrote
-    explainer.levels.tree.now c.args.tree.now question explainer.levels.selection explainer.exclude.now explainer.top explainer.style
+    explainer.levels.tree.now c.args.tree.now options explainer.levels.selection explainer.exclude.now explainer.top explainer.style
     is.tree is.selection is.top is.exclude is.style c.in_ok-outcome.ensures in (
       c.read_whole.new.bytes.items,
       c.in_ok-read_whole.ensures,
-      subst (λ (b : List ℕ). AnswersLines may_take question.style says
+      subst (λ (b : List ℕ). AnswersLines may_take options.style says
           (input_lines_of b) out (Ok outcome) wrote) c.deref.ensures.value answers,
     )

@@ -8,11 +8,11 @@ use Rattle.lc_explain.proofs.explaining.explain_words.Goals as goal
 
 pub returns-in_err-explainer : goal.returns-in_err-explainer
 returns-in_err-explainer g c =
-    let question = c.args.question.now in
-    let says = MaySay (g.T.Tree.lists c.args.tree.now) (g.T.Tree.gives c.args.tree.now) question in
+    let options = c.args.options.now in
+    let says = MaySay (g.T.Tree.lists c.args.tree.now) (g.T.Tree.gives c.args.tree.now) options in
     let words : List (List ℕ) = map (λ word. word.now) c.args.words.now in
-    passed_on (λ answer. AnswersLines g.O.Sink.may_take question.style says words c.args.out.now answer c.args.out.now)
-    c.from_residual.result Memory c.from_residual.ensures.1 (refused_first g.O.Sink.may_take question.style says words c.args.out.now)
+    passed_on (λ answer. AnswersLines g.O.Sink.may_take options.style says words c.args.out.now answer c.args.out.now)
+    c.from_residual.result Memory c.from_residual.ensures.1 (refused_first g.O.Sink.may_take options.style says words c.args.out.now)
 
 pub returns : goal.returns
 returns g c =
@@ -20,5 +20,5 @@ returns g c =
     let is = c.in_ok-explainer.ensures in
     let words : List (List ℕ) = map (λ word. word.now) c.args.words.now in
     as_asked g.O.Sink.may_take g.T.Tree.lists g.T.Tree.gives words c.args.out.now c.print_words.result c.print_words.new.out
-    explainer.levels.tree.now c.args.tree.now c.args.question.now explainer.levels.selection explainer.exclude.now explainer.top
+    explainer.levels.tree.now c.args.tree.now c.args.options.now explainer.levels.selection explainer.exclude.now explainer.top
     explainer.style is.tree is.selection is.top is.exclude is.style c.print_words.ensures

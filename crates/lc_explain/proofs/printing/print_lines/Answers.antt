@@ -5,11 +5,11 @@ use Rattle.lc_text.specs.Lines.{input_lines_of}
 use Rattle.lc_text.specs.declared.printing.PrintFault.TheVariants.{Memory}
 use Rattle.lc_explain.specs.Explain.{AnswersLines}
 use Rattle.lc_explain.specs.Explained.{Explanation, IsExplained}
-use Rattle.lc_explain.specs.Waypoints.{MayEnter}
-use Rattle.lc_explain.proofs.KeptWays.{no_ways}
+use Rattle.lc_explain.specs.OpenDirs.{MayEnter}
+use Rattle.lc_explain.proofs.StackCaching.{no_stacks}
 use Rattle.lc_explain.proofs.SoFar.{SoFar, so_far_none, so_far_told, so_far_printed, so_far_stopped, so_far_refused, so_far_ended}
 use Rattle.lc_explain.proofs.SoFar.{so_far_cut, refused_first}
-use Rattle.lc_explain.proofs.Tellings.{line_done, lines_done}
+use Rattle.lc_explain.proofs.OutputLines.{line_done, lines_done}
 use Rattle.lc_explain.proofs.printing.print_lines.Goals as goal
 
 pub returns-in_err-kept : goal.returns-in_err-kept
@@ -34,10 +34,10 @@ lines-init g c =
     let style = explainer.style in
     let out = c.args.out.now in
     record {
-      ways = no_ways enters explainer.levels.selection explainer.exclude.now explainer.top c.in_ok-kept.kept c.in_ok-kept.ensures;
+      stacks = no_stacks enters explainer.levels.selection explainer.exclude.now explainer.top c.in_ok-kept.kept c.in_ok-kept.ensures;
       done = [];
-      so_far = so_far_none may_take style Says out c.new-telling.result.block.text.items c.new-telling.result.outcome
-          c.new-telling.ensures.text c.new-telling.ensures.outcome;
+      so_far = so_far_none may_take style Says out c.new-output.result.block.text.items c.new-output.result.outcome
+          c.new-output.ensures.text c.new-output.ensures.outcome;
       left = refl;
     }
 
@@ -51,10 +51,10 @@ returns-in_err-tell g c =
     let out = c.args.out.now in
     let all = input_lines_of c.args.paths.now in
     let inv = c.lines.invariant in
-    let telling = c.lines.telling in
+    let output = c.lines.output in
     passed_on (λ answer. AnswersLines may_take style Says all out answer c.lines.out)
     c.from_residual-in_err-tell.result Memory c.from_residual-in_err-tell.ensures.1
-    (so_far_refused may_take style Says inv.done out telling.block.text.items telling.outcome c.lines.out inv.so_far all
+    (so_far_refused may_take style Says inv.done out output.block.text.items output.outcome c.lines.out inv.so_far all
     (input_lines_of c.lines.rest.now) inv.left)
 
 pub returns-in_err-print_if_full : goal.returns-in_err-print_if_full
@@ -69,7 +69,7 @@ returns-in_err-print_if_full g c =
     let inv = c.lines.invariant in
     let line = c.split_line.result.0.now in
     let others = c.split_line.result.1.now in
-    let before = c.lines.telling in
+    let before = c.lines.output in
     let after = c.tell.new.self in
     let fault = c.in_err-print_if_full.field-0.0 in
     let told = so_far_told may_take style Says inv.done out before.block.text.items before.outcome c.lines.out inv.so_far line
@@ -91,13 +91,13 @@ lines-preserved g c =
     let inv = c.lines.invariant in
     let line = c.split_line.result.0.now in
     let others = c.split_line.result.1.now in
-    let before = c.lines.telling in
+    let before = c.lines.output in
     let after = c.tell.new.self in
     let next = inv.done ++ line ∷ [] in
     let told = so_far_told may_take style Says inv.done out before.block.text.items before.outcome c.lines.out inv.so_far line
     after.block.text.items after.outcome c.in_ok-tell.ensures.told in
     record {
-      ways = c.in_ok-tell.ensures.ways;
+      stacks = c.in_ok-tell.ensures.stacks;
       done = next;
       so_far = so_far_printed may_take style Says next out after.block.text.items after.outcome c.lines.out told c.print_if_full.new.out
           c.print_if_full.new.self.text.items c.in_ok-print_if_full.ensures;
@@ -114,14 +114,14 @@ returns-in_err-print_rest g c =
     let out = c.args.out.now in
     let all = input_lines_of c.args.paths.now in
     let inv = c.lines.invariant in
-    let telling = c.lines.telling in
+    let output = c.lines.output in
     let fault = c.in_err-print_rest.field-0.0 in
     let none : length c.lines.rest.now ≡ 0 = search rules in
-    let told = subst (λ (l : List (List ℕ)). SoFar may_take style Says l out telling.block.text.items telling.outcome c.lines.out)
+    let told = subst (λ (l : List (List ℕ)). SoFar may_take style Says l out output.block.text.items output.outcome c.lines.out)
     (lines_done inv.done all c.lines.rest.now inv.left (nil_from_length c.lines.rest.now none)) inv.so_far in
     passed_on (λ answer. AnswersLines may_take style Says all out answer c.print_rest.new.out)
     c.from_residual-in_err-print_rest.result fault c.from_residual-in_err-print_rest.ensures.1
-    (so_far_cut may_take style Says all out telling.block.text.items telling.outcome c.lines.out told fault c.print_rest.new.out
+    (so_far_cut may_take style Says all out output.block.text.items output.outcome c.lines.out told fault c.print_rest.new.out
     c.in_err-print_rest.ensures.answers)
 
 pub returns : goal.returns
@@ -134,9 +134,9 @@ returns g c =
     let out = c.args.out.now in
     let all = input_lines_of c.args.paths.now in
     let inv = c.lines.invariant in
-    let telling = c.lines.telling in
+    let output = c.lines.output in
     let none : length c.lines.rest.now ≡ 0 = search rules in
-    let told = subst (λ (l : List (List ℕ)). SoFar may_take style Says l out telling.block.text.items telling.outcome c.lines.out)
+    let told = subst (λ (l : List (List ℕ)). SoFar may_take style Says l out output.block.text.items output.outcome c.lines.out)
     (lines_done inv.done all c.lines.rest.now inv.left (nil_from_length c.lines.rest.now none)) inv.so_far in
-    so_far_ended may_take style Says all out telling.block.text.items telling.outcome c.lines.out told c.print_rest.new.out
+    so_far_ended may_take style Says all out output.block.text.items output.outcome c.lines.out told c.print_rest.new.out
     c.in_ok-print_rest.ensures.answers

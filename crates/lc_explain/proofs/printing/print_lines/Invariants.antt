@@ -1,20 +1,20 @@
 use Rattle.std.proofs.Common.{◌≡◌, ℕ, List, ◌++◌, length}
 use Rattle.lc_text.specs.Lines.{input_lines_of}
 use Rattle.lc_explain.specs.Explained.{IsExplained}
-use Rattle.lc_explain.specs.Waypoints.{MayEnter}
-use Rattle.lc_explain.specs.Ways.{AreWays}
+use Rattle.lc_explain.specs.OpenDirs.{MayEnter}
+use Rattle.lc_explain.specs.DirStacks.{AreStacks}
 use Rattle.lc_explain.proofs.SoFar.{SoFar}
 use Rattle.lc_explain.proofs.printing.print_lines.Given as goal
 
 abbrev pub invariant-lines : goal.invariant-lines
 invariant-lines g l = record {
-  ways : AreWays (MayEnter (g.T.Tree.lists l.explainer.levels.tree.now) (g.T.Tree.gives l.explainer.levels.tree.now))
+  stacks : AreStacks (MayEnter (g.T.Tree.lists l.explainer.levels.tree.now) (g.T.Tree.gives l.explainer.levels.tree.now))
       l.explainer.levels.selection l.explainer.exclude.now l.explainer.top l.kept;
   done : List (List ℕ);
   so_far : SoFar g.O.Sink.may_take l.explainer.style
       (IsExplained (MayEnter (g.T.Tree.lists l.explainer.levels.tree.now) (g.T.Tree.gives l.explainer.levels.tree.now))
-      l.explainer.levels.selection l.explainer.exclude.now l.explainer.top) done l.initial.out l.telling.block.text.items
-      l.telling.outcome l.out;
+      l.explainer.levels.selection l.explainer.exclude.now l.explainer.top) done l.initial.out l.output.block.text.items
+      l.output.outcome l.out;
   left : done ++ input_lines_of l.rest ≡ input_lines_of l.fn.paths;
 }
 

@@ -3,7 +3,7 @@ use Rattle.lc_table.specs.CellWords.{with_commas}
 use Rattle.lc_table.proofs.cells.push_with_commas.Given as goal
 
 abbrev pub invariant-digits : goal.invariant-digits
-invariant-digits l = (string_bytes l.text ++ with_commas l.left ≡ string_bytes l.initial.text ++ with_commas l.digits) × IsAscii l.left
+invariant-digits l = (string_bytes l.text ++ with_commas l.rest ≡ string_bytes l.initial.text ++ with_commas l.digits) × IsAscii l.rest
 
 abbrev pub decreases-digits : goal.decreases-digits
-decreases-digits l = length l.left
+decreases-digits l = length l.rest

@@ -1,4 +1,4 @@
-use Rattle.lc_table.proofs.WidthLawProofs.{counts_law, faults_law, files_law, left_law, summary_law}
+use Rattle.lc_table.proofs.WidthLawProofs.{counts_law, faults_law, files_law, skipped_law, summary_law}
 use Rattle.lc_table.proofs.laws.lines_of_a_part_are_as_wide.Goals as goal
 
 pub returns-clause-summary : goal.returns-clause-summary
@@ -10,8 +10,8 @@ returns-clause-counts c = counts_law
 pub returns-clause-files : goal.returns-clause-files
 returns-clause-files c = files_law
 
-pub returns-clause-left : goal.returns-clause-left
-returns-clause-left c = left_law
+pub returns-clause-skipped : goal.returns-clause-skipped
+returns-clause-skipped c = skipped_law
 
 pub returns-clause-faults : goal.returns-clause-faults
 returns-clause-faults c = faults_law

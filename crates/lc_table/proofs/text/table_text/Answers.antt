@@ -1,4 +1,4 @@
-use Rattle.lc_text.specs.declared.shape.Format.TheVariants.{Tsv, Table}
+use Rattle.lc_text.specs.declared.table_options.Format.TheVariants.{Tsv, Table}
 use Rattle.lc_table.specs.LentRows.{items_of}
 use Rattle.lc_table.proofs.Formats.{text_shown}
 use Rattle.lc_table.proofs.text.table_text.Goals as goal

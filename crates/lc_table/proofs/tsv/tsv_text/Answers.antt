@@ -6,7 +6,7 @@ returns c =
     rw (
       c.in_ok-push_faults.ensures,
       c.deref-3.ensures.value,
-      c.in_ok-push_left_lines.ensures,
+      c.in_ok-push_skipped_lines.ensures,
       c.deref-2.ensures.value,
       c.in_ok-push_files.ensures,
       c.deref.ensures.value,

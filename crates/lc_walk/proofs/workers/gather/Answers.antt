@@ -1,7 +1,7 @@
 use Rattle.std.proofs.Common.{◌∷◌, [], ◌++◌, sym, ap, ◌∙◌, subst, append_assoc}
 use Rattle.std.proofs.lemmas.List.{map-append, nil_from_length}
 use Rattle.lc_walk.specs.Running.{TalliesAll}
-use Rattle.lc_walk.specs.declared.worker.Worked.{Worked}
+use Rattle.lc_walk.specs.declared.worker.WorkerResult.{WorkerResult}
 use Rattle.lc_walk.proofs.Gathering.{over_more, tallies_more, all_done}
 use Rattle.lc_walk.proofs.workers.gather.Goals as goal
 
@@ -12,7 +12,7 @@ loop-worked-preserved g c =
           (sym c.in-Some.ensures.steps.0) ∙ all,
       over_more c.loop-worked.yielded c.in-Some.worked over c.in_ok-gathered.ensures.over,
       c.in_ok-gathered.ensures.pass ∙ ap (λ ps. ps ++ c.in-Some.worked.pass ∷ []) passes
-          ∙ sym (map-append (λ (w : Worked _). w.pass) c.loop-worked.yielded (c.in-Some.worked ∷ [])),
+          ∙ sym (map-append (λ (w : WorkerResult _). w.pass) c.loop-worked.yielded (c.in-Some.worked ∷ [])),
       tallies_more c.loop-worked.yielded c.in-Some.worked c.loop-worked.gathered.tally c.in_ok-gathered.gathered.tally tallies
           c.in_ok-gathered.ensures.tally,
     )

@@ -74,4 +74,4 @@ returns-clause-row g c =
     (map told c.args.passes.items) (slots_items c.close_with.result.words) (slots_items c.close_with.result.slots)
     t.live t.idle (length-map c.args.passes.items told ∙ all)
     (subst (λ k. HasTaken k (map told c.args.passes.items) 0 (known c.loop-other.pass)) size has)
-    (rw (sym c.args.self.origin) c.close_with.ensures.values.2)
+    (rw (sym c.args.self.setup) c.close_with.ensures.values.2)

@@ -30,7 +30,7 @@ invariant_of-result g c =
         told.1 ∙ row_length _ _ _ _ c.in_ok-slots.ensures some,
       );
       small = (some, c.requires.capacity.1, c.requires.workers.0, c.requires.workers.1);
-      origin = ap (λ k. k.workers) told.5;
+      setup = ap (λ k. k.workers) told.5;
     }
 
 pub returns-in-Ok-clause-board : goal.returns-in-Ok-clause-board

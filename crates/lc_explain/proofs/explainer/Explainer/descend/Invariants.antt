@@ -1,13 +1,13 @@
 use Rattle.std.proofs.Common.{length}
-use Rattle.lc_explain.specs.Waypoints.{MayEnter, way_at}
-use Rattle.lc_explain.specs.Ways.{StandsBelow, AreWays}
+use Rattle.lc_explain.specs.OpenDirs.{MayEnter, stack_at}
+use Rattle.lc_explain.specs.DirStacks.{StandsBelow, AreStacks}
 use Rattle.lc_explain.proofs.explainer.Explainer.descend.Given as goal
 
 abbrev pub invariant-names : goal.invariant-names
 invariant-names g l = record {
-  ways : AreWays (MayEnter (g.T.Tree.lists l.self.levels.tree.now) (g.T.Tree.gives l.self.levels.tree.now)) l.self.levels.selection
+  stacks : AreStacks (MayEnter (g.T.Tree.lists l.self.levels.tree.now) (g.T.Tree.gives l.self.levels.tree.now)) l.self.levels.selection
       l.self.exclude.now l.self.top l.kept;
-  stands : StandsBelow (way_at l.kept l.at) l.path l.rest;
+  stands : StandsBelow (stack_at l.kept l.at) l.path l.rest;
 }
 
 abbrev pub decreases-names : goal.decreases-names

@@ -1,13 +1,13 @@
 use Rattle.std.proofs.Common.{◌∷◌, [], Ok, sym, ◌∙◌, subst}
-use Rattle.lc_explain.specs.Waypoints.{Way, MayEnter}
-use Rattle.lc_explain.specs.Ways.{StandsBelow, Goes}
-use Rattle.lc_explain.proofs.Descending.{top_way}
+use Rattle.lc_explain.specs.OpenDirs.{DirStack, MayEnter}
+use Rattle.lc_explain.specs.DirStacks.{StandsBelow, Goes}
+use Rattle.lc_explain.proofs.Descending.{top_stack}
 use Rattle.lc_explain.proofs.Entering.{entered_path}
-use Rattle.lc_explain.proofs.KeptWays.{ways_kept}
+use Rattle.lc_explain.proofs.StackCaching.{stacks_kept}
 use Rattle.lc_explain.proofs.explainer.Explainer.find.Goals as goal
 
-pub descend-requires-in-Ok-clause-ways : goal.descend-requires-in-Ok-clause-ways
-descend-requires-in-Ok-clause-ways g c κs within =
+pub descend-requires-in-Ok-clause-stacks : goal.descend-requires-in-Ok-clause-stacks
+descend-requires-in-Ok-clause-stacks g c κs within =
     let lists = g.T.Tree.lists c.args.self.now.levels.tree.now in
     let gives = g.T.Tree.gives c.args.self.now.levels.tree.now in
     let enters = MayEnter lists gives in
@@ -16,8 +16,8 @@ descend-requires-in-Ok-clause-ways g c κs within =
     let top = c.args.self.now.top in
     let entered = subst (λ o. Goes enters top [] c.args.kept.now c.enter.new.kept (Ok o)) c.in-Ok.is c.in_ok-at.ensures in
     let here = entered.0 in
-    ways_kept enters s exclude top c.args.kept.now c.enter.new.kept (here ∷ []) c.in-Ok.at c.requires
-    (top_way enters s exclude top c.args.path.now here (entered_path lists gives top here entered.1 ∙ c.args.self.now.starts) entered.1).0
+    stacks_kept enters s exclude top c.args.kept.now c.enter.new.kept (here ∷ []) c.in-Ok.at c.requires
+    (top_stack enters s exclude top c.args.path.now here (entered_path lists gives top here entered.1 ∙ c.args.self.now.starts) entered.1).0
     entered.2
 
 pub descend-requires-in-Ok-clause-stands : goal.descend-requires-in-Ok-clause-stands
@@ -30,5 +30,5 @@ descend-requires-in-Ok-clause-stands g c κs within =
     let top = c.args.self.now.top in
     let entered = subst (λ o. Goes enters top [] c.args.kept.now c.enter.new.kept (Ok o)) c.in-Ok.is c.in_ok-at.ensures in
     let here = entered.0 in
-    subst (λ (l : Way). StandsBelow l c.args.path.now c.args.path.now) (sym entered.2.is)
-    (top_way enters s exclude top c.args.path.now here (entered_path lists gives top here entered.1 ∙ c.args.self.now.starts) entered.1).1
+    subst (λ (l : DirStack). StandsBelow l c.args.path.now c.args.path.now) (sym entered.2.is)
+    (top_stack enters s exclude top c.args.path.now here (entered_path lists gives top here entered.1 ∙ c.args.self.now.starts) entered.1).1

@@ -34,7 +34,7 @@ pub returns-in_err-listing-clause-enters : goal.returns-in_err-listing-clause-en
 returns-in_err-listing-clause-enters g c =
     let lists = g.T.Tree.lists c.args.self.now.tree.now in
     let gives = g.T.Tree.gives c.args.self.now.tree.now in
-    let texts = c.args.self.now.kept.texts in
+    let texts = c.args.self.now.options.texts in
     passed_on (EntersLevel lists gives c.args.job.now texts) c.from_residual.result c.in_err-listing.field-0.0 c.from_residual.ensures.1
     (list_refused lists gives c.args.job.now texts c.in_err-listing.field-0.0
     (subst (λ (p : List ℕ). ListsFor (lists p) Directory (Err c.in_err-listing.field-0.0)) c.path-path.ensures
@@ -45,7 +45,7 @@ returns-in_err-info-clause-enters g c =
     let law = g.met.T.Tree g.world.𝓛 g.world.𝓜 g.world.𝓡 ((λ s x. x), (λ x. x), (λ x. x), λ x. x) in
     let lists = g.T.Tree.lists c.args.self.now.tree.now in
     let gives = g.T.Tree.gives c.args.self.now.tree.now in
-    let texts = c.args.self.now.kept.texts in
+    let texts = c.args.self.now.options.texts in
     let same : c.entries.result.now ≡ c.in_ok-listing.listing = cc in
     let is : IsListing c.in_ok-listing.listing = subst IsListing same c.entries.ensures.listing in
     passed_on (EntersLevel lists gives c.args.job.now texts) c.from_residual-in_err-info.result c.in_err-info.field-0.0
@@ -61,7 +61,7 @@ returns-in_err-own-clause-enters g c =
     let law = g.met.T.Tree g.world.𝓛 g.world.𝓜 g.world.𝓡 ((λ s x. x), (λ x. x), (λ x. x), λ x. x) in
     let lists = g.T.Tree.lists c.args.self.now.tree.now in
     let gives = g.T.Tree.gives c.args.self.now.tree.now in
-    let texts = c.args.self.now.kept.texts in
+    let texts = c.args.self.now.options.texts in
     let same : c.entries.result.now ≡ c.in_ok-listing.listing = cc in
     let again : c.entries-2.result.now ≡ c.in_ok-listing.listing = cc in
     let is : IsListing c.in_ok-listing.listing = subst IsListing same c.entries.ensures.listing in
@@ -81,7 +81,7 @@ returns-clause-enters g c =
     let law = g.met.T.Tree g.world.𝓛 g.world.𝓜 g.world.𝓡 ((λ s x. x), (λ x. x), (λ x. x), λ x. x) in
     let lists = g.T.Tree.lists c.args.self.now.tree.now in
     let gives = g.T.Tree.gives c.args.self.now.tree.now in
-    let texts = c.args.self.now.kept.texts in
+    let texts = c.args.self.now.options.texts in
     let j = c.args.job.now in
     let es = c.in_ok-listing.listing in
     let same : c.entries.result.now ≡ es = cc in

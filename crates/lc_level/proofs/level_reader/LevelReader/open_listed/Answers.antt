@@ -6,8 +6,8 @@ use Rattle.lc_level.proofs.level_reader.LevelReader.open_listed.Goals as goal
 pub absent-requires : goal.absent-requires
 absent-requires g c =
     subst IsListing (sym c.deref.ensures.value)
-    (are_listed (g.T.Tree.lists c.args.self.now.tree.now) (g.T.Tree.gives c.args.self.now.tree.now) c.args.self.now.kept.left_out
-    c.args.self.now.selection c.args.job.now c.args.self.now.kept.texts c.in_ok-job.field-0 c.in_ok-job.ensures.enters)
+    (are_listed (g.T.Tree.lists c.args.self.now.tree.now) (g.T.Tree.gives c.args.self.now.tree.now) c.args.self.now.options.left_out
+    c.args.self.now.selection c.args.job.now c.args.self.now.options.texts c.in_ok-job.field-0 c.in_ok-job.ensures.enters)
 
 pub overflow_cast-number : goal.overflow_cast-number
 overflow_cast-number g c =
@@ -16,24 +16,24 @@ overflow_cast-number g c =
     omega (
       arith,
       c.len-number.ensures,
-      few (g.T.Tree.lists c.args.self.now.tree.now) (g.T.Tree.gives c.args.self.now.tree.now) c.args.self.now.kept.left_out s
-          c.args.job.now c.args.self.now.kept.texts c.in_ok-job.field-0 c.in_ok-job.ensures.enters c.in-Ok-part_of.entries.items part,
+      few (g.T.Tree.lists c.args.self.now.tree.now) (g.T.Tree.gives c.args.self.now.tree.now) c.args.self.now.options.left_out s
+          c.args.job.now c.args.self.now.options.texts c.in_ok-job.field-0 c.in_ok-job.ensures.enters c.in-Ok-part_of.entries.items part,
     )
 
-pub returns-in-Ok-left_in-clause-opens : goal.returns-in-Ok-left_in-clause-opens
-returns-in-Ok-left_in-clause-opens g c =
+pub returns-in-Ok-classify-clause-opens : goal.returns-in-Ok-classify-clause-opens
+returns-in-Ok-classify-clause-opens g c =
     let s = c.args.self.now.selection in
     let part = part_by s c.in_ok-job.field-0 _ _ c.in-Ok.ensures c.path.ensures c.in-Ok-part_of.entries.items c.in-Ok-part_of.ensures in
     let absent = absent_by s c.in_ok-job.field-0 _ _ c.in-Ok.ensures c.path.ensures c.in-Ok-absent.absent.items _ c.deref.ensures.value
     c.in-Ok-absent.ensures in
-    opened (g.T.Tree.lists c.args.self.now.tree.now) (g.T.Tree.gives c.args.self.now.tree.now) c.args.self.now.kept.left_out s
-    c.args.job.now c.args.self.now.kept.texts c.in_ok-job.field-0 c.in_ok-job.ensures.enters c.in-Ok-part_of.entries.items part
-    c.in-Ok-left_in.found c.in-Ok-absent.absent c.len-number.result absent (search rules) c.in-Ok-left_in.ensures.left
+    opened (g.T.Tree.lists c.args.self.now.tree.now) (g.T.Tree.gives c.args.self.now.tree.now) c.args.self.now.options.left_out s
+    c.args.job.now c.args.self.now.options.texts c.in_ok-job.field-0 c.in_ok-job.ensures.enters c.in-Ok-part_of.entries.items part
+    c.in-Ok-classify.found c.in-Ok-absent.absent c.len-number.result absent (search rules) c.in-Ok-classify.ensures.skipped
 
 pub returns-in-Err-clause-opens : goal.returns-in-Err-clause-opens
 returns-in-Err-clause-opens g c =
     let s = c.args.self.now.selection in
     let part = part_by s c.in_ok-job.field-0 _ _ c.in-Ok.ensures c.path.ensures c.in-Ok-part_of.entries.items c.in-Ok-part_of.ensures in
-    take_refused (g.T.Tree.lists c.args.self.now.tree.now) (g.T.Tree.gives c.args.self.now.tree.now) c.args.self.now.kept.left_out s
-    c.args.job.now c.args.self.now.kept.texts c.in_ok-job.field-0 c.in_ok-job.ensures.enters c.in-Ok-part_of.entries.items part
-    c.in-Err.cause c.in-Err.ensures.left
+    take_refused (g.T.Tree.lists c.args.self.now.tree.now) (g.T.Tree.gives c.args.self.now.tree.now) c.args.self.now.options.left_out s
+    c.args.job.now c.args.self.now.options.texts c.in_ok-job.field-0 c.in_ok-job.ensures.enters c.in-Ok-part_of.entries.items part
+    c.in-Err.cause c.in-Err.ensures.skipped

@@ -9,7 +9,7 @@ use Rattle.lc_level.proofs.level_reader.LevelReader.read_git_info.Goals as goal
 
 pub returns-then-not-has_dir : goal.returns-then-not-has_dir
 returns-then-not-has_dir g c =
-    let texts = c.args.self.now.kept.texts in
+    let texts = c.args.self.now.options.texts in
     let law = g.met.T.Tree g.world.𝓛 g.world.𝓜 g.world.𝓡 ((λ s x. x), (λ x. x), (λ x. x), λ x. x) in
     let absent : has_dir (codes ".git") c.args.entries.now ≡ false = cc in
     no_git (g.T.Tree.lists c.args.self.now.tree.now) (g.T.Tree.gives c.args.self.now.tree.now) (law.some_content c.args.self.now.tree.now)
@@ -17,7 +17,7 @@ returns-then-not-has_dir g c =
 
 pub returns-in_err-git : goal.returns-in_err-git
 returns-in_err-git g c =
-    let texts = c.args.self.now.kept.texts in
+    let texts = c.args.self.now.options.texts in
     let law = g.met.T.Tree g.world.𝓛 g.world.𝓜 g.world.𝓡 ((λ s x. x), (λ x. x), (λ x. x), λ x. x) in
     let lists = g.T.Tree.lists c.args.self.now.tree.now in
     let gives = g.T.Tree.gives c.args.self.now.tree.now in
@@ -30,7 +30,7 @@ returns-in_err-git g c =
 
 pub returns-then-not-has_dir-2 : goal.returns-then-not-has_dir-2
 returns-then-not-has_dir-2 g c =
-    let texts = c.args.self.now.kept.texts in
+    let texts = c.args.self.now.options.texts in
     let law = g.met.T.Tree g.world.𝓛 g.world.𝓜 g.world.𝓡 ((λ s x. x), (λ x. x), (λ x. x), λ x. x) in
     let there : has_dir (codes ".git") c.args.entries.now ≡ true = cc in
     let absent : has_dir (codes "info") c.in_ok-git.git ≡ false = cc in
@@ -40,7 +40,7 @@ returns-then-not-has_dir-2 g c =
 
 pub returns-in_err-info : goal.returns-in_err-info
 returns-in_err-info g c =
-    let texts = c.args.self.now.kept.texts in
+    let texts = c.args.self.now.options.texts in
     let law = g.met.T.Tree g.world.𝓛 g.world.𝓜 g.world.𝓡 ((λ s x. x), (λ x. x), (λ x. x), λ x. x) in
     let lists = g.T.Tree.lists c.args.self.now.tree.now in
     let gives = g.T.Tree.gives c.args.self.now.tree.now in
@@ -55,7 +55,7 @@ returns-in_err-info g c =
 
 pub returns : goal.returns
 returns g c =
-    let texts = c.args.self.now.kept.texts in
+    let texts = c.args.self.now.options.texts in
     let law = g.met.T.Tree g.world.𝓛 g.world.𝓜 g.world.𝓡 ((λ s x. x), (λ x. x), (λ x. x), λ x. x) in
     let there : has_dir (codes ".git") c.args.entries.now ≡ true = cc in
     let present : has_dir (codes "info") c.in_ok-git.git ≡ true = cc in

@@ -22,7 +22,7 @@ asked top texts directory entries = record {
 
 pub returns-clause-read : goal.returns-clause-read
 returns-clause-read g c =
-    let texts = c.args.self.now.kept.texts in
+    let texts = c.args.self.now.options.texts in
     let gives = g.T.Tree.gives c.args.self.now.tree.now in
     let here = subst (λ (d : List ℕ). ReadsBoth gives (asked c.is_empty.result texts d c.args.entries.now) c.read_pair.result)
     c.in-Ok.ensures c.read_pair.ensures.read in

@@ -1,6 +1,6 @@
 use Rattle.std.proofs.Common.{map, ◌≡◌, Ok, ap, ◌∙◌}
 use Rattle.lc_level.specs.CountedNames.{IsCounted}
-use Rattle.lc_level.specs.LeftIn.{bytes_of}
+use Rattle.lc_level.specs.Classified.{bytes_of}
 use Rattle.lc_walk.specs.Serving.{AddsFiles}
 use Rattle.lc_walk.specs.RowViews.{ListedRowModel}
 use Rattle.lc_walk.specs.WalkReport.{tallied}
@@ -54,7 +54,7 @@ returns-in-Ok-new-clause-serves g c =
       entries = ap (λ (r : ListedRowModel). r.entries) row;
       files = ap (λ (r : ListedRowModel). r.files) row ∙ c.if_asked.ensures;
       faults = ap (λ (r : ListedRowModel). r.faults) row;
-      left = ap (λ (r : ListedRowModel). r.left) row;
+      skipped = ap (λ (r : ListedRowModel). r.skipped) row;
       children = ap (λ (r : ListedRowModel). r.children) row ∙ c.in-Ok.ensures.posts.1;
     }))
 

@@ -1,5 +1,0 @@
-use Rattle.lc_census.proofs.Blank.{cr_bits}
-use Rattle.lc_census.proofs.lanes.cr_befores.Goals as goal
-
-pub returns : goal.returns
-returns c = cr_bits c.args.v c.args.first c.args.cr c.requires

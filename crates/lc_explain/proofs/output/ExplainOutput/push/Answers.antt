@@ -1,0 +1,13 @@
+use Rattle.std.proofs.Common.{ap, sym, if◌then◌else◌}
+use Rattle.lc_text.specs.declared.outcome.Outcome.TheVariants.{SomeFaults}
+use Rattle.lc_explain.specs.Explained.{cited}
+use Rattle.lc_explain.specs.ExplainText.{is_fault}
+use Rattle.lc_explain.specs.Findings.{explanation_of}
+use Rattle.lc_explain.specs.OpenDirs.{stack_to}
+use Rattle.lc_explain.proofs.output.ExplainOutput.push.Goals as goal
+
+pub returns-in-Fault-clause-outcome : goal.returns-in-Fault-clause-outcome
+returns-in-Fault-clause-outcome c =
+    sym (ap (λ f. if is_fault (explanation_of (cited c.args.exclude.now (stack_to c.args.kept.now c.args.found.now.to)) f) then SomeFaults
+    else c.args.self.now.outcome)
+    c.in-Fault.is)

@@ -1,0 +1,22 @@
+use Rattle.std.proofs.Common.{ℕ, Bool, List, subst}
+use Rattle.lc_text.specs.PathLines.{is_dir_line}
+use Rattle.lc_explain.specs.Explained.{Explanation, IsExplained}
+use Rattle.lc_explain.specs.Findings.{explanation_on}
+use Rattle.lc_explain.specs.OpenDirs.{MayEnter}
+use Rattle.lc_explain.proofs.output.ExplainOutput.tell.Goals as goal
+
+pub returns-clause-told : goal.returns-clause-told
+returns-clause-told g c =
+    let explainer = c.args.explainer.now in
+    let Says : List ℕ → Bool → Explanation → Type 0 =
+    IsExplained (MayEnter (g.T.Tree.lists explainer.levels.tree.now) (g.T.Tree.gives explainer.levels.tree.now)) explainer.levels.selection
+    explainer.exclude.now explainer.top in
+    let x = explanation_on explainer.exclude.now c.find.new.kept c.in_ok-found.found in
+    let here = subst (λ (d : Bool). Says c.split_slash-as_dir.result.0.now d x) c.split_slash-as_dir.ensures.dir
+    c.in_ok-found.ensures.found in
+    record {
+      x = x;
+      said = subst (λ (p : List ℕ). Says p (is_dir_line c.args.line.now) x) c.split_slash-as_dir.ensures.path here;
+      text_is = c.in_ok-push.ensures.text;
+      outcome_is = c.in_ok-push.ensures.outcome;
+    }

@@ -1,0 +1,127 @@
+//! The way to a path.
+
+ghost use Rattle.std.specs.Prelude.{◌≡◌, ◌∷◌, [], ◌++◌, ◌-◌, ◌≤◌, length, map, slice_get, IfOk, IfSome};
+ghost use Rattle.std.specs.Arc.{arc_value};
+ghost use Rattle.std.specs.Option.{option_copied};
+ghost use Rattle.lc_level.specs.RuleReads.{text_items};
+ghost use Rattle.lc_explain.specs.OpenDirs.{text_or_none, text_in};
+ghost use Rattle.lc_explain.specs.DirStacks.{StandsBelow, IsFirstOf};
+
+use crate::open_dir::OpenDir;
+use lc_rules::RuleSource;
+use std::alloc::{AllocError, Global};
+use std::marker::Model;
+use std::sync::Arc;
+
+/// The bytes of a text; none where there is no text.
+fn text_or_none(text: &Option<Vec<u8>>) -> &[u8]
+    ensures { result.now ≡ text_or_none (text_items text.now) }
+{
+    match text {
+        Some(bytes) => bytes,
+        None => &[],
+    }
+}
+
+/// These directories, each with one owner more.
+fn shared(
+    alloc: Global,
+    directories: &[Arc<OpenDir, Global>],
+) -> Result<Vec<Arc<OpenDir, Global>>, AllocError>
+    ensures { IfOk result (λ same. map arc_value same.items ≡ map arc_value directories.now) }
+{
+    let mut same = Vec::new(alloc);
+    for directory in directories {
+        same.push(Arc::try_clone(directory)?)?;
+    }
+    Ok(same)
+}
+
+/// Directories that were entered, from the top down. Ways share those that stand on both.
+#[derive(Drop)]
+pub(crate) struct DirStack {
+    directories: Vec<Arc<OpenDir, Global>>,
+}
+
+impl Model for DirStack {
+    ghost use Rattle.std.specs.Prelude.{List, map};
+    ghost use Rattle.std.specs.Arc.{arc_value};
+    ghost use Rattle.lc_explain.specs.OpenDirs.{OpenDirModel};
+
+    ghost Value = { List OpenDirModel };
+
+    ghost view = { λ w. map arc_value w.directories.items };
+}
+
+impl DirStack {
+    /// The way to the top.
+    pub(crate) fn top(alloc: Global, top: OpenDir) -> Result<DirStack, AllocError>
+        ensures { IfOk result (λ stack. stack ≡ top ∷ []) }
+    {
+        let mut directories = Vec::new(alloc);
+        directories.push(Arc::new(alloc, top)?)?;
+        Ok(DirStack { directories })
+    }
+
+    /// The way to a directory in the last one.
+    pub(crate) fn with(&self, alloc: Global, directory: OpenDir) -> Result<DirStack, AllocError>
+        ensures { IfOk result (λ stack. stack ≡ self.now ++ directory ∷ []) }
+    {
+        let mut directories = shared(alloc, &self.directories)?;
+        directories.push(Arc::new(alloc, directory)?)?;
+        Ok(DirStack { directories })
+    }
+
+    /// Its first directories, this many of them.
+    pub(crate) fn first(&self, alloc: Global, count: usize) -> Result<DirStack, AllocError>
+        requires { count ≤ length self.now }
+        ensures { IfOk result (λ stack. IsFirstOf stack self.now) }
+    {
+        let directories = shared(alloc, &self.directories[..count])?;
+        Ok(DirStack { directories })
+    }
+
+    /// The number of its directories.
+    pub(crate) fn len(&self) -> usize
+        ensures { result ≡ length self.now }
+    {
+        self.directories.len()
+    }
+
+    /// The directory that it leads to.
+    pub(crate) fn last(&self) -> Option<&OpenDir>
+        ensures { option_copied result ≡ slice_get self.now (length self.now - 1) }
+    {
+        match self.directories.last() {
+            Some(last) => Some(last),
+            None => None,
+        }
+    }
+
+    /// What is left of a path below the directory that it leads to, where it stands below it.
+    pub(crate) fn rest_of<'p>(&self, path: &'p [u8]) -> Option<&'p [u8]>
+        ensures { IfSome result (λ rest. StandsBelow self.now path.now rest.now) }
+    {
+        let Some(last) = self.last() else {
+            return None;
+        };
+        last.rest_of(path)
+    }
+
+    /// The text of the file of rules of this source; empty where none was read.
+    pub(crate) fn text<'w>(&'w self, exclude: &'w [u8], source: RuleSource) -> &'w [u8]
+        ensures { result.now ≡ text_in exclude.now self.now source }
+    {
+        match source {
+            RuleSource::ExcludeFrom => exclude,
+            RuleSource::InfoExclude => match self.directories.first() {
+                Some(top) => text_or_none(&top.info),
+                None => &[],
+            },
+            RuleSource::Gitignore(depth) => match self.directories.get(depth as usize) {
+                Some(directory) => text_or_none(&directory.own),
+                None => &[],
+            },
+        }
+    }
+}

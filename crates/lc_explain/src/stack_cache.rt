@@ -1,0 +1,192 @@
+//! The ways to the directories that were entered, kept so that paths that come back to one don't enter it again.
+
+ghost use Rattle.std.specs.Prelude.{◌≡◌, ◌∷◌, ◌++◌, [], ◌-◌, Some, length, slice_get, IfOk, OnOk, IfSome};
+ghost use Rattle.std.specs.Option.{option_copied};
+ghost use Rattle.lc_explain.specs.OpenDirs.{stack_at, stack_to, text_in};
+ghost use Rattle.lc_explain.specs.DirStacks.{StandsBelow, AreFirstOf, Keeps};
+
+use crate::dir_stack::DirStack;
+use crate::open_dir::OpenDir;
+use lc_level::Scratch;
+use lc_rules::RuleSource;
+use memchr::memrchr;
+use std::alloc::{AllocError, Global};
+use std::collections::BTreeMap;
+use std::marker::Model;
+
+/// About how many bytes of directories are kept beside those above a path, so that paths that come back to one don't list it again:
+/// 96 MiB.
+///
+/// A directory that is entered while more is kept displaces all others but those above it, however large these are.
+pub const MAX_KEPT: usize = 96 * 1024 * 1024;
+
+/// A kept way to a directory above a path, by its number, and what is left of the path below that directory.
+#[derive(Clone, Copy, Debug)]
+pub(crate) struct Near<'p> {
+    pub(crate) at: usize,
+    pub(crate) rest: &'p [u8],
+}
+
+/// The ways to the directories that were entered, by numbers.
+#[derive(Drop)]
+pub(crate) struct StackCache {
+    alloc: Global,
+    stacks: Vec<DirStack>,
+    // The numbers of the ways by the paths to which they lead. These are hints alone: a way is taken for what it is.
+    places: BTreeMap<Vec<u8>, usize>,
+    // About how many bytes the directories take to which the ways lead, and how many they may take before some are dropped.
+    held: usize,
+    limit: usize,
+    pub(crate) scratch: Scratch,
+}
+
+impl Model for StackCache {
+    ghost use Rattle.std.specs.Prelude.{List};
+    ghost use Rattle.lc_explain.specs.OpenDirs.{OpenDirModel};
+
+    ghost Value = { List (List OpenDirModel) };
+
+    ghost view = { λ k. k.stacks.items };
+}
+
+impl StackCache {
+    /// No way is kept.
+    pub(crate) fn new(alloc: Global) -> Result<StackCache, AllocError>
+        ensures { IfOk result (λ kept. kept ≡ []) }
+    {
+        Ok(StackCache {
+            alloc,
+            stacks: Vec::new(alloc),
+            places: BTreeMap::new(alloc),
+            held: 0,
+            limit: MAX_KEPT,
+            scratch: Scratch::new(alloc)?,
+        })
+    }
+
+    /// The kept way to a directory, where it stands above a path.
+    fn to<'p>(&self, directory: &[u8], path: &'p [u8]) -> Option<Near<'p>>
+        ensures { IfSome result (λ near. StandsBelow (stack_at self.now near.at) path.now near.rest.now) }
+    {
+        let Some(at) = self.places.get(directory) else {
+            return None;
+        };
+        let at = *at;
+        let Some(stack) = self.stacks.get(at) else {
+            return None;
+        };
+        match stack.rest_of(path) {
+            Some(rest) => Some(Near { at, rest }),
+            None => None,
+        }
+    }
+
+    /// The kept way to the nearest directory above a path.
+    pub(crate) fn nearest<'p>(&self, path: &'p [u8]) -> Option<Near<'p>>
+        ensures { IfSome result (λ near. StandsBelow (stack_at self.now near.at) path.now near.rest.now) }
+    {
+        let mut above = path;
+        'names: while let Some(slash) = memrchr(b'/', above) {
+            above = &above[..slash];
+            if let Some(near) = self.to(above, path) {
+                return Some(near);
+            }
+        }
+        self.to(&[], path)
+    }
+
+    /// The directory to which a way leads.
+    pub(crate) fn last(&self, at: usize) -> Option<&OpenDir>
+        ensures { option_copied result ≡ slice_get (stack_at self.now at) (length (stack_at self.now at) - 1) }
+    {
+        match self.stacks.get(at) {
+            Some(stack) => stack.last(),
+            None => None,
+        }
+    }
+
+    /// The text of the file of rules of this source that was read on a way; empty where none was.
+    pub(crate) fn text<'w>(
+        &'w self,
+        exclude: &'w [u8],
+        to: Option<usize>,
+        source: RuleSource,
+    ) -> &'w [u8]
+        ensures { result.now ≡ text_in exclude.now (stack_to self.now to) source }
+    {
+        let Some(at) = to else {
+            return if matches!(source, RuleSource::ExcludeFrom) {
+                exclude
+            } else {
+                &[]
+            };
+        };
+        match self.stacks.get(at) {
+            Some(stack) => stack.text(exclude, source),
+            None => if matches!(source, RuleSource::ExcludeFrom) {
+                exclude
+            } else {
+                &[]
+            },
+        }
+    }
+
+    /// The way to a directory that was entered from the end of another, or to the top.
+    pub(crate) fn below(
+        &self,
+        above: Option<usize>,
+        directory: OpenDir,
+    ) -> Result<DirStack, AllocError>
+        ensures { IfOk result (λ stack. stack ≡ stack_to self.now above ++ directory ∷ []) }
+    {
+        let Some(at) = above else {
+            return DirStack::top(self.alloc, directory);
+        };
+        match self.stacks.get(at) {
+            Some(stack) => stack.with(self.alloc, directory),
+            None => DirStack::top(self.alloc, directory),
+        }
+    }
+
+    /// Appends a way, and gives its number.
+    fn push(&mut self, stack: DirStack) -> Result<usize, AllocError>
+        ensures stacks { OnOk result (self.new ≡ self.old ++ stack ∷ []) }
+        ensures at { IfOk result (λ at. at ≡ length self.old) }
+    {
+        let at = self.stacks.len();
+        if let Some(last) = stack.last() {
+            self.held = self.held.saturating_add(last.size());
+            let place = last.job.path().to_vec(self.alloc)?;
+            self.places.insert(place, at)?;
+        }
+        self.stacks.push(stack)?;
+        Ok(at)
+    }
+
+    /// Drops all but the beginnings of a way, and sets the limit beyond what these hold.
+    fn drop_beside(&mut self, stack: &DirStack) -> Result<(), AllocError>
+        ensures { OnOk result (AreFirstOf self.new stack.now) }
+    {
+        self.stacks.clear();
+        self.places.clear();
+        self.held = 0;
+        for count in 1..stack.len() {
+            let first = stack.first(self.alloc, count)?;
+            self.push(first)?;
+        }
+        self.limit = self.held.saturating_add(MAX_KEPT);
+        Ok(())
+    }
+
+    /// Keeps a way, and gives its number. If more bytes are held than the limit, this first drops all but the beginnings of the way. It
+    /// does so again only after another `MAX_KEPT` bytes, so that what is dropped cost more to enter.
+    pub(crate) fn keep(&mut self, stack: DirStack) -> Result<usize, AllocError>
+        ensures { IfOk result (λ at. Keeps self.old stack self.new at) }
+    {
+        if self.held > self.limit {
+            self.drop_beside(&stack)?;
+        }
+        let at = self.push(stack)?;
+        Ok(at)
+    }
+}

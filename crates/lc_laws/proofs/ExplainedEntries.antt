@@ -1,0 +1,282 @@
+-- What is said of an entry tells where the report has it.
+use Rattle.std.proofs.Common.{◌≡◌, ℕ, ◌+◌, ◌<◌, ◌≤◌, Bool, true, false, List, [], ◌∷◌, ◌++◌, length, refl, sym, ◌∙◌, ap, subst, arith}
+use Rattle.std.proofs.Common.{Option, Some, None, Result, Ok, Err, MatchResult, ◌⊎◌, inl, inr, length-append}
+use Rattle.std.specs.List.{Contains}
+use Rattle.std.specs.Option.{is_none, option_map_or, option_or}
+use Rattle.lc_explain.specs.Explained.{CitedRule, Explanation, faulted, below, ignored, cited, said_for, said_by}
+use Rattle.lc_explain.specs.Explained.{said_of, kind_asked, is_directory, OnTheWay, IsSaid}
+use Rattle.lc_explain.specs.Laws.{IsSaidKept}
+use Rattle.lc_explain.specs.OpenDirs.{OpenDirModel, DirStack, open_dir, MayEnter, kind_in}
+use Rattle.lc_explain.proofs.PathSegments.{below_child, joined_end}
+use Rattle.lc_glob.specs.Bytes.{slash}
+use Rattle.lc_glob.specs.Path.{path_in, segments_of}
+use Rattle.lc_level.specs.Answers.{Item, file_item, directory_item, other_item, name_of, entry_of, entries_of, Tree}
+use Rattle.lc_level.specs.FaultLines.{FaultLineModel}
+use Rattle.lc_level.specs.Job.{JobModel}
+use Rattle.lc_level.specs.Level.{Reason, named_git, by_rule, by_attribute, other_kind, walked, skipped, file_fate}
+use Rattle.lc_level.specs.Level.{fate_of, reason_of, reason_for, child_job}
+use Rattle.lc_level.specs.OneAnswer.{GivesOne}
+use Rattle.lc_level.specs.Selection.{SelectionModel}
+use Rattle.lc_level.proofs.WellFormed.{Spread}
+use Rattle.lc_rules.specs.IgnoreChains.{rules_in}
+use Rattle.lc_rules.specs.IgnoreRules.{RuleModel}
+use Rattle.lc_rules.specs.Verdicts.{last_match}
+use Rattle.lc_rules.specs.declared.rule_source.RuleSource.{RuleSource}
+use Rattle.lc_tree.specs.Listing.{EntryModel}
+use Rattle.lc_tree.specs.Trees.{Listings, Contents}
+use Rattle.lc_tree.specs.declared.entry.Kind.{Kind}
+use Rattle.lc_tree.specs.declared.entry.Kind.TheVariants.{File, Dir, Other}
+use Rattle.lc_walk.specs.Found.{Found}
+use Rattle.lc_walk.specs.FoundAt.{IsListed, WalksInto, LeadsTo}
+use Rattle.lc_walk.specs.ReportLines.{skipped_paths}
+use Rattle.lc_walk.specs.Walk.{walk_of}
+use Rattle.lc_walk.specs.WalkReport.{IsReportOf}
+use Rattle.lc_walk.specs.declared.options.ReportLists.{ReportLists}
+use Rattle.lc_walk.specs.declared.report.Report.{Report}
+use Rattle.lc_walk.proofs.Elements.{In}
+use Rattle.lc_walk.proofs.Levels.{well_formed_items}
+use Rattle.lc_walk.proofs.OneTree.{leads_on}
+use Rattle.lc_laws.specs.CountsExplained.{TellsOf}
+use Rattle.lc_laws.specs.Entries.{LeadDown}
+use Rattle.lc_laws.specs.ReportedPaths.{IsSkipped, IsKept, IsSkippedAbove}
+use Rattle.lc_laws.proofs.FirstSegments.{first_cut}
+use Rattle.lc_laws.proofs.Following.{asked_as_it_is, went_into, IsSaidBelow, IsSaidIn, said_in, on_the_way, said_at_end}
+use Rattle.lc_laws.proofs.OneWay.{entered_listed, entered_by, kind_found, good_name, IsGiven}
+use Rattle.lc_laws.proofs.Items.{IsItem, item_of, directory_is}
+use Rattle.lc_laws.proofs.Placed.{fault_there, skipped_there, file_there}
+use Rattle.lc_laws.proofs.TakingPart.{part_has}
+
+skipped_on_the_way : (reason : Option Reason) (is_there : Bool) (Skipped : Reason → Type 0) (Into Beside : Type 0) (r : Reason)
+    → reason ≡ Some r → OnTheWay reason is_there Skipped Into Beside → Skipped r
+skipped_on_the_way reason is_there Skipped Into Beside r e stack =
+    subst (λ (o : Option Reason). OnTheWay o is_there Skipped Into Beside) e stack
+
+taken : (cite : RuleSource → ℕ → CitedRule) (rule : Option (RuleSource × RuleModel)) → IsSaidKept (said_by cite None rule)
+taken cite None = inl refl
+taken cite (Some rule) = inr (cite rule.0 rule.1.line, refl)
+
+-- ---- by what is said
+
+module _ (r : Report) (path : List ℕ) (kind : Kind) (exclude : List ℕ) (stack : DirStack) where
+  skipped_told : (reason : Reason) → IsSkipped r path reason → TellsOf r path kind (said_for (cited exclude stack) ignored reason)
+  skipped_told named_git has = inl has
+  skipped_told (by_rule source line) has = has
+  skipped_told (by_attribute name) has = inl has
+  skipped_told other_kind has = inl has
+
+  above_told : (reason : Reason) → IsSkippedAbove r path reason → TellsOf r path kind (said_for (cited exclude stack) below reason)
+  above_told named_git has = inr has
+  above_told (by_rule source line) has = has
+  above_told (by_attribute name) has = inr has
+  above_told other_kind has = inr has
+
+  taken_told : (rule : Option (RuleSource × RuleModel)) → IsKept r path kind → TellsOf r path kind (said_by (cited exclude stack) None rule)
+  taken_told None has = has
+  taken_told (Some rule) has = has
+
+module _ (lists : List ℕ → Listings) (gives : List ℕ → Contents) (one : GivesOne lists gives) (s : SelectionModel) (whole : s.only ≡ [])
+    (exclude : List ℕ) (x : Explanation) (top : JobModel) (t : Tree) (given : IsGiven lists gives s top t) (asked : ReportLists) (depth : ℕ)
+    (r : Report)
+    (report : IsReportOf asked (walk_of s depth top t) r) (files : asked.files ≡ true) (skipped_ones : asked.left_out ≡ true)
+    (path : List ℕ) (kind : Kind) (kept : IsSaidKept x → Contains (skipped_paths r.skipped.items) path → ⊥) where
+  abbrev xs : List Found
+  xs = walk_of s depth top t
+
+  -- ---- one directory to which names lead
+
+  module _ (place : List (List ℕ)) (k : JobModel) (leads : LeadsTo s top t place k) (shallow : length place < depth) where
+    fault_told : (fault : FaultLineModel) → open_dir k (t place) ≡ Err fault → TellsOf r path kind (faulted fault)
+    fault_told fault is = fault_there s whole top t asked depth r report place k leads shallow fault is
+
+    module _ (items : List Item) (inside : JobModel) (listed : IsListed k (t place) items inside) where
+      is_skipped : (item : Item) → In item items → (own : Kind) (reason : Reason) → fate_of s inside item ≡ skipped own reason
+          → IsSkipped r (path_in k.path (name_of item)) reason
+      is_skipped = skipped_there s whole top t asked depth r report place k leads shallow items inside listed skipped_ones
+
+      module _ (stack : DirStack) where
+        abbrev rule_for : List ℕ → Bool → Option (RuleSource × RuleModel)
+        rule_for n is_dir = last_match (rules_in inside.ignore) (path_in inside.path n) is_dir
+
+        -- what is said of an entry there, by itself
+        entry_told : (item : Item) → In item items → path ≡ path_in k.path (name_of item) → kind ≡ (entry_of item).kind
+            → x ≡ said_of s exclude stack inside (name_of item) (entry_of item).kind → TellsOf r path kind x
+        entry_told (file_item n c rules) has at own is = by (reason_of s inside n false) refl
+          where
+            by : (o : Option Reason) → reason_of s inside n false ≡ o → TellsOf r path kind x
+            by (Some reason) e =
+                subst (TellsOf r path kind) (sym (is ∙ ap (λ o. said_by (cited exclude stack) o (rule_for n false)) e))
+                (skipped_told r path kind exclude stack reason
+                (subst (λ p. IsSkipped r p reason) (sym at)
+                (is_skipped (file_item n c rules) has File reason (ap (λ o. option_map_or (skipped File) o (file_fate inside n c)) e))))
+            by None e =
+                subst (TellsOf r path kind) (sym (is ∙ ap (λ o. said_by (cited exclude stack) o (rule_for n false)) e))
+                (taken_told r path kind exclude stack (rule_for n false)
+                (subst (λ (d : Kind). IsKept r path d) (sym own)
+                (subst (λ p. IsKept r p File) (sym at)
+                (file_there s whole top t asked depth r report place k leads shallow items inside listed files n c rules has e))))
+        entry_told (directory_item n) has at own is = by (reason_of s inside n true) refl
+          where
+            by : (o : Option Reason) → reason_of s inside n true ≡ o → TellsOf r path kind x
+            by (Some reason) e =
+                subst (TellsOf r path kind) (sym (is ∙ ap (λ o. said_by (cited exclude stack) o (rule_for n true)) e))
+                (skipped_told r path kind exclude stack reason
+                (subst (λ p. IsSkipped r p reason) (sym at)
+                (is_skipped (directory_item n) has Dir reason (ap (λ o. option_map_or (skipped Dir) o (walked (child_job inside n))) e))))
+            by None e =
+                let same : x ≡ said_by (cited exclude stack) None (rule_for n true) =
+                is ∙ ap (λ o. said_by (cited exclude stack) o (rule_for n true)) e in
+                subst (TellsOf r path kind) (sym same)
+                (taken_told r path kind exclude stack (rule_for n true)
+                (subst (λ (d : Kind). IsKept r path d) (sym own)
+                (kept (subst IsSaidKept (sym same) (taken (cited exclude stack) (rule_for n true))))))
+        entry_told (other_item n) has at own is = by (reason_of s inside n false) refl
+          where
+            told : (reason : Reason) → x ≡ said_for (cited exclude stack) ignored reason → fate_of s inside (other_item n) ≡ skipped Other reason
+                → TellsOf r path kind x
+            told reason same fate =
+                subst (TellsOf r path kind) (sym same)
+                (skipped_told r path kind exclude stack reason
+                (subst (λ p. IsSkipped r p reason) (sym at) (is_skipped (other_item n) has Other reason fate)))
+
+            by : (o : Option Reason) → reason_of s inside n false ≡ o → TellsOf r path kind x
+            by (Some reason) e =
+                told reason (is ∙ ap (λ o. said_by (cited exclude stack) (option_or o (Some other_kind)) (rule_for n false)) e)
+                (ap (λ o. option_map_or (skipped Other) o (skipped Other other_kind)) e)
+            by None e =
+                told other_kind (is ∙ ap (λ o. said_by (cited exclude stack) (option_or o (Some other_kind)) (rule_for n false)) e)
+                (ap (λ o. option_map_or (skipped Other) o (skipped Other other_kind)) e)
+
+  -- ---- down to the entry
+
+  -- a directory is at fault, or what is said is said in it
+  record IsMet (stack : DirStack) (place : List (List ℕ)) (k : JobModel) (names : List (List ℕ)) : Type 0 where
+    items : List Item
+    inside : JobModel
+    listed : IsListed k (t place) items inside
+    says : IsSaidIn lists gives one s exclude x stack items inside names
+
+  met : (stack : DirStack) (place : List (List ℕ)) (k : JobModel) (names : List (List ℕ)) → LeadsTo s top t place k
+      → IsSaidBelow lists gives one s exclude x stack k names
+      → ((fault : FaultLineModel) × (open_dir k (t place) ≡ Err fault) × (x ≡ faulted fault)) ⊎ IsMet stack place k names
+  met stack place k names leads (entered, enters, said) =
+      by (open_dir k (t place)) refl (entered_by lists gives one s k (t place) entered (given place k leads).0 enters)
+    where
+      Holds : Result OpenDirModel FaultLineModel → Type 0
+      Holds w = MatchResult w (λ here. IsSaid (MayEnter lists gives) s exclude (stack ++ here ∷ []) here names false x)
+          (λ fault. x ≡ faulted fault)
+
+      by : (w : Result OpenDirModel FaultLineModel) → open_dir k (t place) ≡ w → entered ≡ open_dir k (t place)
+          → ((fault : FaultLineModel) × (open_dir k (t place) ≡ Err fault) × (x ≡ faulted fault)) ⊎ IsMet stack place k names
+      by (Ok here) is same =
+          let l = entered_listed k (t place) here is in
+          inr (record {
+            items = l.items;
+            inside = here.job;
+            listed = l.listed;
+            says = said_in lists gives one s exclude x stack k (t place) l.items here.job names (given place k leads).0 l.listed
+                (entered, enters, said);
+          })
+      by (Err fault) is same = inl (fault, is, subst Holds (same ∙ is) said)
+
+  -- so do names tell that lead down to it from a directory to which names lead
+  abbrev Tells : List (List ℕ) → Type 0
+  Tells names =
+      (stack : DirStack) (place : List (List ℕ)) (k : JobModel) → LeadsTo s top t place k → length place + length names ≤ depth
+      → (rest : List ℕ) → segments_of rest ≡ names → path ≡ path_in k.path rest → LeadDown lists k.path names kind
+      → IsSaidBelow lists gives one s exclude x stack k names → TellsOf r path kind x
+
+  last_tells : (name : List ℕ) → Tells (name ∷ [])
+  last_tells name stack place k leads deep rest cut at down said = by (met stack place k (name ∷ []) leads said)
+    where
+      shallow : length place < depth
+      shallow = omega (arith, deep)
+
+      by : ((fault : FaultLineModel) × (open_dir k (t place) ≡ Err fault) × (x ≡ faulted fault)) ⊎ IsMet stack place k (name ∷ [])
+          → TellsOf r path kind x
+      by (inl f) = subst (TellsOf r path kind) (sym f.2) (fault_told place k leads shallow f.0 f.1)
+      by (inr m) =
+          let i = item_of lists gives one s top t given place k m.items m.inside leads m.listed name kind down in
+          let spread : Spread m.items = well_formed_items (t place) (given place k leads).1 m.items m.listed.here in
+          let e = said_at_end lists gives one s exclude x stack m.items m.inside name m.says in
+          let found_kind : kind_in (entries_of m.items) name ≡ Some (entry_of i.item).kind =
+          subst (λ n. kind_in (entries_of m.items) n ≡ Some (entry_of i.item).kind) i.named (kind_found m.items spread i.item i.has) in
+          entry_told place k leads shallow m.items m.inside m.listed e.stack i.item i.has
+          (at ∙ ap (path_in k.path) (first_cut rest name [] cut ∙ sym i.named)) (sym i.kind_is)
+          (e.is ∙ ap (λ (o : Option Kind). said_of s exclude e.stack m.inside name (kind_asked false o)) found_kind
+          ∙ ap (said_of s exclude e.stack m.inside name) (asked_as_it_is (entry_of i.item).kind)
+          ∙ ap (λ n. said_of s exclude e.stack m.inside n (entry_of i.item).kind) (sym i.named))
+
+  on_the_way_tells : (name next : List ℕ) (names : List (List ℕ)) → Tells (next ∷ names) → Tells (name ∷ next ∷ names)
+  on_the_way_tells name next names below_tells stack place k leads deep rest cut at down said =
+      by (met stack place k (name ∷ next ∷ names) leads said)
+    where
+      shallow : length place < depth
+      shallow = omega (arith, deep)
+
+      by : ((fault : FaultLineModel) × (open_dir k (t place) ≡ Err fault) × (x ≡ faulted fault)) ⊎ IsMet stack place k (name ∷ next ∷ names)
+          → TellsOf r path kind x
+      by (inl f) = subst (TellsOf r path kind) (sym f.2) (fault_told place k leads shallow f.0 f.1)
+      by (inr m) = onward (reason_of s m.inside name true) refl
+        where
+          i : IsItem m.items name Dir
+          i = item_of lists gives one s top t given place k m.items m.inside leads m.listed name Dir down.0
+
+          spread : Spread m.items
+          spread = well_formed_items (t place) (given place k leads).1 m.items m.listed.here
+
+          has : In (directory_item name) m.items
+          has = subst (λ (y : Item). In y m.items) (directory_is i.item i.kind_is ∙ ap directory_item i.named) i.has
+
+          there : kind_in m.says.here.entries name ≡ Some Dir
+          there = ap (λ (es : List EntryModel). kind_in es name) m.says.entries ∙ kind_found m.items spread (directory_item name) has
+
+          reason_is : reason_for s m.says.here.job name
+              (kind_asked true (kind_in m.says.here.entries name)) ≡ reason_of s m.inside name true
+          reason_is =
+              ap (λ (o : Option Kind). reason_for s m.says.here.job name (kind_asked true o)) there
+              ∙ ap (λ (j : JobModel). reason_of s j name true) m.says.job
+
+          parts : (others : List ℕ) × (rest ≡ name ++ slash ∷ others) × (segments_of others ≡ next ∷ names)
+          parts = first_cut rest name (next ∷ names) cut
+
+          some_name : name ≡ [] → ⊥
+          some_name = (good_name m.items spread (directory_item name) has).0
+
+          inside_path : m.inside.path ≡ k.path
+          inside_path = ap (λ (j : JobModel). j.path) m.listed.is
+
+          onward : (o : Option Reason) → reason_of s m.inside name true ≡ o → TellsOf r path kind x
+          onward (Some reason) e =
+              let same = skipped_on_the_way _ _ _ _ _ reason (reason_is ∙ e)
+              (on_the_way lists gives one s exclude x (stack ++ m.says.here ∷ []) m.says.here name (next ∷ names) (λ n. cc n) m.says.says) in
+              subst (TellsOf r path kind) (sym same)
+              (above_told r path kind exclude (stack ++ m.says.here ∷ []) reason (
+                path_in k.path name,
+                parts.0,
+                at ∙ ap (path_in k.path) parts.1 ∙ joined_end k.path name parts.0,
+                is_skipped place k leads shallow m.items m.inside m.listed (directory_item name) has Dir reason
+                    (ap (λ o. option_map_or (skipped Dir) o (walked (child_job m.inside name))) e),
+              ))
+          onward None e =
+              let into = went_into _ _ _ _ _ (reason_is ∙ e) (ap is_directory there)
+              (on_the_way lists gives one s exclude x (stack ++ m.says.here ∷ []) m.says.here name (next ∷ names) (λ n. cc n) m.says.says) in
+              let leaves : WalksInto s k (t place) name m.inside = record {
+                items = m.items;
+                listed = m.listed;
+                has = part_has s whole k.path (directory_item name) m.items has;
+                taken = ap is_none e;
+              } in
+              below_tells (stack ++ m.says.here ∷ []) (place ++ name ∷ []) (child_job m.inside name)
+              (leads_on s place top k m.inside name t leads leaves)
+              (omega (arith, deep, length-append place (name ∷ []))) parts.0 parts.2
+              (at ∙ ap (path_in k.path) parts.1 ∙ below_child k.path name parts.0 some_name
+              ∙ ap (λ d. path_in (path_in d name) parts.0) (sym inside_path))
+              (subst (λ d. LeadDown lists (path_in d name) (next ∷ names) kind) (sym inside_path) down.1)
+              (subst (λ (j : JobModel). IsSaidBelow lists gives one s exclude x (stack ++ m.says.here ∷ []) (child_job j name) (next ∷ names))
+              m.says.job into)
+
+  -- for each number of names below a directory
+  pub told : (names : List (List ℕ)) → Tells names
+  told [] = λ stack place k leads deep rest cut at down said. absurd down
+  told (name ∷ []) = last_tells name
+  told (name ∷ next ∷ names) = on_the_way_tells name next names (told (next ∷ names))

@@ -1,0 +1,93 @@
+-- Which entries of a directory are left in, and which are left out: gitignore(5), PATTERN FORMAT, and what the selection leaves out.
+use Rattle.std.specs.Prelude.{◌≡◌, ℕ, Bool, true, false, ◌&&◌, cond, if◌then◌else◌, is_none, List, [], ◌∷◌, ◌++◌, map, nat_lt, Vec, Option}
+use Rattle.std.specs.Prelude.{Some, None, Result, Ok, Err, unwrap_or}
+use Rattle.std.specs.List.{flat_map, list_any}
+use Rattle.std.specs.Global.{Global}
+use Rattle.lc_level.specs.Deep.{is_too_deep}
+use Rattle.lc_tree.specs.Kinds.{is_file, is_dir}
+use Rattle.lc_level.specs.Job.{JobModel}
+use Rattle.lc_level.specs.Level.{Reason, other_kind, SkippedModel, reason_for, is_taken, child_job, job_at}
+use Rattle.lc_glob.specs.Path.{depth_of, max_depth}
+use Rattle.lc_level.specs.Selection.{SelectionModel}
+use Rattle.lc_tree.specs.Listing.{EntryModel}
+use Rattle.lc_level.specs.declared.classify.Classified.{Classified}
+use Rattle.lc_tree.specs.declared.entry.Kind.{Kind}
+use Rattle.lc_tree.specs.declared.entry.Kind.TheVariants.{File, Dir, Other}
+use Rattle.lc_level.specs.declared.cause.Cause.{Cause}
+use Rattle.lc_level.specs.declared.cause.Cause.TheVariants.{Memory, TooDeep}
+
+-- the name of an entry, where it is a file that the rules leave in; the child directory, where it is one that they leave in
+abbrev pub kept_file : SelectionModel → JobModel → EntryModel → List (List ℕ)
+kept_file s j e = cond (is_file e.kind && is_taken s j e.name false) (e.name ∷ []) []
+
+abbrev pub kept_directory : SelectionModel → JobModel → EntryModel → List (List ℕ × JobModel)
+kept_directory s j e = cond (is_dir e.kind && is_taken s j e.name true) ((e.name, child_job j e.name) ∷ []) []
+
+-- an entry that is left out for this reason, if it is
+abbrev pub skipped_by : List ℕ → Kind → Option Reason → List SkippedModel
+skipped_by name kind None = []
+skipped_by name kind (Some reason) = record { name = name; kind = kind; reason = reason } ∷ []
+
+-- the same where entries left out are asked for
+abbrev pub kept_skipped : Bool → List ℕ → Kind → Option Reason → List SkippedModel
+kept_skipped left_out name kind reason = if left_out then skipped_by name kind reason else []
+
+abbrev pub skipped_entry : Bool → SelectionModel → JobModel → EntryModel → List SkippedModel
+skipped_entry left_out s j e = kept_skipped left_out e.name e.kind (reason_for s j e.name e.kind)
+
+-- the bytes of names
+abbrev pub bytes_of : List (Vec ℕ Global) → List (List ℕ)
+bytes_of names = map (λ (n : Vec ℕ Global). n.items) names
+
+-- what was taken before, and after it these names of files, child directories and entries left out
+pub record Gains (old new : Classified) (files : List (List ℕ)) (children : List (List ℕ × JobModel)) (skipped : List SkippedModel) : Type 0 where
+  pub files_are : bytes_of new.files.items ≡ bytes_of old.files.items ++ files
+  pub children_are : new.children.items ≡ old.children.items ++ children
+  pub skipped_are : new.skipped.items ≡ old.skipped.items ++ skipped
+
+-- what taking the file of a name answers, by why it is left out, if it is
+abbrev pub TakesFile : Bool → Option Reason → List ℕ → Classified → Classified → Result (Unit {0}) Cause → Type 0
+TakesFile left_out reason name old new (Ok _) =
+    Gains old new (cond (is_none reason) (name ∷ []) []) [] (kept_skipped left_out name File reason)
+TakesFile left_out reason name old new (Err Memory) = Unit {0}
+TakesFile left_out reason name old new (Err TooDeep) = ⊥
+
+-- the job of a child directory at a path that may have too many segments
+abbrev pub IsChild : JobModel → List ℕ → Result JobModel Cause → Type 0
+IsChild j path (Ok child) = (child ≡ job_at j path) × (nat_lt max_depth (depth_of path) ≡ false)
+IsChild j path (Err Memory) = Unit {0}
+IsChild j path (Err TooDeep) = nat_lt max_depth (depth_of path) ≡ true
+
+-- what taking a child directory answers, which may have too many segments: one that is left in has not
+abbrev pub TakesDirectory : Bool → Option Reason → Bool → List ℕ × JobModel → Classified → Classified → Result (Unit {0}) Cause → Type 0
+TakesDirectory left_out reason deep child old new (Ok _) =
+    Gains old new [] (cond (is_none reason) (child ∷ []) []) (kept_skipped left_out child.0 Dir reason)
+    × ((is_none reason && deep) ≡ false)
+TakesDirectory left_out reason deep child old new (Err Memory) = Unit {0}
+TakesDirectory left_out reason deep child old new (Err TooDeep) = (is_none reason ≡ true) × (deep ≡ true)
+
+-- what leaving out an entry of any kind answers
+abbrev pub LeavesOut : Bool → Reason → List ℕ → Kind → Classified → Classified → Result (Unit {0}) Cause → Type 0
+LeavesOut left_out reason name kind old new (Ok _) = Gains old new [] [] (kept_skipped left_out name kind (Some reason))
+LeavesOut left_out reason name kind old new (Err Memory) = Unit {0}
+LeavesOut left_out reason name kind old new (Err TooDeep) = ⊥
+
+-- what taking what is neither a file nor a directory answers
+abbrev pub TakesOther : Bool → Option Reason → List ℕ → Classified → Classified → Result (Unit {0}) Cause → Type 0
+TakesOther left_out reason name old new result =
+    LeavesOut left_out (unwrap_or reason other_kind) name Other old new result
+
+-- what taking one entry more answers: none that is too deep is taken
+abbrev pub Takes : Bool → SelectionModel → JobModel → EntryModel → Classified → Classified → Result (Unit {0}) Cause → Type 0
+Takes left_out s j e old new (Ok _) =
+    Gains old new (kept_file s j e) (kept_directory s j e) (skipped_entry left_out s j e) × (is_too_deep s j e ≡ false)
+Takes left_out s j e old new (Err Memory) = Unit {0}
+Takes left_out s j e old new (Err TooDeep) = is_too_deep s j e ≡ true
+
+-- what taking all entries answers: those left in and out, in order, where none is too deep; or one of them is; or memory was refused
+abbrev pub Classifies : Bool → SelectionModel → JobModel → List EntryModel → Result Classified Cause → Type 0
+Classifies left_out s j es (Ok found) =
+    (bytes_of found.files.items ≡ flat_map (kept_file s j) es) × (found.children.items ≡ flat_map (kept_directory s j) es)
+    × (found.skipped.items ≡ flat_map (skipped_entry left_out s j) es) × (list_any (is_too_deep s j) es ≡ false)
+Classifies left_out s j es (Err Memory) = Unit {0}
+Classifies left_out s j es (Err TooDeep) = list_any (is_too_deep s j) es ≡ true

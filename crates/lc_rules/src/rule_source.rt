@@ -1,0 +1,12 @@
+//! The file that a rule was read from.
+
+/// The file that a rule was read from: gitignore(5), DESCRIPTION.
+#[derive(Debug, Clone, Copy, PartialEq, Eq)]
+pub enum RuleSource {
+    /// The file of `--exclude-from`, which holds for the whole tree.
+    ExcludeFrom,
+    /// The repository's `.git/info/exclude`.
+    InfoExclude,
+    /// The `.gitignore` of the directory whose path has this number of segments.
+    Gitignore(u32),
+}

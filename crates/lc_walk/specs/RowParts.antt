@@ -1,0 +1,10 @@
+-- What is kept of a listed directory, and what it says: one that has nothing to list keeps no lists.
+use Rattle.std.specs.Prelude.{[]}
+use Rattle.std.specs.Box.{box_value}
+use Rattle.lc_walk.specs.RowViews.{ListedRowModel}
+use Rattle.lc_walk.specs.declared.row.RowParts.{RowParts}
+use Rattle.lc_walk.specs.declared.row.RowParts.TheVariants.{Bare, Full}
+
+abbrev pub listed_in : RowParts → ListedRowModel
+listed_in (Bare job entries) = record { job = job; entries = entries; files = []; faults = []; skipped = []; children = [] }
+listed_in (Full parts) = box_value parts
