@@ -11,7 +11,7 @@ use Rattle.lc_census.specs.Scan.{after, after_all}
 use Rattle.lc_census.specs.Cutting.{End, lf, cr_lf, cr, Line, Cutting, is_empty, starts_with_lf, same_end}
 use Rattle.lc_census.specs.Bytes.{is_lf, is_cr, is_end, is_space, is_nul, one_if}
 use Rattle.lc_census.specs.Census.{is_blank_text, class_of, has_end, count_of}
-use Rattle.lc_census.specs.declared.count.Count.{Count}
+use Rattle.lc_census.specs.declared.line_count.Count.{Count}
 use Rattle.std.specs.List.{count_by}
 use Rattle.std.proofs.lemmas.List.Sums.{sum_by-cons}
 use Rattle.std.proofs.lemmas.Bool.{cases_Bool}

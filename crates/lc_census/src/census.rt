@@ -4,7 +4,7 @@ ghost use Rattle.lc_census.specs.Bytes.{is_end};
 ghost use Rattle.lc_census.specs.Census.{IsCensus, class_of};
 ghost use Rattle.lc_census.specs.Fed.{LeadTo};
 
-use crate::count::{Count, Eol};
+use crate::line_count::{Count, Eol};
 use crate::scan::Scan;
 use crate::simd::scan_simd;
 use std::marker::Model;

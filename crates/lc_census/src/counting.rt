@@ -5,7 +5,7 @@ ghost use Rattle.lc_census.specs.declared.counting.CensusFault.TheVariants.{Memo
 ghost use Rattle.lc_census.specs.Limits.{buffer_len, max_turns};
 
 use crate::census::Census;
-use crate::count::Count;
+use crate::line_count::Count;
 use crate::source::Source;
 use std::alloc::{AllocError, Global};
 

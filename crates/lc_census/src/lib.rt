@@ -1,20 +1,20 @@
 //! Counts lines, blank lines, bytes and line endings of any reader's bytes, in whatever pieces they come.
 //!
 //! - `source`, `std_source`: where bytes come from, and what the reads of a call gave
-//! - `totals`: what a census says
+//! - `line_count`: what a census counts
 //! - `census`: the census of bytes that are fed piece by piece
 //! - `counting`: the census of all that a reader gives
 //! - `whole`: the bytes of a reader, up to a limit
-//! - `scan`, `plain`, `lanes`: the two bodies of the census, a byte at a time and by vectors, under one contract; they
+//! - `scan`, `scalar`, `simd`: the two bodies of the census, a byte at a time and by vectors, under one contract; they
 //!   are public for benchmarks alone
 //! - `trials`: readers for tests of any crate
 //! - `laws`: what is true of the definitions that the contracts cite
 #![tactic(auto)]
 
 mod census;
-mod count;
 mod counting;
 mod laws;
+mod line_count;
 mod scalar;
 mod scan;
 mod simd;
@@ -24,9 +24,9 @@ pub mod trials;
 mod whole;
 
 pub use census::Census;
-pub use count::{Count, Eol};
 pub use counting::{BUFFER_LEN, CensusFault, MAX_TURNS, count, count_in, count_within, new_buffer};
 pub use laws::{a_slice_gives_its_bytes, bytes_have_one_cutting, the_limits_are_these_numbers};
+pub use line_count::{Count, Eol};
 pub use scalar::scan_scalar;
 pub use scan::Scan;
 pub use simd::scan_simd;

@@ -3,7 +3,7 @@ use Rattle.std.proofs.Common.{◌≡◌, ◌≢◌, ℕ, Bool, true, false, cond
 use Rattle.std.proofs.Common.{None, Result, Ok, Err, codes, bytes_eq, append-nil, inl, inr, ◌⊎◌}
 use Rattle.std.specs.List.{AllByRecursion}
 use Rattle.std.specs.Prelude.{option_map}
-use Rattle.lc_census.specs.declared.count.Count.{Count}
+use Rattle.lc_census.specs.declared.line_count.Count.{Count}
 use Rattle.lc_glob.specs.Path.{path_in, depth_of}
 use Rattle.lc_level.specs.Answers.{Item, file_item, directory_item, other_item, name_of, entry_of, entries_of, Answers, Tree, Items}
 use Rattle.lc_level.specs.FaultLines.{FaultLineModel}

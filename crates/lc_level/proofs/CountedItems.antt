@@ -2,7 +2,7 @@
 use Rattle.std.proofs.Common.{◌≡◌, ℕ, Bool, true, false, ◌&&◌, ◌||◌, cond, List, [], ◌∷◌, ◌++◌, length, refl, sym, ◌∙◌, ap, subst, Some}
 use Rattle.std.proofs.Common.{Result, suc, if◌then◌else◌, bytes_eq}
 use Rattle.std.specs.List.{filter, flat_map, AllByRecursion}
-use Rattle.lc_census.specs.declared.count.Count.{Count}
+use Rattle.lc_census.specs.declared.line_count.Count.{Count}
 use Rattle.lc_glob.specs.Path.{path_in}
 use Rattle.lc_level.specs.Answers.{Item, file_item, directory_item, other_item, entry_of, entries_of}
 use Rattle.lc_level.specs.CountedNames.{AreCounted, file_fates}

@@ -4,7 +4,7 @@ use Rattle.std.specs.Global.{Global}
 use Rattle.std.specs.List.{flat_map}
 use Rattle.std.proofs.lemmas.Grind.{flat_map-append}
 use Rattle.std.specs.declared.alloc.AllocError.{AllocError}
-use Rattle.lc_census.specs.declared.count.Count.{Count}
+use Rattle.lc_census.specs.declared.line_count.Count.{Count}
 use Rattle.lc_glob.specs.Path.{path_in}
 use Rattle.lc_level.specs.CountedNames.{AreCounted, file_fates, AddsResult, AddsCounted, IsCounted}
 use Rattle.lc_level.specs.FileReads.{IsAnswer}

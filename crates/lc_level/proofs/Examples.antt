@@ -8,7 +8,7 @@ use Rattle.lc_level.specs.Examples.{Names, names_in, as_it_is, exported, small_n
 use Rattle.lc_census.specs.Census.{count_of}
 use Rattle.lc_census.proofs.OneCutting.{cut, cut_is}
 use Rattle.lc_census.specs.Cutting.{lf, Cutting, IsCutting, HasOneCutting}
-use Rattle.lc_census.specs.declared.count.Eol.TheVariants.{Lf}
+use Rattle.lc_census.specs.declared.line_count.Eol.TheVariants.{Lf}
 use Rattle.lc_glob.specs.IsMatch as IsMatch
 use Rattle.lc_rules.specs.Decision as Decision
 use Rattle.lc_level.specs.Level.{by_attribute, level_of}

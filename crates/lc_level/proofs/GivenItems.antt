@@ -2,7 +2,7 @@
 use Rattle.std.proofs.Common.{◌≡◌, ℕ, Bool, true, false, cond, ◌&&◌, ◌||◌, List, [], ◌∷◌, refl, sym, ◌∙◌, ap, subst, Option, Some, None}
 use Rattle.std.proofs.Common.{Result, map, bytes_eq, unwrap_or}
 use Rattle.std.specs.List.{AllByRecursion}
-use Rattle.lc_census.specs.declared.count.Count.{Count}
+use Rattle.lc_census.specs.declared.line_count.Count.{Count}
 use Rattle.lc_glob.specs.Path.{path_in}
 use Rattle.lc_level.specs.Answers.{Item, file_item, directory_item, other_item, entry_of, entries_of}
 use Rattle.lc_level.specs.EntryLooks.{has_file, has_dir}

@@ -5,7 +5,7 @@ use Rattle.std.specs.Global.{Global}
 use Rattle.std.specs.List.{flat_map, AllByRecursion}
 use Rattle.std.proofs.lemmas.List.{map-append}
 use Rattle.std.specs.declared.alloc.AllocError.{AllocError}
-use Rattle.lc_census.specs.declared.count.Count.{Count}
+use Rattle.lc_census.specs.declared.line_count.Count.{Count}
 use Rattle.lc_level.specs.CountedNames.{AreCounted, file_fates, IsCounted}
 use Rattle.lc_level.specs.CountedParts.{HaveCounted, Joins, files_of, faults_of, names_of}
 use Rattle.lc_level.specs.Job.{JobModel}

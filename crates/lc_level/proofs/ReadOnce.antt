@@ -4,7 +4,7 @@ use Rattle.std.proofs.Common.{subst, arith, length-append}
 use Rattle.std.specs.List.{concat}
 use Rattle.lc_census.specs.Census.{IsCensus, count_of}
 use Rattle.lc_census.specs.Cutting.{HasOneCutting}
-use Rattle.lc_census.specs.declared.count.Count.{Count}
+use Rattle.lc_census.specs.declared.line_count.Count.{Count}
 use Rattle.lc_level.specs.FileReads.{MayCount, MayReadRules}
 use Rattle.lc_tree.specs.Trees.{Content, AreSome, GivesContent}
 use Rattle.lc_level.specs.declared.fault_word.FaultWord.{FaultWord}

@@ -1,6 +1,6 @@
 -- What a tree answers for one directory. Nothing is said of its child directories but their names.
 use Rattle.std.specs.Prelude.{ℕ, List, [], map, Result, Ok}
-use Rattle.lc_census.specs.declared.count.Count.{Count}
+use Rattle.lc_census.specs.declared.line_count.Count.{Count}
 use Rattle.lc_tree.specs.Listing.{EntryModel}
 use Rattle.lc_tree.specs.declared.entry.Kind.TheVariants.{File, Dir, Other}
 use Rattle.lc_level.specs.declared.fault_word.FaultWord.{FaultWord}

@@ -4,7 +4,7 @@ use Rattle.std.specs.declared.alloc.Global.{Global}
 use Rattle.std.proofs.Math.Nat.{le_refl}
 use Rattle.std.proofs.lemmas.Bool.{ltb-true}
 use denote.RawPtr.{null_ptr}
-use Rattle.lc_census.specs.declared.count.Eol.TheVariants.{Lf}
+use Rattle.lc_census.specs.declared.line_count.Eol.TheVariants.{Lf}
 use Rattle.lc_level.specs.Answers.{Item, file_item, directory_item, other_item}
 use Rattle.lc_rules.specs.declared.rule_source.RuleSource.TheVariants.{Gitignore}
 use Rattle.lc_level.specs.Level.{named_git, by_rule, by_attribute, other_kind, SkippedModel, Level, faulted_level, listed_level, level}

@@ -3,7 +3,7 @@ use Rattle.std.specs.Prelude.{◌≡◌, ℕ, ◌≤◌, ◌<◌, ◌+◌, ◌^�
 use Rattle.std.specs.List.{concat}
 use Rattle.lc_census.specs.Census.{IsCensus}
 use Rattle.lc_census.specs.Reads.{at_end, at_failure, at_neither}
-use Rattle.lc_census.specs.declared.count.Count.{Count}
+use Rattle.lc_census.specs.declared.line_count.Count.{Count}
 use Rattle.lc_rules.specs.Limits.{max_rule_bytes}
 use Rattle.lc_tree.specs.MemTrees.{mem_gives}
 use Rattle.lc_tree.specs.OneAnswer.{content_at}

@@ -9,7 +9,7 @@ use Rattle.lc_rules.specs.IgnoreRules.{RuleModel}
 use Rattle.lc_rules.specs.Verdicts.{last_match}
 use Rattle.lc_rules.specs.declared.rule_source.RuleSource.{RuleSource}
 use Rattle.lc_rules.specs.declared.states.TextState.{TextState}
-use Rattle.lc_census.specs.declared.count.Count.{Count}
+use Rattle.lc_census.specs.declared.line_count.Count.{Count}
 use Rattle.lc_tree.specs.declared.entry.Kind.{Kind}
 use Rattle.lc_tree.specs.declared.entry.Kind.TheVariants.{File, Dir, Other}
 use Rattle.lc_level.specs.declared.fault_word.FaultWord.{FaultWord}

@@ -1,6 +1,6 @@
 -- Trees that answer each question in one way.
 use Rattle.std.specs.Prelude.{◌≡◌, ℕ, ◌<◌, ◌^◌, List, length, Result}
-use Rattle.lc_census.specs.declared.count.Count.{Count}
+use Rattle.lc_census.specs.declared.line_count.Count.{Count}
 use Rattle.lc_tree.specs.Listing.{EntryModel}
 use Rattle.lc_tree.specs.MemTrees.{mem_lists, mem_gives}
 use Rattle.lc_tree.specs.Paths.{names_of_path}

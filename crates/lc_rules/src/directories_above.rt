@@ -43,10 +43,10 @@ pub struct DirectoriesAbove<'a> {
     /// The rule that was found of the path, where it is known.
     own: Option<Option<&'a Rule>>,
     ghost within: { count ≤ 256 },
-    ghost decided: { (k : ℕ) → k < count → option_map (λ r. (Directory 0, r.now)) (slice_index_or found k None)
+    ghost decided: { (k : ℕ) → k < count → option_map (λ r. (Gitignore 0, r.now)) (slice_index_or found k None)
         ≡ last_match (at_depth 0 file.now) (take (slice_index_or ends k 0) path.now) true },
     ghost own_decided: { IsTrue is_whole → (o : Option (Bor RuleModel)) → own ≡ Some o
-        → option_map (λ r. (Directory 0, r.now)) o ≡ last_match (at_depth 0 file.now) path.now is_dir },
+        → option_map (λ r. (Gitignore 0, r.now)) o ≡ last_match (at_depth 0 file.now) path.now is_dir },
 }
 
 impl<'a> Model for DirectoriesAbove<'a> {

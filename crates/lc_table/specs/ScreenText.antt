@@ -2,8 +2,8 @@
 use Rattle.std.specs.Prelude.{ℕ, Bool, true, false, not, ◌||◌, if◌then◌else◌, List, [], ◌∷◌, ◌++◌, map, filter, codes, decimal, Option}
 use Rattle.std.specs.Prelude.{Some, None}
 use Rattle.std.specs.List.{list_any}
-use Rattle.lc_census.specs.declared.count.Eol.{Eol}
-use Rattle.lc_census.specs.declared.count.Eol.TheVariants.{Nul}
+use Rattle.lc_census.specs.declared.line_count.Eol.{Eol}
+use Rattle.lc_census.specs.declared.line_count.Eol.TheVariants.{Nul}
 use Rattle.lc_level.specs.FaultLines.{FaultLineModel}
 use Rattle.lc_level.specs.FaultWords.{fault_word}
 use Rattle.lc_text.specs.Visible.{visible_bytes, visible_path}

@@ -4,7 +4,7 @@ use Rattle.std.specs.Bool.{MatchBool}
 use Rattle.std.specs.List.Sorted.{IsPermutation, IsSorted}
 use Rattle.std.specs.Ordering.{nat_cmp, on, then_cmp}
 use Rattle.std.specs.declared.cmp.Ordering.{Ordering}
-use Rattle.lc_census.specs.declared.count.Eol.TheVariants.{NoEnd}
+use Rattle.lc_census.specs.declared.line_count.Eol.TheVariants.{NoEnd}
 use Rattle.lc_rules.specs.declared.states.TextState.TheVariants.{Unspecified}
 use Rattle.lc_text.specs.declared.table_options.Columns.{Columns}
 use Rattle.lc_text.specs.declared.table_options.SortBy.{SortBy}

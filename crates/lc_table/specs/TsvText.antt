@@ -1,8 +1,8 @@
 -- The text of a table with tabs: a header, a line for each key, the totals, the directories, the files, what was left out, the faults.
 use Rattle.std.specs.Prelude.{ℕ, Bool, if◌then◌else◌, List, [], ◌∷◌, ◌++◌, codes, decimal, Option, Some, None}
 use Rattle.std.specs.List.{flat_map}
-use Rattle.lc_census.specs.declared.count.Eol.{Eol}
-use Rattle.lc_census.specs.declared.count.Eol.TheVariants.{NoEnd, Lf, CrLf, Cr, Mixed, Nul}
+use Rattle.lc_census.specs.declared.line_count.Eol.{Eol}
+use Rattle.lc_census.specs.declared.line_count.Eol.TheVariants.{NoEnd, Lf, CrLf, Cr, Mixed, Nul}
 use Rattle.lc_rules.specs.declared.states.TextState.{TextState}
 use Rattle.lc_rules.specs.declared.states.TextState.TheVariants as text
 use Rattle.lc_walk.specs.TallyRows.{TallyRowModel}

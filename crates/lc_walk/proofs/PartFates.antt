@@ -1,7 +1,7 @@
 -- What the paths that are asked for don't decide: the fates of entries, and the faults of directories.
 use Rattle.std.proofs.Common.{◌≡◌, ℕ, true, false, List, [], ◌∷◌, refl, ap, subst, inl, inr, Option, Some, None, Result, Ok, Err}
 use Rattle.std.specs.Option.{option_map_or}
-use Rattle.lc_census.specs.declared.count.Count.{Count}
+use Rattle.lc_census.specs.declared.line_count.Count.{Count}
 use Rattle.lc_level.specs.Answers.{Item, file_item, directory_item, other_item, entry_of, name_of, Items, Answers}
 use Rattle.lc_level.specs.FaultLines.{FaultLineModel}
 use Rattle.lc_level.specs.Job.{JobModel}

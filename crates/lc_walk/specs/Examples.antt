@@ -1,7 +1,7 @@
 -- The definitions of a level, computed on a small directory.
 use Rattle.std.specs.Prelude.{◌≡◌, false, [], ◌∷◌, Ok, None, map, codes}
-use Rattle.lc_census.specs.declared.count.Count.{Count}
-use Rattle.lc_census.specs.declared.count.Eol.TheVariants.{Lf}
+use Rattle.lc_census.specs.declared.line_count.Count.{Count}
+use Rattle.lc_census.specs.declared.line_count.Eol.TheVariants.{Lf}
 use Rattle.lc_level.specs.Answers.{file_item, directory_item, other_item, Answers}
 use Rattle.lc_rules.specs.IgnoreChains.{no_ignore_files}
 use Rattle.lc_walk.specs.Found.{children_at}

@@ -5,7 +5,7 @@ use Rattle.lc_walk.specs.Key.{Key, same_key}
 use Rattle.lc_walk.specs.Sums.{plus, IsModest}
 use Rattle.lc_walk.specs.TallyRows.{TallyRowModel, sums_of_rows, rows_with, IsInOrder, Gains}
 use Rattle.lc_rules.specs.declared.states.TextState.{TextState}
-use Rattle.lc_census.specs.declared.count.Count.{Count}
+use Rattle.lc_census.specs.declared.line_count.Count.{Count}
 use Rattle.lc_walk.specs.declared.tally.sums.Sums.{Sums}
 
 -- what a tally needs of a counted file

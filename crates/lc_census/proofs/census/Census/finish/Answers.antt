@@ -2,7 +2,7 @@ use Rattle.std.proofs.Common.{◌≡◌, ◌+◌, ◌-◌, Bool, true, false, �
 use mir.Val.{bool_byte}
 use Rattle.lc_census.specs.Bytes.{one_if}
 use Rattle.lc_census.specs.Fed.{CensusModel}
-use Rattle.lc_census.specs.declared.count.Count.{Count}
+use Rattle.lc_census.specs.declared.line_count.Count.{Count}
 use Rattle.lc_census.proofs.OneCutting.{cut, cut_is}
 use Rattle.lc_census.proofs.Tells.{told, scan_tells}
 use Rattle.lc_census.proofs.census.Census.finish.Goals as goal
