@@ -14,7 +14,7 @@ use std::sync::Arc;
 /// What is asked, beside the paths, and how it is answered.
 ///
 /// ```
-/// let question = Question { exclude: None, selection: Selection::new(false, &[]), style: PathStyle::Escaped };
+/// let options = ExplainOptions { exclude: None, selection: Selection::new(false, &[]), style: PathStyle::Escaped };
 /// ```
 #[derive(Drop)]
 pub struct ExplainOptions<'o> {

@@ -70,7 +70,7 @@ impl<'t, T: Tree> Explainer<'t, T> {
         ensures exclude { IfOk result (λ e. e.exclude.now ≡ text_or_none options.entry.now.exclude) }
         ensures style { IfOk result (λ e. e.style ≡ options.entry.now.style) }
     {
-        let options = ReaderOptions {
+        let reading = ReaderOptions {
             left_out: false,
             texts: true,
         };

@@ -64,7 +64,7 @@ impl From<PrintFault> for ExplainFault {
 /// Reads paths to the input's end, at most `MAX_INPUT` bytes, and writes a line for each: what decides it in a tree.
 ///
 /// A line of the text is four fields with tabs between: a word, where that comes from, a pattern, and the line of paths as it came.
-/// Paths and patterns are printed in the question's style. One slash at a path's end means a directory; else the tree is asked, and what
+/// Paths and patterns are printed in the style of the options. One slash at a path's end means a directory; else the tree is asked, and what
 /// isn't there is taken for a file. The word is the first that holds on the way from the top down to the path of
 ///
 /// - `bad`: no entry of a tree can have this path;
@@ -85,8 +85,8 @@ impl From<PrintFault> for ExplainFault {
 ///
 /// ```
 /// let tree = SysTree::new(&rt, rt.alloc(), ".")?;
-/// let question = Question { exclude: None, selection: Selection::new(false, &[]), style: PathStyle::Escaped };
-/// let outcome = explain(rt.alloc(), &tree, &question, &mut b"a.log\nsrc/\n".as_slice(), &mut out)?;
+/// let options = ExplainOptions { exclude: None, selection: Selection::new(false, &[]), style: PathStyle::Escaped };
+/// let outcome = explain(rt.alloc(), &tree, &options, &mut b"a.log\nsrc/\n".as_slice(), &mut out)?;
 /// ```
 pub fn explain<T: Tree, S: Source, O: Sink>(
     alloc: Global,
