@@ -1,8 +1,8 @@
 //! What the words of a command line ask for, as `clap` reads them.
 //!
 //! - `request`: what is asked for, or why nothing is; the words that name no command
-//! - `count`, `check`, `explain`: the words of each command; `shape`: what a count's words say of its table, `paths`: which paths they
-//!   ask for
+//! - `count`, `check`, `explain`: the words of each command; `table_options`: what a count's words say of its table; `paths`: which
+//!   paths they ask for
 //! - `exclusions`: what leaves entries out, for counts and explanations; `arguments`: what several commands have
 //! - `refusals`: what is written of arguments that are refused; `suggestions`: what they may have meant
 //! - `help`: the texts of help and of the version
@@ -17,8 +17,8 @@ mod help;
 mod paths;
 mod refusals;
 mod request;
-mod shape;
 mod suggestions;
+mod table_options;
 
 pub use check::CheckRequest;
 pub use count::CountRequest;

@@ -3,7 +3,7 @@
 ghost use Rattle.std.specs.Prelude.{◌≡◌, ◌<◌, ◌++◌, IsAscii, IfOk, OnOk, decimal, option_map, replicate, string_bytes};
 ghost use Rattle.lc_table.specs.CellWords.{comma, visible_extension, with_commas};
 ghost use Rattle.lc_table.specs.Columns.{ending, number, text_at, width_at, width_of, word};
-ghost use Rattle.lc_table.specs.CellTexts.{cell_model, shown_text};
+ghost use Rattle.lc_table.specs.CellTexts.{cell_model, cells_of, shown_text};
 ghost use Rattle.lc_table.specs.SkippedWords.{skipped_path, reason_place};
 ghost use Rattle.lc_text.specs.RulePlaces.{rule_file, rule_place};
 ghost use Rattle.lc_text.specs.Visible.{visible_bytes, visible_path};
@@ -11,7 +11,7 @@ ghost use Rattle.lc_text.specs.Visible.{visible_bytes, visible_path};
 use crate::words::skipped_end;
 use lc_level::Reason;
 use lc_rules::RuleSource;
-use lc_text::{above, push_visible, push_visible_path};
+use lc_text::{push_visible, push_visible_path, source_directory, source_name};
 use lc_walk::SkippedLine;
 use std::alloc::AllocError;
 use unicode_width::UnicodeWidthStr;
@@ -91,14 +91,8 @@ fn push_extension(text: &mut String, extension: Option<&[u8]>) -> Result<(), All
 fn push_rule_file(text: &mut String, path: &[u8], source: RuleSource) -> Result<(), AllocError>
     ensures { OnOk result (string_bytes text.new ≡ string_bytes text.old ++ rule_file visible_bytes path.now source) }
 {
-    match source {
-        RuleSource::ExcludeFrom => text.push_str("--exclude-from"),
-        RuleSource::InfoExclude => text.push_str(".git/info/exclude"),
-        RuleSource::Gitignore(depth) => {
-            push_visible(text, above(path, depth))?;
-            text.push_str(".gitignore")
-        }
-    }
+    push_visible(text, source_directory(path, source))?;
+    text.push_str(source_name(source))
 }
 
 fn push_rule_place(
@@ -133,6 +127,25 @@ fn push_skipped_path(text: &mut String, skipped: &SkippedLine) -> Result<(), All
     text.push_str(skipped_end(skipped))
 }
 
+/// Appends cells to those of a line.
+pub(crate) fn push_all<'a>(cells: &mut Vec<Cell<'a>>, more: &[Cell<'a>]) -> Result<(), AllocError>
+    ensures { OnOk result (cells_of cells.new.items ≡ cells_of cells.old.items ++ cells_of more.now) }
+{
+    for cell in more {
+        cells.push(*cell)?;
+    }
+    Ok(())
+}
+
+/// Sets the cells to those of a line.
+pub(crate) fn set_cells<'a>(cells: &mut Vec<Cell<'a>>, line: &[Cell<'a>]) -> Result<(), AllocError>
+    ensures { OnOk result (cells_of cells.new.items ≡ cells_of line.now) }
+{
+    cells.clear();
+    push_all(cells, line)
+}
+
+/// Appends a character so many times.
 pub(crate) fn push_copies(text: &mut String, c: char, count: usize) -> Result<(), AllocError>
     requires { c < 128 }
     ensures { OnOk result (string_bytes text.new ≡ string_bytes text.old ++ replicate count c) }

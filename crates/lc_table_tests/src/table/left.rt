@@ -122,12 +122,12 @@ const CASES: &[Case] = &[
 fn left_out_in_each_format(rt: HostRuntime) -> Result<(), Fail> {
     let report = report_with(rt.alloc(), LEFT)?;
     for (format, header, lines) in CASES {
-        let shape = TableOptions {
+        let options = TableOptions {
             format: *format,
             ..TSV
         };
         assert!(rt;
-            has_parts(rt.alloc(), &report, shape, (header, b"", lines))?,
+            has_parts(rt.alloc(), &report, options, (header, b"", lines))?,
             "{format:?}"
         );
     }
