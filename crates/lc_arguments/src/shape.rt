@@ -1,4 +1,4 @@
-//! What the words ask a table to look like.
+//! The options of the table.
 
 ghost use Rattle.std.specs.Prelude.{◌≡◌, ◌≢◌, MatchOption, option_map};
 ghost use Rattle.clap.specs.Matches.{found_of};
@@ -15,7 +15,7 @@ use lc_glob::cut_at_first;
 use lc_text::{Columns, Format, SortBy, TableOptions};
 use std::alloc::Global;
 
-/// The format of a name.
+/// Reads the name of a format.
 fn format_named(name: &str) -> Option<Format>
     ensures { MatchOption result ((f : FormatModel) → format_word f ≢ name.entry.now) (λ f. format_word f ≡ name.entry.now) }
 {
@@ -27,7 +27,7 @@ fn format_named(name: &str) -> Option<Format>
     }
 }
 
-/// The number of a name.
+/// Returns the number of a column's name.
 fn sort_named(name: &str) -> Option<SortBy>
     ensures { MatchOption result ((s : SortModel) → sort_word s ≢ name.entry.now) (λ s. sort_word s ≡ name.entry.now) }
 {
@@ -40,7 +40,7 @@ fn sort_named(name: &str) -> Option<SortBy>
     }
 }
 
-/// The columns of some names with commas between them, each once.
+/// Reads the names of columns, separated by commas, each at most once.
 fn columns_named(names: &str) -> Option<Columns>
     ensures { MatchOption result ((c : ColumnsModel) → ¬ IsColumnsText names.entry.now c) (λ c. IsColumnsText names.entry.now c) }
 {
@@ -66,7 +66,7 @@ fn columns_named(names: &str) -> Option<Columns>
     Some(columns)
 }
 
-/// The shape that the values of the three options ask for.
+/// Reads the values of the three options.
 fn shape_of(
     alloc: Global,
     format: Option<&str>,
@@ -111,7 +111,7 @@ fn shape_of(
     Ok(TableOptions { format, by, sort })
 }
 
-/// The shape that was read.
+/// Takes the options that clap read.
 pub(crate) fn shape_in(alloc: Global, matches: &ArgMatches<'_>) -> Result<TableOptions, ParseExit>
     ensures { AnswersShapeIn (rows_of (found_of matches.now)) result }
 {
