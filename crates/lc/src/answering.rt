@@ -135,7 +135,7 @@ where
         without,
         only,
     };
-    let outcome = run(rt, rt.alloc(), &tree, &options, asked.shape, out)?;
+    let outcome = run(rt, rt.alloc(), &tree, &options, asked.table, out)?;
     Ok(outcome)
 }
 

@@ -9,7 +9,7 @@ use crate::arguments::{bare, flag, number_option, text_option, word};
 use crate::exclusions::{Exclusions, exclusion_options};
 use crate::paths::{only, paths_in};
 use crate::request::{ParseExit, explained};
-use crate::shape::shape_in;
+use crate::table::table_in;
 use crate::{help, suggestions};
 use clap::{Arg, Command, Error};
 use lc_text::TableOptions;
@@ -32,7 +32,7 @@ pub struct CountRequest<'w> {
     /// The paths to count, relative to DIR and without a slash at the end. None stands for all of DIR.
     pub only: Vec<&'w [u8]>,
     /// How the table is printed: by default as `Tsv`, by all columns, in the order of the keys.
-    pub shape: TableOptions,
+    pub table: TableOptions,
     /// The path of DIR, as it was given. `.` is the directory that the program runs in.
     pub directory: &'w str,
 }
@@ -138,8 +138,8 @@ impl<'w> CountRequest<'w> {
             Ok(only) => only,
             Err(no) => return Err(no),
         };
-        let shape = match shape_in(alloc, &matches) {
-            Ok(shape) => shape,
+        let table = match table_in(alloc, &matches) {
+            Ok(table) => table,
             Err(no) => return Err(no),
         };
         Ok(CountRequest {
@@ -149,7 +149,7 @@ impl<'w> CountRequest<'w> {
             left_out: matches.get_flag("left-out"),
             exclusions,
             only,
-            shape,
+            table,
             directory: matches.get_str("DIR").unwrap_or(""),
         })
     }

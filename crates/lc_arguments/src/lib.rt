@@ -1,7 +1,7 @@
 //! The command line, which clap reads.
 //!
 //! - `request`: what the program is asked to do, or why it does nothing; arguments without a command
-//! - `count`, `check`, `explain`: the options of each command; `shape`: those of the table; `paths`: those of `--only`
+//! - `count`, `check`, `explain`: the options of each command; `table`: those of the table; `paths`: those of `--only`
 //! - `exclusions`: what counts and explanations skip; `arguments`: the forms of options
 //! - `refusals`: the text of a refusal, as a terminal shows it; `suggestions`: what refused arguments may have meant
 //! - `help`: the texts of help and of the version
@@ -16,8 +16,8 @@ mod help;
 mod paths;
 mod refusals;
 mod request;
-mod shape;
 mod suggestions;
+mod table;
 
 pub use check::CheckRequest;
 pub use count::CountRequest;

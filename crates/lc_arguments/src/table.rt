@@ -6,8 +6,8 @@ ghost use Rattle.clap.specs.Walk.{rows_of};
 ghost use Rattle.lc_text.specs.declared.table_options.Columns.{Columns as ColumnsModel};
 ghost use Rattle.lc_text.specs.declared.table_options.Format.{Format as FormatModel};
 ghost use Rattle.lc_text.specs.declared.table_options.SortBy.{SortBy as SortModel};
-ghost use Rattle.lc_arguments.specs.Explained.{AnswersShape, AnswersShapeIn};
-ghost use Rattle.lc_arguments.specs.ShapeWords.{IsColumnsText, format_word, sort_word};
+ghost use Rattle.lc_arguments.specs.Explained.{AnswersTable, AnswersTableIn};
+ghost use Rattle.lc_arguments.specs.TableWords.{IsColumnsText, format_word, sort_word};
 
 use crate::request::{ParseExit, refused};
 use clap::ArgMatches;
@@ -67,13 +67,13 @@ fn columns_named(names: &str) -> Option<Columns>
 }
 
 /// Reads the values of the three options.
-fn shape_of(
+fn table_of(
     alloc: Global,
     format: Option<&str>,
     by: Option<&str>,
     sort: Option<&str>,
 ) -> Result<TableOptions, ParseExit>
-    ensures { AnswersShape (option_map (λ s. s.now) format.entry) (option_map (λ s. s.now) by.entry)
+    ensures { AnswersTable (option_map (λ s. s.now) format.entry) (option_map (λ s. s.now) by.entry)
         (option_map (λ s. s.now) sort.entry) result }
 {
     let word = format.unwrap_or("tsv");
@@ -112,11 +112,11 @@ fn shape_of(
 }
 
 /// Takes the options that clap read.
-pub(crate) fn shape_in(alloc: Global, matches: &ArgMatches<'_>) -> Result<TableOptions, ParseExit>
-    ensures { AnswersShapeIn (rows_of (found_of matches.now)) result }
+pub(crate) fn table_in(alloc: Global, matches: &ArgMatches<'_>) -> Result<TableOptions, ParseExit>
+    ensures { AnswersTableIn (rows_of (found_of matches.now)) result }
 {
     let format = matches.get_str("format");
     let by = matches.get_str("by");
     let sort = matches.get_str("sort");
-    shape_of(alloc, format, by, sort)
+    table_of(alloc, format, by, sort)
 }
