@@ -82,7 +82,7 @@ rules_in_turn old new (x ∷ xs) added fits a is =
     let fit = fits 0 x (omega arith) in
     let step = added.1 in
     let rest = rules_in_turn added.0 new xs added.2 (λ k d low. fits (suc k) d (omega arith)) (with_rule a (rule_of x))
-    (step.table fit.1 ∙ ap (λ (b : App). with_rule b (rule_of x)) is) in
+    (step.shape fit.1 ∙ ap (λ (b : App). with_rule b (rule_of x)) is) in
     (rest.0, λ local. rest.1 (step.globals ∙ (ap (λ b. b || x.global) local ∙ ap (λ b. false || b) fit.1)))
 
 fit_of : (rules : List Rule) (args : List Arg) → AreArgsOf rules args → All FitsChain args
@@ -125,7 +125,7 @@ subcommands_in_turn [] [] are a old new is added = subst (IsCommandOf a) added i
 subcommands_in_turn (app ∷ apps) (c ∷ commands) are a old new is added =
     let step = added.1 in
     subcommands_in_turn apps commands are.1 (with_subcommand a app.top) added.0 new (
-      step.table are.0.1 ∙ ap₂ with_subcommand is.0 (ap (λ (b : App). b.top) are.0.0),
+      step.shape are.0.1 ∙ ap₂ with_subcommand is.0 (ap (λ (b : App). b.top) are.0.0),
       step.globals ∙ ap₂ (λ (x y : Bool). x || y) is.1 are.0.1,
     ) added.2
 subcommands_in_turn [] (c ∷ commands) are a old new is added = absurd are
