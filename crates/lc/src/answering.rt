@@ -1,4 +1,4 @@
-//! What a request is answered, by what it reads.
+//! Answering each request.
 
 ghost use Rattle.std.specs.Prelude.{true, false};
 ghost use Rattle.lc_arguments.specs.Words.{IsWithinLimits, IsCountWithinLimits};
@@ -21,7 +21,7 @@ use std::rt::Files;
 use std::sync::Wait;
 use std::thread::Threads;
 
-/// Reads the rules of a file, and checks the paths of the input.
+/// Checks the paths of the input by the rules of a file, which is read first.
 fn check_plainly<R: Files + AllocGlobal, S: Source, O: Sink>(
     rt: &R,
     file: &str,
@@ -37,7 +37,7 @@ fn check_plainly<R: Files + AllocGlobal, S: Source, O: Sink>(
     Ok(Outcome::Clean)
 }
 
-/// Reads the rules of a file, and checks the paths of the input, each with the line of the rule that gives its word.
+/// Checks the paths of the input by the rules of a file, which is read first, and names the rule that decides each.
 fn check_explaining<R: Files + AllocGlobal, S: Source, O: Sink>(
     rt: &R,
     file: &str,
@@ -70,7 +70,7 @@ fn check_file<R: Files + AllocGlobal, S: Source, O: Sink>(
     }
 }
 
-/// Checks the paths of the input by the rules before them.
+/// Checks paths by rules, both from the input.
 fn check_input<S: Source, O: Sink>(
     alloc: Global,
     style: PathStyle,
@@ -83,7 +83,7 @@ fn check_input<S: Source, O: Sink>(
     Ok(Outcome::Clean)
 }
 
-/// The file that the words name for the whole tree, if they name one.
+/// Reads the file of `--exclude-from`, if the option is given.
 fn excluded<R: Files + AllocGlobal>(rt: &R, file: Option<&str>) -> Result<Option<RuleText>, Cause>
     ensures { AnswersExcluded (LoadsFile ⟦<StdSource<R::File> as Source>⟧.may_give) file.entry result }
 {
@@ -94,7 +94,7 @@ fn excluded<R: Files + AllocGlobal>(rt: &R, file: Option<&str>) -> Result<Option
     Ok(Some(text))
 }
 
-/// Counts a directory of the system.
+/// Counts a directory and prints the table.
 fn count<R: Files + Threads + Wait + Sync + AllocGlobal, O: Sink>(
     rt: &R,
     asked: &CountRequest<'_>,
@@ -127,7 +127,7 @@ where
     Ok(outcome)
 }
 
-/// Explains these paths in a directory of the system, or those of the input where there are none.
+/// Explains these paths, or those of the input if there are none.
 fn explain_paths<R: Files + Sync + AllocGlobal, S: Source, O: Sink>(
     rt: &R,
     tree: &SysTree<'_, R>,
@@ -149,7 +149,7 @@ where
     Ok(outcome)
 }
 
-/// Explains paths in a directory of the system.
+/// Explains paths of a directory, by its rules and the file of `--exclude-from`.
 fn explain_asked<R: Files + Sync + AllocGlobal, S: Source, O: Sink>(
     rt: &R,
     asked: &ExplainRequest<'_>,
@@ -173,7 +173,7 @@ where
     explain_paths(rt, &tree, &options, &asked.paths, input, out)
 }
 
-/// Answers a request. Paths are printed in a style, but in a table.
+/// Answers a request. `style` is how paths are printed, except in a table.
 pub(crate) fn answer<R: Files + Threads + Wait + Sync + AllocGlobal, S: Source, O: Sink>(
     rt: &R,
     request: &Request<'_>,

@@ -11,7 +11,7 @@ use Rattle.lc_rules.specs.AttrWords.{is_name}
 use Rattle.lc_text.specs.declared.table_options.TableOptions.{TableOptions}
 use Rattle.lc_arguments.specs.CommandLine.{count_app, explain_app}
 use Rattle.lc_arguments.specs.Explained.{AnswersCountWords, AnswersExclusions, AnswersExplainWords}
-use Rattle.lc_arguments.specs.Explained.{AnswersNames, AnswersTableOptions, AnswersTableOptionsIn}
+use Rattle.lc_arguments.specs.Explained.{AnswersNames, AnswersTable, AnswersTableIn}
 use Rattle.lc_arguments.specs.Explained.{AnswersPathsIn, IsRefusal}
 use Rattle.lc_arguments.specs.Words.{AskNothing, texts_read}
 use Rattle.lc_arguments.specs.declared.request.ParseExit.{ParseExit}
@@ -29,13 +29,13 @@ one_misnamed (name ∷ names) zero d low bad = ap (λ b. b && list_all is_name (
 one_misnamed (name ∷ names) (suc k) d low bad =
     ap (λ b. is_name name.now && b) (one_misnamed names k d (omega arith) bad) ∙ and_false (is_name name.now)
 
--- what is answered to the same texts of the options of a table
+-- what is answered to the same texts of a table
 pub answers_table_as : (format by sort format' by' sort' : Option (List ℕ)) (answer : Result TableOptions ParseExit) → format' ≡ format
-    → by' ≡ by → sort' ≡ sort → AnswersTableOptions format' by' sort' answer → AnswersTableOptions format by sort answer
+    → by' ≡ by → sort' ≡ sort → AnswersTable format' by' sort' answer → AnswersTable format by sort answer
 answers_table_as format by sort format' by' sort' answer f b o is =
-    subst (λ (t : Option (List ℕ)). AnswersTableOptions t by sort answer) f
-    (subst (λ (t : Option (List ℕ)). AnswersTableOptions format' t sort answer) b
-    (subst (λ (t : Option (List ℕ)). AnswersTableOptions format' by' t answer) o is))
+    subst (λ (t : Option (List ℕ)). AnswersTable t by sort answer) f
+    (subst (λ (t : Option (List ℕ)). AnswersTable format' t sort answer) b
+    (subst (λ (t : Option (List ℕ)). AnswersTable format' by' t answer) o is))
 
 -- they are refused for that
 pub refused_for : (names : List (List ℕ)) (why : ParseExit) → IsRefusal why → list_all is_name names ≡ false → AnswersNames names (Err why)
@@ -71,9 +71,9 @@ paths_refused_for words (Shown text) fine bad = absurd bad
 paths_refused_for words (Refused text) fine bad = inr (fine, inr (inl bad))
 paths_refused_for words Memory fine bad = tt
 
--- and those that ask for no option of a table
+-- and those that ask for no table
 pub table_refused_for : (words : List (List ℕ)) (why : ParseExit) → fault_of count_app words ≡ []
-    → AnswersTableOptionsIn (matches_of count_app words) (Err why) → AnswersCountWords words (Err why)
+    → AnswersTableIn (matches_of count_app words) (Err why) → AnswersCountWords words (Err why)
 table_refused_for words (Shown text) fine bad = absurd bad
 table_refused_for words (Refused text) fine bad = inr (fine, inr (inr bad))
 table_refused_for words Memory fine bad = tt

@@ -6,7 +6,7 @@ ghost use Rattle.lc_explain.specs.OpenDirs.{text_or_none};
 use lc_level::{RuleText, Selection};
 use lc_text::PathStyle;
 
-/// The options of an explanation: what it is asked besides the paths, and how they are printed.
+/// The options of an explanation.
 ///
 /// ```
 /// let options = ExplainOptions { exclude: None, selection: Selection::new(false, &[]), style: PathStyle::Escaped };
@@ -15,14 +15,15 @@ use lc_text::PathStyle;
 pub struct ExplainOptions<'o> {
     /// Rules for the whole tree, which every `.gitignore` overrides, as Git's `core.excludesFile` (gitignore(5)).
     pub exclude: Option<RuleText>,
-    /// What is skipped besides what rules ignore, by its attributes. All paths take part, whatever the selection was narrowed to.
+    /// The attributes by which a walk skips entries that no rule ignores. Every path may be asked about: the paths of `--only` in it
+    /// are not looked at.
     pub selection: Selection<'o>,
     /// How paths and patterns are printed.
     pub style: PathStyle,
 }
 
 impl<'o> ExplainOptions<'o> {
-    /// The text of the exclude file; empty where there is none.
+    /// Returns the bytes of the exclude file, or none if there is no such file.
     pub(crate) fn exclude_text(&self) -> &[u8]
         ensures { result.now ≡ text_or_none self.now.exclude }
     {
