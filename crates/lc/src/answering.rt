@@ -7,7 +7,8 @@ ghost use Rattle.lc.specs.Requests.{AnswersPaths, AnswersExplanation};
 
 use crate::cause::Cause;
 use crate::rules_file::rule_text_of_file;
-use lc_arguments::{CheckRequest, CountRequest, ExplainRequest, Request};
+use lc_arguments::{CheckRequest, CountRequest, ExplainRequest, MAX_DIRS, MAX_THREADS, Request};
+use lc_board::limits::{MAX_CAPACITY, MAX_WORKERS};
 use lc_census::{Source, StdSource};
 use lc_check::{check, check_explained, check_joined};
 use lc_explain::{ExplainOptions, explain, explain_words};
@@ -20,6 +21,9 @@ use std::alloc::Global;
 use std::rt::Files;
 use std::sync::Wait;
 use std::thread::Threads;
+
+// A count may be asked for as many threads and directories as a walk can have.
+const _: () = prove!(MAX_THREADS == MAX_WORKERS && MAX_DIRS == MAX_CAPACITY);
 
 /// Checks the paths of the input by the rules of a file, which is read first.
 fn check_plainly<R: Files + AllocGlobal, S: Source, O: Sink>(
