@@ -1,6 +1,6 @@
 //! What the rules say of one path after another.
 //!
-//! Paths come in runs that share their directories, so what the rules say of these is asked once for a run.
+//! Paths come in runs that share their directories, so the rules are matched with these once for a run.
 
 ghost use Rattle.std.specs.Prelude.{◌≡◌, ℕ, ◌<◌, ◌≤◌, length, take, option_map, false, IfSome, MatchOption};
 ghost use Rattle.lc_check.specs.CheckText.{file_verdict, is_ignored, is_ignored_parent, IsClearTo, path_word};
@@ -14,13 +14,13 @@ use lc_rules::{DirectoriesAbove, IgnoreFile, Rule, Verdict};
 use lc_text::is_bad_path;
 use memchr::memchr;
 
-/// Of so many names of which nothing is known, the directories are asked about one by one even where a rule searches.
+/// Up to so many unknown names the directories above a path are matched one by one, even where a rule searches in paths.
 const FEW_NAMES: usize = 2;
 
-/// And of so many where none does: of more, most rules tell all at once sooner than one after another.
+/// Up to so many where no rule searches: past it, most rules match all directories together sooner than one after another.
 const SOME_NAMES: usize = 8;
 
-/// How many bytes two paths share at their front.
+/// Returns the number of bytes that two paths share at their front.
 fn shared_len(one: &[u8], other: &[u8]) -> usize
     ensures within_one { result ≤ length one.now }
     ensures within_other { result ≤ length other.now }
@@ -39,7 +39,7 @@ fn is_ignored(verdict: Verdict) -> bool
     matches!(verdict, Verdict::Ignored)
 }
 
-/// The rule that ignores a directory, if it is ignored.
+/// Returns the rule that ignores a directory, if it is ignored.
 fn ignoring<'a>(rules: &'a IgnoreFile, directory: &[u8]) -> Option<&'a Rule>
     ensures { option_map (λ r. r.now) result ≡ ignoring_rule rules.now directory.now }
 {
@@ -51,8 +51,8 @@ fn ignoring<'a>(rules: &'a IgnoreFile, directory: &[u8]) -> Option<&'a Rule>
     }
 }
 
-/// The rule that ignores the directory of so many bytes of a path, if it is ignored: by what was told of all directories above the
-/// path at once, where they were asked so. `place` of them stand above this one.
+/// Returns the rule that ignores the directory of so many bytes of a path, if it is ignored. Where all directories above the path were
+/// matched together, the rule is taken from there; `place` of them are above this one.
 fn ignoring_among<'a>(
     rules: &'a IgnoreFile,
     above: Option<&DirectoriesAbove<'a>>,
@@ -75,7 +75,7 @@ fn ignoring_among<'a>(
     }
 }
 
-/// What is found of a path by the rule that ignores the highest ignored directory above it.
+/// Returns what the rules say of a path, by the rule that ignores the highest ignored directory above it.
 fn found_below<'a>(
     rules: &'a IgnoreFile,
     above: Option<&'a Rule>,
@@ -93,13 +93,13 @@ fn found_below<'a>(
     }
 }
 
-/// Rules, and what is known of the directories above the path that was asked about last.
+/// The rules of a file, and what they say of the directories above the last path.
 #[derive(Drop)]
 pub(crate) struct Checker<'a> {
     rules: &'a IgnoreFile,
     directory: &'a [u8],
     excluded_by: Option<&'a Rule>,
-    /// Of so many names of which nothing is known, the directories are asked about one by one.
+    /// Up to so many unknown names the directories are matched one by one.
     few_names: usize,
     // no directory above this one is ignored, and the rule is the one that ignores this one
     ghost clear: { (k : ℕ) → k < length directory.now → is_ignored_parent (file_verdict rules.now) directory.now k ≡ false },
@@ -107,7 +107,7 @@ pub(crate) struct Checker<'a> {
 }
 
 impl<'a> Checker<'a> {
-    /// Nothing is known of any directory yet.
+    /// Makes a checker that knows of no directory yet.
     pub(crate) fn new(rules: &'a IgnoreFile) -> Self
         ensures { result.rules.now ≡ rules.now }
     {
@@ -123,6 +123,7 @@ impl<'a> Checker<'a> {
         }
     }
 
+    /// Returns what the rules say of a path.
     pub(crate) fn find(&mut self, path: &'a [u8], is_dir: bool) -> Finding<'a>
         ensures word { finding_word result ≡ path_word (file_verdict self.old.rules.now) path.now is_dir }
         ensures rule { finding_rule result ≡ path_rule self.old.rules.now path.now is_dir }
@@ -141,8 +142,8 @@ impl<'a> Checker<'a> {
         found_below(self.rules, above, path, is_dir)
     }
 
-    /// The same, where so many bytes are known to stand below no ignored directory, and the path is asked about at once with the
-    /// directories above it.
+    /// Like `find`, but matches the path together with all directories above it. So many bytes of it are known to be below no ignored
+    /// directory.
     #[inline(never)]
     fn find_at_once(&mut self, path: &'a [u8], is_dir: bool, known: usize) -> Finding<'a>
         requires good { is_bad_path path.now ≡ false }
@@ -159,8 +160,8 @@ impl<'a> Checker<'a> {
         }
     }
 
-    /// How many bytes of the path are known to stand below no ignored directory, or none where the last directory is
-    /// ignored and stands above the path.
+    /// Returns how many bytes of the path are known to be below no ignored directory, or none if the last directory is ignored and is
+    /// above the path.
     fn clear_len(&self, path: &[u8]) -> Option<usize>
         ensures { MatchOption result (IsIgnoringAbove self.now.rules.now path.now self.now.excluded_by)
             (λ len. IsClearTo (file_verdict self.now.rules.now) path.now len) }
@@ -179,8 +180,8 @@ impl<'a> Checker<'a> {
         Some(shared + 1)
     }
 
-    /// The rule that ignores the highest ignored directory above the path, if one above it is ignored, where so many bytes are known
-    /// to stand below none. They were asked about at once or are now asked about one by one; `place` of them are known.
+    /// Returns the rule that ignores the highest ignored directory above the path, if one above it is ignored. So many bytes are known to
+    /// be below none. The directories were matched together, or are matched here one by one; `place` of them are known.
     fn ignoring_from(
         &mut self,
         path: &'a [u8],

@@ -16,7 +16,7 @@ use lc_text::{Block, PathStyle, PrintFault, Sink, push_styled, split_line, split
 use std::alloc::{AllocError, Global};
 use std::io::Write;
 
-/// A file of rules as it is told of: its name, what each of its lines is read as, and the style in which they are printed.
+/// A file of rules as it is printed: its name, what each of its lines is read as, and a style.
 #[derive(Drop)]
 pub(crate) struct RuleLines<'a> {
     name: &'a [u8],
@@ -36,10 +36,10 @@ impl<'a> RuleLines<'a> {
         ensures { IfOk result (λ lines. (lines.name.now ≡ name.now) × (lines.rules.now ≡ rules.now) × (lines.style ≡ style)) }
     {
         let mut texts = Vec::new(alloc);
-        let mut left = Lines::of(rules.bytes());
-        'lines: while let Some((line, others)) = left.split_first() {
+        let mut rest = Lines::of(rules.bytes());
+        'lines: while let Some((line, others)) = rest.split_first() {
             texts.push(text_of_line(line))?;
-            left = others;
+            rest = others;
         }
         Ok(RuleLines {
             name,
@@ -49,7 +49,7 @@ impl<'a> RuleLines<'a> {
         })
     }
 
-    /// What the line of a rule is read as.
+    /// Returns what the line of a rule is read as.
     fn text(&self, rule: &Rule) -> &'a [u8]
         requires { IsOnLine (lines_of self.now.rules.now) rule.now }
         ensures { result.now ≡ line_text self.now.rules.now rule.now.line }
@@ -57,7 +57,7 @@ impl<'a> RuleLines<'a> {
         self.texts[rule.line() as usize - 1]
     }
 
-    /// Appends where a rule stands and the text of its line, or a dash for each.
+    /// Appends where a rule is and the text of its line, or a dash for each.
     fn push_rule(&self, rule: Option<&Rule>, text: &mut Vec<u8>) -> Result<(), AllocError>
         requires { IfSome rule (λ r. IsOnLine (lines_of self.now.rules.now) r.now) }
         ensures { OnOk result (text.new.items ≡ text.old.items

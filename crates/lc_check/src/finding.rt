@@ -1,4 +1,4 @@
-//! What is found of a path.
+//! What the rules of a file say of a path.
 
 ghost use Rattle.std.specs.Prelude.{◌≡◌, option_map};
 ghost use Rattle.lc_check.specs.CheckText.{verdict_word};
@@ -16,12 +16,12 @@ fn verdict_word(verdict: Verdict) -> &'static str
     }
 }
 
-/// What is found of a path, the first that holds.
+/// What the rules of a file say of a path: the first that holds.
 #[derive(Clone, Copy)]
 pub(crate) enum Finding<'a> {
     /// No entry of a tree can have this path.
     Bad,
-    /// Of the ignored directories above it the highest is ignored by this rule.
+    /// A directory above it is ignored: the highest such one by this rule.
     Below(&'a Rule),
     /// The rule that decides it, if any does.
     Decided(Option<&'a Rule>),
@@ -39,7 +39,7 @@ impl<'a> Finding<'a> {
         }
     }
 
-    /// The rule that gives the word.
+    /// Returns the rule that gives the word.
     pub(crate) fn rule(self) -> Option<&'a Rule>
         ensures { option_map (λ r. r.now) result ≡ finding_rule self.entry }
     {

@@ -11,20 +11,20 @@ fn is_dashes(line: &[u8]) -> bool
     line == b"--".as_slice() || line == b"--\r".as_slice()
 }
 
-/// The rules before the first line of two dashes and the paths after it, or all bytes as rules and no paths.
+/// Splits an input at its first line of two dashes into rules and paths. Without such a line all of it is rules.
 pub(crate) fn split_joined(bytes: &[u8]) -> (&[u8], &[u8])
     ensures rules { result.0.now ≡ rules_part bytes.now }
     ensures paths { result.1.now ≡ paths_part bytes.now }
 {
-    let mut left = bytes;
+    let mut rest = bytes;
     'lines: loop {
-        let (line, others) = cut_at_first(b'\n', left);
+        let (line, others) = cut_at_first(b'\n', rest);
         if is_dashes(line) {
-            return (&bytes[..bytes.len() - left.len()], others.unwrap_or(&[]));
+            return (&bytes[..bytes.len() - rest.len()], others.unwrap_or(&[]));
         }
-        let Some(rest) = others else {
+        let Some(after) = others else {
             return (bytes, &[]);
         };
-        left = rest;
+        rest = after;
     }
 }

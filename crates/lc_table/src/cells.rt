@@ -1,4 +1,4 @@
-//! A cell of a table in columns: what it shows, and where.
+//! The cells of a table in columns.
 
 ghost use Rattle.std.specs.Prelude.{◌≡◌, ◌<◌, ◌++◌, IsAscii, IfOk, OnOk, decimal, option_map, replicate, string_bytes};
 ghost use Rattle.lc_table.specs.CellWords.{comma, visible_extension, with_commas};
@@ -16,7 +16,7 @@ use lc_walk::SkippedLine;
 use std::alloc::AllocError;
 use unicode_width::UnicodeWidthStr;
 
-/// Where in its column a cell stands.
+/// The side of its column at which a cell is.
 #[derive(Debug, Clone, Copy, PartialEq, Eq)]
 pub(crate) enum Side {
     Left,
@@ -25,7 +25,7 @@ pub(crate) enum Side {
     End,
 }
 
-/// What a cell shows.
+/// The content of a cell.
 #[derive(Clone, Copy)]
 pub(crate) enum Shown<'a> {
     Word(&'static str),
@@ -33,9 +33,9 @@ pub(crate) enum Shown<'a> {
     /// The extension of a name.
     Extension(Option<&'a [u8]>),
     Path(&'a [u8]),
-    /// Where the rule stands by which an entry is left out, or the attribute's name.
+    /// Where the rule is by which an entry is skipped, or the attribute's name.
     SkippedPlace(&'a SkippedLine),
-    /// The path of an entry left out.
+    /// The path of a skipped entry.
     SkippedPath(&'a SkippedLine),
 }
 
@@ -172,7 +172,7 @@ impl Shown<'_> {
         }
     }
 
-    /// Makes the text, in place of what `made` had, and says how wide it is.
+    /// Makes the text, in place of what `made` had, and returns its width in columns of a terminal.
     fn make(&self, made: &mut String) -> Result<usize, AllocError>
         ensures text { OnOk result (string_bytes made.new ≡ shown_text self.now) }
         ensures width { IfOk result (λ width. width ≡ width_of (shown_text self.now)) }
@@ -193,7 +193,7 @@ impl<'a> Cell<'a> {
         }
     }
 
-    /// The name of a column of numbers.
+    /// Makes the heading of a column of numbers.
     pub(crate) fn heading(text: &'static str) -> Cell<'a>
         ensures { cell_model result ≡ number text.now }
     {
@@ -203,7 +203,7 @@ impl<'a> Cell<'a> {
         }
     }
 
-    /// The name of the last column, where that is one of paths.
+    /// Makes the heading of the last column, if that is one of paths.
     pub(crate) fn last_heading(text: &'static str) -> Cell<'a>
         ensures { cell_model result ≡ ending text.now }
     {
@@ -258,7 +258,7 @@ impl<'a> Cell<'a> {
         }
     }
 
-    /// How wide its column must be for it.
+    /// Returns how wide its column must be for it.
     pub(crate) fn width(&self, made: &mut String) -> Result<usize, AllocError>
         ensures { IfOk result (λ width. width ≡ width_at (cell_model self.now).side (cell_model self.now).text) }
     {
@@ -268,7 +268,7 @@ impl<'a> Cell<'a> {
         }
     }
 
-    /// Appends it as it stands in a column of this width.
+    /// Appends it as it is shown in a column of this width.
     pub(crate) fn push_in(
         &self,
         width: usize,

@@ -1,4 +1,4 @@
-//! What was left out, as JSON.
+//! The list of skipped entries as JSON.
 
 ghost use Rattle.std.specs.Prelude.{◌≡◌, ◌++◌, codes, map, OnOk};
 ghost use Rattle.json.specs.Tree.{json_tokens};

@@ -1,4 +1,4 @@
-//! The text of a table for a person, in columns.
+//! The text of a table in columns, for reading.
 
 ghost use Rattle.std.specs.Prelude.{◌≡◌, ◌++◌, [], ◌∷◌, IfOk, OnOk, string_bytes};
 ghost use Rattle.lc_table.specs.CellTexts.{cells_of};
@@ -71,7 +71,9 @@ fn push_counts(
     Ok(())
 }
 
-/// What is listed comes first, and the rows with their sums last, so that a terminal shows them. Paths are shown as
+/// Makes the text of a report in columns.
+///
+/// Lists come first, and the rows with their sums last, so that a terminal shows them. Paths are shown as
 /// [`push_visible`](lc_text::push_visible) has them.
 pub(crate) fn screen_text(
     alloc: Global,

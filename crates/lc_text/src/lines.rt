@@ -5,7 +5,7 @@ ghost use Rattle.lc_text.specs.Lines.{input_lines_of};
 
 use lc_glob::cut_at_first;
 
-/// The first line, and what follows it.
+/// Splits bytes into their first line, without its line feed, and what follows it.
 pub fn split_line(bytes: &[u8]) -> (&[u8], &[u8])
     requires { 0 < length bytes.now }
     ensures lines { input_lines_of bytes.now ≡ result.0.now ∷ input_lines_of result.1.now }

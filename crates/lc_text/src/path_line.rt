@@ -1,11 +1,11 @@
-//! A line that names a path.
+//! Lines that name paths.
 
 ghost use Rattle.std.specs.Prelude.{◌≡◌};
 ghost use Rattle.lc_text.specs.PathLines.{is_dir_line, path_of, is_bad_path};
 
 use lc_glob::path::{is_good_path, is_too_long};
 
-/// The path of a line, without one slash at its end, and whether it has one: that means a directory.
+/// Splits a line into its path and whether a slash follows it, which means a directory.
 pub fn split_slash(line: &[u8]) -> (&[u8], bool)
     ensures path { result.0.now ≡ path_of line.now }
     ensures dir { result.1 ≡ is_dir_line line.now }
@@ -16,7 +16,7 @@ pub fn split_slash(line: &[u8]) -> (&[u8], bool)
     }
 }
 
-/// Whether no entry of a tree can have this path, or it is too long.
+/// Returns whether no entry of a tree can have this path, or it has over 4,096 bytes.
 pub fn is_bad_path(path: &[u8]) -> bool
     ensures { result ≡ is_bad_path path.now }
 {

@@ -1,4 +1,4 @@
-//! Where a rule is, as it is printed.
+//! The places of rules, as they are printed.
 
 ghost use Rattle.std.specs.Prelude.{◌≡◌, ◌≤◌, ◌++◌, length, OnOk};
 ghost use Rattle.std.specs.List.{after_first};

@@ -6,12 +6,12 @@ use Rattle.lc_text.specs.Lines.{with_feed}
 use Rattle.lc_check.proofs.joined.split_joined.Given as goal
 
 abbrev pub decreases-lines : goal.decreases-lines
-decreases-lines l = length l.left
+decreases-lines l = length l.rest
 
 abbrev pub invariant-lines : goal.invariant-lines
 invariant-lines l = record {
   front : List (List ℕ);
-  whole : l.bytes ≡ flat_map with_feed front ++ l.left;
-  pieces : pieces_of 10 l.bytes ≡ front ++ pieces_of 10 l.left;
+  whole : l.bytes ≡ flat_map with_feed front ++ l.rest;
+  pieces : pieces_of 10 l.bytes ≡ front ++ pieces_of 10 l.rest;
   plain : list_any is_dashes front ≡ false;
 }
