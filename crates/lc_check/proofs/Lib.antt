@@ -1,6 +1,6 @@
 pub mod Directories
 pub mod Ignoring
-pub mod Explained
+pub mod ExplainedLines
 pub mod GivenWords
 pub mod Dashes
 pub mod Stopping

@@ -115,9 +115,7 @@ impl RuleText {
 }
 
 /// Shares the rules of the file for the whole tree with another owner, if there is such a file.
-pub fn exclude_rules(
-    text: &Option<RuleText>,
-) -> Result<Option<Arc<IgnoreFile, Global>>, AllocError>
+pub fn exclude_rules(text: &Option<RuleText>) -> Result<Option<Arc<IgnoreFile, Global>>, AllocError>
     ensures { IfOk result (λ rules. shared rules ≡ option_map rules_of text.now) }
 {
     match text {

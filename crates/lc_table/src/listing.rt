@@ -89,6 +89,7 @@ fn fault_cells(fault: &FaultLine) -> [Cell<'_>; 2]
 
 impl Listed for FileLine {
     ghost line_cells = { file_cells };
+
     ghost heading_cells = { file_headings };
 
     fn set_headings(cells: &mut Vec<Cell<'_>>) -> Result<(), AllocError> {
@@ -102,6 +103,7 @@ impl Listed for FileLine {
 
 impl Listed for SkippedLine {
     ghost line_cells = { skipped_cells };
+
     ghost heading_cells = { skipped_headings };
 
     fn set_headings(cells: &mut Vec<Cell<'_>>) -> Result<(), AllocError> {
@@ -115,6 +117,7 @@ impl Listed for SkippedLine {
 
 impl Listed for FaultLine {
     ghost line_cells = { fault_cells };
+
     ghost heading_cells = { fault_headings };
 
     fn set_headings(cells: &mut Vec<Cell<'_>>) -> Result<(), AllocError> {

@@ -3,7 +3,7 @@ use Rattle.std.proofs.lemmas.Bool.{eqb-true}
 use Rattle.lc_check.specs.ExplainedText.{explained_line, explained_text_of}
 use Rattle.lc_text.specs.Pieces.{AnswersInPieces}
 use Rattle.lc_text.specs.Styles.{styled}
-use Rattle.lc_check.proofs.Explained.{line_more, line_none}
+use Rattle.lc_check.proofs.ExplainedLines.{line_more, line_none}
 use Rattle.lc_text.proofs.InPieces.{all_but-appended, all_but-printed, all_but-faulted, all_but-answered}
 use Rattle.lc_check.proofs.Stopping.{is_fault}
 use Rattle.lc_text.specs.declared.printing.PrintFault.{PrintFault}

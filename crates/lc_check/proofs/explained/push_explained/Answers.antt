@@ -3,7 +3,7 @@ use Rattle.std.specs.Prelude.{option_map}
 use Rattle.lc_check.specs.CheckText.{file_verdict, path_word}
 use Rattle.lc_check.specs.ExplainedText.{path_rule, rule_fields}
 use Rattle.lc_text.specs.Styles.{styled}
-use Rattle.lc_check.proofs.Explained.{found_on_line, fields_found, six_pieces}
+use Rattle.lc_check.proofs.ExplainedLines.{found_on_line, fields_found, six_pieces}
 use Rattle.lc_text.proofs.Appended.{last_piece}
 use Rattle.lc_check.proofs.explained.push_explained.Goals as goal
 

@@ -2,7 +2,7 @@ use Rattle.std.proofs.Common.{◌-◌, ◌∙◌, [], ap, arith}
 use Rattle.std.specs.List.{slice_index_or}
 use Rattle.lc_rules.specs.IgnoreRules.{text_of_line}
 use Rattle.lc_rules.specs.RuleLines.{lines_of}
-use Rattle.lc_check.proofs.Explained.{text_at}
+use Rattle.lc_check.proofs.ExplainedLines.{text_at}
 use Rattle.lc_check.proofs.explained.RuleLines.text.Goals as goal
 
 pub returns : goal.returns

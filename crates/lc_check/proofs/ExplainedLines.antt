@@ -1,9 +1,9 @@
 -- The text of an explained check, line by line.
 use Rattle.std.proofs.Common.{◌≡◌, ℕ, Bool, true, false, cond, List, [], ◌∷◌, ◌++◌, Option, Some, None, IfSome, MatchOption, Bor, length}
 use Rattle.std.proofs.Common.{map, append-nil}
-use Rattle.std.proofs.Common.{get_or, ◌<◌, Result, Ok, Err, is_ok, if◌then◌else◌, sym, ap, ap₂, ◌∙◌, subst, codes, arith, append_assoc}
+use Rattle.std.proofs.Common.{get_or, ◌<◌, sym, ap, ap₂, ◌∙◌, subst, codes, arith, append_assoc}
 use Rattle.std.proofs.Common.{length-append}
-use Rattle.std.specs.Prelude.{option_map, OnOk}
+use Rattle.std.specs.Prelude.{option_map}
 use Rattle.std.specs.List.{All, list_any, flat_map}
 use Rattle.std.proofs.Math.Seq.{get_or-append_seam}
 use Rattle.std.proofs.lemmas.List.{get_or-map, length-map, nil_from_length}
