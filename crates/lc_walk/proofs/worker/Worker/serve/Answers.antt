@@ -15,7 +15,7 @@ returns-in-Err-Faulted-clause-serves g c =
     rw (c.fault.ensures.mine, c.of-job-in-Err-Faulted.ensures, c.in-Err-Faulted.site-is, c.in-Err-Faulted.word-is)
     (serves_faulted ask (lists tree) (gives tree) _ c.args.job c.in-Err-Faulted.site c.in-Err-Faulted.word c.args.tally.now c.requires.1
     (subst (λ s. OpensLevel (lists tree) (gives tree) ask.lists.left_out s c.args.job at_fault) c.levels-levels.ensures.selection
-    (subst (λ k. OpensLevel (lists tree) (gives tree) k c.levels-levels.result.selection c.args.job at_fault) c.levels-levels.ensures.kept
+    (subst (λ k. OpensLevel (lists tree) (gives tree) k c.levels-levels.result.selection c.args.job at_fault) c.levels-levels.ensures.options
     (subst (λ t. OpensLevel (lists t) (gives t) c.levels-levels.result.options.left_out c.levels-levels.result.selection c.args.job at_fault)
     c.levels-levels.ensures.tree
     (rw c.in-Err-Faulted.field-0-is at c.in-Err-Faulted.ensures.opens)))))
@@ -30,7 +30,7 @@ returns-in-Err-Broken-clause-serves g c =
     rw (c.give_up.ensures.mine, c.of-job-in-Err-Broken.ensures, c.unopened.ensures, c.in-Err-Broken.cause-is)
     (serves_unopened ask (lists tree) (gives tree) _ c.args.job c.in-Err-Broken.cause c.args.tally.now c.give_up.result c.requires.1
     (subst (λ s. OpensLevel (lists tree) (gives tree) ask.lists.left_out s c.args.job broken) c.levels-levels.ensures.selection
-    (subst (λ k. OpensLevel (lists tree) (gives tree) k c.levels-levels.result.selection c.args.job broken) c.levels-levels.ensures.kept
+    (subst (λ k. OpensLevel (lists tree) (gives tree) k c.levels-levels.result.selection c.args.job broken) c.levels-levels.ensures.options
     (subst (λ t. OpensLevel (lists t) (gives t) c.levels-levels.result.options.left_out c.levels-levels.result.selection c.args.job broken)
     c.levels-levels.ensures.tree
     (rw c.in-Err-Broken.field-0-is at c.in-Err-Broken.ensures.opens))))
