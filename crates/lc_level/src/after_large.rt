@@ -12,6 +12,7 @@ use crate::in_parts::MOST_HELPERS;
 use crate::job::Job;
 use crate::level_reader::LevelReader;
 use crate::scratch::Scratch;
+use crate::spare_threads::SpareThreads;
 use lc_tree::{IdleThreads, Tree};
 use std::alloc::AllocError;
 use std::thread::Threads;
@@ -107,8 +108,7 @@ impl<T: Tree> LevelReader<'_, T> {
     /// threads are idle.
     pub(crate) fn count_few<R: Threads + Sync>(
         &self,
-        rt: &R,
-        idle: &IdleThreads,
+        threads: &SpareThreads<'_, R>,
         job: &Job,
         names: Vec<Vec<u8>>,
         absent: Vec<FileFault>,
@@ -118,9 +118,9 @@ impl<T: Tree> LevelReader<'_, T> {
         ensures { IfOk result (IsCounted (T.gives self.now.tree.now) job.now (bytes_of names.items) absent.items) }
     {
         let (mut found, rest) = self.count_to_large(job, names, absent, scratch)?;
-        let helpers = take_helpers(idle, rest.len());
-        let later = self.count_by_helpers(rt, helpers, job, rest, scratch);
-        idle.give_back(helpers);
+        let helpers = take_helpers(threads.idle, rest.len());
+        let later = self.count_by_helpers(threads.rt, helpers, job, rest, scratch);
+        threads.idle.give_back(helpers);
         found.append(later?)?;
         Ok(found)
     }

@@ -13,7 +13,7 @@ use crate::level_reader::LevelReader;
 use crate::open_fault::OpenFault;
 use crate::rule_pair::{PairNames, PairRead, RuleName, RulePair};
 use crate::scratch::Scratch;
-use crate::{Cause, FaultSite};
+use crate::FaultSite;
 use lc_tree::{Entry, Listing, ReadFault, Tree};
 use std::alloc::AllocError;
 
@@ -65,7 +65,7 @@ impl<T: Tree> LevelReader<'_, T> {
         ensures read { ReadsBoth (T.gives self.now.tree.now) (own_asked self.now.options.texts directory.now entries.now) result }
     {
         let Ok(()) = scratch.path.enter(directory) else {
-            return Err(OpenFault::Broken(Cause::Memory));
+            return Err(OpenFault::Memory);
         };
         let names = PairNames {
             rules: RuleName {
@@ -116,7 +116,7 @@ impl<T: Tree> LevelReader<'_, T> {
         let info = self.read_info(path, listing.entries(), scratch)?;
         let own = self.read_own(path, listing.entries(), scratch)?;
         let Ok(inside) = self.with_files(job, info.files, own.files) else {
-            return Err(OpenFault::Broken(Cause::Memory));
+            return Err(OpenFault::Memory);
         };
         let texts = RuleTexts {
             info: info.text,

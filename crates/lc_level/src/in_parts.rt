@@ -9,6 +9,7 @@ use crate::counting::CountedFiles;
 use crate::job::Job;
 use crate::level_reader::LevelReader;
 use crate::scratch::Scratch;
+use crate::spare_threads::SpareThreads;
 use lc_tree::{IdleThreads, Tree};
 use std::alloc::{AllocError, Global};
 use std::thread::Threads;
@@ -147,8 +148,7 @@ impl<T: Tree> LevelReader<'_, T> {
     /// Each part takes a buffer of its own.
     pub fn count_in_parts<R: Threads + Sync>(
         &self,
-        rt: &R,
-        idle: &IdleThreads,
+        threads: &SpareThreads<'_, R>,
         job: &Job,
         names: Vec<Vec<u8>>,
         absent: Vec<FileFault>,
@@ -157,12 +157,12 @@ impl<T: Tree> LevelReader<'_, T> {
         requires { scratch.old.path.directory ≡ job.now.path }
         ensures { IfOk result (IsCounted (T.gives self.now.tree.now) job.now (bytes_of names.items) absent.items) }
     {
-        let helpers = take_helpers(idle, names.len());
+        let helpers = take_helpers(threads.idle, names.len());
         if helpers == 0 {
-            return self.count_few(rt, idle, job, names, absent, scratch);
+            return self.count_few(threads, job, names, absent, scratch);
         }
-        let found = self.count_side_by_side(rt, helpers as usize + 1, job, names, absent);
-        idle.give_back(helpers);
+        let found = self.count_side_by_side(threads.rt, helpers as usize + 1, job, names, absent);
+        threads.idle.give_back(helpers);
         found
     }
 }

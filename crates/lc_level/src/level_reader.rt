@@ -16,12 +16,12 @@ pub struct ReaderOptions {
 /// Reads a tree, a directory at a time: it opens the directory, and counts the files that are left in there.
 ///
 /// ```
-/// let kept = Kept { left_out: false, texts: false };
-/// let levels = LevelReader::new(alloc, &tree, Selection::new(false, &[]), kept);
+/// let options = ReaderOptions { left_out: false, texts: false };
+/// let reader = LevelReader::new(alloc, &tree, Selection::new(false, &[]), options);
 /// let mut scratch = Scratch::new(alloc)?;
 /// let top = Job::top(alloc, None)?;
-/// let opened = levels.open(&top, &mut scratch)?; // `opened.children` has the directories to be walked
-/// let counted = levels.count(&opened.job, opened.files, opened.absent, &mut scratch)?;
+/// let opened = reader.open(&top, &mut scratch)?; // `opened.children` has the directories to be walked
+/// let counted = reader.count(&opened.job, opened.files, opened.absent, &mut scratch)?;
 /// ```
 #[derive(Drop)]
 pub struct LevelReader<'t, T> {
@@ -32,7 +32,7 @@ pub struct LevelReader<'t, T> {
 }
 
 impl<'t, T> LevelReader<'t, T> {
-    /// That of this tree, by this selection.
+    /// Makes the reader of a tree, by a selection. It asks the tree nothing.
     pub fn new(
         alloc: Global,
         tree: &'t T,

@@ -3,7 +3,6 @@ ghost use Rattle.std.specs.Prelude.{◌≡◌, IfOk};
 ghost use Rattle.lc_level.specs.Opens.{OpensLevel};
 ghost use Rattle.lc_tree.specs.Trees.{Lists};
 
-use crate::cause::Cause;
 use crate::classify::ChildDirectory;
 use crate::counted::FileFault;
 use crate::entering::Entered;
@@ -12,7 +11,8 @@ use crate::level_reader::LevelReader;
 use crate::open_fault::OpenFault;
 use crate::reason::SkippedEntry;
 use crate::scratch::Scratch;
-use lc_tree::{IdleThreads, Listing, ReadFault, Tree, list_in_parts};
+use crate::spare_threads::SpareThreads;
+use lc_tree::{Listing, ReadFault, Tree, list_in_parts};
 use std::thread::Threads;
 
 /// A directory whose entries are known, before its files are counted.
@@ -48,16 +48,16 @@ impl<T: Tree> LevelReader<'_, T> {
     {
         let Entered { job, entries, .. } = self.enter_listed(job, listing, scratch)?;
         let Ok(wanted) = self.selection.wanted_in(self.alloc, job.path()) else {
-            return Err(OpenFault::Broken(Cause::Memory));
+            return Err(OpenFault::Memory);
         };
         let Ok(absent) = wanted.absent(self.alloc, &entries) else {
-            return Err(OpenFault::Broken(Cause::Memory));
+            return Err(OpenFault::Memory);
         };
         let Ok(entries) = wanted.part_of(self.alloc, entries) else {
-            return Err(OpenFault::Broken(Cause::Memory));
+            return Err(OpenFault::Memory);
         };
         let number = entries.len() as u32;
-        match self.classify(&job, entries, &mut scratch.path) {
+        match self.classify_all(&job, entries, &mut scratch.path) {
             Ok(found) => Ok(Opened {
                 job,
                 files: found.files,
@@ -66,7 +66,7 @@ impl<T: Tree> LevelReader<'_, T> {
                 absent,
                 entries: number,
             }),
-            Err(cause) => Err(OpenFault::Broken(cause)),
+            Err(fault) => Err(fault),
         }
     }
 
@@ -84,8 +84,7 @@ impl<T: Tree> LevelReader<'_, T> {
     /// Opens the directory of a job, as `open` does. If it is large, idle threads help to look at its entries.
     pub fn open_in_parts<R: Threads + Sync>(
         &self,
-        rt: &R,
-        idle: &IdleThreads,
+        threads: &SpareThreads<'_, R>,
         job: &Job,
         scratch: &mut Scratch,
     ) -> Result<Opened, OpenFault>
@@ -93,7 +92,13 @@ impl<T: Tree> LevelReader<'_, T> {
         ensures opens { OpensLevel (T.lists self.now.tree.now) (T.gives self.now.tree.now) self.now.options.left_out
             self.now.selection job.now result }
     {
-        let listing = list_in_parts(rt, self.alloc, self.tree, job.path(), idle);
+        let listing = list_in_parts(
+            threads.rt,
+            self.alloc,
+            self.tree,
+            job.path(),
+            threads.idle,
+        );
         self.open_listed(job, listing, scratch)
     }
 }

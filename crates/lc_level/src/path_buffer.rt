@@ -3,7 +3,7 @@ ghost use Rattle.std.specs.Prelude.{◌≡◌, OnOk};
 ghost use Rattle.lc_glob.specs.Path.{path_in};
 ghost use Rattle.lc_level.specs.PathBuffers.{IsNamed};
 
-use crate::Cause;
+use crate::OpenFault;
 use lc_glob::path::{is_too_long, push_name};
 use std::alloc::{AllocError, Global};
 use std::marker::Model;
@@ -58,16 +58,16 @@ impl PathBuffer {
     }
 
     /// The same where the path is not too long for a walk.
-    pub(crate) fn set_short(&mut self, name: &[u8]) -> Result<(), Cause>
+    pub(crate) fn set_short(&mut self, name: &[u8]) -> Result<(), OpenFault>
         ensures same { self.new.directory ≡ self.old.directory }
         ensures named { IsNamed (path_in self.old.directory name.now) self.new.path result }
     {
         let Ok(()) = self.set_name(name) else {
-            return Err(Cause::Memory);
+            return Err(OpenFault::Memory);
         };
         let path = self.as_slice();
         if is_too_long(path) {
-            return Err(Cause::TooDeep);
+            return Err(OpenFault::TooDeep);
         }
         Ok(())
     }

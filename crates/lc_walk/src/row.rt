@@ -190,7 +190,7 @@ pub struct FaultedRow {
     pub word: FaultWord,
 }
 
-/// A directory that was given up.
+/// A directory that was broken off.
 #[derive(Drop)]
 pub struct BrokenRow {
     pub job: ServedJob,

@@ -99,7 +99,7 @@ impl Tally {
         self.grow(&key, Sums::one(count))
     }
 
-    /// The tally of the files of both. A refusal of memory gives up both.
+    /// The tally of the files of both. Where memory is refused, both are dropped.
     pub fn merge(self, other: Tally) -> Result<Tally, AllocError>
         requires { self.totals.files + other.totals.files ≤ 2 ^ 63 }
         ensures { IfOk result (λ t. (fs gs : List CountedFile)

@@ -3,7 +3,7 @@ ghost use Rattle.std.specs.Prelude.{◌≡◌, ◌++◌, ◌∷◌, [], List, If
 ghost use Rattle.lc_level.specs.TreeAnswers.{MayAnswer};
 ghost use Rattle.lc_walk.specs.BoardPasses.{IsFree, IsPassOf};
 ghost use Rattle.lc_walk.specs.Running.{AreFree, HasRunOn, HaveRunOn, AllOver, TalliesAll};
-ghost use Rattle.lc_walk.specs.Worked.{TalliesFor};
+ghost use Rattle.lc_walk.specs.WorkerResults.{TalliesFor};
 ghost use Rattle.lc_walk.specs.declared.worker.StopReason.TheVariants.{Over};
 ghost use Rattle.lc_walk.specs.Tally.{CountedFile, StandsFor};
 ghost use Rattle.lc_walk.specs.WalkOptions.{asked_by};
@@ -41,21 +41,14 @@ pub(crate) fn run_all<B: Shared<Job, Row>, T: Tree, R: Threads + Wait + Sync>(
     ensures each { IfOk result (λ v. HaveRunOn B.owns B.Pass.view board.now (asked_by options.now)
         (MayAnswer (T.lists tree.now) (T.gives tree.now)) passes.items v.items) }
 {
-    let idle = IdleThreads::new();
+    let workers = u32::try_from(passes.len()).unwrap_or(u32::MAX);
+    let idle = IdleThreads::all_idle(workers);
     let run = |pass: B::Pass| -> WorkerResult<B::Pass>
         requires { IsPassOf B.owns B.Pass.view board.now IsFree pass }
         ensures { HasRunOn B.owns B.Pass.view board.entry.now (asked_by options.entry.now)
             (MayAnswer (T.lists tree.entry.now) (T.gives tree.entry.now)) pass result }
     {
-        let worker = Worker {
-            rt,
-            alloc,
-            board,
-            tree,
-            options,
-            idle: &idle,
-        };
-        worker.run(pass)
+        Worker::new(rt, alloc, board, tree, options, &idle).run(pass)
     };
     thread::map_vec(rt, passes, &run)
 }

@@ -1,7 +1,9 @@
 //! A directory with many files, which idle threads help to count.
 
 use crate::level::work::{AS_IT_IS, NOTHING, selection_of};
-use lc_level::{CountedFiles, FaultWord, FileFault, Job, LevelReader, Opened, Scratch};
+use lc_level::{
+    CountedFiles, FaultWord, FileFault, Job, LevelReader, Opened, Scratch, SpareThreads,
+};
 use lc_tree::{IdleThreads, MemTree, Node};
 use std::alloc::{AllocError, Global};
 use std::process::Abort;
@@ -47,9 +49,9 @@ fn count_flat<R: Threads + Sync>(
     idle: Option<&IdleThreads>,
 ) -> Result<CountedFiles, AllocError> {
     let tree = MemTree::new(node);
-    let levels = LevelReader::new(alloc, &tree, selection_of(&AS_IT_IS), NOTHING);
+    let reader = LevelReader::new(alloc, &tree, selection_of(&AS_IT_IS), NOTHING);
     let mut scratch = Scratch::new(alloc)?;
-    let Ok(opened) = levels.open(&Job::top(alloc, None)?, &mut scratch) else {
+    let Ok(opened) = reader.open(&Job::top(alloc, None)?, &mut scratch) else {
         return Err(AllocError);
     };
     let Opened {
@@ -63,8 +65,11 @@ fn count_flat<R: Threads + Sync>(
         word: FaultWord::Absent,
     })?;
     match idle {
-        Some(idle) => levels.count_in_parts(rt, idle, &job, files, absent, &mut scratch),
-        None => levels.count(&job, files, absent, &mut scratch),
+        Some(idle) => {
+            let threads = SpareThreads { rt, idle };
+            reader.count_in_parts(&threads, &job, files, absent, &mut scratch)
+        },
+        None => reader.count(&job, files, absent, &mut scratch),
     }
 }
 
