@@ -100,7 +100,7 @@ pub record IsAskedBy (loads : Loaded) (c : CountRequest) (o : Options) : Type 0 
 abbrev pub AnswersCount : {O : Type 0} → Loaded → (O → List ℕ → Result ℕ Failed → O → Type 0) → CountRequest → O → Reply → O → Type 0
 AnswersCount loads may_take c out reply wrote =
     ((o : Options) × IsAskedBy loads c o × (answer : Result Outcome RunFault) × (reply ≡ ran answer)
-    × AnswersRun may_take (Walks (λ path. AnyListing) (λ path. AnyContents) o) c.shape out answer wrote)
+    × AnswersRun may_take (Walks (λ path. AnyListing) (λ path. AnyContents) o) c.table out answer wrote)
     ⊎ ((IsWithoutRules loads reply ⊎ (reply ≡ Err Memory)) × (wrote ≡ out))
 
 -- a question that asks what the words of an explanation ask, with paths in this style

@@ -1,4 +1,4 @@
-//! What a request is answered, by what it reads.
+//! Answering each request.
 
 ghost use Rattle.std.specs.Prelude.{◌≡◌, true, false, IfOk, option_map};
 ghost use Rattle.lc_arguments.specs.Words.{IsWithinLimits, IsCountWithinLimits};
@@ -23,7 +23,7 @@ use std::rt::Files;
 use std::sync::{Arc, Wait};
 use std::thread::Threads;
 
-/// Reads the rules of a file, and checks the paths of the input.
+/// Checks the paths of the input by the rules of a file, which is read first.
 fn check_plainly<R: Files + AllocGlobal, S: Source, O: Sink>(
     rt: &R,
     file: &str,
@@ -39,7 +39,7 @@ fn check_plainly<R: Files + AllocGlobal, S: Source, O: Sink>(
     Ok(Outcome::Clean)
 }
 
-/// Reads the rules of a file, and checks the paths of the input, each with the line of the rule that gives its word.
+/// Checks the paths of the input by the rules of a file, which is read first, and names the rule that decides each.
 fn check_explaining<R: Files + AllocGlobal, S: Source, O: Sink>(
     rt: &R,
     file: &str,
@@ -72,7 +72,7 @@ fn check_file<R: Files + AllocGlobal, S: Source, O: Sink>(
     }
 }
 
-/// Checks the paths of the input by the rules before them.
+/// Checks paths by rules, both from the input.
 fn check_input<S: Source, O: Sink>(
     alloc: Global,
     style: PathStyle,
@@ -85,7 +85,7 @@ fn check_input<S: Source, O: Sink>(
     Ok(Outcome::Clean)
 }
 
-/// The file that the words name for the whole tree, if they name one.
+/// Reads the file of `--exclude-from`, if the option is given.
 fn excluded<R: Files + AllocGlobal>(rt: &R, file: Option<&str>) -> Result<Option<RuleText>, Cause>
     ensures { AnswersExcluded (LoadsFile ⟦<StdSource<R::File> as Source>⟧.may_give) file.entry result }
 {
@@ -96,7 +96,7 @@ fn excluded<R: Files + AllocGlobal>(rt: &R, file: Option<&str>) -> Result<Option
     Ok(Some(text))
 }
 
-/// Its rules.
+/// Reads the rules of the file of `--exclude-from`, if the option is given.
 fn rules_in(text: &Option<RuleText>) -> Result<Option<Arc<IgnoreFile, Global>>, AllocError>
     ensures { IfOk result (λ rules. shared rules ≡ option_map rules_of text.now) }
 {
@@ -106,7 +106,7 @@ fn rules_in(text: &Option<RuleText>) -> Result<Option<Arc<IgnoreFile, Global>>, 
     }
 }
 
-/// Counts a directory of the system.
+/// Counts a directory and prints the table.
 fn count<R: Files + Threads + Wait + Sync + AllocGlobal, O: Sink>(
     rt: &R,
     asked: &CountRequest<'_>,
@@ -135,11 +135,11 @@ where
         without,
         only,
     };
-    let outcome = run(rt, rt.alloc(), &tree, &options, asked.shape, out)?;
+    let outcome = run(rt, rt.alloc(), &tree, &options, asked.table, out)?;
     Ok(outcome)
 }
 
-/// Explains these paths in a directory of the system, or those of the input where there are none.
+/// Explains these paths, or those of the input if there are none.
 fn explain_paths<R: Files + Sync + AllocGlobal, S: Source, O: Sink>(
     rt: &R,
     tree: &SysTree<'_, R>,
@@ -161,7 +161,7 @@ where
     Ok(outcome)
 }
 
-/// Explains paths in a directory of the system.
+/// Explains paths of a directory, by its rules and the file of `--exclude-from`.
 fn explain_asked<R: Files + Sync + AllocGlobal, S: Source, O: Sink>(
     rt: &R,
     asked: &ExplainRequest<'_>,
@@ -185,7 +185,7 @@ where
     explain_paths(rt, &tree, &options, &asked.paths, input, out)
 }
 
-/// Answers a request. Paths are printed in a style, but in a table.
+/// Answers a request. `style` is how paths are printed, except in a table.
 pub(crate) fn answer<R: Files + Threads + Wait + Sync + AllocGlobal, S: Source, O: Sink>(
     rt: &R,
     request: &Request<'_>,

@@ -1,4 +1,4 @@
-//! Why the program gives up, and what it says then on standard error.
+//! Why the program gives up, and the line that it then writes to standard error.
 
 ghost use Rattle.std.specs.Prelude.{◌≡◌, IfOk, IsErr};
 ghost use Rattle.std.specs.Cow.{cow_str_bytes};
@@ -12,7 +12,7 @@ use lc_walk::WalkFault;
 use std::alloc::{AllocError, AllocFailed, Global};
 use std::borrow::CowStr;
 
-/// Why the program gives up. Each is one line on standard error and the status 3.
+/// Why the program gives up: one line on standard error, and status 3.
 #[derive(Clone, Copy)]
 pub(crate) enum Cause {
     Memory,
@@ -28,7 +28,7 @@ pub(crate) enum Cause {
 }
 
 impl Cause {
-    /// The line, with its line feed. One with a number takes memory.
+    /// Makes the line, with its line feed. A line with a number takes memory.
     pub(crate) fn line(self, alloc: Global) -> Result<CowStr<'static>, AllocError>
         ensures line { IfOk result (λ line. cow_str_bytes line ≡ cause_line self) }
         ensures refused { IsErr result → HasNumber self }

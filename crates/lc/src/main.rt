@@ -1,5 +1,4 @@
-//! The program `lc`: it counts the files and lines of a directory without what Git would ignore, and says which paths the
-//! rules of a directory, or of an ignore file, leave out.
+//! The program `lc` counts the files and lines of a directory, skips what Git would ignore, and tells which rule decides a path.
 //!
 //! - `program`: the program but for its streams; `answering`: what each request is answered
 //! - `cause`: why it gives up; `rules_file`: the rules of a file that the command line names; `repository`: whether a directory lies in one

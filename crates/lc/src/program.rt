@@ -1,4 +1,4 @@
-//! The program but for its streams.
+//! The program without its streams.
 
 ghost use Rattle.std.specs.Prelude.{◌≡◌, map};
 ghost use Rattle.lc.specs.Program.{Tells, TellsCause, Introduces, Hints, EndsShown, Ends, status_of, style_for, streams, streams_may};
@@ -18,17 +18,17 @@ use std::rt::Files;
 use std::sync::Wait;
 use std::thread::Threads;
 
-/// Which of the program's streams are terminals.
+/// Which output streams of the program are terminals.
 #[derive(Clone, Copy)]
 pub struct Terminals {
-    /// Standard output is one: paths of a check and of an explanation are printed so that it can show them.
+    /// Standard output is a terminal: checks and explanations print paths so that it shows them safely.
     pub output: bool,
-    /// Standard error is one: a count may be followed by a hint.
+    /// Standard error is a terminal: a hint may follow a count.
     pub error: bool,
 }
 
 impl Terminals {
-    /// How paths are printed on standard output.
+    /// Returns the style of paths on standard output.
     fn style(self) -> PathStyle
         ensures { result ≡ style_for self.output }
     {
@@ -43,18 +43,18 @@ impl Terminals {
 /// How a run of the program ends.
 #[derive(Clone, Copy)]
 pub enum Ending {
-    /// It did what it was asked for.
+    /// It did what it was asked to do.
     Done,
-    /// The answer was written, and tells of a fault.
+    /// It wrote the answer, which names a fault.
     SomeFaults,
-    /// The words are refused.
+    /// It refused the arguments.
     Misused,
     /// It gave up.
     GaveUp(Cause),
 }
 
 impl Ending {
-    /// The status that tells of it.
+    /// Returns the exit status.
     pub fn status(self) -> u8
         ensures { result ≡ status_of self }
     {
@@ -67,7 +67,7 @@ impl Ending {
     }
 }
 
-/// Says what is read, where no words are given and the input is typed: else the program would seem to hang.
+/// Says what is read if there are no arguments and standard input is a terminal. Without this line the program would seem to hang.
 pub(crate) fn introduce<W, E: Sink>(words: &[W], stdin_is_terminal: bool, err: &mut E)
     ensures { Introduces E.may_take words.now stdin_is_terminal err.old err.new }
 {
@@ -80,7 +80,7 @@ pub(crate) fn introduce<W, E: Sink>(words: &[W], stdin_is_terminal: bool, err: &
     }
 }
 
-/// Says why the words are refused.
+/// Writes the refusal of the arguments.
 pub(crate) fn misuse<E: Sink>(why: &str, err: &mut E) -> Ending
     ensures ending { result ≡ ending.Misused }
     ensures told { Tells E.may_take err.old why.now err.new }
@@ -90,7 +90,7 @@ pub(crate) fn misuse<E: Sink>(why: &str, err: &mut E) -> Ending
     Ending::Misused
 }
 
-/// Says why the program gives up.
+/// Writes the line of a cause.
 pub(crate) fn give_up<E: Sink>(alloc: Global, cause: Cause, err: &mut E) -> Ending
     ensures ending { result ≡ ending.GaveUp cause }
     ensures told { TellsCause E.may_take err.old cause err.new }
@@ -102,8 +102,7 @@ pub(crate) fn give_up<E: Sink>(alloc: Global, cause: Cause, err: &mut E) -> Endi
     Ending::GaveUp(cause)
 }
 
-/// Says of a count whose answer was written that rules above its directory were not read, where that lies in a repository and
-/// standard error is a terminal.
+/// Hints that rules above the counted directory were not read, if it lies in a repository below its top. Only a terminal gets the hint.
 fn hint<R: Files + AllocGlobal, E: Sink>(
     rt: &R,
     request: &Request<'_>,
@@ -133,7 +132,7 @@ fn show<O: Sink, E: Sink>(alloc: Global, text: &str, out: &mut O, err: &mut E) -
     }
 }
 
-/// The program but for its streams and its status.
+/// Runs the program, and returns how it ended.
 fn end_of<R: Files + Threads + Wait + Sync + AllocGlobal, W: AsStr, S: Source, O: Sink, E: Sink>(
     rt: &R,
     words: &[W],
@@ -165,18 +164,17 @@ where
     }
 }
 
-/// The whole program but for its streams, given the words after its name. It gives the status: 0 done, 1 the answer that was
-/// written tells of a fault, 2 the words are refused, 3 it gave up, with one line on `err`.
+/// Runs the program with these arguments and streams, and returns its exit status: 0 done, 1 the answer names a fault, 2 the arguments are
+/// refused, 3 it gave up, with one line on `err`.
 ///
-/// - no words: `input` has the lines of an ignore file, then a line `--`, then paths ([`check_joined`](lc_text::check_joined));
+/// - no arguments: `input` has the lines of an ignore file, then a line `--`, then paths ([`check_joined`](lc_text::check_joined));
 /// - `check FILE`: the rules are those of FILE, which is read first, and `input` has the paths ([`check`](lc_text::check); with
 ///   `--explain` [`check_explained`](lc_text::check_explained));
-/// - `count DIR`: the table of a directory of the system ([`run`](lc_table::run)); a file of `--exclude-from` is read before the walk;
-/// - `explain DIR`: what the rules of a directory of the system say of the paths of `input` ([`explain`](lc_explain::explain)), or of
-///   those among the words.
+/// - `count DIR`: the table of a directory ([`run`](lc_table::run)); the file of `--exclude-from` is read before the walk;
+/// - `explain DIR`: which rule of a directory decides each path, of `input` or of the arguments ([`explain`](lc_explain::explain)).
 ///
-/// Where standard output is a terminal, paths and patterns of a check and of an explanation are printed for it. Where standard error is
-/// one, `err` may have a hint after the table of a count.
+/// If standard output is a terminal, checks and explanations print paths and patterns so that it shows them safely. If standard error is
+/// a terminal, a hint may follow the table of a count.
 pub fn program<
     R: Files + Threads + Wait + Sync + AllocGlobal,
     W: AsStr,

@@ -1,11 +1,11 @@
-//! Whether a directory lies in a repository without being its top.
+//! Whether a directory lies in a repository, below its top.
 
 use std::alloc::AllocError;
 use std::fs;
 use std::path::Path;
 use std::rt::Files;
 
-/// Whether a directory of the system has an entry `.git`. Where the system doesn't say so, it has none.
+/// Tells whether a directory has an entry `.git`. It has none if the system can't say.
 fn has_git<R: Files + AllocGlobal>(rt: &R, directory: Path<'_>) -> bool {
     match directory.join(rt.alloc(), ".git") {
         Ok(git) => fs::symlink_metadata(rt, git.as_path()).is_ok(),
@@ -13,7 +13,7 @@ fn has_git<R: Files + AllocGlobal>(rt: &R, directory: Path<'_>) -> bool {
     }
 }
 
-/// Whether a directory of the system has no entry `.git`, and one above it has.
+/// Tells whether a directory has no entry `.git`, and one above it has.
 pub(crate) fn lies_in_repository<R: Files + AllocGlobal>(rt: &R, directory: &str) -> bool {
     let Ok(path) = fs::canonicalize(rt, directory) else {
         return false;

@@ -7,7 +7,7 @@ use lc_text::{RuleText, RulesFileFault, read_rule_text};
 use std::fs;
 use std::rt::Files;
 
-/// Reads the rules of the file at this path, with its text.
+/// Reads the rule file at a path.
 pub(crate) fn rule_text_of_file<R: Files + AllocGlobal>(
     rt: &R,
     path: &str,

@@ -1,4 +1,4 @@
--- Words that ask for what there is not: names of attributes, shapes of a table.
+-- Words that ask for what there is not: names of attributes, options of a table.
 use Rattle.std.proofs.Common.{◌≡◌, ◌∙◌, ◌<◌, ◌&&◌, ℕ, zero, suc, Bool, true, false, List, [], ◌∷◌, length, map, refl, ap, inl, inr, sym}
 use Rattle.std.proofs.Common.{subst, Result, Err, Option, arith}
 use Rattle.std.specs.Borrow.{Bor}
@@ -11,7 +11,7 @@ use Rattle.lc_rules.specs.AttrWords.{is_name}
 use Rattle.lc_text.specs.declared.table_options.TableOptions.{TableOptions}
 use Rattle.lc_arguments.specs.CommandLine.{count_app, explain_app}
 use Rattle.lc_arguments.specs.Explained.{AnswersCountWords, AnswersExclusions, AnswersExplainWords}
-use Rattle.lc_arguments.specs.Explained.{AnswersNames, AnswersShape, AnswersShapeIn}
+use Rattle.lc_arguments.specs.Explained.{AnswersNames, AnswersTable, AnswersTableIn}
 use Rattle.lc_arguments.specs.Explained.{AnswersPathsIn, IsRefusal}
 use Rattle.lc_arguments.specs.Words.{AskNothing, texts_read}
 use Rattle.lc_arguments.specs.declared.request.ParseExit.{ParseExit}
@@ -29,13 +29,13 @@ one_misnamed (name ∷ names) zero d low bad = ap (λ b. b && list_all is_name (
 one_misnamed (name ∷ names) (suc k) d low bad =
     ap (λ b. is_name name.now && b) (one_misnamed names k d (omega arith) bad) ∙ and_false (is_name name.now)
 
--- what is answered to the same texts of a shape
-pub answers_shape_as : (format by sort format' by' sort' : Option (List ℕ)) (answer : Result TableOptions ParseExit) → format' ≡ format
-    → by' ≡ by → sort' ≡ sort → AnswersShape format' by' sort' answer → AnswersShape format by sort answer
-answers_shape_as format by sort format' by' sort' answer f b o is =
-    subst (λ (t : Option (List ℕ)). AnswersShape t by sort answer) f
-    (subst (λ (t : Option (List ℕ)). AnswersShape format' t sort answer) b
-    (subst (λ (t : Option (List ℕ)). AnswersShape format' by' t answer) o is))
+-- what is answered to the same texts of a table
+pub answers_table_as : (format by sort format' by' sort' : Option (List ℕ)) (answer : Result TableOptions ParseExit) → format' ≡ format
+    → by' ≡ by → sort' ≡ sort → AnswersTable format' by' sort' answer → AnswersTable format by sort answer
+answers_table_as format by sort format' by' sort' answer f b o is =
+    subst (λ (t : Option (List ℕ)). AnswersTable t by sort answer) f
+    (subst (λ (t : Option (List ℕ)). AnswersTable format' t sort answer) b
+    (subst (λ (t : Option (List ℕ)). AnswersTable format' by' t answer) o is))
 
 -- they are refused for that
 pub refused_for : (names : List (List ℕ)) (why : ParseExit) → IsRefusal why → list_all is_name names ≡ false → AnswersNames names (Err why)
@@ -71,12 +71,12 @@ paths_refused_for words (Shown text) fine bad = absurd bad
 paths_refused_for words (Refused text) fine bad = inr (fine, inr (inl bad))
 paths_refused_for words Memory fine bad = tt
 
--- and those that ask for no shape
-pub shape_refused_for : (words : List (List ℕ)) (why : ParseExit) → fault_of count_app words ≡ []
-    → AnswersShapeIn (matches_of count_app words) (Err why) → AnswersCountWords words (Err why)
-shape_refused_for words (Shown text) fine bad = absurd bad
-shape_refused_for words (Refused text) fine bad = inr (fine, inr (inr bad))
-shape_refused_for words Memory fine bad = tt
+-- and those that ask for no table
+pub table_refused_for : (words : List (List ℕ)) (why : ParseExit) → fault_of count_app words ≡ []
+    → AnswersTableIn (matches_of count_app words) (Err why) → AnswersCountWords words (Err why)
+table_refused_for words (Shown text) fine bad = absurd bad
+table_refused_for words (Refused text) fine bad = inr (fine, inr (inr bad))
+table_refused_for words Memory fine bad = tt
 
 -- words that begin with `explain` ask for nothing where those after it do not
 pub no_explanation_of : (words more : List (List ℕ)) (why : ParseExit) → words ≡ codes "explain" ∷ more

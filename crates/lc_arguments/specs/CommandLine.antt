@@ -1,6 +1,6 @@
 -- The commands and their arguments, as clap sees them.
 use Rattle.std.specs.Prelude.{ℕ, true, List, [], ◌∷◌, ◌++◌, pos, Some, codes}
-use Rattle.clap.specs.Simple.{App, TableOptions, new_app, new_rule, on_top, with_rule, with_subcommand}
+use Rattle.clap.specs.Simple.{App, Shape, new_app, new_rule, on_top, with_rule, with_subcommand}
 use Rattle.clap.specs.Walk.{Rule}
 use Rattle.clap.specs.declared.builder.action.ArgAction.TheVariants.{Append, Set, SetTrue}
 use Rattle.clap.specs.declared.builder.value_parser.ValueParser.TheVariants.{Signed}
@@ -36,7 +36,7 @@ words_rule name = record (new_rule name) { action = Some Append }
 
 -- a command without arguments, whose own name is not among the words
 abbrev pub bare_app : List ℕ → App
-bare_app name = on_top (λ (s : TableOptions). record s { no_binary_name = true }) (new_app name)
+bare_app name = on_top (λ (s : Shape). record s { no_binary_name = true }) (new_app name)
 
 -- what leaves entries out beside the rules of a directory
 abbrev pub exclusion_rules : List Rule
@@ -81,7 +81,7 @@ explain_app = app_with (codes "explain") explain_rules
 
 -- for what belongs to no command
 abbrev pub bare_lc_app : App
-bare_lc_app = on_top (λ (s : TableOptions). record s { no_binary_name = true; has_version = true; has_long_version = true }) (new_app (codes "lc"))
+bare_lc_app = on_top (λ (s : Shape). record s { no_binary_name = true; has_version = true; has_long_version = true }) (new_app (codes "lc"))
 
 abbrev pub subcommand_apps : List App
 subcommand_apps = count_app ∷ check_app ∷ explain_app ∷ []

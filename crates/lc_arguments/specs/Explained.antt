@@ -15,7 +15,7 @@ use Rattle.lc_arguments.specs.Words.{AskForNoCount, AskForNoExplanation, AreExcl
 use Rattle.clap.specs.Walk.{Row, first_of}
 use Rattle.lc_text.specs.PathLines.{is_bad_path, path_of}
 use Rattle.lc_text.specs.declared.table_options.TableOptions.{TableOptions}
-use Rattle.lc_arguments.specs.ShapeWords.{IsShapeBy}
+use Rattle.lc_arguments.specs.TableWords.{IsTableBy}
 use Rattle.lc_arguments.specs.declared.request.ParseExit.{ParseExit}
 use Rattle.lc_arguments.specs.declared.request.ParseExit.TheVariants.{Shown, Refused, Memory}
 use Rattle.lc_arguments.specs.declared.request.Request.{Request}
@@ -77,17 +77,17 @@ AnswersPaths words (Err Memory) = Unit {0}
 abbrev pub AnswersPathsIn : List Row → Result (Vec (Bor (List ℕ))) ParseExit → Type 0
 AnswersPathsIn rows result = AnswersPaths (texts_read (codes "only") rows) result
 
--- that shape; or one of the texts says nothing of a table, or there was no memory to say so
-abbrev pub AnswersShape : Option (List ℕ) → Option (List ℕ) → Option (List ℕ) → Result TableOptions ParseExit → Type 0
-AnswersShape format by sort (Ok shape) = IsShapeBy format by sort shape
-AnswersShape format by sort (Err (Shown _)) = ⊥
-AnswersShape format by sort (Err (Refused _)) = (shape : TableOptions) → ¬ IsShapeBy format by sort shape
-AnswersShape format by sort (Err Memory) = Unit {0}
+-- those table options; or one of the texts says nothing of a table, or there was no memory to say so
+abbrev pub AnswersTable : Option (List ℕ) → Option (List ℕ) → Option (List ℕ) → Result TableOptions ParseExit → Type 0
+AnswersTable format by sort (Ok table) = IsTableBy format by sort table
+AnswersTable format by sort (Err (Shown _)) = ⊥
+AnswersTable format by sort (Err (Refused _)) = (table : TableOptions) → ¬ IsTableBy format by sort table
+AnswersTable format by sort (Err Memory) = Unit {0}
 
 -- the shape that was read
-abbrev pub AnswersShapeIn : List Row → Result TableOptions ParseExit → Type 0
-AnswersShapeIn rows result =
-    AnswersShape (first_of (codes "format") rows) (first_of (codes "by") rows) (first_of (codes "sort") rows) result
+abbrev pub AnswersTableIn : List Row → Result TableOptions ParseExit → Type 0
+AnswersTableIn rows result =
+    AnswersTable (first_of (codes "format") rows) (first_of (codes "by") rows) (first_of (codes "sort") rows) result
 
 -- the words after `check`
 abbrev pub AnswersCheckWords : List (List ℕ) → Result CheckRequest ParseExit → Type 0

@@ -2,5 +2,5 @@ pub mod CommandLine
 pub mod CountArgs
 pub mod Explained
 pub mod Refusals
-pub mod ShapeWords
+pub mod TableWords
 pub mod Words

@@ -26,7 +26,7 @@ use Rattle.lc_arguments.specs.declared.request.Request.{Request}
 use Rattle.lc_arguments.specs.declared.request.Request.TheVariants.{CheckJoined, Check, Count, Explain}
 use Rattle.lc_text.specs.PathLines.{is_bad_path, path_of}
 use Rattle.lc_text.specs.declared.table_options.TableOptions.{TableOptions}
-use Rattle.lc_arguments.specs.ShapeWords.{IsShapeBy}
+use Rattle.lc_arguments.specs.TableWords.{IsTableBy}
 use Rattle.lc_arguments.specs.declared.check.CheckRequest.{CheckRequest}
 use Rattle.lc_arguments.specs.declared.count.CountRequest.{CountRequest}
 use Rattle.lc_arguments.specs.declared.exclusions.Exclusions.{Exclusions}
@@ -88,9 +88,9 @@ pub record AreExclusionsOf (rows : List Row) (e : Exclusions) : Type 0 where
   pub without : map (λ name. name.now) e.without.items ≡ texts_read (codes "without") rows
   pub named : list_all is_name (texts_read (codes "without") rows) ≡ true
 
--- the shape that was asked for
-abbrev pub IsShapeIn : List Row → TableOptions → Type 0
-IsShapeIn rows s = IsShapeBy (first_of (codes "format") rows) (first_of (codes "by") rows) (first_of (codes "sort") rows) s
+-- the table options that were asked for
+abbrev pub IsTableIn : List Row → TableOptions → Type 0
+IsTableIn rows s = IsTableBy (first_of (codes "format") rows) (first_of (codes "by") rows) (first_of (codes "sort") rows) s
 
 -- the count that was asked for, by what was read of each argument
 pub record IsCountOf (rows : List Row) (c : CountRequest) : Type 0 where
@@ -101,7 +101,7 @@ pub record IsCountOf (rows : List Row) (c : CountRequest) : Type 0 where
   pub left_out : IsFlag (codes "left-out") rows c.left_out
   pub exclusions : AreExclusionsOf rows c.exclusions
   pub only : ArePathsOf rows c.only.items
-  pub shape : IsShapeIn rows c.shape
+  pub table : IsTableIn rows c.table
   pub directory : c.directory.now ≡ unwrap_or (first_of (codes "DIR") rows) []
 
 -- the check that was asked for
@@ -152,12 +152,12 @@ Asks words (Check c) = (more : List (List ℕ)) × (words ≡ codes "check" ∷ 
 Asks words (Count c) = (more : List (List ℕ)) × (words ≡ codes "count" ∷ more) × IsCountOf (matches_of count_app more) c
 Asks words (Explain c) = (more : List (List ℕ)) × (words ≡ codes "explain" ∷ more) × IsExplainOf (matches_of explain_app more) c
 
--- the words after `count` fail in no way, but name what is no attribute, no path of an entry, or no shape of a table
+-- the words after `count` fail in no way, but name what is no attribute, no path of an entry, or no options of a table
 abbrev pub AskForNoCount : List (List ℕ) → Type 0
 AskForNoCount words =
     (fault_of count_app words ≡ [])
     × (Misname (matches_of count_app words)
-    ⊎ (Misplace (matches_of count_app words) ⊎ ((s : TableOptions) → ¬ IsShapeIn (matches_of count_app words) s)))
+    ⊎ (Misplace (matches_of count_app words) ⊎ ((s : TableOptions) → ¬ IsTableIn (matches_of count_app words) s)))
 
 -- and those after `explain`, but name what is no attribute
 abbrev pub AskForNoExplanation : List (List ℕ) → Type 0

@@ -1,4 +1,4 @@
-//! Each form of an argument, and a command without any.
+//! The forms of arguments, and a command without any.
 
 ghost use Rattle.std.specs.Prelude.{◌≡◌, true, IfOk};
 ghost use Rattle.lc_arguments.specs.CommandLine.{flag_rule, number_rule, text_rule, texts_rule, word_rule};
@@ -9,7 +9,7 @@ use clap::builder::ValueParser;
 use clap::{Arg, ArgAction, Command};
 use std::alloc::{AllocError, Global};
 
-/// An option that is given or not.
+/// Makes a flag: an option without a value.
 pub(crate) fn flag<'a>(alloc: Global, name: &'a str, help: OptionHelp) -> Arg<'a>
     requires own { is_own_name name.now ≡ true }
     ensures { IsArgOf (flag_rule name.entry.now) result }
@@ -22,7 +22,7 @@ pub(crate) fn flag<'a>(alloc: Global, name: &'a str, help: OptionHelp) -> Arg<'a
         .help_heading(help.heading)
 }
 
-/// An option with a text, which help shows as `value`.
+/// Makes an option with a value, which help shows as `value`.
 pub(crate) fn text_option<'a>(
     alloc: Global,
     name: &'a str,
@@ -41,7 +41,7 @@ pub(crate) fn text_option<'a>(
         .help_heading(help.heading)
 }
 
-/// An option with a text that may stand several times.
+/// Makes an option with a value that may be given several times.
 pub(crate) fn texts_option<'a>(
     alloc: Global,
     name: &'a str,
@@ -60,7 +60,7 @@ pub(crate) fn texts_option<'a>(
         .help_heading(help.heading)
 }
 
-/// An option with a number from 1 to `most`.
+/// Makes an option with a number from 1 to `most`.
 pub(crate) fn number_option<'a>(
     alloc: Global,
     name: &'a str,
@@ -82,7 +82,7 @@ pub(crate) fn number_option<'a>(
         .help_heading(help.heading)
 }
 
-/// A word that is wanted.
+/// Makes a required argument without a name of its own.
 pub(crate) fn word<'a>(alloc: Global, name: &'a str, text: &'a str) -> Arg<'a>
     requires own { is_own_name name.now ≡ true }
     ensures { IsArgOf (word_rule name.entry.now) result }
@@ -93,7 +93,7 @@ pub(crate) fn word<'a>(alloc: Global, name: &'a str, text: &'a str) -> Arg<'a>
         .help(text)
 }
 
-/// A command without arguments, which doesn't stand among its own words.
+/// Makes a command without arguments. Its own name is not among the words that it reads.
 pub(crate) fn bare<'a>(
     alloc: Global,
     name: &'a str,

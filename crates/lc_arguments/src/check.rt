@@ -1,4 +1,4 @@
-//! The words of `lc check`.
+//! The command line of `lc check`.
 
 ghost use Rattle.std.specs.Prelude.{IfOk, map};
 ghost use Rattle.lc_arguments.specs.CommandLine.{check_app, check_rules};
@@ -12,12 +12,12 @@ use clap::{Arg, Command};
 use std::alloc::{AllocError, Global};
 use std::convert::AsStr;
 
-/// What `lc check` is asked for, as by `lc check --explain .gitignore`.
+/// The options of `lc check`, as in `lc check --explain .gitignore`.
 #[derive(Drop)]
 pub struct CheckRequest<'w> {
-    /// Each answer has the rule that decides.
+    /// Name the rule that decides each path.
     pub explain: bool,
-    /// The ignore file, as its path was given.
+    /// The path of the ignore file, as it was given.
     pub file: &'w str,
 }
 
@@ -30,7 +30,7 @@ fn args<'a>(alloc: Global) -> [Arg<'a>; 2]
     ]
 }
 
-/// The command, without its name among the words.
+/// Makes the clap command of `lc check`.
 pub(crate) fn command<'a>(alloc: Global) -> Result<Command<'a>, AllocError>
     ensures { IfOk result (IsCommandOf check_app) }
 {
@@ -47,7 +47,7 @@ pub(crate) fn command<'a>(alloc: Global) -> Result<Command<'a>, AllocError>
 }
 
 impl<'w> CheckRequest<'w> {
-    /// What the words after `check` ask for.
+    /// Reads the arguments after `check`.
     pub(crate) fn read<W: AsStr>(
         alloc: Global,
         words: &'w [W],

@@ -1,4 +1,4 @@
-//! The words of `lc count`.
+//! The command line of `lc count`.
 
 ghost use Rattle.std.specs.Prelude.{[], ◌∷◌, map, IfOk};
 ghost use Rattle.lc_arguments.specs.CommandLine.{count_rules, limit_rules, table_rules};
@@ -9,35 +9,35 @@ use crate::arguments::{bare, flag, number_option, text_option, word};
 use crate::exclusions::{Exclusions, exclusion_options};
 use crate::paths::{only, paths_in};
 use crate::request::{ParseExit, explained};
-use crate::shape::shape_in;
+use crate::table::table_in;
 use crate::{help, suggestions};
 use clap::{Arg, Command, Error};
 use lc_text::TableOptions;
 use std::alloc::{AllocError, Global};
 use std::convert::AsStr;
 
-/// What `lc count` is asked for, as by `lc count --threads 8 --exclude-from rules src`.
+/// The options of `lc count`, as in `lc count --threads 8 --exclude-from rules src`.
 #[derive(Drop)]
 pub struct CountRequest<'w> {
-    /// How many workers count at the same time: 1 to 16, and 4 where no word says it.
+    /// The number of threads: 1 to 16, by default 4.
     pub threads: u32,
-    /// The most directories, the counted one included: 1 to 1,048,576, and 65,536 where no word says it.
+    /// The most directories, DIR included: 1 to 1,048,576, by default 65,536.
     pub max_dirs: u32,
-    /// The table also has a line for each file.
+    /// List each counted file.
     pub files: bool,
-    /// The table also has the number of entries, and a line for each that is left out.
+    /// List each entry that is skipped, and print the number of entries.
     pub left_out: bool,
-    /// What leaves entries out beside the rules of the directory.
+    /// What is skipped beside what the directory's own rules ignore.
     pub exclusions: Exclusions<'w>,
-    /// The paths that alone are counted, relative to the directory and without a slash at their end; where there are none, all of it is.
+    /// The paths to count, relative to DIR and without a slash at the end. None stands for all of DIR.
     pub only: Vec<&'w [u8]>,
-    /// What the table is to look like: as `Tsv`, by all columns and in the order of keys where no word says it.
-    pub shape: TableOptions,
-    /// The directory, as its path was given: `.` is the one that the program runs in.
+    /// How the table is printed: by default as `Tsv`, by all columns, in the order of the keys.
+    pub table: TableOptions,
+    /// The path of DIR, as it was given. `.` is the directory that the program runs in.
     pub directory: &'w str,
 }
 
-/// What the table has and looks like.
+/// Makes the options that choose what is printed.
 fn table_options<'a>(alloc: Global) -> (Arg<'a>, Arg<'a>, Arg<'a>, Arg<'a>, Arg<'a>)
     ensures { AreArgsOf table_rules (result.0 ∷ result.1 ∷ result.2 ∷ result.3 ∷ result.4 ∷ []) }
 {
@@ -50,7 +50,7 @@ fn table_options<'a>(alloc: Global) -> (Arg<'a>, Arg<'a>, Arg<'a>, Arg<'a>, Arg<
     )
 }
 
-/// The bounds of a count.
+/// Makes the options that limit a count.
 fn limits<'a>(alloc: Global) -> (Arg<'a>, Arg<'a>)
     ensures { AreArgsOf limit_rules (result.0 ∷ result.1 ∷ []) }
 {
@@ -86,7 +86,7 @@ fn args<'a>(alloc: Global) -> [Arg<'a>; 12]
     ]
 }
 
-/// The command, without its name among the words.
+/// Makes the clap command of `lc count`.
 pub(crate) fn command<'a>(alloc: Global) -> Result<Command<'a>, AllocError>
     ensures { IfOk result IsCountCommand }
 {
@@ -102,7 +102,7 @@ pub(crate) fn command<'a>(alloc: Global) -> Result<Command<'a>, AllocError>
     command.args(args)
 }
 
-/// What an error of `clap` says of the arguments after `count`.
+/// Adds to an error of clap the count that the arguments may have meant.
 fn explained_count<W: AsStr>(alloc: Global, error: &Error, words: &[W]) -> ParseExit
     ensures { Explains error.now result }
 {
@@ -113,7 +113,7 @@ fn explained_count<W: AsStr>(alloc: Global, error: &Error, words: &[W]) -> Parse
 }
 
 impl<'w> CountRequest<'w> {
-    /// What the words after `count` ask for.
+    /// Reads the arguments after `count`.
     pub(crate) fn read<W: AsStr>(
         alloc: Global,
         words: &'w [W],
@@ -138,8 +138,8 @@ impl<'w> CountRequest<'w> {
             Ok(only) => only,
             Err(no) => return Err(no),
         };
-        let shape = match shape_in(alloc, &matches) {
-            Ok(shape) => shape,
+        let table = match table_in(alloc, &matches) {
+            Ok(table) => table,
             Err(no) => return Err(no),
         };
         Ok(CountRequest {
@@ -149,7 +149,7 @@ impl<'w> CountRequest<'w> {
             left_out: matches.get_flag("left-out"),
             exclusions,
             only,
-            shape,
+            table,
             directory: matches.get_str("DIR").unwrap_or(""),
         })
     }

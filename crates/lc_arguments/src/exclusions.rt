@@ -1,4 +1,4 @@
-//! What leaves entries out beside the rules of a directory, as the words say it.
+//! The options that skip entries beside a directory's own rules.
 
 ghost use Rattle.std.specs.Prelude.{◌≡◌, [], ◌∷◌, map, codes};
 ghost use Rattle.clap.specs.Matches.{found_of};
@@ -14,18 +14,18 @@ use clap::{Arg, ArgMatches};
 use lc_rules::is_attribute_name;
 use std::alloc::{AllocError, Global};
 
-/// What leaves entries out beside the rules of a directory, as by `--exclude-from rules --without linguist-vendored`.
+/// What is skipped beside what a directory's own rules ignore, as by `--exclude-from rules --without linguist-vendored`.
 #[derive(Drop)]
 pub struct Exclusions<'w> {
-    /// An ignore file for the whole tree, as its path was given: one that is not absolute begins where the program runs.
+    /// The path of an ignore file for the whole tree, as it was given: relative to the directory that the program runs in.
     pub from: Option<&'w str>,
-    /// What has the attribute `export-ignore` is left out.
+    /// Skip what has the attribute `export-ignore`.
     pub archive: bool,
-    /// What has one of these attributes Set is left out.
+    /// Skip what has one of these attributes Set.
     pub without: Vec<&'w str>,
 }
 
-/// The options of exclusions.
+/// Makes the options that skip entries.
 pub(crate) fn exclusion_options<'a>(alloc: Global) -> (Arg<'a>, Arg<'a>, Arg<'a>)
     ensures { AreArgsOf exclusion_rules (result.0 ∷ result.1 ∷ result.2 ∷ []) }
 {
@@ -36,7 +36,7 @@ pub(crate) fn exclusion_options<'a>(alloc: Global) -> (Arg<'a>, Arg<'a>, Arg<'a>
     )
 }
 
-/// Why the words are refused that name what is no attribute's name.
+/// Makes the refusal of a value that no attribute can be named.
 fn misnamed(alloc: Global, name: &str) -> ParseExit
     ensures { IsRefusal result }
 {
@@ -48,7 +48,7 @@ fn misnamed(alloc: Global, name: &str) -> ParseExit
     )
 }
 
-/// The attributes of these names.
+/// Reads the names of attributes.
 fn attributes<'w>(alloc: Global, names: &[&'w str]) -> Result<Vec<&'w str>, ParseExit>
     ensures { AnswersNames (map (λ name. name.now) names.now) result }
 {
@@ -64,7 +64,7 @@ fn attributes<'w>(alloc: Global, names: &[&'w str]) -> Result<Vec<&'w str>, Pars
 }
 
 impl<'w> Exclusions<'w> {
-    /// Those that were read.
+    /// Takes the values that clap read.
     pub(crate) fn read(alloc: Global, matches: &ArgMatches<'w>) -> Result<Exclusions<'w>, ParseExit>
         ensures { AnswersExclusions (rows_of (found_of matches.now)) result }
     {

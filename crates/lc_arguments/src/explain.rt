@@ -1,4 +1,4 @@
-//! The words of `lc explain`.
+//! The command line of `lc explain`.
 
 ghost use Rattle.std.specs.Prelude.{◌≡◌, IfOk, map, codes};
 ghost use Rattle.lc_arguments.specs.CommandLine.{explain_app, explain_rules, words_rule};
@@ -13,14 +13,14 @@ use clap::{Arg, ArgAction, Command};
 use std::alloc::{AllocError, Global};
 use std::convert::AsStr;
 
-/// What `lc explain` is asked for, as by `lc explain . a.log src/m.c`.
+/// The options of `lc explain`, as in `lc explain . a.log src/m.c`.
 #[derive(Drop)]
 pub struct ExplainRequest<'w> {
-    /// What leaves entries out beside the rules of the directory.
+    /// What is skipped beside what the directory's own rules ignore.
     pub exclusions: Exclusions<'w>,
-    /// The directory, as its path was given.
+    /// The path of DIR, as it was given.
     pub directory: &'w str,
-    /// The paths that are asked about, relative to the directory; where there are none they come on standard input.
+    /// The paths to explain, relative to DIR. If there are none, they come on standard input.
     pub paths: Vec<&'w str>,
 }
 
@@ -45,7 +45,7 @@ fn args<'a>(alloc: Global) -> [Arg<'a>; 5]
     ]
 }
 
-/// The command, without its name among the words.
+/// Makes the clap command of `lc explain`.
 pub(crate) fn command<'a>(alloc: Global) -> Result<Command<'a>, AllocError>
     ensures { IfOk result (IsCommandOf explain_app) }
 {
@@ -62,7 +62,7 @@ pub(crate) fn command<'a>(alloc: Global) -> Result<Command<'a>, AllocError>
 }
 
 impl<'w> ExplainRequest<'w> {
-    /// What the words after `explain` ask for.
+    /// Reads the arguments after `explain`.
     pub(crate) fn read<W: AsStr>(
         alloc: Global,
         words: &'w [W],

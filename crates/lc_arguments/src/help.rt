@@ -9,7 +9,7 @@ macro_rules! version {
 
 pub(crate) const VERSION: &str = version!("");
 
-/// The version with the logic in which the program was proved, as `rt version` shows it.
+/// The version of the program, and the logic in which it was proved, as `rt version` prints it.
 pub(crate) const LONG_VERSION: &str = version!("\nproved in Rattle's logic dac8208d650f15bf");
 
 pub(crate) const ABOUT: &str =
@@ -139,7 +139,7 @@ const WHAT_IS_PRINTED: &str = "What is printed";
 /// The heading of the options that limit a count.
 const LIMITS: &str = "Limits";
 
-/// The help of an option: for `-h` in one line, for `--help` in several.
+/// Sets the help of an option: one line for `-h`, several for `--help`.
 #[derive(Clone, Copy)]
 pub(crate) struct OptionHelp {
     pub(crate) heading: &'static str,

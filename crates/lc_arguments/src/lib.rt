@@ -1,10 +1,9 @@
-//! What the words of a command line ask for, as `clap` reads them.
+//! The command line, which clap reads.
 //!
-//! - `request`: what is asked for, or why nothing is; the words that name no command
-//! - `count`, `check`, `explain`: the words of each command; `shape`: what a count's words say of its table, `paths`: which paths they
-//!   ask for
-//! - `exclusions`: what leaves entries out, for counts and explanations; `arguments`: what several commands have
-//! - `refusals`: what is written of arguments that are refused; `suggestions`: what they may have meant
+//! - `request`: what the program is asked to do, or why it does nothing; arguments without a command
+//! - `count`, `check`, `explain`: the options of each command; `table`: those of the table; `paths`: those of `--only`
+//! - `exclusions`: what counts and explanations skip; `arguments`: the forms of options
+//! - `refusals`: the text of a refusal, as a terminal shows it; `suggestions`: what refused arguments may have meant
 //! - `help`: the texts of help and of the version
 #![tactic(auto)]
 
@@ -17,8 +16,8 @@ mod help;
 mod paths;
 mod refusals;
 mod request;
-mod shape;
 mod suggestions;
+mod table;
 
 pub use check::CheckRequest;
 pub use count::CountRequest;

@@ -1,4 +1,4 @@
-//! The paths that a count is asked for, as by `--only src --only doc`.
+//! The paths of `--only`, as in `--only src --only doc`.
 
 ghost use Rattle.std.specs.Prelude.{◌≡◌, map, codes};
 ghost use Rattle.clap.specs.Matches.{found_of};
@@ -20,7 +20,7 @@ pub(crate) fn only<'a>(alloc: Global) -> Arg<'a>
     texts_option(alloc, "only", "PATH", help::ONLY)
 }
 
-/// Why words are refused that ask for what can't be a path.
+/// Makes the refusal of a value that is no path below DIR.
 fn misplaced(alloc: Global, word: &str) -> ParseExit
     ensures { IsRefusal result }
 {
@@ -32,7 +32,7 @@ fn misplaced(alloc: Global, word: &str) -> ParseExit
     )
 }
 
-/// The paths of these words, each without a slash at its end.
+/// Reads paths, and drops a slash at the end of each.
 fn paths_of<'w>(alloc: Global, words: &[&'w str]) -> Result<Vec<&'w [u8]>, ParseExit>
     ensures { AnswersPaths (map (λ word. word.now) words.now) result }
 {
@@ -49,7 +49,7 @@ fn paths_of<'w>(alloc: Global, words: &[&'w str]) -> Result<Vec<&'w [u8]>, Parse
     Ok(paths)
 }
 
-/// The paths that were read, in their order.
+/// Takes the paths that clap read, in their order.
 pub(crate) fn paths_in<'w>(
     alloc: Global,
     matches: &ArgMatches<'w>,

@@ -1,4 +1,4 @@
-//! What is written of arguments that are refused: nothing that was typed reaches a terminal as it is.
+//! The text of refusals: no control character that was typed reaches a terminal.
 
 ghost use Rattle.std.specs.Prelude.{◌≡◌, ◌++◌, IfOk, OnOk, chars, flat_map, string_bytes};
 ghost use Rattle.lc_arguments.specs.Refusals.{IsMessage, message_char};
@@ -7,7 +7,7 @@ use lc_text::push_visible;
 use std::alloc::{AllocError, Global};
 use std::convert::AsStr;
 
-/// Copies of arguments, as a terminal shows them.
+/// Copies arguments as a terminal shows them.
 pub(crate) fn visible_words<W: AsStr>(
     alloc: Global,
     words: &[W],
@@ -31,8 +31,8 @@ fn push_message_char(message: &mut String, c: char) -> Result<(), AllocError>
     push_visible(message, c.encode_utf8(&mut buffer).as_bytes())
 }
 
-/// The lines of a message, with `\x` and two digits for each byte of a character that moves a terminal's cursor or turns the
-/// direction of text. Backslashes stay as they are.
+/// Escapes a message: `\x` and two digits stand for each byte of a character that moves a terminal's cursor or turns the direction of
+/// text. Backslashes stay as they are.
 ///
 /// ```
 /// assert!(rt; message(rt.alloc(), "no \u{1b}[2J\n")?.as_str() == "no \\x1b[2J\n");

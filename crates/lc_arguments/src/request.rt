@@ -1,4 +1,4 @@
-//! What the words after the program's name ask for.
+//! What the arguments of the program ask for.
 
 ghost use Rattle.std.specs.Prelude.{◌≡◌, IfErr, IfOk, map, string_bytes};
 ghost use Rattle.lc_arguments.specs.CommandLine.{bare_lc_app, lc_app, subcommand_apps};
@@ -17,27 +17,27 @@ use clap::{Command, Error};
 use std::alloc::{AllocError, Global};
 use std::convert::AsStr;
 
-/// What the program is asked for.
+/// What the program is asked to do.
 #[derive(Drop)]
 pub enum Request<'w> {
-    /// Rules and paths come joined on standard input, as for no words at all.
+    /// Check paths by rules, both on standard input: no arguments at all.
     CheckJoined,
-    /// The rules of a file, and paths on standard input, as for `check .gitignore`.
+    /// Check the paths on standard input by the rules of a file, as `check .gitignore`.
     Check(CheckRequest<'w>),
-    /// The table of a directory, as for `count --files src`.
+    /// Count a directory, as `count --files src`.
     Count(CountRequest<'w>),
-    /// What the rules of a directory say of paths, and which rule says it, as for `explain . a.log`.
+    /// Explain which rule of a directory decides each path, as `explain . a.log`.
     Explain(ExplainRequest<'w>),
 }
 
-/// Why the words ask for nothing.
+/// Why the program does none of this.
 #[derive(Drop)]
 pub enum ParseExit {
-    /// They want help or the version, which is this text, as for `--help`. It belongs on standard output.
+    /// Help or the version was asked for. The text belongs on standard output.
     Shown(String),
-    /// They are refused, and this text says why, as for `count --threads 17 .`. It belongs on standard error.
+    /// The arguments are refused, as `count --threads 17 .`. The text says why, and belongs on standard error.
     Refused(String),
-    /// There is no memory to read them.
+    /// There is no memory to read the arguments.
     Memory,
 }
 
@@ -68,7 +68,7 @@ fn subcommands<'a>(alloc: Global) -> Result<Vec<Command<'a>>, AllocError>
     Ok(vec![in alloc; count, check, explain]?)
 }
 
-/// The command line without the program's name, for what belongs to no command: help, the version, refusals.
+/// Makes the clap command of the program, for help, the version, and arguments without a command.
 fn command<'a>(alloc: Global) -> Result<Command<'a>, AllocError>
     ensures { IfOk result (IsCommandOf lc_app) }
 {
@@ -77,7 +77,7 @@ fn command<'a>(alloc: Global) -> Result<Command<'a>, AllocError>
     command.subcommands(subcommands)
 }
 
-/// What an error of `clap` says, with a command that works where an argument is missing, unknown or no command.
+/// Turns an error of clap into the end of the program. Where an argument is missing or unknown, the text names a command that works.
 pub(crate) fn explained(alloc: Global, error: &Error, example: &str) -> ParseExit
     ensures { Explains error.now result }
 {
@@ -98,7 +98,7 @@ pub(crate) fn explained(alloc: Global, error: &Error, example: &str) -> ParseExi
     }
 }
 
-/// Why the value of an option is refused.
+/// Makes the refusal of an option's value.
 pub(crate) fn refused(alloc: Global, option: &str, value: &str, why: &str) -> ParseExit
     ensures { IsRefusal result }
 {
@@ -111,7 +111,7 @@ pub(crate) fn refused(alloc: Global, option: &str, value: &str, why: &str) -> Pa
     }
 }
 
-/// What an error of `clap` says of arguments that name no command.
+/// Adds to an error of clap the command that the arguments may have meant.
 fn explained_others<W: AsStr>(alloc: Global, error: &Error, words: &[W]) -> ParseExit
     ensures { Explains error.now result }
 {
@@ -122,7 +122,7 @@ fn explained_others<W: AsStr>(alloc: Global, error: &Error, words: &[W]) -> Pars
     explained(alloc, error, suggestions::command(first, &why))
 }
 
-/// What words ask for that name no command.
+/// Reads arguments that name no command.
 fn read_others<'w, W: AsStr>(alloc: Global, words: &'w [W]) -> Result<Request<'w>, ParseExit>
     ensures { AnswersOthers (map W.text words.entry.now) result }
 {
@@ -136,8 +136,7 @@ fn read_others<'w, W: AsStr>(alloc: Global, words: &'w [W]) -> Result<Request<'w
     }
 }
 
-/// What arguments ask for. A command reads the arguments after its name by itself, so that what it reads of them is known to lie in its
-/// ranges.
+/// Reads the arguments of the program. Each command reads the arguments after its name itself, so their values are known to be in range.
 fn read_words<'w, W: AsStr>(alloc: Global, words: &'w [W]) -> Result<Request<'w>, ParseExit>
     ensures { AnswersWords (map W.text words.entry.now) result }
 {
@@ -165,7 +164,8 @@ fn read_words<'w, W: AsStr>(alloc: Global, words: &'w [W]) -> Result<Request<'w>
     read_others(alloc, words)
 }
 
-/// Why arguments are refused, where `why` quotes them as they were typed.
+/// Reads refused arguments once more from escaped copies, so that the refusal quotes them as a terminal shows them. `why` quotes them as
+/// they were typed.
 fn refusal<W: AsStr>(alloc: Global, words: &[W], why: &str) -> Result<String, AllocError>
     ensures { IfOk result (λ text. IsMessage (string_bytes text)) }
 {
@@ -178,9 +178,9 @@ fn refusal<W: AsStr>(alloc: Global, words: &[W], why: &str) -> Result<String, Al
 }
 
 impl<'w> Request<'w> {
-    /// What the arguments after the program's name ask for: those of `count .` the table of this directory.
+    /// Reads the arguments after the program's name.
     ///
-    /// Why they are refused quotes them as a terminal shows them ([`push_visible`](lc_text::push_visible)).
+    /// A refusal quotes them as a terminal shows them ([`push_visible`](lc_text::push_visible)).
     pub fn read<W: AsStr>(alloc: Global, words: &'w [W]) -> Result<Request<'w>, ParseExit>
         ensures answers { AnswersWords (map W.text words.entry.now) result }
         ensures visible { IfErr result IsRefusedVisibly }

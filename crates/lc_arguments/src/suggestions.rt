@@ -1,19 +1,19 @@
-//! What arguments that are refused may have meant. Each suggestion of a count works wherever it is typed.
+//! What refused arguments may have meant. Each suggested command works wherever it is typed.
 
 use lc_text::{is_bad_path, split_slash};
 use std::alloc::{AllocError, Global};
 use std::convert::AsStr;
 
-/// A count of this directory.
+/// Counts this directory.
 const COUNT: &str = "lc count .";
 
-/// An explanation, which answers whether or not the path is there.
+/// Explains a path, whether or not it is there.
 pub(crate) const EXPLAIN: &str = "lc explain . README.md";
 
-/// A check by the ignore file that most repositories have.
+/// Checks paths by the ignore file that most repositories have.
 pub(crate) const CHECK: &str = "git ls-files | lc check .gitignore";
 
-/// The count that an argument asks for which is no option: what people try because other tools have it.
+/// Finds the count that an unknown option may have meant: what people try because other tools have it.
 fn count_meant(word: &str) -> Option<&'static str> {
     match word {
         "--json" | "json" => Some("lc count --format json ."),
@@ -22,7 +22,7 @@ fn count_meant(word: &str) -> Option<&'static str> {
     }
 }
 
-/// Whether a shell takes an argument as it is, and it can be a path of `--only`.
+/// Tells whether an argument can be a path of `--only`, and a shell takes it as it is.
 fn is_part(word: &str) -> bool {
     let is_plain = |byte: u8| byte.is_ascii_alphanumeric()
         || matches!(byte, b'.' | b'_' | b'-' | b'/');
@@ -39,7 +39,7 @@ fn are_parts<W: AsStr>(words: &[W]) -> bool {
     words.len() > 1
 }
 
-/// A count of several parts of this directory.
+/// Suggests a count of several parts of this directory.
 fn count_of_parts<W: AsStr>(alloc: Global, words: &[W]) -> Result<String, AllocError> {
     let mut text = String::from_str(alloc, "lc count")?;
     for word in words {
@@ -50,7 +50,7 @@ fn count_of_parts<W: AsStr>(alloc: Global, words: &[W]) -> Result<String, AllocE
     Ok(text)
 }
 
-/// The count that arguments after `count` may have meant.
+/// Finds the count that arguments after `count` may have meant.
 ///
 /// ```
 /// assert!(rt; count(rt.alloc(), &["src", "doc"])?.as_str() == "lc count --only src --only doc .");
@@ -68,7 +68,7 @@ pub(crate) fn count<W: AsStr>(alloc: Global, words: &[W]) -> Result<String, Allo
     String::from_str(alloc, COUNT)
 }
 
-/// The command that a first argument may have meant which names none; `why` is what clap says of it, which names a similar command.
+/// Finds the command that a first argument may have meant if it is no command. `why` is clap's text, which names a similar command.
 pub(crate) fn command(word: &str, why: &str) -> &'static str {
     if word == "version" || word == "-v" {
         "lc --version"

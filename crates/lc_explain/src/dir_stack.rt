@@ -1,4 +1,4 @@
-//! The way to a path.
+//! The directories above a path that were opened, from the top down.
 
 ghost use Rattle.std.specs.Prelude.{◌≡◌, ◌∷◌, [], ◌++◌, ◌-◌, ◌≤◌, length, map, slice_get, IfOk, IfSome};
 ghost use Rattle.std.specs.Arc.{arc_value};
@@ -13,7 +13,7 @@ use std::alloc::{AllocError, Global};
 use std::marker::Model;
 use std::sync::Arc;
 
-/// The bytes of a text; none where there is no text.
+/// Returns the bytes of a text, or none if there is no text.
 fn text_or_none(text: &Option<Vec<u8>>) -> &[u8]
     ensures { result.now ≡ text_or_none (text_items text.now) }
 {
@@ -23,7 +23,7 @@ fn text_or_none(text: &Option<Vec<u8>>) -> &[u8]
     }
 }
 
-/// These directories, each with one owner more.
+/// Shares each directory once more.
 fn shared(
     alloc: Global,
     directories: &[Arc<OpenDir, Global>],
@@ -37,7 +37,7 @@ fn shared(
     Ok(same)
 }
 
-/// Directories that were entered, from the top down. Ways share those that stand on both.
+/// The opened directories from the top down to one directory. Stacks share the directories that both have.
 #[derive(Drop)]
 pub(crate) struct DirStack {
     directories: Vec<Arc<OpenDir, Global>>,
@@ -54,7 +54,7 @@ impl Model for DirStack {
 }
 
 impl DirStack {
-    /// The way to the top.
+    /// Makes the stack of the top directory.
     pub(crate) fn top(alloc: Global, top: OpenDir) -> Result<DirStack, AllocError>
         ensures { IfOk result (λ stack. stack ≡ top ∷ []) }
     {
@@ -63,7 +63,7 @@ impl DirStack {
         Ok(DirStack { directories })
     }
 
-    /// The way to a directory in the last one.
+    /// Makes the stack of a directory in the last one.
     pub(crate) fn with(&self, alloc: Global, directory: OpenDir) -> Result<DirStack, AllocError>
         ensures { IfOk result (λ stack. stack ≡ self.now ++ directory ∷ []) }
     {
@@ -72,7 +72,7 @@ impl DirStack {
         Ok(DirStack { directories })
     }
 
-    /// Its first directories, this many of them.
+    /// Makes the stack of the first `count` directories.
     pub(crate) fn first(&self, alloc: Global, count: usize) -> Result<DirStack, AllocError>
         requires { count ≤ length self.now }
         ensures { IfOk result (λ stack. IsFirstOf stack self.now) }
@@ -81,14 +81,14 @@ impl DirStack {
         Ok(DirStack { directories })
     }
 
-    /// The number of its directories.
+    /// Returns the number of directories.
     pub(crate) fn len(&self) -> usize
         ensures { result ≡ length self.now }
     {
         self.directories.len()
     }
 
-    /// The directory that it leads to.
+    /// Returns the lowest directory.
     pub(crate) fn last(&self) -> Option<&OpenDir>
         ensures { option_copied result ≡ slice_get self.now (length self.now - 1) }
     {
@@ -98,7 +98,7 @@ impl DirStack {
         }
     }
 
-    /// What is left of a path below the directory that it leads to, where it stands below it.
+    /// Returns the rest of a path below the lowest directory, if the path is below it.
     pub(crate) fn rest_of<'p>(&self, path: &'p [u8]) -> Option<&'p [u8]>
         ensures { IfSome result (λ rest. StandsBelow self.now path.now rest.now) }
     {
@@ -108,7 +108,7 @@ impl DirStack {
         last.rest_of(path)
     }
 
-    /// The text of the file of rules of this source; empty where none was read.
+    /// Returns the bytes of a rule file above the path, or none if it wasn't there.
     pub(crate) fn text<'w>(&'w self, exclude: &'w [u8], source: RuleSource) -> &'w [u8]
         ensures { result.now ≡ text_in exclude.now self.now source }
     {

@@ -1,4 +1,4 @@
-//! What is asked of an explanation, beside the paths.
+//! The options of an explanation.
 
 ghost use Rattle.std.specs.Prelude.{◌≡◌, option_map, IfOk};
 ghost use Rattle.lc_level.specs.RuleReads.{shared};
@@ -11,7 +11,7 @@ use lc_text::{PathStyle, RuleText};
 use std::alloc::{AllocError, Global};
 use std::sync::Arc;
 
-/// What is asked, beside the paths, and how it is answered.
+/// The options of an explanation.
 ///
 /// ```
 /// let options = ExplainOptions { exclude: None, selection: Selection::new(false, &[]), style: PathStyle::Escaped };
@@ -20,14 +20,15 @@ use std::sync::Arc;
 pub struct ExplainOptions<'o> {
     /// Rules for the whole tree, which every `.gitignore` overrides, as Git's `core.excludesFile` (gitignore(5)).
     pub exclude: Option<RuleText>,
-    /// What is left out beside what rules ignore, by its attributes. All paths take part, whatever the selection was narrowed to.
+    /// The attributes by which a walk skips entries that no rule ignores. Every path may be asked about: the paths of `--only` in it
+    /// are not looked at.
     pub selection: Selection<'o>,
     /// How paths and patterns are printed.
     pub style: PathStyle,
 }
 
 impl<'o> ExplainOptions<'o> {
-    /// The rules of the exclude file, if there is one.
+    /// Reads the rules of the exclude file, if there is one.
     pub(crate) fn exclude_rules(&self) -> Result<Option<Arc<IgnoreFile, Global>>, AllocError>
         ensures { IfOk result (λ file. shared file ≡ option_map rules_of self.now.exclude) }
     {
@@ -37,7 +38,7 @@ impl<'o> ExplainOptions<'o> {
         }
     }
 
-    /// The text of the exclude file; empty where there is none.
+    /// Returns the bytes of the exclude file, or none if there is no such file.
     pub(crate) fn exclude_text(&self) -> &[u8]
         ensures { result.now ≡ text_or_none self.now.exclude }
     {

@@ -1,4 +1,4 @@
-//! What is found of a path, from the top of the tree down.
+//! Explaining one path, from the top of the tree down.
 
 ghost use Rattle.std.specs.Prelude.{◌≡◌, ℕ, List, [], Some, true, false, option_map, IfOk, OnOk};
 ghost use Rattle.lc_glob.specs.Path.{path_in, segments_of};
@@ -25,7 +25,7 @@ use lc_text::{PathStyle, is_bad_path};
 use lc_tree::{Kind, Tree};
 use std::alloc::{AllocError, Global};
 
-/// As what a name is asked about, by what stands under it.
+/// Returns the kind that rules are asked about: that of the entry, or what the path says if there is no entry.
 fn kind_asked(as_dir: bool, there: Option<Kind>) -> Kind
     ensures { result ≡ kind_asked as_dir there }
 {
@@ -83,8 +83,8 @@ impl<'t, T: Tree> Explainer<'t, T> {
         })
     }
 
-    /// Enters the directory of a job, below the end of a kept way or at the top, and gives the number of the way to it; or tells why it
-    /// can't be entered.
+    /// Opens a directory in the last one of a stack, or the top, and caches its stack. It returns the stack's number, or why the
+    /// directory can't be opened.
     fn enter<'p>(
         &self,
         kept: &mut StackCache,
@@ -114,7 +114,7 @@ impl<'t, T: Tree> Explainer<'t, T> {
         }
     }
 
-    /// Of the last name of a path, in a directory or below one.
+    /// Explains a path by its last name, in the directory of the job.
     fn last<'p>(
         &self,
         job: &Job,
@@ -139,7 +139,8 @@ impl<'t, T: Tree> Explainer<'t, T> {
         }
     }
 
-    /// Of what is left of a path below what is not there, or is no directory: the job is that of such a place.
+    /// Explains the rest of a path below something that is no directory, or isn't there, by the rules above it. The job is that of
+    /// such a place.
     fn beside<'p>(
         &self,
         job: Job,
@@ -168,7 +169,7 @@ impl<'t, T: Tree> Explainer<'t, T> {
         }
     }
 
-    /// Of what is left of a path below the last directory of a kept way.
+    /// Explains the rest of a path below the last directory of a stack.
     fn descend<'p>(
         &self,
         kept: &mut StackCache,
@@ -217,7 +218,7 @@ impl<'t, T: Tree> Explainer<'t, T> {
         }
     }
 
-    /// What is found of a path. The ways to the directories that were entered for it are kept.
+    /// Explains a path. The directories that are opened for it are cached.
     pub(crate) fn find<'p>(
         &self,
         kept: &mut StackCache,

@@ -1,4 +1,4 @@
-//! The lines of an input, or words, explained and written.
+//! Explaining the lines of an input, or words.
 
 ghost use Rattle.std.specs.Prelude.{◌≡◌, map};
 ghost use Rattle.lc_explain.specs.Explain.{MaySay, AnswersLines, AnswersExplain, input_fault, print_fault};
@@ -13,7 +13,7 @@ use lc_tree::Tree;
 use std::alloc::{AllocError, Global};
 use thiserror::Error;
 
-/// Why explanations were not written, or not whole.
+/// Why explanations were not written, or were cut short.
 #[derive(Debug, Clone, Copy, PartialEq, Eq, Error)]
 pub enum ExplainFault {
     /// A read of the input failed.
@@ -61,26 +61,26 @@ impl From<PrintFault> for ExplainFault {
     }
 }
 
-/// Reads paths to the input's end, at most `MAX_INPUT` bytes, and writes a line for each: what decides it in a tree.
+/// Reads paths to the end of the input, at most `MAX_INPUT` bytes, and writes for each which rule of a tree decides it.
 ///
-/// A line of the text is four fields with tabs between: a word, where that comes from, a pattern, and the line of paths as it came.
-/// Paths and patterns are printed in the style of the options. One slash at a path's end means a directory; else the tree is asked, and what
-/// isn't there is taken for a file. The word is the first that holds on the way from the top down to the path of
+/// A line of the output has four fields, separated by tabs: a word, its source, a pattern, and the line of the input. Paths and patterns
+/// are printed in the style of the options. A path that ends with one slash is a directory; for any other the tree is asked, and a path
+/// that isn't there is taken for a file. The word is the first of these that holds, from the top directory down to the path:
 ///
 /// - `bad`: no entry of a tree can have this path;
-/// - `fault`: a directory on the way could not be listed, or a rule file of it not be read; then come the word of the fault, a dash, and
-///   the path at fault;
-/// - `below`: a directory above the path is ignored by a rule, the highest of them by this one;
-/// - `ignored`, `included`, `none`: the rule that decides the path, or none does;
-/// - `left`: no rule leaves it out, but a walk does, it or a directory above it: it is named `.git` (`git`), an attribute is Set for it
+/// - `fault`: a directory above the path could not be listed, or a rule file could not be read. Then come the word of the fault, a dash
+///   and the path at fault;
+/// - `below`: a rule ignores a directory above the path; the line names the rule of the highest such directory;
+/// - `ignored`, `included`, `none`: the last rule that matches the path, or that no rule matches;
+/// - `left`: no rule ignores the path, but a walk skips it or a directory above it: it is named `.git` (`git`), an attribute is Set for it
 ///   (`attribute:NAME`), or it is neither a file nor a directory (`other`).
 ///
-/// Of a rule the file and the number of its line are told, as `src/.gitignore:3`, and the text of that line.
+/// The source of a rule is its file and the number of its line, as `src/.gitignore:3`; the pattern is the text of that line.
 ///
-/// The text is written in blocks as it is made ([`Block`](lc_text::Block)). After a fault of the input nothing was written, and after any
-/// other a prefix of the text of the first lines, which may be all.
+/// The text is written in blocks as it is made ([`Block`](lc_text::Block)). If the input can't be read, nothing was written; after any
+/// other fault a prefix of the text of the first lines was written, perhaps all of it.
 ///
-/// A directory is listed and its rules are read once, in whatever order the paths come, while the directories that were entered take no
+/// Each directory is listed once and its rules are read once, whatever the order of the paths, as long as the opened directories take no
 /// more than about [`MAX_KEPT`](crate::MAX_KEPT) bytes. Past that this holds only for paths in the order of a walk.
 ///
 /// ```
@@ -106,9 +106,9 @@ pub fn explain<T: Tree, S: Source, O: Sink>(
     Ok(outcome)
 }
 
-/// Writes a line for each of these paths, as [`explain`] does for the lines of an input.
+/// Explains these paths, as [`explain`] does the lines of an input.
 ///
-/// After any fault a prefix of the text of the first words was written.
+/// After a fault a prefix of the text of the first words was written.
 pub fn explain_words<T: Tree, O: Sink>(
     alloc: Global,
     tree: &T,

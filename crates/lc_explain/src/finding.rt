@@ -1,4 +1,4 @@
-//! What is found of a path.
+//! The explanation of one path, before it is printed.
 
 ghost use Rattle.std.specs.Prelude.{◌≡◌, ℕ, Some, None};
 ghost use Rattle.lc_level.specs.Reasons.{reason_model};
@@ -10,14 +10,14 @@ ghost use Rattle.lc_explain.specs.Findings.{explanation_of};
 use lc_level::{FaultSite, FaultWord, Reason};
 use lc_rules::RuleSource;
 
-/// Where a rule stands: the source of its file, and the number of its line there, from 1.
+/// The file of a rule, and the number of its line there, from 1.
 #[derive(Clone, Copy, Debug)]
 pub(crate) struct RulePlace {
     pub(crate) source: RuleSource,
     pub(crate) line: u32,
 }
 
-/// A directory that could not be entered: its path, and where it is at fault.
+/// A directory that could not be opened: its path, and what is at fault.
 #[derive(Clone, Copy, Debug)]
 pub(crate) struct DirectoryFault<'a> {
     pub(crate) directory: &'a [u8],
@@ -25,26 +25,26 @@ pub(crate) struct DirectoryFault<'a> {
     pub(crate) word: FaultWord,
 }
 
-/// What is found of a path.
+/// The explanation of one path.
 #[derive(Debug, Drop)]
 pub(crate) enum Finding<'a> {
     /// No entry of a tree can have this path.
     Bad,
-    /// A directory on the way is at fault.
+    /// A directory above the path is at fault.
     Fault(DirectoryFault<'a>),
-    /// Of the ignored directories above it the highest is ignored by this rule.
+    /// This rule ignores the highest ignored directory above the path.
     Below(RulePlace),
-    /// This rule decides it, and ignores it.
+    /// This rule is the last that matches, and ignores the path.
     Ignored(RulePlace),
-    /// This rule decides it, and includes it again.
+    /// This rule is the last that matches, and includes the path again.
     Included(RulePlace),
-    /// No rule decides it, and the walk takes it.
+    /// No rule matches, and a walk takes the path.
     NoRule,
-    /// The walk leaves it out, or a directory above it, for this reason, which is no rule.
+    /// A walk skips the path, or a directory above it, for this reason, which is no rule.
     Skipped(Reason),
 }
 
-/// What is found of a path, and the number of the kept way on which it is, if a directory was entered.
+/// A finding, with the number of the stack of the directories above the path, if any was opened.
 #[derive(Debug, Drop)]
 pub(crate) struct Found<'a> {
     pub(crate) finding: Finding<'a>,
@@ -52,7 +52,7 @@ pub(crate) struct Found<'a> {
 }
 
 impl<'a> Found<'a> {
-    /// On the kept way of this number.
+    /// Makes a finding below the directories of a stack.
     pub(crate) fn on(at: usize, finding: Finding<'a>) -> Found<'a>
         ensures { result ≡ record { finding = finding.entry; to = Some at } }
     {
@@ -62,7 +62,7 @@ impl<'a> Found<'a> {
         }
     }
 
-    /// Where no directory was entered.
+    /// Makes a finding for which no directory was opened.
     pub(crate) fn on_none(finding: Finding<'a>) -> Found<'a>
         ensures { result ≡ record { finding = finding.entry; to = None } }
     {
@@ -71,9 +71,10 @@ impl<'a> Found<'a> {
 }
 
 impl<'a> Finding<'a> {
-    /// Of a path that is left out.
+    /// Makes the finding of a path that is skipped itself.
     pub(crate) fn left_out(reason: Reason) -> Finding<'a>
-        ensures { (cite : RuleSource → ℕ → CitedRule) → explanation_of cite result ≡ said_for cite explained.ignored (reason_model reason) }
+        ensures { (cite : RuleSource → ℕ → CitedRule) → explanation_of cite result
+            ≡ said_for cite explained.ignored (reason_model reason) }
     {
         match reason {
             Reason::Rule { source, line } => Finding::Ignored(RulePlace { source, line }),
@@ -81,9 +82,10 @@ impl<'a> Finding<'a> {
         }
     }
 
-    /// Of a path below a directory that is left out.
+    /// Makes the finding of a path below a directory that is skipped.
     pub(crate) fn below(reason: Reason) -> Finding<'a>
-        ensures { (cite : RuleSource → ℕ → CitedRule) → explanation_of cite result ≡ said_for cite explained.below (reason_model reason) }
+        ensures { (cite : RuleSource → ℕ → CitedRule) → explanation_of cite result
+            ≡ said_for cite explained.below (reason_model reason) }
     {
         match reason {
             Reason::Rule { source, line } => Finding::Below(RulePlace { source, line }),

@@ -1,4 +1,4 @@
-//! A directory on the way to a path.
+//! A directory that was opened to explain a path below it.
 
 ghost use Rattle.std.specs.Prelude.{◌≡◌, ℕ, List, IfSome};
 ghost use Rattle.lc_level.specs.RuleReads.{text_items};
@@ -18,7 +18,7 @@ const DIRECTORY_BYTES: usize = 512;
 /// About how many bytes an entry takes beside its name.
 const ENTRY_BYTES: usize = 64;
 
-/// About how many bytes a byte of the directory's path takes: the path is there twice, and each name on it makes the way longer.
+/// About how many bytes a byte of the directory's path takes: the path is kept twice, and each name on it makes the stack longer.
 const PATH_BYTES: usize = 6;
 
 /// About how many bytes a byte of a file of rules takes: itself, and its part of the rules that it was read as.
@@ -43,14 +43,14 @@ fn size_of_text(text: &Option<Vec<u8>>) -> usize {
     }
 }
 
-/// A directory that was entered: with its own rule files in both chains, its entries, and the texts of its files of rules.
+/// A directory that was opened: its entries, its rule files, and both chains with them.
 #[derive(Drop)]
 pub(crate) struct OpenDir {
     pub(crate) job: Job,
     pub(crate) entries: Vec<Entry>,
     pub(crate) info: Option<Vec<u8>>,
     pub(crate) own: Option<Vec<u8>>,
-    // About how many bytes all of it takes.
+    // The memory that it takes, about, in bytes.
     size: usize,
 }
 
@@ -67,7 +67,7 @@ impl Model for OpenDir {
 }
 
 impl OpenDir {
-    /// The directory, by its level.
+    /// Keeps what a level reader found.
     pub(crate) fn new(entered: Entered) -> OpenDir
         requires { IsListing entered.entries.items }
         ensures { result ≡ record {
@@ -97,12 +97,12 @@ impl OpenDir {
         }
     }
 
-    /// About how many bytes it takes.
+    /// Returns about how many bytes of memory it takes.
     pub(crate) fn size(&self) -> usize {
         self.size
     }
 
-    /// What stands under a name, if anything does.
+    /// Returns the kind of the entry with a name, if there is one.
     pub(crate) fn kind(&self, name: &[u8]) -> Option<Kind>
         ensures { result ≡ kind_in self.now.entries name.now }
     {
@@ -115,7 +115,7 @@ impl OpenDir {
         }
     }
 
-    /// What is left of a path below this directory, where it stands below it.
+    /// Returns the rest of a path below this directory, if the path is below it.
     pub(crate) fn rest_of<'p>(&self, path: &'p [u8]) -> Option<&'p [u8]>
         ensures { IfSome result (λ rest. IsRestBelow self.now path.now rest.now) }
     {

@@ -1,4 +1,4 @@
-//! The text of what is found, a line for each path.
+//! The text of explanations, a line for each path.
 
 ghost use Rattle.std.specs.Prelude.{◌≡◌, ◌++◌, if◌then◌else◌, [], codes, IfOk, OnOk};
 ghost use Rattle.lc_level.specs.Reasons.{reason_model};
@@ -22,7 +22,7 @@ use lc_text::{
 use lc_tree::Tree;
 use std::alloc::{AllocError, Global};
 
-/// What the line of a file with this number is read as.
+/// Returns the line of a rule file with this number, as it is read: without a CR and the unquoted spaces at its end.
 fn line_text(bytes: &[u8], number: u32) -> &[u8]
     ensures { result.now ≡ line_text bytes.now number }
 {
@@ -38,7 +38,7 @@ fn line_text(bytes: &[u8], number: u32) -> &[u8]
     &[]
 }
 
-/// A rule as it is told of: where it stands, and the text of its line.
+/// A rule as it is printed: its file and line, and the text of that line.
 #[derive(Clone, Copy)]
 struct Cited<'a> {
     place: RulePlace,
@@ -60,7 +60,7 @@ impl<'a> Cited<'a> {
     }
 }
 
-/// Appends a line that no rule gives: its word, where that comes from, and the line of paths.
+/// Appends a line that names no rule: its word, its cause, and the input's line.
 fn push_plain(
     text: &mut Vec<u8>,
     style: PathStyle,
@@ -79,7 +79,7 @@ fn push_plain(
     text.extend_from_slice(b"\n")
 }
 
-/// Appends a line that a rule gives.
+/// Appends the line of a path that a rule ignores or includes, or that is below a directory that a rule ignores.
 fn push_ruled(
     text: &mut Vec<u8>,
     style: PathStyle,
@@ -101,7 +101,7 @@ fn push_ruled(
     text.extend_from_slice(b"\n")
 }
 
-/// Appends the line of what a walk leaves out for a reason that is no rule.
+/// Appends the line of a path that a walk skips for a reason that is no rule.
 fn push_skipped(
     text: &mut Vec<u8>,
     style: PathStyle,
@@ -125,7 +125,7 @@ fn push_skipped(
     }
 }
 
-/// Appends the line of a path on the way to which a directory is at fault.
+/// Appends the line of a path below a directory that is at fault.
 fn push_fault(
     text: &mut Vec<u8>,
     style: PathStyle,
@@ -141,7 +141,7 @@ fn push_fault(
     text.extend_from_slice(b"\n")
 }
 
-/// What is told of some lines: the end of their text, which is not written yet, and whether a directory was at fault.
+/// The output of an explanation: the text that is not written yet, and whether a directory was at fault.
 #[derive(Drop)]
 pub(crate) struct ExplainOutput {
     pub(crate) block: Block,
@@ -159,7 +159,7 @@ impl ExplainOutput {
         }
     }
 
-    /// Appends the line of what was found of a line's path.
+    /// Appends the line of a finding.
     fn push(
         &mut self,
         exclude: &[u8],
@@ -197,7 +197,7 @@ impl ExplainOutput {
         }
     }
 
-    /// Appends the line of one more line of paths.
+    /// Explains one more line of the input.
     pub(crate) fn tell<T: Tree>(
         &mut self,
         explainer: &Explainer<'_, T>,

@@ -1,4 +1,4 @@
-//! The text of what is found, written in blocks as it is made.
+//! Explanations of many paths, written in blocks as they are made.
 
 ghost use Rattle.std.specs.Prelude.{map};
 ghost use Rattle.lc_text.specs.Lines.{input_lines_of};

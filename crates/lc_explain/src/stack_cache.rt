@@ -1,4 +1,4 @@
-//! The ways to the directories that were entered, kept so that paths that come back to one don't enter it again.
+//! A cache of directory stacks, so that a path that comes back to a directory doesn't open it again.
 
 ghost use Rattle.std.specs.Prelude.{◌≡◌, ◌∷◌, ◌++◌, [], ◌-◌, Some, length, slice_get, IfOk, OnOk, IfSome};
 ghost use Rattle.std.specs.Option.{option_copied};
@@ -14,27 +14,27 @@ use std::alloc::{AllocError, Global};
 use std::collections::BTreeMap;
 use std::marker::Model;
 
-/// About how many bytes of directories are kept beside those above a path, so that paths that come back to one don't list it again:
-/// 96 MiB.
+/// The memory that opened directories may take before some of them are dropped: about 96 MiB.
 ///
-/// A directory that is entered while more is kept displaces all others but those above it, however large these are.
+/// The directories above the path at hand are kept however large they are. When more than this is held beside them, opening one more
+/// directory drops all others.
 pub const MAX_KEPT: usize = 96 * 1024 * 1024;
 
-/// A kept way to a directory above a path, by its number, and what is left of the path below that directory.
+/// A cached stack whose last directory is above a path, and the rest of the path below that directory.
 #[derive(Clone, Copy, Debug)]
 pub(crate) struct Near<'p> {
     pub(crate) at: usize,
     pub(crate) rest: &'p [u8],
 }
 
-/// The ways to the directories that were entered, by numbers.
+/// The stacks of the directories that were opened, by number.
 #[derive(Drop)]
 pub(crate) struct StackCache {
     alloc: Global,
     stacks: Vec<DirStack>,
-    // The numbers of the ways by the paths to which they lead. These are hints alone: a way is taken for what it is.
+    // The number of the stack whose last directory has this path. It is only a hint: whoever follows it checks the stack.
     places: BTreeMap<Vec<u8>, usize>,
-    // About how many bytes the directories take to which the ways lead, and how many they may take before some are dropped.
+    // About how many bytes the last directories of all stacks take, and how many they may take before some are dropped.
     held: usize,
     limit: usize,
     pub(crate) scratch: Scratch,
@@ -50,7 +50,7 @@ impl Model for StackCache {
 }
 
 impl StackCache {
-    /// No way is kept.
+    /// Makes an empty cache.
     pub(crate) fn new(alloc: Global) -> Result<StackCache, AllocError>
         ensures { IfOk result (λ kept. kept ≡ []) }
     {
@@ -64,7 +64,7 @@ impl StackCache {
         })
     }
 
-    /// The kept way to a directory, where it stands above a path.
+    /// Finds the stack of a directory, if it is cached and the directory is above the path.
     fn to<'p>(&self, directory: &[u8], path: &'p [u8]) -> Option<Near<'p>>
         ensures { IfSome result (λ near. StandsBelow (stack_at self.now near.at) path.now near.rest.now) }
     {
@@ -81,7 +81,7 @@ impl StackCache {
         }
     }
 
-    /// The kept way to the nearest directory above a path.
+    /// Finds the cached stack of the nearest directory above a path.
     pub(crate) fn nearest<'p>(&self, path: &'p [u8]) -> Option<Near<'p>>
         ensures { IfSome result (λ near. StandsBelow (stack_at self.now near.at) path.now near.rest.now) }
     {
@@ -95,7 +95,7 @@ impl StackCache {
         self.to(&[], path)
     }
 
-    /// The directory to which a way leads.
+    /// Returns the last directory of a stack.
     pub(crate) fn last(&self, at: usize) -> Option<&OpenDir>
         ensures { option_copied result ≡ slice_get (stack_at self.now at) (length (stack_at self.now at) - 1) }
     {
@@ -105,7 +105,7 @@ impl StackCache {
         }
     }
 
-    /// The text of the file of rules of this source that was read on a way; empty where none was.
+    /// Returns the bytes of a rule file that was read for a stack, or none if it wasn't there.
     pub(crate) fn text<'w>(
         &'w self,
         exclude: &'w [u8],
@@ -131,7 +131,7 @@ impl StackCache {
         }
     }
 
-    /// The way to a directory that was entered from the end of another, or to the top.
+    /// Makes the stack of a directory that was opened in the last directory of another stack, or of the top.
     pub(crate) fn below(
         &self,
         above: Option<usize>,
@@ -148,7 +148,7 @@ impl StackCache {
         }
     }
 
-    /// Appends a way, and gives its number.
+    /// Appends a stack and returns its number.
     fn push(&mut self, stack: DirStack) -> Result<usize, AllocError>
         ensures stacks { OnOk result (self.new ≡ self.old ++ stack ∷ []) }
         ensures at { IfOk result (λ at. at ≡ length self.old) }
@@ -163,7 +163,7 @@ impl StackCache {
         Ok(at)
     }
 
-    /// Drops all but the beginnings of a way, and sets the limit beyond what these hold.
+    /// Drops every stack but those of the directories above the last one of `stack`, and raises the limit by what they hold.
     fn drop_beside(&mut self, stack: &DirStack) -> Result<(), AllocError>
         ensures { OnOk result (AreFirstOf self.new stack.now) }
     {
@@ -178,8 +178,9 @@ impl StackCache {
         Ok(())
     }
 
-    /// Keeps a way, and gives its number. If more bytes are held than the limit, this first drops all but the beginnings of the way. It
-    /// does so again only after another `MAX_KEPT` bytes, so that what is dropped cost more to enter.
+    /// Caches a stack and returns its number. Past the limit it first drops the stacks beside this one.
+    ///
+    /// That happens again only after another `MAX_KEPT` bytes, so dropping costs less than opening what was dropped.
     pub(crate) fn keep(&mut self, stack: DirStack) -> Result<usize, AllocError>
         ensures { IfOk result (λ at. Keeps self.old stack self.new at) }
     {

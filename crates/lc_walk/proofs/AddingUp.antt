@@ -8,7 +8,7 @@ use Rattle.std.specs.declared.cmp.Ordering.TheVariants.{Equal}
 use Rattle.std.proofs.lemmas.List.{get_or-map, length-map}
 use Rattle.std.proofs.lemmas.List.Sums.{sum_by-cons}
 use Rattle.std.proofs.lemmas.List.Elements.{All-cons, All-tail}
-use Rattle.std.proofs.lemmas.List.ReaderOptions.{IsStrictlySortedBy-dedup}
+use Rattle.std.proofs.lemmas.List.Kept.{IsStrictlySortedBy-dedup}
 use Rattle.lc_walk.specs.Key.{Key, key_cmp, same_key}
 use Rattle.lc_walk.specs.TallyRows.{TallyRowModel, sums_of_rows, HasSumsOf, AddsUp, IsAbsorbed}
 use Rattle.lc_walk.specs.Sums.{plus, no_files, IsInRange}

@@ -3,13 +3,13 @@ use Rattle.std.specs.Str.Parse.{ParsesUnsigned, ExplainsUnsignedError, HasUnsign
 use Rattle.clap.specs.Matches.{found_of, one_text}
 use Rattle.clap.specs.Simple.{matches_of}
 use Rattle.lc_arguments.specs.CommandLine.{count_app}
-use Rattle.lc_arguments.specs.Explained.{AnswersExclusions, AnswersPathsIn, AnswersShapeIn}
-use Rattle.lc_arguments.specs.Words.{AreExclusionsOf, ArePathsOf, IsShapeIn}
+use Rattle.lc_arguments.specs.Explained.{AnswersExclusions, AnswersPathsIn, AnswersTableIn}
+use Rattle.lc_arguments.specs.Words.{AreExclusionsOf, ArePathsOf, IsTableIn}
 use Rattle.clap.specs.Walk.{Row}
 use Rattle.lc_arguments.proofs.ReadValues.{number_read}
 use Rattle.lc_arguments.proofs.WordFaults.{count_is_free, count_is_simple, fails_as, flag_of, matches_as, no_request_of, number_of}
 use Rattle.lc_arguments.proofs.WordFaults.{no_count_by, text_or}
-use Rattle.lc_arguments.proofs.Misnaming.{count_refused_for, paths_refused_for, shape_refused_for}
+use Rattle.lc_arguments.proofs.Misnaming.{count_refused_for, paths_refused_for, table_refused_for}
 use Rattle.lc_arguments.proofs.count.CountRequest.read.Goals as goal
 
 pub returns-in-Err : goal.returns-in-Err
@@ -40,16 +40,16 @@ returns-in-Err-paths_in g c =
     paths_refused_for words why (fails_as c.in-Ok.command count_app words (Ok m) is count_is_free parse.kinds)
     (subst (λ (rows : List Row). AnswersPathsIn rows (Err why)) are c.in-Err-paths_in.ensures)
 
-pub returns-in-Err-shape_in : goal.returns-in-Err-shape_in
-returns-in-Err-shape_in g c =
+pub returns-in-Err-table_in : goal.returns-in-Err-table_in
+returns-in-Err-table_in g c =
     let words = map g.W.AsStr.text c.args.words.now in
     let m = c.in-Ok-try_get_matches_from.matches in
     let is = c.in-Ok.ensures.0.0 in
     let parse = c.in-Ok-try_get_matches_from.ensures in
     let are = matches_as c.in-Ok.command count_app words m is count_is_simple parse.matches in
-    let why = c.in-Err-shape_in.no in
-    shape_refused_for words why (fails_as c.in-Ok.command count_app words (Ok m) is count_is_free parse.kinds)
-    (subst (λ (rows : List Row). AnswersShapeIn rows (Err why)) are c.in-Err-shape_in.ensures)
+    let why = c.in-Err-table_in.no in
+    table_refused_for words why (fails_as c.in-Ok.command count_app words (Ok m) is count_is_free parse.kinds)
+    (subst (λ (rows : List Row). AnswersTableIn rows (Err why)) are c.in-Err-table_in.ensures)
 
 pub returns : goal.returns
 returns g c =
@@ -80,7 +80,7 @@ returns g c =
             c.get_flag-2.ensures.other;
         exclusions = subst (λ (rs : List Row). AreExclusionsOf rs c.in-Ok-read.exclusions) are c.in-Ok-read.ensures;
         only = subst (λ (rs : List Row). ArePathsOf rs c.in-Ok-paths_in.only.items) are c.in-Ok-paths_in.ensures;
-        shape = subst (λ (rs : List Row). IsShapeIn rs c.in-Ok-shape_in.shape) are c.in-Ok-shape_in.ensures;
+        table = subst (λ (rs : List Row). IsTableIn rs c.in-Ok-table_in.table) are c.in-Ok-table_in.ensures;
         directory = text_or rows (found_of m) (codes "DIR") c.get_str.result _ c.unwrap_or.result are c.get_str.ensures refl
             c.unwrap_or.ensures;
       },

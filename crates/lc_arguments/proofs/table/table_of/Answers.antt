@@ -1,9 +1,9 @@
 use Rattle.std.proofs.Common.{◌∙◌, ◌≡◌, ◌≢◌, MatchOption, ℕ, ap, List, Option, Some, None, codes, refl, subst, sym, option_map, unwrap_or}
 use Rattle.std.specs.Borrow.{Bor}
 use Rattle.lc_text.specs.declared.table_options.SortBy.{SortBy}
-use Rattle.lc_arguments.specs.ShapeWords.{IsColumnsText, sort_word}
-use Rattle.lc_arguments.proofs.shape.shape_of.Goals as goal
-use Rattle.lc_arguments.proofs.shape.shape_of.Goals.{in-None, in-Some-sort+in_default-sort_named}
+use Rattle.lc_arguments.specs.TableWords.{IsColumnsText, sort_word}
+use Rattle.lc_arguments.proofs.table.table_of.Goals as goal
+use Rattle.lc_arguments.proofs.table.table_of.Goals.{in-None, in-Some-sort+in_default-sort_named}
 
 -- the text of a value, or of the default
 text_is : (o : Option (Bor (List ℕ))) (other result : Bor (List ℕ)) (default : List ℕ) → other.now ≡ default → result ≡ unwrap_or o other

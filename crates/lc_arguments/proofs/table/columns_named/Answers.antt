@@ -2,13 +2,13 @@ use Rattle.std.proofs.Common.{◌∙◌, ◌≡◌, ℕ, ap, List, ◌∷◌, co
 use Rattle.std.proofs.lemmas.Bool.Decides.{Decides-eqb}
 use Rattle.std.proofs.lemmas.Slice.Eq.{slice_eq-Decides}
 use Rattle.lc_glob.specs.Pieces.{pieces_left, pieces_of}
-use Rattle.lc_arguments.specs.ShapeWords.{comma}
+use Rattle.lc_arguments.specs.TableWords.{comma}
 use Rattle.std.proofs.lemmas.Bool.{not-false, not-true}
 use Rattle.lc_arguments.proofs.ColumnNames.{StillNames, is_not, joins_eol, refuses}
-use Rattle.lc_arguments.proofs.shape.columns_named.Goals as goal
-use Rattle.lc_arguments.proofs.shape.columns_named.Goals.{else-eq-via-then-eq+else-not-columns, else-eq-via-else-eq}
-use Rattle.lc_arguments.proofs.shape.columns_named.Goals.{else-eq-2-via-then-eq-2+else-not-columns-2, else-eq-2-via-else-eq-2}
-use Rattle.lc_arguments.proofs.shape.columns_named.Goals.{else-eq-3-via-then-eq-3+else-not-columns-3, else-eq-3-via-else-eq-3}
+use Rattle.lc_arguments.proofs.table.columns_named.Goals as goal
+use Rattle.lc_arguments.proofs.table.columns_named.Goals.{else-eq-via-then-eq+else-not-columns, else-eq-via-else-eq}
+use Rattle.lc_arguments.proofs.table.columns_named.Goals.{else-eq-2-via-then-eq-2+else-not-columns-2, else-eq-2-via-else-eq-2}
+use Rattle.lc_arguments.proofs.table.columns_named.Goals.{else-eq-3-via-then-eq-3+else-not-columns-3, else-eq-3-via-else-eq-3}
 
 pub returns-else-eq-3 : goal.returns-else-eq-3
 returns-else-eq-3 c d =

@@ -1,4 +1,4 @@
-//! What the words ask a table to look like.
+//! The options of the table.
 
 ghost use Rattle.std.specs.Prelude.{◌≡◌, ◌≢◌, MatchOption, option_map};
 ghost use Rattle.clap.specs.Matches.{found_of};
@@ -6,8 +6,8 @@ ghost use Rattle.clap.specs.Walk.{rows_of};
 ghost use Rattle.lc_text.specs.declared.table_options.Columns.{Columns as ColumnsModel};
 ghost use Rattle.lc_text.specs.declared.table_options.Format.{Format as FormatModel};
 ghost use Rattle.lc_text.specs.declared.table_options.SortBy.{SortBy as SortModel};
-ghost use Rattle.lc_arguments.specs.Explained.{AnswersShape, AnswersShapeIn};
-ghost use Rattle.lc_arguments.specs.ShapeWords.{IsColumnsText, format_word, sort_word};
+ghost use Rattle.lc_arguments.specs.Explained.{AnswersTable, AnswersTableIn};
+ghost use Rattle.lc_arguments.specs.TableWords.{IsColumnsText, format_word, sort_word};
 
 use crate::request::{ParseExit, refused};
 use clap::ArgMatches;
@@ -15,7 +15,7 @@ use lc_glob::cut_at_first;
 use lc_text::{Columns, Format, SortBy, TableOptions};
 use std::alloc::Global;
 
-/// The format of a name.
+/// Reads the name of a format.
 fn format_named(name: &str) -> Option<Format>
     ensures { MatchOption result ((f : FormatModel) → format_word f ≢ name.entry.now) (λ f. format_word f ≡ name.entry.now) }
 {
@@ -27,7 +27,7 @@ fn format_named(name: &str) -> Option<Format>
     }
 }
 
-/// The number of a name.
+/// Returns the number of a column's name.
 fn sort_named(name: &str) -> Option<SortBy>
     ensures { MatchOption result ((s : SortModel) → sort_word s ≢ name.entry.now) (λ s. sort_word s ≡ name.entry.now) }
 {
@@ -40,7 +40,7 @@ fn sort_named(name: &str) -> Option<SortBy>
     }
 }
 
-/// The columns of some names with commas between them, each once.
+/// Reads the names of columns, separated by commas, each at most once.
 fn columns_named(names: &str) -> Option<Columns>
     ensures { MatchOption result ((c : ColumnsModel) → ¬ IsColumnsText names.entry.now c) (λ c. IsColumnsText names.entry.now c) }
 {
@@ -66,14 +66,14 @@ fn columns_named(names: &str) -> Option<Columns>
     Some(columns)
 }
 
-/// The shape that the values of the three options ask for.
-fn shape_of(
+/// Reads the values of the three options.
+fn table_of(
     alloc: Global,
     format: Option<&str>,
     by: Option<&str>,
     sort: Option<&str>,
 ) -> Result<TableOptions, ParseExit>
-    ensures { AnswersShape (option_map (λ s. s.now) format.entry) (option_map (λ s. s.now) by.entry)
+    ensures { AnswersTable (option_map (λ s. s.now) format.entry) (option_map (λ s. s.now) by.entry)
         (option_map (λ s. s.now) sort.entry) result }
 {
     let word = format.unwrap_or("tsv");
@@ -111,12 +111,12 @@ fn shape_of(
     Ok(TableOptions { format, by, sort })
 }
 
-/// The shape that was read.
-pub(crate) fn shape_in(alloc: Global, matches: &ArgMatches<'_>) -> Result<TableOptions, ParseExit>
-    ensures { AnswersShapeIn (rows_of (found_of matches.now)) result }
+/// Takes the options that clap read.
+pub(crate) fn table_in(alloc: Global, matches: &ArgMatches<'_>) -> Result<TableOptions, ParseExit>
+    ensures { AnswersTableIn (rows_of (found_of matches.now)) result }
 {
     let format = matches.get_str("format");
     let by = matches.get_str("by");
     let sort = matches.get_str("sort");
-    shape_of(alloc, format, by, sort)
+    table_of(alloc, format, by, sort)
 }

@@ -1,7 +1,7 @@
 use Rattle.lc_glob.specs.Pieces.{pieces_left, pieces_of}
-use Rattle.lc_arguments.specs.ShapeWords.{comma}
+use Rattle.lc_arguments.specs.TableWords.{comma}
 use Rattle.lc_arguments.proofs.ColumnNames.{StillNames, left_over}
-use Rattle.lc_arguments.proofs.shape.columns_named.Given as goal
+use Rattle.lc_arguments.proofs.table.columns_named.Given as goal
 
 abbrev pub invariant-names : goal.invariant-names
 invariant-names l = StillNames l.columns (pieces_left comma l.left) (pieces_of comma l.names)

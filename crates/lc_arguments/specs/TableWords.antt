@@ -45,8 +45,8 @@ pub record AreNamesOf (names : List (List ℕ)) (c : Columns) : Type 0 where
 abbrev pub IsColumnsText : List ℕ → Columns → Type 0
 IsColumnsText text c = AreNamesOf (pieces_of comma text) c
 
--- the shape that the texts of three options ask for, as far as they are given
-pub record IsShapeBy (format by sort : Option (List ℕ)) (s : TableOptions) : Type 0 where
+-- the table options that the texts of three options ask for, as far as they are given
+pub record IsTableBy (format by sort : Option (List ℕ)) (s : TableOptions) : Type 0 where
   pub format_is : format_word s.format ≡ unwrap_or format (codes "tsv")
   pub by_is : IsColumnsText (unwrap_or by (codes "ext,text,eol")) s.by
   pub sort_is : option_map sort_word s.sort ≡ sort
