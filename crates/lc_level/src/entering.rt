@@ -42,27 +42,27 @@ impl<T: Tree> LevelReader<'_, T> {
     fn read_info(
         &self,
         directory: &[u8],
-        entries: &[Entry],
+        listing: &Listing,
         scratch: &mut Scratch,
     ) -> Result<PairRead, OpenFault>
         ensures { ReadsGit (T.lists self.now.tree.now) (T.gives self.now.tree.now) self.now.options.texts
-            (is_top directory.now && has_dir (codes ".git") entries.now) result }
+            (is_top directory.now && has_dir (codes ".git") listing.now) result }
     {
         if !directory.is_empty() {
             return Ok(PairRead::none());
         }
-        self.read_git_info(entries, scratch)
+        self.read_git_info(listing, scratch)
     }
 
     /// A directory's own `.gitignore` and `.gitattributes`. The scratch paths are then the directory's.
     fn read_own(
         &self,
         directory: &[u8],
-        entries: &[Entry],
+        listing: &Listing,
         scratch: &mut Scratch,
     ) -> Result<PairRead, OpenFault>
         ensures at { OnOk result (scratch.new.path.directory ≡ directory.now) }
-        ensures read { ReadsBoth (T.gives self.now.tree.now) (own_asked self.now.options.texts directory.now entries.now) result }
+        ensures read { ReadsBoth (T.gives self.now.tree.now) (own_asked self.now.options.texts directory.now listing.now) result }
     {
         let Ok(()) = scratch.path.enter(directory) else {
             return Err(OpenFault::Memory);
@@ -78,7 +78,7 @@ impl<T: Tree> LevelReader<'_, T> {
             },
             top: directory.is_empty(),
         };
-        self.read_pair(entries, names, scratch)
+        self.read_pair(listing, names, scratch)
     }
 
     /// A directory with these rule files in both chains.
@@ -113,8 +113,8 @@ impl<T: Tree> LevelReader<'_, T> {
     {
         let path = job.path();
         let listing = self.listed_for(path, listing, FaultSite::Directory)?;
-        let info = self.read_info(path, listing.entries(), scratch)?;
-        let own = self.read_own(path, listing.entries(), scratch)?;
+        let info = self.read_info(path, &listing, scratch)?;
+        let own = self.read_own(path, &listing, scratch)?;
         let Ok(inside) = self.with_files(job, info.files, own.files) else {
             return Err(OpenFault::Memory);
         };

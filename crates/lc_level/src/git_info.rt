@@ -9,24 +9,24 @@ use crate::open_fault::OpenFault;
 use crate::rule_pair::{PairNames, PairRead, RuleName};
 use crate::scratch::Scratch;
 use crate::FaultSite;
-use lc_tree::{Entry, Tree};
+use lc_tree::{Listing, Tree};
 
 impl<T: Tree> LevelReader<'_, T> {
-    /// Reads `exclude` and `attributes` in `.git/info` of the top, whose entries these are. What is of another kind is absent.
+    /// Reads `exclude` and `attributes` in `.git/info` of the top, whose listing this is. What is of another kind is absent.
     /// The scratch paths are then those of another directory.
     pub(crate) fn read_git_info(
         &self,
-        entries: &[Entry],
+        listing: &Listing,
         scratch: &mut Scratch,
     ) -> Result<PairRead, OpenFault>
         ensures { ReadsGit (T.lists self.now.tree.now) (T.gives self.now.tree.now) self.now.options.texts
-            (has_dir (codes ".git") entries.now) result }
+            (has_dir (codes ".git") listing.now) result }
     {
-        if !has_dir(entries, b".git") {
+        if !has_dir(listing, b".git") {
             return Ok(PairRead::none());
         }
         let git = self.list_for(b".git", FaultSite::Git)?;
-        if !has_dir(git.entries(), b"info") {
+        if !has_dir(&git, b"info") {
             return Ok(PairRead::none());
         }
         let info = self.list_for(b".git/info", FaultSite::GitInfo)?;
@@ -44,6 +44,6 @@ impl<T: Tree> LevelReader<'_, T> {
             },
             top: true,
         };
-        self.read_pair(info.entries(), names, scratch)
+        self.read_pair(&info, names, scratch)
     }
 }

@@ -9,7 +9,7 @@
 //! - `counted`, `counting`: what became of its files, and counting them; `in_parts`, `after_large`: counting
 //!   many, and few large ones, by several threads; `spare_threads`: the threads that may help
 //! - `files`, `content_fault`: opening one file, to count it or to read it as rules, and why that was not possible
-//! - `paths`: the path of a name in a directory
+//! - `paths`: the path of a name in a directory, and a path seen from a directory
 //! - `level_reader`: what is lent for all of this; `scratch`, `path_buffer`: its buffers, and the paths of entries one after another
 //! - `open_fault`: why a directory gives nothing of its entries; `fault_word`: the words by which a report tells of faults
 //! - `laws`: that this work makes the level of the definitions
@@ -53,6 +53,7 @@ pub use classify::ChildDirectory;
 pub use counted::{Counted, FileFault};
 pub use counting::CountedFiles;
 pub use entering::{Entered, RuleTexts};
+pub use entry_looks::entry_named;
 pub use fault_site::FaultSite;
 pub use fault_word::FaultWord;
 pub use job::Job;
@@ -64,7 +65,7 @@ pub use level_reader::{LevelReader, ReaderOptions};
 pub use only_paths::OnlyPaths;
 pub use open_fault::OpenFault;
 pub use opening::Opened;
-pub use paths::path_in;
+pub use paths::{path_in, relative_to};
 pub use reason::{Reason, SkippedEntry};
 pub use scratch::Scratch;
 pub use selection::Selection;

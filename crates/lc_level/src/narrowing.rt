@@ -10,6 +10,7 @@ ghost use Rattle.lc_tree.specs.Listing.{IsListing};
 use crate::FaultWord;
 use crate::below::stands_below;
 use crate::counted::FileFault;
+use crate::entry_looks::entry_named;
 use crate::sorted_paths::{has_below, is_among};
 use lc_glob::cut_at_first;
 use lc_tree::{Entry, Kind};
@@ -70,8 +71,10 @@ fn is_led_to(entries: &[Entry], rest: &[u8]) -> bool
     ensures { result ≡ is_led_to entries.now rest.now }
 {
     let (name, _) = cut_at_first(b'/', rest);
-    let at = entries.partition_point(|entry| entry.name.as_slice().cmp(name).is_lt());
-    at < entries.len() && leads_to(&entries[at], rest)
+    match entry_named(entries, name) {
+        Some(entry) => leads_to(entry, rest),
+        None => false,
+    }
 }
 
 /// Adds the fault of a path that is seen from a directory, where no entry leads to it.

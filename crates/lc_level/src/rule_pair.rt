@@ -7,7 +7,7 @@ use crate::level_reader::LevelReader;
 use crate::open_fault::OpenFault;
 use crate::scratch::Scratch;
 use lc_rules::{AttrFile, IgnoreFile};
-use lc_tree::{Entry, Tree};
+use lc_tree::{Listing, Tree};
 use std::alloc::Global;
 use std::sync::Arc;
 
@@ -59,20 +59,20 @@ impl<T: Tree> LevelReader<'_, T> {
     /// Reads the two files of these names in the directory of the scratch paths, the rules first.
     pub(crate) fn read_pair(
         &self,
-        entries: &[Entry],
+        listing: &Listing,
         names: PairNames,
         scratch: &mut Scratch,
     ) -> Result<PairRead, OpenFault>
         ensures same { scratch.new.path.directory ≡ scratch.old.path.directory }
         ensures read { ReadsBoth (T.gives self.now.tree.now)
-            (pair_asked names.entry self.now.options.texts scratch.old.path.directory entries.now) result }
+            (pair_asked names.entry self.now.options.texts scratch.old.path.directory listing.now) result }
     {
-        let rules = match self.ignore_file(entries, names.rules.name, scratch) {
+        let rules = match self.ignore_file(listing, names.rules.name, scratch) {
             Ok(read) => read,
             Err(content_fault) => return Err(content_fault.at(names.rules.site)),
         };
         let attributes = match self.attribute_file(
-            entries,
+            listing,
             names.attributes.name,
             names.top,
             scratch,

@@ -1,6 +1,6 @@
 //! Whether rows make a tree.
 ghost use Rattle.std.specs.Prelude.{◌≡◌, ◌≢◌, ℕ, ◌+◌, ◌<◌, ◌≤◌, ◌^◌, List, true, false, length, slice_get, slice_set, replicate, Some};
-ghost use Rattle.std.specs.Prelude.{IfOk, IfErr, OnOk, OnErr, MatchOption};
+ghost use Rattle.std.specs.Prelude.{IfOk, IfErr, OnOk, OnErr};
 ghost use Rattle.lc_walk.specs.Rows.{row_of, job_of, children_in};
 ghost use Rattle.lc_glob.specs.Path.{path_in};
 ghost use Rattle.lc_walk.specs.Assembled.{IsPlaced};
@@ -9,6 +9,7 @@ ghost use Rattle.lc_walk.specs.Links.{AreLinked, IsNext, IsPathAt, RefusesTree};
 use crate::report::row_lines::row_of;
 use crate::row::{Child, Row};
 use lc_board::Ended;
+use lc_level::relative_to;
 use std::alloc::{AllocError, Global};
 
 /// Why rows make no tree.
@@ -41,26 +42,12 @@ pub fn children_of(row: &Row) -> &[Child]
     }
 }
 
-/// The name by which a directory has an entry of this path.
-fn name_in<'a>(directory: &[u8], path: &'a [u8]) -> Option<&'a [u8]>
-    ensures { MatchOption result ((name : List ℕ) → path.entry.now ≢ path_in directory.now name)
-        (λ name. path.entry.now ≡ path_in directory.now name.now) }
-{
-    if directory.is_empty() {
-        return Some(path);
-    }
-    let Some(below) = path.strip_prefix(directory) else {
-        return None;
-    };
-    below.strip_prefix(b"/")
-}
-
 /// The path of a child is that of its directory with its name.
 fn is_child_path(directory: &[u8], child: &Child, path: &[u8]) -> bool
     ensures is { result ≡ true → path.now ≡ path_in directory.now child.now.name }
     ensures other { result ≡ false → path.now ≢ path_in directory.now child.now.name }
 {
-    match name_in(directory, path) {
+    match relative_to(directory, path) {
         Some(name) => name == child.name.as_slice(),
         None => false,
     }
