@@ -42,7 +42,7 @@ fn is_same(found: &CountedFiles, wanted: &CountedFiles) -> bool {
 }
 
 /// The files of the directory, and an absent path, counted with the help of these threads or by `count`.
-fn count_flat<R: Threads + Sync>(
+pub(crate) fn count_flat<R: Threads + Sync>(
     rt: &R,
     alloc: Global,
     node: &Node,
@@ -74,7 +74,7 @@ fn count_flat<R: Threads + Sync>(
 }
 
 /// With so many idle threads the files are what they are without, and the threads are free again, also where memory is refused.
-fn check<R: Threads + Sync + Abort>(
+pub(crate) fn check<R: Threads + Sync + Abort>(
     rt: &R,
     alloc: Global,
     node: &Node,
