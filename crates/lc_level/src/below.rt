@@ -7,14 +7,14 @@ ghost use Rattle.lc_tree.specs.ByteOrder.{bytes_cmp};
 
 use crate::paths::relative_to;
 
-/// What follows the first bytes, where a text begins with these.
+/// The rest of a text that begins with these bytes.
 fn after<'p>(front: &[u8], text: &'p [u8]) -> Option<&'p [u8]>
     ensures { option_map (λ rest. rest.now) result ≡ after front.now text.entry.now }
 {
     text.strip_prefix(front)
 }
 
-/// Whether a path stands below another: `a/b` below `a`, and `ab` not.
+/// Whether a path is below another: `a/b` is below `a`, and `ab` is not.
 pub(crate) fn stands_below(path: &[u8], other: &[u8]) -> bool
     ensures { result ≡ stands_below path.now other.now }
 {
@@ -34,8 +34,8 @@ pub(crate) fn rest_from<'p>(directory: &[u8], path: &'p [u8]) -> Option<&'p [u8]
     relative_to(directory, path)
 }
 
-/// Whether a path comes before all that stand below another, in the order of their bytes: `a`, `a-b` and `a.b` do before those below `a`,
-/// and `a/b` and `ab` don't.
+/// Whether a path comes before all paths below another, in the order of their bytes: `a`, `a-b` and `a.b` come before those below `a`,
+/// and `a/b` and `ab` do not.
 pub(crate) fn is_before_below(path: &[u8], other: &[u8]) -> bool
     ensures { result ≡ is_lt (bytes_cmp path.now (other.now ++ slash ∷ [])) }
 {

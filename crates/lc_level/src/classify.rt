@@ -1,4 +1,4 @@
-//! The entries of a directory: those that its rules and the selection leave in, and those that are left out.
+//! The entries of a directory: those that stay by its rules and the selection, and those that are skipped.
 ghost use Rattle.std.specs.Prelude.{◌≡◌, ◌≤◌, true, false, length, nat_lt};
 ghost use Rattle.lc_glob.specs.Path.{depth_of, max_depth, max_path};
 ghost use Rattle.lc_level.specs.Classified.{IsChild, LeavesOut, ClassifiesFile, ClassifiesDirectory, ClassifiesOther, ClassifiesEntry, ClassifiesAll};
@@ -15,7 +15,7 @@ use lc_tree::{Entry, Kind, Tree};
 use std::alloc::Global;
 use std::marker::Model;
 
-/// The files and the directories that are left in, and the entries that are left out, each in the order of the listing.
+/// The files and the directories that stay, and the entries that are skipped, each in the order of the listing.
 #[derive(Drop)]
 pub(crate) struct Classified {
     pub(crate) files: Vec<Vec<u8>>,
@@ -26,9 +26,9 @@ pub(crate) struct Classified {
 /// A directory that is to be walked.
 #[derive(Drop)]
 pub struct ChildDirectory {
-    /// Its name in its parent.
+    /// The name of the directory in its parent.
     pub name: Vec<u8>,
-    /// Its path, and both chains of its parent.
+    /// The path of the directory, and both chains of its parent.
     pub job: Job,
 }
 
@@ -41,7 +41,7 @@ impl Model for ChildDirectory {
     ghost view = { λ c. (c.name.items, c.job) };
 }
 
-/// The job of a child directory, where its path has not too many segments for a walk.
+/// The job of a child directory, unless its path has too many segments for a walk.
 fn child_job(alloc: Global, job: &Job, path: &[u8]) -> Result<Job, OpenFault>
     requires { length path.now ≤ max_path }
     ensures { IsChild job.now path.now result }
@@ -56,7 +56,7 @@ fn child_job(alloc: Global, job: &Job, path: &[u8]) -> Result<Job, OpenFault>
 }
 
 impl<T: Tree> LevelReader<'_, T> {
-    /// Notes an entry that is left out, where these are kept.
+    /// Adds a skipped entry, where these are kept.
     fn leave_out(
         &self,
         name: Vec<u8>,
@@ -78,7 +78,7 @@ impl<T: Tree> LevelReader<'_, T> {
         }
     }
 
-    /// Adds a file to those that stay, or to the entries that are left out.
+    /// Adds a file to those that stay, or to the skipped entries.
     fn classify_file(
         &self,
         job: &Job,
@@ -100,7 +100,7 @@ impl<T: Tree> LevelReader<'_, T> {
         }
     }
 
-    /// Adds a directory to those that are to be walked, or to the entries that are left out.
+    /// Adds a directory to those that are to be visited, or to the skipped entries.
     fn classify_directory(
         &self,
         job: &Job,
@@ -124,7 +124,7 @@ impl<T: Tree> LevelReader<'_, T> {
         }
     }
 
-    /// Adds what is neither a file nor a directory to the entries that are left out.
+    /// Adds what is neither a file nor a directory to the skipped entries.
     fn classify_other(
         &self,
         job: &Job,
@@ -145,7 +145,7 @@ impl<T: Tree> LevelReader<'_, T> {
         }
     }
 
-    /// Adds one entry to those that stay or to those that are left out. Its name moves there.
+    /// Adds one entry to those that stay or to those that are skipped. Its name moves there.
     fn classify_entry(
         &self,
         job: &Job,
@@ -168,7 +168,7 @@ impl<T: Tree> LevelReader<'_, T> {
         }
     }
 
-    /// Sorts all entries into those that stay and those that are left out, each in the order of the listing.
+    /// Divides all entries into those that stay and those that are skipped, each in the order of the listing.
     pub(crate) fn classify_all(
         &self,
         job: &Job,

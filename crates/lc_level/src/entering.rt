@@ -17,12 +17,12 @@ use crate::FaultSite;
 use lc_tree::{Entry, Listing, ReadFault, Tree};
 use std::alloc::AllocError;
 
-/// The bytes of the ignore files that speak of a directory for the first time, as far as they are there and texts are kept.
+/// The bytes of the ignore files that apply from a directory on, as far as they are there and texts are kept.
 #[derive(Drop)]
 pub struct RuleTexts {
-    /// Those of `.git/info/exclude`, which are read in the top alone.
+    /// The bytes of `.git/info/exclude`, which is read in the top alone.
     pub info: Option<Vec<u8>>,
-    /// Those of the directory's own `.gitignore`.
+    /// The bytes of the directory's own `.gitignore`.
     pub own: Option<Vec<u8>>,
 }
 
@@ -31,14 +31,14 @@ pub struct RuleTexts {
 pub struct Entered {
     /// The directory, with its own rule files in both chains.
     pub job: Job,
-    /// Its entries, in the order of their names.
+    /// The entries of the directory, in the order of their names.
     pub entries: Vec<Entry>,
-    /// The texts of its rules.
+    /// The texts of the directory's ignore files.
     pub texts: RuleTexts,
 }
 
 impl<T: Tree> LevelReader<'_, T> {
-    /// The files of `.git/info`, which speak of a tree from its top.
+    /// Reads the files of `.git/info`, which apply from the top on. Below the top it reads nothing.
     fn read_info(
         &self,
         directory: &[u8],
@@ -54,7 +54,7 @@ impl<T: Tree> LevelReader<'_, T> {
         self.read_git_info(listing, scratch)
     }
 
-    /// A directory's own `.gitignore` and `.gitattributes`. The scratch paths are then the directory's.
+    /// Reads a directory's own `.gitignore` and `.gitattributes`. The scratch paths are then the directory's.
     fn read_own(
         &self,
         directory: &[u8],
@@ -81,7 +81,7 @@ impl<T: Tree> LevelReader<'_, T> {
         self.read_pair(listing, names, scratch)
     }
 
-    /// A directory with these rule files in both chains.
+    /// The directory of a job with these rule files in both chains.
     fn with_files(&self, job: &Job, info: RulePair, own: RulePair) -> Result<Job, AllocError>
         ensures path { IfOk result (λ k. k.path ≡ job.now.path) }
         ensures files { IfOk result (λ k. (i o : Pair) → AreFilesOf true info i → AreFilesOf (is_top job.now.path) own o
@@ -99,8 +99,7 @@ impl<T: Tree> LevelReader<'_, T> {
         job.with_chains(self.alloc, ignore, attributes)
     }
 
-    /// Enters the directory of a job, which was listed so: what stops it is its first fault. The scratch paths are then those of the
-    /// directory.
+    /// Enters the directory of a job by its listing, up to the first fault. The scratch paths are then those of the directory.
     pub(crate) fn enter_listed(
         &self,
         job: &Job,
@@ -129,7 +128,7 @@ impl<T: Tree> LevelReader<'_, T> {
         })
     }
 
-    /// Lists and enters the directory of a job: what stops it is its first fault. The scratch paths are then those of the directory.
+    /// Lists the directory of a job and reads its rule files, up to the first fault. The scratch paths are then those of the directory.
     pub fn enter(&self, job: &Job, scratch: &mut Scratch) -> Result<Entered, OpenFault>
         ensures at { IfOk result (λ e. scratch.new.path.directory ≡ e.job.path) }
         ensures enters { EntersLevel (T.lists self.now.tree.now) (T.gives self.now.tree.now) job.now self.now.options.texts result }

@@ -12,7 +12,7 @@ use crate::FaultSite;
 use lc_tree::{Listing, Tree};
 
 impl<T: Tree> LevelReader<'_, T> {
-    /// Reads `exclude` and `attributes` in `.git/info` of the top, whose listing this is. What is of another kind is absent.
+    /// Reads `exclude` and `attributes` in `.git/info` of the top, which has this listing. What is of another kind is absent.
     /// The scratch paths are then those of another directory.
     pub(crate) fn read_git_info(
         &self,

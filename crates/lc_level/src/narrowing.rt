@@ -1,4 +1,4 @@
-//! Which entries of a directory take part, where some paths alone are asked for, and which of these are absent.
+//! Which entries of a directory take part by the paths of `--only`, and which of these paths are absent.
 ghost use Rattle.std.specs.Prelude.{◌≡◌, ◌∷◌, ◌++◌, [], IfOk, map};
 ghost use Rattle.std.specs.List.{filter, list_any};
 ghost use Rattle.lc_level.specs.Level.{absent_faults};
@@ -17,7 +17,7 @@ use lc_tree::{Entry, Kind};
 use std::alloc::{AllocError, Global};
 use std::marker::Model;
 
-/// What is asked for of a directory.
+/// What the paths of `--only` select of a directory.
 #[derive(Drop)]
 pub(crate) struct Wanted<'o> {
     // Whether all of the directory is.
@@ -65,7 +65,7 @@ fn leads_to(entry: &Entry, rest: &[u8]) -> bool
     }
 }
 
-/// Whether one of a directory's entries leads to a path. Only the one of the path's first name can.
+/// Whether one of a directory's entries leads to a path. Only the entry of the path's first name can.
 fn is_led_to(entries: &[Entry], rest: &[u8]) -> bool
     requires { IsListing entries.now }
     ensures { result ≡ is_led_to entries.now rest.now }
@@ -101,7 +101,7 @@ fn add_unled(
 }
 
 impl<'o> Wanted<'o> {
-    /// The entries of the directory that take part. Where all of it is asked for, as where no path is, this costs no memory.
+    /// The entries of the directory that take part. Where all of it is selected, this costs no memory.
     pub(crate) fn part_of(
         &self,
         alloc: Global,

@@ -22,9 +22,9 @@ pub struct Opened {
     pub job: Job,
     /// The names of the files that are to be counted.
     pub files: Vec<Vec<u8>>,
-    /// The directories that are to be walked.
+    /// The directories that are to be visited.
     pub children: Vec<ChildDirectory>,
-    /// The entries that are left out, in the order of the listing; none unless they are kept.
+    /// The skipped entries, in the order of the listing; none unless they are kept.
     pub skipped: Vec<SkippedEntry>,
     /// The paths that are asked for and absent, seen from the directory.
     pub absent: Vec<FileFault>,
@@ -33,8 +33,8 @@ pub struct Opened {
 }
 
 impl<T: Tree> LevelReader<'_, T> {
-    /// Opens the directory of a job, which was listed so: what stops it is its first fault, or an entry that is too deep for a walk. The
-    /// scratch paths are then those of the directory.
+    /// Opens the directory of a job by its listing, up to the first fault or an entry that is too deep for a walk. The scratch paths are
+    /// then those of the directory.
     fn open_listed(
         &self,
         job: &Job,
@@ -70,8 +70,8 @@ impl<T: Tree> LevelReader<'_, T> {
         }
     }
 
-    /// Opens the directory of a job: what stops it is its first fault, or an entry that is too deep for a walk. The scratch
-    /// paths are then those of the directory.
+    /// Lists and opens the directory of a job, up to the first fault or an entry that is too deep for a walk. The scratch paths are
+    /// then those of the directory.
     pub fn open(&self, job: &Job, scratch: &mut Scratch) -> Result<Opened, OpenFault>
         ensures at { IfOk result (λ o. scratch.new.path.directory ≡ o.job.path) }
         ensures opens { OpensLevel (T.lists self.now.tree.now) (T.gives self.now.tree.now) self.now.options.left_out

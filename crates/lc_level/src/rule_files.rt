@@ -33,7 +33,7 @@ impl<T: Tree> LevelReader<'_, T> {
         Ok(Some(bytes.to_vec(self.alloc)?))
     }
 
-    /// Reads the file of this name in the directory of the scratch paths into its rules, and says whether it is there.
+    /// Reads the file of this name in the directory of the scratch paths into the scratch rules, and returns whether it is there.
     fn read_named(
         &self,
         listing: &Listing,
@@ -92,8 +92,8 @@ impl<T: Tree> LevelReader<'_, T> {
         }
     }
 
-    /// Reads the attribute file of this name in the directory of the scratch paths, if it is there; `top` says whether it may
-    /// define macros.
+    /// Reads the attribute file of this name in the directory of the scratch paths, if it is there. It may define macros only if
+    /// `top` is set.
     pub(crate) fn attribute_file(
         &self,
         listing: &Listing,

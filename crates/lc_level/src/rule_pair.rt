@@ -18,7 +18,7 @@ pub(crate) struct RulePair {
     pub(crate) attributes: Option<Arc<AttrFile, Global>>,
 }
 
-/// Both files as they were read, and the bytes of the rules, as far as they are there and texts are kept.
+/// Both rule files of a directory, and the bytes of the rules, as far as they are there and texts are kept.
 #[derive(Drop)]
 pub(crate) struct PairRead {
     pub(crate) files: RulePair,
@@ -26,7 +26,7 @@ pub(crate) struct PairRead {
 }
 
 impl PairRead {
-    /// Neither of them.
+    /// Reads no file.
     pub(crate) fn none() -> PairRead
         ensures { result ≡ record { files = record { rules = None; attributes = None }; text = None } }
     {
@@ -40,14 +40,14 @@ impl PairRead {
     }
 }
 
-/// A name to be read, and the site that is at fault where it can't be.
+/// The name of a rule file, and the site to report where it could not be read.
 #[derive(Clone, Copy)]
 pub(crate) struct RuleName<'a> {
     pub(crate) name: &'a [u8],
     pub(crate) site: FaultSite,
 }
 
-/// Which two files of a directory are read, and whether it is one whose attributes may define macros.
+/// Which two files of a directory are read, and whether its attributes may define macros.
 #[derive(Clone, Copy)]
 pub(crate) struct PairNames<'a> {
     pub(crate) rules: RuleName<'a>,

@@ -2,7 +2,7 @@
 
 use lc_tree::IdleThreads;
 
-/// The threads that may help with a large directory: what starts them, and how many may be started.
+/// The threads that may help with a large directory: the runtime that starts them, and how many are idle.
 ///
 /// ```
 /// let idle = IdleThreads::new();
@@ -11,8 +11,8 @@ use lc_tree::IdleThreads;
 /// ```
 #[derive(Drop)]
 pub struct SpareThreads<'h, R> {
-    /// Starts a thread for each part but one.
+    /// The runtime, which starts a thread for each part but one.
     pub rt: &'h R,
-    /// How many threads have nothing to do, so that so many parts more are worked on.
+    /// How many threads are idle.
     pub idle: &'h IdleThreads,
 }

@@ -26,7 +26,7 @@ use std::alloc::Global;
 use std::sync::{Wait, WaitMethods};
 use std::thread::Threads;
 
-/// How a worker has come to its end.
+/// Why a worker has stopped.
 #[derive(Clone, Copy, Debug, Drop, PartialEq, Eq)]
 pub enum StopReason {
     /// It found the board over.
@@ -35,7 +35,7 @@ pub enum StopReason {
     Memory,
 }
 
-/// A worker that has come to its end.
+/// What a worker leaves that has stopped.
 #[derive(Drop)]
 pub struct WorkerResult<P> {
     pub pass: P,
@@ -44,7 +44,7 @@ pub struct WorkerResult<P> {
     pub tally: Option<Tally>,
 }
 
-/// A worker, by what is lent to it for all its directories.
+/// A worker, with what is lent to it for all its directories.
 ///
 /// ```
 /// let options = PreparedOptions::new(alloc, &options)?;

@@ -53,7 +53,7 @@ pub(crate) fn run_all<B: Shared<Job, Row>, T: Tree, R: Threads + Wait + Sync>(
     thread::map_vec(rt, passes, &run)
 }
 
-/// The tally of the files of both.
+/// The tally of the files of both, if memory suffices.
 fn merge(first: Tally, second: Tally) -> Option<Tally>
     ensures { IfSome result (λ t. (fs gs : List CountedFile) → StandsFor first fs → StandsFor second gs → StandsFor t (fs ++ gs)) }
 {
@@ -64,7 +64,7 @@ fn merge(first: Tally, second: Tally) -> Option<Tally>
     first.merge(second).ok()
 }
 
-/// The passes and the tally of one worker more.
+/// Adds the pass and the tally of one worker more.
 fn join<P: Drop>(gathered: Gathered<P>, worked: WorkerResult<P>) -> Option<Gathered<P>>
     ensures over { IfSome result (λ r. worked.end ≡ Over) }
     ensures pass { IfSome result (λ r. r.passes.items ≡ gathered.passes.items ++ worked.pass ∷ []) }
@@ -93,7 +93,7 @@ fn join<P: Drop>(gathered: Gathered<P>, worked: WorkerResult<P>) -> Option<Gathe
     }
 }
 
-/// What all workers leave. There is nothing where memory was refused to one of them, or is refused here.
+/// Gathers what all workers leave. There is nothing where memory was refused to one of them, or is refused here.
 pub(crate) fn gather<P: Drop>(alloc: Global, workers: Vec<WorkerResult<P>>) -> Option<Gathered<P>>
     ensures over { IfSome result (λ r. AllOver workers.items) }
     ensures passes { IfSome result (λ r. r.passes.items ≡ map (λ w. w.pass) workers.items) }

@@ -51,7 +51,7 @@ fn fault_of_tree(fault: TreeFault) -> WalkFault
     }
 }
 
-/// Makes the report of a closed board and of the tally of all its counted files. Where it refuses, the rows and the tally are dropped.
+/// Makes the report of a closed board and of the tally of all its counted files. On an error the rows and the tally are dropped.
 pub fn assemble(
     alloc: Global,
     closed: Closed<Row>,

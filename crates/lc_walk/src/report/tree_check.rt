@@ -12,9 +12,10 @@ use lc_board::Ended;
 use lc_level::relative_to;
 use std::alloc::{AllocError, Global};
 
-/// Why rows make no tree.
+/// Why rows make no tree, or why that is not known.
 #[derive(Clone, Copy, PartialEq, Eq, Debug, Drop)]
 pub enum TreeFault {
+    /// Memory was refused.
     Memory,
     /// The rows make no tree at this number.
     Torn(u32),
@@ -42,7 +43,7 @@ pub fn children_of(row: &Row) -> &[Child]
     }
 }
 
-/// The path of a child is that of its directory with its name.
+/// Whether the path of a child is that of its directory with its name.
 fn is_child_path(directory: &[u8], child: &Child, path: &[u8]) -> bool
     ensures is { result ≡ true → path.now ≡ path_in directory.now child.now.name }
     ensures other { result ≡ false → path.now ≢ path_in directory.now child.now.name }
@@ -82,7 +83,7 @@ fn path_at(rows: &[Ended<Row>], at: usize) -> &[u8]
     path_of(row_of(&rows[at]))
 }
 
-/// Marks the number of the next child.
+/// Marks the number of the next child of a row.
 fn link(
     rows: &[Ended<Row>],
     at: usize,
@@ -139,7 +140,7 @@ fn no_marks(alloc: Global, count: usize) -> Result<Vec<bool>, AllocError>
     Ok(vec![in alloc; false; count]?)
 }
 
-/// Marks the numbers that rows name as children.
+/// Marks the numbers of all children of all rows.
 fn link_all(alloc: Global, rows: &[Ended<Row>]) -> Result<Vec<bool>, TreeFault>
     requires few { length rows.now ≤ 2 ^ 32 }
     ensures marks { IfOk result (λ linked. AreLinked rows.now (length rows.now) 0 linked.items) }
@@ -154,7 +155,7 @@ fn link_all(alloc: Global, rows: &[Ended<Row>]) -> Result<Vec<bool>, TreeFault>
     Ok(linked)
 }
 
-/// Whether the rows make a tree, and else a number at which they don't.
+/// Checks that the rows make a tree; the fault has a number at which they do not.
 pub fn check_tree(alloc: Global, rows: &[Ended<Row>]) -> Result<(), TreeFault>
     requires few { length rows.now ≤ 2 ^ 32 }
     ensures placed { IfOk result (λ _. (k : ℕ) → IsPlaced rows.now k) }

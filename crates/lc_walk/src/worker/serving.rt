@@ -22,7 +22,7 @@ use std::sync::Wait;
 use std::thread::Threads;
 
 impl<B: Shared<Job, Row>, T: Tree, W: Threads + Wait + Sync> Worker<'_, '_, B, T, W> {
-    /// Ends the claim of a directory by a Broken row. It answers `Err` where that was for want of memory.
+    /// Ends the claim of a directory with a Broken row. It returns `Err` if the cause is memory.
     fn break_off(
         &self,
         pass: &mut B::Pass,
@@ -53,8 +53,8 @@ impl<B: Shared<Job, Row>, T: Tree, W: Threads + Wait + Sync> Worker<'_, '_, B, T
         Vec::new(self.alloc)
     }
 
-    /// Serves the claim of a directory that was opened: its child directories are posted before its files are counted, so that
-    /// other workers need not wait for these.
+    /// Serves the claim of a directory that was opened. It posts the child directories before it counts the files, so that other workers
+    /// need not wait for these.
     fn serve_opened(
         &self,
         pass: &mut B::Pass,
@@ -110,7 +110,7 @@ impl<B: Shared<Job, Row>, T: Tree, W: Threads + Wait + Sync> Worker<'_, '_, B, T
         }
     }
 
-    /// Serves the claim of a directory, up to its end. It answers `Err` where memory was refused; the row says so too.
+    /// Serves the claim of a directory, up to its end. It returns `Err` where memory was refused; the row says so too.
     fn serve(
         &self,
         pass: &mut B::Pass,
