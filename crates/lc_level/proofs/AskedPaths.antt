@@ -7,6 +7,7 @@ use Rattle.std.specs.Option.{is_some}
 use Rattle.std.specs.Ordering.{is_lt}
 use Rattle.std.specs.Prelude.{option_map}
 use Rattle.std.proofs.lemmas.Bool.{eqb-true}
+use Rattle.std.proofs.Math.Dec.{eqb-suc-zero}
 use Rattle.lc_glob.specs.Bytes.{slash}
 use Rattle.lc_glob.specs.Path.{path_in}
 use Rattle.lc_level.specs.Answers.{Item, entry_of, entries_of}
@@ -84,7 +85,7 @@ rest_is (b ∷ bs) path rest e =
 pub empty_unseen : (d path : List ℕ) → nat_eq (length path) 0 ≡ true → rest_from d path ≡ None
 empty_unseen [] [] e = refl
 empty_unseen (b ∷ bs) [] e = refl
-empty_unseen d (c ∷ cs) e = let h : false ≡ true = e in absurd (cc h)
+empty_unseen d (c ∷ cs) e = let h : false ≡ true = sym (eqb-suc-zero (length cs)) ∙ e in absurd (cc h)
 
 -- what another is, relative to a directory, is what is seen of it
 pub seen_relative : (d path : List ℕ) (r : Option (Bor (List ℕ))) → nat_eq (length path) 0 ≡ false

@@ -3,12 +3,12 @@ ghost use Rattle.std.specs.Prelude.{◌≡◌, codes};
 ghost use Rattle.lc_level.specs.EntryLooks.{has_dir};
 ghost use Rattle.lc_level.specs.GitInfo.{ReadsGit};
 
+use crate::FaultSite;
 use crate::entry_looks::has_dir;
 use crate::level_reader::LevelReader;
 use crate::open_fault::OpenFault;
 use crate::rule_pair::{PairNames, PairRead, RuleName};
 use crate::scratch::Scratch;
-use crate::FaultSite;
 use lc_tree::{Listing, Tree};
 
 impl<T: Tree> LevelReader<'_, T> {

@@ -92,13 +92,7 @@ impl<T: Tree> LevelReader<'_, T> {
         ensures opens { OpensLevel (T.lists self.now.tree.now) (T.gives self.now.tree.now) self.now.options.left_out
             self.now.selection job.now result }
     {
-        let listing = list_in_parts(
-            threads.rt,
-            self.alloc,
-            self.tree,
-            job.path(),
-            threads.idle,
-        );
+        let listing = list_in_parts(threads.rt, self.alloc, self.tree, job.path(), threads.idle);
         self.open_listed(job, listing, scratch)
     }
 }

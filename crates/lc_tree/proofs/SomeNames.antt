@@ -1,5 +1,5 @@
 -- Entries of some names, name by name.
-use Rattle.std.proofs.Common.{◌≡◌, ◌∙◌, ℕ, List, [], ◌∷◌, ◌++◌, inl, inr, map, refl, sym, ap, subst, Vec}
+use Rattle.std.proofs.Common.{ℕ, List, [], ◌∷◌, ◌++◌, inl, inr, map, refl, sym, subst, Vec}
 use Rattle.std.proofs.lemmas.List.{map-append}
 use Rattle.std.specs.Global.{Global}
 use Rattle.lc_tree.specs.Listing.{EntryModel, names}

@@ -47,9 +47,7 @@ pub(crate) fn run_all<B: Shared<Job, Row>, T: Tree, R: Threads + Wait + Sync>(
         requires { IsPassOf B.owns B.Pass.view board.now IsFree pass }
         ensures { HasRunOn B.owns B.Pass.view board.entry.now (asked_by options.entry.now)
             (MayAnswer (T.lists tree.entry.now) (T.gives tree.entry.now)) pass result }
-    {
-        Worker::new(rt, alloc, board, tree, options, &idle).run(pass)
-    };
+    { Worker::new(rt, alloc, board, tree, options, &idle).run(pass) };
     thread::map_vec(rt, passes, &run)
 }
 

@@ -83,9 +83,9 @@ impl<B: Shared<Job, Row>, T: Tree, W: Threads + Wait + Sync> Worker<'_, '_, B, T
             Ok(children) => children,
             Err(cause) => return self.break_off(pass, job, cause),
         };
-        let Ok(found) =
-            self.reader
-                .count_in_parts(&self.threads(), &inside, files, absent, scratch)
+        let Ok(found) = self
+            .reader
+            .count_in_parts(&self.threads(), &inside, files, absent, scratch)
         else {
             return self.break_off(pass, job, BrokenCause::Memory);
         };

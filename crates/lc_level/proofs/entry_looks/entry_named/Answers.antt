@@ -13,7 +13,7 @@ returns-in-Ok c =
     let found = subst (λ r. MatchResult r (λ i. (d : EntryModel) → find (is_named name) es ≡ Some (get_or es i d))
     (λ i. find (is_named name) es ≡ None)) c.in-Ok.is
     (searched name es c.binary_search_by.result c.requires.order c.binary_search_by.ensures.bound place) in
-    ap (λ (e : EntryModel). Some e) c.index.ensures ∙ sym (found c.index.result.now)
+    ap (λ (e : EntryModel). Some e) c.index-entries-at.is ∙ sym (found c.index-entries-at.result)
 
 pub returns-in-Err : goal.returns-in-Err
 returns-in-Err c =

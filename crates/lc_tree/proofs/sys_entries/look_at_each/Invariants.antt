@@ -1,5 +1,4 @@
 -- The entries of the names so far.
-use Rattle.std.proofs.Common.{◌≡◌, ◌++◌}
 use Rattle.lc_tree.specs.Trees.{AreOf}
 use Rattle.lc_tree.proofs.sys_entries.look_at_each.Given as goal
 

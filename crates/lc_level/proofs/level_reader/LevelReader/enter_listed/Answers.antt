@@ -40,7 +40,7 @@ returns-in_err-info-clause-enters g c =
     let lists = g.T.Tree.lists c.args.self.now.tree.now in
     let gives = g.T.Tree.gives c.args.self.now.tree.now in
     let texts = c.args.self.now.options.texts in
-    let is : IsListing c.in_ok-listing.listing = c.listing.invariant in
+    let is : IsListing c.in_ok-listing.listing = subst IsListing c.listing.view_is c.listing.invariant in
     passed_on (EntersLevel lists gives c.args.job.now texts) c.from_residual-in_err-info.result c.in_err-info.field-0.0
     c.from_residual-in_err-info.ensures.1
     (info_refused lists gives (law.some_content c.args.self.now.tree.now) c.args.job.now texts
@@ -55,7 +55,7 @@ returns-in_err-own-clause-enters g c =
     let lists = g.T.Tree.lists c.args.self.now.tree.now in
     let gives = g.T.Tree.gives c.args.self.now.tree.now in
     let texts = c.args.self.now.options.texts in
-    let is : IsListing c.in_ok-listing.listing = c.listing.invariant in
+    let is : IsListing c.in_ok-listing.listing = subst IsListing c.listing.view_is c.listing.invariant in
     passed_on (EntersLevel lists gives c.args.job.now texts) c.from_residual-in_err-own.result c.in_err-own.field-0.0
     c.from_residual-in_err-own.ensures.1
     (own_refused lists gives (law.some_content c.args.self.now.tree.now) c.args.job.now texts
