@@ -21,7 +21,7 @@ returns-in-Err-Faulted-clause-serves g c =
 pub returns-in-Err-Memory-clause-serves : goal.returns-in-Err-Memory-clause-serves
 returns-in-Err-Memory-clause-serves g c =
     let tree = c.args.self.now.reader.tree.now in
-    rw (c.break_off.ensures.mine, c.of-in-Err-Memory.ensures)
+    rw (c.break_off.ensures.mine, c.of.ensures)
     (serves_unread (asked_by c.args.self.now.options.now) (g.T.Tree.lists tree) (g.T.Tree.gives tree) _ c.args.job c.args.tally.now
     c.break_off.result c.requires.1 c.break_off.ensures.memory)
 
@@ -35,5 +35,5 @@ returns-in-Err-TooDeep-clause-serves g c =
     c.break_off-in-Err-TooDeep.result c.requires.1
     (subst (λ s. OpensLevel (g.T.Tree.lists tree) (g.T.Tree.gives tree) ask.lists.left_out s c.args.job deep) c.args.self.now.selects
     (subst (λ k. OpensLevel (g.T.Tree.lists tree) (g.T.Tree.gives tree) k c.args.self.now.reader.selection c.args.job deep)
-    c.args.self.now.keeps (rw c.in-Err-TooDeep.is at c.in-Err-TooDeep.ensures.opens)))
+    c.args.self.now.keeps (rw c.in-Err-TooDeep.field-0-is at c.in-Err-TooDeep.ensures.opens)))
     c.break_off-in-Err-TooDeep.ensures.memory)
