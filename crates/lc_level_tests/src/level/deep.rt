@@ -3,13 +3,13 @@
 use crate::level::work::{
     AS_IT_IS, Case, LEFT_OUT, Level, NOTHING, TOP, Why, check, child_of, is_found, selection_of,
 };
-use lc_level::{Cause, Job, LevelReader, OpenFault, Scratch};
+use lc_level::{Job, LevelReader, OpenFault, Scratch};
 use lc_tree::{Kind, MemTree, Node, Sketch};
 use std::alloc::{AllocError, Global};
 use std::process::Abort;
 use std::test::Fail;
 
-const DEEP: OpenFault = OpenFault::Broken(Cause::TooDeep);
+const DEEP: OpenFault = OpenFault::TooDeep;
 
 const TOO_LONG: Case = Case {
     stop: Some(DEEP),
@@ -102,10 +102,10 @@ fn nested(alloc: Global, depth: u32) -> Result<Node, AllocError> {
 /// Goes down to the directory from which no other is reached, and says how deep it is and how it ended.
 fn descend(alloc: Global, tree: &MemTree) -> Result<(u32, Option<OpenFault>), AllocError> {
     let mut scratch = Scratch::new(alloc)?;
-    let levels = LevelReader::new(alloc, tree, selection_of(&AS_IT_IS), NOTHING);
+    let reader = LevelReader::new(alloc, tree, selection_of(&AS_IT_IS), NOTHING);
     let mut job = Job::top(alloc, None)?;
     for depth in 0..300 {
-        match child_of(&levels, &job, b"d", &mut scratch)? {
+        match child_of(&reader, &job, b"d", &mut scratch)? {
             Err(open_fault) => return Ok((depth, Some(open_fault))),
             Ok(None) => return Ok((depth, None)),
             Ok(Some(child)) => job = child,

@@ -4,7 +4,7 @@ use crate::level::work::{
     AS_IT_IS, Case, LINE, NOTHING, Selected, TOP, Why, is_reason, job_of, selection_of,
 };
 use lc_level::{
-    Cause, Entered, FaultSite, FaultWord, Job, LevelReader, OpenFault, ReaderOptions, Scratch,
+    Entered, FaultSite, FaultWord, Job, LevelReader, OpenFault, ReaderOptions, Scratch,
     path_in,
 };
 use lc_rules::{RuleSource, Verdict};
@@ -78,14 +78,14 @@ fn is_entered(found: &Entered, (entries, info, own): &Wanted) -> bool {
 
 /// Enters the directory of the job and compares.
 fn enters(
-    levels: &LevelReader<MemTree>,
+    reader: &LevelReader<MemTree>,
     job: &Job,
     wanted: &Result<Wanted, OpenFault>,
     scratch: &mut Scratch,
 ) -> Result<bool, AllocError> {
-    match (levels.enter(job, scratch), wanted) {
+    match (reader.enter(job, scratch), wanted) {
         (Ok(found), Ok(wanted)) => Ok(is_entered(&found, wanted)),
-        (Err(OpenFault::Broken(Cause::Memory)), _) => Err(AllocError),
+        (Err(OpenFault::Memory), _) => Err(AllocError),
         (Err(found), Err(wanted)) => Ok(found == *wanted),
         (Ok(_), Err(_)) | (Err(_), Ok(_)) => Ok(false),
     }
@@ -95,13 +95,13 @@ fn check_entered(rt: &impl Abort, alloc: Global, entering: &Entering) -> Result<
     let case = &entering.case;
     let node = case.tree.node(alloc)?;
     let tree = MemTree::new(&node);
-    let levels = LevelReader::new(alloc, &tree, selection_of(&case.selected), entering.kept);
+    let reader = LevelReader::new(alloc, &tree, selection_of(&case.selected), entering.kept);
     let mut scratch = Scratch::new(alloc)?;
-    let Some(job) = job_of(alloc, &levels, case.exclude, case.below, &mut scratch)? else {
+    let Some(job) = job_of(alloc, &reader, case.exclude, case.below, &mut scratch)? else {
         assert!(rt; false, "{}: no such directory", case.name);
         return Ok(());
     };
-    let same = enters(&levels, &job, &entering.wanted, &mut scratch)?;
+    let same = enters(&reader, &job, &entering.wanted, &mut scratch)?;
     assert!(rt; same, "{}", case.name);
     Ok(())
 }
@@ -210,12 +210,12 @@ const BY_RULE: Why = Why::Rule(RuleSource::Gitignore(0), 1);
 
 fn is_judged(
     alloc: Global,
-    levels: &LevelReader<MemTree>,
+    reader: &LevelReader<MemTree>,
     job: &Job,
     (name, kind, wanted): &Judged,
 ) -> Result<bool, AllocError> {
     let path = path_in(alloc, job.path(), name)?;
-    match (levels.reason(job, name, &path, *kind)?, wanted) {
+    match (reader.reason(job, name, &path, *kind)?, wanted) {
         (Some(found), Some(wanted)) => Ok(is_reason(&found, wanted)),
         (None, None) => Ok(true),
         (Some(_), None) | (None, Some(_)) => Ok(false),
@@ -225,36 +225,36 @@ fn is_judged(
 fn check_inside(
     rt: &impl Abort,
     alloc: Global,
-    levels: &LevelReader<MemTree>,
+    reader: &LevelReader<MemTree>,
     inside: &Job,
 ) -> Result<(), AllocError> {
     for judged in JUDGED {
-        let same = is_judged(alloc, levels, inside, judged)?;
+        let same = is_judged(alloc, reader, inside, judged)?;
         assert!(rt; same, "{:?}", judged.0);
     }
     let below = inside.at(alloc, b"s")?;
     let by_rule = (b"a.log".as_slice(), Kind::File, Some(BY_RULE));
-    assert!(rt; is_judged(alloc, levels, &below, &by_rule)?, "below");
+    assert!(rt; is_judged(alloc, reader, &below, &by_rule)?, "below");
     Ok(())
 }
 
 /// The top with its rule files.
-fn inside_of(levels: &LevelReader<MemTree>, alloc: Global) -> Result<Option<Job>, AllocError> {
+fn inside_of(reader: &LevelReader<MemTree>, alloc: Global) -> Result<Option<Job>, AllocError> {
     let mut scratch = Scratch::new(alloc)?;
     let top = Job::top(alloc, None)?;
-    match levels.enter(&top, &mut scratch) {
+    match reader.enter(&top, &mut scratch) {
         Ok(entered) => Ok(Some(entered.job)),
-        Err(OpenFault::Broken(Cause::Memory)) => Err(AllocError),
+        Err(OpenFault::Memory) => Err(AllocError),
         Err(_) => Ok(None),
     }
 }
 
 fn check_top(rt: &impl Abort, alloc: Global, tree: &MemTree) -> Result<(), AllocError> {
-    let levels = LevelReader::new(alloc, tree, selection_of(&REPOSITORY.selected), NOTHING);
-    match inside_of(&levels, alloc)? {
+    let reader = LevelReader::new(alloc, tree, selection_of(&REPOSITORY.selected), NOTHING);
+    match inside_of(&reader, alloc)? {
         Some(inside) => {
             check_last_match(rt, &inside);
-            check_inside(rt, alloc, &levels, &inside)
+            check_inside(rt, alloc, &reader, &inside)
         }
         None => {
             assert!(rt; false, "the top is at fault");

@@ -1,7 +1,7 @@
 //! One directory's work on a sketch, and what is wanted of it.
 
 use lc_level::{
-    Cause, ChildDirectory, CountedFiles, FaultWord, FileFault, Job, LevelReader, OnlyPaths,
+    ChildDirectory, CountedFiles, FaultWord, FileFault, Job, LevelReader, OnlyPaths,
     OpenFault, Opened, ReaderOptions, Reason, Scratch, Selection, SkippedEntry,
 };
 use lc_rules::{IgnoreFile, RuleFault, RuleSource, TextState};
@@ -132,14 +132,14 @@ fn job_named(children: Vec<ChildDirectory>, name: &[u8]) -> Option<Job> {
 
 /// The job of the directory of this name in another, if it is there.
 pub(crate) fn child_of(
-    levels: &LevelReader<MemTree>,
+    reader: &LevelReader<MemTree>,
     job: &Job,
     name: &[u8],
     scratch: &mut Scratch,
 ) -> Result<Result<Option<Job>, OpenFault>, AllocError> {
-    match levels.open(job, scratch) {
+    match reader.open(job, scratch) {
         Ok(opened) => Ok(Ok(job_named(opened.children, name))),
-        Err(OpenFault::Broken(Cause::Memory)) => Err(AllocError),
+        Err(OpenFault::Memory) => Err(AllocError),
         Err(open_fault) => Ok(Err(open_fault)),
     }
 }
@@ -147,7 +147,7 @@ pub(crate) fn child_of(
 /// The job of the top, or of the directory of this name below it, if it is there.
 pub(crate) fn job_of(
     alloc: Global,
-    levels: &LevelReader<MemTree>,
+    reader: &LevelReader<MemTree>,
     exclude: Option<&[u8]>,
     below: Option<&[u8]>,
     scratch: &mut Scratch,
@@ -156,7 +156,7 @@ pub(crate) fn job_of(
     let Some(below) = below else {
         return Ok(Some(top));
     };
-    match child_of(levels, &top, below, scratch)? {
+    match child_of(reader, &top, below, scratch)? {
         Ok(found) => Ok(found),
         Err(_) => Ok(None),
     }
@@ -173,13 +173,13 @@ struct Found {
 
 /// Opens the directory of the job and counts its files.
 fn work(
-    levels: &LevelReader<MemTree>,
+    reader: &LevelReader<MemTree>,
     job: &Job,
     scratch: &mut Scratch,
 ) -> Result<Result<Found, OpenFault>, AllocError> {
-    let opened = match levels.open(job, scratch) {
+    let opened = match reader.open(job, scratch) {
         Ok(opened) => opened,
-        Err(OpenFault::Broken(Cause::Memory)) => return Err(AllocError),
+        Err(OpenFault::Memory) => return Err(AllocError),
         Err(open_fault) => return Ok(Err(open_fault)),
     };
     let Opened {
@@ -190,7 +190,7 @@ fn work(
         absent,
         entries,
     } = opened;
-    match levels.count(&job, files, absent, scratch) {
+    match reader.count(&job, files, absent, scratch) {
         Ok(counted) => Ok(Ok(Found {
             counted,
             children,
@@ -282,12 +282,12 @@ pub(crate) fn is_found(
     let tree = MemTree::new(node);
     let only = OnlyPaths::new(alloc, case.selected.only)?;
     let selection = selection_of(&case.selected).narrowed(&only);
-    let levels = LevelReader::new(alloc, &tree, selection, kept);
+    let reader = LevelReader::new(alloc, &tree, selection, kept);
     let mut scratch = Scratch::new(alloc)?;
-    let Some(job) = job_of(alloc, &levels, case.exclude, below, &mut scratch)? else {
+    let Some(job) = job_of(alloc, &reader, case.exclude, below, &mut scratch)? else {
         return Ok(false);
     };
-    match (work(&levels, &job, &mut scratch)?, case.stop) {
+    match (work(&reader, &job, &mut scratch)?, case.stop) {
         (Ok(found), None) => Ok(is_level(&found, wanted, kept)),
         (Err(open_fault), Some(stop)) => Ok(open_fault == stop),
         (Ok(_), Some(_)) | (Err(_), None) => Ok(false),

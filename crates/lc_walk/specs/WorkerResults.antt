@@ -26,7 +26,7 @@ returned_files ask (Listed r) a = map tallied (files_at ask.selection r.job a)
 returned_files ask (Faulted r) a = []
 returned_files ask (Broken r) a = []
 
--- a tree may give these answers for the directory of a row; of one that was given up for want of memory it may have been asked nothing
+-- a tree may give these answers for the directory of a row; of one that was broken off for want of memory it may have been asked nothing
 abbrev pub MayStand : (List ℕ → Answers → Type 0) → List (ℕ × JobModel) → Row → Answers → Type 0
 MayStand MayAnswer posts r a = (IsBrokenBy Memory r × (posts ≡ [])) ⊎ MayAnswer (job_of r).path a
 
@@ -74,14 +74,14 @@ abbrev pub TalliesFor : Option TallyModel → List CountedFile → Type 0
 TalliesFor None fs = Unit {0}
 TalliesFor (Some t) fs = StandsFor t fs
 
--- some row was given up for want of memory
-abbrev pub GaveUp : List (Event JobModel Row) → Type 0
-GaveUp [] = ⊥
-GaveUp (Post w p i j ∷ m) = GaveUp m
-GaveUp (Claim w i j ∷ m) = GaveUp m
-GaveUp (Return w i r ∷ m) = IsBrokenBy Memory r ⊎ GaveUp m
-GaveUp (Fault w i r ∷ m) = GaveUp m
-GaveUp (Over w ∷ m) = GaveUp m
+-- some row was broken off for want of memory
+abbrev pub RanOutOfMemory : List (Event JobModel Row) → Type 0
+RanOutOfMemory [] = ⊥
+RanOutOfMemory (Post w p i j ∷ m) = RanOutOfMemory m
+RanOutOfMemory (Claim w i j ∷ m) = RanOutOfMemory m
+RanOutOfMemory (Return w i r ∷ m) = IsBrokenBy Memory r ⊎ RanOutOfMemory m
+RanOutOfMemory (Fault w i r ∷ m) = RanOutOfMemory m
+RanOutOfMemory (Over w ∷ m) = RanOutOfMemory m
 
 -- from one pass to a later one of the same worker: what the worker has done since, each row of it lawful with some answers that the
 -- tree may give, and its tally, where it has one, which is that of the files of these rows
@@ -93,7 +93,7 @@ pub record HasWorked (ask : Asked) (MayAnswer : List ℕ → Answers → Type 0)
   pub answers : List Answers
   pub lawful : AreLawfulSince ask new.full MayAnswer old.mine since answers
   pub tallied : TalliesFor tally (files_given ask since answers)
-  pub untallied : tally ≡ None → GaveUp since
+  pub untallied : tally ≡ None → RanOutOfMemory since
 
 -- the pass has found that the board is over
 abbrev pub FoundOver : Pass JobModel Row → Type 0

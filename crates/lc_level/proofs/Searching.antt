@@ -1,18 +1,22 @@
 -- What a binary search finds among entries in the order of their names.
 use Rattle.std.proofs.Common.{◌≡◌, ℕ, zero, suc, ◌<◌, ◌≤◌, Bool, true, false, List, [], ◌∷◌, length, get_or, Option, Some, None}
-use Rattle.std.proofs.Common.{Result, Ok}
-use Rattle.std.proofs.Common.{Err, MatchResult, refl, sym, ◌∙◌, ap, arith, bytes_eq, cond, find, option_map, ⊎_elim}
-use Rattle.std.specs.List.{AllByRecursion}
+use Rattle.std.proofs.Common.{Result, Ok, ◌&&◌, ◌||◌, subst}
+use Rattle.std.proofs.Common.{Err, MatchResult, refl, sym, ◌∙◌, ap, arith, bytes_eq, cond, find, ⊎_elim}
+use Rattle.std.specs.List.{list_any, AllByRecursion}
+use Rattle.std.proofs.lemmas.Map.Keys.{sorted_head, sorted_tail}
 use Rattle.std.specs.List.Sorted.{IsStrictlySortedBy, IsNonDecreasingBy, IsBinarySearchResult, IsSearchInRange}
 use Rattle.std.specs.Ordering.{ordering_index, ordering_reverse, is_eq}
 use Rattle.std.specs.declared.cmp.Ordering.{Ordering}
 use Rattle.std.specs.declared.cmp.Ordering.TheVariants.{Less, Equal, Greater}
 use Rattle.std.proofs.lemmas.Bool.{cases_lt}
-use Rattle.std.proofs.lemmas.Cmp.{nat_list_cmp_total}
+use Rattle.std.proofs.lemmas.Cmp.{nat_list_cmp_total, nat_list_eq_equiv}
 use Rattle.std.proofs.lemmas.Map.Text.{is_eq-slice_cmp}
 use Rattle.lc_tree.specs.ByteOrder.{bytes_cmp, AreInOrder}
 use Rattle.lc_tree.specs.Listing.{EntryModel, names}
-use Rattle.lc_explain.specs.OpenDirs.{kind_in}
+use Rattle.lc_tree.specs.declared.entry.Kind.{Kind}
+use Rattle.lc_level.proofs.AskedPaths.{passes}
+use Rattle.lc_level.proofs.PathOrder.{not_itself}
+use Rattle.lc_level.proofs.WellFormed.{other_bytes, same_bytes}
 
 index_few : (o : Ordering) → ordering_index o ≤ 2
 index_few Less = omega arith
@@ -23,7 +27,7 @@ module _ (name : List ℕ) where
   abbrev pub order_of : EntryModel → Ordering
   order_of e = bytes_cmp e.name name
 
-  abbrev is_named : EntryModel → Bool
+  abbrev pub is_named : EntryModel → Bool
   is_named e = bytes_eq e.name name
 
   named : (e : EntryModel) (o : Ordering) → order_of e ≡ o → is_named e ≡ is_eq o
@@ -83,13 +87,70 @@ module _ (name : List ℕ) where
   none_found (e ∷ es) none =
       past_name (is_named e) e (find is_named es) (none 0 e (omega arith)) ∙ none_found es (λ k d low. none (suc k) d (omega (arith, low)))
 
-  -- what a search answers is what stands under the name
+  -- what a search answers is the entry of the name
   pub searched : (es : List EntryModel) (r : Result ℕ ℕ) → AreInOrder (names es) → IsSearchInRange r (length es)
       → IsBinarySearchResult order_of es r
-      → MatchResult r (λ i. (d : EntryModel) → kind_in es name ≡ Some (get_or es i d).kind) (λ i. kind_in es name ≡ None)
-  searched es (Ok i) order low equal = λ d. ap (option_map (λ (e : EntryModel). e.kind)) (found es i d order low (equal d))
+      → MatchResult r (λ i. (d : EntryModel) → find is_named es ≡ Some (get_or es i d)) (λ i. find is_named es ≡ None)
+  searched es (Ok i) order low equal = λ d. found es i d order low (equal d)
   searched es (Err i) order low parted =
       let cut = parted (rises es order) in
-      ap (option_map (λ (e : EntryModel). e.kind)) (none_found es (λ k d within. ⊎_elim
-      (λ before. named (get_or es k d) Less (cut.0 k d (omega arith) before))
-      (λ after. named (get_or es k d) Greater (cut.1 k d after within)) (cases_lt k i)))
+      none_found es (λ k d within. ⊎_elim (λ before. named (get_or es k d) Less (cut.0 k d (omega arith) before))
+      (λ after. named (get_or es k d) Greater (cut.1 k d after within)) (cases_lt k i))
+
+  -- ---- what the entry of a name tells of a test
+
+  -- an entry whose name is above the name has another
+  other_above : (a b : List ℕ) → a ≡ name → bytes_cmp a b ≡ Less → bytes_eq name b ≡ false
+  other_above a b is less = other_bytes name b (λ same. not_itself a (subst (λ p. bytes_cmp a p ≡ Less) (sym same ∙ sym is) less))
+
+  module _ (test : EntryModel → Bool) where
+    none_above : (a : List ℕ) (es : List EntryModel) → a ≡ name → AllByRecursion (λ k. bytes_cmp a k ≡ Less) (names es)
+        → list_any (λ (e : EntryModel). bytes_eq name e.name && test e) es ≡ false
+    none_above a [] is all = refl
+    none_above a (e ∷ es) is all =
+        ap (λ b. (b && test e) || list_any (λ (f : EntryModel). bytes_eq name f.name && test f) es) (other_above a e.name is all.0)
+        ∙ none_above a es is all.1
+
+    -- one of the name passes it where the entry of the name does
+    pub named_tells : (es : List EntryModel) → AreInOrder (names es)
+        → list_any (λ (e : EntryModel). bytes_eq name e.name && test e) es ≡ passes test (find is_named es)
+    named_tells [] order = refl
+    named_tells (e ∷ es) order = at (is_named e) refl (named_tells es (sorted_tail bytes_cmp e.name (names es) order))
+      where
+        rest : Bool
+        rest = list_any (λ (f : EntryModel). bytes_eq name f.name && test f) es
+
+        or_none : (a : Bool) → (a || false) ≡ a
+        or_none true = refl
+        or_none false = refl
+
+        at : (b : Bool) → is_named e ≡ b → rest ≡ passes test (find is_named es)
+            → ((bytes_eq name e.name && test e) || rest) ≡ passes test (cond b (Some e) (find is_named es))
+        at true is more =
+            ap (λ b. (b && test e) || rest) (nat_list_eq_equiv.symm name e.name ∙ is)
+            ∙ ap (λ b. test e || b)
+            (none_above e.name es (same_bytes e.name name is) (sorted_head bytes_cmp e.name (names es) order))
+            ∙ or_none (test e)
+        at false is more = ap (λ b. (b && test e) || rest) (nat_list_eq_equiv.symm name e.name ∙ is) ∙ more
+
+  -- the same of a test by its kind, which stands before that of its name
+  module _ (test : Kind → Bool) where
+    turned : (es : List EntryModel) → list_any (λ (e : EntryModel). test e.kind && bytes_eq e.name name) es
+        ≡ list_any (λ (e : EntryModel). bytes_eq name e.name && test e.kind) es
+    turned [] = refl
+    turned (e ∷ es) =
+        ap (λ b. b || list_any (λ (f : EntryModel). test f.kind && bytes_eq f.name name) es)
+        (swapped (test e.kind) (bytes_eq e.name name) (bytes_eq name e.name) (nat_list_eq_equiv.symm e.name name))
+        ∙ ap (λ b. (bytes_eq name e.name && test e.kind) || b) (turned es)
+      where
+        swapped : (a b c : Bool) → b ≡ c → (a && b) ≡ (c && a)
+        swapped true true true is = refl
+        swapped true false false is = refl
+        swapped false b true is = refl
+        swapped false b false is = refl
+        swapped true true false is = is
+        swapped true false true is = is
+
+    pub kind_tells : (es : List EntryModel) → AreInOrder (names es)
+        → list_any (λ (e : EntryModel). test e.kind && bytes_eq e.name name) es ≡ passes (λ (e : EntryModel). test e.kind) (find is_named es)
+    kind_tells es order = turned es ∙ named_tells (λ (e : EntryModel). test e.kind) es order

@@ -2,8 +2,8 @@ use Rattle.std.proofs.Common.{rules, [], ◌∷◌}
 use Rattle.std.proofs.lemmas.Bool.Decides.{Decides-eqb}
 use Rattle.std.proofs.lemmas.Slice.Eq.{strip_prefix_is}
 use Rattle.lc_glob.specs.Bytes.{slash}
-use Rattle.lc_walk.proofs.PathNames.{none_below, name_below}
-use Rattle.lc_walk.proofs.report.tree_check.name_in.Goals as goal
+use Rattle.lc_level.proofs.PathNames.{none_below, name_below}
+use Rattle.lc_level.proofs.paths.relative_to.Goals as goal
 
 pub returns-in_default : goal.returns-in_default
 returns-in_default c =
