@@ -20,7 +20,7 @@ use crate::finding::{DirectoryFault, Finding, Found, RulePlace};
 use crate::open_dir::OpenDir;
 use crate::stack_cache::{Near, StackCache};
 use lc_glob::cut_at_first;
-use lc_level::{Job, LevelReader, OpenFault, ReaderOptions};
+use lc_level::{Job, LevelReader, OpenFault, ReaderOptions, exclude_rules};
 use lc_text::{PathStyle, is_bad_path};
 use lc_tree::{Kind, Tree};
 use std::alloc::{AllocError, Global};
@@ -77,7 +77,7 @@ impl<'t, T: Tree> Explainer<'t, T> {
         Ok(Explainer {
             alloc,
             reader: LevelReader::new(alloc, tree, options.selection.copy(), reading),
-            top: Job::top(alloc, options.exclude_rules()?)?,
+            top: Job::top(alloc, exclude_rules(&options.exclude)?)?,
             exclude: options.exclude_text(),
             style: options.style,
         })

@@ -2,7 +2,7 @@
 
 ghost use Rattle.std.specs.Prelude.{◌≡◌, ◌++◌, if◌then◌else◌, [], codes, IfOk, OnOk};
 ghost use Rattle.lc_level.specs.Reasons.{reason_model};
-ghost use Rattle.lc_text.specs.ExplainedText.{line_text};
+ghost use Rattle.lc_text.specs.RulePlaces.{line_text};
 ghost use Rattle.lc_text.specs.Styles.{styled};
 ghost use Rattle.lc_explain.specs.Explain.{ExplainsLine};
 ghost use Rattle.lc_explain.specs.Explained.{cited, left_out, IsExplained};

@@ -10,6 +10,7 @@
 //!   many, and few large ones, by several threads; `spare_threads`: the threads that may help
 //! - `files`, `content_fault`: opening one file, to count it or to read it as rules, and why that was not possible
 //! - `paths`: the path of a name in a directory, and a path seen from a directory
+//! - `rule_text`: a file of rules that is read by itself, with its text
 //! - `level_reader`: what is lent for all of this; `scratch`, `path_buffer`: its buffers, and the paths of entries one after another
 //! - `open_fault`: why a directory gives nothing of its entries; `fault_word`: the words by which a report tells of faults
 //! - `laws`: that this work makes the level of the definitions
@@ -43,6 +44,7 @@ mod paths;
 mod reason;
 mod rule_files;
 mod rule_pair;
+mod rule_text;
 mod scratch;
 mod selection;
 mod skip_reason;
@@ -67,6 +69,7 @@ pub use open_fault::OpenFault;
 pub use opening::Opened;
 pub use paths::{path_in, relative_to};
 pub use reason::{Reason, SkippedEntry};
+pub use rule_text::{RuleText, RulesFileFault, exclude_rules, read_rule_text};
 pub use scratch::Scratch;
 pub use selection::Selection;
 pub use spare_threads::SpareThreads;

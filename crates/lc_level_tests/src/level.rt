@@ -10,4 +10,5 @@ mod left_out;
 mod levels;
 mod narrowed;
 mod repository;
+mod rule_text;
 mod work;
