@@ -142,7 +142,8 @@ pub(crate) fn set_cells<'a>(cells: &mut Vec<Cell<'a>>, line: &[Cell<'a>]) -> Res
     ensures { OnOk result (cells_of cells.new.items ≡ cells_of line.now) }
 {
     cells.clear();
-    push_all(cells, line)
+    push_all(cells, line)?;
+    Ok(())
 }
 
 /// Appends a character so many times.

@@ -93,11 +93,13 @@ impl Listed for FileLine {
     ghost heading_cells = { file_headings };
 
     fn set_headings(cells: &mut Vec<Cell<'_>>) -> Result<(), AllocError> {
-        set_cells(cells, &file_headings())
+        set_cells(cells, &file_headings())?;
+        Ok(())
     }
 
     fn set_line<'a>(&'a self, cells: &mut Vec<Cell<'a>>) -> Result<(), AllocError> {
-        set_cells(cells, &file_cells(self))
+        set_cells(cells, &file_cells(self))?;
+        Ok(())
     }
 }
 
@@ -107,11 +109,13 @@ impl Listed for SkippedLine {
     ghost heading_cells = { skipped_headings };
 
     fn set_headings(cells: &mut Vec<Cell<'_>>) -> Result<(), AllocError> {
-        set_cells(cells, &skipped_headings())
+        set_cells(cells, &skipped_headings())?;
+        Ok(())
     }
 
     fn set_line<'a>(&'a self, cells: &mut Vec<Cell<'a>>) -> Result<(), AllocError> {
-        set_cells(cells, &skipped_cells(self))
+        set_cells(cells, &skipped_cells(self))?;
+        Ok(())
     }
 }
 
@@ -121,11 +125,13 @@ impl Listed for FaultLine {
     ghost heading_cells = { fault_headings };
 
     fn set_headings(cells: &mut Vec<Cell<'_>>) -> Result<(), AllocError> {
-        set_cells(cells, &fault_headings())
+        set_cells(cells, &fault_headings())?;
+        Ok(())
     }
 
     fn set_line<'a>(&'a self, cells: &mut Vec<Cell<'a>>) -> Result<(), AllocError> {
-        set_cells(cells, &fault_cells(self))
+        set_cells(cells, &fault_cells(self))?;
+        Ok(())
     }
 }
 
