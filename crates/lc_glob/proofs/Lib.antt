@@ -19,3 +19,5 @@ pub mod Above
 pub mod SimpleBytes
 pub mod ExactPaths
 pub mod EndLooks
+pub mod PatternSpans
+pub mod LastMatch

@@ -14,7 +14,8 @@ pub mod Elements
 pub mod Simple
 pub mod Views
 pub mod Pushes
-pub mod Sources
+pub mod PatternSpans
+pub mod PatternSets
 pub mod ByteTests
 pub mod EndLooks
 pub mod BracketSteps

@@ -27,6 +27,8 @@ use Rattle.lc_glob.specs.Reading.{segment_from}
 use Rattle.lc_glob.specs.Simple.{byte_token, bytes_segment, ends_segment, exact_segment, end_tokens}
 use Rattle.lc_glob.specs.declared.pattern.Kept.{Kept}
 use Rattle.lc_glob.specs.declared.pattern.Kept.TheVariants.{Simple, Mixed}
+use Rattle.lc_glob.specs.declared.pattern_ref.PatternRef.{PatternRef}
+use Rattle.lc_glob.specs.declared.pattern_ref.PatternRef.TheVariants as pattern_ref
 
 -- a bracket, whose ranges come first among the tokens
 abbrev pub set_model : ByteSet → TokenModel
@@ -84,6 +86,11 @@ mixed_form_model scope tokens = trimmed_model mixed_model is_separator scope.is_
 abbrev pub kept_model : Kept → PatternModel
 kept_model (Simple form bytes) = form_model form bytes.items
 kept_model (Mixed scope tokens) = mixed_form_model scope tokens.items
+
+-- one that is lent
+abbrev pub pattern_ref_model : PatternRef → PatternModel
+pattern_ref_model (pattern_ref.Simple p) = form_model p.form p.bytes.now
+pattern_ref_model (pattern_ref.Mixed p) = mixed_form_model p.scope p.tokens.now
 
 -- and as it is matched
 abbrev pub pattern_view_model : Bool → KindRef → PatternModel

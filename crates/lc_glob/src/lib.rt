@@ -39,6 +39,7 @@ pub mod path;
 mod path_segment;
 mod pattern;
 mod pattern_ref;
+mod pattern_set;
 mod pattern_view;
 mod place;
 mod reading;
@@ -50,9 +51,5 @@ mod token;
 
 pub use candidate::Candidate;
 pub use cut::cut_at_first;
-pub use mixed_pattern::MixedPattern;
 pub use pattern::{Pattern, is_match_decides};
-pub use pattern_ref::{PatternRef, Source};
-pub use scope::Scope;
-pub use simple_pattern::{SimpleForm, SimplePattern};
-pub use token::Token;
+pub use pattern_set::PatternSet;

@@ -18,9 +18,9 @@ use crate::token::Token;
 
 /// A pattern that isn't simple, as `[ab]*`: its scope, and its tokens without the separators at its ends.
 #[derive(Clone, Copy)]
-pub struct MixedPattern<'p> {
-    pub scope: Scope,
-    pub tokens: &'p [Token],
+pub(crate) struct MixedPattern<'p> {
+    pub(crate) scope: Scope,
+    pub(crate) tokens: &'p [Token],
 }
 
 impl<'p> MixedPattern<'p> {

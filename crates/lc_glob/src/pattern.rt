@@ -6,11 +6,12 @@ ghost use Rattle.lc_glob.specs.IsMatch.{is_match, IsMatchDecides};
 ghost use Rattle.lc_glob.specs.Matches.{Matches};
 ghost use Rattle.lc_glob.specs.Path.{segments_of};
 ghost use Rattle.lc_glob.specs.Reading.{pattern_of};
+ghost use Rattle.lc_glob.specs.Views.{pattern_ref_model};
 
 use crate::candidate::Candidate;
 use crate::mixed_pattern::MixedPattern;
 use crate::path_segment::ByteTests;
-use crate::pattern_ref::{PatternRef, Source};
+use crate::pattern_ref::PatternRef;
 use crate::reading::read_pattern;
 use crate::scope::Scope;
 use crate::simple_pattern::{SimpleForm, SimplePattern};
@@ -167,24 +168,25 @@ impl Pattern {
         tests.made()
     }
 
-    /// Whether it searches, as `PatternRef::searches` says.
+    /// Whether matching one directory after another repeats work: a double star comes after another one or after a segment
+    /// with a star, as in `**/a/**`. Such a pattern is better matched with all directories above a path in one pass, by
+    /// `match_directories`.
     pub fn searches(&self) -> bool
         ensures { result ≡ searches self.now }
     {
         self.as_ref().searches()
     }
 
-    /// What it is matched by.
-    pub fn as_ref<'p>(&'p self) -> PatternRef<'p>
-        ensures { result ≡ self.now }
+    pub(crate) fn as_ref<'p>(&'p self) -> PatternRef<'p>
+        ensures { pattern_ref_model result ≡ self.now }
     {
-        PatternRef::new(match &self.kept {
-            Kept::Simple(form, bytes) => Source::Simple(SimplePattern { form: *form, bytes }),
-            Kept::Mixed(scope, tokens) => Source::Mixed(MixedPattern {
+        match &self.kept {
+            Kept::Simple(form, bytes) => PatternRef::Simple(SimplePattern { form: *form, bytes }),
+            Kept::Mixed(scope, tokens) => PatternRef::Mixed(MixedPattern {
                 scope: *scope,
                 tokens,
             }),
-        })
+        }
     }
 }
 

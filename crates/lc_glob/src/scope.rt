@@ -10,7 +10,7 @@ use crate::segments_left::SegmentsLeft;
 
 /// What of paths a pattern may match.
 #[derive(Clone, Copy)]
-pub struct Scope {
+pub(crate) struct Scope {
     /// Directories alone, as `build/`.
     pub(crate) is_dir_only: bool,
     /// All segments, as `/a` and `a/b`, and not the last one alone, as `a`.

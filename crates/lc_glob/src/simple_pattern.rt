@@ -49,7 +49,7 @@ pub(crate) enum Extent {
 
 /// What is known of a simple pattern beside its bytes, so that it can be matched from them: three bytes.
 #[derive(Clone, Copy)]
-pub struct SimpleForm {
+pub(crate) struct SimpleForm {
     pub(crate) is_dir_only: bool,
     pub(crate) shape: Shape,
 }
@@ -57,9 +57,9 @@ pub struct SimpleForm {
 /// A simple pattern: its form, and those of its bytes that are kept, without the separators at its ends and, where it is a suffix,
 /// without the star.
 #[derive(Clone, Copy)]
-pub struct SimplePattern<'p> {
-    pub form: SimpleForm,
-    pub bytes: &'p [u8],
+pub(crate) struct SimplePattern<'p> {
+    pub(crate) form: SimpleForm,
+    pub(crate) bytes: &'p [u8],
 }
 
 impl<'p> SimplePattern<'p> {

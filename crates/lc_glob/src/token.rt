@@ -10,7 +10,7 @@ use crate::byte_set::ByteSet;
 
 /// One token of a pattern that isn't simple, as it is kept, in three bytes.
 #[derive(Clone, Copy)]
-pub enum Token {
+pub(crate) enum Token {
     /// That byte.
     Literal(u8),
     /// `?`: one byte, but no slash.

@@ -1,5 +1,5 @@
 -- How the parts of what is read decide an attribute, one after another.
-use Rattle.std.proofs.Common.{◌≡◌, ℕ, Bool, false, List, [], ◌∷◌, ◌++◌, Option, Some, None, sym, ◌∙◌, ap, subst, unwrap_or}
+use Rattle.std.proofs.Common.{◌≡◌, ℕ, Bool, false, List, [], ◌∷◌, ◌++◌, Option, Some, None, refl, sym, ◌∙◌, ap, subst, unwrap_or}
 use Rattle.std.specs.List.{list_any}
 use Rattle.lc_rules.specs.Attributes.{StateModel, unspecified, AssignmentModel}
 use Rattle.lc_rules.specs.AttrLines.{AttrFileModel}
@@ -55,6 +55,20 @@ pub record Passes (query : Query) (todo : List AssignmentModel) (old : Resolver)
     : Type 0 where
   pub moves : ReadsAssignments query todo old None left new
   pub empty : new.pending.items ≡ []
+
+-- nothing is read yet
+pub none_passed : {query : Query} {todo left : List AssignmentModel} {r : Resolver} → IsReady query r → todo ≡ left → Passes query todo r left r
+none_passed {query} {todo} {left} {r} ready same =
+    subst (λ (l : List AssignmentModel). Passes query todo r l r) same
+    (record { moves = (ready.undecided, λ rest. refl); empty = ready.empty })
+
+-- nothing is left to be read
+pub all_passed : {query : Query} {todo left : List AssignmentModel} {old new : Resolver} → Passes query todo old left new → left ≡ []
+    → Decides query todo old None new
+all_passed {query} {todo} {left} {old} {new} before none = record {
+  moves = subst (λ (l : List AssignmentModel). ReadsAssignments query todo old None l new) none before.moves;
+  empty = before.empty;
+}
 
 -- the next of what is left decides
 pub next_decides : {query : Query} {whole todo next : List AssignmentModel} (rest : List AssignmentModel) {old middle new : Resolver}

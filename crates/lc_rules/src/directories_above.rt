@@ -13,8 +13,8 @@ ghost use Rattle.lc_rules.specs.declared.rule_source.RuleSource.TheVariants.{Git
 
 use crate::ignore_file::IgnoreFile;
 use crate::ignore_line::Rule;
+use lc_glob::cut_at_first;
 use lc_glob::path::MAX_DEPTH;
-use lc_glob::{PatternRef, cut_at_first};
 use std::marker::Model;
 
 /// A path and the directories above it, of which a file was asked at once.
@@ -153,15 +153,16 @@ fn decide<'a>(
     ensures decided { AreDecided file.now (names_of names.now) result.0 found.new }
     ensures own { IfSome result.1 (λ o. IsOwn file.now (names_of names.now) is_dir o) }
 {
+    let patterns = file.patterns();
     let above = names.len() - 1;
     let mut own = None;
     let mut left = file.rules();
     'rules: while let Some((rule, older)) = left.split_last() {
-        let pattern = file.pattern(older.len());
-        pattern.match_directories(names, flags);
-        settle(rule, &flags[..above], found);
-        let is_own = is_told(&pattern, flags[above], is_dir);
-        own = settle_own(rule, is_own, own);
+        let index = older.len();
+        patterns.match_directories(index, names, flags);
+        fill_undecided(rule, &flags[..above], found);
+        let is_own = is_matched(flags[above], is_dir, patterns.is_dir_only(index));
+        own = newest_match(own, rule, is_own);
         if let Some(count) = told_count(&found[..above]) {
             return (count, None);
         }
@@ -170,28 +171,29 @@ fn decide<'a>(
     (above, Some(own))
 }
 
-/// Whether a pattern matches a path, where it is told of the directory of that path.
-fn is_told(pattern: &PatternRef, is_matched: bool, is_dir: bool) -> bool
-    ensures { result ≡ (is_matched && (not pattern.now.is_dir_only || is_dir)) }
+/// Whether a pattern matches a path, by whether it matches a directory of that path.
+fn is_matched(is_directory_matched: bool, is_dir: bool, is_dir_only: bool) -> bool
+    ensures { result ≡ (is_directory_matched && (not is_dir_only || is_dir)) }
 {
-    is_matched && (!pattern.is_dir_only() || is_dir)
+    is_directory_matched && (!is_dir_only || is_dir)
 }
 
-/// Lets a rule that matches a path decide it, where no newer one does.
-fn settle_own<'a>(rule: &'a Rule, is_matched: bool, own: Option<&'a Rule>) -> Option<&'a Rule>
-    ensures { option_map (λ r. r.now) result ≡ option_or (option_map (λ r. r.now) own.entry) (cond is_matched (Some rule.now) None) }
+/// The rule that was found of a path, or where none was, an older rule that matches it.
+fn newest_match<'a>(found: Option<&'a Rule>, rule: &'a Rule, is_matched: bool) -> Option<&'a Rule>
+    ensures { option_map (λ r. r.now) result
+        ≡ option_or (option_map (λ r. r.now) found.entry) (cond is_matched (Some rule.now) None) }
 {
-    if own.is_some() || !is_matched {
-        return own;
+    if found.is_some() || !is_matched {
+        return found;
     }
     Some(rule)
 }
 
-/// Lets a rule decide the directories that it matches, where no newer one does.
-fn settle<'a>(rule: &'a Rule, flags: &[bool], found: &mut [Option<&'a Rule>])
+/// Fills in a rule for the directories that it matches, where no newer rule was found.
+fn fill_undecided<'a>(rule: &'a Rule, flags: &[bool], found: &mut [Option<&'a Rule>])
     requires { length flags.now ≤ length found.old }
     ensures len { length found.new ≡ length found.old }
-    ensures settled { (k : ℕ) → k < length flags.now → option_map (λ r. r.now) (slice_index_or found.new k None)
+    ensures filled { (k : ℕ) → k < length flags.now → option_map (λ r. r.now) (slice_index_or found.new k None)
         ≡ option_or (option_map (λ r. r.now) (slice_index_or found.old k None))
         (cond (slice_index_or flags.now k false) (Some rule.now) None) }
 {

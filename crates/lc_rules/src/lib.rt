@@ -15,7 +15,6 @@ mod faults;
 mod ignore_chain;
 mod ignore_file;
 mod ignore_line;
-mod kept_patterns;
 mod known_macros;
 mod last_word;
 mod laws;
