@@ -35,7 +35,8 @@ module _ {A : Type 0} (p : A → Bool) (l : List A) (below index : ℕ) (d : A) 
 
   -- it passes
   pub last_passes : p (get_or l index d) ≡ true → list_any p (take below l) ≡ true
-  last_passes passes = last_or_before ∙ ap (λ (b : Bool). list_any p (take index l) || (b || false)) passes ∙ or_true (list_any p (take index l))
+  last_passes passes =
+      last_or_before ∙ ap (λ (b : Bool). list_any p (take index l) || (b || false)) passes ∙ or_true (list_any p (take index l))
     where
       or_true : (b : Bool) → (b || true) ≡ true
       or_true true = refl
@@ -43,7 +44,8 @@ module _ {A : Type 0} (p : A → Bool) (l : List A) (below index : ℕ) (d : A) 
 
   -- it fails
   pub last_fails : p (get_or l index d) ≡ false → list_any p (take below l) ≡ list_any p (take index l)
-  last_fails fails = last_or_before ∙ ap (λ (b : Bool). list_any p (take index l) || (b || false)) fails ∙ or_false (list_any p (take index l))
+  last_fails fails =
+      last_or_before ∙ ap (λ (b : Bool). list_any p (take index l) || (b || false)) fails ∙ or_false (list_any p (take index l))
     where
       or_false : (b : Bool) → (b || false) ≡ b
       or_false true = refl

@@ -14,7 +14,7 @@ pub mod Matching
 pub mod Ends
 pub mod Leading
 pub mod Sizing
-pub mod Mixed
+pub mod TokenLists
 pub mod Above
 pub mod SimpleBytes
 pub mod ExactPaths

@@ -1,7 +1,7 @@
 pub mod Bytes
 pub mod Lists
 pub mod Tokens
-pub mod Mixed
+pub mod TokenLists
 pub mod Fits
 pub mod Patterns
 pub mod Pieces

@@ -1,23 +1,23 @@
-//! A pattern as it is lent, and whether it matches.
+//! A pattern that is lent, and whether it matches.
 
 ghost use Rattle.std.specs.Prelude.{◌≡◌, ◌↔◌, ◌≤◌, ◌+◌, IsTrue, length};
-ghost use Rattle.lc_glob.specs.Above.{names_of, TellMatches, searches};
+ghost use Rattle.lc_glob.specs.Above.{names_of, TellMatches, has_nested_wildcards};
 ghost use Rattle.lc_glob.specs.Costs.{full_cost, match_cost};
 ghost use Rattle.lc_glob.specs.IsMatch.{is_match};
 ghost use Rattle.lc_glob.specs.Matches.{Matches};
 ghost use Rattle.lc_glob.specs.Views.{pattern_ref_model};
 
 use crate::candidate::Candidate;
-use crate::mixed_pattern::MixedPattern;
 use crate::path_segment::ByteTests;
 use crate::pattern_view::PatternView;
 use crate::simple_pattern::SimplePattern;
+use crate::token_pattern::TokenPattern;
 
 /// A pattern that a `Pattern` or a `PatternSet` lends, by what it is matched from.
 #[derive(Clone, Copy)]
 pub(crate) enum PatternRef<'p> {
     Simple(SimplePattern<'p>),
-    Mixed(MixedPattern<'p>),
+    Tokens(TokenPattern<'p>),
 }
 
 impl<'p> PatternRef<'p> {
@@ -25,8 +25,8 @@ impl<'p> PatternRef<'p> {
         ensures { result ≡ pattern_ref_model self.entry }
     {
         match self {
-            PatternRef::Simple(simple) => simple.view(),
-            PatternRef::Mixed(mixed) => mixed.view(),
+            PatternRef::Simple(pattern) => pattern.view(),
+            PatternRef::Tokens(pattern) => pattern.view(),
         }
     }
 
@@ -48,10 +48,10 @@ impl<'p> PatternRef<'p> {
         self.view().is_anchored()
     }
 
-    pub(crate) fn searches(self) -> bool
-        ensures { result ≡ searches (pattern_ref_model self.entry) }
+    pub(crate) fn has_nested_wildcards(self) -> bool
+        ensures { result ≡ has_nested_wildcards (pattern_ref_model self.entry) }
     {
-        self.view().searches()
+        self.view().has_nested_wildcards()
     }
 
     #[inline]
@@ -69,8 +69,8 @@ impl<'p> PatternRef<'p> {
         ensures cost { tests.new.made ≤ tests.old.made + match_cost (pattern_ref_model self.entry) path.now }
     {
         match self {
-            PatternRef::Simple(simple) => simple.matched(path, is_dir, tests),
-            PatternRef::Mixed(mixed) => mixed.matched(path, is_dir, tests),
+            PatternRef::Simple(pattern) => pattern.matched(path, is_dir, tests),
+            PatternRef::Tokens(pattern) => pattern.matched(path, is_dir, tests),
         }
     }
 

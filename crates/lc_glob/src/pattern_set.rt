@@ -2,17 +2,17 @@
 
 ghost use Rattle.std.specs.Prelude.{◌≡◌, ◌↔◌, ◌<◌, ◌≤◌, ◌++◌, ◌∷◌, [], length, IfOk, IfSome, IsTrue, OnErr, OnOk};
 ghost use Rattle.std.specs.List.{list_any};
-ghost use Rattle.lc_glob.specs.Above.{names_of, TellMatches, searches};
+ghost use Rattle.lc_glob.specs.Above.{names_of, TellMatches, has_nested_wildcards};
 ghost use Rattle.lc_glob.specs.PatternSets.{last_match_below, pattern_at};
-ghost use Rattle.lc_glob.specs.Views.{form_model, mixed_form_model, pattern_ref_model};
+ghost use Rattle.lc_glob.specs.Views.{form_model, token_pattern_model, pattern_ref_model};
 
 use crate::candidate::Candidate;
-use crate::mixed_pattern::MixedPattern;
 use crate::pattern::Pattern;
 use crate::pattern_ref::PatternRef;
 use crate::scope::Scope;
 use crate::simple_pattern::{SimpleForm, SimplePattern};
 use crate::token::Token;
+use crate::token_pattern::TokenPattern;
 use std::alloc::{AllocError, Global};
 use std::marker::Model;
 
@@ -20,7 +20,7 @@ use std::marker::Model;
 #[derive(Clone, Copy)]
 pub(crate) enum PatternForm {
     Simple(SimpleForm),
-    Mixed(Scope),
+    Tokens(Scope),
 }
 
 /// A pattern of a set, in 12 bytes.
@@ -94,31 +94,31 @@ impl PatternSet {
         ensures err { OnErr result (self.new ≡ self.old) }
     {
         match pattern.as_ref() {
-            PatternRef::Simple(simple) => self.push_simple(simple),
-            PatternRef::Mixed(mixed) => self.push_mixed(mixed),
+            PatternRef::Simple(pattern) => self.push_simple(pattern),
+            PatternRef::Tokens(pattern) => self.push_tokens(pattern),
         }
     }
 
-    fn push_simple(&mut self, simple: SimplePattern) -> Result<(), AllocError>
-        ensures ok { OnOk result (self.new ≡ self.old ++ form_model simple.entry.form simple.entry.bytes.now ∷ []) }
+    fn push_simple(&mut self, pattern: SimplePattern) -> Result<(), AllocError>
+        ensures ok { OnOk result (self.new ≡ self.old ++ form_model pattern.entry.form pattern.entry.bytes.now ∷ []) }
         ensures err { OnErr result (self.new ≡ self.old) }
     {
-        let form = PatternForm::Simple(simple.form);
-        let span = PatternSpan::new(form, self.bytes.len(), simple.bytes.len())?;
+        let form = PatternForm::Simple(pattern.form);
+        let span = PatternSpan::new(form, self.bytes.len(), pattern.bytes.len())?;
         self.spans.reserve(1)?;
-        self.bytes.extend_from_slice(simple.bytes)?;
+        self.bytes.extend_from_slice(pattern.bytes)?;
         self.spans.push_reserved(span);
         Ok(())
     }
 
-    fn push_mixed(&mut self, mixed: MixedPattern) -> Result<(), AllocError>
-        ensures ok { OnOk result (self.new ≡ self.old ++ mixed_form_model mixed.entry.scope mixed.entry.tokens.now ∷ []) }
+    fn push_tokens(&mut self, pattern: TokenPattern) -> Result<(), AllocError>
+        ensures ok { OnOk result (self.new ≡ self.old ++ token_pattern_model pattern.entry.scope pattern.entry.tokens.now ∷ []) }
         ensures err { OnErr result (self.new ≡ self.old) }
     {
-        let form = PatternForm::Mixed(mixed.scope);
-        let span = PatternSpan::new(form, self.tokens.len(), mixed.tokens.len())?;
+        let form = PatternForm::Tokens(pattern.scope);
+        let span = PatternSpan::new(form, self.tokens.len(), pattern.tokens.len())?;
         self.spans.reserve(1)?;
-        self.tokens.extend_from_slice(mixed.tokens)?;
+        self.tokens.extend_from_slice(pattern.tokens)?;
         self.spans.push_reserved(span);
         Ok(())
     }
@@ -159,7 +159,7 @@ impl PatternSet {
                 form,
                 bytes: &self.bytes[start..end],
             }),
-            PatternForm::Mixed(scope) => PatternRef::Mixed(MixedPattern {
+            PatternForm::Tokens(scope) => PatternRef::Tokens(TokenPattern {
                 scope,
                 tokens: &self.tokens[start..end],
             }),
@@ -208,14 +208,14 @@ impl PatternSet {
         self.pattern(index).match_directories(names, flags);
     }
 
-    /// Whether some pattern searches, as `Pattern::searches` says.
-    pub fn searches(&self) -> bool
-        ensures { result ≡ list_any searches self.now }
+    /// Whether some pattern has nested wildcards, as `Pattern::has_nested_wildcards` says.
+    pub fn has_nested_wildcards(&self) -> bool
+        ensures { result ≡ list_any has_nested_wildcards self.now }
     {
         let mut rest = self.len();
-        'all: while rest > 0 {
+        'nested: while rest > 0 {
             rest -= 1;
-            if self.pattern(rest).searches() {
+            if self.pattern(rest).has_nested_wildcards() {
                 return true;
             }
         }

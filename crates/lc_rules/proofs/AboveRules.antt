@@ -69,7 +69,8 @@ module _ (path front left : List ℕ) (name rest : Bor (List ℕ)) (names : List
       ∙ ap names_of (sym (take-set-le (k + 1) names count name (omega (arith, earlier)))))
       (λ later.
       let here : k ≡ count = omega (arith, within, later) in
-      subst (λ (j : ℕ). segments_of (take (get_or (set ends count end) j 0) path) ≡ names_of (take (j + 1) (set names count name))) (sym here)
+      subst (λ (j : ℕ). segments_of (take (get_or (set ends count end) j 0) path)
+      ≡ names_of (take (j + 1) (set names count name))) (sym here)
       (ap (λ (n : ℕ). segments_of (take n path)) (get_or-set_same ends count end 0 low_end) ∙ ap segments_of to_name ∙ closed name.now
       ∙ ap (λ (l : List (List ℕ)). names_of (take count names) ++ l) one ∙ sym names_more))
       (cases_lt k count)
@@ -111,7 +112,8 @@ pub filled_front : (r : RuleModel) (count : ℕ) (flags : List Bool) (old new : 
     ≡ option_or (option_map (λ x. x.now) (get_or old k None)) (cond (get_or flags k false) (Some r) None)
 filled_front r count flags old new within filled k low =
     filled k (omega (arith, low, length-take-le count flags within))
-    ∙ ap (λ (b : Bool). option_or (option_map (λ x. x.now) (get_or old k None)) (cond b (Some r) None)) (get_or-take count flags k false low)
+    ∙ ap (λ (b : Bool). option_or (option_map (λ x. x.now) (get_or old k None)) (cond b (Some r) None))
+    (get_or-take count flags k false low)
 
 -- what newer rules decide is decided, whatever the older ones say
 pub decided_early : (rules older newer : List RuleModel) (names : List (List ℕ)) (count all : ℕ) (found : List (Option (Bor RuleModel)))
@@ -158,7 +160,8 @@ kinds false true true false = refl
 kinds false true false true = refl
 kinds false true false false = refl
 
-match_kind : (p : PatternModel) (path : List ℕ) (is_dir : Bool) → is_match p path is_dir ≡ (is_match p path true && (not p.is_dir_only || is_dir))
+match_kind : (p : PatternModel) (path : List ℕ) (is_dir : Bool) → is_match p path is_dir
+    ≡ (is_match p path true && (not p.is_dir_only || is_dir))
 unfolding is_match
 match_kind p path is_dir = kinds p.is_dead p.is_dir_only is_dir (segments_match p.is_anchored p.segments (segments_of path))
 

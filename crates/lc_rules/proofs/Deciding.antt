@@ -57,7 +57,8 @@ pub record Passes (query : Query) (todo : List AssignmentModel) (old : Resolver)
   pub empty : new.pending.items ≡ []
 
 -- nothing is read yet
-pub none_passed : {query : Query} {todo left : List AssignmentModel} {r : Resolver} → IsReady query r → todo ≡ left → Passes query todo r left r
+pub none_passed : {query : Query} {todo left : List AssignmentModel} {r : Resolver} → IsReady query r → todo ≡ left
+    → Passes query todo r left r
 none_passed {query} {todo} {left} {r} ready same =
     subst (λ (l : List AssignmentModel). Passes query todo r l r) same
     (record { moves = (ready.undecided, λ rest. refl); empty = ready.empty })
@@ -102,7 +103,8 @@ pub word_decides : {query : Query} {word : AssignmentModel} {old new : Resolver}
     → Decides query (word ∷ []) old (Some state) new
 word_decides {query} {word} {old} {new} {found} {state} ready is moves = record {
   moves = subst (λ pending. ReadsAssignments query (word ∷ stacked pending) old (Some state) [] new) ready.empty
-      (subst (λ (o : Option State). ReadsAssignments query (word ∷ stacked old.pending.items) old o (stacked new.pending.items) new) is moves);
+      (subst (λ (o : Option State). ReadsAssignments query (word ∷ stacked old.pending.items) old o
+      (stacked new.pending.items) new) is moves);
   empty = tt;
 }
 
@@ -115,7 +117,8 @@ expansion_decides {query} {word} {old} {middle} {new} {passed} {found} ready is 
   moves = moves_then (macros_for query) query.name.now (word ∷ []) (stacked middle.pending.items) [] (names_in old.decided)
       (names_in middle.decided) (names_in new.decided) (seen_state found)
       (subst (λ pending. ReadsAssignments query (word ∷ stacked pending) old None (stacked middle.pending.items) middle) ready.empty
-      (subst (λ (o : Option State). ReadsAssignments query (word ∷ stacked old.pending.items) old o (stacked middle.pending.items) middle) is moves))
+      (subst (λ (o : Option State). ReadsAssignments query (word ∷ stacked old.pending.items) old o
+      (stacked middle.pending.items) middle) is moves))
       e.moves;
   empty = e.empty;
 }

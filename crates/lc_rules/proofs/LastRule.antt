@@ -54,7 +54,8 @@ module _ (whole older : List RuleModel) (r : RuleModel) (path : List ℕ) (is_di
   -- where it matches
   pub newest_decides : is_match r.pattern path is_dir ≡ true → Some (Gitignore 0, r) ≡ last_match (at_depth 0 whole) path is_dir
   newest_decides h =
-      sym (file_newest ∙ ap (λ o. option_or o (last_match (at_depth 0 older) path is_dir)) (last_match_one (Gitignore 0, r) path is_dir true h))
+      sym (file_newest ∙ ap (λ o. option_or o (last_match (at_depth 0 older) path is_dir))
+      (last_match_one (Gitignore 0, r) path is_dir true h))
 
   -- where it doesn't match
   pub newest_passes : is_match r.pattern path is_dir ≡ false
@@ -119,7 +120,8 @@ last_or-file o p x (r ∷ rs) = last_or-file o p (Some (p, r)) rs
 
 -- a file's rules see the path without the segments above it
 pub file_below : (o : RuleSource) (rules : List RuleModel) (path : List ℕ) (is_dir : Bool)
-    → last_match (from_file o rules) path is_dir ≡ option_map (λ r. (o, r.1)) (last_match (at_depth 0 rules) (below (depth_at o) path) is_dir)
+    → last_match (from_file o rules) path is_dir
+    ≡ option_map (λ r. (o, r.1)) (last_match (at_depth 0 rules) (below (depth_at o) path) is_dir)
 file_below o rules path is_dir =
     ap (last_or None) (filter_file o rules path is_dir)
     ∙ last_or-file o (Gitignore 0) None (filter (λ r. is_match r.pattern (below (depth_at o) path) is_dir) rules)

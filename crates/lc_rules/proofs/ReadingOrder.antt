@@ -35,7 +35,8 @@ first_lines lines path is_dir (suc index) within =
     one_more low =
         ap (λ (ls : List PatternLineModel). by_lines ls path is_dir) (take-suc lines index (line_of None) low)
         ∙ by_lines_more (take index lines) (line_at lines index) path is_dir
-        ∙ ap (λ (p : PatternModel). cond (is_match p path is_dir) (reverse (line_at lines index).assigns) [] ++ by_lines (take index lines) path is_dir)
+        ∙ ap (λ (p : PatternModel). cond (is_match p path is_dir) (reverse (line_at lines index).assigns) []
+        ++ by_lines (take index lines) path is_dir)
         (sym (get_or-map (λ (l : PatternLineModel). l.pattern) lines index (line_of None) dead low))
 
     by_last : (b : Bool) → is_match (pattern_at (patterns_in lines) index) path is_dir ≡ b → index < length lines
@@ -49,7 +50,8 @@ first_lines lines path is_dir (suc index) within =
     by_last false e low before =
         subst (λ (todo : List AssignmentModel). MatchOption (last_match_below (patterns_in lines) path is_dir index) (todo ≡ [])
         (λ i. todo ≡ reverse (line_at lines i).assigns ++ by_lines (take i lines) path is_dir))
-        (sym (one_more low ∙ ap (λ (b : Bool). cond b (reverse (line_at lines index).assigns) [] ++ by_lines (take index lines) path is_dir) e))
+        (sym (one_more low ∙ ap (λ (b : Bool). cond b (reverse (line_at lines index).assigns) []
+        ++ by_lines (take index lines) path is_dir) e))
         before
 
 -- of lines whose patterns these are, the last that matches is read next, or none is left to be read

@@ -2,7 +2,7 @@
 
 ghost use Rattle.std.specs.Prelude.{◌≡◌, ◌↔◌, ◌<◌, ◌≤◌, [], length, option_map, IfOk, IsTrue};
 ghost use Rattle.std.specs.List.{list_any};
-ghost use Rattle.lc_glob.specs.Above.{searches};
+ghost use Rattle.lc_glob.specs.Above.{has_nested_wildcards};
 ghost use Rattle.lc_rules.specs.IgnoreRules.{patterns_of, rules_of};
 ghost use Rattle.lc_rules.specs.Verdicts.{at_depth, last_match, verdict_of};
 ghost use Rattle.lc_rules.specs.Limits.{max_rule_bytes};
@@ -37,7 +37,7 @@ impl Model for IgnoreFile {
 }
 
 impl IgnoreFile {
-    /// Reads the bytes of a file. Any bytes are an ignore file, if there are not over `MAX_RULE_BYTES` of them.
+    /// Reads the bytes of an ignore file. Any bytes are one, if there are at most `MAX_RULE_BYTES` of them.
     pub fn read(alloc: Global, bytes: &[u8]) -> Result<IgnoreFile, RuleFault>
         ensures ok { IfOk result (λ file. file ≡ rules_of bytes.now) }
         ensures too_long { (result ≡ Err RuleFault.TooLong) ↔ (max_rule_bytes < length bytes.now) }
@@ -62,6 +62,7 @@ impl IgnoreFile {
         self.rules.len()
     }
 
+    /// Whether the file has no rule.
     pub fn is_empty(&self) -> bool
         ensures { IsTrue result ↔ (self.now ≡ []) }
     {
@@ -75,14 +76,15 @@ impl IgnoreFile {
         &self.patterns
     }
 
-    /// Whether some pattern of it searches, so that the directories above one path had better be asked about at once.
-    pub fn searches(&self) -> bool
-        ensures { result ≡ list_any searches (patterns_of self.now) }
+    /// Whether matching one directory after another repeats work, by the pattern of some rule, as
+    /// `lc_glob::Pattern::has_nested_wildcards` says. `DirectoriesAbove` then costs less for all directories above a path.
+    pub fn has_nested_wildcards(&self) -> bool
+        ensures { result ≡ list_any has_nested_wildcards (patterns_of self.now) }
     {
-        self.patterns.searches()
+        self.patterns.has_nested_wildcards()
     }
 
-    /// What the file alone says of a path below its directory.
+    /// The verdict of the file alone on a path below its directory.
     pub fn verdict(&self, path: &[u8], is_dir: bool) -> Verdict
         ensures { result ≡ verdict_of (at_depth 0 self.now) path.now is_dir }
     {
@@ -92,7 +94,7 @@ impl IgnoreFile {
         }
     }
 
-    /// The rule by which the file alone decides a path below its directory.
+    /// The last rule of the file that matches a path below its directory.
     ///
     /// ```
     /// let file = IgnoreFile::read(alloc, b"*.log\n\n!keep.log\n")?;
@@ -108,7 +110,7 @@ impl IgnoreFile {
     }
 }
 
-/// The rules of the lines, and their patterns.
+/// Reads the rules of a file's lines, and their patterns.
 fn read_rules(alloc: Global, bytes: &[u8]) -> Result<(Vec<Rule>, PatternSet), AllocError>
     requires { length bytes.now ≤ max_rule_bytes }
     ensures rules { IfOk result (λ r. r.0.items ≡ rules_of bytes.now) }
@@ -117,14 +119,14 @@ fn read_rules(alloc: Global, bytes: &[u8]) -> Result<(Vec<Rule>, PatternSet), Al
     let mut rules = Vec::new(alloc);
     let mut patterns = PatternSet::new(alloc);
     let mut number = 1;
-    let mut left = Lines::of(bytes);
-    'lines: while let Some((line, others)) = left.split_first() {
+    let mut rest = Lines::of(bytes);
+    'lines: while let Some((line, others)) = rest.split_first() {
         if let Some((rule, pattern)) = read_rule(alloc, number, line)? {
             rules.push(rule)?;
             patterns.push(&pattern)?;
         }
         number += 1;
-        left = others;
+        rest = others;
     }
     rules.shrink_to_fit();
     patterns.shrink_to_fit();

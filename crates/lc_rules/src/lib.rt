@@ -1,4 +1,4 @@
-//! The rules of a tree: ignore files and attribute files, their chains, and what these say of a path.
+//! The rules of a tree: ignore files and attribute files, their chains, and the rule or the attribute of a path.
 //!
 //! The formats are those of gitignore(5) and gitattributes(5); `docs/RULES.md` has each rule with an example.
 #![tactic(auto)]

@@ -44,7 +44,7 @@ impl Model for LineTable {
 }
 
 impl LineTable {
-    /// A text of which no line is taken yet.
+    /// Makes a table of a text, without lines.
     pub(crate) fn new(alloc: Global, text: &[u8]) -> Result<LineTable, AllocError>
         ensures { IfOk result (λ table. table ≡ without_lines text.now) }
     {
@@ -74,7 +74,7 @@ impl LineTable {
         Ok(())
     }
 
-    /// Gives back the room for lines that did not come.
+    /// Frees the memory that was reserved for more lines.
     pub(crate) fn shrink_to_fit(&mut self)
         ensures { self.new ≡ self.old }
     {
@@ -166,10 +166,10 @@ fn add_names(alloc: Global, names: &mut BTreeSet<Vec<u8>>, words: &[u8]) -> Resu
     ensures adds { OnOk result
         ((name : List ℕ) → assigns_name (assigned words.now) name ≡ true → has_name names.new name ≡ true) }
 {
-    let mut left = words;
-    'words: while let Some((assignment, rest)) = split_assignment(left) {
+    let mut rest = words;
+    'words: while let Some((assignment, others)) = split_assignment(rest) {
         add_name(alloc, names, assignment.name)?;
-        left = rest;
+        rest = others;
     }
     Ok(())
 }

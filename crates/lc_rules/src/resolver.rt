@@ -46,7 +46,7 @@ impl<'a> Resolver<'a> {
     }
 }
 
-/// Puts a macro's assignments on the stack where its name is set.
+/// Pushes a macro's assignments on the stack where its name is set.
 fn expand<'a>(
     body: MacroBody<'a>,
     state: State<'a>,
@@ -61,7 +61,7 @@ fn expand<'a>(
     }
 }
 
-/// Reads one assignment: it decides the name that is query, or puts a macro's assignments on the stack.
+/// Reads one assignment: it decides the name that is looked for, or pushes a macro's assignments on the stack.
 fn decide_at<'a>(
     query: Query<'_, 'a>,
     word: Assignment<'a>,
@@ -87,7 +87,7 @@ fn decide_at<'a>(
     Ok(None)
 }
 
-/// Reads what is on the stack.
+/// Reads the assignments on the stack.
 fn decide_pending<'a>(
     query: Query<'_, 'a>,
     resolver: &mut Resolver<'a>,
@@ -128,12 +128,12 @@ fn decide_by_words<'a>(
     requires { IsReady query resolver.old }
     ensures { IfOk result (λ r. Decides query.entry (reverse (assigned words.now)) resolver.old r resolver.new) }
 {
-    let mut left = words;
-    'words: while let Some((assignment, before)) = split_last_assignment(left) {
+    let mut rest = words;
+    'words: while let Some((assignment, before)) = split_last_assignment(rest) {
         if let Some(state) = decide_by_word(query, assignment, resolver)? {
             return Ok(Some(state));
         }
-        left = before;
+        rest = before;
     }
     Ok(None)
 }

@@ -67,13 +67,15 @@ fn the_last_match_is_below_an_index(rt: HostRuntime) -> Result<(), Fail> {
 fn a_set_tells_of_directories(rt: HostRuntime) -> Result<(), Fail> {
     let mut set = PatternSet::new(rt.alloc());
     set.push(&Pattern::read(rt.alloc(), b"**/b")?)?;
-    assert!(rt; !set.searches() && !set.is_dir_only(0));
+    assert!(rt; !set.has_nested_wildcards() && !set.is_dir_only(0));
     for bytes in [b"**/b/**/".as_slice(), b"**/[ab]/**/"] {
         let index = set.len();
         set.push(&Pattern::read(rt.alloc(), bytes)?)?;
         let mut flags = [true; 3];
         set.match_directories(index, &[b"b", b"b", b"c"], &mut flags);
-        assert!(rt; flags == [false, true, true] && set.searches() && set.is_dir_only(index));
+        assert!(rt;
+            flags == [false, true, true] && set.has_nested_wildcards() && set.is_dir_only(index)
+        );
     }
     Ok(())
 }

@@ -14,7 +14,7 @@ use lc_glob::path::depth_of;
 use lc_rules::{DirectoriesAbove, IgnoreFile, Rule, Verdict};
 use memchr::memchr;
 
-/// Of so many names of which nothing is known, the directories are asked about one by one even where a rule searches.
+/// Up to so many names of which nothing is known, directories are matched one by one even if a pattern has nested wildcards.
 const FEW_NAMES: usize = 2;
 
 /// And of so many where none does: of more, most rules tell all at once sooner than one after another.
@@ -115,7 +115,7 @@ impl<'a> Checker<'a> {
             rules,
             directory: &[],
             excluded_by: None,
-            few_names: if rules.searches() {
+            few_names: if rules.has_nested_wildcards() {
                 FEW_NAMES
             } else {
                 SOME_NAMES

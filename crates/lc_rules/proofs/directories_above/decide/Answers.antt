@@ -47,7 +47,8 @@ rules-preserved c =
           inv.decided;
       own = own_more inv.newer c.in-Some.rule.now names above c.args.is_dir c.match_directories.new.flags c.rules.own
           c.newest_match-own.result (omega (arith, c.requires.some, len)) told
-          (c.newest_match-own.ensures ∙ ap (λ (b : Bool). option_or (option_map (λ r. r.now) c.rules.own) (cond b (Some c.in-Some.rule.now) None))
+          (c.newest_match-own.ensures
+          ∙ ap (λ (b : Bool). option_or (option_map (λ r. r.now) c.rules.own) (cond b (Some c.in-Some.rule.now) None))
           (c.is_matched-is_own.ensures
           ∙ ap (λ (b : Bool). get_or c.match_directories.new.flags above false && (not b || c.args.is_dir))
           (c.is_dir_only.ensures ∙ ap (λ p. p.is_dir_only) pattern)))
@@ -56,8 +57,10 @@ rules-preserved c =
 
 pub match_directories-requires-clause-within : goal.match_directories-requires-clause-within
 match_directories-requires-clause-within c =
-    let inv = c.rules.invariant in place_below _ _ inv.newer _ c.in-Some.rule.now inv.whole c.in-Some.ensures.cases.0 _ c.patterns-patterns.ensures
+    let inv = c.rules.invariant in
+    place_below _ _ inv.newer _ c.in-Some.rule.now inv.whole c.in-Some.ensures.cases.0 _ c.patterns-patterns.ensures
 
 pub is_dir_only-requires : goal.is_dir_only-requires
 is_dir_only-requires c =
-    let inv = c.rules.invariant in place_below _ _ inv.newer _ c.in-Some.rule.now inv.whole c.in-Some.ensures.cases.0 _ c.patterns-patterns.ensures
+    let inv = c.rules.invariant in
+    place_below _ _ inv.newer _ c.in-Some.rule.now inv.whole c.in-Some.ensures.cases.0 _ c.patterns-patterns.ensures

@@ -6,7 +6,7 @@ use Rattle.lc_rules.proofs.ignore_file.read_rules.Goals as goal
 
 pub lines-init : goal.lines-init
 lines-init c = record {
-  rules = sym (ap₂ (λ read left. read ++ filter_map rule_of_line (enumerate_from 1 left)) c.new-rules.ensures.items c.of-left.ensures);
+  rules = sym (ap₂ (λ read left. read ++ filter_map rule_of_line (enumerate_from 1 left)) c.new-rules.ensures.items c.of-rest.ensures);
   patterns = c.new-patterns.ensures ∙ sym (ap patterns_of c.new-rules.ensures.items);
-  few = omega (arith, ap length c.of-left.ensures, few_lines c.args.bytes.now);
+  few = omega (arith, ap length c.of-rest.ensures, few_lines c.args.bytes.now);
 }
