@@ -64,7 +64,7 @@ fn no_name_is_looked_at_again(rt: HostRuntime) -> Result<(), Fail> {
     Ok(())
 }
 
-/// A pattern, and whether it searches.
+/// A pattern, and whether it has nested wildcards.
 const SEARCHES: &[(&'static [u8], bool)] = &[
     (b"**/a", false),
     (b"a/**", false),
@@ -76,10 +76,10 @@ const SEARCHES: &[(&'static [u8], bool)] = &[
 ];
 
 #[test]
-fn what_searches(rt: HostRuntime) -> Result<(), Fail> {
+fn what_has_nested_wildcards(rt: HostRuntime) -> Result<(), Fail> {
     for (pattern, wanted) in SEARCHES {
         assert!(rt;
-            Pattern::read(rt.alloc(), pattern)?.searches() == *wanted,
+            Pattern::read(rt.alloc(), pattern)?.has_nested_wildcards() == *wanted,
             "{pattern:?}"
         );
     }
