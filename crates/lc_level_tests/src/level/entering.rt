@@ -4,8 +4,7 @@ use crate::level::work::{
     AS_IT_IS, Case, LINE, NOTHING, Selected, TOP, Why, is_reason, job_of, selection_of,
 };
 use lc_level::{
-    Entered, FaultSite, FaultWord, Job, LevelReader, OpenFault, ReaderOptions, Scratch,
-    path_in,
+    Entered, FaultSite, FaultWord, Job, LevelReader, OpenFault, ReaderOptions, Scratch, path_in,
 };
 use lc_rules::{RuleSource, Verdict};
 use lc_tree::{Entry, Kind, MemTree, Sketch};

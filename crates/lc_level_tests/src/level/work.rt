@@ -1,8 +1,8 @@
 //! One directory's work on a sketch, and what is wanted of it.
 
 use lc_level::{
-    ChildDirectory, CountedFiles, FaultWord, FileFault, Job, LevelReader, OnlyPaths,
-    OpenFault, Opened, ReaderOptions, Reason, Scratch, Selection, SkippedEntry,
+    ChildDirectory, CountedFiles, FaultWord, FileFault, Job, LevelReader, OnlyPaths, OpenFault,
+    Opened, ReaderOptions, Reason, Scratch, Selection, SkippedEntry,
 };
 use lc_rules::{IgnoreFile, RuleFault, RuleSource, TextState};
 use lc_tree::{Kind, MemTree, Node, Sketch};
