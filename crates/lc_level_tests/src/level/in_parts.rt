@@ -1,7 +1,7 @@
 //! A directory with many files, which idle threads help to count.
 
-use crate::level::work::{AS_IT_IS, NOTHING, selection_of};
-use lc_level::{CountedFiles, FaultWord, FileFault, Job, LevelReader, Opened, Scratch};
+use crate::level::work::NOTHING;
+use lc_level::{CountedFiles, FaultWord, FileFault, Job, LevelReader, Opened, Scratch, Selection};
 use lc_tree::{IdleThreads, MemTree, Node};
 use std::alloc::{AllocError, Global};
 use std::process::Abort;
@@ -47,7 +47,7 @@ fn count_flat<R: Threads + Sync>(
     idle: Option<&IdleThreads>,
 ) -> Result<CountedFiles, AllocError> {
     let tree = MemTree::new(node);
-    let levels = LevelReader::new(alloc, &tree, selection_of(&AS_IT_IS), NOTHING);
+    let levels = LevelReader::new(alloc, &tree, Selection::new(false, &[]), NOTHING);
     let mut scratch = Scratch::new(alloc)?;
     let Ok(opened) = levels.open(&Job::top(alloc, None)?, &mut scratch) else {
         return Err(AllocError);
