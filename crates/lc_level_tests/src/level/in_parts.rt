@@ -1,8 +1,8 @@
 //! A directory with many files, which idle threads help to count.
 
-use crate::level::work::{AS_IT_IS, NOTHING, selection_of};
+use crate::level::work::NOTHING;
 use lc_level::{
-    CountedFiles, FaultWord, FileFault, Job, LevelReader, Opened, Scratch, SpareThreads,
+    CountedFiles, FaultWord, FileFault, Job, LevelReader, Opened, Scratch, Selection, SpareThreads,
 };
 use lc_tree::{IdleThreads, MemTree, Node};
 use std::alloc::{AllocError, Global};
@@ -42,14 +42,14 @@ fn is_same(found: &CountedFiles, wanted: &CountedFiles) -> bool {
 }
 
 /// The files of the directory, and an absent path, counted with the help of these threads or by `count`.
-pub(crate) fn count_flat<R: Threads + Sync>(
+pub(super) fn count_flat<R: Threads + Sync>(
     rt: &R,
     alloc: Global,
     node: &Node,
     idle: Option<&IdleThreads>,
 ) -> Result<CountedFiles, AllocError> {
     let tree = MemTree::new(node);
-    let reader = LevelReader::new(alloc, &tree, selection_of(&AS_IT_IS), NOTHING);
+    let reader = LevelReader::new(alloc, &tree, Selection::new(false, &[]), NOTHING);
     let mut scratch = Scratch::new(alloc)?;
     let Ok(opened) = reader.open(&Job::top(alloc, None)?, &mut scratch) else {
         return Err(AllocError);
@@ -68,13 +68,13 @@ pub(crate) fn count_flat<R: Threads + Sync>(
         Some(idle) => {
             let threads = SpareThreads { rt, idle };
             reader.count_in_parts(&threads, &job, files, absent, &mut scratch)
-        },
+        }
         None => reader.count(&job, files, absent, &mut scratch),
     }
 }
 
 /// With so many idle threads the files are what they are without, and the threads are free again, also where memory is refused.
-pub(crate) fn check<R: Threads + Sync + Abort>(
+pub(super) fn check<R: Threads + Sync + Abort>(
     rt: &R,
     alloc: Global,
     node: &Node,
