@@ -14,10 +14,10 @@ use lc_rules::{DirectoriesAbove, IgnoreFile, Rule, Verdict};
 use lc_text::is_bad_path;
 use memchr::memchr;
 
-/// Up to so many unknown names the directories above a path are matched one by one, even where a rule searches in paths.
+/// Up to so many names of which nothing is known, directories are matched one by one even if a pattern has nested wildcards.
 const FEW_NAMES: usize = 2;
 
-/// Up to so many where no rule searches: past it, most rules match all directories together sooner than one after another.
+/// Up to so many where no pattern has: past it, most rules match all directories together sooner than one after another.
 const SOME_NAMES: usize = 8;
 
 /// Returns the number of bytes that two paths share at their front.
@@ -115,7 +115,7 @@ impl<'a> Checker<'a> {
             rules,
             directory: &[],
             excluded_by: None,
-            few_names: if rules.searches() {
+            few_names: if rules.has_nested_wildcards() {
                 FEW_NAMES
             } else {
                 SOME_NAMES

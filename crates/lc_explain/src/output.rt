@@ -204,13 +204,13 @@ impl ExplainOutput {
         kept: &mut StackCache,
         line: &[u8],
     ) -> Result<(), AllocError>
-        requires { AreStacks (MayEnter (T.lists explainer.now.levels.tree.now) (T.gives explainer.now.levels.tree.now))
-            explainer.now.levels.selection explainer.now.exclude.now explainer.now.top kept.old }
-        ensures stacks { OnOk result (AreStacks (MayEnter (T.lists explainer.now.levels.tree.now) (T.gives explainer.now.levels.tree.now))
-            explainer.now.levels.selection explainer.now.exclude.now explainer.now.top kept.new) }
+        requires { AreStacks (MayEnter (T.lists explainer.now.reader.tree.now) (T.gives explainer.now.reader.tree.now))
+            explainer.now.reader.selection explainer.now.exclude.now explainer.now.top kept.old }
+        ensures stacks { OnOk result (AreStacks (MayEnter (T.lists explainer.now.reader.tree.now) (T.gives explainer.now.reader.tree.now))
+            explainer.now.reader.selection explainer.now.exclude.now explainer.now.top kept.new) }
         ensures told { OnOk result (ExplainsLine explainer.now.style
-            (IsExplained (MayEnter (T.lists explainer.now.levels.tree.now) (T.gives explainer.now.levels.tree.now))
-            explainer.now.levels.selection explainer.now.exclude.now explainer.now.top) line.now self.old.block.text.items
+            (IsExplained (MayEnter (T.lists explainer.now.reader.tree.now) (T.gives explainer.now.reader.tree.now))
+            explainer.now.reader.selection explainer.now.exclude.now explainer.now.top) line.now self.old.block.text.items
             self.new.block.text.items self.old.outcome self.new.outcome) }
     {
         let (path, as_dir) = split_slash(line);

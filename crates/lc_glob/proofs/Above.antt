@@ -150,7 +150,8 @@ module _ (r : List SegmentModel) (names : List (List ℕ)) (old new : List Bool)
       )
 
 -- before any segment only the first name is led to
-pub led_first : (names : List (List ℕ)) (flags : List Bool) → length flags ≡ length names → AreSet flags (λ k. k ≡ 0) → AreLed [] names flags
+pub led_first : (names : List (List ℕ)) (flags : List Bool) → length flags ≡ length names → AreSet flags (λ k. k ≡ 0)
+    → AreLed [] names flags
 led_first names flags len set =
     told_as flags _ _ set (λ k low.
     (λ is. subst (λ (i : ℕ). Leads [] (take i names)) (sym is) tt, λ l. none_taken k names (omega (arith, len, low)) l))

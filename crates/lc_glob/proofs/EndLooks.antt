@@ -11,7 +11,7 @@ use Rattle.lc_glob.specs.Elements.{IsLiteral, EndsWithLiteral, BeginsWithLiteral
 use Rattle.lc_glob.specs.EndLooks.{HasLiteralEnd, DiffersAtEnd}
 use Rattle.lc_glob.specs.Fits.{Fits}
 use Rattle.lc_glob.specs.Matches.{MatchesPath, FitsLast}
-use Rattle.lc_glob.specs.Mixed.{mixed_model, is_separator}
+use Rattle.lc_glob.specs.TokenLists.{tokens_model, is_separator}
 use Rattle.lc_glob.specs.Path.{segments_of}
 use Rattle.lc_glob.specs.Patterns.{SegmentModel, plain, double_star}
 use Rattle.lc_glob.specs.Reading.{is_double_star, segment_from}
@@ -22,7 +22,7 @@ use Rattle.lc_glob.proofs.Bounds.{path_some}
 use Rattle.lc_glob.proofs.Ends.{tokens_with_ends-end}
 use Rattle.lc_glob.proofs.Fitting.{end_stuck, front_stuck}
 use Rattle.lc_glob.proofs.Leading.{plain_spelled}
-use Rattle.lc_glob.proofs.Mixed.{mixed_before}
+use Rattle.lc_glob.proofs.TokenLists.{model_before}
 use Rattle.lc_glob.proofs.Naming.{last_part, first_part}
 use Rattle.lc_glob.proofs.SimpleBytes.{literal_byte}
 
@@ -35,9 +35,9 @@ byte_literal b t =
       λ bs. ap (λ (u : TokenModel). u ∷ map byte_token bs) its,
     )
 
-pub token_literal : (t : Token) (b : ℕ) → t ≡ Literal b → IsLiteral mixed_model is_separator t b
+pub token_literal : (t : Token) (b : ℕ) → t ≡ Literal b → IsLiteral tokens_model is_separator t b
 token_literal t b e =
-    subst (λ (u : Token). IsLiteral mixed_model is_separator u b) (sym e) (refl, λ ts. mixed_before ts (Literal b) [] refl, λ ts. refl)
+    subst (λ (u : Token). IsLiteral tokens_model is_separator u b) (sym e) (refl, λ ts. model_before ts (Literal b) [] refl, λ ts. refl)
 
 -- such a byte is its own token
 single_token : (c b : ℕ) → IsLiteral (map byte_token) (λ (d : ℕ). nat_eq d 47) c b → byte_token c ≡ literal b
@@ -100,7 +100,8 @@ end_before c b bs e =
 literals_after : (bs : List ℕ) (c b : ℕ) → c ≡ b → map literal (bs ++ c ∷ []) ≡ map literal bs ++ literal b ∷ []
 literals_after bs c b e = map-append literal bs (c ∷ []) ∙ ap (λ (x : ℕ). map literal bs ++ literal x ∷ []) e
 
-end_after : (bs : List ℕ) (c b : ℕ) → byte_token c ≡ literal b → (us : List TokenModel) × (tokens_of_end (bs ++ c ∷ []) ≡ us ++ literal b ∷ [])
+end_after : (bs : List ℕ) (c b : ℕ) → byte_token c ≡ literal b
+    → (us : List TokenModel) × (tokens_of_end (bs ++ c ∷ []) ≡ us ++ literal b ∷ [])
 end_after [] c b e = ([], end_before c b [] e)
 end_after (x ∷ xs) c b e = at (nat_eq x 42)
   where

@@ -31,7 +31,8 @@ exact_same (s ∷ ss) [] m = absurd m
 exact_same (s ∷ ss) (n ∷ ns) m = ap₂ (λ (x : List ℕ) (xs : List (List ℕ)). x ∷ xs) ((fits_literals s n).0 m.0) (exact_same ss ns m.1)
 
 -- so the comparison of the bytes decides
-pub exact_decides : (bytes path : List ℕ) → IsTrue (bytes_eq path bytes) ↔ MatchesPath (map exact_segment (segments_of bytes)) (segments_of path)
+pub exact_decides : (bytes path : List ℕ) → IsTrue (bytes_eq path bytes)
+    ↔ MatchesPath (map exact_segment (segments_of bytes)) (segments_of path)
 exact_decides bytes path =
     let same = bytes_eq-Decides path bytes in (
       λ t. subst (λ (p : List ℕ). MatchesPath (map exact_segment (segments_of bytes)) (segments_of p)) (sym (same.0 t))
@@ -48,7 +49,8 @@ exact_weight (s ∷ ss) = ap₂ (λ (a b : ℕ). (a + 1) + b) (length-map s lite
 onto_grows : (b : ℕ) (ps : List (List ℕ)) (p : List ℕ) (qs : List (List ℕ)) → ps ≡ p ∷ qs
     → bytes_with_ends (onto_first b ps) ≡ suc (bytes_with_ends ps)
 onto_grows b ps p qs e =
-    ap (λ (l : List (List ℕ)). bytes_with_ends (onto_first b l)) e ∙ grows p qs ∙ sym (ap (λ (l : List (List ℕ)). suc (bytes_with_ends l)) e)
+    ap (λ (l : List (List ℕ)). bytes_with_ends (onto_first b l)) e ∙ grows p qs
+    ∙ sym (ap (λ (l : List (List ℕ)). suc (bytes_with_ends l)) e)
   where
     grows : (p : List ℕ) (qs : List (List ℕ)) → bytes_with_ends ((b ∷ p) ∷ qs) ≡ suc (bytes_with_ends (p ∷ qs))
     grows p qs = omega arith

@@ -128,7 +128,7 @@ whole_decides ls bytes e =
 pub fits_as_many : (ls bytes : List ℕ) → Fits (map literal ls) bytes → length bytes ≡ length ls
 fits_as_many ls bytes f = ap length ((fits_literals ls bytes).0 f)
 
-pub ends_decide : (is_alone : Bool) (ls bytes : List ℕ) → (is_alone ≡ true → length bytes ≡ length ls)
-    → IsTrue (ends_with nat_eq bytes ls) ↔ Fits (end_tokens is_alone ls) bytes
+pub ends_decide : (is_whole : Bool) (ls bytes : List ℕ) → (is_whole ≡ true → length bytes ≡ length ls)
+    → IsTrue (ends_with nat_eq bytes ls) ↔ Fits (end_tokens is_whole ls) bytes
 ends_decide true ls bytes e = whole_decides ls bytes (e refl)
 ends_decide false ls bytes e = suffix_decides ls bytes

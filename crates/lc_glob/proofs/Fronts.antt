@@ -112,7 +112,8 @@ module _ {A : Type 0} (tokens : List A → List TokenModel) (p : A → Bool) whe
   -- a pattern without the separators at its ends
   live_is : (xs front rest : List A)
       → parts_in tokens p front ≡ cond (ends_empty (parts_in tokens p xs)) (without_last (parts_in tokens p xs)) (parts_in tokens p xs)
-      → parts_in tokens p rest ≡ cond (begins_empty (parts_in tokens p front)) (without_first (parts_in tokens p front)) (parts_in tokens p front)
+      → parts_in tokens p rest
+      ≡ cond (begins_empty (parts_in tokens p front)) (without_first (parts_in tokens p front)) (parts_in tokens p front)
       → pattern_from (Some (parts_in tokens p xs)) ≡ live (ends_empty (parts_in tokens p xs))
       (begins_empty (parts_in tokens p front) || nat_lt 1 (length (parts_in tokens p front))) (parts_in tokens p rest)
   live_is xs front rest f r =
@@ -123,7 +124,8 @@ module _ {A : Type 0} (tokens : List A → List TokenModel) (p : A → Bool) whe
   -- it is dead where a part is empty
   pub trimmed_dead : (xs front rest : List A)
       → parts_in tokens p front ≡ cond (ends_empty (parts_in tokens p xs)) (without_last (parts_in tokens p xs)) (parts_in tokens p xs)
-      → parts_in tokens p rest ≡ cond (begins_empty (parts_in tokens p front)) (without_first (parts_in tokens p front)) (parts_in tokens p front)
+      → parts_in tokens p rest
+      ≡ cond (begins_empty (parts_in tokens p front)) (without_first (parts_in tokens p front)) (parts_in tokens p front)
       → some_empty (parts_in tokens p rest) ≡ true → pattern_from (Some (parts_in tokens p xs)) ≡ dead
   trimmed_dead xs front rest f r e =
       let dir = ends_empty (parts_in tokens p xs) in
@@ -132,7 +134,8 @@ module _ {A : Type 0} (tokens : List A → List TokenModel) (p : A → Bool) whe
 
   -- whether it is anchored: a separator leads, or stands between two parts of the rest
   same_scope : (front rest : List A)
-      → parts_in tokens p rest ≡ cond (begins_empty (parts_in tokens p front)) (without_first (parts_in tokens p front)) (parts_in tokens p front)
+      → parts_in tokens p rest
+      ≡ cond (begins_empty (parts_in tokens p front)) (without_first (parts_in tokens p front)) (parts_in tokens p front)
       → (begins_empty (parts_in tokens p front) || nat_lt 1 (length (parts_in tokens p front)))
       ≡ (begins_empty (parts_in tokens p front) || nat_lt 1 (length (parts_in tokens p rest)))
   same_scope front rest r = at (begins_empty (parts_in tokens p front)) r
@@ -153,11 +156,13 @@ module _ {A : Type 0} (tokens : List A → List TokenModel) (p : A → Bool) whe
   pub trimmed_is : (xs front rest : List A) (dir t : Bool) → dir ≡ ends_empty (parts_in tokens p xs)
       → t ≡ (begins_empty (parts_in tokens p front) || nat_lt 1 (length (parts_in tokens p rest)))
       → parts_in tokens p front ≡ cond (ends_empty (parts_in tokens p xs)) (without_last (parts_in tokens p xs)) (parts_in tokens p xs)
-      → parts_in tokens p rest ≡ cond (begins_empty (parts_in tokens p front)) (without_first (parts_in tokens p front)) (parts_in tokens p front)
+      → parts_in tokens p rest
+      ≡ cond (begins_empty (parts_in tokens p front)) (without_first (parts_in tokens p front)) (parts_in tokens p front)
       → some_empty (parts_in tokens p rest) ≡ false → pattern_from (Some (parts_in tokens p xs)) ≡ trimmed_model tokens p dir t rest
   trimmed_is xs front rest dir t d is f r e =
       live_is xs front rest f r
-      ∙ ap (λ (b : Bool). live b (begins_empty (parts_in tokens p front) || nat_lt 1 (length (parts_in tokens p front))) (parts_in tokens p rest))
+      ∙ ap (λ (b : Bool). live b (begins_empty (parts_in tokens p front) || nat_lt 1 (length (parts_in tokens p front)))
+      (parts_in tokens p rest))
       (sym d)
       ∙ ap (λ (b : Bool). live dir b (parts_in tokens p rest)) (same_scope front rest r ∙ sym is)
       ∙ ap (λ (b : Bool). cond b dead (live_model dir t (map (segment_from t) (parts_in tokens p rest)))) e

@@ -10,7 +10,7 @@ use Rattle.std.proofs.lemmas.Bool.{false_from_ne_true}
 use Rattle.memchr.specs.Find.{IsFirstByte, is_byte}
 use Rattle.lc_glob.specs.Brackets.{element, range_from, from_element, class_of, class_item, is_class, plain_item, colon_item, item}
 use Rattle.lc_glob.specs.Brackets.{as_set, bracket, items, items_on, taken_more}
-use Rattle.lc_glob.specs.Mixed.{range_tokens}
+use Rattle.lc_glob.specs.TokenLists.{range_tokens}
 use Rattle.lc_glob.specs.Pushes.{Pushes, kept_tokens}
 use Rattle.lc_glob.specs.Tokens.{class}
 use Rattle.lc_glob.specs.declared.token.Token.{Token}

@@ -6,13 +6,13 @@ use Rattle.std.proofs.lemmas.List.{map-append}
 use Rattle.std.proofs.lemmas.List.Elements.{All-nil, All-cons}
 use Rattle.std.specs.List.{All, slice_split}
 use Rattle.lc_glob.specs.Brackets.{bracket}
-use Rattle.lc_glob.specs.Mixed.{is_separator, mixed_model, range_tokens}
+use Rattle.lc_glob.specs.TokenLists.{is_separator, tokens_model, range_tokens}
 use Rattle.lc_glob.specs.Pushes.{Pushes, kept_tokens, lexeme_tokens}
 use Rattle.lc_glob.specs.Reading.{LexemeModel, separator, one, as_lexeme, byte_lexeme, lexeme, parts, quoted}
 use Rattle.lc_glob.specs.Tokens.{TokenModel, literal, any_byte, star, class}
 use Rattle.lc_glob.specs.declared.token.Token.{Token}
 use Rattle.lc_glob.specs.declared.token.Token.TheVariants.{Literal, AnyByte, Star, Open, Separator}
-use Rattle.lc_glob.proofs.Mixed.{mixed_before, bracket_alone, ranges_inside}
+use Rattle.lc_glob.proofs.TokenLists.{model_before, bracket_alone, ranges_inside}
 use Rattle.lc_glob.proofs.Naming.{EndsIn, ends_more, ends_cut, ends_now}
 use Rattle.lc_glob.proofs.Parts.{join, parts_separator, parts_one, parts_end}
 
@@ -30,30 +30,32 @@ token_inside star = one_inside Star refl
 token_inside (class negated ranges) = All-cons IsInside (Open negated) (range_tokens ranges) refl (ranges_inside ranges)
 
 -- and stands for it after any others
-token_more : (at : List Token) (u : TokenModel) → mixed_model (at ++ kept_tokens u) ≡ mixed_model at ++ u ∷ []
-token_more at (literal c) = mixed_before at (Literal c) [] refl
-token_more at any_byte = mixed_before at AnyByte [] refl
-token_more at star = mixed_before at Star [] refl
+token_more : (at : List Token) (u : TokenModel) → tokens_model (at ++ kept_tokens u) ≡ tokens_model at ++ u ∷ []
+token_more at (literal c) = model_before at (Literal c) [] refl
+token_more at any_byte = model_before at AnyByte [] refl
+token_more at star = model_before at Star [] refl
 token_more at (class negated ranges) =
-    mixed_before at (Open negated) (range_tokens ranges) refl
-    ∙ ap (λ (l : List TokenModel). mixed_model at ++ l) (bracket_alone negated ranges)
+    model_before at (Open negated) (range_tokens ranges) refl
+    ∙ ap (λ (l : List TokenModel). tokens_model at ++ l) (bracket_alone negated ranges)
 
 -- the parts that are done and the part at hand, as tokens: with those of the bytes that are left they are all parts
 abbrev pub HasRead : Option (List (List TokenModel)) → List Token → List ℕ → Type 0
 HasRead all tokens left = (done : List (List Token)) × (at : List Token) × EndsIn is_separator tokens done at
-    × (all ≡ join (map mixed_model done) (mixed_model at) (parts 0 left))
+    × (all ≡ join (map tokens_model done) (tokens_model at) (parts 0 left))
 
 -- one lexeme more
-pub read_lexeme : (l : LexemeModel) (all : Option (List (List TokenModel))) (tokens new : List Token) (left : List ℕ) (b : ℕ) (bs : List ℕ) (k : ℕ)
+pub read_lexeme : (l : LexemeModel) (all : Option (List (List TokenModel))) (tokens new : List Token) (left : List ℕ) (b : ℕ)
+    (bs : List ℕ) (k : ℕ)
     → new ≡ tokens ++ lexeme_tokens l → left ≡ b ∷ bs → lexeme b bs ≡ Some (l, k) → HasRead all tokens left
     → HasRead all new (take (length bs - k) (drop k bs))
 read_lexeme separator all tokens new left b bs k e cons is has =
     let cut = ends_now is_separator tokens has.1 has.0 has.2 in
-    let done = ap (map mixed_model) cut ∙ map-append mixed_model has.0 (has.1 ∷ []) in
+    let done = ap (map tokens_model) cut ∙ map-append tokens_model has.0 (has.1 ∷ []) in
     let rest = parts 0 (take (length bs - k) (drop k bs)) in (
       slice_split is_separator tokens,
       [],
-      subst (λ (xs : List Token). EndsIn is_separator xs (slice_split is_separator tokens) []) (sym e) (ends_cut is_separator tokens Separator refl),
+      subst (λ (xs : List Token). EndsIn is_separator xs (slice_split is_separator tokens) []) (sym e)
+          (ends_cut is_separator tokens Separator refl),
       parts_separator all _ _ left b bs _ k has.3 cons is refl ∙ sym (ap (λ (ps : List (List TokenModel)). join ps [] rest) done),
     )
 read_lexeme (one u) all tokens new left b bs k e cons is has =
@@ -64,15 +66,15 @@ read_lexeme (one u) all tokens new left b bs k e cons is has =
       subst (λ (xs : List Token). EndsIn is_separator xs has.0 (has.1 ++ new_tokens)) (sym e)
           (ends_more is_separator tokens new_tokens has.1 has.0 (token_inside u) has.2),
       parts_one all _ _ left b bs _ _ k has.3 cons is refl
-          ∙ sym (ap (λ (us : List TokenModel). join (map mixed_model has.0) us rest) (token_more has.1 u)),
+          ∙ sym (ap (λ (us : List TokenModel). join (map tokens_model has.0) us rest) (token_more has.1 u)),
     )
 
 -- no lexeme more
 pub read_all : (all : Option (List (List TokenModel))) (tokens : List Token) (left : List ℕ) → length left ≡ 0 → HasRead all tokens left
-    → all ≡ Some (map mixed_model (slice_split is_separator tokens))
+    → all ≡ Some (map tokens_model (slice_split is_separator tokens))
 read_all all tokens left none has =
     parts_end all _ _ _ left has.3 none
-    (ap (map mixed_model) (ends_now is_separator tokens has.1 has.0 has.2) ∙ map-append mixed_model has.0 (has.1 ∷ []))
+    (ap (map tokens_model) (ends_now is_separator tokens has.1 has.0 has.2) ∙ map-append tokens_model has.0 (has.1 ∷ []))
 
 -- a byte that neither quotes nor opens a bracket
 pub lexeme_of_byte : (b : ℕ) (bs : List ℕ) → b ≢ 92 → b ≢ 91 → lexeme b bs ≡ Some (byte_lexeme b, 0)

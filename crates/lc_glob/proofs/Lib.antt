@@ -14,8 +14,10 @@ pub mod Matching
 pub mod Ends
 pub mod Leading
 pub mod Sizing
-pub mod Mixed
+pub mod TokenLists
 pub mod Above
 pub mod SimpleBytes
 pub mod ExactPaths
 pub mod EndLooks
+pub mod PatternSpans
+pub mod LastMatch

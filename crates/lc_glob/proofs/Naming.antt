@@ -15,7 +15,8 @@ use Rattle.lc_glob.specs.Pieces.{cuts_left}
 use Rattle.lc_glob.proofs.FirstByte.{same_read, split_none}
 
 -- what is left behind a front
-pub left_off : {A : Type 0} (all left after : List A) → all ≡ left ++ after → take (length all - length left) (drop (length left) all) ≡ after
+pub left_off : {A : Type 0} (all left after : List A) → all ≡ left ++ after
+    → take (length all - length left) (drop (length left) all) ≡ after
 left_off all left after e = rw take_rest (ap (drop (length left)) e ∙ drop-append_seam left after)
 
 module _ {A : Type 0} (p : A → Bool) where
@@ -173,4 +174,5 @@ at_last_slash bytes i h =
     let inside : i + 1 + k < length bytes = omega (arith, length-drop (i + 1) bytes) in
     false_from_ne_true _ (λ t. h.0.after (i + 1 + k) (omega arith) inside
     (subst (λ (x : ℕ). nat_eq x 47 ≡ true) (get_or-drop (i + 1) bytes k d ∙ same_read bytes (i + 1 + k) d inside) t)) in
-    rw take_rest (sym (ap segments_of cut) ∙ split_end (λ (b : ℕ). nat_eq b 47) (take i bytes) (get_or bytes i 0) (drop (i + 1) bytes) h.1 none)
+    rw take_rest (sym (ap segments_of cut)
+    ∙ split_end (λ (b : ℕ). nat_eq b 47) (take i bytes) (get_or bytes i 0) (drop (i + 1) bytes) h.1 none)

@@ -85,7 +85,8 @@ slash_lexeme b bs e = ap (λ (c : ℕ). lexeme c bs) e
 
 put_separator : (ps : List (List TokenModel)) (p : List TokenModel) (qs : List (List TokenModel)) → ps ≡ p ∷ qs
     → put separator (Some ps) ≡ Some ([] ∷ ps)
-put_separator ps p qs e = ap (λ (l : List (List TokenModel)). put separator (Some l)) e ∙ sym (ap (λ (l : List (List TokenModel)). Some ([] ∷ l)) e)
+put_separator ps p qs e =
+    ap (λ (l : List (List TokenModel)). put separator (Some l)) e ∙ sym (ap (λ (l : List (List TokenModel)). Some ([] ∷ l)) e)
 
 put_byte : (b : ℕ) (ps : List (List ℕ)) (p : List ℕ) (qs : List (List ℕ)) → ps ≡ p ∷ qs
     → put (one (byte_token b)) (Some (map (map byte_token) ps)) ≡ Some (map (map byte_token) (onto_first b ps))

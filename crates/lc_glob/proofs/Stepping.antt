@@ -9,8 +9,8 @@ use Rattle.lc_glob.specs.Lists.{is_empty}
 use Rattle.std.proofs.Math.Nat.{mul-le-mul_right}
 use Rattle.lc_glob.proofs.Fitting.{fits_one, fits_one_empty, when_one}
 use Rattle.lc_glob.proofs.After.{Later, later_after, after_split, after_join, after_after, after_drop}
-use Rattle.lc_glob.specs.declared.place.Place.{Place}
-use Rattle.lc_glob.specs.declared.place.FrontStep.TheVariants as front
+use Rattle.lc_glob.specs.declared.cursor.Cursor.{Cursor}
+use Rattle.lc_glob.specs.declared.cursor.FrontStep.TheVariants as front
 use Rattle.lc_glob.specs.Steps.{FitsAt, cost_at, FrontStepIs, RetryIs}
 
 -- what comes after a byte that is taken
@@ -45,31 +45,31 @@ last_alone tokens others u name e s none =
 
 module _ {A : Type 0} (tokens_in : List A → List TokenModel) where
   -- what is still to be tried where the tokens here don't fit
-  abbrev pub LaterOf : Option (Place A) → Type 0
+  abbrev pub LaterOf : Option (Cursor A) → Type 0
   LaterOf None = ⊥
   LaterOf (Some b) = Later (Fits (tokens_in b.tokens.now)) b.segment.bytes.now
 
   -- whatever cut the star is given, the tokens here come at what is left or after it
-  abbrev pub Covers : Option (Place A) → List TokenModel → List ℕ → Type 0
+  abbrev pub Covers : Option (Cursor A) → List TokenModel → List ℕ → Type 0
   Covers None us name = Unit {0}
   Covers (Some b) us name = Fits (star ∷ tokens_in b.tokens.now) b.segment.bytes.now → Fits (star ∷ us) name
 
   -- how long the name was where the star was tried last
-  abbrev pub span : Option (Place A) → ℕ → ℕ
+  abbrev pub span : Option (Cursor A) → ℕ → ℕ
   span None n = n
   span (Some b) n = length b.segment.bytes.now
 
-  abbrev pub IsWithin : Option (Place A) → ℕ → Type 0
+  abbrev pub IsWithin : Option (Cursor A) → ℕ → Type 0
   IsWithin None n = Unit {0}
   IsWithin (Some b) n = length (tokens_in b.tokens.now) ≤ n
 
-  later_fits : (back : Option (Place A)) (us : List TokenModel) (name : List ℕ) → Covers back (star ∷ us) name → LaterOf back
+  later_fits : (back : Option (Cursor A)) (us : List TokenModel) (name : List ℕ) → Covers back (star ∷ us) name → LaterOf back
       → Fits (star ∷ us) name
   later_fits None us name c l = absurd l
   later_fits (Some b) us name c l = after_after (Fits us) name (c (later_after (Fits (tokens_in b.tokens.now)) b.segment.bytes.now l))
 
   -- at a star: it becomes the place to go back to
-  pub at_star : (H : Type 0) (back : Option (Place A)) (tokens us : List TokenModel) (u : TokenModel) (name : List ℕ) → tokens ≡ u ∷ us
+  pub at_star : (H : Type 0) (back : Option (Cursor A)) (tokens us : List TokenModel) (u : TokenModel) (name : List ℕ) → tokens ≡ u ∷ us
       → is_star u ≡ true → Covers back tokens name → H ↔ (Fits tokens name ⊎ LaterOf back) → H ↔ (Fits us name ⊎ Later (Fits us) name)
   at_star H back tokens us u name e s c t =
       let is : tokens ≡ star ∷ us = e ∙ ap (λ (v : TokenModel). v ∷ us) (star_is u s) in
@@ -80,7 +80,7 @@ module _ {A : Type 0} (tokens_in : List A → List TokenModel) where
       )
 
   -- at a byte that is taken
-  pub at_byte : (H : Type 0) (back : Option (Place A)) (tokens us : List TokenModel) (u : TokenModel) (name : List ℕ) (x : ℕ) (xs : List ℕ)
+  pub at_byte : (H : Type 0) (back : Option (Cursor A)) (tokens us : List TokenModel) (u : TokenModel) (name : List ℕ) (x : ℕ) (xs : List ℕ)
       → tokens ≡ u ∷ us → name ≡ x ∷ xs → is_star u ≡ false → IsTrue (takes u x) → H ↔ (Fits tokens name ⊎ LaterOf back)
       → H ↔ (Fits us xs ⊎ LaterOf back)
   at_byte H back tokens us u name x xs e n s k t =
@@ -90,7 +90,7 @@ module _ {A : Type 0} (tokens_in : List A → List TokenModel) where
       )
 
   -- a byte that its token takes leaves tokens and name that fit where they did
-  pub covers_byte : (back : Option (Place A)) (tokens us : List TokenModel) (u : TokenModel) (name : List ℕ) (x : ℕ) (xs : List ℕ)
+  pub covers_byte : (back : Option (Cursor A)) (tokens us : List TokenModel) (u : TokenModel) (name : List ℕ) (x : ℕ) (xs : List ℕ)
       → tokens ≡ u ∷ us → name ≡ x ∷ xs → is_star u ≡ false → Covers back tokens name → Covers back us xs
   covers_byte None tokens us u name x xs e n s c = tt
   covers_byte (Some b) tokens us u name x xs e n s c =
@@ -136,7 +136,7 @@ paid_end h b n m t s hb nm st = rw (hb, nm) (omega arith)
 module _ {A : Type 0} (tokens_in : List A → List TokenModel) where
   -- what holds between two steps from the front: the tokens here fit, or those after the star do later, just where the tokens of the
   -- whole fit; and the tests that were made, with those that may still be, are no more than were allowed
-  abbrev pub StepsHold : Place A → Place A → Option (Place A) → ℕ → ℕ → Type 0
+  abbrev pub StepsHold : Cursor A → Cursor A → Option (Cursor A) → ℕ → ℕ → Type 0
   StepsHold all here back made before = record {
     same : FitsAt tokens_in all ↔ (FitsAt tokens_in here ⊎ LaterOf tokens_in back);
     covers : Covers tokens_in back (tokens_in here.tokens.now) here.segment.bytes.now;
@@ -148,7 +148,7 @@ module _ {A : Type 0} (tokens_in : List A → List TokenModel) where
   }
 
   -- after a star, which becomes the place to go back to
-  pub hold_after_star : (all here next : Place A) (back : Option (Place A)) (m made before : ℕ)
+  pub hold_after_star : (all here next : Cursor A) (back : Option (Cursor A)) (m made before : ℕ)
       → FrontStepIs tokens_in (front.Star next.tokens) (tokens_in here.tokens.now) here.segment.bytes.now → next.segment ≡ here.segment
       → made ≤ m + 1 → StepsHold all here back m before → StepsHold all next (Some next) made before
   hold_after_star all here next back m made before is e paid inv =
@@ -166,7 +166,7 @@ module _ {A : Type 0} (tokens_in : List A → List TokenModel) where
       }
 
   -- after a byte that is taken
-  pub hold_after_byte : (all here next : Place A) (back : Option (Place A)) (m made before : ℕ)
+  pub hold_after_byte : (all here next : Cursor A) (back : Option (Cursor A)) (m made before : ℕ)
       → FrontStepIs tokens_in (front.Taken next) (tokens_in here.tokens.now) here.segment.bytes.now
       → made ≤ m + 1 → StepsHold all here back m before → StepsHold all next back made before
   hold_after_byte all here next back m made before is paid inv =
@@ -182,7 +182,7 @@ module _ {A : Type 0} (tokens_in : List A → List TokenModel) where
       }
 
   -- after the way back
-  pub hold_after_retry : (all here back next : Place A) (m made before : ℕ)
+  pub hold_after_retry : (all here back next : Cursor A) (m made before : ℕ)
       → (Fits (tokens_in here.tokens.now) here.segment.bytes.now → ⊥) → RetryIs back (Some next)
       → made ≤ m + 1 → StepsHold all here (Some back) m before → StepsHold all next (Some next) made before
   hold_after_retry all here back next m made before never is paid inv =

@@ -7,40 +7,40 @@ use Rattle.lc_glob.specs.Patterns.{SegmentModel, plain, double_star}
 use Rattle.lc_glob.specs.Leads.{Leads}
 use Rattle.lc_glob.specs.Views.{segments_ref_model}
 use Rattle.lc_glob.specs.Path.{segments_left}
-use Rattle.lc_glob.specs.declared.match_path.PathPlace.{PathPlace}
+use Rattle.lc_glob.specs.declared.match_path.PathCursor.{PathCursor}
 use Rattle.lc_glob.proofs.After.{After, Later, later_after, after_split, after_join, after_after, after_drop}
 use Rattle.lc_glob.proofs.Cost.{again}
 
 -- what is still to be tried where the segments here don't match the segments that are left
-abbrev pub LaterOf : Option PathPlace → Type 0
+abbrev pub LaterOf : Option PathCursor → Type 0
 LaterOf None = ⊥
 LaterOf (Some b) = Later (Leads (segments_ref_model b.segments)) (segments_left b.left.rest)
 
 -- whatever run the double star is given, the segments here come at the segments left or after them
-abbrev pub Covers : Option PathPlace → List SegmentModel → List (List ℕ) → Type 0
+abbrev pub Covers : Option PathCursor → List SegmentModel → List (List ℕ) → Type 0
 Covers None s path = Unit {0}
 Covers (Some b) s path = After (Leads (segments_ref_model b.segments)) (segments_left b.left.rest) → After (Leads s) path
 
-abbrev pub span : Option PathPlace → ℕ → ℕ
+abbrev pub span : Option PathCursor → ℕ → ℕ
 span None n = n
 span (Some b) n = length (segments_left b.left.rest)
 
-abbrev pub IsWithin : Option PathPlace → ℕ → Type 0
+abbrev pub IsWithin : Option PathCursor → ℕ → Type 0
 IsWithin None n = Unit {0}
 IsWithin (Some b) n = length (segments_ref_model b.segments) ≤ n
 
 -- what a later start may still cost; at first all but the straight try
-abbrev pub reserve : Option PathPlace → ℕ → ℕ
+abbrev pub reserve : Option PathCursor → ℕ → ℕ
 reserve None n = n
 reserve (Some b) n = again (segments_ref_model b.segments) (segments_left b.left.rest)
 
-later_comes : (back : Option PathPlace) (s : List SegmentModel) (path : List (List ℕ)) → Covers back s path → LaterOf back
+later_comes : (back : Option PathCursor) (s : List SegmentModel) (path : List (List ℕ)) → Covers back s path → LaterOf back
     → After (Leads s) path
 later_comes None s path c l = absurd l
 later_comes (Some b) s path c l = c (later_after (Leads (segments_ref_model b.segments)) (segments_left b.left.rest) l)
 
 -- at a double star: it becomes the place to go back to
-pub at_double : (T : Type 0) (back : Option PathPlace) (segments rest : List SegmentModel) (path : List (List ℕ))
+pub at_double : (T : Type 0) (back : Option PathCursor) (segments rest : List SegmentModel) (path : List (List ℕ))
     → segments ≡ double_star ∷ rest → Covers back segments path → T ↔ (Leads segments path ⊎ LaterOf back)
     → T ↔ (Leads rest path ⊎ Later (Leads rest) path)
 at_double T back segments rest path e c t =
@@ -63,7 +63,7 @@ at_name T L segments rest us path n ns e p f t =
     )
 
 -- a name that its segment fits leaves segments and path that match where they did
-pub covers_name : (back : Option PathPlace) (segments rest : List SegmentModel) (us : List TokenModel) (path : List (List ℕ))
+pub covers_name : (back : Option PathCursor) (segments rest : List SegmentModel) (us : List TokenModel) (path : List (List ℕ))
     (n : List ℕ) (ns : List (List ℕ)) → segments ≡ plain us ∷ rest → path ≡ n ∷ ns → Covers back segments path → Covers back rest ns
 covers_name None segments rest us path n ns e p c = tt
 covers_name (Some b) segments rest us path n ns e p c =

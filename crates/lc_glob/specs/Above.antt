@@ -45,11 +45,11 @@ is_wide (plain us) = list_any is_star us
 is_wide double_star = true
 
 -- whether a double star comes after a wide segment, which may have come before these
-abbrev pub searches_after : Bool → List SegmentModel → Bool
-searches_after wide [] = false
-searches_after wide (s ∷ r) = wide && is_double s || searches_after (wide || is_wide s) r
+abbrev pub has_nested_after : Bool → List SegmentModel → Bool
+has_nested_after wide [] = false
+has_nested_after wide (s ∷ r) = wide && is_double s || has_nested_after (wide || is_wide s) r
 
 -- whether a double star comes after a wide segment, so that what a match with a directory looks for a match with one below
 -- it looks for again
-abbrev pub searches : PatternModel → Bool
-searches p = searches_after false p.segments
+abbrev pub has_nested_wildcards : PatternModel → Bool
+has_nested_wildcards p = has_nested_after false p.segments

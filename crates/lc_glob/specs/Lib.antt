@@ -1,7 +1,7 @@
 pub mod Bytes
 pub mod Lists
 pub mod Tokens
-pub mod Mixed
+pub mod TokenLists
 pub mod Fits
 pub mod Patterns
 pub mod Pieces
@@ -14,7 +14,8 @@ pub mod Elements
 pub mod Simple
 pub mod Views
 pub mod Pushes
-pub mod Sources
+pub mod PatternSpans
+pub mod PatternSets
 pub mod ByteTests
 pub mod EndLooks
 pub mod BracketSteps

@@ -7,19 +7,19 @@ use Rattle.lc_glob.specs.Leads.{Leads}
 use Rattle.lc_glob.specs.Views.{segments_ref_model}
 use Rattle.lc_glob.specs.Path.{segments_left}
 use Rattle.lc_glob.specs.Costs.{full_cost}
-use Rattle.lc_glob.specs.declared.match_path.PathPlace.{PathPlace}
+use Rattle.lc_glob.specs.declared.match_path.PathCursor.{PathCursor}
 use Rattle.lc_glob.specs.declared.match_path.PathFrontStep.{PathFrontStep}
 use Rattle.lc_glob.specs.declared.match_path.PathFrontStep.TheVariants as front
 use Rattle.lc_glob.specs.declared.match_path.PathEndStep.{PathEndStep}
 use Rattle.lc_glob.specs.declared.match_path.PathEndStep.TheVariants as end
 
--- the segments of a place lead to the end of the path
-abbrev pub LeadsAt : PathPlace → Type 0
-LeadsAt place = Leads (segments_ref_model place.segments) (segments_left place.left.rest)
+-- the segments of a cursor lead to the end of the path
+abbrev pub LeadsAt : PathCursor → Type 0
+LeadsAt cursor = Leads (segments_ref_model cursor.segments) (segments_left cursor.left.rest)
 
--- the most byte tests of a place
-abbrev pub cost_at : PathPlace → ℕ
-cost_at place = full_cost (segments_ref_model place.segments) (segments_left place.left.rest)
+-- the most byte tests of a cursor
+abbrev pub cost_at : PathCursor → ℕ
+cost_at cursor = full_cost (segments_ref_model cursor.segments) (segments_left cursor.left.rest)
 
 -- a double star is last; or the last segment fits the path's last, and what is before them is left; or the segments lead to
 -- the end, or don't
@@ -47,7 +47,7 @@ PathFrontStepIs front.Arrived segments path = Leads segments path
 PathFrontStepIs front.Stuck segments path = Leads segments path → ⊥
 
 -- the same segments one of the path's later, where there is one
-abbrev pub PathRetryIs : PathPlace → Option PathPlace → Type 0
+abbrev pub PathRetryIs : PathCursor → Option PathCursor → Type 0
 PathRetryIs here None = segments_left here.left.rest ≡ []
 PathRetryIs here (Some next) = (n : List ℕ) × (segments_left here.left.rest ≡ n ∷ segments_left next.left.rest)
     × (next.segments ≡ here.segments)
@@ -59,6 +59,6 @@ front_cost (double_star ∷ r) path = 0
 front_cost (plain us ∷ r) [] = 0
 front_cost (plain us ∷ r) (n ∷ ns) = (length us + 1) * (length n + 1)
 
--- of a place
-abbrev pub front_cost_at : PathPlace → ℕ
-front_cost_at place = front_cost (segments_ref_model place.segments) (segments_left place.left.rest)
+-- of a cursor
+abbrev pub front_cost_at : PathCursor → ℕ
+front_cost_at cursor = front_cost (segments_ref_model cursor.segments) (segments_left cursor.left.rest)

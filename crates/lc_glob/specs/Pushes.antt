@@ -1,6 +1,6 @@
 -- What is kept of what a pattern's bytes are read as, and what is pushed for it.
 use Rattle.std.specs.Prelude.{ℕ, ◌≡◌, List, [], ◌∷◌, ◌++◌, Option, Some, None}
-use Rattle.lc_glob.specs.Mixed.{range_tokens}
+use Rattle.lc_glob.specs.TokenLists.{range_tokens}
 use Rattle.lc_glob.specs.Reading.{LexemeModel, separator, one}
 use Rattle.lc_glob.specs.Tokens.{TokenModel, literal, any_byte, star, class}
 use Rattle.lc_glob.specs.declared.token.Token.{Token}

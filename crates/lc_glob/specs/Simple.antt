@@ -55,4 +55,4 @@ exact_segment bytes = plain (map literal bytes)
 
 -- literals, alone or after a star
 abbrev pub end_tokens : Bool → List ℕ → List TokenModel
-end_tokens is_alone bytes = if is_alone then map literal bytes else star ∷ map literal bytes
+end_tokens is_whole bytes = if is_whole then map literal bytes else star ∷ map literal bytes

@@ -2,20 +2,20 @@
 use Rattle.std.specs.Prelude.{ℕ, ◌+◌, ◌*◌, length, true, false, ◌≡◌, List, [], ◌∷◌, ◌++◌, Option, Some, None, IsTrue}
 use Rattle.lc_glob.specs.Tokens.{TokenModel, takes, is_star}
 use Rattle.lc_glob.specs.Fits.{Fits}
-use Rattle.lc_glob.specs.declared.place.Place.{Place}
-use Rattle.lc_glob.specs.declared.place.FrontStep.{FrontStep}
-use Rattle.lc_glob.specs.declared.place.FrontStep.TheVariants as front
-use Rattle.lc_glob.specs.declared.place.EndStep.{EndStep}
-use Rattle.lc_glob.specs.declared.place.EndStep.TheVariants as end
+use Rattle.lc_glob.specs.declared.cursor.Cursor.{Cursor}
+use Rattle.lc_glob.specs.declared.cursor.FrontStep.{FrontStep}
+use Rattle.lc_glob.specs.declared.cursor.FrontStep.TheVariants as front
+use Rattle.lc_glob.specs.declared.cursor.EndStep.{EndStep}
+use Rattle.lc_glob.specs.declared.cursor.EndStep.TheVariants as end
 
 module _ {A : Type 0} (tokens_in : List A → List TokenModel) where
-  -- the tokens of a place fit what is left of the segment
-  abbrev pub FitsAt : Place A → Type 0
-  FitsAt place = Fits (tokens_in place.tokens.now) place.segment.bytes.now
+  -- the tokens of a cursor fit what is left of the segment
+  abbrev pub FitsAt : Cursor A → Type 0
+  FitsAt cursor = Fits (tokens_in cursor.tokens.now) cursor.segment.bytes.now
 
-  -- the most byte tests of a place
-  abbrev pub cost_at : Place A → ℕ
-  cost_at place = length place.segment.bytes.now * (length (tokens_in place.tokens.now) + 1) + length (tokens_in place.tokens.now)
+  -- the most byte tests of a cursor
+  abbrev pub cost_at : Cursor A → ℕ
+  cost_at cursor = length cursor.segment.bytes.now * (length (tokens_in cursor.tokens.now) + 1) + length (tokens_in cursor.tokens.now)
 
   -- the last token is a star; or it stands for the last byte, and what is before both is left; or the tokens fit the segment,
   -- or don't
@@ -43,6 +43,6 @@ module _ {A : Type 0} (tokens_in : List A → List TokenModel) where
   FrontStepIs front.Stuck tokens segment = Fits tokens segment → ⊥
 
 -- the same tokens one byte later, where there is one
-abbrev pub RetryIs : {A : Type 0} → Place A → Option (Place A) → Type 0
+abbrev pub RetryIs : {A : Type 0} → Cursor A → Option (Cursor A) → Type 0
 RetryIs here None = here.segment.bytes.now ≡ []
 RetryIs here (Some next) = (x : ℕ) × (here.segment.bytes.now ≡ x ∷ next.segment.bytes.now) × (next.tokens ≡ here.tokens)

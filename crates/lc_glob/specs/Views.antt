@@ -6,7 +6,7 @@ use Rattle.lc_glob.specs.declared.byte_set.ByteSet.{ByteSet}
 use Rattle.lc_glob.specs.declared.scope.Scope.{Scope}
 use Rattle.lc_glob.specs.declared.token.Token.{Token}
 use Rattle.lc_glob.specs.Elements.{trimmed_model}
-use Rattle.lc_glob.specs.Mixed.{mixed_model, ranges_first, is_separator}
+use Rattle.lc_glob.specs.TokenLists.{tokens_model, ranges_first, is_separator}
 use Rattle.lc_glob.specs.Pieces.{cuts_left}
 use Rattle.lc_glob.specs.declared.token.TokenRef.{TokenRef}
 use Rattle.lc_glob.specs.declared.token.TokenRef.TheVariants as ref
@@ -16,17 +16,19 @@ use Rattle.lc_glob.specs.declared.segment_ref.SegmentRef.{SegmentRef}
 use Rattle.lc_glob.specs.declared.segment_ref.SegmentRef.TheVariants as segment_ref
 use Rattle.lc_glob.specs.declared.segment_ref.SegmentsRef.{SegmentsRef}
 use Rattle.lc_glob.specs.declared.segment_ref.SegmentsRef.TheVariants as segments_ref
-use Rattle.lc_glob.specs.declared.simple_pattern.Shape.{Shape}
+use Rattle.lc_glob.specs.declared.simple_pattern.SimpleKind.{SimpleKind}
 use Rattle.lc_glob.specs.declared.simple_pattern.SimpleForm.{SimpleForm}
-use Rattle.lc_glob.specs.declared.simple_pattern.Shape.TheVariants as simple
-use Rattle.lc_glob.specs.declared.simple_pattern.Extent.TheVariants as extent
+use Rattle.lc_glob.specs.declared.simple_pattern.SimpleKind.TheVariants as simple
+use Rattle.lc_glob.specs.declared.simple_pattern.OtherKind.TheVariants as other
 use Rattle.lc_glob.specs.declared.pattern_view.KindRef.{KindRef}
 use Rattle.lc_glob.specs.declared.pattern_view.KindRef.TheVariants as kind_ref
 use Rattle.lc_glob.specs.Path.{segments_of, segments_left}
 use Rattle.lc_glob.specs.Reading.{segment_from}
 use Rattle.lc_glob.specs.Simple.{byte_token, bytes_segment, ends_segment, exact_segment, end_tokens}
-use Rattle.lc_glob.specs.declared.pattern.Kept.{Kept}
-use Rattle.lc_glob.specs.declared.pattern.Kept.TheVariants.{Simple, Mixed}
+use Rattle.lc_glob.specs.declared.pattern.PatternKind.{PatternKind}
+use Rattle.lc_glob.specs.declared.pattern.PatternKind.TheVariants.{Simple, Tokens}
+use Rattle.lc_glob.specs.declared.pattern_ref.PatternRef.{PatternRef}
+use Rattle.lc_glob.specs.declared.pattern_ref.PatternRef.TheVariants as pattern_ref
 
 -- a bracket, whose ranges come first among the tokens
 abbrev pub set_model : ByteSet → TokenModel
@@ -43,7 +45,7 @@ abbrev pub tokens_ref_model : TokensRef → List TokenModel
 tokens_ref_model (shape_ref.Literal literals) = map literal literals.now
 tokens_ref_model (shape_ref.Suffix literals) = star ∷ map literal literals.now
 tokens_ref_model (shape_ref.Bytes bytes) = map byte_token bytes.now
-tokens_ref_model (shape_ref.Tokens tokens) = mixed_model tokens.now
+tokens_ref_model (shape_ref.Tokens tokens) = tokens_model tokens.now
 
 abbrev pub segment_ref_model : SegmentRef → SegmentModel
 segment_ref_model (segment_ref.Plain tokens) = plain (tokens_ref_model tokens)
@@ -53,7 +55,7 @@ abbrev pub segments_ref_model : SegmentsRef → List SegmentModel
 segments_ref_model (segments_ref.Bytes left) = map bytes_segment (segments_left left.rest)
 segments_ref_model (segments_ref.Ends left) = map ends_segment (segments_left left.rest)
 segments_ref_model (segments_ref.Exact left) = map exact_segment (segments_left left.rest)
-segments_ref_model (segments_ref.Tokens left) = map (λ part. segment_from true (mixed_model part)) (cuts_left is_separator left.rest)
+segments_ref_model (segments_ref.Tokens left) = map (λ part. segment_from true (tokens_model part)) (cuts_left is_separator left.rest)
 
 -- a dead pattern, and one for directories only or not, anchored or not, with its segments
 abbrev pub dead_model : Bool → PatternModel
@@ -63,27 +65,32 @@ abbrev pub live_model : Bool → Bool → List SegmentModel → PatternModel
 live_model is_dir_only is_anchored segments =
     record { is_dead = false; is_dir_only = is_dir_only; is_anchored = is_anchored; segments = segments }
 
--- the bytes of a simple pattern by their shape, without the separators at its ends and, of a suffix, without the star
-abbrev pub simple_model : Bool → Shape → List ℕ → PatternModel
-simple_model is_dir_only (simple.End is_alone) bytes = live_model is_dir_only false (plain (end_tokens is_alone bytes) ∷ [])
-simple_model is_dir_only (simple.More extent.Dead) bytes = dead_model is_dir_only
-simple_model is_dir_only (simple.More extent.LastSegment) bytes = live_model is_dir_only false (plain (map byte_token bytes) ∷ [])
-simple_model is_dir_only (simple.More extent.Exact) bytes = live_model is_dir_only true (map exact_segment (segments_of bytes))
-simple_model is_dir_only (simple.More extent.Ends) bytes = live_model is_dir_only true (map ends_segment (segments_of bytes))
-simple_model is_dir_only (simple.More extent.WholePath) bytes = live_model is_dir_only true (map bytes_segment (segments_of bytes))
+-- the bytes of a simple pattern by their kind, without the separators at its ends and, of a suffix, without the star
+abbrev pub simple_model : Bool → SimpleKind → List ℕ → PatternModel
+simple_model is_dir_only (simple.Suffix is_whole) bytes = live_model is_dir_only false (plain (end_tokens is_whole bytes) ∷ [])
+simple_model is_dir_only (simple.Other other.Dead) bytes = dead_model is_dir_only
+simple_model is_dir_only (simple.Other other.LastSegment) bytes = live_model is_dir_only false (plain (map byte_token bytes) ∷ [])
+simple_model is_dir_only (simple.Other other.Exact) bytes = live_model is_dir_only true (map exact_segment (segments_of bytes))
+simple_model is_dir_only (simple.Other other.Ends) bytes = live_model is_dir_only true (map ends_segment (segments_of bytes))
+simple_model is_dir_only (simple.Other other.WholePath) bytes = live_model is_dir_only true (map bytes_segment (segments_of bytes))
 
--- the same of both in one
+-- a simple pattern, by its form and its bytes
 abbrev pub form_model : SimpleForm → List ℕ → PatternModel
-form_model form bytes = simple_model form.is_dir_only form.shape bytes
+form_model form bytes = simple_model form.is_dir_only form.kind bytes
 
 -- the tokens of a pattern that was read, without separators at its ends
-abbrev pub mixed_form_model : Scope → List Token → PatternModel
-mixed_form_model scope tokens = trimmed_model mixed_model is_separator scope.is_dir_only scope.is_anchored tokens
+abbrev pub token_pattern_model : Scope → List Token → PatternModel
+token_pattern_model scope tokens = trimmed_model tokens_model is_separator scope.is_dir_only scope.is_anchored tokens
 
--- a pattern, by what it keeps
-abbrev pub kept_model : Kept → PatternModel
-kept_model (Simple form bytes) = form_model form bytes.items
-kept_model (Mixed scope tokens) = mixed_form_model scope tokens.items
+-- a pattern, by its kind
+abbrev pub pattern_kind_model : PatternKind → PatternModel
+pattern_kind_model (Simple form bytes) = form_model form bytes.items
+pattern_kind_model (Tokens scope tokens) = token_pattern_model scope tokens.items
+
+-- one that is lent
+abbrev pub pattern_ref_model : PatternRef → PatternModel
+pattern_ref_model (pattern_ref.Simple p) = form_model p.form p.bytes.now
+pattern_ref_model (pattern_ref.Tokens p) = token_pattern_model p.scope p.tokens.now
 
 -- and as it is matched
 abbrev pub pattern_view_model : Bool → KindRef → PatternModel

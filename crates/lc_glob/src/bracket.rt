@@ -6,7 +6,7 @@ ghost use Rattle.lc_glob.specs.Bytes.{closing};
 ghost use Rattle.lc_glob.specs.Brackets.{class_of, other_class_of};
 ghost use Rattle.lc_glob.specs.Brackets.{element, first_close, range_from, item, plain_item, colon_of, items, bracket};
 ghost use Rattle.lc_glob.specs.BracketSteps.{ColonIs};
-ghost use Rattle.lc_glob.specs.Mixed.{range_tokens};
+ghost use Rattle.lc_glob.specs.TokenLists.{range_tokens};
 ghost use Rattle.lc_glob.specs.Pushes.{Pushes, kept_tokens};
 
 use crate::token::Token;
@@ -197,19 +197,19 @@ fn push_items(bytes: &[u8], tokens: &mut Vec<Token>) -> Result<Option<usize>, Al
     ensures is { IfOk result (λ r. Pushes range_tokens (items true 0 bytes.now) tokens.old.items tokens.new.items r) }
     ensures within { IfOk result (λ r. IfSome r (λ k. k ≤ length bytes.now)) }
 {
-    let mut left = bytes;
+    let mut rest = bytes;
     let mut first = true;
     'items: loop {
-        let Some((b, rest)) = left.split_first() else {
+        let Some((b, others)) = rest.split_first() else {
             return Ok(None);
         };
         if closes(*b, first) {
-            return Ok(Some(bytes.len() - rest.len()));
+            return Ok(Some(bytes.len() - others.len()));
         }
-        let Some(taken) = push_item(*b, rest, tokens)? else {
+        let Some(taken) = push_item(*b, others, tokens)? else {
             return Ok(None);
         };
-        left = &rest[taken..];
+        rest = &others[taken..];
         first = false;
     }
 }

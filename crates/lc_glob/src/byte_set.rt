@@ -1,7 +1,7 @@
 //! The bytes that a bracket stands for.
 
 ghost use Rattle.std.specs.Prelude.{◌≡◌};
-ghost use Rattle.lc_glob.specs.Mixed.{ranges_first};
+ghost use Rattle.lc_glob.specs.TokenLists.{ranges_first};
 ghost use Rattle.lc_glob.specs.Tokens.{class, in_ranges, takes};
 ghost use Rattle.lc_glob.specs.Views.{set_model};
 
@@ -32,12 +32,12 @@ impl<'p> ByteSet<'p> {
     fn has(self, b: u8) -> bool
         ensures { result ≡ in_ranges (ranges_first self.entry.tokens.now) b }
     {
-        let mut left = self.tokens;
-        'tokens: while let Some((Token::Range(first, last), others)) = left.split_first() {
+        let mut rest = self.tokens;
+        'tokens: while let Some((Token::Range(first, last), others)) = rest.split_first() {
             if *first <= b && b <= *last {
                 return true;
             }
-            left = others;
+            rest = others;
         }
         false
     }

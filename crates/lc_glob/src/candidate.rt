@@ -1,4 +1,4 @@
-//! A path that patterns are asked about.
+//! A path that is matched with patterns.
 
 ghost use Rattle.std.specs.Prelude.{◌≡◌, ◌==◌, length, bytes_eq};
 ghost use Rattle.lc_glob.specs.ByteTests.{tests_if};
@@ -9,15 +9,15 @@ use crate::path_segment::{ByteTests, PathSegment};
 use crate::segments_left::SegmentsLeft;
 use std::marker::Model;
 
-/// From how many bytes on a path is measured: a look at each segment of a shorter one costs less.
+/// The least number of bytes of a path that is measured. To look at each segment of a shorter one costs less.
 const LONG_PATH: usize = 256;
 
-/// For how many patterns: fewer cost less than to measure a path.
+/// The least number of patterns for which a path is measured. Fewer cost less than to measure it.
 const MANY_PATTERNS: usize = 64;
 
-/// A path that is asked about many patterns: where its last segment begins is found once.
+/// A path that is matched with many patterns: where its last segment begins is found once.
 ///
-/// It costs one look for a slash from the end of the path, one pass over a path that is measured, and no memory.
+/// To make one costs one search for a slash from the end of the path, one pass over a path that is measured, and no memory.
 ///
 /// ```
 /// let candidate = Candidate::new(b"src/main.c");
@@ -28,7 +28,7 @@ pub struct Candidate<'a> {
     path: &'a [u8],
     pub(crate) above: SegmentsLeft<'a, u8>,
     pub(crate) last: PathSegment<'a>,
-    /// Those of the segments above the last.
+    /// The lengths of the segments above the last.
     pub(crate) lengths: Lengths,
 }
 
@@ -46,15 +46,15 @@ impl<'a> Model for Candidate<'a> {
 }
 
 impl<'a> Candidate<'a> {
-    /// The path, whose segments are cut by single slashes; no slash stands at its ends.
+    /// Makes the candidate of a path, whose segments are separated by single slashes, with no slash at its ends.
     pub fn new(path: &'a [u8]) -> Self
         ensures { result ≡ path.now }
     {
         Self::measured_from(path, usize::MAX)
     }
 
-    /// The same for so many patterns: where they are many, a long path is measured, so that a pattern with a segment which is
-    /// shorter or longer than each of the path's is told at one look.
+    /// Makes the candidate of a path for so many patterns. Where they are many, a long path is measured, so that a pattern
+    /// with a segment that is shorter or longer than each of the path's is rejected without a byte test.
     pub fn for_patterns(path: &'a [u8], patterns: usize) -> Self
         ensures { result ≡ path.now }
     {
@@ -65,14 +65,14 @@ impl<'a> Candidate<'a> {
         }
     }
 
-    /// The same, measured where it is long.
+    /// Makes the candidate of a path, which is measured where it is long.
     pub(crate) fn measured(path: &'a [u8]) -> Self
         ensures { result ≡ path.now }
     {
         Self::measured_from(path, LONG_PATH)
     }
 
-    /// The same, measured where it has so many bytes.
+    /// Makes the candidate of a path, which is measured where it has at least `long` bytes.
     fn measured_from(path: &'a [u8], long: usize) -> Self
         ensures { result ≡ path.now }
     {
@@ -91,7 +91,7 @@ impl<'a> Candidate<'a> {
         }
     }
 
-    /// All of it, as if it were one segment.
+    /// The whole path, as if it were one segment.
     #[inline]
     pub(crate) fn whole(&self) -> PathSegment<'a>
         ensures { result.bytes.now ≡ self.now }
@@ -99,7 +99,7 @@ impl<'a> Candidate<'a> {
         PathSegment::new(self.path)
     }
 
-    /// Whether it is these bytes: a test for each, where there are as many.
+    /// Whether the path is these bytes. It makes a byte test for each of them, where the path has as many.
     #[inline]
     pub(crate) fn is(&self, bytes: &[u8], tests: &mut ByteTests) -> bool
         ensures same { result ≡ bytes_eq self.now bytes.now }

@@ -6,9 +6,9 @@ ghost use Rattle.lc_glob.specs.Pieces.{is_byte, pieces_of, pieces_left};
 
 use memchr::memchr;
 
-/// What stands before the first `byte`, and what follows it; all bytes and `None` where it isn't among them.
+/// Splits bytes at the first `byte`: those before it, and those after it. Without that byte it returns all bytes and `None`.
 ///
-/// It looks once through what it gives first, and takes no memory.
+/// It reads the bytes that it returns first once, and allocates nothing.
 ///
 /// ```
 /// let (name, value) = cut_at_first(b'=', b"eol=lf=");

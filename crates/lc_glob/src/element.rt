@@ -6,7 +6,7 @@ ghost use Rattle.lc_glob.specs.Bytes.{slash};
 ghost use Rattle.lc_glob.specs.Elements.{BeginsWithLiteral, EndsWithLiteral};
 ghost use Rattle.lc_glob.specs.Lengths.{least_bytes};
 ghost use Rattle.lc_glob.specs.Lists.{is_empty};
-ghost use Rattle.lc_glob.specs.Mixed.{is_for_byte, is_separator, mixed_model};
+ghost use Rattle.lc_glob.specs.TokenLists.{is_for_byte, is_separator, tokens_model};
 ghost use Rattle.lc_glob.specs.Pieces.{cuts_left};
 ghost use Rattle.lc_glob.specs.Reading.{is_double_star};
 ghost use Rattle.lc_glob.specs.Simple.{byte_token, is_segment_literal};
@@ -43,15 +43,15 @@ pub(crate) trait Element: Copy {
     fn first_literal(elements: &[Self]) -> Option<u8>
         ensures { IfSome result (λ b. BeginsWithLiteral tokens_in separates elements.now b) };
 
-    /// How many bytes names that the tokens fit have at least: one for each token that is no star.
+    /// The least number of bytes of a name that the tokens fit: one for each token that is no star.
     fn least_bytes(elements: &[Self]) -> usize
         ensures { result ≡ least_bytes (tokens_in elements.now) };
 
-    /// What stands before the first separator, and what after it.
+    /// Splits elements at the first separator: those before it, and those after it.
     fn cut_at_first_separator<'p>(elements: &'p [Self]) -> (&'p [Self], Option<&'p [Self]>)
         ensures { slice_split separates elements.now ≡ result.0.now ∷ cuts_left separates result.1 };
 
-    /// What stands before the last separator, and what after it.
+    /// Splits elements at the last separator: those before it, and those after it.
     fn cut_at_last_separator<'p>(elements: &'p [Self]) -> (Option<&'p [Self]>, &'p [Self])
         ensures { slice_split separates elements.now ≡ cuts_left separates result.0 ++ result.1.now ∷ [] };
 }
@@ -98,28 +98,28 @@ impl Element for u8 {
 }
 
 impl Element for Token {
-    ghost tokens_in = { mixed_model };
+    ghost tokens_in = { tokens_model };
 
     ghost separates = { is_separator };
 
     fn split_first_token<'p>(tokens: &'p [Token]) -> Option<(TokenRef<'p>, &'p [Token])> {
-        let mut left = tokens;
-        'tokens: while let Some((token, others)) = left.split_first() {
+        let mut rest = tokens;
+        'tokens: while let Some((token, others)) = rest.split_first() {
             if let Some(found) = TokenRef::of_token(*token, others) {
                 return Some((found, others));
             }
-            left = others;
+            rest = others;
         }
         None
     }
 
     fn split_last_token<'p>(tokens: &'p [Token]) -> Option<(TokenRef<'p>, &'p [Token])> {
-        let mut left = tokens;
-        'tokens: while let Some((token, others)) = left.split_last() {
-            if let Some(found) = TokenRef::of_token(*token, &tokens[left.len()..]) {
+        let mut rest = tokens;
+        'tokens: while let Some((token, others)) = rest.split_last() {
+            if let Some(found) = TokenRef::of_token(*token, &tokens[rest.len()..]) {
                 return Some((found, others));
             }
-            left = others;
+            rest = others;
         }
         None
     }
@@ -143,23 +143,23 @@ impl Element for Token {
     }
 
     fn cut_at_first_separator<'p>(tokens: &'p [Token]) -> (&'p [Token], Option<&'p [Token]>) {
-        let mut left = tokens;
-        'tokens: while let Some((token, others)) = left.split_first() {
+        let mut rest = tokens;
+        'tokens: while let Some((token, others)) = rest.split_first() {
             if token.is_separator() {
-                return (&tokens[..tokens.len() - left.len()], Some(others));
+                return (&tokens[..tokens.len() - rest.len()], Some(others));
             }
-            left = others;
+            rest = others;
         }
         (tokens, None)
     }
 
     fn cut_at_last_separator<'p>(tokens: &'p [Token]) -> (Option<&'p [Token]>, &'p [Token]) {
-        let mut left = tokens;
-        'tokens: while let Some((token, others)) = left.split_last() {
+        let mut rest = tokens;
+        'tokens: while let Some((token, others)) = rest.split_last() {
             if token.is_separator() {
-                return (Some(others), &tokens[left.len()..]);
+                return (Some(others), &tokens[rest.len()..]);
             }
-            left = others;
+            rest = others;
         }
         (None, tokens)
     }
@@ -200,7 +200,7 @@ pub(crate) fn has_no_token<E: Element>(elements: &[E]) -> bool
     E::split_first_token(elements).is_none()
 }
 
-/// Whether they stand for two stars and nothing else.
+/// Whether elements stand for two stars and nothing else.
 pub(crate) fn are_two_stars<E: Element>(elements: &[E]) -> bool
     ensures { result ≡ is_double_star (E.tokens_in elements.now) }
 {
@@ -220,12 +220,12 @@ pub(crate) fn are_two_stars<E: Element>(elements: &[E]) -> bool
 pub(crate) fn has_star<E: Element>(elements: &[E]) -> bool
     ensures { result ≡ list_any is_star (E.tokens_in elements.now) }
 {
-    let mut left = elements;
-    'tokens: while let Some((token, others)) = E::split_first_token(left) {
+    let mut rest = elements;
+    'tokens: while let Some((token, others)) = E::split_first_token(rest) {
         if token.is_star() {
             return true;
         }
-        left = others;
+        rest = others;
     }
     false
 }

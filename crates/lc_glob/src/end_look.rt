@@ -1,5 +1,5 @@
-//! One look at a path: whether it agrees at an end with the elements of a pattern. It tells most paths that the pattern doesn't match,
-//! and is within what a match may cost, since no match needs all of that.
+//! Compares one byte at an end of a path with the elements of a pattern. This rejects most paths that the pattern doesn't match, and
+//! is within what a match may cost, since no match needs all of that.
 
 ghost use Rattle.std.specs.Prelude.{◌≡◌, ◌≤◌, ◌+◌, ◌⊎◌, IsFalse};
 ghost use Rattle.lc_glob.specs.EndLooks.{DiffersAtEnd, HasLiteralEnd};

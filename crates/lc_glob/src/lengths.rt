@@ -1,4 +1,4 @@
-//! How long the segments of a path are, by which a pattern is told at one look that none of them can fit.
+//! How long the segments of a path are. A pattern with a segment that none of them can fit is rejected by that.
 
 ghost use Rattle.std.specs.Prelude.{◌≡◌, ◌≤◌, ℕ, List, IsTrue, length};
 ghost use Rattle.std.specs.List.{All};
@@ -12,7 +12,7 @@ use crate::element::{Element, has_star};
 use crate::segment_ref::{SegmentRef, SegmentsRef, TokensRef};
 use crate::segments_left::SegmentsLeft;
 
-/// Between how many bytes the segments of a path have, as far as that is known.
+/// The least and the greatest number of bytes of a path's segments, as far as they are known.
 #[derive(Clone, Copy)]
 pub(crate) struct Lengths {
     shortest: usize,
@@ -20,7 +20,7 @@ pub(crate) struct Lengths {
 }
 
 impl Lengths {
-    /// Nothing is known: any segment has such a length.
+    /// The lengths of a path that was not measured: any segment has such a length.
     pub(crate) fn unknown() -> Self
         ensures { (names : List (List ℕ)) → All (λ name. length name ≤ usize.MAX) names → AreBetween result names }
     {
@@ -30,17 +30,17 @@ impl Lengths {
         }
     }
 
-    /// Those of the segments, by one pass over them.
+    /// Measures segments, in one pass over them.
     pub(crate) fn of(path: SegmentsLeft<u8>) -> Self
         ensures { AreBetween result (segments_left path.entry.rest) }
     {
-        let mut left = path;
+        let mut rest = path;
         let mut shortest = usize::MAX;
         let mut longest: usize = 0;
-        'segments: while let Some((name, rest)) = left.split_first() {
+        'segments: while let Some((name, others)) = rest.split_first() {
             shortest = shortest.min(name.len());
             longest = longest.max(name.len());
-            left = rest;
+            rest = others;
         }
         Lengths { shortest, longest }
     }
@@ -54,17 +54,17 @@ impl Lengths {
         self.longest == usize::MAX || self.allow_each(segments)
     }
 
-    /// The same by a look at each segment.
+    /// Like `allow`, by a look at each segment.
     #[inline(never)]
     fn allow_each(self, segments: SegmentsRef) -> bool
         ensures { (names : List (List ℕ)) → AreBetween self names → Leads (segments_ref_model segments.entry) names → IsTrue result }
     {
-        let mut left = segments;
-        'segments: while let Some((segment, others)) = left.split_first() {
+        let mut rest = segments;
+        'segments: while let Some((segment, others)) = rest.split_first() {
             if !self.allow_segment(segment) {
                 return false;
             }
-            left = others;
+            rest = others;
         }
         true
     }
@@ -79,7 +79,7 @@ impl Lengths {
         }
     }
 
-    /// Whether tokens may.
+    /// Whether tokens may fit a name of such a length.
     fn allow_tokens(self, tokens: TokensRef) -> bool
         ensures { FitsSome self (plain (tokens_ref_model tokens.entry)) → IsTrue result }
     {
@@ -91,7 +91,7 @@ impl Lengths {
         }
     }
 
-    /// Whether tokens of no other shape may.
+    /// Whether tokens of any kind may fit a name of such a length.
     fn allow_elements<E: Element>(self, elements: &[E]) -> bool
         ensures { FitsSome self (plain (E.tokens_in elements.now)) → IsTrue result }
     {
@@ -103,7 +103,7 @@ impl Lengths {
         }
     }
 
-    /// Whether this is such a length.
+    /// Whether a name may have this length.
     fn has(self, length: usize) -> bool
         ensures { self.shortest ≤ length → length ≤ self.longest → IsTrue result }
     {

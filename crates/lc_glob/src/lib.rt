@@ -1,7 +1,8 @@
 //! Patterns of ignore files, read and matched as gitignore(5), PATTERN FORMAT, says.
 //!
-//! `Pattern::read` reads the bytes of one pattern, and `Pattern::matches` asks it about a path. Everything is bytes:
-//! neither need be text, letter case counts, and a byte is a character.
+//! `Pattern::read` reads the bytes of one pattern, `Pattern::matches` matches it with a path, and a `PatternSet` keeps many
+//! patterns and finds the last one that matches. Everything is bytes: neither a pattern nor a path need be text, letter case
+//! counts, and a byte is a character.
 //!
 //! | In a pattern | Stands for |
 //! |---|---|
@@ -15,17 +16,28 @@
 //! A pattern that can't be read so is dead: it ends in a single backslash, has a bracket without its close or with an
 //! unknown class, or an empty segment. A dead pattern matches nothing.
 //!
-//! What a line of an ignore file has around its pattern, as negation, comments and trailing spaces, is no part of it.
+//! A line of an ignore file may have more than a pattern, such as negation, a comment or trailing spaces. That is no part of
+//! the pattern.
 //!
-//! Reading takes memory, and matching none. For a pattern of `p` bytes and a path of `q` a match tests at most
-//! `(p + 1) * (q + 1)` bytes of the path. Most paths that a pattern doesn't match are told by one of them (`end_look`). Of
-//! a long path it is known between how many bytes its segments have (`lengths`), so that a pattern none of them can fit is not
-//! looked for. `Pattern::match_directories` asks about all directories above a path for no more than that.
+//! Reading takes memory, and matching none. `matches_counted` and `match_directories_counted` return the number of byte
+//! tests: for a pattern of `p` bytes and a path of `q` they make at most `(p + 1) * (q + 1)`. The other calls match in the
+//! same way, but no contract bounds the tests that they make.
+//!
+//! One byte test at an end rejects most paths that a pattern does not match (`end_look`). The segments of a long path are
+//! measured once, so that a pattern with a segment that none of them can fit is rejected without a byte test (`lengths`).
+//!
+//! - `pattern`, `pattern_set`, `candidate`: a pattern; many patterns in order; a path that many patterns are matched with
+//! - `reading`, `bracket`, `byte_set`, `token`, `scope`: bytes read as a pattern, and what the slashes in it mean
+//! - `simple_pattern`, `token_pattern`, `pattern_ref`, `pattern_view`: the two forms that patterns are kept in: bytes, and tokens
+//! - `element`, `segment_ref`, `segments_left`, `path_segment`: segments of patterns and of paths, from either end
+//! - `match_path`, `match_segment`, `match_tokens`, `cursor`: matching a path; `match_above`: matching all directories above it
+//! - `path`, `cut`: paths and names, for all crates; bytes cut at a byte
 #![tactic(auto)]
 
 mod bracket;
 mod byte_set;
 mod candidate;
+mod cursor;
 mod cut;
 mod element;
 mod end_look;
@@ -34,25 +46,21 @@ mod match_above;
 mod match_path;
 mod match_segment;
 mod match_tokens;
-mod mixed_pattern;
 pub mod path;
 mod path_segment;
 mod pattern;
 mod pattern_ref;
+mod pattern_set;
 mod pattern_view;
-mod place;
 mod reading;
 mod scope;
 mod segment_ref;
 mod segments_left;
 mod simple_pattern;
 mod token;
+mod token_pattern;
 
 pub use candidate::Candidate;
 pub use cut::cut_at_first;
-pub use mixed_pattern::MixedPattern;
 pub use pattern::{Pattern, is_match_decides};
-pub use pattern_ref::{PatternRef, Source};
-pub use scope::Scope;
-pub use simple_pattern::{SimpleForm, SimplePattern};
-pub use token::Token;
+pub use pattern_set::PatternSet;

@@ -1,10 +1,10 @@
-//! Which of the directories above a path a pattern matches, told by one pass over its segments.
+//! Which of the directories above a path a pattern matches, found in one pass over its segments.
 //!
 //! A flag for each name on the way down tells whether the segments that were passed lead to what stands above the name.
 //! So no segment is tried twice at a name, however many double stars stand before it.
 
 ghost use Rattle.std.specs.Prelude.{◌≡◌, ◌↔◌, ◌≤◌, ◌+◌, ◌*◌, IsTrue, false, length, take, slice_index_or, []};
-ghost use Rattle.lc_glob.specs.Above.{names_of, IsSet, AreSet, Before, UpTo, searches_after};
+ghost use Rattle.lc_glob.specs.Above.{names_of, IsSet, AreSet, Before, UpTo, has_nested_after};
 ghost use Rattle.lc_glob.specs.Costs.{bytes_with_ends, full_cost};
 ghost use Rattle.lc_glob.specs.Fits.{Fits};
 ghost use Rattle.lc_glob.specs.Leads.{Leads};
@@ -47,8 +47,8 @@ fn lead_above(segments: SegmentsRef, names: &[&[u8]], flags: &mut [bool], tests:
     ensures set { AreSet flags.new (λ k. Leads (segments_ref_model segments.entry) (take k (names_of names.now))) }
 {
     flag_first(flags);
-    let mut left = segments;
-    'segments: while let Some((segment, others)) = left.split_first() {
+    let mut rest = segments;
+    'segments: while let Some((segment, others)) = rest.split_first() {
         match segment {
             SegmentRef::DoubleStar => spread(flags),
             SegmentRef::Plain(tokens) => {
@@ -56,7 +56,7 @@ fn lead_above(segments: SegmentsRef, names: &[&[u8]], flags: &mut [bool], tests:
                 shift(flags);
             }
         }
-        left = others;
+        rest = others;
     }
 }
 
@@ -120,17 +120,17 @@ fn spread(flags: &mut [bool])
 }
 
 /// Whether a double star comes after another one or after a segment with a star.
-pub(crate) fn searches(segments: SegmentsRef) -> bool
-    ensures { result ≡ searches_after false (segments_ref_model segments.entry) }
+pub(crate) fn has_nested_wildcards(segments: SegmentsRef) -> bool
+    ensures { result ≡ has_nested_after false (segments_ref_model segments.entry) }
 {
     let mut is_wide = false;
-    let mut left = segments;
-    'segments: while let Some((segment, others)) = left.split_first() {
+    let mut rest = segments;
+    'segments: while let Some((segment, others)) = rest.split_first() {
         if is_wide && segment.is_double() {
             return true;
         }
         is_wide = is_wide || segment.is_wide();
-        left = others;
+        rest = others;
     }
     false
 }

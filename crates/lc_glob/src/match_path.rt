@@ -17,8 +17,8 @@ use crate::path_segment::{ByteTests, PathSegment};
 use crate::segment_ref::{SegmentRef, SegmentsRef};
 use crate::segments_left::SegmentsLeft;
 
-/// Whether the segments match the path's. It is put where it is called, so that segments of each kind have code of their own: to ask
-/// which they are, and to hand them on in memory, costs more than to compare the last of them, which tells most paths.
+/// Whether the segments match the path's. It is inlined, so that segments of each kind have code of their own: to test which kind
+/// they are, and to pass them on in memory, costs more than to compare the last of them, which rejects most paths.
 #[inline(always)]
 pub(crate) fn matches_path(segments: SegmentsRef, path: &Candidate, tests: &mut ByteTests) -> bool
     ensures matches_path { IsTrue result ↔ MatchesPath (segments_ref_model segments.entry) (segments_of path.now) }
@@ -30,7 +30,7 @@ pub(crate) fn matches_path(segments: SegmentsRef, path: &Candidate, tests: &mut 
     };
     let SegmentRef::Plain(tokens) = last else {
         // This double star gives at least one segment, which may as well be the last.
-        let all = PathPlace {
+        let all = PathCursor {
             segments,
             left: above,
         };
@@ -39,16 +39,16 @@ pub(crate) fn matches_path(segments: SegmentsRef, path: &Candidate, tests: &mut 
     if !fits(tokens, name, tests) {
         return false;
     }
-    let before = PathPlace {
+    let before = PathCursor {
         segments: front,
         left: above,
     };
     lengths.allow(front) && before.leads_from_end(tests)
 }
 
-/// Segments of a pattern, and those of the path, or what is left of them, that they are compared with.
+/// Segments of a pattern, and the path's segments, or the rest of them, that they are compared with.
 #[derive(Clone, Copy)]
-struct PathPlace<'p, 'n> {
+struct PathCursor<'p, 'n> {
     segments: SegmentsRef<'p>,
     left: SegmentsLeft<'n, u8>,
 }
@@ -58,7 +58,7 @@ enum PathEndStep<'p, 'n> {
     /// It is a double star.
     DoubleStar,
     /// It fits it, and these are before them.
-    Taken(PathPlace<'p, 'n>),
+    Taken(PathCursor<'p, 'n>),
     /// The pattern's segments lead to the end of the path: there are neither, or a double star alone.
     Arrived,
     /// They don't.
@@ -70,15 +70,15 @@ enum PathFrontStep<'p, 'n> {
     /// It is a double star, and these segments are after it.
     DoubleStar(SegmentsRef<'p>),
     /// It fits the first, and these are after them.
-    Taken(PathPlace<'p, 'n>),
+    Taken(PathCursor<'p, 'n>),
     /// The pattern's segments lead to the end of the path from here: there are neither, or a double star alone.
     Arrived,
     /// They don't.
     Stuck,
 }
 
-impl<'p, 'n> PathPlace<'p, 'n> {
-    /// One step from the end.
+impl<'p, 'n> PathCursor<'p, 'n> {
+    /// Compares the last segments of both.
     fn step_end(self, tests: &mut ByteTests) -> PathEndStep<'p, 'n>
         ensures is { PathEndStepIs result (segments_ref_model self.entry.segments) (segments_left self.entry.left.rest) }
         ensures cost { tests.new.made + cost_after result (cost_at self.entry) ≤ tests.old.made + cost_at self.entry }
@@ -101,13 +101,13 @@ impl<'p, 'n> PathPlace<'p, 'n> {
             return PathEndStep::Stuck;
         };
         if fits(tokens, PathSegment::new(name), tests) {
-            PathEndStep::Taken(PathPlace { segments, left })
+            PathEndStep::Taken(PathCursor { segments, left })
         } else {
             PathEndStep::Stuck
         }
     }
 
-    /// One step from the front.
+    /// Compares the first segments of both.
     fn step_front(self, tests: &mut ByteTests) -> PathFrontStep<'p, 'n>
         ensures is { PathFrontStepIs result (segments_ref_model self.entry.segments) (segments_left self.entry.left.rest) }
         ensures cost { tests.new.made ≤ tests.old.made + front_cost_at self.entry }
@@ -130,18 +130,18 @@ impl<'p, 'n> PathPlace<'p, 'n> {
             return PathFrontStep::Stuck;
         };
         if fits(tokens, PathSegment::new(name), tests) {
-            PathFrontStep::Taken(PathPlace { segments, left })
+            PathFrontStep::Taken(PathCursor { segments, left })
         } else {
             PathFrontStep::Stuck
         }
     }
 
-    /// The same segments, with one of the path's more for the double star before them, where there is one.
+    /// Goes back to these segments, with one more of the path's for the double star before them, where there is one.
     fn retry(self) -> Option<Self>
         ensures { PathRetryIs self.entry result }
     {
         let (_, left) = self.left.split_first()?;
-        Some(PathPlace {
+        Some(PathCursor {
             segments: self.segments,
             left,
         })
@@ -171,11 +171,11 @@ impl<'p, 'n> PathPlace<'p, 'n> {
         ensures cost { tests.new.made ≤ tests.old.made + cost_at self.entry }
     {
         let mut here = self;
-        let mut double_star: Option<PathPlace> = None;
+        let mut double_star: Option<PathCursor> = None;
         'steps: loop {
             match here.step_front(tests) {
                 PathFrontStep::DoubleStar(segments) => {
-                    here = PathPlace {
+                    here = PathCursor {
                         segments,
                         left: here.left,
                     };

@@ -5,9 +5,9 @@ ghost use Rattle.lc_glob.specs.Fits.{Fits};
 ghost use Rattle.lc_glob.specs.Simple.{end_tokens};
 ghost use Rattle.lc_glob.specs.Views.{tokens_ref_model};
 
+use crate::cursor::Cursor;
 use crate::element::Element;
 use crate::path_segment::{ByteTests, PathSegment};
-use crate::place::Place;
 use crate::segment_ref::TokensRef;
 
 /// Whether the tokens fit the segment.
@@ -24,25 +24,25 @@ pub(crate) fn fits(tokens: TokensRef, segment: PathSegment, tests: &mut ByteTest
     }
 }
 
-/// Whether literals fit the segment, alone or after a star. Where both are asked it costs less than a jump to either.
+/// Whether literals fit the segment, alone or after a star. One function for both costs less than a jump to either.
 #[inline]
 pub(crate) fn fits_end(
     literals: &[u8],
-    is_alone: bool,
+    is_whole: bool,
     segment: PathSegment,
     tests: &mut ByteTests,
 ) -> bool
-    ensures fits { IsTrue result ↔ Fits (end_tokens is_alone literals.now) segment.entry.bytes.now }
+    ensures fits { IsTrue result ↔ Fits (end_tokens is_whole literals.now) segment.entry.bytes.now }
     ensures cost { tests.new.made
-        < tests.old.made + (length (end_tokens is_alone literals.now) + 1) * (length segment.entry.bytes.now + 1) }
+        < tests.old.made + (length (end_tokens is_whole literals.now) + 1) * (length segment.entry.bytes.now + 1) }
 {
-    if is_alone && segment.len() != literals.len() {
+    if is_whole && segment.len() != literals.len() {
         return false;
     }
     segment.ends_with(literals, tests)
 }
 
-/// Whether any others do.
+/// Whether tokens of any kind fit the segment.
 #[inline(never)]
 pub(crate) fn fits_elements<E: Element>(
     tokens: &[E],
@@ -53,7 +53,7 @@ pub(crate) fn fits_elements<E: Element>(
     ensures cost { tests.new.made < tests.old.made + (length (E.tokens_in tokens.now) + 1) * (length segment.entry.bytes.now + 1) }
 {
     let mut apart = ByteTests::none();
-    let fits = Place { tokens, segment }.fits(&mut apart);
+    let fits = Cursor { tokens, segment }.fits(&mut apart);
     tests.add_all(apart);
     fits
 }

@@ -7,12 +7,12 @@
 ghost use Rattle.std.specs.Prelude.{◌≡◌, ◌↔◌, ◌≤◌, ◌+◌, IsTrue, length};
 ghost use Rattle.lc_glob.specs.Steps.{FitsAt, cost_at, cost_after, FrontStepIs, EndStepIs};
 
+use crate::cursor::{Cursor, EndStep, FrontStep};
 use crate::element::{Element, has_no_token};
 use crate::path_segment::ByteTests;
-use crate::place::{EndStep, FrontStep, Place};
 
-impl<'p, 'n, E: Element> Place<'p, 'n, E> {
-    /// One step from the end, with one byte test at most.
+impl<'p, 'n, E: Element> Cursor<'p, 'n, E> {
+    /// Compares the last token with the last byte, by one byte test at most.
     fn step_end(self, tests: &mut ByteTests) -> EndStep<'p, 'n, E>
         ensures is { EndStepIs E.tokens_in result (E.tokens_in self.entry.tokens.now) self.entry.segment.bytes.now }
         ensures cost { tests.new.made + cost_after E.tokens_in result (cost_at E.tokens_in self.entry)
@@ -33,12 +33,12 @@ impl<'p, 'n, E: Element> Place<'p, 'n, E> {
             };
         }
         match self.segment.strip_last(token, tests) {
-            Some(segment) => EndStep::Taken(Place { tokens, segment }),
+            Some(segment) => EndStep::Taken(Cursor { tokens, segment }),
             None => EndStep::Stuck,
         }
     }
 
-    /// One step from the front, with one byte test at most.
+    /// Compares the first token with the first byte, by one byte test at most.
     fn step_front(self, tests: &mut ByteTests) -> FrontStep<'p, 'n, E>
         ensures is { FrontStepIs E.tokens_in result (E.tokens_in self.entry.tokens.now) self.entry.segment.bytes.now }
         ensures cost { tests.new.made ≤ tests.old.made + 1 }
@@ -59,7 +59,7 @@ impl<'p, 'n, E: Element> Place<'p, 'n, E> {
             };
         }
         match self.segment.strip_first(token, tests) {
-            Some(segment) => FrontStep::Taken(Place { tokens, segment }),
+            Some(segment) => FrontStep::Taken(Cursor { tokens, segment }),
             None => FrontStep::Stuck,
         }
     }
@@ -87,11 +87,11 @@ impl<'p, 'n, E: Element> Place<'p, 'n, E> {
         ensures cost { tests.new.made ≤ tests.old.made + cost_at E.tokens_in self.entry }
     {
         let mut here = self;
-        let mut star: Option<Place<E>> = None;
+        let mut star: Option<Cursor<E>> = None;
         'steps: loop {
             match here.step_front(tests) {
                 FrontStep::Star(tokens) => {
-                    here = Place {
+                    here = Cursor {
                         tokens,
                         segment: here.segment,
                     };

@@ -32,27 +32,27 @@ pub fn is_good_name(name: &[u8]) -> bool
 pub fn is_good_path(path: &[u8]) -> bool
     ensures { result ≡ is_good_path path.now }
 {
-    let mut left = path;
+    let mut rest = path;
     'segments: loop {
-        let (name, others) = cut_at_first(b'/', left);
+        let (name, others) = cut_at_first(b'/', rest);
         if !is_good_name(name) {
             return false;
         }
-        let Some(rest) = others else {
+        let Some(next) = others else {
             return true;
         };
-        left = rest;
+        rest = next;
     }
 }
 
-/// Whether a path has over `MAX_PATH` bytes.
+/// Whether a path has more than `MAX_PATH` bytes.
 pub fn is_too_long(path: &[u8]) -> bool
     ensures { result ≡ nat_lt max_path (length path.now) }
 {
     path.len() > MAX_PATH
 }
 
-/// How many segments a path has. The empty path, which is that of the directory itself, has none.
+/// The number of segments of a path. The empty path, which is that of the directory itself, has none.
 ///
 /// ```
 /// assert!(rt; depth_of(b"") == 0 && depth_of(b"a/b") == 2);
@@ -70,14 +70,14 @@ pub fn depth_of(path: &[u8]) -> usize
     depth
 }
 
-/// Whether a directory's path has over `MAX_DEPTH` segments.
+/// Whether a directory's path has more than `MAX_DEPTH` segments.
 pub fn is_too_deep(path: &[u8]) -> bool
     ensures { result ≡ nat_lt max_depth (depth_of path.now) }
 {
     depth_of(path) > MAX_DEPTH
 }
 
-/// Turns the path of a directory into that of its entry of this name. Where memory is refused the path stays as it was.
+/// Turns the path of a directory into that of its entry of this name. If an allocation fails, the path stays as it was.
 ///
 /// ```
 /// push_name(&mut path, b"main.c")?; // of `src`

@@ -7,7 +7,7 @@ ghost use Rattle.lc_glob.specs.Views.{token_ref_model};
 
 use crate::token::TokenRef;
 
-/// How many bytes were tested. The number stops at the greatest `u64`.
+/// The number of byte tests. It stops at the greatest `u64`.
 #[derive(Drop)]
 pub(crate) struct ByteTests {
     made: u64,
@@ -26,7 +26,7 @@ impl ByteTests {
         self.made = self.made.saturating_add(count as u64);
     }
 
-    /// Adds those that were counted apart, so that the count of a loop needn't be kept in memory.
+    /// Adds tests that were counted separately, so that the count of a loop needn't be kept in memory.
     pub(crate) fn add_all(&mut self, more: ByteTests)
         ensures { self.new.made ≡ tests_after self.old.made more.made }
     {
@@ -101,7 +101,7 @@ impl<'a> PathSegment<'a> {
         }
     }
 
-    /// Whether its bytes are these literals: a test for each, where there are as many.
+    /// Whether the segment is these literals. It makes a byte test for each, where there are as many.
     #[inline]
     pub(crate) fn is(self, literals: &[u8], tests: &mut ByteTests) -> bool
         ensures same { result ≡ bytes_eq self.entry.bytes.now literals.now }
@@ -121,7 +121,7 @@ impl<'a> PathSegment<'a> {
         self.bytes == literals
     }
 
-    /// Whether its bytes end with these literals: a test for each, where there are enough.
+    /// Whether the segment ends with these literals. It makes a byte test for each, where there are enough.
     #[inline]
     pub(crate) fn ends_with(self, literals: &[u8], tests: &mut ByteTests) -> bool
         ensures ends { result ≡ ends_with nat_eq self.entry.bytes.now literals.now }

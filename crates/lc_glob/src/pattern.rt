@@ -1,25 +1,26 @@
 //! A pattern, and whether it matches a path.
 
 ghost use Rattle.std.specs.Prelude.{◌≡◌, ◌↔◌, ◌≤◌, ◌+◌, ◌*◌, IsTrue, length, List, ℕ, IfOk};
-ghost use Rattle.lc_glob.specs.Above.{names_of, TellMatches, searches};
+ghost use Rattle.lc_glob.specs.Above.{names_of, TellMatches, has_nested_wildcards};
 ghost use Rattle.lc_glob.specs.IsMatch.{is_match, IsMatchDecides};
 ghost use Rattle.lc_glob.specs.Matches.{Matches};
 ghost use Rattle.lc_glob.specs.Path.{segments_of};
 ghost use Rattle.lc_glob.specs.Reading.{pattern_of};
+ghost use Rattle.lc_glob.specs.Views.{pattern_ref_model};
 
 use crate::candidate::Candidate;
-use crate::mixed_pattern::MixedPattern;
 use crate::path_segment::ByteTests;
-use crate::pattern_ref::{PatternRef, Source};
+use crate::pattern_ref::PatternRef;
 use crate::reading::read_pattern;
 use crate::scope::Scope;
 use crate::simple_pattern::{SimpleForm, SimplePattern};
 use crate::token::Token;
+use crate::token_pattern::TokenPattern;
 use smallvec::SmallVec;
 use std::alloc::{AllocError, Global};
 use std::marker::Model;
 
-/// A pattern that was read: gitignore(5), PATTERN FORMAT.
+/// A pattern of an ignore file or an attribute file: gitignore(5), PATTERN FORMAT.
 ///
 /// ```
 /// let pattern = Pattern::read(alloc, b"/build/**/*.o")?;
@@ -28,14 +29,14 @@ use std::marker::Model;
 /// ```
 #[derive(Drop)]
 pub struct Pattern {
-    pub(crate) kept: Kept,
+    pub(crate) kind: PatternKind,
 }
 
-/// What it is matched from. That of a short simple pattern takes no memory of its own.
+/// What a pattern is matched from: bytes if it is simple, and else tokens. A short simple pattern allocates nothing.
 #[derive(Drop)]
-pub(crate) enum Kept {
+pub(crate) enum PatternKind {
     Simple(SimpleForm, SmallVec<u8, 16>),
-    Mixed(Scope, Vec<Token>),
+    Tokens(Scope, Vec<Token>),
 }
 
 impl Model for Pattern {
@@ -43,16 +44,16 @@ impl Model for Pattern {
 
     ghost Value = { PatternModel };
 
-    ghost use Rattle.lc_glob.specs.Views.{kept_model};
+    ghost use Rattle.lc_glob.specs.Views.{pattern_kind_model};
 
-    ghost view = { λ p. kept_model p.kept };
+    ghost view = { λ p. pattern_kind_model p.kind };
 }
 
 impl Pattern {
     /// Reads bytes as a pattern. Any bytes are one, perhaps a dead one.
     ///
-    /// The bytes are the pattern alone, without the `!` of a negated line and without its trailing spaces. The one error
-    /// is want of memory.
+    /// The bytes are the pattern alone, without the `!` of a negated line and without its trailing spaces. The only error
+    /// is a failed allocation.
     ///
     /// ```
     /// let pattern = Pattern::read(alloc, b"*.[oa]")?;
@@ -63,22 +64,22 @@ impl Pattern {
         read_pattern(alloc, bytes)
     }
 
-    /// Whether the bytes could not be read, so that the pattern matches nothing, as `[a` and `a//b`.
+    /// Whether the bytes could not be read, so that the pattern matches nothing, such as `[a` and `a//b`.
     pub fn is_dead(&self) -> bool
         ensures { result ≡ self.now.is_dead }
     {
         self.as_ref().is_dead()
     }
 
-    /// Whether the pattern matches directories only, as `build/`. A dead pattern answers false.
+    /// Whether the pattern matches directories only, such as `build/`. It is false for a dead pattern.
     pub fn is_dir_only(&self) -> bool
         ensures { result ≡ self.now.is_dir_only }
     {
         self.as_ref().is_dir_only()
     }
 
-    /// Whether the pattern is matched with a whole path, as `/a` and `a/b`, and not with a path's last segment alone, as
-    /// `a`. A dead pattern answers false.
+    /// Whether the pattern is matched with a whole path, such as `/a` and `a/b`, and not with a path's last segment alone,
+    /// such as `a`. It is false for a dead pattern.
     pub fn is_anchored(&self) -> bool
         ensures { result ≡ self.now.is_anchored }
     {
@@ -87,8 +88,8 @@ impl Pattern {
 
     /// Whether the pattern matches the path.
     ///
-    /// The path is relative to the directory of the pattern's file: segments cut by single slashes, and no slash at its
-    /// ends. `is_dir` says whether it is a directory. A directory that matches says nothing of what is below it.
+    /// The path is relative to the directory of the pattern's file: segments separated by single slashes, and no slash at
+    /// its ends. `is_dir` tells whether it is a directory. Whether a directory matches says nothing of what is inside it.
     ///
     /// ```
     /// assert!(rt; Pattern::read(alloc, b"frotz/")?.matches(b"a/frotz", true));
@@ -100,7 +101,7 @@ impl Pattern {
         self.matches_candidate(&Candidate::new(path), is_dir)
     }
 
-    /// The same for a path that is asked about several patterns.
+    /// Like `matches`, for a path that is matched with several patterns.
     ///
     /// ```
     /// let path = Candidate::new(b"src/main.o");
@@ -113,8 +114,8 @@ impl Pattern {
         self.as_ref().matches_candidate(path, is_dir)
     }
 
-    /// The same, and how many times a literal, a `?` or a bracket was compared with one byte of the path. The number stops
-    /// at the greatest `u64`.
+    /// Like `matches`, but also counts byte tests: how many times a literal, a `?` or a bracket was compared with one byte of
+    /// the path. The number stops at the greatest `u64`.
     ///
     /// ```
     /// let (found, tests) = Pattern::read(alloc, b"*.o")?.matches_counted(b"main.c", false);
@@ -132,8 +133,8 @@ impl Pattern {
         (found, tests.made())
     }
 
-    /// Which of the directories above a path it matches, by one pass for all: the flag of each name tells of the directory
-    /// whose path has the names up to that one. It takes no memory.
+    /// Finds which of the directories above a path the pattern matches, in one pass for all of them. The flag of each name
+    /// is that of the directory whose path has the names up to that one. It allocates nothing.
     ///
     /// ```
     /// let mut flags = [false; 3];
@@ -148,7 +149,8 @@ impl Pattern {
         self.as_ref().match_directories(names, flags);
     }
 
-    /// The same, and how many byte tests it took: no more than one match with the whole path may take, for all of them.
+    /// Like `match_directories`, but also counts byte tests: for all directories together it makes no more than one match
+    /// with the whole path may make.
     ///
     /// ```
     /// let mut flags = [false; 2];
@@ -167,29 +169,33 @@ impl Pattern {
         tests.made()
     }
 
-    /// Whether it searches, as `PatternRef::searches` says.
-    pub fn searches(&self) -> bool
-        ensures { result ≡ searches self.now }
+    /// Whether matching one directory after another repeats work: a double star comes after another one or after a segment
+    /// with a star, as in `**/a/**`. Such a pattern is better matched with all directories above a path in one pass, by
+    /// `match_directories`.
+    pub fn has_nested_wildcards(&self) -> bool
+        ensures { result ≡ has_nested_wildcards self.now }
     {
-        self.as_ref().searches()
+        self.as_ref().has_nested_wildcards()
     }
 
-    /// What it is matched by.
-    pub fn as_ref<'p>(&'p self) -> PatternRef<'p>
-        ensures { result ≡ self.now }
+    pub(crate) fn as_ref<'p>(&'p self) -> PatternRef<'p>
+        ensures { pattern_ref_model result ≡ self.now }
     {
-        PatternRef::new(match &self.kept {
-            Kept::Simple(form, bytes) => Source::Simple(SimplePattern { form: *form, bytes }),
-            Kept::Mixed(scope, tokens) => Source::Mixed(MixedPattern {
+        match &self.kind {
+            PatternKind::Simple(form, bytes) => PatternRef::Simple(SimplePattern {
+                form: *form,
+                bytes,
+            }),
+            PatternKind::Tokens(scope, tokens) => PatternRef::Tokens(TokenPattern {
                 scope: *scope,
                 tokens,
             }),
-        })
+        }
     }
 }
 
-/// The law that the two definitions of a match agree: `is_match`, a test that computes, is true exactly where the relation
-/// `Matches` holds. It does nothing when it runs.
+/// The law that the two definitions of a match agree: `is_match`, which computes, is true exactly where the relation
+/// `Matches` holds. The function does nothing when it runs.
 pub fn is_match_decides()
     ensures { IsMatchDecides }
 {}

@@ -1,16 +1,16 @@
 //! A pattern seen by what of a path it is matched with.
 
 ghost use Rattle.std.specs.Prelude.{◌≡◌, ◌≤◌, ◌+◌, Bool, length};
-ghost use Rattle.lc_glob.specs.Above.{names_of, TellMatches, searches};
+ghost use Rattle.lc_glob.specs.Above.{names_of, TellMatches, has_nested_wildcards};
 ghost use Rattle.lc_glob.specs.Costs.{full_cost};
 ghost use Rattle.lc_glob.specs.Views.{pattern_view_model, simple_model};
-ghost use Rattle.lc_glob.specs.declared.simple_pattern.Shape.TheVariants.{More};
+ghost use Rattle.lc_glob.specs.declared.simple_pattern.SimpleKind.TheVariants.{Other};
 
-use crate::match_above::{keep, match_above, searches};
+use crate::match_above::{has_nested_wildcards, keep, match_above};
 use crate::path_segment::ByteTests;
 use crate::segment_ref::{SegmentsRef, TokensRef};
 use crate::segments_left::SegmentsLeft;
-use crate::simple_pattern::{Extent, Shape};
+use crate::simple_pattern::{OtherKind, SimpleKind};
 use std::marker::Model;
 
 /// A pattern, by what of a path it is matched with.
@@ -23,7 +23,7 @@ pub(crate) struct PatternView<'p> {
 /// What of a path a pattern is matched with.
 #[derive(Clone, Copy)]
 pub(crate) enum KindRef<'p> {
-    /// Nothing, since it couldn't be read.
+    /// Nothing, since the pattern is dead.
     Dead,
     /// The last segment alone.
     LastSegment(TokensRef<'p>),
@@ -42,31 +42,38 @@ impl<'p> Model for PatternView<'p> {
 }
 
 impl<'p> KindRef<'p> {
-    fn of_extent(extent: Extent, bytes: &'p [u8]) -> Self
-        ensures { (is_dir_only : Bool) → pattern_view_model is_dir_only result ≡ simple_model is_dir_only (More extent) bytes.now }
+    fn of_other(other: OtherKind, bytes: &'p [u8]) -> Self
+        ensures { (is_dir_only : Bool) → pattern_view_model is_dir_only result ≡ simple_model is_dir_only (Other other) bytes.now }
     {
         let left = SegmentsLeft::of(bytes);
-        match extent {
-            Extent::Dead => KindRef::Dead,
-            Extent::LastSegment => KindRef::LastSegment(TokensRef::Bytes(bytes)),
-            Extent::Exact => KindRef::WholePath(SegmentsRef::Exact(left)),
-            Extent::Ends => KindRef::WholePath(SegmentsRef::Ends(left)),
-            Extent::WholePath => KindRef::WholePath(SegmentsRef::Bytes(left)),
+        match other {
+            OtherKind::Dead => KindRef::Dead,
+            OtherKind::LastSegment => KindRef::LastSegment(TokensRef::Bytes(bytes)),
+            OtherKind::Exact => KindRef::WholePath(SegmentsRef::Exact(left)),
+            OtherKind::Ends => KindRef::WholePath(SegmentsRef::Ends(left)),
+            OtherKind::WholePath => KindRef::WholePath(SegmentsRef::Bytes(left)),
         }
     }
 }
 
 impl<'p> PatternView<'p> {
-    /// That of the bytes of a simple pattern, by its shape.
-    pub(crate) fn of_shape(is_dir_only: bool, shape: Shape, bytes: &'p [u8]) -> Self
-        ensures { result ≡ simple_model is_dir_only shape bytes.now }
+    /// The view of a simple pattern.
+    pub(crate) fn of_simple(is_dir_only: bool, kind: SimpleKind, bytes: &'p [u8]) -> Self
+        ensures { result ≡ simple_model is_dir_only kind bytes.now }
     {
-        let kind = match shape {
-            Shape::End { is_alone: true } => KindRef::LastSegment(TokensRef::Literal(bytes)),
-            Shape::End { is_alone: false } => KindRef::LastSegment(TokensRef::Suffix(bytes)),
-            Shape::More(extent) => KindRef::of_extent(extent, bytes),
+        let kind_ref = match kind {
+            SimpleKind::Suffix { is_whole: true } => KindRef::LastSegment(TokensRef::Literal(
+                bytes,
+            )),
+            SimpleKind::Suffix { is_whole: false } => KindRef::LastSegment(TokensRef::Suffix(
+                bytes,
+            )),
+            SimpleKind::Other(other) => KindRef::of_other(other, bytes),
         };
-        PatternView { is_dir_only, kind }
+        PatternView {
+            is_dir_only,
+            kind: kind_ref,
+        }
     }
 
     pub(crate) fn is_dead(&self) -> bool
@@ -81,11 +88,11 @@ impl<'p> PatternView<'p> {
         matches!(self.kind, KindRef::WholePath(_))
     }
 
-    pub(crate) fn searches(&self) -> bool
-        ensures { result ≡ searches self.now }
+    pub(crate) fn has_nested_wildcards(&self) -> bool
+        ensures { result ≡ has_nested_wildcards self.now }
     {
         match self.kind {
-            KindRef::WholePath(segments) => searches(segments),
+            KindRef::WholePath(segments) => has_nested_wildcards(segments),
             _ => false,
         }
     }

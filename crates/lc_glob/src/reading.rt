@@ -2,16 +2,16 @@
 
 ghost use Rattle.std.specs.Prelude.{◌≡◌, ◌≤◌, ◌∷◌, [], length, false, MatchOption, IfOk, IfSome, Some, None};
 ghost use Rattle.lc_glob.specs.Elements.{parts_in};
-ghost use Rattle.lc_glob.specs.Mixed.{is_separator, literal_tokens, mixed_model};
+ghost use Rattle.lc_glob.specs.TokenLists.{is_separator, literal_tokens, tokens_model};
 ghost use Rattle.lc_glob.specs.Patterns.{dead, plain};
 ghost use Rattle.lc_glob.specs.Pushes.{Pushes, lexeme_tokens};
 ghost use Rattle.lc_glob.specs.Reading.{byte_lexeme, lexeme, literal_lexeme, parts, pattern_of, quoted};
-ghost use Rattle.lc_glob.specs.Views.{form_model, live_model, mixed_form_model, simple_model};
+ghost use Rattle.lc_glob.specs.Views.{form_model, live_model, token_pattern_model, simple_model};
 
 use crate::bracket::push_bracket;
-use crate::pattern::{Kept, Pattern};
+use crate::pattern::{Pattern, PatternKind};
 use crate::scope::{Scope, trim};
-use crate::simple_pattern::{Extent, Shape, SimpleForm, SimplePattern};
+use crate::simple_pattern::{OtherKind, SimpleForm, SimpleKind, SimplePattern};
 use crate::token::Token;
 use smallvec::SmallVec;
 use std::alloc::{AllocError, Global};
@@ -69,15 +69,15 @@ fn push_lexeme(b: u8, rest: &[u8], tokens: &mut Vec<Token>) -> Result<Option<usi
 /// The tokens of the bytes, or `None` where the pattern is dead.
 fn read_tokens(alloc: Global, bytes: &[u8]) -> Result<Option<Vec<Token>>, AllocError>
     ensures { IfOk result (λ r. MatchOption r (parts 0 bytes.now ≡ None)
-        (λ tokens. parts 0 bytes.now ≡ Some (parts_in mixed_model is_separator tokens.items))) }
+        (λ tokens. parts 0 bytes.now ≡ Some (parts_in tokens_model is_separator tokens.items))) }
 {
     let mut tokens = Vec::new(alloc);
-    let mut left = bytes;
-    'tokens: while let Some((b, rest)) = left.split_first() {
-        let Some(taken) = push_lexeme(*b, rest, &mut tokens)? else {
+    let mut rest = bytes;
+    'tokens: while let Some((b, others)) = rest.split_first() {
+        let Some(taken) = push_lexeme(*b, others, &mut tokens)? else {
             return Ok(None);
         };
-        left = &rest[taken..];
+        rest = &others[taken..];
     }
     Ok(Some(tokens))
 }
@@ -96,7 +96,7 @@ pub(crate) fn read_pattern(alloc: Global, bytes: &[u8]) -> Result<Pattern, Alloc
         return Ok(dead_pattern(alloc));
     };
     if scope.is_anchored {
-        return keep_mixed(alloc, scope, tokens);
+        return keep_tokens(alloc, scope, tokens);
     }
     keep_last(alloc, scope.is_dir_only, tokens)
 }
@@ -107,44 +107,49 @@ fn keep_simple(alloc: Global, simple: SimplePattern) -> Result<Pattern, AllocErr
 {
     let bytes = SmallVec::from_slice(alloc, simple.bytes)?;
     Ok(Pattern {
-        kept: Kept::Simple(simple.form, bytes),
+        kind: PatternKind::Simple(simple.form, bytes),
     })
 }
 
-/// The same with tokens.
-fn keep_mixed(alloc: Global, scope: Scope, tokens: &[Token]) -> Result<Pattern, AllocError>
-    ensures { IfOk result (λ p. p ≡ mixed_form_model scope tokens.now) }
+/// The pattern with tokens of its own.
+fn keep_tokens(alloc: Global, scope: Scope, tokens: &[Token]) -> Result<Pattern, AllocError>
+    ensures { IfOk result (λ p. p ≡ token_pattern_model scope tokens.now) }
 {
     Ok(Pattern {
-        kept: Kept::Mixed(scope, tokens.to_vec(alloc)?),
+        kind: PatternKind::Tokens(scope, tokens.to_vec(alloc)?),
     })
 }
 
-/// The same where it has one segment: of literals alone, as `\\#a`, and a star before them, as `*\\ `, the bytes are kept.
+/// The pattern of one segment. If it has only literals, such as `\\#a`, or a star and then literals, such as `*\\ `, their bytes
+/// are kept.
 fn keep_last(alloc: Global, is_dir_only: bool, tokens: &[Token]) -> Result<Pattern, AllocError>
-    ensures { IfOk result (λ p. p ≡ live_model is_dir_only false (plain (mixed_model tokens.now) ∷ [])) }
+    ensures { IfOk result (λ p. p ≡ live_model is_dir_only false (plain (tokens_model tokens.now) ∷ [])) }
 {
     if let Some(literals) = literals_of(alloc, tokens)? {
-        return Ok(of_literals(is_dir_only, Shape::End { is_alone: true }, literals));
+        return Ok(of_literals(is_dir_only, SimpleKind::Suffix { is_whole: true }, literals));
     }
     if let Some((Token::Star, rest)) = tokens.split_first() {
         if let Some(literals) = literals_of(alloc, rest)? {
-            return Ok(of_literals(is_dir_only, Shape::End { is_alone: false }, literals));
+            return Ok(of_literals(
+                is_dir_only,
+                SimpleKind::Suffix { is_whole: false },
+                literals,
+            ));
         }
     }
     let scope = Scope {
         is_dir_only,
         is_anchored: false,
     };
-    keep_mixed(alloc, scope, tokens)
+    keep_tokens(alloc, scope, tokens)
 }
 
-fn of_literals(is_dir_only: bool, shape: Shape, literals: SmallVec<u8, 16>) -> Pattern
-    ensures { result ≡ simple_model is_dir_only shape literals.items }
+fn of_literals(is_dir_only: bool, kind: SimpleKind, literals: SmallVec<u8, 16>) -> Pattern
+    ensures { result ≡ simple_model is_dir_only kind literals.items }
 {
-    let form = SimpleForm { is_dir_only, shape };
+    let form = SimpleForm { is_dir_only, kind };
     Pattern {
-        kept: Kept::Simple(form, literals),
+        kind: PatternKind::Simple(form, literals),
     }
 }
 
@@ -165,5 +170,9 @@ fn literals_of(alloc: Global, tokens: &[Token]) -> Result<Option<SmallVec<u8, 16
 fn dead_pattern(alloc: Global) -> Pattern
     ensures { result ≡ dead }
 {
-    of_literals(false, Shape::More(Extent::Dead), SmallVec::new(alloc))
+    of_literals(
+        false,
+        SimpleKind::Other(OtherKind::Dead),
+        SmallVec::new(alloc),
+    )
 }

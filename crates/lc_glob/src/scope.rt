@@ -8,16 +8,17 @@ ghost use Rattle.lc_glob.specs.Reading.{begins_empty, ends_empty, pattern_from, 
 use crate::element::{Element, has_no_token};
 use crate::segments_left::SegmentsLeft;
 
-/// What of paths a pattern may match.
+/// Which paths a pattern may match, by the slashes in it.
 #[derive(Clone, Copy)]
-pub struct Scope {
-    /// Directories alone, as `build/`.
+pub(crate) struct Scope {
+    /// Directories only, such as `build/`.
     pub(crate) is_dir_only: bool,
-    /// All segments, as `/a` and `a/b`, and not the last one alone, as `a`.
+    /// Whole paths, such as `/a` and `a/b`, and not the last segment alone, such as `a`.
     pub(crate) is_anchored: bool,
 }
 
-/// Takes the separators at the ends off a pattern's elements. `None` where a segment is empty, as in `a//b`, so that it is dead.
+/// Removes the separators at the ends of a pattern's elements. It returns `None` for a dead pattern, which has an empty
+/// segment, as in `a//b`.
 pub(crate) fn trim<'p, E: Element>(elements: &'p [E]) -> Option<(Scope, &'p [E])>
     ensures { MatchOption result (pattern_from (Some (parts_in E.tokens_in E.separates elements.now)) ≡ dead)
         (λ r. pattern_from (Some (parts_in E.tokens_in E.separates elements.now))
@@ -76,12 +77,12 @@ fn without_first_separator<'p, E: Element>(elements: &'p [E]) -> (&'p [E], bool)
 fn has_empty<E: Element>(elements: &[E]) -> bool
     ensures { result ≡ some_empty (parts_in E.tokens_in E.separates elements.now) }
 {
-    let mut left = SegmentsLeft::of(elements);
-    'segments: while let Some((segment, others)) = left.split_first() {
+    let mut rest = SegmentsLeft::of(elements);
+    'segments: while let Some((segment, others)) = rest.split_first() {
         if has_no_token(segment) {
             return true;
         }
-        left = others;
+        rest = others;
     }
     false
 }

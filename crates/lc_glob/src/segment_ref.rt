@@ -3,7 +3,7 @@
 ghost use Rattle.std.specs.Prelude.{◌≡◌, ◌∷◌, ◌++◌, [], MatchOption, true, ◌↔◌, IsTrue};
 ghost use Rattle.std.specs.List.{list_any};
 ghost use Rattle.lc_glob.specs.Above.{is_double, is_wide};
-ghost use Rattle.lc_glob.specs.Mixed.{mixed_model};
+ghost use Rattle.lc_glob.specs.TokenLists.{tokens_model};
 ghost use Rattle.lc_glob.specs.Reading.{segment_from};
 ghost use Rattle.lc_glob.specs.Simple.{bytes_segment, ends_segment};
 ghost use Rattle.lc_glob.specs.Tokens.{is_star};
@@ -13,16 +13,16 @@ use crate::element::{are_two_stars, has_star};
 use crate::segments_left::SegmentsLeft;
 use crate::token::Token;
 
-/// The tokens of a segment, by their shape.
+/// The tokens of a pattern's segment, as they are matched.
 #[derive(Clone, Copy)]
 pub(crate) enum TokensRef<'p> {
     /// Literals alone.
     Literal(&'p [u8]),
     /// A star and then literals alone.
     Suffix(&'p [u8]),
-    /// Any others of a simple pattern.
+    /// Any tokens of a simple pattern, as its bytes.
     Bytes(&'p [u8]),
-    /// Those of any other.
+    /// The tokens of a pattern that isn't simple.
     Tokens(&'p [Token]),
 }
 
@@ -39,7 +39,7 @@ impl<'p> TokensRef<'p> {
     }
 }
 
-/// What stands between two separators of a pattern.
+/// A segment of a pattern.
 #[derive(Clone, Copy)]
 pub(crate) enum SegmentRef<'p> {
     /// Tokens that one segment of a path must fit.
@@ -49,7 +49,7 @@ pub(crate) enum SegmentRef<'p> {
 }
 
 impl<'p> SegmentRef<'p> {
-    /// That of the bytes between two separators of a simple pattern.
+    /// The segment of the bytes between two separators of a simple pattern.
     #[inline(always)]
     fn of_bytes(bytes: &'p [u8]) -> Self
         ensures { segment_ref_model result ≡ bytes_segment bytes.now }
@@ -62,10 +62,10 @@ impl<'p> SegmentRef<'p> {
         }
     }
 
-    /// That of tokens.
+    /// The segment of the tokens between two separators.
     #[inline(always)]
     fn of_tokens(tokens: &'p [Token]) -> Self
-        ensures { segment_ref_model result ≡ segment_from true (mixed_model tokens.now) }
+        ensures { segment_ref_model result ≡ segment_from true (tokens_model tokens.now) }
     {
         if are_two_stars(tokens) {
             SegmentRef::DoubleStar
@@ -74,7 +74,7 @@ impl<'p> SegmentRef<'p> {
         }
     }
 
-    /// The same where it is a double star, or literals, alone or after a star.
+    /// The segment of bytes that are a double star, or literals, alone or after a star.
     #[inline(always)]
     fn of_end(bytes: &'p [u8]) -> Self
         ensures { segment_ref_model result ≡ ends_segment bytes.now }
@@ -92,7 +92,7 @@ impl<'p> SegmentRef<'p> {
         matches!(self, SegmentRef::DoubleStar)
     }
 
-    /// Whether it is a double star or has a star.
+    /// Whether the segment is a double star or has a star.
     pub(crate) fn is_wide(self) -> bool
         ensures { result ≡ is_wide (segment_ref_model self.entry) }
     {
@@ -103,21 +103,21 @@ impl<'p> SegmentRef<'p> {
     }
 }
 
-/// Segments of a pattern that are left to match.
+/// The segments of a pattern that are still to be matched.
 #[derive(Clone, Copy)]
 pub(crate) enum SegmentsRef<'p> {
-    /// Those of a simple pattern.
+    /// Segments of a simple pattern.
     Bytes(SegmentsLeft<'p, u8>),
-    /// The same where each is a double star, or literals, alone or after a star.
+    /// Segments of a simple pattern, each a double star, or literals, alone or after a star.
     Ends(SegmentsLeft<'p, u8>),
-    /// The same where each is literals alone.
+    /// Segments of a simple pattern, each of literals alone.
     Exact(SegmentsLeft<'p, u8>),
-    /// Those of any other.
+    /// Segments of a pattern that isn't simple.
     Tokens(SegmentsLeft<'p, Token>),
 }
 
 impl<'p> SegmentsRef<'p> {
-    /// Whether none is left.
+    /// Whether no segment is left.
     pub(crate) fn is_empty(self) -> bool
         ensures { IsTrue result ↔ (segments_ref_model self.entry ≡ []) }
     {

@@ -6,14 +6,14 @@ ghost use Rattle.lc_glob.specs.Pieces.{cuts_left};
 
 use crate::element::Element;
 
-/// The segments that are left: none, or those of the elements.
+/// The segments that are still to be matched: none, or those of the elements.
 #[derive(Clone, Copy)]
 pub(crate) struct SegmentsLeft<'a, E> {
     pub(crate) rest: Option<&'a [E]>,
 }
 
 impl<'a, E: Element> SegmentsLeft<'a, E> {
-    /// All those of the elements.
+    /// All segments of the elements.
     pub(crate) fn of(elements: &'a [E]) -> Self
         ensures { cuts_left E.separates result.rest ≡ slice_split E.separates elements.now }
     {
@@ -22,7 +22,7 @@ impl<'a, E: Element> SegmentsLeft<'a, E> {
         }
     }
 
-    /// Whether none is left.
+    /// Whether no segment is left.
     pub(crate) fn is_over(self) -> bool
         ensures { IsTrue result ↔ (cuts_left E.separates self.entry.rest ≡ []) }
     {

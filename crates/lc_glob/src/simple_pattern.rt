@@ -10,7 +10,7 @@ ghost use Rattle.lc_glob.specs.Patterns.{plain};
 ghost use Rattle.lc_glob.specs.Reading.{pattern_of};
 ghost use Rattle.lc_glob.specs.Simple.{byte_token, bytes_segment, exact_segment, is_end, is_ends_segment, is_literal, is_simple};
 ghost use Rattle.lc_glob.specs.Views.{form_model, live_model, simple_model};
-ghost use Rattle.lc_glob.specs.declared.simple_pattern.Shape.TheVariants.{More};
+ghost use Rattle.lc_glob.specs.declared.simple_pattern.SimpleKind.TheVariants.{Other};
 
 use crate::candidate::Candidate;
 use crate::element::are_two_stars;
@@ -23,43 +23,45 @@ use crate::scope::trim;
 use crate::segment_ref::SegmentsRef;
 use crate::segments_left::SegmentsLeft;
 
-/// What of a path a simple pattern is matched with, and by which tokens.
+/// How a simple pattern is matched.
 #[derive(Clone, Copy)]
-pub(crate) enum Shape {
-    /// The end of the last segment, by literals: alone, so by the whole, as `Makefile`, or after a star, as `*.o`.
-    End { is_alone: bool },
-    /// More than that end. It stands one level below, since to ask one thing first costs less than to ask which of all shapes it is.
-    More(Extent),
+pub(crate) enum SimpleKind {
+    /// By literals alone, with the last segment of a path: with the whole of it, such as `Makefile`, or after a star with its
+    /// end, such as `*.o`.
+    Suffix { is_whole: bool },
+    /// In another way. These are in an enum of their own, since one test for the most usual kind costs less than a choice among
+    /// all kinds.
+    Other(OtherKind),
 }
 
-/// What else it is matched with.
+/// How a simple pattern is matched that is not a suffix.
 #[derive(Clone, Copy)]
-pub(crate) enum Extent {
-    /// Nothing: it is dead, since a segment of it is empty, as in `a//b`.
+pub(crate) enum OtherKind {
+    /// With nothing: it is dead, since a segment of it is empty, as in `a//b`.
     Dead,
-    /// The last segment, by any tokens, as `core.*`.
+    /// With the last segment, by any tokens, such as `core.*`.
     LastSegment,
-    /// All segments by literals alone, as `/build` and `docs/out`.
+    /// With all segments, by literals alone, such as `/build` and `docs/out`.
     Exact,
-    /// All segments, each by literals, alone or after a star, where it is no double star, as `a/**/b` and `src/*.o`.
+    /// With all segments, by double stars and by literals alone or after a star, such as `a/**/b` and `src/*.o`.
     Ends,
-    /// All segments, by any others, as `src/core.*`.
+    /// With all segments, by any tokens, such as `src/core.*`.
     WholePath,
 }
 
-/// What is known of a simple pattern beside its bytes, so that it can be matched from them: three bytes.
+/// What is known of a simple pattern besides its bytes, in three bytes.
 #[derive(Clone, Copy)]
-pub struct SimpleForm {
+pub(crate) struct SimpleForm {
     pub(crate) is_dir_only: bool,
-    pub(crate) shape: Shape,
+    pub(crate) kind: SimpleKind,
 }
 
 /// A simple pattern: its form, and those of its bytes that are kept, without the separators at its ends and, where it is a suffix,
 /// without the star.
 #[derive(Clone, Copy)]
-pub struct SimplePattern<'p> {
-    pub form: SimpleForm,
-    pub bytes: &'p [u8],
+pub(crate) struct SimplePattern<'p> {
+    pub(crate) form: SimpleForm,
+    pub(crate) bytes: &'p [u8],
 }
 
 impl<'p> SimplePattern<'p> {
@@ -80,30 +82,30 @@ impl<'p> SimplePattern<'p> {
         ensures { form_model result.form result.bytes.now ≡ pattern_of bytes.now }
     {
         let Some((scope, segments)) = trim(bytes) else {
-            return Self::new(false, Shape::More(Extent::Dead), &[]);
+            return Self::new(false, SimpleKind::Other(OtherKind::Dead), &[]);
         };
         if scope.is_anchored {
-            return Self::new(scope.is_dir_only, path_shape(segments), segments);
+            return Self::new(scope.is_dir_only, path_kind(segments), segments);
         }
-        let (shape, kept) = shaped(segments);
-        Self::new(scope.is_dir_only, shape, kept)
+        let (kind, kept) = name_kind(segments);
+        Self::new(scope.is_dir_only, kind, kept)
     }
 
-    pub(crate) fn new(is_dir_only: bool, shape: Shape, bytes: &'p [u8]) -> Self
-        ensures { form_model result.form result.bytes.now ≡ simple_model is_dir_only shape bytes.now }
+    pub(crate) fn new(is_dir_only: bool, kind: SimpleKind, bytes: &'p [u8]) -> Self
+        ensures { form_model result.form result.bytes.now ≡ simple_model is_dir_only kind bytes.now }
     {
-        let form = SimpleForm { is_dir_only, shape };
+        let form = SimpleForm { is_dir_only, kind };
         SimplePattern { form, bytes }
     }
 
     pub(crate) fn view(self) -> PatternView<'p>
         ensures { result ≡ form_model self.entry.form self.entry.bytes.now }
     {
-        PatternView::of_shape(self.form.is_dir_only, self.form.shape, self.bytes)
+        PatternView::of_simple(self.form.is_dir_only, self.form.kind, self.bytes)
     }
 
-    /// Whether it matches. The most usual shape is matched where it is called, so that most patterns aren't handed on in memory, and no
-    /// view of it is made: either would cost more than most matches.
+    /// Whether the pattern matches. The most usual kind is matched inline, so that most patterns aren't passed on in memory, and
+    /// no view is made of it: either would cost more than most matches.
     #[inline]
     pub(crate) fn matched(self, path: &Candidate, is_dir: bool, tests: &mut ByteTests) -> bool
         ensures meaning { IsTrue result ↔ Matches (form_model self.entry.form self.entry.bytes.now) path.now is_dir }
@@ -113,52 +115,52 @@ impl<'p> SimplePattern<'p> {
         if self.form.is_dir_only && !is_dir {
             return false;
         }
-        match self.form.shape {
-            Shape::End { is_alone } => fits_end(self.bytes, is_alone, path.last, tests),
-            Shape::More(extent) => self.agrees(extent, path, tests)
-                && self.matched_by(extent, path, tests),
+        match self.form.kind {
+            SimpleKind::Suffix { is_whole } => fits_end(self.bytes, is_whole, path.last, tests),
+            SimpleKind::Other(other) => self.agrees(other, path, tests)
+                && self.matched_by(other, path, tests),
         }
     }
 
-    /// Whether the path agrees with it at an end. Most that it doesn't match are told by that one look.
+    /// Whether the path agrees with the pattern at an end. That rejects most paths that it does not match.
     #[inline]
-    fn agrees(self, extent: Extent, path: &Candidate, tests: &mut ByteTests) -> bool
-        ensures told { Matches (simple_model false (More extent) self.entry.bytes.now) path.now false → IsTrue result }
-        ensures cost { tests.new.made + (match_cost (simple_model false (More extent) self.entry.bytes.now) path.now - 1)
-            ≤ tests.old.made + match_cost (simple_model false (More extent) self.entry.bytes.now) path.now }
+    fn agrees(self, other: OtherKind, path: &Candidate, tests: &mut ByteTests) -> bool
+        ensures told { Matches (simple_model false (Other other) self.entry.bytes.now) path.now false → IsTrue result }
+        ensures cost { tests.new.made + (match_cost (simple_model false (Other other) self.entry.bytes.now) path.now - 1)
+            ≤ tests.old.made + match_cost (simple_model false (Other other) self.entry.bytes.now) path.now }
     {
-        match extent {
-            Extent::Dead => false,
-            Extent::LastSegment => agrees_at_end(self.bytes, path.last, path.last, tests),
-            Extent::Exact | Extent::Ends | Extent::WholePath => {
+        match other {
+            OtherKind::Dead => false,
+            OtherKind::LastSegment => agrees_at_end(self.bytes, path.last, path.last, tests),
+            OtherKind::Exact | OtherKind::Ends | OtherKind::WholePath => {
                 agrees_at_end(self.bytes, path.whole(), path.last, tests)
             }
         }
     }
 
-    /// The same by its extent, of a path that is a directory where it asks for one.
+    /// Whether the pattern matches a path that is a directory where it must be one.
     #[inline(never)]
-    fn matched_by(self, extent: Extent, path: &Candidate, tests: &mut ByteTests) -> bool
-        ensures meaning { IsTrue result ↔ Matches (simple_model false (More extent) self.entry.bytes.now) path.now false }
+    fn matched_by(self, other: OtherKind, path: &Candidate, tests: &mut ByteTests) -> bool
+        ensures meaning { IsTrue result ↔ Matches (simple_model false (Other other) self.entry.bytes.now) path.now false }
         ensures cost { tests.new.made
-            ≤ tests.old.made + (match_cost (simple_model false (More extent) self.entry.bytes.now) path.now - 1) }
+            ≤ tests.old.made + (match_cost (simple_model false (Other other) self.entry.bytes.now) path.now - 1) }
     {
         let bytes = self.bytes;
-        match extent {
-            Extent::Dead => false,
-            Extent::LastSegment => fits_elements(bytes, path.last, tests),
-            Extent::Exact => matches_exactly(bytes, path, tests),
-            Extent::Ends => {
+        match other {
+            OtherKind::Dead => false,
+            OtherKind::LastSegment => fits_elements(bytes, path.last, tests),
+            OtherKind::Exact => matches_exactly(bytes, path, tests),
+            OtherKind::Ends => {
                 matches_path(SegmentsRef::Ends(SegmentsLeft::of(bytes)), path, tests)
             }
-            Extent::WholePath => {
+            OtherKind::WholePath => {
                 matches_path(SegmentsRef::Bytes(SegmentsLeft::of(bytes)), path, tests)
             }
         }
     }
 }
 
-/// Whether segments of literals alone match a path: it has the same bytes.
+/// Whether segments of literals alone match a path, which then has the same bytes.
 #[inline]
 fn matches_exactly(bytes: &[u8], path: &Candidate, tests: &mut ByteTests) -> bool
     ensures same { IsTrue result ↔ MatchesPath (map exact_segment (segments_of bytes.now)) (segments_of path.now) }
@@ -167,7 +169,7 @@ fn matches_exactly(bytes: &[u8], path: &Candidate, tests: &mut ByteTests) -> boo
     path.is(bytes, tests)
 }
 
-/// Whether no byte is quoted, and none opens a bracket.
+/// Whether no byte of a pattern is quoted, and none opens a bracket.
 fn are_simple(bytes: &[u8]) -> bool
     ensures { result ≡ list_all is_simple bytes.now }
 {
@@ -184,12 +186,12 @@ fn is_simple(b: u8) -> bool
 fn has_ends(bytes: &[u8]) -> bool
     ensures { result ≡ list_all is_ends_segment (segments_of bytes.now) }
 {
-    let mut left = SegmentsLeft::of(bytes);
-    'segments: while let Some((segment, others)) = left.split_first() {
+    let mut rest = SegmentsLeft::of(bytes);
+    'segments: while let Some((segment, others)) = rest.split_first() {
         if !are_two_stars(segment) && !is_end(segment) {
             return false;
         }
-        left = others;
+        rest = others;
     }
     true
 }
@@ -204,35 +206,35 @@ fn is_end(bytes: &[u8]) -> bool
     }
 }
 
-/// The shape of the bytes of all segments.
-fn path_shape(bytes: &[u8]) -> Shape
+/// How the bytes of a pattern's segments are matched with a whole path.
+fn path_kind(bytes: &[u8]) -> SimpleKind
     ensures { (is_dir_only : Bool) → simple_model is_dir_only result bytes.now
         ≡ live_model is_dir_only true (map bytes_segment (segments_of bytes.now)) }
 {
     if are_literals(bytes) {
-        Shape::More(Extent::Exact)
+        SimpleKind::Other(OtherKind::Exact)
     } else if has_ends(bytes) {
-        Shape::More(Extent::Ends)
+        SimpleKind::Other(OtherKind::Ends)
     } else {
-        Shape::More(Extent::WholePath)
+        SimpleKind::Other(OtherKind::WholePath)
     }
 }
 
-/// The shape of the bytes of the one segment, and those of them that it keeps.
-fn shaped<'p>(bytes: &'p [u8]) -> (Shape, &'p [u8])
+/// How the bytes of a pattern's one segment are matched with a last segment, and the bytes that are needed for it.
+fn name_kind<'p>(bytes: &'p [u8]) -> (SimpleKind, &'p [u8])
     ensures { (is_dir_only : Bool) → simple_model is_dir_only result.0 result.1.now
         ≡ live_model is_dir_only false (plain (map byte_token bytes.now) ∷ []) }
 {
     if are_literals(bytes) {
-        return (Shape::End { is_alone: true }, bytes);
+        return (SimpleKind::Suffix { is_whole: true }, bytes);
     }
     let Some((first, rest)) = bytes.split_first() else {
-        return (Shape::More(Extent::LastSegment), bytes);
+        return (SimpleKind::Other(OtherKind::LastSegment), bytes);
     };
     if *first == b'*' && are_literals(rest) {
-        (Shape::End { is_alone: false }, rest)
+        (SimpleKind::Suffix { is_whole: false }, rest)
     } else {
-        (Shape::More(Extent::LastSegment), bytes)
+        (SimpleKind::Other(OtherKind::LastSegment), bytes)
     }
 }
 

@@ -1,7 +1,7 @@
 //! The tokens of a segment.
 
 ghost use Rattle.std.specs.Prelude.{◌≡◌, ◌∷◌, MatchOption};
-ghost use Rattle.lc_glob.specs.Mixed.{is_for_byte, is_separator, mixed_model};
+ghost use Rattle.lc_glob.specs.TokenLists.{is_for_byte, is_separator, tokens_model};
 ghost use Rattle.lc_glob.specs.Simple.{byte_token};
 ghost use Rattle.lc_glob.specs.Tokens.{takes, is_star};
 ghost use Rattle.lc_glob.specs.Views.{token_ref_model};
@@ -10,7 +10,7 @@ use crate::byte_set::ByteSet;
 
 /// One token of a pattern that isn't simple, as it is kept, in three bytes.
 #[derive(Clone, Copy)]
-pub enum Token {
+pub(crate) enum Token {
     /// That byte.
     Literal(u8),
     /// `?`: one byte, but no slash.
@@ -21,7 +21,7 @@ pub enum Token {
     Open(bool),
     /// The first and the last byte of a bracket's range.
     Range(u8, u8),
-    /// What stands between two segments.
+    /// A slash between two segments.
     Separator,
 }
 
@@ -34,7 +34,7 @@ impl Token {
         matches!(self, Token::Separator)
     }
 
-    /// Whether it stands for one byte.
+    /// Whether the token stands for one byte.
     pub(crate) fn is_for_byte(self) -> bool
         ensures { result ≡ is_for_byte self }
     {
@@ -42,7 +42,7 @@ impl Token {
     }
 }
 
-/// One token, as it is matched.
+/// A token, as it is matched.
 #[derive(Clone, Copy)]
 pub(crate) enum TokenRef<'p> {
     Literal(u8),
@@ -52,7 +52,7 @@ pub(crate) enum TokenRef<'p> {
 }
 
 impl<'p> TokenRef<'p> {
-    /// That of a byte of a simple pattern.
+    /// The token of a byte of a simple pattern.
     pub(crate) fn of_byte(b: u8) -> Self
         ensures { token_ref_model result ≡ byte_token b }
     {
@@ -63,10 +63,10 @@ impl<'p> TokenRef<'p> {
         }
     }
 
-    /// That of a token that was read, by those after it. A range and a separator are none.
+    /// The token that was read, with the tokens after it, of which a bracket takes its ranges. A range or a separator is none.
     pub(crate) fn of_token(token: Token, after: &'p [Token]) -> Option<Self>
-        ensures { MatchOption result (mixed_model (token ∷ after.now) ≡ mixed_model after.now)
-            (λ found. mixed_model (token ∷ after.now) ≡ token_ref_model found ∷ mixed_model after.now) }
+        ensures { MatchOption result (tokens_model (token ∷ after.now) ≡ tokens_model after.now)
+            (λ found. tokens_model (token ∷ after.now) ≡ token_ref_model found ∷ tokens_model after.now) }
     {
         match token {
             Token::Literal(b) => Some(TokenRef::Literal(b)),

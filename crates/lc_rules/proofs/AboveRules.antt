@@ -69,7 +69,8 @@ module _ (path front left : List ℕ) (name rest : Bor (List ℕ)) (names : List
       ∙ ap names_of (sym (take-set-le (k + 1) names count name (omega (arith, earlier)))))
       (λ later.
       let here : k ≡ count = omega (arith, within, later) in
-      subst (λ (j : ℕ). segments_of (take (get_or (set ends count end) j 0) path) ≡ names_of (take (j + 1) (set names count name))) (sym here)
+      subst (λ (j : ℕ). segments_of (take (get_or (set ends count end) j 0) path)
+      ≡ names_of (take (j + 1) (set names count name))) (sym here)
       (ap (λ (n : ℕ). segments_of (take n path)) (get_or-set_same ends count end 0 low_end) ∙ ap segments_of to_name ∙ closed name.now
       ∙ ap (λ (l : List (List ℕ)). names_of (take count names) ++ l) one ∙ sym names_more))
       (cases_lt k count)
@@ -96,22 +97,23 @@ pub decided_more : (newer : List RuleModel) (r : RuleModel) (names : List (List 
     → ((k : ℕ) → k < count → option_map (λ x. x.now) (get_or new k None)
     ≡ option_or (option_map (λ x. x.now) (get_or old k None)) (cond (get_or flags k false) (Some r) None))
     → AreDecided newer names count old → AreDecided (r ∷ newer) names count new
-decided_more newer r names count flags old new within told settled before k dir low is =
-    tagged (get_or new k None) ∙ ap tag (settled k low)
+decided_more newer r names count flags old new within told filled before k dir low is =
+    tagged (get_or new k None) ∙ ap tag (filled k low)
     ∙ tag_or (option_map (λ x. x.now) (get_or old k None)) (cond (get_or flags k false) (Some r) None)
     ∙ ap₂ option_or (sym (tagged (get_or old k None)) ∙ before k dir low is) (tag_cond (get_or flags k false) r
     ∙ sym (last_match_one (Gitignore 0, r) dir true (get_or flags k false) (sym (told k dir (omega (arith, within, low)) is))))
     ∙ sym (last_match-append ((Gitignore 0, r) ∷ []) (at_depth 0 newer) dir true)
 
--- what the first flags settle
-pub settled_front : (r : RuleModel) (count : ℕ) (flags : List Bool) (old new : List (Option (Bor RuleModel))) → count ≤ length flags
+-- what is filled in by the first flags
+pub filled_front : (r : RuleModel) (count : ℕ) (flags : List Bool) (old new : List (Option (Bor RuleModel))) → count ≤ length flags
     → ((k : ℕ) → k < length (take count flags) → option_map (λ x. x.now) (get_or new k None)
     ≡ option_or (option_map (λ x. x.now) (get_or old k None)) (cond (get_or (take count flags) k false) (Some r) None))
     → (k : ℕ) → k < count → option_map (λ x. x.now) (get_or new k None)
     ≡ option_or (option_map (λ x. x.now) (get_or old k None)) (cond (get_or flags k false) (Some r) None)
-settled_front r count flags old new within settled k low =
-    settled k (omega (arith, low, length-take-le count flags within))
-    ∙ ap (λ (b : Bool). option_or (option_map (λ x. x.now) (get_or old k None)) (cond b (Some r) None)) (get_or-take count flags k false low)
+filled_front r count flags old new within filled k low =
+    filled k (omega (arith, low, length-take-le count flags within))
+    ∙ ap (λ (b : Bool). option_or (option_map (λ x. x.now) (get_or old k None)) (cond b (Some r) None))
+    (get_or-take count flags k false low)
 
 -- what newer rules decide is decided, whatever the older ones say
 pub decided_early : (rules older newer : List RuleModel) (names : List (List ℕ)) (count all : ℕ) (found : List (Option (Bor RuleModel)))
@@ -158,7 +160,8 @@ kinds false true true false = refl
 kinds false true false true = refl
 kinds false true false false = refl
 
-match_kind : (p : PatternModel) (path : List ℕ) (is_dir : Bool) → is_match p path is_dir ≡ (is_match p path true && (not p.is_dir_only || is_dir))
+match_kind : (p : PatternModel) (path : List ℕ) (is_dir : Bool) → is_match p path is_dir
+    ≡ (is_match p path true && (not p.is_dir_only || is_dir))
 unfolding is_match
 match_kind p path is_dir = kinds p.is_dead p.is_dir_only is_dir (segments_match p.is_anchored p.segments (segments_of path))
 
@@ -168,11 +171,11 @@ pub own_more : (newer : List RuleModel) (r : RuleModel) (names : List (List ℕ)
     → option_map (λ x. x.now) new ≡ option_or (option_map (λ x. x.now) old)
     (cond (get_or flags n false && (not r.pattern.is_dir_only || is_dir)) (Some r) None)
     → IsOwn newer names is_dir old → IsOwn (r ∷ newer) names is_dir new
-own_more newer r names n is_dir flags old new last told settled before path is =
+own_more newer r names n is_dir flags old new last told filled before path is =
     let flag = told n path (omega (arith, last)) (is ∙ sym (ap (λ (k : ℕ). take k names) last ∙ take-length names)) in
     let matched : is_match r.pattern path is_dir ≡ (get_or flags n false && (not r.pattern.is_dir_only || is_dir)) =
     match_kind r.pattern path is_dir ∙ ap (λ (b : Bool). b && (not r.pattern.is_dir_only || is_dir)) (sym flag) in
-    tagged new ∙ ap tag settled
+    tagged new ∙ ap tag filled
     ∙ tag_or (option_map (λ x. x.now) old) (cond (get_or flags n false && (not r.pattern.is_dir_only || is_dir)) (Some r) None)
     ∙ ap₂ option_or (sym (tagged old) ∙ before path is) (tag_cond (get_or flags n false && (not r.pattern.is_dir_only || is_dir)) r
     ∙ sym (last_match_one (Gitignore 0, r) path is_dir (get_or flags n false && (not r.pattern.is_dir_only || is_dir)) matched))

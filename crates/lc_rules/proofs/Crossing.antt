@@ -4,23 +4,16 @@ use denote.Param.Send.{IsSend, IsSync, sendable}
 use Rattle.std.proofs.Crossing as below
 use Rattle.std.proofs.MapsCrossing as maps
 use Rattle.std.proofs.MapsCrossingOver as over
-use Rattle.lc_glob.specs.contracts.pattern.Pattern as Pattern
 use Rattle.lc_rules.specs.contracts.attr_chain.AttrChain as AttrChain
 use Rattle.lc_rules.specs.contracts.attr_file.AttrFile as AttrFile
 use Rattle.lc_rules.specs.contracts.ignore_chain.Chain as Chain
 use Rattle.lc_rules.specs.contracts.ignore_file.IgnoreFile as IgnoreFile
 
-pattern_send : IsSend Pattern.the_row
-pattern_send = search (sendable, below.crosses) depth 100 fits 20000
-
-pattern_sync : IsSync Pattern.the_row
-pattern_sync = search (sendable, below.crosses) depth 100 fits 20000
-
 pub ignore_file_send : IsSend IgnoreFile.the_row
-ignore_file_send = search (pattern_send, pattern_sync, sendable, below.crosses) depth 100 fits 20000
+ignore_file_send = search (sendable, below.crosses) depth 100 fits 20000
 
 pub ignore_file_sync : IsSync IgnoreFile.the_row
-ignore_file_sync = search (pattern_send, pattern_sync, sendable, below.crosses) depth 100 fits 20000
+ignore_file_sync = search (sendable, below.crosses) depth 100 fits 20000
 
 pub chain_send : IsSend Chain.the_row
 chain_send = search (ignore_file_send, ignore_file_sync, sendable, below.crosses) depth 100 fits 20000
@@ -29,10 +22,10 @@ pub chain_sync : IsSync Chain.the_row
 chain_sync = search (ignore_file_send, ignore_file_sync, sendable, below.crosses) depth 100 fits 20000
 
 pub attr_file_send : IsSend AttrFile.the_row
-attr_file_send = search (pattern_send, pattern_sync, sendable, below.crosses, maps.crosses, over.crosses) depth 100 fits 20000
+attr_file_send = search (sendable, below.crosses, maps.crosses, over.crosses) depth 100 fits 20000
 
 pub attr_file_sync : IsSync AttrFile.the_row
-attr_file_sync = search (pattern_send, pattern_sync, sendable, below.crosses, maps.crosses, over.crosses) depth 100 fits 20000
+attr_file_sync = search (sendable, below.crosses, maps.crosses, over.crosses) depth 100 fits 20000
 
 pub attr_chain_send : IsSend AttrChain.the_row
 attr_chain_send = search (attr_file_send, attr_file_sync, sendable, below.crosses) depth 100 fits 20000

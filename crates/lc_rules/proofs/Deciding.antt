@@ -1,5 +1,5 @@
 -- How the parts of what is read decide an attribute, one after another.
-use Rattle.std.proofs.Common.{◌≡◌, ℕ, Bool, false, List, [], ◌∷◌, ◌++◌, Option, Some, None, sym, ◌∙◌, ap, subst, unwrap_or}
+use Rattle.std.proofs.Common.{◌≡◌, ℕ, Bool, false, List, [], ◌∷◌, ◌++◌, Option, Some, None, refl, sym, ◌∙◌, ap, subst, unwrap_or}
 use Rattle.std.specs.List.{list_any}
 use Rattle.lc_rules.specs.Attributes.{StateModel, unspecified, AssignmentModel}
 use Rattle.lc_rules.specs.AttrLines.{AttrFileModel}
@@ -56,6 +56,21 @@ pub record Passes (query : Query) (todo : List AssignmentModel) (old : Resolver)
   pub moves : ReadsAssignments query todo old None left new
   pub empty : new.pending.items ≡ []
 
+-- nothing is read yet
+pub none_passed : {query : Query} {todo left : List AssignmentModel} {r : Resolver} → IsReady query r → todo ≡ left
+    → Passes query todo r left r
+none_passed {query} {todo} {left} {r} ready same =
+    subst (λ (l : List AssignmentModel). Passes query todo r l r) same
+    (record { moves = (ready.undecided, λ rest. refl); empty = ready.empty })
+
+-- nothing is left to be read
+pub all_passed : {query : Query} {todo left : List AssignmentModel} {old new : Resolver} → Passes query todo old left new → left ≡ []
+    → Decides query todo old None new
+all_passed {query} {todo} {left} {old} {new} before none = record {
+  moves = subst (λ (l : List AssignmentModel). ReadsAssignments query todo old None l new) none before.moves;
+  empty = before.empty;
+}
+
 -- the next of what is left decides
 pub next_decides : {query : Query} {whole todo next : List AssignmentModel} (rest : List AssignmentModel) {old middle new : Resolver}
     {found : Option State} {state : State} → Passes query whole old todo middle → todo ≡ next ++ rest → found ≡ Some state
@@ -88,7 +103,8 @@ pub word_decides : {query : Query} {word : AssignmentModel} {old new : Resolver}
     → Decides query (word ∷ []) old (Some state) new
 word_decides {query} {word} {old} {new} {found} {state} ready is moves = record {
   moves = subst (λ pending. ReadsAssignments query (word ∷ stacked pending) old (Some state) [] new) ready.empty
-      (subst (λ (o : Option State). ReadsAssignments query (word ∷ stacked old.pending.items) old o (stacked new.pending.items) new) is moves);
+      (subst (λ (o : Option State). ReadsAssignments query (word ∷ stacked old.pending.items) old o
+      (stacked new.pending.items) new) is moves);
   empty = tt;
 }
 
@@ -101,7 +117,8 @@ expansion_decides {query} {word} {old} {middle} {new} {passed} {found} ready is 
   moves = moves_then (macros_for query) query.name.now (word ∷ []) (stacked middle.pending.items) [] (names_in old.decided)
       (names_in middle.decided) (names_in new.decided) (seen_state found)
       (subst (λ pending. ReadsAssignments query (word ∷ stacked pending) old None (stacked middle.pending.items) middle) ready.empty
-      (subst (λ (o : Option State). ReadsAssignments query (word ∷ stacked old.pending.items) old o (stacked middle.pending.items) middle) is moves))
+      (subst (λ (o : Option State). ReadsAssignments query (word ∷ stacked old.pending.items) old o
+      (stacked middle.pending.items) middle) is moves))
       e.moves;
   empty = e.empty;
 }

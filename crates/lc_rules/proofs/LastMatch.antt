@@ -24,7 +24,8 @@ module _ (path : List ℕ) (is_dir : Bool) where
   abbrev Told : List (RuleSource × RuleModel) → Option (RuleSource × RuleModel) → Type 0
   Told rules found = MatchOption found (list_any (rule_matches path is_dir) rules ≡ false) (IsLastMatch rules path is_dir)
 
-  told_more : (r : RuleSource × RuleModel) (rules : List (RuleSource × RuleModel)) (found : Option (RuleSource × RuleModel)) → Told rules found
+  told_more : (r : RuleSource × RuleModel) (rules : List (RuleSource × RuleModel)) (found : Option (RuleSource × RuleModel))
+      → Told rules found
       → (b : Bool) → rule_matches path is_dir r ≡ b → Told (r ∷ rules) (option_or found (cond b (Some r) None))
   told_more r rules (Some x) last b e = record {
     older = r ∷ last.older;
@@ -45,8 +46,8 @@ module _ (path : List ℕ) (is_dir : Bool) where
       (told_more r rules (last_match rules path is_dir) (told rules) (rule_matches path is_dir r) refl)
 
   -- the last rule that matches decides
-  last_decides : (rules : List (RuleSource × RuleModel)) (r : RuleSource × RuleModel) → IsLastMatch rules path is_dir r → last_match rules path
-      is_dir ≡ Some r
+  last_decides : (rules : List (RuleSource × RuleModel)) (r : RuleSource × RuleModel) → IsLastMatch rules path is_dir r
+      → last_match rules path is_dir ≡ Some r
   last_decides rules r last =
       ap (λ l. last_match l path is_dir) last.stands
       ∙ last_match-append last.older (r ∷ last.later) path is_dir

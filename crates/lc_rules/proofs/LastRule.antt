@@ -1,12 +1,16 @@
 -- The rule that decides, from the newest rule to the oldest.
-use Rattle.std.proofs.Common.{◌≡◌, ℕ, Bool, true, false, cond, List, [], ◌∷◌, ◌++◌, Option, Some, None, filter, refl, sym, ◌∙◌, ap, ap₂}
+use Rattle.std.proofs.Common.{◌≡◌, ◌≤◌, ◌<◌, ℕ, zero, suc, Bool, true, false, cond, List, [], ◌∷◌, ◌++◌, Option, Some, None, filter}
+use Rattle.std.proofs.Common.{length, take, get_or, refl, sym, ◌∙◌, ap, ap₂, arith}
 use Rattle.std.specs.Prelude.{option_map}
 use Rattle.std.specs.Option.{option_or}
 use Rattle.std.specs.List.{last_or}
-use Rattle.std.proofs.lemmas.List.{map-append}
+use Rattle.std.proofs.Math.Seq.{take-suc, take-length}
+use Rattle.std.proofs.lemmas.List.{map-append, get_or-map}
 use Rattle.std.proofs.lemmas.List.Elements.{filter-append}
 use Rattle.lc_glob.specs.IsMatch.{is_match}
-use Rattle.lc_rules.specs.IgnoreRules.{RuleModel}
+use Rattle.lc_glob.specs.Patterns.{PatternModel, dead}
+use Rattle.lc_glob.specs.PatternSets.{last_match_below, pattern_at}
+use Rattle.lc_rules.specs.IgnoreRules.{RuleModel, patterns_of}
 use Rattle.lc_rules.specs.IgnoreChains.{ChainModel, joined, rules_if, rules_in}
 use Rattle.lc_rules.specs.Verdicts.{below, rule_matches, last_match, depth_at, at_depth, from_file}
 use Rattle.lc_rules.specs.declared.rule_source.RuleSource.{RuleSource}
@@ -50,13 +54,52 @@ module _ (whole older : List RuleModel) (r : RuleModel) (path : List ℕ) (is_di
   -- where it matches
   pub newest_decides : is_match r.pattern path is_dir ≡ true → Some (Gitignore 0, r) ≡ last_match (at_depth 0 whole) path is_dir
   newest_decides h =
-      sym (file_newest ∙ ap (λ o. option_or o (last_match (at_depth 0 older) path is_dir)) (last_match_one (Gitignore 0, r) path is_dir true h))
+      sym (file_newest ∙ ap (λ o. option_or o (last_match (at_depth 0 older) path is_dir))
+      (last_match_one (Gitignore 0, r) path is_dir true h))
 
   -- where it doesn't match
   pub newest_passes : is_match r.pattern path is_dir ≡ false
       → last_match (at_depth 0 whole) path is_dir ≡ last_match (at_depth 0 older) path is_dir
   newest_passes h =
       file_newest ∙ ap (λ o. option_or o (last_match (at_depth 0 older) path is_dir)) (last_match_one (Gitignore 0, r) path is_dir false h)
+
+-- the first rules of a file decide by the last of their patterns that matches
+first_rules_decide : (d : RuleModel) (rules : List RuleModel) (path : List ℕ) (is_dir : Bool) (below : ℕ) → below ≤ length rules
+    → option_map (λ index. (Gitignore 0, get_or rules index d)) (last_match_below (patterns_of rules) path is_dir below)
+    ≡ last_match (at_depth 0 (take below rules)) path is_dir
+first_rules_decide d rules path is_dir zero within = refl
+first_rules_decide d rules path is_dir (suc index) within =
+    by_newest (is_match (pattern_at (patterns_of rules) index) path is_dir) refl (omega (arith, within))
+    (first_rules_decide d rules path is_dir index (omega (arith, within)))
+  where
+    theirs : index < length rules → pattern_at (patterns_of rules) index ≡ (get_or rules index d).pattern
+    theirs low = get_or-map (λ (r : RuleModel). r.pattern) rules index d dead low
+
+    by_newest : (b : Bool) → is_match (pattern_at (patterns_of rules) index) path is_dir ≡ b → index < length rules
+        → option_map (λ i. (Gitignore 0, get_or rules i d)) (last_match_below (patterns_of rules) path is_dir index)
+        ≡ last_match (at_depth 0 (take index rules)) path is_dir
+        → option_map (λ i. (Gitignore 0, get_or rules i d))
+        (cond b (Some index) (last_match_below (patterns_of rules) path is_dir index))
+        ≡ last_match (at_depth 0 (take (suc index) rules)) path is_dir
+    by_newest true e low before =
+        newest_decides (take (suc index) rules) (take index rules) (get_or rules index d) path is_dir (take-suc rules index d low)
+        (ap (λ p. is_match p path is_dir) (sym (theirs low)) ∙ e)
+    by_newest false e low before =
+        before
+        ∙ sym (newest_passes (take (suc index) rules) (take index rules) (get_or rules index d) path is_dir (take-suc rules index d low)
+        (ap (λ p. is_match p path is_dir) (sym (theirs low)) ∙ e))
+
+-- and so do all of them
+pub pattern_decides : (d : RuleModel) (rules : List RuleModel) (patterns : List PatternModel) (path seen : List ℕ) (is_dir : Bool)
+    (count : ℕ) (found : Option ℕ) → patterns ≡ patterns_of rules → seen ≡ path → count ≡ length rules
+    → found ≡ last_match_below patterns seen is_dir count
+    → option_map (λ index. (Gitignore 0, get_or rules index d)) found ≡ last_match (at_depth 0 rules) path is_dir
+pattern_decides d rules patterns path seen is_dir count found theirs same all is =
+    ap (option_map (λ index. (Gitignore 0, get_or rules index d))) (is
+    ∙ ap (λ n. last_match_below patterns seen is_dir n) all
+    ∙ ap₂ (λ ps p. last_match_below ps p is_dir (length rules)) theirs same)
+    ∙ first_rules_decide d rules path is_dir (length rules) (omega arith)
+    ∙ ap (λ l. last_match (at_depth 0 l) path is_dir) (take-length rules)
 
 -- the rules of one file that match are those that match by the path below its directory
 filter_file : (o : RuleSource) (rules : List RuleModel) (path : List ℕ) (is_dir : Bool)
@@ -77,7 +120,8 @@ last_or-file o p x (r ∷ rs) = last_or-file o p (Some (p, r)) rs
 
 -- a file's rules see the path without the segments above it
 pub file_below : (o : RuleSource) (rules : List RuleModel) (path : List ℕ) (is_dir : Bool)
-    → last_match (from_file o rules) path is_dir ≡ option_map (λ r. (o, r.1)) (last_match (at_depth 0 rules) (below (depth_at o) path) is_dir)
+    → last_match (from_file o rules) path is_dir
+    ≡ option_map (λ r. (o, r.1)) (last_match (at_depth 0 rules) (below (depth_at o) path) is_dir)
 file_below o rules path is_dir =
     ap (last_or None) (filter_file o rules path is_dir)
     ∙ last_or-file o (Gitignore 0) None (filter (λ r. is_match r.pattern (below (depth_at o) path) is_dir) rules)

@@ -18,5 +18,4 @@ pub mod NamedLines
 pub mod LastWords
 pub mod LinePlaces
 pub mod AboveRules
-pub mod KeepingPatterns
 pub mod RulePlaces

@@ -140,7 +140,8 @@ module _ {A : Type 0} (pick : AttrLineModel → Option A) (top : Bool) (before :
   pub picks_line : {whole_list : List A} (a : A) → pick found ≡ Some a
       → whole_list ≡ before ++ filter_map pick (given_lines top (lines_left left))
       → whole_list ≡ (before ++ (a ∷ [])) ++ filter_map pick (given_lines top (lines_left others))
-  picks_line a e h = h ∙ ap (λ l. before ++ l) (one_more_line ∙ ap (λ o. cons_option o (filter_map pick (given_lines top (lines_left others)))) e)
+  picks_line a e h =
+      h ∙ ap (λ l. before ++ l) (one_more_line ∙ ap (λ o. cons_option o (filter_map pick (given_lines top (lines_left others)))) e)
       ∙ sym (append_assoc before (a ∷ []) (filter_map pick (given_lines top (lines_left others))))
 
   -- it is passed

@@ -1,15 +1,19 @@
 -- Lines that name neither an attribute nor a macro can't decide it.
 use Rattle.std.proofs.Common.{◌≡◌, ℕ, Bool, true, false, cond, ◌||◌, List, [], ◌∷◌, ◌++◌}
 use Rattle.std.proofs.Common.{Option, Some, None, is_some, refl, sym, ◌∙◌, ap}
+use Rattle.std.specs.BTreeSet.{BTreeSet}
+use Rattle.std.specs.Global.{Global}
 use Rattle.std.specs.List.{list_any}
+use Rattle.std.specs.Prelude.{Vec}
 use Rattle.std.specs.Str.{bytes_eq}
 use Rattle.std.proofs.lemmas.Bool.{or_parts}
+use Rattle.std.proofs.lemmas.List.Folds.{list_any-append}
 use Rattle.lc_rules.specs.Attributes.{AssignmentModel, MacroModel}
 use Rattle.lc_rules.specs.AttrLines.{PatternLineModel}
 use Rattle.lc_rules.specs.AttrStates.{binary}
 use Rattle.lc_rules.specs.Decision.{macro_of, later}
 use Rattle.lc_rules.specs.KnownMacros.{matters}
-use Rattle.lc_rules.specs.LineNames.{assigns_name, lines_name, NameNone}
+use Rattle.lc_rules.specs.LineNames.{assigns_name, lines_name, has_name, HasNames, NameNone}
 use Rattle.lc_rules.proofs.DecisionLaws.{bytes_self, same_bytes}
 use Rattle.lc_rules.proofs.LastMacro.{macro_of-append, macro_of-both}
 
@@ -37,6 +41,20 @@ named_none test (l ∷ ls) h =
     ap (λ b. b || list_any (λ l. list_any (λ a. test a.0) l.assigns) ls)
     (assigns_none test l.assigns (λ n e. (or_parts (assigns_name l.assigns n) (lines_name ls n) (h n e)).0))
     ∙ named_none test ls (λ n e. (or_parts (assigns_name l.assigns n) (lines_name ls n) (h n e)).1)
+
+-- a set of the names of some lines that gains those of one more has the names of all
+pub names_more : (lines : List PatternLineModel) (l : PatternLineModel) (old new : BTreeSet (Vec ℕ Global)) → HasNames lines old
+    → ((name : List ℕ) → has_name old name ≡ true → has_name new name ≡ true)
+    → ((name : List ℕ) → assigns_name l.assigns name ≡ true → has_name new name ≡ true) → HasNames (lines ++ l ∷ []) new
+names_more lines l old new had keeps adds name e =
+    by_cases (lines_name lines name) (assigns_name l.assigns name) refl refl
+    (sym (list_any-append (λ l. assigns_name l.assigns name) lines (l ∷ [])) ∙ e)
+  where
+    by_cases : (a b : Bool) → lines_name lines name ≡ a → assigns_name l.assigns name ≡ b → (a || (b || false)) ≡ true
+        → has_name new name ≡ true
+    by_cases true b p q r = keeps name (had name p)
+    by_cases false true p q r = adds name q
+    by_cases false false p q r = absurd (let s : false ≡ true = r in cc)
 
 -- no macro is named, one macro more
 pub no_macro_more : (lines : List PatternLineModel) (ms : List MacroModel) (m : MacroModel) (n : List ℕ)

@@ -1,13 +1,18 @@
 -- The assignments of lines and files, the last of them first.
-use Rattle.std.proofs.Common.{◌≡◌, ℕ, Bool, true, false, cond, List, [], ◌∷◌, ◌++◌, map, reverse, refl, sym, ◌∙◌, ap, append_assoc}
+use Rattle.std.proofs.Common.{◌≡◌, ◌≤◌, ◌<◌, ℕ, zero, suc, Bool, true, false, cond, List, [], ◌∷◌, ◌++◌, length, take, reverse}
+use Rattle.std.proofs.Common.{Option, Some, None, MatchOption, refl, sym, ◌∙◌, ap, ap₂, arith, subst, append_assoc}
+use Rattle.std.proofs.Math.Seq.{take-suc}
 use Rattle.std.proofs.lemmas.Bool.{or_parts, or_from}
 use Rattle.std.specs.List.{list_any}
-use Rattle.std.proofs.lemmas.List.{append-nil, reverse-append, map-append}
+use Rattle.std.proofs.lemmas.List.{append-nil, reverse-append, get_or-map}
 use Rattle.std.proofs.lemmas.List.Folds.{list_any-append}
 use Rattle.lc_glob.specs.IsMatch.{is_match}
+use Rattle.lc_glob.specs.Patterns.{PatternModel, dead}
+use Rattle.lc_glob.specs.PatternSets.{last_match_below, pattern_at}
 use Rattle.lc_rules.specs.Attributes.{AssignmentModel}
 use Rattle.lc_rules.specs.AttrLines.{PatternLineModel}
 use Rattle.lc_rules.specs.AttrStates.{by_line, by_lines}
+use Rattle.lc_rules.specs.WrittenLines.{line_at, line_of, patterns_in}
 
 by_lines_more : (ls : List PatternLineModel) (l : PatternLineModel) (path : List ℕ) (is_dir : Bool)
     → by_lines (ls ++ (l ∷ [])) path is_dir ≡ by_line l path is_dir ++ by_lines ls path is_dir
@@ -15,24 +20,56 @@ by_lines_more [] l path is_dir = sym (append-nil (by_line l path is_dir))
 by_lines_more (x ∷ xs) l path is_dir = ap (λ t. t ++ by_line x path is_dir) (by_lines_more xs l path is_dir)
     ∙ append_assoc (by_line l path is_dir) (by_lines xs path is_dir) (by_line x path is_dir)
 
--- the last line is read first
-pub lines_last : {A : Type 0} (line : A → PatternLineModel) (whole before : List A) (l : A) (path : List ℕ) (is_dir : Bool)
-    → whole ≡ before ++ (l ∷ [])
-    → by_lines (map line whole) path is_dir ≡ by_line (line l) path is_dir ++ by_lines (map line before) path is_dir
-lines_last line whole before l path is_dir e = ap (λ t. by_lines (map line t) path is_dir) e
-    ∙ ap (λ t. by_lines t path is_dir) (map-append line before (l ∷ [])) ∙ by_lines_more (map line before) (line l) path is_dir
+-- the first lines are read from the last of their patterns that matches
+first_lines : (lines : List PatternLineModel) (path : List ℕ) (is_dir : Bool) (below : ℕ) → below ≤ length lines
+    → MatchOption (last_match_below (patterns_in lines) path is_dir below) (by_lines (take below lines) path is_dir ≡ [])
+    (λ index. by_lines (take below lines) path is_dir ≡ reverse (line_at lines index).assigns ++ by_lines (take index lines) path is_dir)
+first_lines lines path is_dir zero within = refl
+first_lines lines path is_dir (suc index) within =
+    by_last (is_match (pattern_at (patterns_in lines) index) path is_dir) refl (omega (arith, within))
+    (first_lines lines path is_dir index (omega (arith, within)))
+  where
+    one_more : index < length lines → by_lines (take (suc index) lines) path is_dir
+        ≡ cond (is_match (pattern_at (patterns_in lines) index) path is_dir) (reverse (line_at lines index).assigns) []
+        ++ by_lines (take index lines) path is_dir
+    one_more low =
+        ap (λ (ls : List PatternLineModel). by_lines ls path is_dir) (take-suc lines index (line_of None) low)
+        ∙ by_lines_more (take index lines) (line_at lines index) path is_dir
+        ∙ ap (λ (p : PatternModel). cond (is_match p path is_dir) (reverse (line_at lines index).assigns) []
+        ++ by_lines (take index lines) path is_dir)
+        (sym (get_or-map (λ (l : PatternLineModel). l.pattern) lines index (line_of None) dead low))
 
--- so is the last assignment
+    by_last : (b : Bool) → is_match (pattern_at (patterns_in lines) index) path is_dir ≡ b → index < length lines
+        → MatchOption (last_match_below (patterns_in lines) path is_dir index) (by_lines (take index lines) path is_dir ≡ [])
+        (λ i. by_lines (take index lines) path is_dir ≡ reverse (line_at lines i).assigns ++ by_lines (take i lines) path is_dir)
+        → MatchOption (cond b (Some index) (last_match_below (patterns_in lines) path is_dir index))
+        (by_lines (take (suc index) lines) path is_dir ≡ [])
+        (λ i. by_lines (take (suc index) lines) path is_dir ≡ reverse (line_at lines i).assigns ++ by_lines (take i lines) path is_dir)
+    by_last true e low before =
+        one_more low ∙ ap (λ (b : Bool). cond b (reverse (line_at lines index).assigns) [] ++ by_lines (take index lines) path is_dir) e
+    by_last false e low before =
+        subst (λ (todo : List AssignmentModel). MatchOption (last_match_below (patterns_in lines) path is_dir index) (todo ≡ [])
+        (λ i. todo ≡ reverse (line_at lines i).assigns ++ by_lines (take i lines) path is_dir))
+        (sym (one_more low ∙ ap (λ (b : Bool). cond b (reverse (line_at lines index).assigns) []
+        ++ by_lines (take index lines) path is_dir) e))
+        before
+
+-- of lines whose patterns these are, the last that matches is read next, or none is left to be read
+pub next_line : (lines : List PatternLineModel) (patterns : List PatternModel) (path seen : List ℕ) (is_dir : Bool) (below : ℕ)
+    (found : Option ℕ) → below ≤ length lines → patterns ≡ patterns_in lines → seen ≡ path
+    → found ≡ last_match_below patterns seen is_dir below
+    → MatchOption found (by_lines (take below lines) path is_dir ≡ [])
+    (λ index. by_lines (take below lines) path is_dir ≡ reverse (line_at lines index).assigns ++ by_lines (take index lines) path is_dir)
+next_line lines patterns path seen is_dir below found within theirs same is =
+    subst (λ (o : Option ℕ). MatchOption o (by_lines (take below lines) path is_dir ≡ [])
+    (λ index. by_lines (take below lines) path is_dir ≡ reverse (line_at lines index).assigns ++ by_lines (take index lines) path is_dir))
+    (sym (is ∙ ap₂ (λ (ps : List PatternModel) (p : List ℕ). last_match_below ps p is_dir below) theirs same))
+    (first_lines lines path is_dir below within)
+
+-- the last assignment is read first
 pub assignments_last : (whole before : List AssignmentModel) (a : AssignmentModel) → whole ≡ before ++ (a ∷ [])
     → reverse whole ≡ a ∷ reverse before
 assignments_last whole before a e = ap reverse e ∙ reverse-append before (a ∷ [])
-
--- later lines are read before earlier ones
-pub lines_both : (ls ms : List PatternLineModel) (path : List ℕ) (is_dir : Bool)
-    → by_lines (ls ++ ms) path is_dir ≡ by_lines ms path is_dir ++ by_lines ls path is_dir
-lines_both [] ms path is_dir = sym (append-nil (by_lines ms path is_dir))
-lines_both (l ∷ ls) ms path is_dir = ap (λ t. t ++ by_line l path is_dir) (lines_both ls ms path is_dir)
-    ∙ append_assoc (by_lines ms path is_dir) (by_lines ls path is_dir) (by_line l path is_dir)
 
 -- where none of some assignments passes a test, none that is read does
 reverse_none : (test : AssignmentModel → Bool) (assigns : List AssignmentModel) → list_any test assigns ≡ false

@@ -1,42 +1,28 @@
 -- The place of a rule is the number of the older ones.
-use Rattle.std.proofs.Common.{◌≡◌, ◌<◌, Bool, true, false, ◌||◌, List, [], ◌∷◌, ◌++◌, length, get_or, refl, ◌∙◌, ap, arith, append_assoc}
-use Rattle.std.proofs.lemmas.List.{length-append}
-use Rattle.std.proofs.lemmas.List.Folds.{list_any-append}
+use Rattle.std.proofs.Common.{◌≡◌, ◌<◌, List, [], ◌∷◌, ◌++◌, length, get_or, ◌∙◌, ap, arith, append_assoc}
+use Rattle.std.proofs.lemmas.List.{length-append, length-map, get_or-map}
 use Rattle.std.proofs.Math.Seq.{get_or-append_seam}
-use Rattle.std.specs.List.{list_any}
+use Rattle.lc_glob.specs.Patterns.{PatternModel, dead}
+use Rattle.lc_glob.specs.PatternSets.{pattern_at}
+use Rattle.lc_rules.specs.IgnoreRules.{RuleModel, patterns_of}
 
-module _ {A : Type 0} (all left newer older : List A) (x : A) (whole : all ≡ left ++ newer) (last : left ≡ older ++ x ∷ []) where
+module _ (all rest newer older : List RuleModel) (rule : RuleModel) (whole : all ≡ rest ++ newer) (last : rest ≡ older ++ rule ∷ [])
+    (patterns : List PatternModel) (theirs : patterns ≡ patterns_of all) where
+  below_all : length older < length all
+  below_all =
+      omega (arith, ap length whole, length-append rest newer, ap length last, length-append older (rule ∷ []))
+
   -- it is one of the places
-  pub place_below : length older < length all
-  place_below =
-      omega (arith, ap length whole, length-append left newer, ap length last, length-append older (x ∷ []))
+  pub place_below : length older < length patterns
+  place_below = omega (arith, below_all, ap length theirs, length-map all (λ (r : RuleModel). r.pattern))
 
-  -- what is left before it, and the rest
-  pub cut_before : all ≡ older ++ x ∷ newer
-  cut_before = whole ∙ ap (λ (l : List A). l ++ newer) last ∙ append_assoc older (x ∷ []) newer
+  cut_before : all ≡ older ++ rule ∷ newer
+  cut_before = whole ∙ ap (λ (l : List RuleModel). l ++ newer) last ∙ append_assoc older (rule ∷ []) newer
 
-  -- and it stands there
-  pub stands_at : (d : A) → get_or all (length older) d ≡ x
-  stands_at d = ap (λ (l : List A). get_or l (length older) d) cut_before ∙ get_or-append_seam older x newer d
-
--- what holds of none of the newer ones
-pub any_older : {A : Type 0} (p : A → Bool) (left older : List A) (x : A) → left ≡ older ++ x ∷ [] → p x ≡ false
-    → list_any p left ≡ list_any p older
-any_older p left older x last is =
-    ap (list_any p) last ∙ list_any-append p older (x ∷ []) ∙ ap (λ (b : Bool). list_any p older || (b || false)) is
-    ∙ or_false (list_any p older)
-  where
-    or_false : (b : Bool) → (b || false) ≡ b
-    or_false true = refl
-    or_false false = refl
-
--- what holds of the newest
-pub any_newest : {A : Type 0} (p : A → Bool) (left older : List A) (x : A) → left ≡ older ++ x ∷ [] → p x ≡ true
-    → list_any p left ≡ true
-any_newest p left older x last is =
-    ap (list_any p) last ∙ list_any-append p older (x ∷ []) ∙ ap (λ (b : Bool). list_any p older || (b || false)) is
-    ∙ or_true (list_any p older)
-  where
-    or_true : (b : Bool) → (b || true) ≡ true
-    or_true true = refl
-    or_true false = refl
+  -- and the rule's pattern stands there
+  pub pattern_placed : pattern_at patterns (length older) ≡ rule.pattern
+  pattern_placed =
+      ap (λ ps. pattern_at ps (length older)) theirs
+      ∙ get_or-map (λ (r : RuleModel). r.pattern) all (length older) rule dead below_all
+      ∙ ap (λ (l : List RuleModel). (get_or l (length older) rule).pattern) cut_before
+      ∙ ap (λ (r : RuleModel). r.pattern) (get_or-append_seam older rule newer rule)

@@ -9,17 +9,17 @@ abbrev pub with_file : {R A : Type 0} → List (ℕ × R) → ℕ → Option (Ar
 with_file chain depth None = chain
 with_file chain depth (Some file) = chain ++ ((depth, arc_value file) ∷ [])
 
--- the file that a chain's place shares, if it has one
+-- the file that an entry of a chain shares, if it has one
 abbrev pub lent : {R A : Type 0} → Option (Arc R A) → Option R
 lent None = None
 lent (Some file) = Some (arc_value file)
 
--- the file of a place with its depth; a blank place has none
-abbrev pub placed : {R : Type 0} → ℕ × Option R → Option (ℕ × R)
-placed (depth, None) = None
-placed (depth, Some file) = Some (depth, file)
+-- the file of an entry with its depth; a blank entry has none
+abbrev pub entry_file : {R : Type 0} → ℕ × Option R → Option (ℕ × R)
+entry_file (depth, None) = None
+entry_file (depth, Some file) = Some (depth, file)
 
--- the places of a chain, in which no file may have been put
-abbrev pub put_files : {F : Type 0} → Option (SmallVec F) → List F
-put_files None = []
-put_files (Some files) = files.items
+-- the entries of a chain, to which no file may have been added
+abbrev pub entries_in : {F : Type 0} → Option (SmallVec F) → List F
+entries_in None = []
+entries_in (Some files) = files.items

@@ -7,7 +7,8 @@ use Rattle.lc_rules.specs.declared.rule_source.RuleSource.{RuleSource}
 use Rattle.lc_rules.specs.Verdicts.{rule_matches, last_match}
 
 -- a rule that stands among the rules and matches, where no later one matches
-pub record IsLastMatch (rules : List (RuleSource × RuleModel)) (path : List ℕ) (is_dir : Bool) (rule : RuleSource × RuleModel) : Type 0 where
+pub record IsLastMatch (rules : List (RuleSource × RuleModel)) (path : List ℕ) (is_dir : Bool)
+    (rule : RuleSource × RuleModel) : Type 0 where
   pub older : List (RuleSource × RuleModel)
   pub later : List (RuleSource × RuleModel)
   pub stands : rules ≡ older ++ rule ∷ later

@@ -1,5 +1,5 @@
 -- The rules of an ignore file: gitignore(5), PATTERN FORMAT.
-use Rattle.std.specs.Prelude.{ℕ, Bool, true, false, ◌==◌, if◌then◌else◌, List, [], ◌∷◌, Option, Some, None}
+use Rattle.std.specs.Prelude.{ℕ, Bool, true, false, ◌==◌, if◌then◌else◌, List, [], ◌∷◌, map, Option, Some, None}
 use Rattle.std.specs.List.{filter_map, enumerate_from}
 use Rattle.lc_glob.specs.Bytes.{backslash, exclamation_mark}
 use Rattle.lc_glob.specs.Patterns.{PatternModel}
@@ -13,6 +13,10 @@ pub record RuleModel : Type 0 where
   pub line : ℕ
   pub is_negated : Bool
   pub pattern : PatternModel
+
+-- the patterns of rules
+abbrev pub patterns_of : List RuleModel → List PatternModel
+patterns_of rules = map (λ rule. rule.pattern) rules
 
 -- a line without one carriage return at its end
 abbrev pub without_return : List ℕ → List ℕ

@@ -21,4 +21,3 @@ pub mod MacroPlaces
 pub mod LineNames
 pub mod KnownMacros
 pub mod Resolving
-pub mod KeptPatterns

@@ -1,7 +1,7 @@
 -- The lines of an attribute file as they stand in its text.
-use Rattle.std.specs.Prelude.{ℕ, ◌==◌, if◌then◌else◌, List, [], ◌∷◌, ◌++◌, drop, map, Bool, Option, Some, None}
+use Rattle.std.specs.Prelude.{ℕ, ◌==◌, if◌then◌else◌, List, [], ◌∷◌, ◌++◌, drop, map, slice_index_or, Bool, Option, Some, None}
 use Rattle.std.specs.List.{before_first, filter_map, position_or_len}
-use Rattle.lc_glob.specs.Patterns.{dead}
+use Rattle.lc_glob.specs.Patterns.{PatternModel, dead}
 use Rattle.lc_glob.specs.Pieces.{is_byte}
 use Rattle.lc_glob.specs.Reading.{pattern_of}
 use Rattle.lc_rules.specs.Bytes.{line_feed, quotation_mark}
@@ -9,7 +9,6 @@ use Rattle.lc_rules.specs.Attributes.{AssignmentModel}
 use Rattle.lc_rules.specs.AttrWords.{is_white, words, assign}
 use Rattle.lc_rules.specs.AttrQuotes.{unquoted}
 use Rattle.lc_rules.specs.AttrLines.{PatternLineModel}
-use Rattle.lc_rules.specs.declared.line_table.ReadLine.{ReadLine}
 
 -- the assignments among some words; no others stand in a line that gives something
 abbrev pub assigned : List ℕ → List AssignmentModel
@@ -39,17 +38,21 @@ line_from text start = before_first (is_byte line_feed) (drop start text)
 abbrev pub written_line : List ℕ → ℕ → PatternLineModel
 written_line text start = line_of (halves (line_from text start))
 
--- what one says whose pattern was read
-abbrev pub read_line : List ℕ → ReadLine → PatternLineModel
-read_line text line = record { pattern = line.pattern; assigns = (written_line text line.start).assigns }
-
--- the lines of a text: those whose pattern was read, and those after them
+-- the lines of a text
 pub record LineTableModel : Type 0 where
   pub text : List ℕ
   pub lines : List PatternLineModel
 
-abbrev pub lines_in : List ℕ → List ReadLine → List ℕ → List PatternLineModel
-lines_in text read written = map (read_line text) read ++ map (written_line text) written
+-- those that begin at these places, and their patterns
+abbrev pub lines_in : List ℕ → List ℕ → List PatternLineModel
+lines_in text starts = map (written_line text) starts
+
+abbrev pub patterns_in : List PatternLineModel → List PatternModel
+patterns_in lines = map (λ line. line.pattern) lines
+
+-- the line at an index
+abbrev pub line_at : List PatternLineModel → ℕ → PatternLineModel
+line_at lines index = slice_index_or lines index (line_of None)
 
 -- a text without lines, and with one line more
 abbrev pub without_lines : List ℕ → LineTableModel

@@ -77,8 +77,8 @@ fn decide_by_info<'a>(
     decide_by_file(query, file, path, is_dir, resolver)
 }
 
-/// The attribute files that speak of a directory's entries: those of the tree from the top down, each with the depth of
-/// its directory, and that of `.git/info`. A later one overrides those before it, and that of `.git/info` overrides all.
+/// The attribute files for a directory's entries: those of the tree from the top down, each with the depth of its
+/// directory, and that of `.git/info`. A later one overrides those before it, and that of `.git/info` overrides all.
 /// The macros known are `binary`, which is built in, those of the first file, where it was read as top-level, and those of
 /// `.git/info`; a later one overrides one of its name before it.
 #[derive(Drop)]
@@ -139,7 +139,7 @@ impl AttrChain {
         Ok(AttrChain { files, info })
     }
 
-    /// What an attribute is for a path. A name that no assignment decides is unspecified.
+    /// The state of an attribute for a path. A name that no assignment decides is unspecified.
     pub fn state(
         &self,
         alloc: Global,
@@ -160,7 +160,7 @@ impl AttrChain {
         }
     }
 
-    /// What the attribute `text` is for a file.
+    /// The state of the attribute `text` for a file.
     pub fn text(&self, alloc: Global, path: &[u8]) -> Result<TextState, AllocError>
         ensures { IfOk result (λ text. text ≡ as_text (state_of self.now path.now false (codes "text"))) }
     {

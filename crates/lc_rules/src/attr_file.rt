@@ -14,7 +14,7 @@ use lc_glob::cut_at_first;
 use std::alloc::{AllocError, Global};
 use std::marker::Model;
 
-/// An attribute file, as a `.gitattributes`: its macros and its lines with a pattern, each in the order of the file.
+/// An attribute file, such as a `.gitattributes`: its macros and its lines with a pattern, each in the order of the file.
 #[derive(Drop)]
 pub struct AttrFile {
     is_top: bool,
@@ -31,8 +31,8 @@ impl Model for AttrFile {
 }
 
 impl AttrFile {
-    /// Reads the bytes of a file. Any bytes are an attribute file, if there are not over `MAX_RULE_BYTES` of them. Only
-    /// the file of the tree's top directory, which `top` says it is, defines macros.
+    /// Reads the bytes of an attribute file. Any bytes are one, if there are at most `MAX_RULE_BYTES` of them. `top` tells
+    /// whether it is the file of the tree's top directory: no other one defines macros.
     pub fn read(alloc: Global, bytes: &[u8], top: bool) -> Result<AttrFile, RuleFault>
         ensures ok { IfOk result (λ file. file ≡ attribute_file_of top bytes.now) }
         ensures too_long { (result ≡ Err RuleFault.TooLong) ↔ (max_rule_bytes < length bytes.now) }

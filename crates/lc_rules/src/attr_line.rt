@@ -1,4 +1,4 @@
-//! What a line of an attribute file gives.
+//! The macro or the pattern of a line of an attribute file.
 
 ghost use Rattle.std.specs.Prelude.{◌≡◌, IfOk, MatchOption, Some, None};
 ghost use Rattle.lc_rules.specs.AttrLines.{as_macro, by_pattern, is_negated, macro_word, by_words, by_quote, trimmed, given_by};
@@ -14,9 +14,9 @@ use std::alloc::{AllocError, Global};
 /// The bytes of a line's pattern.
 #[derive(Drop)]
 pub(crate) enum PatternText<'a> {
-    /// As they stand in the line.
+    /// The bytes as they are in the line.
     Written(&'a [u8]),
-    /// Without the quotation marks and the escapes that the line has.
+    /// The bytes without the quotation marks and the escapes of the line.
     Unquoted(Vec<u8>),
 }
 
@@ -45,7 +45,7 @@ pub(crate) struct MacroLine<'a> {
     pub(crate) assignments: &'a [u8],
 }
 
-/// What a line gives.
+/// A line of an attribute file that has a meaning.
 #[derive(Drop)]
 pub(crate) enum AttrLine<'a> {
     Macro(MacroLine<'a>),
@@ -115,7 +115,7 @@ fn read_quoted<'a>(alloc: Global, bytes: &'a [u8]) -> Result<Option<AttrLine<'a>
     Ok(read_pattern_line(PatternText::Unquoted(pattern), rest))
 }
 
-/// What a line without white space at its start gives, if anything. A macro line gives something in a top-level file alone.
+/// Reads a line without white space at its start. A line that defines a macro has a meaning in a top-level file alone.
 pub(crate) fn read_line<'a>(
     alloc: Global,
     is_top: bool,

@@ -55,23 +55,23 @@ pub(crate) fn unquoted<'a>(
     ensures { IfOk result (λ r. MatchOption r (unquoted 0 bytes.now ≡ None) (λ p. unquoted 0 bytes.now ≡ Some (p.0.items, p.1.now))) }
 {
     let mut text = Vec::new(alloc);
-    let mut left = bytes;
+    let mut rest = bytes;
     'bytes: loop {
-        let Some((b, rest)) = left.split_first() else {
+        let Some((b, others)) = rest.split_first() else {
             return Ok(None);
         };
         match b {
-            b'"' => return Ok(Some((text, rest))),
+            b'"' => return Ok(Some((text, others))),
             b'\\' => {
-                let Some((byte, taken)) = escape(rest) else {
+                let Some((byte, taken)) = escape(others) else {
                     return Ok(None);
                 };
                 text.push(byte)?;
-                left = &rest[taken..];
+                rest = &others[taken..];
             }
             _ => {
                 text.push(*b)?;
-                left = rest;
+                rest = others;
             }
         }
     }

@@ -26,14 +26,14 @@ pub(crate) fn trimmed<'a>(line: &'a [u8]) -> &'a [u8]
     ensures shorter { length result.now ≤ length line.now }
     ensures end { IsEndOf result.now line.now }
 {
-    let mut left = line;
-    'bytes: while let Some((b, rest)) = left.split_first() {
+    let mut rest = line;
+    'bytes: while let Some((b, others)) = rest.split_first() {
         if !is_white(*b) {
-            return left;
+            return rest;
         }
-        left = rest;
+        rest = others;
     }
-    left
+    rest
 }
 
 /// The place of the first white byte, or the length.
@@ -132,12 +132,12 @@ pub(crate) fn read_assignment<'a>(word: &'a [u8]) -> Option<Assignment<'a>>
 pub(crate) fn are_assignments(bytes: &[u8]) -> bool
     ensures { assigns (words bytes.now) ≡ all_assigned result bytes.now }
 {
-    let mut left = bytes;
-    'words: while let Some((word, rest)) = split_word(left) {
+    let mut rest = bytes;
+    'words: while let Some((word, others)) = split_word(rest) {
         let Some(_) = read_assignment(word) else {
             return false;
         };
-        left = rest;
+        rest = others;
     }
     true
 }
@@ -147,12 +147,12 @@ pub(crate) fn split_assignment<'a>(bytes: &'a [u8]) -> Option<(Assignment<'a>, &
     ensures cases { MatchOption result (assigned bytes.now ≡ []) (λ p. assigned bytes.now ≡ assignment_model p.0 ∷ assigned p.1.now) }
     ensures smaller { IfSome result (λ p. length p.1.now < length bytes.now) }
 {
-    let mut left = bytes;
-    'words: while let Some((word, rest)) = split_word(left) {
+    let mut rest = bytes;
+    'words: while let Some((word, others)) = split_word(rest) {
         if let Some(assignment) = read_assignment(word) {
-            return Some((assignment, rest));
+            return Some((assignment, others));
         }
-        left = rest;
+        rest = others;
     }
     None
 }

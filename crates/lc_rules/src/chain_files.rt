@@ -2,30 +2,30 @@
 
 ghost use Rattle.std.specs.Prelude.{◌≡◌, ◌∷◌, [], IfOk, MatchOption};
 ghost use Rattle.std.specs.List.{filter_map};
-ghost use Rattle.lc_rules.specs.Chains.{with_file, lent, placed};
+ghost use Rattle.lc_rules.specs.Chains.{with_file, lent, entry_file};
 
 use smallvec::SmallVec;
 use std::alloc::{AllocError, Global};
 use std::marker::Model;
 use std::sync::Arc;
 
-/// A file at the depth of its directory. The blank places, of which a `SmallVec` makes its room, have no file.
+/// A file and the depth of its directory. A `SmallVec` fills its unused room with entries without a file.
 #[derive(Drop)]
-struct Place<F> {
+struct ChainEntry<F> {
     depth: u32,
     file: Option<Arc<F, Global>>,
 }
 
-impl<F> Default for Place<F> {
-    fn default() -> Place<F> {
-        Place {
+impl<F> Default for ChainEntry<F> {
+    fn default() -> ChainEntry<F> {
+        ChainEntry {
             depth: 0,
             file: None,
         }
     }
 }
 
-impl<F> Model for Place<F> {
+impl<F> Model for ChainEntry<F> {
     ghost use Rattle.std.specs.Prelude.{ℕ, Option};
     ghost use Rattle.lc_rules.specs.Chains.{lent};
 
@@ -34,19 +34,19 @@ impl<F> Model for Place<F> {
     ghost view = { λ p. (p.depth, lent p.file) };
 }
 
-impl<F: Drop> Place<F> {
-    fn share(&self) -> Result<Place<F>, AllocError>
-        ensures { IfOk result (λ place. place ≡ self.now) }
+impl<F: Drop> ChainEntry<F> {
+    fn share(&self) -> Result<ChainEntry<F>, AllocError>
+        ensures { IfOk result (λ entry. entry ≡ self.now) }
     {
         let file = share(&self.file)?;
-        Ok(Place {
+        Ok(ChainEntry {
             depth: self.depth,
             file,
         })
     }
 }
 
-/// One more owner of a file that may be there.
+/// Adds an owner to a file that may be there.
 pub(crate) fn share<F: Drop>(
     file: &Option<Arc<F, Global>>,
 ) -> Result<Option<Arc<F, Global>>, AllocError>
@@ -61,28 +61,28 @@ pub(crate) fn share<F: Drop>(
 /// Files from the top down, each with the depth of its directory. Chains share them.
 #[derive(Drop)]
 pub(crate) struct ChainFiles<F> {
-    /// None where no file was put, so that the top takes no allocator.
-    places: Option<SmallVec<Place<F>, 8>>,
+    /// It is `None` where no file was added, so that the empty chain needs no allocator.
+    entries: Option<SmallVec<ChainEntry<F>, 8>>,
 }
 
 impl<F> Model for ChainFiles<F> {
     ghost use Rattle.std.specs.Prelude.{ℕ, List};
     ghost use Rattle.std.specs.List.{filter_map};
-    ghost use Rattle.lc_rules.specs.Chains.{put_files, placed};
+    ghost use Rattle.lc_rules.specs.Chains.{entries_in, entry_file};
 
     ghost Value = { List (ℕ × F) };
 
-    ghost view = { λ c. filter_map placed (put_files c.places) };
+    ghost view = { λ c. filter_map entry_file (entries_in c.entries) };
 }
 
 impl<F: Drop> ChainFiles<F> {
     pub(crate) fn new() -> ChainFiles<F>
         ensures { result ≡ [] }
     {
-        ChainFiles { places: None }
+        ChainFiles { entries: None }
     }
 
-    /// The same files and one more below them, or the same files.
+    /// A copy of the chain, with one more file below the others if there is one.
     pub(crate) fn with(
         &self,
         alloc: Global,
@@ -91,16 +91,16 @@ impl<F: Drop> ChainFiles<F> {
     ) -> Result<ChainFiles<F>, AllocError>
         ensures { IfOk result (λ files. files ≡ with_file self.now depth file) }
     {
-        let mut places = share_places(alloc, self.as_slice())?;
+        let mut entries = share_entries(alloc, self.as_slice())?;
         let Some(file) = file else {
             return Ok(ChainFiles {
-                places: Some(places),
+                entries: Some(entries),
             });
         };
         let file = Some(file);
-        places.push(Place { depth, file })?;
+        entries.push(ChainEntry { depth, file })?;
         Ok(ChainFiles {
-            places: Some(places),
+            entries: Some(entries),
         })
     }
 
@@ -109,47 +109,47 @@ impl<F: Drop> ChainFiles<F> {
         ensures { result ≡ self.now }
     {
         FilesLeft {
-            places: self.as_slice(),
+            entries: self.as_slice(),
         }
     }
 
-    fn as_slice(&self) -> &[Place<F>]
-        ensures { filter_map placed result.now ≡ self.now }
+    fn as_slice(&self) -> &[ChainEntry<F>]
+        ensures { filter_map entry_file result.now ≡ self.now }
     {
-        match &self.places {
+        match &self.entries {
             None => &[],
-            Some(places) => places.as_slice(),
+            Some(entries) => entries.as_slice(),
         }
     }
 }
 
-fn share_places<F: Drop>(
+fn share_entries<F: Drop>(
     alloc: Global,
-    places: &[Place<F>],
-) -> Result<SmallVec<Place<F>, 8>, AllocError>
-    ensures { IfOk result (λ shared. shared.items ≡ places.now) }
+    entries: &[ChainEntry<F>],
+) -> Result<SmallVec<ChainEntry<F>, 8>, AllocError>
+    ensures { IfOk result (λ shared. shared.items ≡ entries.now) }
 {
     let mut shared = SmallVec::new(alloc);
-    for place in places {
-        shared.push(place.share()?)?;
+    for entry in entries {
+        shared.push(entry.share()?)?;
     }
     Ok(shared)
 }
 
-/// The files that are left.
+/// The files of a chain from one of them on.
 #[derive(Drop)]
 pub(crate) struct FilesLeft<'a, F> {
-    places: &'a [Place<F>],
+    entries: &'a [ChainEntry<F>],
 }
 
 impl<'a, F> Model for FilesLeft<'a, F> {
     ghost use Rattle.std.specs.Prelude.{ℕ, List};
     ghost use Rattle.std.specs.List.{filter_map};
-    ghost use Rattle.lc_rules.specs.Chains.{placed};
+    ghost use Rattle.lc_rules.specs.Chains.{entry_file};
 
     ghost Value = { List (ℕ × F) };
 
-    ghost view = { λ l. filter_map placed l.places.now };
+    ghost view = { λ l. filter_map entry_file l.entries.now };
 }
 
 impl<'a, F> FilesLeft<'a, F> {
@@ -157,12 +157,12 @@ impl<'a, F> FilesLeft<'a, F> {
     pub(crate) fn split_first(self) -> Option<(u32, &'a F, FilesLeft<'a, F>)>
         ensures { MatchOption result (self.entry ≡ []) (λ r. self.entry ≡ (r.0, r.1.now) ∷ r.2) }
     {
-        let mut left = self.places;
-        'places: while let Some((place, others)) = left.split_first() {
-            if let Some(file) = &place.file {
-                return Some((place.depth, file, FilesLeft { places: others }));
+        let mut rest = self.entries;
+        'entries: while let Some((entry, others)) = rest.split_first() {
+            if let Some(file) = &entry.file {
+                return Some((entry.depth, file, FilesLeft { entries: others }));
             }
-            left = others;
+            rest = others;
         }
         None
     }

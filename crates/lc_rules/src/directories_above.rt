@@ -1,4 +1,4 @@
-//! What an ignore file alone says of all directories above a path, told by one pass over its rules.
+//! The rules that decide all directories above a path, found in one pass over the rules of one ignore file.
 
 ghost use Rattle.std.specs.Prelude.{◌≡◌, ◌<◌, ◌≤◌, ◌-◌, ◌&&◌, ◌||◌, ℕ, true, false, not, IsTrue, Option, None, Some};
 ghost use Rattle.std.specs.Prelude.{IfSome, cond, length, take, option_map, slice_index_or};
@@ -13,14 +13,14 @@ ghost use Rattle.lc_rules.specs.declared.rule_source.RuleSource.TheVariants.{Git
 
 use crate::ignore_file::IgnoreFile;
 use crate::ignore_line::Rule;
+use lc_glob::cut_at_first;
 use lc_glob::path::MAX_DEPTH;
-use lc_glob::{PatternRef, cut_at_first};
 use std::marker::Model;
 
-/// A path and the directories above it, of which a file was asked at once.
+/// A path and the directories above it, with the rules of one ignore file that decide them.
 ///
-/// Each rule is compared with all of them in one pass, from the newest on, until it is told which is the highest that is
-/// ignored. Those below that one, and below the first `MAX_DEPTH`, are asked about one by one.
+/// Each rule is matched with all of them in one pass, from the newest on, until the highest directory that is ignored is
+/// known. Directories below that one, and below the first `MAX_DEPTH`, are matched one by one when they are needed.
 ///
 /// ```
 /// let file = IgnoreFile::read(alloc, b"**/b/\n!/a\n")?;
@@ -34,13 +34,13 @@ pub struct DirectoriesAbove<'a> {
     is_dir: bool,
     /// Where in the path each directory ends, the highest first.
     ends: [usize; MAX_DEPTH],
-    /// The rule that was found of each.
+    /// The rule that was found for each.
     found: [Option<&'a Rule>; MAX_DEPTH],
-    /// Of how many it is known.
+    /// For how many directories the rule is known.
     count: usize,
-    /// Whether the path was asked with them.
+    /// Whether the path was matched together with them.
     is_whole: bool,
-    /// The rule that was found of the path, where it is known.
+    /// The rule that was found for the path, where it is known.
     own: Option<Option<&'a Rule>>,
     ghost within: { count ≤ 256 },
     ghost decided: { (k : ℕ) → k < count → option_map (λ r. (Gitignore 0, r.now)) (slice_index_or found k None)
@@ -58,6 +58,7 @@ impl<'a> Model for DirectoriesAbove<'a> {
 }
 
 impl<'a> DirectoriesAbove<'a> {
+    /// Matches the rules of a file with a path and all directories above it. `is_dir` tells whether the path is a directory.
     pub fn of(file: &'a IgnoreFile, path: &'a [u8], is_dir: bool) -> Self
         ensures rules { result.rules ≡ file.now }
         ensures path { result.path ≡ path.now }
@@ -82,7 +83,8 @@ impl<'a> DirectoriesAbove<'a> {
         }
     }
 
-    /// The rule by which the file alone decides the directory of so many bytes of the path, above which stand `place` others.
+    /// The last rule of the file that matches the directory whose path is the first `len` bytes. `place` is the number of
+    /// directories above it.
     pub fn last_match(&self, place: usize, len: usize) -> Option<&'a Rule>
         requires { len ≤ length self.now.path }
         ensures { option_map (λ r. (Gitignore 0, r.now)) result ≡ last_match (at_depth 0 self.now.rules) (take len self.now.path) true }
@@ -94,7 +96,7 @@ impl<'a> DirectoriesAbove<'a> {
         self.file.last_match(&self.path[..len], true)
     }
 
-    /// The rule by which the file alone decides the path itself.
+    /// The last rule of the file that matches the path itself.
     pub fn last_match_of_path(&self) -> Option<&'a Rule>
         ensures { option_map (λ r. (Gitignore 0, r.now)) result ≡ last_match (at_depth 0 self.now.rules) self.now.path self.now.is_dir }
     {
@@ -107,8 +109,8 @@ impl<'a> DirectoriesAbove<'a> {
     }
 }
 
-/// Cuts the names of a path, as many as there is room for, and tells where the directories above the last of them end. It answers
-/// how many there are, and whether they are all.
+/// Splits a path into its names, as many as there is room for, and finds where the directories above the last of them end. It
+/// returns the number of names, and whether they are all.
 fn cut_names<'p>(path: &'p [u8], names: &mut [&'p [u8]], ends: &mut [usize]) -> (usize, bool)
     requires same { length ends.old ≡ length names.old }
     requires room { 0 < length names.old }
@@ -120,23 +122,23 @@ fn cut_names<'p>(path: &'p [u8], names: &mut [&'p [u8]], ends: &mut [usize]) -> 
     ensures all { IsTrue result.1 → segments_of path.now ≡ names_of (take result.0 names.new) }
 {
     let mut count = 0;
-    let mut left = path;
+    let mut rest = path;
     'names: while count < names.len() {
-        let (name, others) = cut_at_first(b'/', left);
+        let (name, others) = cut_at_first(b'/', rest);
         names[count] = name;
-        let Some(rest) = others else {
+        let Some(next) = others else {
             return (count + 1, true);
         };
-        ends[count] = path.len() - rest.len() - 1;
+        ends[count] = path.len() - next.len() - 1;
         count += 1;
-        left = rest;
+        rest = next;
     }
     (count, false)
 }
 
 /// Finds the rules that decide the directories above the last of these names, and the last itself, from the newest rule to the
-/// oldest, until they tell which directory is the highest that is ignored. It answers of how many directories, the highest first,
-/// they are found, and where all rules were asked, what was found of the last.
+/// oldest, until the highest directory that is ignored is known. It returns for how many directories, the highest first, they were
+/// found, and if all rules were tried, what was found for the last name.
 fn decide<'a>(
     file: &'a IgnoreFile,
     names: &[&[u8]],
@@ -153,45 +155,47 @@ fn decide<'a>(
     ensures decided { AreDecided file.now (names_of names.now) result.0 found.new }
     ensures own { IfSome result.1 (λ o. IsOwn file.now (names_of names.now) is_dir o) }
 {
+    let patterns = file.patterns();
     let above = names.len() - 1;
     let mut own = None;
-    let mut left = file.rules();
-    'rules: while let Some((rule, older)) = left.split_last() {
-        let pattern = file.pattern(older.len());
-        pattern.match_directories(names, flags);
-        settle(rule, &flags[..above], found);
-        let is_own = is_told(&pattern, flags[above], is_dir);
-        own = settle_own(rule, is_own, own);
+    let mut rest = file.rules();
+    'rules: while let Some((rule, older)) = rest.split_last() {
+        let index = older.len();
+        patterns.match_directories(index, names, flags);
+        fill_undecided(rule, &flags[..above], found);
+        let is_own = is_matched(flags[above], is_dir, patterns.is_dir_only(index));
+        own = newest_match(own, rule, is_own);
         if let Some(count) = told_count(&found[..above]) {
             return (count, None);
         }
-        left = older;
+        rest = older;
     }
     (above, Some(own))
 }
 
-/// Whether a pattern matches a path, where it is told of the directory of that path.
-fn is_told(pattern: &PatternRef, is_matched: bool, is_dir: bool) -> bool
-    ensures { result ≡ (is_matched && (not pattern.now.is_dir_only || is_dir)) }
+/// Whether a pattern matches a path, by whether it matches a directory of that path.
+fn is_matched(is_directory_matched: bool, is_dir: bool, is_dir_only: bool) -> bool
+    ensures { result ≡ (is_directory_matched && (not is_dir_only || is_dir)) }
 {
-    is_matched && (!pattern.is_dir_only() || is_dir)
+    is_directory_matched && (!is_dir_only || is_dir)
 }
 
-/// Lets a rule that matches a path decide it, where no newer one does.
-fn settle_own<'a>(rule: &'a Rule, is_matched: bool, own: Option<&'a Rule>) -> Option<&'a Rule>
-    ensures { option_map (λ r. r.now) result ≡ option_or (option_map (λ r. r.now) own.entry) (cond is_matched (Some rule.now) None) }
+/// The rule that was found of a path, or where none was, an older rule that matches it.
+fn newest_match<'a>(found: Option<&'a Rule>, rule: &'a Rule, is_matched: bool) -> Option<&'a Rule>
+    ensures { option_map (λ r. r.now) result
+        ≡ option_or (option_map (λ r. r.now) found.entry) (cond is_matched (Some rule.now) None) }
 {
-    if own.is_some() || !is_matched {
-        return own;
+    if found.is_some() || !is_matched {
+        return found;
     }
     Some(rule)
 }
 
-/// Lets a rule decide the directories that it matches, where no newer one does.
-fn settle<'a>(rule: &'a Rule, flags: &[bool], found: &mut [Option<&'a Rule>])
+/// Fills in a rule for the directories that it matches, where no newer rule was found.
+fn fill_undecided<'a>(rule: &'a Rule, flags: &[bool], found: &mut [Option<&'a Rule>])
     requires { length flags.now ≤ length found.old }
     ensures len { length found.new ≡ length found.old }
-    ensures settled { (k : ℕ) → k < length flags.now → option_map (λ r. r.now) (slice_index_or found.new k None)
+    ensures filled { (k : ℕ) → k < length flags.now → option_map (λ r. r.now) (slice_index_or found.new k None)
         ≡ option_or (option_map (λ r. r.now) (slice_index_or found.old k None))
         (cond (slice_index_or flags.now k false) (Some rule.now) None) }
 {

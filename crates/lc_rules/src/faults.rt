@@ -11,7 +11,7 @@ use std::fmt;
 /// The most bytes of an ignore file or an attribute file.
 pub const MAX_RULE_BYTES: usize = 1_048_576;
 
-/// Whether a file has over `MAX_RULE_BYTES` bytes.
+/// Whether a file has more than `MAX_RULE_BYTES` bytes.
 pub(crate) fn is_too_long(bytes: &[u8]) -> bool
     ensures { IsTrue result ↔ (max_rule_bytes < length bytes.now) }
 {
@@ -21,7 +21,7 @@ pub(crate) fn is_too_long(bytes: &[u8]) -> bool
 /// Why an ignore file or an attribute file was not read.
 #[derive(Clone, Copy, Debug)]
 pub enum RuleFault {
-    /// It has over `MAX_RULE_BYTES` bytes. Its length is tested before memory is taken.
+    /// The file has more than `MAX_RULE_BYTES` bytes. Its length is tested before anything is allocated.
     TooLong,
     Memory,
 }

@@ -17,8 +17,8 @@ use std::alloc::{AllocError, Global};
 use std::marker::Model;
 use std::sync::Arc;
 
-/// The ignore files that speak of a directory's entries: the exclude file of the whole tree, that of `.git/info`, and those of
-/// the tree from the top down, each with the depth of its directory. Each overrides those before it.
+/// The ignore files for a directory's entries: the exclude file of the whole tree, that of `.git/info`, and those of the tree
+/// from the top down, each with the depth of its directory. Each overrides those before it.
 #[derive(Drop)]
 pub struct Chain {
     exclude: Option<Arc<IgnoreFile, Global>>,
@@ -94,7 +94,7 @@ impl Chain {
         })
     }
 
-    /// What the last rule that matches a path says of it. Each file of the tree sees the path without its first segments, as
+    /// The verdict of the last rule that matches a path. Each file of the tree sees the path without its first segments, as
     /// many as the file's depth.
     pub fn verdict(&self, path: &[u8], is_dir: bool) -> Verdict
         ensures { result ≡ verdict_of (rules_in self.now) path.now is_dir }
@@ -105,7 +105,7 @@ impl Chain {
         }
     }
 
-    /// The rule that decides a path, and where its file stands.
+    /// The last rule that matches a path, and the file that it was read from.
     pub fn last_match(&self, path: &[u8], is_dir: bool) -> Option<(RuleSource, &Rule)>
         ensures { option_map (λ r. (r.0, r.1.now)) result ≡ last_match (rules_in self.now) path.now is_dir }
     {
@@ -121,7 +121,7 @@ impl Chain {
     }
 }
 
-/// Asks a file at the top, if it is there.
+/// Matches the rules of a file at the top, if it is there.
 fn last_match_in_file<'a>(
     file: &'a Option<Arc<IgnoreFile, Global>>,
     path: &[u8],
@@ -136,7 +136,7 @@ fn last_match_in_file<'a>(
     }
 }
 
-/// Asks the files of the tree, the nearest to the path first.
+/// Matches the rules of the files of the tree, the nearest to the path first.
 fn last_match_in_files<'a>(
     files: FilesLeft<'a, IgnoreFile>,
     path: PathBelow,

@@ -1,43 +1,43 @@
 //! Ignore files.
 
-ghost use Rattle.std.specs.Prelude.{◌≡◌, ◌↔◌, ◌<◌, ◌≤◌, [], length, map, option_map, slice_index_or, IfOk, IsTrue};
+ghost use Rattle.std.specs.Prelude.{◌≡◌, ◌↔◌, ◌<◌, ◌≤◌, [], length, option_map, IfOk, IsTrue};
 ghost use Rattle.std.specs.List.{list_any};
-ghost use Rattle.lc_glob.specs.Above.{searches};
-ghost use Rattle.lc_rules.specs.IgnoreRules.{RuleModel, rules_of};
+ghost use Rattle.lc_glob.specs.Above.{has_nested_wildcards};
+ghost use Rattle.lc_rules.specs.IgnoreRules.{patterns_of, rules_of};
 ghost use Rattle.lc_rules.specs.Verdicts.{at_depth, last_match, verdict_of};
 ghost use Rattle.lc_rules.specs.Limits.{max_rule_bytes};
 ghost use Rattle.lc_rules.specs.declared.rule_source.RuleSource.TheVariants.{Gitignore};
 
 use crate::faults::{RuleFault, is_too_long};
 use crate::ignore_line::{Rule, read_rule};
-use crate::kept_patterns::KeptPatterns;
 use crate::lines::Lines;
 use crate::verdicts::Verdict;
-use lc_glob::{Candidate, PatternRef};
+use lc_glob::{Candidate, PatternSet};
 use std::alloc::{AllocError, Global};
 use std::marker::Model;
 
-/// An ignore file, as a `.gitignore`: its rules in the order of its lines, each with its pattern. A rule takes 20 bytes, and most
-/// patterns take no more than their own ones.
+/// An ignore file, such as a `.gitignore`: its rules in the order of its lines, each with its pattern.
+///
+/// A rule takes 20 bytes, and most patterns take no more than their own bytes.
 #[derive(Drop)]
 pub struct IgnoreFile {
     rules: Vec<Rule>,
-    patterns: KeptPatterns,
+    patterns: PatternSet,
 }
 
 impl Model for IgnoreFile {
-    ghost use Rattle.std.specs.Prelude.{◌≡◌, List, map};
-    ghost use Rattle.lc_rules.specs.IgnoreRules.{RuleModel};
+    ghost use Rattle.std.specs.Prelude.{◌≡◌, List};
+    ghost use Rattle.lc_rules.specs.IgnoreRules.{patterns_of, RuleModel};
 
     ghost Value = { List RuleModel };
 
     ghost view = { λ f. f.rules.items };
 
-    ghost invariant = { λ f. f.patterns ≡ map (λ rule. rule.pattern) f.rules.items };
+    ghost invariant = { λ f. f.patterns ≡ patterns_of f.rules.items };
 }
 
 impl IgnoreFile {
-    /// Reads the bytes of a file. Any bytes are an ignore file, if there are not over `MAX_RULE_BYTES` of them.
+    /// Reads the bytes of an ignore file. Any bytes are one, if there are at most `MAX_RULE_BYTES` of them.
     pub fn read(alloc: Global, bytes: &[u8]) -> Result<IgnoreFile, RuleFault>
         ensures ok { IfOk result (λ file. file ≡ rules_of bytes.now) }
         ensures too_long { (result ≡ Err RuleFault.TooLong) ↔ (max_rule_bytes < length bytes.now) }
@@ -62,35 +62,29 @@ impl IgnoreFile {
         self.rules.len()
     }
 
+    /// Whether the file has no rule.
     pub fn is_empty(&self) -> bool
         ensures { IsTrue result ↔ (self.now ≡ []) }
     {
         self.rules.is_empty()
     }
 
-    /// Whether some pattern of it searches, so that the directories above one path had better be asked about at once.
-    pub fn searches(&self) -> bool
-        ensures { result ≡ list_any (λ rule. searches rule.pattern) self.now }
+    /// The patterns of the rules, in the same order.
+    pub(crate) fn patterns(&self) -> &PatternSet
+        ensures { result.now ≡ patterns_of self.now }
     {
-        let mut left = self.rules();
-        'rules: while let Some((_rule, older)) = left.split_last() {
-            if self.pattern(older.len()).searches() {
-                return true;
-            }
-            left = older;
-        }
-        false
+        &self.patterns
     }
 
-    /// The pattern of the rule at a place.
-    pub(crate) fn pattern<'f>(&'f self, index: usize) -> PatternRef<'f>
-        requires { index < length self.now }
-        ensures { (rule : RuleModel) → result ≡ (slice_index_or self.now index rule).pattern }
+    /// Whether matching one directory after another repeats work, by the pattern of some rule, as
+    /// `lc_glob::Pattern::has_nested_wildcards` says. `DirectoriesAbove` then costs less for all directories above a path.
+    pub fn has_nested_wildcards(&self) -> bool
+        ensures { result ≡ list_any has_nested_wildcards (patterns_of self.now) }
     {
-        self.patterns.pattern(index)
+        self.patterns.has_nested_wildcards()
     }
 
-    /// What the file alone says of a path below its directory.
+    /// The verdict of the file alone on a path below its directory.
     pub fn verdict(&self, path: &[u8], is_dir: bool) -> Verdict
         ensures { result ≡ verdict_of (at_depth 0 self.now) path.now is_dir }
     {
@@ -100,7 +94,7 @@ impl IgnoreFile {
         }
     }
 
-    /// The rule by which the file alone decides a path below its directory.
+    /// The last rule of the file that matches a path below its directory.
     ///
     /// ```
     /// let file = IgnoreFile::read(alloc, b"*.log\n\n!keep.log\n")?;
@@ -109,42 +103,30 @@ impl IgnoreFile {
     pub fn last_match(&self, path: &[u8], is_dir: bool) -> Option<&Rule>
         ensures { option_map (λ r. (Gitignore 0, r.now)) result ≡ last_match (at_depth 0 self.now) path.now is_dir }
     {
-        let path = Candidate::for_patterns(path, self.rules.len());
-        self.last_match_for(&path, is_dir)
-    }
-
-    /// The last rule that matches a path, looked for from the newest to the oldest.
-    fn last_match_for<'f>(&'f self, path: &Candidate, is_dir: bool) -> Option<&'f Rule>
-        ensures { option_map (λ r. (Gitignore 0, r.now)) result ≡ last_match (at_depth 0 self.now) path.now is_dir }
-    {
-        let mut left = self.rules();
-        'rules: while let Some((rule, older)) = left.split_last() {
-            if self.pattern(older.len()).matches_candidate(path, is_dir) {
-                return Some(rule);
-            }
-            left = older;
-        }
-        None
+        let count = self.patterns.len();
+        let candidate = Candidate::for_patterns(path, count);
+        let index = self.patterns.last_match(&candidate, is_dir, count)?;
+        Some(&self.rules[index])
     }
 }
 
-/// The rules of the lines, and their patterns.
-fn read_rules(alloc: Global, bytes: &[u8]) -> Result<(Vec<Rule>, KeptPatterns), AllocError>
+/// Reads the rules of a file's lines, and their patterns.
+fn read_rules(alloc: Global, bytes: &[u8]) -> Result<(Vec<Rule>, PatternSet), AllocError>
     requires { length bytes.now ≤ max_rule_bytes }
     ensures rules { IfOk result (λ r. r.0.items ≡ rules_of bytes.now) }
-    ensures patterns { IfOk result (λ r. r.1 ≡ map (λ rule. rule.pattern) r.0.items) }
+    ensures patterns { IfOk result (λ r. r.1 ≡ patterns_of r.0.items) }
 {
     let mut rules = Vec::new(alloc);
-    let mut patterns = KeptPatterns::new(alloc);
+    let mut patterns = PatternSet::new(alloc);
     let mut number = 1;
-    let mut left = Lines::of(bytes);
-    'lines: while let Some((line, others)) = left.split_first() {
+    let mut rest = Lines::of(bytes);
+    'lines: while let Some((line, others)) = rest.split_first() {
         if let Some((rule, pattern)) = read_rule(alloc, number, line)? {
             rules.push(rule)?;
             patterns.push(&pattern)?;
         }
         number += 1;
-        left = others;
+        rest = others;
     }
     rules.shrink_to_fit();
     patterns.shrink_to_fit();

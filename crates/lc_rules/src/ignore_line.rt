@@ -1,4 +1,4 @@
-//! How a line of an ignore file gives a rule.
+//! The rule of a line of an ignore file.
 
 ghost use Rattle.std.specs.Prelude.{◌≡◌, not, IfOk, IfSome, option_map};
 ghost use Rattle.lc_rules.specs.IgnoreRules.{without_return, without_spaces, text_of_line, rule_of_line};
@@ -15,7 +15,7 @@ use std::snapshot::Snapshot;
 pub struct Rule {
     line: u32,
     is_negated: bool,
-    /// What contracts see of it.
+    /// The pattern, for contracts alone. The code keeps it in the set of the file's patterns.
     pattern: Snapshot<Pattern>,
 }
 
@@ -37,7 +37,7 @@ impl Rule {
         self.line
     }
 
-    /// What this rule says where its pattern matches.
+    /// The verdict of this rule on a path that its pattern matches.
     pub fn verdict(&self) -> Verdict
         ensures { result ≡ verdict_by self.now }
     {
@@ -48,7 +48,7 @@ impl Rule {
         }
     }
 
-    /// Whether it ignores what its pattern matches.
+    /// Whether the rule ignores the paths that its pattern matches.
     pub(crate) fn ignores(&self) -> bool
         ensures { result ≡ not self.now.is_negated }
     {
@@ -86,8 +86,8 @@ fn without_spaces<'a>(line: &'a [u8]) -> &'a [u8]
     &line[..kept]
 }
 
-/// What of a line of an ignore file is read as a rule: the line without one carriage return at its end, and then without the
-/// spaces at its end that no backslash quotes.
+/// The part of a line of an ignore file that is read as a rule: the line without one carriage return at its end, and then
+/// without the spaces at its end that no backslash quotes.
 ///
 /// ```
 /// assert!(rt; text_of_line(b"!*.log  \r") == b"!*.log".as_slice());
@@ -98,7 +98,7 @@ pub fn text_of_line<'a>(line: &'a [u8]) -> &'a [u8]
     without_spaces(without_return(line))
 }
 
-/// The rule of a line with this number and its pattern, or none of an empty line or a comment.
+/// Reads a line with this number as a rule and its pattern. An empty line and a comment have none.
 pub(crate) fn read_rule(
     alloc: Global,
     number: u32,

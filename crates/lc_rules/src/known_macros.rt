@@ -13,7 +13,7 @@ use crate::macro_table::{Macro, MacroTable};
 use crate::states::State;
 use std::alloc::AllocError;
 
-/// What a macro stands for.
+/// The assignments that a macro stands for.
 #[derive(Clone, Copy)]
 pub(crate) enum MacroBody<'a> {
     /// The words of its assignments.
@@ -29,7 +29,7 @@ pub(crate) struct KnownMacros<'a> {
 }
 
 impl<'a> KnownMacros<'a> {
-    /// What the macro of this name stands for.
+    /// The assignments that the macro of this name stands for.
     pub(crate) fn find(self, name: &[u8]) -> Option<MacroBody<'a>>
         ensures { MatchOption result (macro_of (known_macros self.entry) name.now ≡ None)
             (λ body. macro_of (known_macros self.entry) name.now ≡ Some (macro_body_model body)) }
@@ -68,7 +68,7 @@ pub(crate) fn macros_in<'a>(table: Option<&'a MacroTable>) -> &'a [Macro]
 }
 
 impl<'a> MacroBody<'a> {
-    /// Puts the assignments on a stack, the last on top.
+    /// Pushes the assignments on a stack, the last on top.
     pub(crate) fn stack(self, words: &mut Vec<Assignment<'a>>) -> Result<(), AllocError>
         ensures { IfOk result
             (λ _. map assignment_model words.new.items ≡ map assignment_model words.old.items ++ macro_body_model self.entry) }
@@ -84,10 +84,10 @@ fn stack_all<'a>(bytes: &'a [u8], words: &mut Vec<Assignment<'a>>) -> Result<(),
     ensures { IfOk result
         (λ _. map assignment_model words.new.items ≡ map assignment_model words.old.items ++ assigned bytes.now) }
 {
-    let mut left = bytes;
-    'words: while let Some((assignment, rest)) = split_assignment(left) {
+    let mut rest = bytes;
+    'words: while let Some((assignment, others)) = split_assignment(rest) {
         words.push(assignment)?;
-        left = rest;
+        rest = others;
     }
     Ok(())
 }

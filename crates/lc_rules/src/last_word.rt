@@ -15,14 +15,14 @@ fn trimmed_end<'a>(bytes: &'a [u8]) -> &'a [u8]
     ensures shorter { length result.now ≤ length bytes.now }
     ensures black { EndsBlack result.now }
 {
-    let mut left = bytes;
-    'bytes: while let Some((b, before)) = left.split_last() {
+    let mut rest = bytes;
+    'bytes: while let Some((b, before)) = rest.split_last() {
         if !is_white(*b) {
-            return left;
+            return rest;
         }
-        left = before;
+        rest = before;
     }
-    left
+    rest
 }
 
 /// Where the last word begins, in bytes that end with it.
@@ -56,12 +56,12 @@ pub(crate) fn split_last_assignment<'a>(bytes: &'a [u8]) -> Option<(Assignment<'
         (λ p. assigned bytes.now ≡ assigned p.1.now ++ assignment_model p.0 ∷ []) }
     ensures smaller { IfSome result (λ p. length p.1.now < length bytes.now) }
 {
-    let mut left = bytes;
-    'words: while let Some((before, word)) = split_last_word(left) {
+    let mut rest = bytes;
+    'words: while let Some((before, word)) = split_last_word(rest) {
         if let Some(assignment) = read_assignment(word) {
             return Some((assignment, before));
         }
-        left = before;
+        rest = before;
     }
     None
 }

@@ -2,13 +2,13 @@
 
 ghost use Rattle.lc_rules.specs.IgnoreLaws.{LastMatchLaw, LinesLaw};
 
-/// The rule that decides stands among the rules and matches, and no later one matches; nothing else decides. Where none decides,
-/// none matches.
+/// The law that the rule which decides is among the rules and matches, that no later rule matches, and that no other rule has
+/// this property. If no rule decides, none matches.
 pub fn the_last_match_decides()
     ensures { LastMatchLaw }
 {}
 
-/// Each rule of a file is that of the line with its number.
+/// The law that each rule of a file comes from the line with its number.
 pub fn rules_stand_on_their_lines()
     ensures { LinesLaw }
 {}

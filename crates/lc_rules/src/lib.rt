@@ -1,6 +1,14 @@
-//! The rules of a tree: ignore files and attribute files, their chains, and what these say of a path.
+//! The rules of a tree: ignore files and attribute files, their chains, and the rule or the attribute of a path.
 //!
 //! The formats are those of gitignore(5) and gitattributes(5); `docs/RULES.md` has each rule with an example.
+//!
+//! - `ignore_line`, `ignore_file`, `ignore_chain`: a rule, an ignore file, and the chain of those that apply to a path
+//! - `attr_line`, `attr_words`, `last_word`, `attr_quotes`, `assignment`: a line of an attribute file
+//! - `attr_file`, `line_table`, `macro_table`, `attr_chain`: an attribute file, and the chain of those that apply to a path
+//! - `known_macros`, `resolver`, `states`: deciding one attribute
+//! - `lines`, `chain_files`, `paths`: what both kinds of files share
+//! - `directories_above`: the last match of each directory above a path; `verdicts`, `rule_source`: what rules answer
+//! - `faults`: why a file is no rule file; `laws`: that these answers are those of gitignore(5)
 #![tactic(auto)]
 
 mod assignment;
@@ -15,7 +23,6 @@ mod faults;
 mod ignore_chain;
 mod ignore_file;
 mod ignore_line;
-mod kept_patterns;
 mod known_macros;
 mod last_word;
 mod laws;

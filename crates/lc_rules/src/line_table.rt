@@ -1,10 +1,10 @@
 //! The lines of an attribute file that have a pattern.
 
-ghost use Rattle.std.specs.Prelude.{◌≡◌, ◌∷◌, [], ◌++◌, true, false, ℕ, List, length, map, IfOk, OnOk};
+ghost use Rattle.std.specs.Prelude.{◌≡◌, ◌<◌, ◌∷◌, [], ◌++◌, true, false, ℕ, List, length, map, IfOk, OnOk};
 ghost use Rattle.lc_rules.specs.Models.{macro_model, pattern_line_model, seen_halves};
 ghost use Rattle.lc_rules.specs.KnownMacros.{known_macros, macros_for, some_matters};
 ghost use Rattle.lc_rules.specs.LineNames.{assigns_name, lines_name, has_name, NameNone};
-ghost use Rattle.lc_rules.specs.WrittenLines.{LineTableModel, assigned, halves, line_from, lines_in, with_line};
+ghost use Rattle.lc_rules.specs.WrittenLines.{LineTableModel, assigned, halves, line_at, line_from, patterns_in, with_line};
 ghost use Rattle.lc_rules.specs.WrittenLines.{without_lines, written_line};
 
 use crate::attr_line::{PatternLine, split_line};
@@ -12,65 +12,51 @@ use crate::attr_words::split_assignment;
 use crate::known_macros::{KnownMacros, macros_in};
 use crate::macro_table::Macro;
 use crate::resolver::Query;
-use lc_glob::{Pattern, cut_at_first};
+use lc_glob::{Pattern, PatternSet, cut_at_first};
 use std::alloc::{AllocError, Global};
 use std::collections::BTreeSet;
 use std::marker::Model;
 
-/// How many bytes patterns that were read may take in any file.
-const FIRST_BYTES: usize = 1 << 19;
-
-/// How many more, for a byte of the text before them.
-const BYTES_A_BYTE: usize = 8;
-
-/// A line whose pattern was read, by where it begins in the text.
-#[derive(Drop)]
-pub(crate) struct ReadLine {
-    pub(crate) pattern: Pattern,
-    pub(crate) start: u32,
-}
-
-/// Lines in their order, and the names that they assign, so that a file that can't decide an attribute is skipped whole.
+/// Lines in order, and the names that they assign, so that a file that can't decide an attribute is skipped whole.
 ///
-/// Of a line no more is kept than where it begins in the text and, of the first ones, the pattern: so many lines of a few
-/// bytes take a few bytes each. The pattern of a later one is read whenever it is asked.
+/// Of a line no more is kept than its pattern and where it begins in the text, so many lines of a few bytes take a few
+/// bytes each. The assignments of a line are read from the text when they are needed.
 #[derive(Drop)]
 pub(crate) struct LineTable {
     text: Vec<u8>,
-    read: Vec<ReadLine>,
-    /// About how many bytes those patterns take.
-    read_bytes: usize,
-    /// Where the lines after those begin.
-    written: Vec<u32>,
+    /// Where each line begins in the text.
+    starts: Vec<u32>,
+    patterns: PatternSet,
     names: BTreeSet<Vec<u8>>,
 }
 
 impl Model for LineTable {
+    ghost use Rattle.std.specs.Prelude.{◌≡◌};
     ghost use Rattle.lc_rules.specs.LineNames.{HasNames};
-    ghost use Rattle.lc_rules.specs.WrittenLines.{LineTableModel, lines_in};
+    ghost use Rattle.lc_rules.specs.WrittenLines.{LineTableModel, lines_in, patterns_in};
 
     ghost Value = { LineTableModel };
 
-    ghost view = { λ t. record { text = t.text.items; lines = lines_in t.text.items t.read.items t.written.items } };
+    ghost view = { λ t. record { text = t.text.items; lines = lines_in t.text.items t.starts.items } };
 
-    ghost invariant = { λ t. HasNames (lines_in t.text.items t.read.items t.written.items) t.names };
+    ghost invariant = { λ t. HasNames (lines_in t.text.items t.starts.items) t.names
+        × (t.patterns ≡ patterns_in (lines_in t.text.items t.starts.items)) };
 }
 
 impl LineTable {
-    /// A text of which no line is taken yet.
+    /// Makes a table of a text, without lines.
     pub(crate) fn new(alloc: Global, text: &[u8]) -> Result<LineTable, AllocError>
         ensures { IfOk result (λ table. table ≡ without_lines text.now) }
     {
         Ok(LineTable {
             text: text.to_vec(alloc)?,
-            read: Vec::new(alloc),
-            read_bytes: 0,
-            written: Vec::new(alloc),
+            starts: Vec::new(alloc),
+            patterns: PatternSet::new(alloc),
             names: BTreeSet::new(alloc),
         })
     }
 
-    /// Takes the line that begins at a place of the text.
+    /// Adds the line that begins at a place of the text.
     pub(crate) fn push(
         &mut self,
         alloc: Global,
@@ -81,38 +67,45 @@ impl LineTable {
         ensures { OnOk result (self.new ≡ with_line self.old (pattern_line_model line.now)) }
     {
         add_names(alloc, &mut self.names, line.assignments)?;
-        let pattern = line.pattern.as_slice();
-        let bytes = self.read_bytes.saturating_add(bytes_of(pattern));
-        let most = (start as usize)
-            .saturating_mul(BYTES_A_BYTE)
-            .saturating_add(FIRST_BYTES);
-        if self.written.is_empty() && bytes <= most {
-            self.read_bytes = bytes;
-            let pattern = Pattern::read(alloc, pattern)?;
-            self.read.push(ReadLine { pattern, start })?;
-        } else {
-            self.written.push(start)?;
-        }
+        let pattern = Pattern::read(alloc, line.pattern.as_slice())?;
+        self.starts.reserve(1)?;
+        self.patterns.push(&pattern)?;
+        self.starts.push_reserved(start);
         Ok(())
     }
 
-    /// Gives back the room for lines that did not come.
+    /// Frees the memory that was reserved for more lines.
     pub(crate) fn shrink_to_fit(&mut self)
         ensures { self.new ≡ self.old }
     {
-        self.read.shrink_to_fit();
-        self.written.shrink_to_fit();
+        self.starts.shrink_to_fit();
+        self.patterns.shrink_to_fit();
     }
 
-    /// The lines whose pattern was read, and where those after them begin.
-    pub(crate) fn parts(&self) -> (&[ReadLine], &[u32])
-        ensures { self.now.lines ≡ lines_in self.now.text result.0.now result.1.now }
+    /// The patterns of the lines, in the same order.
+    pub(crate) fn patterns(&self) -> &PatternSet
+        ensures { result.now ≡ patterns_in self.now.lines }
     {
-        (self.read.as_slice(), self.written.as_slice())
+        &self.patterns
+    }
+
+    /// The words of the assignments of the line at an index. The pattern is skipped, which takes memory if it is quoted.
+    pub(crate) fn assignments_at<'a>(
+        &'a self,
+        alloc: Global,
+        index: usize,
+    ) -> Result<&'a [u8], AllocError>
+        requires { index < length self.now.lines }
+        ensures { IfOk result (λ words. assigned words.now ≡ (line_at self.now.lines index).assigns) }
+    {
+        match self.line_from(alloc, self.starts[index])? {
+            Some(line) => Ok(line.assignments),
+            None => Ok(&[]),
+        }
     }
 
     /// The pattern of the line that begins at a place of the text, and the words of its assignments.
-    pub(crate) fn line_from<'a>(
+    fn line_from<'a>(
         &'a self,
         alloc: Global,
         start: u32,
@@ -167,24 +160,16 @@ impl LineTable {
     }
 }
 
-/// About how many bytes a line takes whose pattern was read: 64, and one for each byte of the pattern, or up to three where some byte is
-/// quoted or opens a bracket.
-fn bytes_of(pattern: &[u8]) -> usize {
-    let is_simple = !pattern.iter().any(|b| *b == b'[' || *b == b'\\');
-    let each = if is_simple { 1 } else { 3 };
-    pattern.len().saturating_mul(each).saturating_add(64)
-}
-
 /// Adds the names of the assignments that these words are to a set of names.
 fn add_names(alloc: Global, names: &mut BTreeSet<Vec<u8>>, words: &[u8]) -> Result<(), AllocError>
     ensures keeps { (name : List ℕ) → has_name names.old name ≡ true → has_name names.new name ≡ true }
     ensures adds { OnOk result
         ((name : List ℕ) → assigns_name (assigned words.now) name ≡ true → has_name names.new name ≡ true) }
 {
-    let mut left = words;
-    'words: while let Some((assignment, rest)) = split_assignment(left) {
+    let mut rest = words;
+    'words: while let Some((assignment, others)) = split_assignment(rest) {
         add_name(alloc, names, assignment.name)?;
-        left = rest;
+        rest = others;
     }
     Ok(())
 }

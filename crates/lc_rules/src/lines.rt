@@ -6,7 +6,7 @@ ghost use Rattle.lc_rules.specs.RuleLines.{without_mark, lines_of};
 use lc_glob::cut_at_first;
 use std::marker::Model;
 
-/// The lines of a file of rules that are left.
+/// The lines of a file of rules, from one of them on.
 ///
 /// ```
 /// let Some((line, others)) = Lines::of(b"*.log\n!keep.log\n").split_first() else { .. };

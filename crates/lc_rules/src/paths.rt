@@ -8,8 +8,8 @@ ghost use Rattle.lc_rules.specs.Verdicts.{below};
 
 use lc_glob::cut_at_first;
 
-/// A path, and what of it is below the depth that was asked for last. Files that are asked from the top down go on where
-/// the one before stood, so that a path is walked through once for all of them.
+/// A path, and the part of it below a depth. The files of a chain, from the top down, each go on where the one before
+/// stopped, so that a path is read once for all of them.
 #[derive(Clone, Copy)]
 pub(crate) struct PathBelow<'a> {
     pub(crate) path: &'a [u8],
@@ -29,7 +29,7 @@ impl<'a> PathBelow<'a> {
         }
     }
 
-    /// The same path, seen by a file of a directory with `depth` segments.
+    /// Moves to the part of the path that a file sees whose directory has `depth` segments.
     pub(crate) fn at(self, depth: u32) -> PathBelow<'a>
         ensures path { result.path.now ≡ self.entry.path.now }
         ensures depth { result.depth ≡ depth }
@@ -53,11 +53,11 @@ impl<'a> PathBelow<'a> {
 fn below<'a>(path: &'a [u8], depth: u32) -> &'a [u8]
     ensures { result.now ≡ below depth path.now }
 {
-    let mut left = depth;
+    let mut levels = depth;
     let mut rest = path;
-    'depths: while left > 0 {
+    'depths: while levels > 0 {
         rest = after_slash(rest);
-        left -= 1;
+        levels -= 1;
     }
     rest
 }

@@ -1,19 +1,19 @@
 //! How one attribute of a path is decided, from the assignments of the highest precedence on.
 
-ghost use Rattle.std.specs.Prelude.{◌≡◌, ◌≤◌, ◌∷◌, [], ◌++◌, false, map, reverse, IfOk, IfNone};
+ghost use Rattle.std.specs.Prelude.{◌≡◌, ◌≤◌, ◌∷◌, [], ◌++◌, false, reverse, IfOk, IfNone};
 ghost use Rattle.lc_rules.specs.Decision.{DecidesByEquations};
 ghost use Rattle.lc_rules.specs.Resolving.{is_marked, ReadsAssignments, IsReady, Decides, still_to_read, names_in, stacked};
 ghost use Rattle.lc_rules.specs.Models.{state_model, assignment_model};
 ghost use Rattle.lc_rules.specs.KnownMacros.{macro_body_model, expanded};
-ghost use Rattle.lc_rules.specs.AttrStates.{by_line, by_lines};
-ghost use Rattle.lc_rules.specs.WrittenLines.{assigned, read_line, written_line};
+ghost use Rattle.lc_rules.specs.AttrStates.{by_lines};
+ghost use Rattle.lc_rules.specs.WrittenLines.{assigned};
 
 use crate::assignment::Assignment;
 use crate::known_macros::{KnownMacros, MacroBody};
 use crate::last_word::split_last_assignment;
-use crate::line_table::{LineTable, ReadLine};
+use crate::line_table::LineTable;
 use crate::states::State;
-use lc_glob::{Candidate, Pattern};
+use lc_glob::Candidate;
 use std::alloc::{AllocError, Global};
 use std::collections::BTreeSet;
 
@@ -46,7 +46,7 @@ impl<'a> Resolver<'a> {
     }
 }
 
-/// Puts a macro's assignments on the stack where its name is set.
+/// Pushes a macro's assignments on the stack where its name is set.
 fn expand<'a>(
     body: MacroBody<'a>,
     state: State<'a>,
@@ -61,7 +61,7 @@ fn expand<'a>(
     }
 }
 
-/// Reads one assignment: it decides the name that is query, or puts a macro's assignments on the stack.
+/// Reads one assignment: it decides the name that is looked for, or pushes a macro's assignments on the stack.
 fn decide_at<'a>(
     query: Query<'_, 'a>,
     word: Assignment<'a>,
@@ -87,7 +87,7 @@ fn decide_at<'a>(
     Ok(None)
 }
 
-/// Reads what is on the stack.
+/// Reads the assignments on the stack.
 fn decide_pending<'a>(
     query: Query<'_, 'a>,
     resolver: &mut Resolver<'a>,
@@ -128,108 +128,17 @@ fn decide_by_words<'a>(
     requires { IsReady query resolver.old }
     ensures { IfOk result (λ r. Decides query.entry (reverse (assigned words.now)) resolver.old r resolver.new) }
 {
-    let mut left = words;
-    'words: while let Some((assignment, before)) = split_last_assignment(left) {
+    let mut rest = words;
+    'words: while let Some((assignment, before)) = split_last_assignment(rest) {
         if let Some(state) = decide_by_word(query, assignment, resolver)? {
             return Ok(Some(state));
         }
-        left = before;
+        rest = before;
     }
     Ok(None)
 }
 
-/// Reads a line whose pattern was read.
-fn decide_by_read<'a>(
-    query: Query<'_, 'a>,
-    table: &'a LineTable,
-    line: &'a ReadLine,
-    path: &Candidate,
-    is_dir: bool,
-    resolver: &mut Resolver<'a>,
-) -> Result<Option<State<'a>>, AllocError>
-    requires { IsReady query resolver.old }
-    ensures { IfOk result
-        (λ r. Decides query.entry (by_line (read_line table.now.text line.now) path.now is_dir) resolver.old r resolver.new) }
-{
-    if !line.pattern.matches_candidate(path, is_dir) {
-        return Ok(None);
-    }
-    let Some(written) = table.line_from(resolver.alloc, line.start)? else {
-        return Ok(None);
-    };
-    decide_by_words(query, written.assignments, resolver)
-}
-
-/// Reads the line that begins at a place of the text.
-fn decide_by_written<'a>(
-    query: Query<'_, 'a>,
-    table: &'a LineTable,
-    start: u32,
-    path: &Candidate,
-    is_dir: bool,
-    resolver: &mut Resolver<'a>,
-) -> Result<Option<State<'a>>, AllocError>
-    requires { IsReady query resolver.old }
-    ensures { IfOk result
-        (λ r. Decides query.entry (by_line (written_line table.now.text start) path.now is_dir) resolver.old r resolver.new) }
-{
-    let Some(line) = table.line_from(resolver.alloc, start)? else {
-        return Ok(None);
-    };
-    let pattern = Pattern::read(resolver.alloc, line.pattern.as_slice())?;
-    if !pattern.matches_candidate(path, is_dir) {
-        return Ok(None);
-    }
-    decide_by_words(query, line.assignments, resolver)
-}
-
-/// Reads lines whose patterns were read, from the last to the first.
-fn decide_by_all_read<'a>(
-    query: Query<'_, 'a>,
-    table: &'a LineTable,
-    lines: &'a [ReadLine],
-    path: &Candidate,
-    is_dir: bool,
-    resolver: &mut Resolver<'a>,
-) -> Result<Option<State<'a>>, AllocError>
-    requires { IsReady query resolver.old }
-    ensures { IfOk result
-        (λ r. Decides query.entry (by_lines (map (read_line table.now.text) lines.now) path.now is_dir) resolver.old r resolver.new) }
-{
-    let mut left = lines;
-    'lines: while let Some((last, before)) = left.split_last() {
-        if let Some(state) = decide_by_read(query, table, last, path, is_dir, resolver)? {
-            return Ok(Some(state));
-        }
-        left = before;
-    }
-    Ok(None)
-}
-
-/// Reads lines that begin at these places, from the last to the first.
-fn decide_by_all_written<'a>(
-    query: Query<'_, 'a>,
-    table: &'a LineTable,
-    starts: &[u32],
-    path: &Candidate,
-    is_dir: bool,
-    resolver: &mut Resolver<'a>,
-) -> Result<Option<State<'a>>, AllocError>
-    requires { IsReady query resolver.old }
-    ensures { IfOk result
-        (λ r. Decides query.entry (by_lines (map (written_line table.now.text) starts.now) path.now is_dir) resolver.old r resolver.new) }
-{
-    let mut left = starts;
-    'lines: while let Some((last, before)) = left.split_last() {
-        if let Some(state) = decide_by_written(query, table, *last, path, is_dir, resolver)? {
-            return Ok(Some(state));
-        }
-        left = before;
-    }
-    Ok(None)
-}
-
-/// Reads the lines of a file, the last first.
+/// Reads the assignments of the lines of a file that match a path, the last line first.
 pub(crate) fn decide_by_lines<'a>(
     query: Query<'_, 'a>,
     table: &'a LineTable,
@@ -240,13 +149,17 @@ pub(crate) fn decide_by_lines<'a>(
     requires { IsReady query resolver.old }
     ensures { IfOk result (λ r. Decides query.entry (by_lines table.now.lines path.now is_dir) resolver.old r resolver.new) }
 {
-    let (read, written) = table.parts();
-    let path = Candidate::for_patterns(path, read.len().saturating_add(written.len()));
-    if let Some(state) = decide_by_all_written(query, table, written, &path, is_dir, resolver)? {
-        return Ok(Some(state));
+    let patterns = table.patterns();
+    let mut below = patterns.len();
+    let candidate = Candidate::for_patterns(path, below);
+    'lines: while let Some(index) = patterns.last_match(&candidate, is_dir, below) {
+        let words = table.assignments_at(resolver.alloc, index)?;
+        if let Some(state) = decide_by_words(query, words, resolver)? {
+            return Ok(Some(state));
+        }
+        below = index;
     }
-    let found = decide_by_all_read(query, table, read, &path, is_dir, resolver)?;
-    Ok(found)
+    Ok(None)
 }
 
 /// The law that the decision, of which `AttrChain::state` tells one name, keeps its equations, and that nothing else does:

@@ -1,6 +1,6 @@
-//! What an attribute is for a path.
+//! The states of attributes.
 
-/// What an attribute is for a path.
+/// The state of an attribute for a path: gitattributes(5), DESCRIPTION.
 #[derive(Clone, Copy)]
 pub enum State<'a> {
     Set,
@@ -10,7 +10,7 @@ pub enum State<'a> {
     Unspecified,
 }
 
-/// What the attribute `text` is for a file.
+/// The state of the attribute `text` for a file.
 #[derive(Clone, Copy, Debug, PartialEq, Eq)]
 pub enum TextState {
     Set,

@@ -1,7 +1,7 @@
-//! What the rules say of a path.
+//! Verdicts of rules on paths.
 
-/// What the last rule that matches a path says of it. A path below an ignored directory is left out whatever its own
-/// verdict is: its verdict speaks of the path alone.
+/// The verdict of the last rule that matches a path. It is about the path alone: a path below an ignored directory is
+/// skipped, whatever its own verdict is.
 #[derive(Clone, Copy, Debug, PartialEq, Eq)]
 pub enum Verdict {
     Ignored,

@@ -1,7 +1,5 @@
-//! The tests of patterns, paths and rules.
+//! The tests of rules.
 #![tactic(auto)]
 
-#[cfg(test)]
-mod glob;
 #[cfg(test)]
 mod rules;

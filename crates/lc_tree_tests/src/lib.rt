@@ -1,7 +1,5 @@
-//! The tests of the census and of trees.
+//! The tests of trees.
 #![tactic(auto)]
 
-#[cfg(test)]
-mod census;
 #[cfg(test)]
 mod tree;

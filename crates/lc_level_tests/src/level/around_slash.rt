@@ -1,111 +1,41 @@
 //! Paths that are asked for, with names whose bytes come before and after the slash.
 
-use crate::level::work::{
-    AS_IT_IS, Case, LINE, Level, NO_ENTRY, NONE, Part, Selected, TOP, check_parts,
-};
-use lc_rules::TextState;
-use lc_tree::Sketch;
+use crate::level::work::{Part, check_parts};
 use std::test::Fail;
 
-const AROUND_SLASH: Case = Case {
-    tree: Sketch::Dir(&[
-        (b"a", Sketch::Dir(&[(b"x", LINE), (b"y", LINE)])),
-        (b"a-b", Sketch::Dir(&[(b"x", LINE)])),
-        (b"a.b", LINE),
-        (b"a0", Sketch::Dir(&[(b"x", LINE)])),
-    ]),
-    ..TOP
-};
+const TREE: &str = "a/{ x y } a-b/{ x } a.b a0/{ x }";
 
-const BEFORE_SLASH: Case = Case {
-    below: Some(b"a"),
-    ..AROUND_SLASH
-};
-
-const A_B: (&[u8], TextState) = (b"a.b", NONE);
-
-const Y: (&[u8], TextState) = (b"y", NONE);
-
-const PARTS_AROUND_SLASH: &[Part] = &[
-    (
-        "below the name that others begin with",
-        Selected {
-            only: &[b"a/x"],
-            ..AS_IT_IS
-        },
-        Level {
-            children: &[b"a"],
-            ..NO_ENTRY
-        },
-    ),
+const PARTS_OF_TOP: &[Part] = &[
+    ("below the name that others begin with", "a/x", "a/"),
     (
         "below names that go on before and after the slash",
-        Selected {
-            only: &[b"a0/x", b"a-b/x"],
-            ..AS_IT_IS
-        },
-        Level {
-            children: &[b"a-b", b"a0"],
-            ..NO_ENTRY
-        },
+        "a0/x a-b/x",
+        "a-b/, a0/",
     ),
     (
         "all names, and paths below them, in no order",
-        Selected {
-            only: &[b"a0", b"a/x", b"a.b", b"a-b", b"a", b"a0/x", b"a-b/x"],
-            ..AS_IT_IS
-        },
-        Level {
-            files: &[A_B],
-            children: &[b"a", b"a-b", b"a0"],
-            ..NO_ENTRY
-        },
+        "a0 a/x a.b a-b a a0/x a-b/x",
+        "a.b, a/, a-b/, a0/",
     ),
     (
         "absent between them, repeated",
-        Selected {
-            only: &[
-                b"a1", b"a.b/x", b"a/x", b"a-", b"a1", b"a.", b"a-", b"a.b/x",
-            ],
-            ..AS_IT_IS
-        },
-        Level {
-            children: &[b"a"],
-            absent: &[b"a-", b"a.", b"a.b/x", b"a1"],
-            ..NO_ENTRY
-        },
+        "a1 a.b/x a/x a- a1 a. a- a.b/x",
+        "fault absent a-, fault absent a., fault absent a.b/x, fault absent a1, a/",
     ),
 ];
 
-const PARTS_BEFORE_SLASH: &[Part] = &[
-    (
-        "a path of each name",
-        Selected {
-            only: &[b"a0/x", b"a/y", b"a.b", b"a-b/x"],
-            ..AS_IT_IS
-        },
-        Level {
-            files: &[Y],
-            ..NO_ENTRY
-        },
-    ),
+const PARTS_OF_A: &[Part] = &[
+    ("a path of each name", "a0/x a/y a.b a-b/x", "y"),
     (
         "absent, and absent below that",
-        Selected {
-            only: &[b"a/z/k", b"a0/z", b"a/y", b"a/z", b"a/y/k", b"a/y"],
-            ..AS_IT_IS
-        },
-        Level {
-            files: &[Y],
-            absent: &[b"y/k", b"z", b"z/k"],
-            ..NO_ENTRY
-        },
+        "a/z/k a0/z a/y a/z a/y/k a/y",
+        "y, fault absent y/k, fault absent z, fault absent z/k",
     ),
 ];
 
 #[test]
 fn names_around_the_slash(rt: HostRuntime) -> Result<(), Fail> {
-    check_parts(&rt, rt.alloc(), &AROUND_SLASH, PARTS_AROUND_SLASH)?;
-    check_parts(&rt, rt.alloc(), &BEFORE_SLASH, PARTS_BEFORE_SLASH)?;
+    check_parts(&rt, rt.alloc(), TREE, "", PARTS_OF_TOP)?;
+    check_parts(&rt, rt.alloc(), TREE, "a", PARTS_OF_A)?;
     Ok(())
 }

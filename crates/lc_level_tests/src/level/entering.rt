@@ -1,14 +1,10 @@
 //! Directories that are entered: their entries, the texts of their rules, and what these decide of a path.
 
-use crate::level::work::{
-    AS_IT_IS, Case, LINE, NOTHING, Selected, TOP, Why, is_reason, job_of, selection_of,
-};
-use lc_level::{
-    Cause, Entered, FaultSite, FaultWord, Job, LevelReader, OpenFault, ReaderOptions, Scratch,
-    path_in,
-};
+use crate::level::work::{NOTHING, job_of};
+use lc_level::{Entered, Job, LevelReader, OpenFault, ReaderOptions, Scratch, Selection, path_in};
 use lc_rules::{RuleSource, Verdict};
-use lc_tree::{Entry, Kind, MemTree, Sketch};
+use lc_tests::{has_words, push_name, push_reason, tree};
+use lc_tree::{Kind, MemTree};
 use std::alloc::{AllocError, Global};
 use std::process::Abort;
 use std::test::Fail;
@@ -18,246 +14,179 @@ const TEXTS: ReaderOptions = ReaderOptions {
     texts: true,
 };
 
-const INFO: Sketch = Sketch::Dir(&[
-    (b"exclude", Sketch::File(b"*.tmp\n")),
-    (b"attributes", Sketch::File(b"*.c text\n")),
-]);
+/// What has this attribute is left out.
+const WITHOUT: &[&str] = &["export-ignore"];
 
-const WITH_RULES: Sketch = Sketch::Dir(&[(b".gitignore", Sketch::File(b"# none\n"))]);
+const REPOSITORY: &str = "
+    s/{ .gitignore=#_none; }
+    t/{ b a@ }
+    c/!
+    .gitignore=*.log;!keep.log;
+    .gitattributes=docs_export-ignore;
+    .git/{ info/{ exclude=*.tmp; attributes=*.c_text; } }";
 
-const WITHOUT_RULES: Sketch = Sketch::Dir(&[(b"b", LINE), (b"a", Sketch::Other)]);
+/// The name of a directory below the top, or of the top, what is kept of it, and what is found.
+type Case = (&'static str, ReaderOptions, &'static str);
 
-/// A repository without what has the attribute `export-ignore`.
-const REPOSITORY: Case = Case {
-    tree: Sketch::Dir(&[
-        (b"s", WITH_RULES),
-        (b"t", WITHOUT_RULES),
-        (b"c", Sketch::Closed),
-        (b".gitignore", Sketch::File(b"*.log\n!keep.log\n")),
-        (b".gitattributes", Sketch::File(b"docs export-ignore\n")),
-        (b".git", Sketch::Dir(&[(b"info", INFO)])),
-    ]),
-    selected: Selected {
-        without: &["export-ignore"],
-        ..AS_IT_IS
-    },
-    ..TOP
-};
-
-fn are_entries(found: &[Entry], wanted: &[&[u8]]) -> bool {
-    found.len() == wanted.len()
-        && found
-            .iter()
-            .zip(wanted)
-            .all(|(entry, name)| entry.name.as_slice() == *name)
-}
-
-fn is_text(found: &Option<Vec<u8>>, wanted: Option<&[u8]>) -> bool {
-    match (found, wanted) {
-        (Some(found), Some(wanted)) => found.as_slice() == wanted,
-        (None, None) => true,
-        (Some(_), None) | (None, Some(_)) => false,
-    }
-}
-
-/// A directory that is entered, what is kept of it, and its entries and the texts of its rules, or what stops it.
-struct Entering<'a> {
-    case: Case<'a>,
-    kept: ReaderOptions,
-    wanted: Result<Wanted<'a>, OpenFault>,
-}
-
-/// Its entries, the text of the rules of `.git/info`, and that of its own.
-type Wanted<'a> = (&'a [&'a [u8]], Option<&'a [u8]>, Option<&'a [u8]>);
-
-fn is_entered(found: &Entered, (entries, info, own): &Wanted) -> bool {
-    are_entries(&found.entries, entries)
-        && is_text(&found.texts.info, *info)
-        && is_text(&found.texts.own, *own)
-}
-
-/// Enters the directory of the job and compares.
-fn enters(
-    levels: &LevelReader<MemTree>,
-    job: &Job,
-    wanted: &Result<Wanted, OpenFault>,
-    scratch: &mut Scratch,
-) -> Result<bool, AllocError> {
-    match (levels.enter(job, scratch), wanted) {
-        (Ok(found), Ok(wanted)) => Ok(is_entered(&found, wanted)),
-        (Err(OpenFault::Broken(Cause::Memory)), _) => Err(AllocError),
-        (Err(found), Err(wanted)) => Ok(found == *wanted),
-        (Ok(_), Err(_)) | (Err(_), Ok(_)) => Ok(false),
-    }
-}
-
-fn check_entered(rt: &impl Abort, alloc: Global, entering: &Entering) -> Result<(), AllocError> {
-    let case = &entering.case;
-    let node = case.tree.node(alloc)?;
-    let tree = MemTree::new(&node);
-    let levels = LevelReader::new(alloc, &tree, selection_of(&case.selected), entering.kept);
-    let mut scratch = Scratch::new(alloc)?;
-    let Some(job) = job_of(alloc, &levels, case.exclude, case.below, &mut scratch)? else {
-        assert!(rt; false, "{}: no such directory", case.name);
-        return Ok(());
-    };
-    let same = enters(&levels, &job, &entering.wanted, &mut scratch)?;
-    assert!(rt; same, "{}", case.name);
-    Ok(())
-}
-
-const ENTRIES: &[&[u8]] = &[b".git", b".gitattributes", b".gitignore", b"c", b"s", b"t"];
-
-const ENTERED: &[Entering] = &[
-    Entering {
-        case: Case {
-            name: "the top",
-            ..REPOSITORY
-        },
-        kept: TEXTS,
-        wanted: Ok((ENTRIES, Some(b"*.tmp\n"), Some(b"*.log\n!keep.log\n"))),
-    },
-    Entering {
-        case: Case {
-            name: "with rules",
-            below: Some(b"s"),
-            ..REPOSITORY
-        },
-        kept: TEXTS,
-        wanted: Ok((&[b".gitignore"], None, Some(b"# none\n"))),
-    },
-    Entering {
-        case: Case {
-            name: "without rules",
-            below: Some(b"t"),
-            ..REPOSITORY
-        },
-        kept: TEXTS,
-        wanted: Ok((&[b"a", b"b"], None, None)),
-    },
-    Entering {
-        case: Case {
-            name: "no text is kept",
-            ..REPOSITORY
-        },
-        kept: NOTHING,
-        wanted: Ok((ENTRIES, None, None)),
-    },
-    Entering {
-        case: Case {
-            name: "a fault",
-            tree: Sketch::Closed,
-            ..TOP
-        },
-        kept: TEXTS,
-        wanted: Err(OpenFault::Faulted(FaultSite::Directory, FaultWord::Read)),
-    },
+const ENTERED: &[Case] = &[
+    (
+        "",
+        TEXTS,
+        ".git, .gitattributes, .gitignore, c, s, t, info *.tmp|, own *.log|!keep.log|",
+    ),
+    ("s", TEXTS, ".gitignore, own # none|"),
+    ("t", TEXTS, "a, b"),
+    ("", NOTHING, ".git, .gitattributes, .gitignore, c, s, t"),
+    ("c", TEXTS, "Faulted(Directory, Read)"),
 ];
 
-fn check_all_entered(rt: &impl Abort, alloc: Global, all: &[Entering]) -> Result<(), AllocError> {
-    for entering in all {
-        check_entered(rt, alloc, entering)?;
+/// Adds the text of a rule file behind this word, if it is kept, with `|` for each line end.
+fn push_rules(text: &mut String, word: &str, rules: &Option<Vec<u8>>) -> Result<(), AllocError> {
+    let Some(rules) = rules else {
+        return Ok(());
+    };
+    text.push_str(word)?;
+    for line in rules.split_inclusive(|byte| *byte == b'\n') {
+        match line.strip_suffix(b"\n") {
+            Some(line) => {
+                push_name(text, line)?;
+                text.push_str("|")?;
+            }
+            None => push_name(text, line)?,
+        }
+    }
+    text.push_str("\n")
+}
+
+/// The entries of a directory, the rules of `.git/info` and its own.
+fn text_of(alloc: Global, found: &Entered) -> Result<String, AllocError> {
+    let mut text = String::new(alloc);
+    for entry in &found.entries {
+        push_name(&mut text, &entry.name)?;
+        text.push_str("\n")?;
+    }
+    push_rules(&mut text, "info ", &found.texts.info)?;
+    push_rules(&mut text, "own ", &found.texts.own)?;
+    Ok(text)
+}
+
+/// What is found in the directory of the job, or what stops it.
+fn enter(
+    alloc: Global,
+    reader: &LevelReader<MemTree>,
+    job: &Job,
+    scratch: &mut Scratch,
+) -> Result<String, AllocError> {
+    match reader.enter(job, scratch) {
+        Ok(found) => text_of(alloc, &found),
+        Err(OpenFault::Memory) => Err(AllocError),
+        Err(open_fault) => format!(in alloc; "{open_fault:?}"),
+    }
+}
+
+fn check_entered(
+    rt: &impl Abort,
+    alloc: Global,
+    tree: &MemTree,
+    (below, kept, wanted): &Case,
+) -> Result<(), AllocError> {
+    let reader = LevelReader::new(alloc, tree, Selection::new(false, WITHOUT), *kept);
+    let mut scratch = Scratch::new(alloc)?;
+    let job = job_of(alloc, &reader, None, below, &mut scratch)?;
+    assert!(rt; job.is_some(), "there is no {below}");
+    if let Some(job) = job {
+        let found = enter(alloc, &reader, &job, &mut scratch)?;
+        assert!(rt; has_words(&found, wanted), "{below}: {found}");
     }
     Ok(())
 }
 
 #[test]
 fn entries_and_texts(rt: HostRuntime) -> Result<(), Fail> {
-    check_all_entered(&rt, rt.alloc(), ENTERED)?;
+    let node = tree(rt.alloc(), REPOSITORY)?;
+    for case in ENTERED {
+        check_entered(&rt, rt.alloc(), &MemTree::new(&node), case)?;
+    }
     Ok(())
 }
 
 /// A path, and its rule that decides with where it stands.
 type Deciding = (&'static [u8], Option<(RuleSource, u32, Verdict)>);
 
+const TOP: RuleSource = RuleSource::Gitignore(0);
+
 const DECIDING: &[Deciding] = &[
-    (
-        b"a.log",
-        Some((RuleSource::Gitignore(0), 1, Verdict::Ignored)),
-    ),
-    (
-        b"s/keep.log",
-        Some((RuleSource::Gitignore(0), 2, Verdict::Included)),
-    ),
+    (b"a.log", Some((TOP, 1, Verdict::Ignored))),
+    (b"s/keep.log", Some((TOP, 2, Verdict::Included))),
     (b"m.c", None),
 ];
 
-fn decides(inside: &Job, (path, wanted): &Deciding) -> bool {
-    match (inside.last_match(path, false), wanted) {
-        (Some((source, rule)), Some(wanted)) => (source, rule.line(), rule.verdict()) == *wanted,
-        (None, None) => true,
-        (Some(_), None) | (None, Some(_)) => false,
-    }
-}
-
 fn check_last_match(rt: &impl Abort, inside: &Job) {
-    for last_match in DECIDING {
-        assert!(rt; decides(inside, last_match), "{:?}", last_match.0);
+    for (path, wanted) in DECIDING {
+        let found = match inside.last_match(path, false) {
+            Some((source, rule)) => Some((source, rule.line(), rule.verdict())),
+            None => None,
+        };
+        assert!(rt; found == *wanted, "{path:?}: {found:?}");
     }
 }
 
 /// An entry, and why it is left out, if it is.
-type Judged = (&'static [u8], Kind, Option<Why<'static>>);
+type Judged = (&'static [u8], Kind, &'static str);
 
 const JUDGED: &[Judged] = &[
-    (b"docs", Kind::Dir, Some(Why::Attribute(b"export-ignore"))),
-    (b"m.c", Kind::File, None),
-    (b"m.c", Kind::Other, Some(Why::OtherKind)),
-    (b".git", Kind::Dir, Some(Why::Git)),
+    (b"docs", Kind::Dir, "attribute export-ignore"),
+    (b"m.c", Kind::File, ""),
+    (b"m.c", Kind::Other, "other"),
+    (b".git", Kind::Dir, "git"),
+    (b"a.log", Kind::File, "rule .gitignore:1"),
 ];
 
-const BY_RULE: Why = Why::Rule(RuleSource::Gitignore(0), 1);
-
-fn is_judged(
-    alloc: Global,
-    levels: &LevelReader<MemTree>,
-    job: &Job,
-    (name, kind, wanted): &Judged,
-) -> Result<bool, AllocError> {
-    let path = path_in(alloc, job.path(), name)?;
-    match (levels.reason(job, name, &path, *kind)?, wanted) {
-        (Some(found), Some(wanted)) => Ok(is_reason(&found, wanted)),
-        (None, None) => Ok(true),
-        (Some(_), None) | (None, Some(_)) => Ok(false),
-    }
-}
-
-fn check_inside(
+fn check_reason(
     rt: &impl Abort,
     alloc: Global,
-    levels: &LevelReader<MemTree>,
-    inside: &Job,
+    reader: &LevelReader<MemTree>,
+    job: &Job,
+    (name, kind, wanted): &Judged,
 ) -> Result<(), AllocError> {
-    for judged in JUDGED {
-        let same = is_judged(alloc, levels, inside, judged)?;
-        assert!(rt; same, "{:?}", judged.0);
+    let path = path_in(alloc, job.path(), name)?;
+    let mut text = String::new(alloc);
+    if let Some(reason) = reader.reason(job, name, &path, *kind)? {
+        push_reason(&mut text, &reason)?;
     }
-    let below = inside.at(alloc, b"s")?;
-    let by_rule = (b"a.log".as_slice(), Kind::File, Some(BY_RULE));
-    assert!(rt; is_judged(alloc, levels, &below, &by_rule)?, "below");
+    assert!(rt; has_words(&text, wanted), "{path:?}: {text}");
     Ok(())
 }
 
-/// The top with its rule files.
-fn inside_of(levels: &LevelReader<MemTree>, alloc: Global) -> Result<Option<Job>, AllocError> {
-    let mut scratch = Scratch::new(alloc)?;
-    let top = Job::top(alloc, None)?;
-    match levels.enter(&top, &mut scratch) {
-        Ok(entered) => Ok(Some(entered.job)),
-        Err(OpenFault::Broken(Cause::Memory)) => Err(AllocError),
-        Err(_) => Ok(None),
+/// Reasons in the top, and in a directory below it.
+fn check_inside(
+    rt: &impl Abort,
+    alloc: Global,
+    reader: &LevelReader<MemTree>,
+    inside: &Job,
+) -> Result<(), AllocError> {
+    check_last_match(rt, inside);
+    for judged in JUDGED {
+        check_reason(rt, alloc, reader, inside, judged)?;
     }
+    let below = inside.at(alloc, b"s")?;
+    check_reason(
+        rt,
+        alloc,
+        reader,
+        &below,
+        &(b"a.log", Kind::File, "rule .gitignore:1"),
+    )
 }
 
 fn check_top(rt: &impl Abort, alloc: Global, tree: &MemTree) -> Result<(), AllocError> {
-    let levels = LevelReader::new(alloc, tree, selection_of(&REPOSITORY.selected), NOTHING);
-    match inside_of(&levels, alloc)? {
-        Some(inside) => {
-            check_last_match(rt, &inside);
-            check_inside(rt, alloc, &levels, &inside)
-        }
-        None => {
-            assert!(rt; false, "the top is at fault");
+    let reader = LevelReader::new(alloc, tree, Selection::new(false, WITHOUT), NOTHING);
+    let mut scratch = Scratch::new(alloc)?;
+    match reader.enter(&Job::top(alloc, None)?, &mut scratch) {
+        Ok(entered) => check_inside(rt, alloc, &reader, &entered.job),
+        Err(OpenFault::Memory) => Err(AllocError),
+        Err(open_fault) => {
+            assert!(rt; false, "{open_fault:?}");
             Ok(())
         }
     }
@@ -265,7 +194,7 @@ fn check_top(rt: &impl Abort, alloc: Global, tree: &MemTree) -> Result<(), Alloc
 
 #[test]
 fn what_decides_inside(rt: HostRuntime) -> Result<(), Fail> {
-    let node = REPOSITORY.tree.node(rt.alloc())?;
+    let node = tree(rt.alloc(), REPOSITORY)?;
     check_top(&rt, rt.alloc(), &MemTree::new(&node))?;
     Ok(())
 }

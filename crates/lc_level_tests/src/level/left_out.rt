@@ -1,224 +1,143 @@
 //! The entries that are left out: which, of which kind and why.
 
-use crate::level::work::{
-    AS_IT_IS, Case, EMPTY, LINE, Level, NO_ENTRY, NONE, Part, Selected, TOP, Why, check_all,
-    check_parts, is_reason,
-};
+use crate::level::work::{Case, Part, check, check_parts};
 use lc_level::Reason;
 use lc_rules::RuleSource;
-use lc_tree::{Kind, Sketch};
+use lc_tests::push_reason;
 use std::alloc::{AllocError, Global};
 use std::test::Fail;
 
-const INFO: Sketch = Sketch::Dir(&[(b"exclude", Sketch::File(b"\n# notes\nnotes.txt\n"))]);
+/// A tree with an entry for each reason and each kind.
+const EACH: &str = "
+    .git/{ info/{ exclude=;#_notes;notes.txt; } }
+    .gitattributes=docs_export-ignore;
+    .gitignore=*.log;!keep.log;gen;
+    a.log
+    docs/
+    gen/
+    keep.log
+    link.c@
+    notes.txt
+    old.log@
+    src/
+    x.bak";
 
-const EACH: Sketch = Sketch::Dir(&[
-    (b".git", Sketch::Dir(&[(b"info", INFO)])),
-    (b".gitattributes", Sketch::File(b"docs export-ignore\n")),
-    (b".gitignore", Sketch::File(b"*.log\n!keep.log\ngen\n")),
-    (b"a.log", LINE),
-    (b"docs", EMPTY),
-    (b"gen", EMPTY),
-    (b"keep.log", LINE),
-    (b"link.c", Sketch::Other),
-    (b"notes.txt", LINE),
-    (b"old.log", Sketch::Other),
-    (b"src", EMPTY),
-    (b"x.bak", LINE),
-]);
+const OF_EACH: &str = "
+    .gitattributes
+    .gitignore
+    keep.log
+    src/
+    left git .git/
+    left rule .gitignore:1 a.log
+    left attribute export-ignore docs/
+    left rule .gitignore:3 gen/
+    left other link.c@
+    left rule .git/info/exclude:3 notes.txt
+    left rule .gitignore:1 old.log@
+    left rule --exclude-from:2 x.bak";
 
-const IN_ITS_FILE: Sketch = Sketch::Dir(&[
-    (b".git", LINE),
-    (b".gitignore", Sketch::File(b"# its own\nb\n")),
-    (b"a", EMPTY),
-    (b"b", LINE),
-]);
+const SEVERAL: &str = "
+    .git@
+    .gitattributes=*_first;both_second;in_second;
+    .gitignore=both;.git;both;!in;
+    both@
+    in@";
 
-const BELOW: Sketch = Sketch::Dir(&[(b".gitignore", Sketch::File(b"a\n")), (b"s", IN_ITS_FILE)]);
+const OF_SEVERAL: &str = "
+    left git .git@
+    left attribute first .gitattributes
+    left attribute first .gitignore
+    left rule .gitignore:3 both@
+    left attribute second in@";
 
-const SEVERAL: Sketch = Sketch::Dir(&[
-    (b".git", Sketch::Other),
+const CASES: &[Case] = &[
     (
-        b".gitattributes",
-        Sketch::File(b"* first\nboth second\nin second\n"),
-    ),
-    (b".gitignore", Sketch::File(b"both\n.git\nboth\n!in\n")),
-    (b"both", Sketch::Other),
-    (b"in", Sketch::Other),
-]);
-
-const EXPORT_IGNORE: &[u8] =
-    b"docs/ export-ignore\n*.tmp export-ignore\nx.tmp -export-ignore\n*.y export-ignore=1\n";
-
-const ATTRIBUTED: Case = Case {
-    tree: Sketch::Dir(&[
-        (b".gitattributes", Sketch::File(EXPORT_IGNORE)),
-        (b"a.tmp", LINE),
-        (b"b.y", LINE),
-        (b"docs", EMPTY),
-        (b"s", EMPTY),
-        (b"x.tmp", LINE),
-    ]),
-    ..TOP
-};
-
-const ALL: Level = Level {
-    files: &[
-        (b".gitattributes", NONE),
-        (b"a.tmp", NONE),
-        (b"b.y", NONE),
-        (b"x.tmp", NONE),
-    ],
-    children: &[b"docs", b"s"],
-    ..NO_ENTRY
-};
-
-const BY_EXPORT_IGNORE: Why = Why::Attribute(b"export-ignore");
-
-/// Without what has the attribute `export-ignore`.
-const EXPORTED: Level = Level {
-    files: &[(b".gitattributes", NONE), (b"b.y", NONE), (b"x.tmp", NONE)],
-    children: &[b"s"],
-    skipped: &[
-        (b"a.tmp", Kind::File, BY_EXPORT_IGNORE),
-        (b"docs", Kind::Dir, BY_EXPORT_IGNORE),
-    ],
-    ..NO_ENTRY
-};
-
-const BY_ATTRIBUTES: &[Part] = &[
-    (
-        "as an archive",
-        Selected {
-            archive: true,
-            ..AS_IT_IS
-        },
-        EXPORTED,
-    ),
-    ("as it is", AS_IT_IS, ALL),
-    (
-        "without a second one",
-        Selected {
-            without: &["text", "export-ignore"],
-            ..AS_IT_IS
-        },
-        EXPORTED,
+        "each reason and each kind",
+        EACH,
+        "--archive --exclude-from=*.o;*.bak;",
+        OF_EACH,
     ),
     (
-        "without another",
-        Selected {
-            without: &["text"],
-            ..AS_IT_IS
-        },
-        ALL,
+        "the first reason holds",
+        SEVERAL,
+        "--without=second --without=first",
+        OF_SEVERAL,
     ),
 ];
 
-const CASES: &[Case] = &[
-    Case {
-        name: "each reason and each kind",
-        tree: EACH,
-        exclude: Some(b"*.o\n*.bak\n"),
-        selected: Selected {
-            archive: true,
-            ..AS_IT_IS
-        },
-        found: Level {
-            files: &[
-                (b".gitattributes", NONE),
-                (b".gitignore", NONE),
-                (b"keep.log", NONE),
-            ],
-            children: &[b"src"],
-            skipped: &[
-                (b".git", Kind::Dir, Why::Git),
-                (b"a.log", Kind::File, Why::Rule(RuleSource::Gitignore(0), 1)),
-                (b"docs", Kind::Dir, BY_EXPORT_IGNORE),
-                (b"gen", Kind::Dir, Why::Rule(RuleSource::Gitignore(0), 3)),
-                (b"link.c", Kind::Other, Why::OtherKind),
-                (
-                    b"notes.txt",
-                    Kind::File,
-                    Why::Rule(RuleSource::InfoExclude, 3),
-                ),
-                (
-                    b"old.log",
-                    Kind::Other,
-                    Why::Rule(RuleSource::Gitignore(0), 1),
-                ),
-                (b"x.bak", Kind::File, Why::Rule(RuleSource::ExcludeFrom, 2)),
-            ],
-            ..NO_ENTRY
-        },
-        ..TOP
-    },
-    Case {
-        name: "a rule stands in its file",
-        tree: BELOW,
-        below: Some(b"s"),
-        found: Level {
-            files: &[(b".gitignore", NONE)],
-            skipped: &[
-                (b".git", Kind::File, Why::Git),
-                (b"a", Kind::Dir, Why::Rule(RuleSource::Gitignore(0), 1)),
-                (b"b", Kind::File, Why::Rule(RuleSource::Gitignore(1), 2)),
-            ],
-            ..NO_ENTRY
-        },
-        ..TOP
-    },
-    Case {
-        name: "the first reason holds",
-        tree: SEVERAL,
-        selected: Selected {
-            without: &["second", "first"],
-            ..AS_IT_IS
-        },
-        found: Level {
-            skipped: &[
-                (b".git", Kind::Other, Why::Git),
-                (b".gitattributes", Kind::File, Why::Attribute(b"first")),
-                (b".gitignore", Kind::File, Why::Attribute(b"first")),
-                (b"both", Kind::Other, Why::Rule(RuleSource::Gitignore(0), 3)),
-                (b"in", Kind::Other, Why::Attribute(b"second")),
-            ],
-            ..NO_ENTRY
-        },
-        ..TOP
-    },
+/// A directory with rules of its own and of the one above.
+const BELOW: &str = ".gitignore=a; s/{ .git .gitignore=#_its_own;b; a/ b }";
+
+const IN_ITS_FILE: &[Part] = &[(
+    "a rule stands in its file",
+    "",
+    ".gitignore, left git .git, left rule .gitignore:1 a/, left rule */.gitignore:2 b",
+)];
+
+const ATTRIBUTED: &str = "
+    .gitattributes=docs/_export-ignore;*.tmp_export-ignore;x.tmp_-export-ignore;*.y_export-ignore=1;
+    a.tmp
+    b.y
+    docs/
+    s/
+    x.tmp";
+
+const ALL: &str = ".gitattributes, a.tmp, b.y, x.tmp, docs/, s/";
+
+/// Without what has the attribute `export-ignore`.
+const EXPORTED: &str = "
+    .gitattributes
+    b.y
+    x.tmp
+    s/
+    left attribute export-ignore a.tmp
+    left attribute export-ignore docs/";
+
+const BY_ATTRIBUTES: &[Part] = &[
+    ("as an archive", "--archive", EXPORTED),
+    ("as it is", "", ALL),
+    (
+        "without a second one",
+        "--without=text --without=export-ignore",
+        EXPORTED,
+    ),
+    ("without another", "--without=text", ALL),
 ];
 
 #[test]
 fn entries_are_left_out(rt: HostRuntime) -> Result<(), Fail> {
-    check_all(&rt, rt.alloc(), CASES)?;
-    check_parts(&rt, rt.alloc(), &ATTRIBUTED, BY_ATTRIBUTES)?;
+    check(&rt, rt.alloc(), CASES)?;
+    check_parts(&rt, rt.alloc(), BELOW, "s", IN_ITS_FILE)?;
+    check_parts(&rt, rt.alloc(), ATTRIBUTED, "", BY_ATTRIBUTES)?;
     Ok(())
 }
 
-const REASONS: &[Why] = &[
-    Why::Git,
-    Why::Rule(RuleSource::InfoExclude, 7),
-    Why::Attribute(b"export-ignore"),
-    Why::OtherKind,
-];
+fn attribute(alloc: Global, name: &[u8]) -> Result<Reason, AllocError> {
+    Ok(Reason::Attribute(name.to_vec(alloc)?))
+}
 
-fn reason_of(alloc: Global, why: &Why) -> Result<Reason, AllocError> {
-    match why {
-        Why::Git => Ok(Reason::Git),
-        Why::Rule(source, line) => Ok(Reason::Rule {
-            source: *source,
-            line: *line,
-        }),
-        Why::Attribute(name) => Ok(Reason::Attribute(name.to_vec(alloc)?)),
-        Why::OtherKind => Ok(Reason::OtherKind),
-    }
+const INFO_RULE: Reason = Reason::Rule {
+    source: RuleSource::InfoExclude,
+    line: 7,
+};
+
+/// The words of a reason's copy.
+fn copied(alloc: Global, reason: &Reason) -> Result<String, AllocError> {
+    let mut text = String::new(alloc);
+    push_reason(&mut text, &reason.copy(alloc)?)?;
+    Ok(text)
 }
 
 #[test]
 fn a_reason_is_copied(rt: HostRuntime) -> Result<(), Fail> {
-    for why in REASONS {
-        let copy = reason_of(rt.alloc(), why)?.copy(rt.alloc())?;
-        assert!(rt; is_reason(&copy, why), "{copy:?}");
-    }
+    let alloc = rt.alloc();
+    assert_eq!(rt; copied(alloc, &Reason::Git)?.as_str(), "git");
+    assert_eq!(rt;
+        copied(alloc, &INFO_RULE)?.as_str(),
+        "rule .git/info/exclude:7"
+    );
+    let attribute = copied(alloc, &attribute(alloc, b"export-ignore")?)?;
+    assert_eq!(rt; attribute.as_str(), "attribute export-ignore");
+    assert_eq!(rt; copied(alloc, &Reason::OtherKind)?.as_str(), "other");
     Ok(())
 }

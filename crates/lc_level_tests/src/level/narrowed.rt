@@ -1,316 +1,98 @@
 //! Directories of which some paths alone are asked for: which entries take part, and which paths are absent.
 
-use crate::level::work::{
-    AS_IT_IS, Case, EMPTY, LINE, Level, NO_ENTRY, NONE, Part, Selected, Skipped, TOP, Why,
-    check_parts,
-};
-use lc_level::FaultWord;
-use lc_rules::{RuleSource, TextState};
-use lc_tree::{Kind, Sketch};
+use crate::level::work::{Part, check_parts};
 use std::test::Fail;
 
-const SOURCES: Sketch = Sketch::Dir(&[
-    (b".gitignore", Sketch::File(b"gen\n")),
-    (b"deep", Sketch::Dir(&[(b"a.c", LINE)])),
-    (b"deeper", EMPTY),
-    (b"gen", EMPTY),
-    (b"main.c", LINE),
-]);
+const TREE: &str = "
+    .git/{ config }
+    .gitignore=*.log;out;
+    a.log
+    b.c
+    e!x
+    link@
+    out/{ o.c }
+    src/{ .gitignore=gen; deep/{ a.c } deeper/ gen/ main.c }
+    srcs/";
 
-const AT_TOP: Case = Case {
-    tree: Sketch::Dir(&[
-        (b".git", Sketch::Dir(&[(b"config", LINE)])),
-        (b".gitignore", Sketch::File(b"*.log\nout\n")),
-        (b"a.log", LINE),
-        (b"b.c", LINE),
-        (b"e", Sketch::Failing(b"x")),
-        (b"link", Sketch::Other),
-        (b"out", Sketch::Dir(&[(b"o.c", LINE)])),
-        (b"src", SOURCES),
-        (b"srcs", EMPTY),
-    ]),
-    ..TOP
-};
-
-const IN_SOURCES: Case = Case {
-    below: Some(b"src"),
-    ..AT_TOP
-};
-
-const B_C: (&[u8], TextState) = (b"b.c", NONE);
-
-const FAILING: (&[u8], FaultWord) = (b"e", FaultWord::Read);
-
-const GIT: Skipped = (b".git", Kind::Dir, Why::Git);
-
-const LOG: Skipped = (b"a.log", Kind::File, Why::Rule(RuleSource::Gitignore(0), 1));
-
-const LINK: Skipped = (b"link", Kind::Other, Why::OtherKind);
-
-const OUT: Skipped = (b"out", Kind::Dir, Why::Rule(RuleSource::Gitignore(0), 2));
-
-const GEN: Skipped = (b"gen", Kind::Dir, Why::Rule(RuleSource::Gitignore(1), 1));
+/// All that the top has.
+const TOP: &str = "
+    .gitignore
+    b.c
+    fault read e
+    src/
+    srcs/
+    left git .git/
+    left rule .gitignore:1 a.log
+    left other link@
+    left rule .gitignore:2 out/";
 
 const PARTS_OF_TOP: &[Part] = &[
-    (
-        "no path",
-        AS_IT_IS,
-        Level {
-            files: &[(b".gitignore", NONE), B_C],
-            faults: &[FAILING],
-            children: &[b"src", b"srcs"],
-            skipped: &[GIT, LOG, LINK, OUT],
-            ..NO_ENTRY
-        },
-    ),
-    (
-        "a file",
-        Selected {
-            only: &[b"b.c"],
-            ..AS_IT_IS
-        },
-        Level {
-            files: &[B_C],
-            ..NO_ENTRY
-        },
-    ),
-    (
-        "a directory",
-        Selected {
-            only: &[b"src"],
-            ..AS_IT_IS
-        },
-        Level {
-            children: &[b"src"],
-            ..NO_ENTRY
-        },
-    ),
-    (
-        "a file further down",
-        Selected {
-            only: &[b"src/deep/a.c"],
-            ..AS_IT_IS
-        },
-        Level {
-            children: &[b"src"],
-            ..NO_ENTRY
-        },
-    ),
-    (
-        "a path and one below it",
-        Selected {
-            only: &[b"src", b"src/main.c", b"b.c"],
-            ..AS_IT_IS
-        },
-        Level {
-            files: &[B_C],
-            children: &[b"src"],
-            ..NO_ENTRY
-        },
-    ),
-    (
-        "a path twice",
-        Selected {
-            only: &[b"b.c", b"src", b"b.c"],
-            ..AS_IT_IS
-        },
-        Level {
-            files: &[B_C],
-            children: &[b"src"],
-            ..NO_ENTRY
-        },
-    ),
-    (
-        "absent",
-        Selected {
-            only: &[b"no.c", b"b.c"],
-            ..AS_IT_IS
-        },
-        Level {
-            files: &[B_C],
-            absent: &[b"no.c"],
-            ..NO_ENTRY
-        },
-    ),
+    ("no path", "", TOP),
+    ("a file", "b.c", "b.c"),
+    ("a directory", "src", "src/"),
+    ("a file further down", "src/deep/a.c", "src/"),
+    ("a path and one below it", "src src/main.c b.c", "b.c, src/"),
+    ("a path twice", "b.c src b.c", "b.c, src/"),
+    ("absent", "no.c b.c", "b.c, fault absent no.c"),
     (
         "absent twice",
-        Selected {
-            only: &[b"no/a", b"no/b", b"no/a"],
-            ..AS_IT_IS
-        },
-        Level {
-            absent: &[b"no/a", b"no/b"],
-            ..NO_ENTRY
-        },
+        "no/a no/b no/a",
+        "fault absent no/a, fault absent no/b",
     ),
     (
         "absent, before a fault",
-        Selected {
-            only: &[b"e", b"no.c"],
-            ..AS_IT_IS
-        },
-        Level {
-            faults: &[FAILING],
-            absent: &[b"no.c"],
-            ..NO_ENTRY
-        },
+        "e no.c",
+        "fault absent no.c, fault read e",
     ),
     (
         "a name begins with the path",
-        Selected {
-            only: &[b"sr", b"b"],
-            ..AS_IT_IS
-        },
-        Level {
-            absent: &[b"b", b"sr"],
-            ..NO_ENTRY
-        },
+        "sr b",
+        "fault absent b, fault absent sr",
     ),
     (
         "the path begins with a name",
-        Selected {
-            only: &[b"srcs2", b"b.cc"],
-            ..AS_IT_IS
-        },
-        Level {
-            absent: &[b"b.cc", b"srcs2"],
-            ..NO_ENTRY
-        },
+        "srcs2 b.cc",
+        "fault absent b.cc, fault absent srcs2",
     ),
-    (
-        "below a file",
-        Selected {
-            only: &[b"b.c/x"],
-            ..AS_IT_IS
-        },
-        Level {
-            absent: &[b"b.c/x"],
-            ..NO_ENTRY
-        },
-    ),
-    (
-        "below a link",
-        Selected {
-            only: &[b"link/x"],
-            ..AS_IT_IS
-        },
-        Level {
-            absent: &[b"link/x"],
-            ..NO_ENTRY
-        },
-    ),
-    (
-        "a link",
-        Selected {
-            only: &[b"link"],
-            ..AS_IT_IS
-        },
-        Level {
-            skipped: &[LINK],
-            ..NO_ENTRY
-        },
-    ),
+    ("below a file", "b.c/x", "fault absent b.c/x"),
+    ("below a link", "link/x", "fault absent link/x"),
+    ("a link", "link", "left other link@"),
     (
         "a file that a rule ignores",
-        Selected {
-            only: &[b"a.log"],
-            ..AS_IT_IS
-        },
-        Level {
-            skipped: &[LOG],
-            ..NO_ENTRY
-        },
+        "a.log",
+        "left rule .gitignore:1 a.log",
     ),
     (
         "below a directory that a rule ignores",
-        Selected {
-            only: &[b"out/o.c", b"out/no.c"],
-            ..AS_IT_IS
-        },
-        Level {
-            skipped: &[OUT],
-            ..NO_ENTRY
-        },
+        "out/o.c out/no.c",
+        "left rule .gitignore:2 out/",
     ),
-    (
-        "below .git",
-        Selected {
-            only: &[b".git/config"],
-            ..AS_IT_IS
-        },
-        Level {
-            skipped: &[GIT],
-            ..NO_ENTRY
-        },
-    ),
+    ("below .git", ".git/config", "left git .git/"),
 ];
 
 const PARTS_OF_SOURCES: &[Part] = &[
     (
         "the directory",
-        Selected {
-            only: &[b"src"],
-            ..AS_IT_IS
-        },
-        Level {
-            files: &[(b".gitignore", NONE), (b"main.c", NONE)],
-            children: &[b"deep", b"deeper"],
-            skipped: &[GEN],
-            ..NO_ENTRY
-        },
+        "src",
+        ".gitignore, main.c, deep/, deeper/, left rule */.gitignore:1 gen/",
     ),
-    (
-        "a file in it",
-        Selected {
-            only: &[b"src/main.c", b"b.c"],
-            ..AS_IT_IS
-        },
-        Level {
-            files: &[(b"main.c", NONE)],
-            ..NO_ENTRY
-        },
-    ),
-    (
-        "a file below it",
-        Selected {
-            only: &[b"src/deep/a.c"],
-            ..AS_IT_IS
-        },
-        Level {
-            children: &[b"deep"],
-            ..NO_ENTRY
-        },
-    ),
+    ("a file in it", "src/main.c b.c", "main.c"),
+    ("a file below it", "src/deep/a.c", "deep/"),
     (
         "what a rule of its own ignores",
-        Selected {
-            only: &[b"src/gen/a.c"],
-            ..AS_IT_IS
-        },
-        Level {
-            skipped: &[GEN],
-            ..NO_ENTRY
-        },
+        "src/gen/a.c",
+        "left rule */.gitignore:1 gen/",
     ),
     (
         "the directory, and an absent path below it",
-        Selected {
-            only: &[b"src/no.c", b"src", b"no.c"],
-            ..AS_IT_IS
-        },
-        Level {
-            files: &[(b".gitignore", NONE), (b"main.c", NONE)],
-            children: &[b"deep", b"deeper"],
-            skipped: &[GEN],
-            absent: &[b"no.c"],
-            ..NO_ENTRY
-        },
+        "src/no.c src no.c",
+        ".gitignore, main.c, fault absent no.c, deep/, deeper/, left rule */.gitignore:1 gen/",
     ),
 ];
 
 #[test]
 fn entries_that_take_part(rt: HostRuntime) -> Result<(), Fail> {
-    check_parts(&rt, rt.alloc(), &AT_TOP, PARTS_OF_TOP)?;
-    check_parts(&rt, rt.alloc(), &IN_SOURCES, PARTS_OF_SOURCES)?;
+    check_parts(&rt, rt.alloc(), TREE, "", PARTS_OF_TOP)?;
+    check_parts(&rt, rt.alloc(), TREE, "src", PARTS_OF_SOURCES)?;
     Ok(())
 }

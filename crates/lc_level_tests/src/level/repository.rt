@@ -1,118 +1,71 @@
 //! The rules of a repository, which stand in `.git/info` of the top.
 
-use crate::level::work::{Case, EMPTY, LINE, Level, NO_ENTRY, NONE, TOP, Why, check_all};
-use lc_rules::{RuleSource, TextState};
-use lc_tree::{Kind, Sketch};
+use crate::level::work::{Case, check, check_parts};
 use std::test::Fail;
 
-const INFO: Sketch = Sketch::Dir(&[
-    (b"exclude", Sketch::File(b"*.o\n!k.c\n")),
-    (b"attributes", Sketch::File(b"[attr]src text\n*.c src\n")),
-]);
+/// A tree with all the rule files that a top may have.
+const REPOSITORY: &str = "
+    .git/{ info/{ exclude=*.o;!k.c; attributes=[attr]src_text;*.c_src; } }
+    .gitignore=k.c;
+    .gitattributes=*.c_-text;
+    a.o
+    k.c
+    m.c";
 
-const REPOSITORY: Sketch = Sketch::Dir(&[
-    (b".git", Sketch::Dir(&[(b"info", INFO)])),
-    (b".gitignore", Sketch::File(b"k.c\n")),
-    (b".gitattributes", Sketch::File(b"*.c -text\n")),
-    (b"a.o", LINE),
-    (b"k.c", LINE),
-    (b"m.c", LINE),
-]);
+const BY_REPOSITORY: &str = "
+    .gitattributes
+    .gitignore
+    m.c set
+    left git .git/
+    left rule .git/info/exclude:1 a.o
+    left rule .gitignore:1 k.c";
 
-const BY_REPOSITORY: Case = Case {
-    tree: REPOSITORY,
-    found: Level {
-        files: &[
-            (b".gitattributes", NONE),
-            (b".gitignore", NONE),
-            (b"m.c", TextState::Set),
-        ],
-        skipped: &[
-            (b".git", Kind::Dir, Why::Git),
-            (b"a.o", Kind::File, Why::Rule(RuleSource::InfoExclude, 1)),
-            (b"k.c", Kind::File, Why::Rule(RuleSource::Gitignore(0), 1)),
-        ],
-        ..NO_ENTRY
-    },
-    ..TOP
-};
+const BELOW_THE_TOP: &str = "
+    .gitattributes
+    .gitignore
+    a.o
+    m.c unset
+    left git .git/
+    left rule */.gitignore:1 k.c";
 
 /// No rule is read.
-const A_ALONE: Case = Case {
-    found: Level {
-        files: &[(b"a", NONE)],
-        skipped: &[(b".git", Kind::Dir, Why::Git)],
-        ..NO_ENTRY
-    },
-    ..TOP
-};
-
-const EMPTY_INFO: Sketch = Sketch::Dir(&[(b"info", EMPTY)]);
-
-const INFO_FILE: Sketch = Sketch::Dir(&[(b"info", LINE)]);
-
-const DIRECTORY_THERE: Sketch = Sketch::Dir(&[(b"info", Sketch::Dir(&[(b"exclude", EMPTY)]))]);
-
-const LINK_THERE: Sketch = Sketch::Dir(&[(b"info", Sketch::Dir(&[(b"exclude", Sketch::Other)]))]);
+const A_ALONE: &str = "a, left git .git/";
 
 const CASES: &[Case] = &[
-    Case {
-        name: "both files",
-        ..BY_REPOSITORY
-    },
-    Case {
-        name: "after an exclude file",
-        exclude: Some(b"!a.o\n"),
-        ..BY_REPOSITORY
-    },
-    Case {
-        name: "not read below the top",
-        tree: Sketch::Dir(&[(b"s", REPOSITORY)]),
-        below: Some(b"s"),
-        found: Level {
-            files: &[
-                (b".gitattributes", NONE),
-                (b".gitignore", NONE),
-                (b"a.o", NONE),
-                (b"m.c", TextState::Unset),
-            ],
-            skipped: &[
-                (b".git", Kind::Dir, Why::Git),
-                (b"k.c", Kind::File, Why::Rule(RuleSource::Gitignore(1), 1)),
-            ],
-            ..NO_ENTRY
-        },
-        ..TOP
-    },
-    Case {
-        name: "no info",
-        tree: Sketch::Dir(&[(b".git", EMPTY), (b"a", LINE)]),
-        ..A_ALONE
-    },
-    Case {
-        name: "info is a file",
-        tree: Sketch::Dir(&[(b".git", INFO_FILE), (b"a", LINE)]),
-        ..A_ALONE
-    },
-    Case {
-        name: "an empty info",
-        tree: Sketch::Dir(&[(b".git", EMPTY_INFO), (b"a", LINE)]),
-        ..A_ALONE
-    },
-    Case {
-        name: "exclude is a directory",
-        tree: Sketch::Dir(&[(b".git", DIRECTORY_THERE), (b"a", LINE)]),
-        ..A_ALONE
-    },
-    Case {
-        name: "exclude is a link",
-        tree: Sketch::Dir(&[(b".git", LINK_THERE), (b"a", LINE)]),
-        ..A_ALONE
-    },
+    ("both files", REPOSITORY, "", BY_REPOSITORY),
+    (
+        "after an exclude file",
+        REPOSITORY,
+        "--exclude-from=!a.o;",
+        BY_REPOSITORY,
+    ),
+    ("no info", ".git/ a", "", A_ALONE),
+    ("info is a file", ".git/{ info } a", "", A_ALONE),
+    ("an empty info", ".git/{ info/ } a", "", A_ALONE),
+    (
+        "exclude is a directory",
+        ".git/{ info/{ exclude/ } } a",
+        "",
+        A_ALONE,
+    ),
+    (
+        "exclude is a link",
+        ".git/{ info/{ exclude@ } } a",
+        "",
+        A_ALONE,
+    ),
 ];
 
 #[test]
 fn rules_of_the_top_alone(rt: HostRuntime) -> Result<(), Fail> {
-    check_all(&rt, rt.alloc(), CASES)?;
+    check(&rt, rt.alloc(), CASES)?;
+    let below = format!(in rt.alloc(); "s/{{ {REPOSITORY} }}")?;
+    check_parts(
+        &rt,
+        rt.alloc(),
+        &below,
+        "s",
+        &[("not read below the top", "", BELOW_THE_TOP)],
+    )?;
     Ok(())
 }

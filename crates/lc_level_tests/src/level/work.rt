@@ -1,96 +1,21 @@
-//! One directory's work on a sketch, and what is wanted of it.
+//! One directory's work on a tree of memory, and what is found there as text.
 
 use lc_level::{
-    Cause, ChildDirectory, CountedFiles, FaultWord, FileFault, Job, LevelReader, OnlyPaths,
-    OpenFault, Opened, ReaderOptions, Reason, Scratch, Selection, SkippedEntry,
+    ChildDirectory, CountedFiles, FaultWord, Job, LevelReader, OnlyPaths, OpenFault, Opened,
+    ReaderOptions, Scratch, Selection, SkippedEntry,
 };
-use lc_rules::{IgnoreFile, RuleFault, RuleSource, TextState};
-use lc_tree::{Kind, MemTree, Node, Sketch};
+use lc_rules::IgnoreFile;
+use lc_tests::{Asked, has_words, push_kind, push_name, push_reason, text_word, tree};
+use lc_tree::{MemTree, Node};
 use std::alloc::{AllocError, Global};
 use std::process::Abort;
 use std::sync::Arc;
 
-/// A directory, what is asked of the work on it, and what stops that or is found.
-#[derive(Clone, Copy)]
-pub(crate) struct Case<'a> {
-    pub(crate) name: &'a str,
-    /// The tree, and the name of the directory below its top, if it isn't the top.
-    pub(crate) tree: Sketch<'a>,
-    pub(crate) below: Option<&'a [u8]>,
-    /// Whether the tree has to answer so below the top too.
-    pub(crate) anywhere: bool,
-    /// The rules of an exclude file.
-    pub(crate) exclude: Option<&'a [u8]>,
-    pub(crate) selected: Selected<'a>,
-    pub(crate) stop: Option<OpenFault>,
-    pub(crate) found: Level<'a>,
-}
+/// A name, the sketch of a tree, what is asked as on a command line, and what is found, or what stops it.
+pub(crate) type Case<'a> = (&'a str, &'a str, &'a str, &'a str);
 
-/// What decides beside the rules.
-#[derive(Clone, Copy)]
-pub(crate) struct Selected<'a> {
-    pub(crate) archive: bool,
-    pub(crate) without: &'a [&'a str],
-    pub(crate) only: &'a [&'a [u8]],
-}
-
-/// The names of counted files with their text states, those of others with their faults, child directories, entries that are left out,
-/// and absent paths, each in order.
-#[derive(Clone, Copy)]
-pub(crate) struct Level<'a> {
-    pub(crate) files: &'a [(&'a [u8], TextState)],
-    pub(crate) faults: &'a [(&'a [u8], FaultWord)],
-    pub(crate) children: &'a [&'a [u8]],
-    pub(crate) skipped: &'a [Skipped<'a>],
-    pub(crate) absent: &'a [&'a [u8]],
-}
-
-/// What is found of a directory by a selection.
-pub(crate) type Part<'a> = (&'a str, Selected<'a>, Level<'a>);
-
-/// A name, what stands under it, and why it is left out.
-pub(crate) type Skipped<'a> = (&'a [u8], Kind, Why<'a>);
-
-/// Why an entry is left out.
-#[derive(Clone, Copy, Debug)]
-pub(crate) enum Why<'a> {
-    Git,
-    Rule(RuleSource, u32),
-    Attribute(&'a [u8]),
-    OtherKind,
-}
-
-pub(crate) const NONE: TextState = TextState::Unspecified;
-
-pub(crate) const LINE: Sketch = Sketch::File(b"x\n");
-
-pub(crate) const EMPTY: Sketch = Sketch::Dir(&[]);
-
-pub(crate) const AS_IT_IS: Selected = Selected {
-    archive: false,
-    without: &[],
-    only: &[],
-};
-
-pub(crate) const NO_ENTRY: Level = Level {
-    files: &[],
-    faults: &[],
-    children: &[],
-    skipped: &[],
-    absent: &[],
-};
-
-/// The empty top of a tree.
-pub(crate) const TOP: Case = Case {
-    name: "",
-    tree: EMPTY,
-    below: None,
-    anywhere: false,
-    exclude: None,
-    selected: AS_IT_IS,
-    stop: None,
-    found: NO_ENTRY,
-};
+/// What is found in a directory by what is asked.
+pub(crate) type Part<'a> = (&'a str, &'a str, &'a str);
 
 /// Nothing beside what a count needs.
 pub(crate) const NOTHING: ReaderOptions = ReaderOptions {
@@ -98,28 +23,10 @@ pub(crate) const NOTHING: ReaderOptions = ReaderOptions {
     texts: false,
 };
 
-pub(crate) const LEFT_OUT: ReaderOptions = ReaderOptions {
+const LEFT_OUT: ReaderOptions = ReaderOptions {
     left_out: true,
     texts: false,
 };
-
-/// The selection of all paths.
-pub(crate) fn selection_of<'a>(selected: &Selected<'a>) -> Selection<'a> {
-    Selection::new(selected.archive, selected.without)
-}
-
-fn exclude_file(
-    alloc: Global,
-    rules: Option<&[u8]>,
-) -> Result<Option<Arc<IgnoreFile, Global>>, AllocError> {
-    let Some(rules) = rules else {
-        return Ok(None);
-    };
-    match IgnoreFile::read(alloc, rules) {
-        Ok(file) => Ok(Some(Arc::new(alloc, file)?)),
-        Err(RuleFault::TooLong) | Err(RuleFault::Memory) => Err(AllocError),
-    }
-}
 
 fn job_named(children: Vec<ChildDirectory>, name: &[u8]) -> Option<Job> {
     for child in children {
@@ -132,14 +39,14 @@ fn job_named(children: Vec<ChildDirectory>, name: &[u8]) -> Option<Job> {
 
 /// The job of the directory of this name in another, if it is there.
 pub(crate) fn child_of(
-    levels: &LevelReader<MemTree>,
+    reader: &LevelReader<MemTree>,
     job: &Job,
     name: &[u8],
     scratch: &mut Scratch,
 ) -> Result<Result<Option<Job>, OpenFault>, AllocError> {
-    match levels.open(job, scratch) {
+    match reader.open(job, scratch) {
         Ok(opened) => Ok(Ok(job_named(opened.children, name))),
-        Err(OpenFault::Broken(Cause::Memory)) => Err(AllocError),
+        Err(OpenFault::Memory) => Err(AllocError),
         Err(open_fault) => Ok(Err(open_fault)),
     }
 }
@@ -147,19 +54,16 @@ pub(crate) fn child_of(
 /// The job of the top, or of the directory of this name below it, if it is there.
 pub(crate) fn job_of(
     alloc: Global,
-    levels: &LevelReader<MemTree>,
-    exclude: Option<&[u8]>,
-    below: Option<&[u8]>,
+    reader: &LevelReader<MemTree>,
+    exclude: Option<Arc<IgnoreFile, Global>>,
+    below: &str,
     scratch: &mut Scratch,
 ) -> Result<Option<Job>, AllocError> {
-    let top = Job::top(alloc, exclude_file(alloc, exclude)?)?;
-    let Some(below) = below else {
+    let top = Job::top(alloc, exclude)?;
+    if below.is_empty() {
         return Ok(Some(top));
-    };
-    match child_of(levels, &top, below, scratch)? {
-        Ok(found) => Ok(found),
-        Err(_) => Ok(None),
     }
+    Ok(child_of(reader, &top, below.as_bytes(), scratch)?.unwrap_or(None))
 }
 
 /// What the work on a directory found.
@@ -173,13 +77,13 @@ struct Found {
 
 /// Opens the directory of the job and counts its files.
 fn work(
-    levels: &LevelReader<MemTree>,
+    reader: &LevelReader<MemTree>,
     job: &Job,
     scratch: &mut Scratch,
 ) -> Result<Result<Found, OpenFault>, AllocError> {
-    let opened = match levels.open(job, scratch) {
+    let opened = match reader.open(job, scratch) {
         Ok(opened) => opened,
-        Err(OpenFault::Broken(Cause::Memory)) => return Err(AllocError),
+        Err(OpenFault::Memory) => return Err(AllocError),
         Err(open_fault) => return Ok(Err(open_fault)),
     };
     let Opened {
@@ -190,7 +94,7 @@ fn work(
         absent,
         entries,
     } = opened;
-    match levels.count(&job, files, absent, scratch) {
+    match reader.count(&job, files, absent, scratch) {
         Ok(counted) => Ok(Ok(Found {
             counted,
             children,
@@ -201,155 +105,150 @@ fn work(
     }
 }
 
-fn are_files(found: &CountedFiles, wanted: &[(&[u8], TextState)]) -> bool {
-    found.files.len() == wanted.len()
-        && found.files.iter().zip(wanted).all(|(file, (name, text))| file.name.as_slice() == *name
-            && file.text == *text)
-}
-
-fn are_faults(found: &[FileFault], wanted: &[(&[u8], FaultWord)]) -> bool {
-    found.len() == wanted.len()
-        && found.iter().zip(wanted).all(|(fault, (name, word))| fault.name.as_slice() == *name
-            && fault.word == *word)
-}
-
-fn are_absent(found: &[FileFault], wanted: &[&[u8]]) -> bool {
-    found.len() == wanted.len()
-        && found.iter().zip(wanted).all(|(fault, path)| fault.name.as_slice() == *path
-            && fault.word == FaultWord::Absent)
-}
-
-fn are_children(found: &[ChildDirectory], wanted: &[&[u8]]) -> bool {
-    found.len() == wanted.len()
-        && found
-            .iter()
-            .zip(wanted)
-            .all(|(child, name)| child.name.as_slice() == *name)
-}
-
-pub(crate) fn is_reason(found: &Reason, wanted: &Why) -> bool {
-    match (found, wanted) {
-        (Reason::Git, Why::Git) => true,
-        (Reason::Rule { source, line }, Why::Rule(wanted, number)) => {
-            *source == *wanted && *line == *number
+fn push_counted(text: &mut String, counted: &CountedFiles) -> Result<(), AllocError> {
+    for file in &counted.files {
+        push_name(text, &file.name)?;
+        let word = text_word(file.text);
+        if word != "-" {
+            write!(text, " {word}")?;
         }
-        (Reason::Attribute(name), Why::Attribute(wanted)) => name.as_slice() == *wanted,
-        (Reason::OtherKind, Why::OtherKind) => true,
-        _ => false,
+        text.push_str("\n")?;
     }
+    for fault in &counted.faults {
+        let word = fault.word.as_str();
+        write!(text, "fault {word} ")?;
+        push_name(text, &fault.name)?;
+        text.push_str("\n")?;
+    }
+    Ok(())
 }
 
-fn are_skipped(found: &[SkippedEntry], wanted: &[Skipped]) -> bool {
-    found.len() == wanted.len()
-        && found.iter().zip(wanted).all(|(skipped, (name, kind, why))| skipped.name.as_slice()
-            == *name
-            && skipped.kind == *kind
-            && is_reason(&skipped.reason, why))
+fn push_skipped(text: &mut String, entries: &[SkippedEntry]) -> Result<(), AllocError> {
+    for entry in entries {
+        text.push_str("left ")?;
+        push_reason(text, &entry.reason)?;
+        text.push_str(" ")?;
+        push_name(text, &entry.name)?;
+        push_kind(text, entry.kind)?;
+        text.push_str("\n")?;
+    }
+    Ok(())
+}
+
+/// The counted files, the faults, the child directories, and what is left out.
+fn text_of(alloc: Global, found: &Found) -> Result<String, AllocError> {
+    let mut text = String::new(alloc);
+    push_counted(&mut text, &found.counted)?;
+    for child in &found.children {
+        push_name(&mut text, &child.name)?;
+        text.push_str("/\n")?;
+    }
+    push_skipped(&mut text, &found.skipped)?;
+    Ok(text)
 }
 
 /// Each entry that takes part is counted, at fault, walked or left out.
-fn are_all(entries: u32, wanted: &Level) -> bool {
-    entries as usize
-        == wanted.files.len() + wanted.faults.len() + wanted.children.len() + wanted.skipped.len()
+fn is_whole(found: &Found) -> bool {
+    let faults = found.counted.faults.iter();
+    let unread = faults
+        .filter(|fault| fault.word != FaultWord::Absent)
+        .count();
+    let walked = found.children.len().wrapping_add(found.skipped.len());
+    let counted = found.counted.files.len().wrapping_add(unread);
+    found.entries as usize == counted.wrapping_add(walked)
 }
 
-fn is_level(found: &Found, wanted: &Level, kept: ReaderOptions) -> bool {
-    let Some((absent, faults)) = found.counted.faults.split_at_checked(wanted.absent.len()) else {
-        return false;
-    };
-    let is_skipped = if kept.left_out {
-        are_skipped(&found.skipped, wanted.skipped)
-    } else {
-        found.skipped.is_empty()
-    };
-    is_skipped
-        && are_files(&found.counted, wanted.files)
-        && are_absent(absent, wanted.absent)
-        && are_faults(faults, wanted.faults)
-        && are_children(&found.children, wanted.children)
-        && are_all(found.entries, wanted)
-}
-
-/// Works on the directory of a tree, and compares what is found, or what stops it.
-pub(crate) fn is_found(
+/// What is found in a directory of a tree, or what stops it; and how many entries take part.
+fn found_in(
+    rt: &impl Abort,
     alloc: Global,
     node: &Node,
-    below: Option<&[u8]>,
-    case: &Case,
-    wanted: &Level,
+    below: &str,
+    asked: &Asked,
     kept: ReaderOptions,
-) -> Result<bool, AllocError> {
+) -> Result<(String, u32), AllocError> {
     let tree = MemTree::new(node);
-    let only = OnlyPaths::new(alloc, case.selected.only)?;
-    let selection = selection_of(&case.selected).narrowed(&only);
-    let levels = LevelReader::new(alloc, &tree, selection, kept);
+    let only = OnlyPaths::new(alloc, &asked.only)?;
+    let selection = Selection::new(asked.archive, &asked.without).narrowed(&only);
+    let reader = LevelReader::new(alloc, &tree, selection, kept);
     let mut scratch = Scratch::new(alloc)?;
-    let Some(job) = job_of(alloc, &levels, case.exclude, below, &mut scratch)? else {
-        return Ok(false);
+    let exclude = asked.exclude_file(alloc)?;
+    let Some(job) = job_of(alloc, &reader, exclude, below, &mut scratch)? else {
+        return Ok((String::new(alloc), 0));
     };
-    match (work(&levels, &job, &mut scratch)?, case.stop) {
-        (Ok(found), None) => Ok(is_level(&found, wanted, kept)),
-        (Err(open_fault), Some(stop)) => Ok(open_fault == stop),
-        (Ok(_), Some(_)) | (Err(_), None) => Ok(false),
+    match work(&reader, &job, &mut scratch)? {
+        Ok(found) => {
+            assert!(rt;
+                !kept.left_out || is_whole(&found),
+                "{} entries",
+                found.entries
+            );
+            Ok((text_of(alloc, &found)?, found.entries))
+        }
+        Err(open_fault) => Ok((format!(in alloc; "{open_fault:?}")?, 0)),
     }
 }
 
-/// What is found is the same whether entries left out are kept or not, but for these.
+/// What is found is the same whether entries that are left out are kept or not, but for these.
 fn check_node(
     rt: &impl Abort,
     alloc: Global,
     node: &Node,
-    below: Option<&[u8]>,
-    case: &Case,
+    below: &str,
+    (name, words, wanted): &Part,
 ) -> Result<(), AllocError> {
-    let plain = is_found(alloc, node, below, case, &case.found, NOTHING)?;
-    let kept = is_found(alloc, node, below, case, &case.found, LEFT_OUT)?;
-    assert!(rt; plain && kept, "{}", case.name);
+    let asked = Asked::read(alloc, words)?;
+    assert!(rt; asked.is_known, "{words}");
+    let (all, entries) = found_in(rt, alloc, node, below, &asked, LEFT_OUT)?;
+    assert!(rt; has_words(&all, wanted), "{name}: {all}");
+    let (plain, same_entries) = found_in(rt, alloc, node, below, &asked, NOTHING)?;
+    let (wanted, _) = wanted.split_once("left ").unwrap_or((wanted, ""));
+    assert!(rt;
+        has_words(&plain, wanted) && entries == same_entries,
+        "{name}: {plain}"
+    );
     Ok(())
 }
 
-/// A directory in which this one is named `s`.
-fn holding(alloc: Global, node: Node) -> Result<Node, AllocError> {
-    let mut children = Vec::with_capacity(alloc, 1)?;
-    children.push((b"s".to_vec(alloc)?, node))?;
-    Ok(Node::Dir(children))
-}
-
-pub(crate) fn check(rt: &impl Abort, alloc: Global, case: &Case) -> Result<(), AllocError> {
-    let node = case.tree.node(alloc)?;
-    check_node(rt, alloc, &node, case.below, case)?;
-    if case.anywhere {
-        let top = holding(alloc, node)?;
-        check_node(rt, alloc, &top, Some(b"s"), case)?;
-    }
-    Ok(())
-}
-
-/// The same of each of these.
-pub(crate) fn check_all(rt: &impl Abort, alloc: Global, cases: &[Case]) -> Result<(), AllocError> {
-    for case in cases {
-        check(rt, alloc, case)?;
-    }
-    Ok(())
-}
-
-/// The case's directory by each of these selections.
+/// Works on a directory of one tree: on the top, or on what has this name below it.
 pub(crate) fn check_parts(
     rt: &impl Abort,
     alloc: Global,
-    case: &Case,
+    sketch: &str,
+    below: &str,
     parts: &[Part],
 ) -> Result<(), AllocError> {
-    for (name, selected, found) in parts {
-        check(
+    let node = tree(alloc, sketch)?;
+    for part in parts {
+        check_node(rt, alloc, &node, below, part)?;
+    }
+    Ok(())
+}
+
+/// Works on the top of each tree.
+pub(crate) fn check(rt: &impl Abort, alloc: Global, cases: &[Case]) -> Result<(), AllocError> {
+    for (name, sketch, words, wanted) in cases {
+        check_parts(rt, alloc, sketch, "", &[(*name, *words, *wanted)])?;
+    }
+    Ok(())
+}
+
+/// Works on the top of each tree, and on such a tree as the directory `s` of another.
+pub(crate) fn check_anywhere(
+    rt: &impl Abort,
+    alloc: Global,
+    cases: &[Case],
+) -> Result<(), AllocError> {
+    check(rt, alloc, cases)?;
+    for (name, sketch, words, wanted) in cases {
+        let mut entries = Vec::new(alloc);
+        entries.push((b"s".to_vec(alloc)?, tree(alloc, sketch)?))?;
+        check_node(
             rt,
             alloc,
-            &Case {
-                name,
-                selected: *selected,
-                found: *found,
-                ..*case
-            },
+            &Node::Dir(entries),
+            "s",
+            &(*name, *words, *wanted),
         )?;
     }
     Ok(())

@@ -197,8 +197,8 @@ fn a_path_is_decided_at_once_with_the_directories_above_it(rt: HostRuntime) -> R
 }
 
 #[test]
-fn a_file_searches_by_one_of_its_rules(rt: HostRuntime) -> Result<(), Fail> {
-    assert!(rt; read(rt.alloc(), b"*.o\n**/a/**\nb/\n")?.searches());
-    assert!(rt; !read(rt.alloc(), b"*.o\n/a/**\n**/b\n")?.searches());
+fn a_file_has_nested_wildcards_by_one_of_its_rules(rt: HostRuntime) -> Result<(), Fail> {
+    assert!(rt; read(rt.alloc(), b"*.o\n**/a/**\nb/\n")?.has_nested_wildcards());
+    assert!(rt; !read(rt.alloc(), b"*.o\n/a/**\n**/b\n")?.has_nested_wildcards());
     Ok(())
 }

@@ -18,7 +18,7 @@ returns-in_err-outcome g c =
     let bytes = c.in_ok-paths.paths.items in
     let fault = c.in_err-outcome.field-0.0 in
     let answers = as_asked may_take g.T.Tree.lists g.T.Tree.gives (input_lines_of c.deref.result.now) out (Err fault) wrote
-    explainer.levels.tree.now c.args.tree.now options explainer.levels.selection explainer.exclude.now explainer.top explainer.style
+    explainer.reader.tree.now c.args.tree.now options explainer.reader.selection explainer.exclude.now explainer.top explainer.style
     is.tree is.selection is.top is.exclude is.style c.in_err-outcome.ensures in
     let lines = subst (λ (b : List ℕ). AnswersLines may_take options.style says (input_lines_of b) out (Err fault) wrote)
     c.deref.ensures.value answers in
@@ -39,7 +39,7 @@ returns g c =
     let is = c.in_ok-explainer.ensures in
     let outcome = c.in_ok-outcome.outcome in
     let answers = as_asked may_take g.T.Tree.lists g.T.Tree.gives (input_lines_of c.deref.result.now) out (Ok outcome) wrote
-    explainer.levels.tree.now c.args.tree.now options explainer.levels.selection explainer.exclude.now explainer.top explainer.style
+    explainer.reader.tree.now c.args.tree.now options explainer.reader.selection explainer.exclude.now explainer.top explainer.style
     is.tree is.selection is.top is.exclude is.style c.in_ok-outcome.ensures in (
       c.in_ok-paths.paths.items,
       c.in_ok-paths.ensures,

@@ -5,9 +5,9 @@ use Rattle.lc_glob.proofs.bracket.push_items.Given as goal
 
 abbrev pub invariant-items : goal.invariant-items
 invariant-items l = record {
-  has : HavePushed (items true 0 l.bytes) l.initial.tokens.items l.tokens.items (length l.bytes - length l.left) l.first l.left;
-  within : length l.left ≤ length l.bytes;
+  has : HavePushed (items true 0 l.bytes) l.initial.tokens.items l.tokens.items (length l.bytes - length l.rest) l.first l.rest;
+  within : length l.rest ≤ length l.bytes;
 }
 
 abbrev pub decreases-items : goal.decreases-items
-decreases-items l = length l.left
+decreases-items l = length l.rest

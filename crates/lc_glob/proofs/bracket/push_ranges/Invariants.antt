@@ -1,5 +1,5 @@
 use Rattle.std.proofs.Common.{◌≡◌, ◌++◌, take}
-use Rattle.lc_glob.specs.Mixed.{range_tokens}
+use Rattle.lc_glob.specs.TokenLists.{range_tokens}
 use Rattle.lc_glob.proofs.bracket.push_ranges.Given as goal
 
 abbrev pub invariant-loop-first : goal.invariant-loop-first

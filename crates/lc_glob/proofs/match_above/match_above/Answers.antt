@@ -16,14 +16,16 @@ pub returns-in-DoubleStar-clause-set : goal.returns-in-DoubleStar-clause-set
 returns-in-DoubleStar-clause-set c =
     let len = names_length c.args.names.now in
     matched_star (segments_ref_model c.in-Some.front) (names_of c.args.names.now) c.lead_above.new.flags c.spread.new.flags
-    (omega (arith, len, c.requires, c.lead_above.ensures.len)) (omega (arith, len, c.requires, c.lead_above.ensures.len, c.spread.ensures.len))
+    (omega (arith, len, c.requires, c.lead_above.ensures.len))
+    (omega (arith, len, c.requires, c.lead_above.ensures.len, c.spread.ensures.len))
     c.lead_above.ensures.set _ (end_double _ _ _ c.in-Some.ensures c.in-DoubleStar.is) c.spread.ensures.set
 
 pub returns-in-Plain-clause-set : goal.returns-in-Plain-clause-set
 returns-in-Plain-clause-set c =
     let len = names_length c.args.names.now in
     matched_plain (segments_ref_model c.in-Some.front) (names_of c.args.names.now) c.lead_above.new.flags c.keep.new.flags
-    (omega (arith, len, c.requires, c.lead_above.ensures.len)) (omega (arith, len, c.requires, c.lead_above.ensures.len, c.keep.ensures.len))
+    (omega (arith, len, c.requires, c.lead_above.ensures.len))
+    (omega (arith, len, c.requires, c.lead_above.ensures.len, c.keep.ensures.len))
     c.lead_above.ensures.set _ (tokens_ref_model c.in-Plain.tokens) (end_segment _ _ _ _ c.in-Some.ensures c.in-Plain.is)
     c.keep.ensures.set
 

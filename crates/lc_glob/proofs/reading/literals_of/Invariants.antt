@@ -1,5 +1,5 @@
 use Rattle.std.proofs.Common.{◌≡◌, take}
-use Rattle.lc_glob.specs.Mixed.{literal_tokens}
+use Rattle.lc_glob.specs.TokenLists.{literal_tokens}
 use Rattle.lc_glob.proofs.reading.literals_of.Given as goal
 
 abbrev pub invariant-loop-token : goal.invariant-loop-token

@@ -1,5 +1,5 @@
 use Rattle.std.proofs.Common.{sym, subst, [], List}
-use Rattle.lc_glob.specs.Mixed.{is_separator}
+use Rattle.lc_glob.specs.TokenLists.{is_separator}
 use Rattle.lc_glob.specs.declared.token.Token.{Token}
 use Rattle.lc_glob.proofs.Lexemes.{read_lexeme, read_all}
 use Rattle.lc_glob.proofs.Naming.{EndsIn, ends_start}

@@ -7,7 +7,7 @@ use Rattle.lc_glob.proofs.scope.has_empty.Given as goal
 abbrev pub invariant-segments : goal.invariant-segments
 invariant-segments g l =
     some_empty (parts_in g.E.Element.tokens_in g.E.Element.separates l.elements)
-    ≡ some_empty (map g.E.Element.tokens_in (cuts_left g.E.Element.separates l.left.rest))
+    ≡ some_empty (map g.E.Element.tokens_in (cuts_left g.E.Element.separates l.rest.rest))
 
 abbrev pub decreases-segments : goal.decreases-segments
-decreases-segments g l = length (cuts_left g.E.Element.separates l.left.rest)
+decreases-segments g l = length (cuts_left g.E.Element.separates l.rest.rest)

@@ -7,7 +7,8 @@ use Rattle.lc_glob.proofs.scope.trim.Goals.{then-leads, else-leads}
 pub returns-then-has_empty : goal.returns-then-has_empty
 returns-then-has_empty g c =
     let e = g.E.Element in
-    trimmed_dead e.tokens_in e.separates _ _ _ c.without_last_separator-is_dir_only.ensures.parts c.without_first_separator-leads.ensures.parts
+    trimmed_dead e.tokens_in e.separates _ _ _ c.without_last_separator-is_dir_only.ensures.parts
+    c.without_first_separator-leads.ensures.parts
     (sym c.has_empty.ensures ∙ c.if-has_empty.true)
 
 pub returns : goal.returns
@@ -18,5 +19,6 @@ returns g c =
     trimmed_is e.tokens_in e.separates _ _ _ _ _ front.ensures.ends
     (elim c.if-leads.branch [
       | then-leads w ↦ w.is_anchored-is ∙ w.if-leads.true ∙ sym (or_left _ _ (sym rest.ensures.begins ∙ w.if-leads.true))
-      | else-leads w ↦ false_left _ _ _ (sym rest.ensures.begins ∙ w.if-leads.false) (w.is_anchored-is ∙ w.has_separator-is_anchored.ensures)
+      | else-leads w ↦ false_left _ _ _ (sym rest.ensures.begins ∙ w.if-leads.false)
+          (w.is_anchored-is ∙ w.has_separator-is_anchored.ensures)
     ]) front.ensures.parts rest.ensures.parts (sym c.has_empty.ensures ∙ c.if-has_empty.false)

@@ -10,7 +10,8 @@ abbrev pub invariant-lines : goal.invariant-lines
 invariant-lines l = record {
   text : l.lines.text ≡ l.text;
   macros : filter_map macro_in (attribute_lines_of l.top l.bytes) ≡ l.macros ++ filter_map macro_in (given_lines l.top (lines_left l.left));
-  lines : filter_map line_in (attribute_lines_of l.top l.bytes) ≡ l.lines.lines ++ filter_map line_in (given_lines l.top (lines_left l.left));
+  lines : filter_map line_in (attribute_lines_of l.top l.bytes)
+      ≡ l.lines.lines ++ filter_map line_in (given_lines l.top (lines_left l.left));
   place : IfSome l.left (λ rest. IsEndOf rest.now l.text);
 }
 

@@ -5,10 +5,10 @@ use Rattle.lc_rules.proofs.attr_words.trimmed.Given as goal
 
 abbrev pub invariant-bytes : goal.invariant-bytes
 invariant-bytes l = record {
-  same : trimmed l.line ≡ trimmed l.left;
-  shorter : length l.left ≤ length l.line;
-  end : IsEndOf l.left l.line;
+  same : trimmed l.line ≡ trimmed l.rest;
+  shorter : length l.rest ≤ length l.line;
+  end : IsEndOf l.rest l.line;
 }
 
 abbrev pub decreases-bytes : goal.decreases-bytes
-decreases-bytes l = length l.left
+decreases-bytes l = length l.rest

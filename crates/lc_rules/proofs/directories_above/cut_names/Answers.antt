@@ -8,9 +8,9 @@ pub names-preserved : goal.names-preserved
 names-preserved c =
     let inv = c.names.invariant in
     let path = c.args.path.now in
-    let left = c.names.left.now in
+    let left = c.names.rest.now in
     let name = c.cut_at_first.result.0 in
-    let rest = c.in-Some.rest in
+    let rest = c.in-Some.next in
     let pieces = c.cut_at_first.ensures.pieces ∙ ap (λ o. name.now ∷ pieces_left 47 o) c.in-Some.is in
     let cut : left ≡ name.now ++ 47 ∷ rest.now = subst
     (λ (o : Option (Bor (List ℕ))). MatchOption o (left ≡ name.now) (λ r. left ≡ name.now ++ 47 ∷ r.now)) c.in-Some.is

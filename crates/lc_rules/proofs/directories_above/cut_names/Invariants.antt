@@ -7,7 +7,7 @@ use Rattle.lc_rules.proofs.directories_above.cut_names.Given as goal
 abbrev pub invariant-names : goal.invariant-names
 invariant-names l = record {
   front : List ℕ;
-  whole : l.path ≡ front ++ l.left;
+  whole : l.path ≡ front ++ l.rest;
   closed : (rest : List ℕ) → segments_of (front ++ rest) ≡ names_of (take l.count l.names) ++ segments_of rest;
   within : l.count ≤ length l.names;
   names_len : length l.names ≡ length l.initial.names;

@@ -7,7 +7,7 @@ use Rattle.lc_rules.proofs.directories_above.decide.Given as goal
 abbrev pub invariant-rules : goal.invariant-rules
 invariant-rules l = record {
   newer : List RuleModel;
-  whole : l.file ≡ l.left ++ newer;
+  whole : l.file ≡ l.rest ++ newer;
   flags_len : length l.flags ≡ length l.initial.flags;
   found_len : length l.found ≡ length l.initial.found;
   decided : AreDecided newer (names_of l.names) (length l.names - 1) l.found;
@@ -15,4 +15,4 @@ invariant-rules l = record {
 }
 
 abbrev pub decreases-rules : goal.decreases-rules
-decreases-rules l = length l.left
+decreases-rules l = length l.rest

@@ -8,4 +8,5 @@ returns-clause-keeps c = λ n h. kept c.in_ok-added.added c.args.names.now c.ins
 
 pub returns-clause-adds : goal.returns-clause-adds
 returns-clause-adds c = inserted c.in_ok-added.added c.args.name.now c.args.names.now c.insert.new.self
-    (c.in_ok-added.ensures.items_if_clones_equal (λ x y e. e)) c.in_ok-insert.ensures.updates c.args.name.now (bytes_self c.args.name.now c.args.name.now refl)
+    (c.in_ok-added.ensures.items_if_clones_equal (λ x y e. e)) c.in_ok-insert.ensures.updates c.args.name.now
+    (bytes_self c.args.name.now c.args.name.now refl)

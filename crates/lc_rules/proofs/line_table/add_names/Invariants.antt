@@ -7,8 +7,8 @@ abbrev pub invariant-words : goal.invariant-words
 invariant-words l = record {
   keeps : (name : List ℕ) → has_name l.initial.names name ≡ true → has_name l.names name ≡ true;
   adds : (name : List ℕ) → assigns_name (assigned l.words) name ≡ true
-      → (assigns_name (assigned l.left) name || has_name l.names name) ≡ true;
+      → (assigns_name (assigned l.rest) name || has_name l.names name) ≡ true;
 }
 
 abbrev pub decreases-words : goal.decreases-words
-decreases-words l = length l.left
+decreases-words l = length l.rest

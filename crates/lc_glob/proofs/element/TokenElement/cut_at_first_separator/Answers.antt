@@ -1,6 +1,6 @@
 use Rattle.std.proofs.Common.{◌≡◌, sym, ap, ◌∙◌, ◌++◌, ◌∷◌, [], List, refl, false, append_assoc}
 use Rattle.std.proofs.lemmas.List.Elements.{All-append, All-cons, All-nil}
-use Rattle.lc_glob.specs.Mixed.{is_separator}
+use Rattle.lc_glob.specs.TokenLists.{is_separator}
 use Rattle.lc_glob.specs.declared.token.Token.{Token}
 use Rattle.lc_glob.proofs.Naming.{cut_first, none_first}
 use Rattle.lc_glob.proofs.element.TokenElement.cut_at_first_separator.Goals as goal

@@ -1,7 +1,7 @@
 use Rattle.std.proofs.Common.{◌≡◌, sym, ap, ◌∙◌, ◌++◌, ◌∷◌, [], List, false, append_assoc}
 use Rattle.std.proofs.lemmas.List.{append-nil}
 use Rattle.std.proofs.lemmas.List.Elements.{All-cons, All-nil}
-use Rattle.lc_glob.specs.Mixed.{is_separator}
+use Rattle.lc_glob.specs.TokenLists.{is_separator}
 use Rattle.lc_glob.specs.declared.token.Token.{Token}
 use Rattle.lc_glob.proofs.Naming.{cut_last, none_last}
 use Rattle.lc_glob.proofs.element.TokenElement.cut_at_last_separator.Goals as goal

@@ -1,11 +1,11 @@
 use Rattle.std.proofs.Common.{◌≡◌, ◌++◌, List, false, length}
 use Rattle.std.specs.List.{All}
-use Rattle.lc_glob.specs.Mixed.{is_separator}
+use Rattle.lc_glob.specs.TokenLists.{is_separator}
 use Rattle.lc_glob.specs.declared.token.Token.{Token}
 use Rattle.lc_glob.proofs.element.TokenElement.cut_at_last_separator.Given as goal
 
 abbrev pub invariant-tokens : goal.invariant-tokens
-invariant-tokens l = (after : List Token) × (l.tokens ≡ l.left ++ after) × All (λ t. is_separator t ≡ false) after
+invariant-tokens l = (after : List Token) × (l.tokens ≡ l.rest ++ after) × All (λ t. is_separator t ≡ false) after
 
 abbrev pub decreases-tokens : goal.decreases-tokens
-decreases-tokens l = length l.left
+decreases-tokens l = length l.rest

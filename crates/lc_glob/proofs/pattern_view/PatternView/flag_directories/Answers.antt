@@ -11,7 +11,8 @@ returns-in-Dead-clause-told c =
     let len = names_length c.args.names.now in
     let is = sym c.self.view_is ∙ ap (pattern_view_model c.self.inside.is_dir_only) c.in-Dead.is in
     subst (λ (p : PatternModel). TellMatches p names c.fill.new.self) (sym is)
-    (told_dead _ names c.fill.new.self refl (c.fill.ensures.after (λ y e. e) ∙ ap (λ n. replicate n false) (omega (arith, len, c.requires))))
+    (told_dead _ names c.fill.new.self refl (c.fill.ensures.after (λ y e. e)
+    ∙ ap (λ n. replicate n false) (omega (arith, len, c.requires))))
 
 pub returns-in-LastSegment-clause-told : goal.returns-in-LastSegment-clause-told
 returns-in-LastSegment-clause-told c =

@@ -1,5 +1,5 @@
 use Rattle.std.proofs.Common.{ap, ◌∙◌, map, sym, true, List}
-use Rattle.lc_glob.specs.Mixed.{mixed_model}
+use Rattle.lc_glob.specs.TokenLists.{tokens_model}
 use Rattle.lc_glob.specs.Reading.{segment_from}
 use Rattle.lc_glob.specs.declared.token.Token.{Token}
 use Rattle.lc_glob.specs.Simple.{bytes_segment, ends_segment, exact_segment}
@@ -29,7 +29,7 @@ returns-in-Exact c =
 pub returns-in-Tokens : goal.returns-in-Tokens
 returns-in-Tokens c =
     let is = ap segments_ref_model c.in-Tokens.is in
-    let segment = λ (part : List Token). segment_from true (mixed_model part) in (
+    let segment = λ (part : List Token). segment_from true (tokens_model part) in (
       λ h. is ∙ ap (map segment) (c.is_over-in-Tokens.ensures.0 h),
       λ h. c.is_over-in-Tokens.ensures.1 (none_mapped segment _ (sym is ∙ h)),
     )

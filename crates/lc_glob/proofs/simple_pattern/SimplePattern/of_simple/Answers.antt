@@ -12,11 +12,11 @@ returns-in_default c = c.new.ensures ∙ sym (ap pattern_from (simple_parts c.ar
 pub returns-then-scope : goal.returns-then-scope
 returns-then-scope c =
     let trimmed = λ (t : Bool). trimmed_model (map byte_token) (is_byte 47) c.in-Some.scope.is_dir_only t c.in-Some.segments.now in
-    c.new-then-scope.ensures ∙ c.path_shape.ensures _
+    c.new-then-scope.ensures ∙ c.path_kind.ensures _
     ∙ sym (ap pattern_from (simple_parts c.args.bytes.now c.requires) ∙ c.in-Some.ensures ∙ ap trimmed c.if-scope.true)
 
 pub returns : goal.returns
 returns c =
     let trimmed = λ (t : Bool). trimmed_model (map byte_token) (is_byte 47) c.in-Some.scope.is_dir_only t c.in-Some.segments.now in
-    c.new-2.ensures ∙ c.shaped-shape.ensures _
+    c.new-2.ensures ∙ c.name_kind-kind.ensures _
     ∙ sym (ap pattern_from (simple_parts c.args.bytes.now c.requires) ∙ c.in-Some.ensures ∙ ap trimmed c.if-scope.false)

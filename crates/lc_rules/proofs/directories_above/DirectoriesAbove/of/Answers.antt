@@ -26,7 +26,8 @@ invariant_of-result c =
         decided_above _ c.args.path.now c.cut_names-len.new.ends names len c.decide-count.result.0 c.decide-count.new.found room
             (omega (arith, c.decide-count.ensures.within, few)) c.cut_names-len.ensures.cut c.decide-count.ensures.decided,
         (
-          λ whole. decided_own _ c.args.path.now (names_of (take len names)) c.args.is_dir c.decide-count.result.1 (c.cut_names-len.ensures.all whole)
+          λ whole. decided_own _ c.args.path.now (names_of (take len names)) c.args.is_dir c.decide-count.result.1
+              (c.cut_names-len.ensures.all whole)
               c.decide-count.ensures.own,
           tt,
         ),

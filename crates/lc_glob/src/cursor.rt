@@ -1,0 +1,50 @@
+//! How far the match of a segment has come, whatever its tokens are kept as.
+
+ghost use Rattle.lc_glob.specs.Steps.{RetryIs};
+
+use crate::element::Element;
+use crate::path_segment::PathSegment;
+
+/// Tokens, and the segment or the rest of it that they are compared with.
+#[derive(Clone, Copy)]
+pub(crate) struct Cursor<'p, 'n, E> {
+    pub(crate) tokens: &'p [E],
+    pub(crate) segment: PathSegment<'n>,
+}
+
+/// What the last of the tokens does with the end of the segment.
+pub(crate) enum EndStep<'p, 'n, E> {
+    /// It is a star.
+    Star,
+    /// It stands for the last byte, and these are before them.
+    Taken(Cursor<'p, 'n, E>),
+    /// The tokens fit the segment: there are neither, or a star alone.
+    Fitted,
+    /// The tokens don't fit the segment.
+    Stuck,
+}
+
+/// What the first of the tokens does with the front of the segment.
+pub(crate) enum FrontStep<'p, 'n, E> {
+    /// It is a star, and these tokens are after it.
+    Star(&'p [E]),
+    /// It stands for the first byte, and these are after them.
+    Taken(Cursor<'p, 'n, E>),
+    /// The tokens fit the segment from here: there are neither, or a star alone.
+    Fitted,
+    /// The tokens don't fit the segment from here.
+    Stuck,
+}
+
+impl<'p, 'n, E: Element> Cursor<'p, 'n, E> {
+    /// Goes back to these tokens, with one byte more for the star before them, where there is one.
+    pub(crate) fn retry(self) -> Option<Self>
+        ensures { RetryIs self.entry result }
+    {
+        let segment = self.segment.skip_first()?;
+        Some(Cursor {
+            tokens: self.tokens,
+            segment,
+        })
+    }
+}

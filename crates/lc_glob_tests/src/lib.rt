@@ -1,0 +1,5 @@
+//! The tests of patterns and paths.
+#![tactic(auto)]
+
+#[cfg(test)]
+mod glob;

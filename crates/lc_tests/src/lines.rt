@@ -1,0 +1,120 @@
+//! What is found, in the words that `lc count` prints.
+
+use lc_census::Eol;
+use lc_level::Reason;
+use lc_rules::{RuleSource, TextState};
+use lc_tree::Kind;
+use std::alloc::AllocError;
+
+const TEXT_STATES: &[TextState] = &[
+    TextState::Set,
+    TextState::Unset,
+    TextState::Auto,
+    TextState::Other,
+];
+
+const LINE_ENDS: &[Eol] = &[Eol::Lf, Eol::CrLf, Eol::Cr, Eol::Mixed, Eol::Nul];
+
+/// The attribute `text` of a word.
+pub fn text_of_word(word: &str) -> TextState {
+    let mut states = TEXT_STATES
+        .iter()
+        .filter(|state| text_word(**state) == word);
+    states.next().copied().unwrap_or(TextState::Unspecified)
+}
+
+/// The line ends of a word.
+pub fn eol_of_word(word: &str) -> Eol {
+    let mut ends = LINE_ENDS.iter().filter(|eol| eol_word(**eol) == word);
+    ends.next().copied().unwrap_or(Eol::NoEnd)
+}
+
+/// The word of an attribute `text`.
+pub fn text_word(text: TextState) -> &'static str {
+    match text {
+        TextState::Set => "set",
+        TextState::Unset => "unset",
+        TextState::Auto => "auto",
+        TextState::Other => "other",
+        TextState::Unspecified => "-",
+    }
+}
+
+/// The word of line ends.
+pub fn eol_word(eol: Eol) -> &'static str {
+    match eol {
+        Eol::NoEnd => "none",
+        Eol::Lf => "lf",
+        Eol::CrLf => "crlf",
+        Eol::Cr => "cr",
+        Eol::Mixed => "mixed",
+        Eol::Nul => "nul",
+    }
+}
+
+/// Adds a name or a path. The empty path is `.`, and bytes that are no text are written as a list of numbers.
+pub fn push_name(text: &mut String, name: &[u8]) -> Result<(), AllocError> {
+    if name.is_empty() {
+        return text.push_str(".");
+    }
+    match str::from_utf8(name) {
+        Ok(name) => text.push_str(name),
+        Err(_) => write!(text, "{name:?}"),
+    }
+}
+
+/// Adds what tells the kind of an entry behind its name.
+pub fn push_kind(text: &mut String, kind: Kind) -> Result<(), AllocError> {
+    match kind {
+        Kind::Dir => text.push_str("/"),
+        Kind::File => Ok(()),
+        Kind::Other => text.push_str("@"),
+    }
+}
+
+/// Adds the file of a rule. That of a directory has `*/` for each directory above.
+fn push_source(text: &mut String, source: RuleSource) -> Result<(), AllocError> {
+    match source {
+        RuleSource::ExcludeFrom => text.push_str("--exclude-from"),
+        RuleSource::InfoExclude => text.push_str(".git/info/exclude"),
+        RuleSource::Gitignore(depth) => {
+            for _ in 0..depth {
+                text.push_str("*/")?;
+            }
+            text.push_str(".gitignore")
+        }
+    }
+}
+
+/// Adds why an entry is skipped.
+pub fn push_reason(text: &mut String, reason: &Reason) -> Result<(), AllocError> {
+    match reason {
+        Reason::Git => text.push_str("git"),
+        Reason::Rule { source, line } => {
+            text.push_str("rule ")?;
+            push_source(text, *source)?;
+            write!(text, ":{line}")
+        }
+        Reason::Attribute(name) => {
+            text.push_str("attribute ")?;
+            push_name(text, name)
+        }
+        Reason::OtherKind => text.push_str("other"),
+    }
+}
+
+fn without_comma(word: &str) -> &str {
+    word.strip_suffix(',').unwrap_or(word)
+}
+
+/// Whether both texts have the same words. They are parted by spaces and line ends, and a comma behind a word is no part of it.
+pub fn has_words(found: &str, wanted: &str) -> bool {
+    let mut words = found.split_ascii_whitespace();
+    for wanted in wanted.split_ascii_whitespace() {
+        match words.next() {
+            Some(word) if without_comma(word) == without_comma(wanted) => {}
+            _ => return false,
+        }
+    }
+    words.next().is_none()
+}

@@ -1,0 +1,98 @@
+//! Trees of memory by a sketch.
+
+use lc_tree::Node;
+use std::alloc::{AllocError, Global};
+
+/// A directory that is being read: its name, and its entries up to here.
+type Open = (Vec<u8>, Vec<(Vec<u8>, Node)>);
+
+/// The bytes that stand in a sketch: `;` is a line feed, `^` a carriage return, and `_` a space.
+pub(crate) fn content(alloc: Global, text: &str) -> Result<Vec<u8>, AllocError> {
+    let mut bytes = Vec::new(alloc);
+    for byte in text.as_bytes() {
+        let byte = match *byte {
+            b';' => b'\n',
+            b'^' => b'\r',
+            b'_' => b' ',
+            other => other,
+        };
+        bytes.push(byte)?;
+    }
+    Ok(bytes)
+}
+
+/// What a word says of an entry: its name, and what stands under it.
+fn entry<'a>(alloc: Global, word: &'a str) -> Result<(&'a str, Node), AllocError> {
+    if let Some((name, text)) = word.split_once('=') {
+        return Ok((name, Node::File(content(alloc, text)?)));
+    }
+    if let Some(name) = word.strip_suffix("/!") {
+        return Ok((name, Node::Closed));
+    }
+    if let Some((name, text)) = word.split_once('!') {
+        return Ok((name, Node::Failing(content(alloc, text)?)));
+    }
+    if let Some(name) = word.strip_suffix('/') {
+        return Ok((name, Node::Dir(Vec::new(alloc))));
+    }
+    match word.strip_suffix('@') {
+        Some(name) => Ok((name, Node::Other)),
+        None => Ok((word, Node::File(b"x\n".to_vec(alloc)?))),
+    }
+}
+
+/// Puts an entry into the directory that was opened last.
+fn put(open: &mut Vec<Open>, name: Vec<u8>, node: Node) -> Result<(), AllocError> {
+    if let Some((_, entries)) = open.last_mut() {
+        entries.push((name, node))?;
+    }
+    Ok(())
+}
+
+/// Closes the directory that was opened last.
+fn close(open: &mut Vec<Open>) -> Result<(), AllocError> {
+    match open.pop() {
+        Some((name, entries)) => put(open, name, Node::Dir(entries)),
+        None => Ok(()),
+    }
+}
+
+fn put_word(alloc: Global, open: &mut Vec<Open>, word: &str) -> Result<(), AllocError> {
+    if word == "}" {
+        return close(open);
+    }
+    if let Some(name) = word.strip_suffix("/{") {
+        open.push((name.as_bytes().to_vec(alloc)?, Vec::new(alloc)))?;
+        return Ok(());
+    }
+    let (name, node) = entry(alloc, word)?;
+    put(open, name.as_bytes().to_vec(alloc)?, node)
+}
+
+/// The tree of a sketch, which has the entries of the top, parted by spaces and line ends:
+///
+/// | Word | Entry |
+/// |---|---|
+/// | `a` | a file of the line `x` |
+/// | `a=*.c_text;b` | a file of these bytes: `;` is a line feed, `^` a carriage return, and `_` a space |
+/// | `a!` or `a!x;` | a file that gives such bytes and then fails in place of its end |
+/// | `a/` | a directory without entries |
+/// | `a/{ b c }` | a directory with these entries |
+/// | `a/!` | a directory that can't be listed |
+/// | `a@` | neither a file nor a directory |
+///
+/// The sketch `/!` is a top that can't be listed.
+pub fn tree(alloc: Global, sketch: &str) -> Result<Node, AllocError> {
+    if sketch == "/!" {
+        return Ok(Node::Closed);
+    }
+    let mut open = Vec::new(alloc);
+    open.push((Vec::new(alloc), Vec::new(alloc)))?;
+    for word in sketch.split_ascii_whitespace() {
+        put_word(alloc, &mut open, word)?;
+    }
+    match open.pop() {
+        Some((_, entries)) => Ok(Node::Dir(entries)),
+        None => Ok(Node::Dir(Vec::new(alloc))),
+    }
+}
