@@ -110,8 +110,8 @@ const LEFT_OUT: Case<'static> = Case {
              total\t*\t*\t3\t5\t0\t34\n\
              directories\t3\n\
              entries\t7\n\
-             skipped\trule\t.gitignore:1\ta.log\n\
-             skipped\trule\t.gitignore:3\tbuild/\n",
+             left\trule\t.gitignore:1\ta.log\n\
+             left\trule\t.gitignore:3\tbuild/\n",
     ..FIRST_CASE
 };
 

@@ -74,17 +74,17 @@ fn report_with(alloc: Global, lines: &[(&[u8], Kind, Why)]) -> Result<Report, Al
 const TABS: &[u8] = b"total\t*\t*\t0\t0\t0\t0\n\
       directories\t1\n\
       entries\t1008\n\
-      skipped\tgit\t-\t.git\n\
-      skipped\trule\t.gitignore:1\ta\\x0a.log\n\
-      skipped\tattribute\texport-ignore\tdocs/\n\
-      skipped\tother\t-\tlink.c\n\
-      skipped\trule\t.git/info/exclude:2\tnotes.txt\n\
-      skipped\trule\tsrc/.gitignore:3\tsrc/gen/\n\
-      skipped\trule\t--exclude-from:7\tx.bak\n";
+      left\tgit\t-\t.git\n\
+      left\trule\t.gitignore:1\ta\\x0a.log\n\
+      left\tattribute\texport-ignore\tdocs/\n\
+      left\tother\t-\tlink.c\n\
+      left\trule\t.git/info/exclude:2\tnotes.txt\n\
+      left\trule\tsrc/.gitignore:3\tsrc/gen/\n\
+      left\trule\t--exclude-from:7\tx.bak\n";
 
 const JSON: &[u8] =
     b"{\"rows\":[],\"total\":{\"files\":0,\"lines\":0,\"blank\":0,\"bytes\":0},\"directories\":1,\
-      \"entries\":1008,\"files\":[],\"skipped\":[{\"path\":\".git\",\"kind\":\"dir\",\"reason\":\"git\"},\
+      \"entries\":1008,\"files\":[],\"left\":[{\"path\":\".git\",\"kind\":\"dir\",\"reason\":\"git\"},\
       {\"path\":\"a\\n.log\",\"kind\":\"file\",\"reason\":\"rule\",\"file\":\".gitignore\",\
       \"line\":1},{\"path\":\"docs\",\"kind\":\"dir\",\"reason\":\"attribute\",\"attribute\":\"export-ignore\"},\
       {\"path\":\"link.c\",\"kind\":\"other\",\"reason\":\"other\"},{\"path\":\"notes.txt\",\
@@ -92,7 +92,7 @@ const JSON: &[u8] =
       \"kind\":\"dir\",\"reason\":\"rule\",\"file\":\"src/.gitignore\",\"line\":3},{\"path\":\"x.bak\",\
       \"kind\":\"file\",\"reason\":\"rule\",\"file\":\"--exclude-from\",\"line\":7}],\"faults\":[]}\n";
 
-const LINES: &[u8] = b"skipped out   by                   path\n\
+const LINES: &[u8] = b"left out   by                   path\n\
      git        -                    .git\n\
      rule       .gitignore:1         a\\x0a.log\n\
      attribute  export-ignore        docs/\n\
