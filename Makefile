@@ -34,6 +34,7 @@ test-memory: rt
 test-program: lc
 	tools/cases
 	tools/definitions
+	tools/limits
 	tools/edits
 	tools/examples
 	tools/test-program

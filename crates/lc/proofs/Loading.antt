@@ -2,10 +2,10 @@
 use Rattle.std.proofs.Common.{◌≡◌, ◌∙◌, ℕ, List, Result, Ok, Err, ap, sym}
 use Rattle.std.specs.Result.{IsErrAnd}
 use Rattle.lc_census.specs.Reads.{Answer}
-use Rattle.lc_text.specs.RuleReads.{ReadsRuleText}
-use Rattle.lc_text.specs.declared.rules.RulesFileFault.{RulesFileFault}
-use Rattle.lc_text.specs.declared.rules.RulesFileFault.TheVariants as fault
-use Rattle.lc_text.specs.declared.checking.CheckFault.{CheckFault}
+use Rattle.lc_level.specs.RuleTextReads.{ReadsRuleText}
+use Rattle.lc_level.specs.declared.rule_text.RulesFileFault.{RulesFileFault}
+use Rattle.lc_level.specs.declared.rule_text.RulesFileFault.TheVariants as fault
+use Rattle.lc_text.specs.declared.check_fault.CheckFault.{CheckFault}
 use Rattle.lc_table.specs.declared.running.RunFault.{RunFault}
 use Rattle.lc_text.specs.declared.outcome.Outcome.{Outcome}
 use Rattle.lc.specs.Causes.{check_cause, run_cause}

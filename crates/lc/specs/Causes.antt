@@ -1,14 +1,12 @@
 -- Why the program gives up, and the line that says so.
 use Rattle.std.specs.Prelude.{ℕ, List, ◌++◌, codes, decimal}
 use Rattle.lc_walk.specs.declared.walk_fault.WalkFault.TheVariants as walk
-use Rattle.lc_text.specs.declared.checking.CheckFault.{CheckFault}
-use Rattle.lc_text.specs.declared.checking.CheckFault.TheVariants as check
-use Rattle.lc_explain.specs.declared.explaining.ExplainFault.{ExplainFault}
-use Rattle.lc_explain.specs.declared.explaining.ExplainFault.TheVariants as explain
+use Rattle.lc_text.specs.declared.check_fault.CheckFault.{CheckFault}
+use Rattle.lc_text.specs.declared.check_fault.CheckFault.TheVariants as check
 use Rattle.lc_text.specs.declared.printing.PrintFault.{PrintFault}
 use Rattle.lc_text.specs.declared.printing.PrintFault.TheVariants as print
-use Rattle.lc_text.specs.declared.rules.RulesFileFault.{RulesFileFault}
-use Rattle.lc_text.specs.declared.rules.RulesFileFault.TheVariants as rules
+use Rattle.lc_level.specs.declared.rule_text.RulesFileFault.{RulesFileFault}
+use Rattle.lc_level.specs.declared.rule_text.RulesFileFault.TheVariants as rules
 use Rattle.lc_table.specs.declared.running.RunFault.{RunFault}
 use Rattle.lc_table.specs.declared.running.RunFault.TheVariants as run
 use Rattle.lc.specs.declared.cause.Cause.{Cause}
@@ -39,7 +37,7 @@ rules_cause rules.Read = UnreadRules
 rules_cause rules.TooLong = RulesTooLong
 rules_cause rules.Memory = Memory
 
--- a check that stopped
+-- a check of an input, or its explanation, that stopped
 abbrev pub check_cause : CheckFault → Cause
 check_cause check.Read = UnreadInput
 check_cause check.InputTooLong = InputTooLong
@@ -56,13 +54,6 @@ run_cause (run.Walk (walk.Torn n)) = Torn n
 run_cause (run.Walk (walk.Mismatch w)) = Mismatch w
 run_cause run.Memory = Memory
 run_cause run.Write = Unwritten
-
--- explanations of an input that stopped
-abbrev pub explain_cause : ExplainFault → Cause
-explain_cause explain.Read = UnreadInput
-explain_cause explain.InputTooLong = InputTooLong
-explain_cause explain.Memory = Memory
-explain_cause explain.Write = Unwritten
 
 -- a text that was not written, or not whole
 abbrev pub print_cause : PrintFault → Cause

@@ -8,15 +8,14 @@ use Rattle.lc_level.specs.RuleReads.{shared}
 use Rattle.lc_level.specs.Selection.{selection_of}
 use Rattle.lc_tree.specs.SysTrees.{AnyListing, AnyContents}
 use Rattle.lc_walk.specs.declared.options.Options.{Options}
-use Rattle.lc.specs.Causes.{check_cause, explain_cause, print_cause, rules_cause, run_cause}
+use Rattle.lc.specs.Causes.{check_cause, print_cause, rules_cause, run_cause}
 use Rattle.lc_explain.specs.Explain.{AnswersExplain, AnswersLines, MaySay}
-use Rattle.lc_explain.specs.declared.explaining.ExplainFault.{ExplainFault}
 use Rattle.lc_explain.specs.declared.explain_options.ExplainOptions.{ExplainOptions}
-use Rattle.lc_text.specs.Check.{AnswersCheck, AnswersExplainedCheck, no_rules}
-use Rattle.lc_text.specs.CheckText.{text_by}
-use Rattle.lc_text.specs.Joined.{rules_part, joined_text}
-use Rattle.lc_text.specs.ExplainedText.{explained_text_of}
-use Rattle.lc_text.specs.RuleReads.{ReadsRuleText}
+use Rattle.lc_check.specs.Check.{AnswersCheck, AnswersExplainedCheck, no_rules}
+use Rattle.lc_check.specs.CheckText.{text_by}
+use Rattle.lc_check.specs.Joined.{rules_part, joined_text}
+use Rattle.lc_check.specs.ExplainedText.{explained_text_of}
+use Rattle.lc_level.specs.RuleTextReads.{ReadsRuleText}
 use Rattle.lc_text.specs.Styles.{styled}
 use Rattle.lc_text.specs.declared.style.PathStyle.{PathStyle}
 use Rattle.lc_walk.specs.Walks.{Walks}
@@ -27,10 +26,10 @@ use Rattle.lc_arguments.specs.declared.count.CountRequest.{CountRequest}
 use Rattle.lc_arguments.specs.declared.explain.ExplainRequest.{ExplainRequest}
 use Rattle.lc.specs.declared.cause.Cause.{Cause}
 use Rattle.lc.specs.declared.cause.Cause.TheVariants.{Memory}
-use Rattle.lc_text.specs.declared.checking.CheckFault.{CheckFault}
+use Rattle.lc_text.specs.declared.check_fault.CheckFault.{CheckFault}
 use Rattle.lc_text.specs.declared.printing.PrintFault.{PrintFault}
-use Rattle.lc_text.specs.declared.rules.RulesFileFault.{RulesFileFault}
-use Rattle.lc_text.specs.declared.rules.RulesFileFault.TheVariants as fault
+use Rattle.lc_level.specs.declared.rule_text.RulesFileFault.{RulesFileFault}
+use Rattle.lc_level.specs.declared.rule_text.RulesFileFault.TheVariants as fault
 use Rattle.lc_text.specs.declared.outcome.Outcome.{Outcome}
 use Rattle.lc_text.specs.declared.outcome.Outcome.TheVariants.{Clean}
 use Rattle.lc_table.specs.declared.running.RunFault.{RunFault}
@@ -48,9 +47,9 @@ abbrev pub ran : Result Outcome RunFault → Reply
 ran (Ok outcome) = Ok outcome
 ran (Err fault) = Err (run_cause fault)
 
-abbrev pub explained : Result Outcome ExplainFault → Reply
+abbrev pub explained : Result Outcome CheckFault → Reply
 explained (Ok outcome) = Ok outcome
-explained (Err fault) = Err (explain_cause fault)
+explained (Err fault) = Err (check_cause fault)
 
 abbrev pub told : Result Outcome PrintFault → Reply
 told (Ok outcome) = Ok outcome
@@ -114,7 +113,7 @@ abbrev pub AnswersPaths : {I O : Type 0} → (I → ℕ → Answer → I → Typ
     → ExplainOptions → List (Bor (List ℕ)) → I → O → Reply → I → O → Type 0
 -- those of the input
 AnswersPaths may_give may_take q [] input out reply read wrote =
-    (answer : Result Outcome ExplainFault) × (reply ≡ explained answer)
+    (answer : Result Outcome CheckFault) × (reply ≡ explained answer)
     × AnswersExplain may_take q.style (MaySay (λ path. AnyListing) (λ path. AnyContents) q) may_give input out answer read wrote
 -- those of the words
 AnswersPaths may_give may_take q (path ∷ paths) input out reply read wrote =

@@ -1,27 +1,29 @@
 //! Answering each request.
 
-ghost use Rattle.std.specs.Prelude.{◌≡◌, true, false, IfOk, option_map};
+ghost use Rattle.std.specs.Prelude.{true, false};
 ghost use Rattle.lc_arguments.specs.Words.{IsWithinLimits, IsCountWithinLimits};
-ghost use Rattle.lc_level.specs.RuleReads.{shared};
-ghost use Rattle.lc_rules.specs.IgnoreRules.{rules_of};
 ghost use Rattle.lc.specs.Requests.{LoadsFile, AnswersExcluded, AnswersFile, AnswersJoined, AnswersCount, AnswersRequest};
 ghost use Rattle.lc.specs.Requests.{AnswersPaths, AnswersExplanation};
 
 use crate::cause::Cause;
 use crate::rules_file::rule_text_of_file;
-use lc_arguments::{CheckRequest, CountRequest, ExplainRequest, Request};
+use lc_arguments::{CheckRequest, CountRequest, ExplainRequest, MAX_DIRS, MAX_THREADS, Request};
+use lc_board::limits::{MAX_CAPACITY, MAX_WORKERS};
 use lc_census::{Source, StdSource};
+use lc_check::{check, check_explained, check_joined};
 use lc_explain::{ExplainOptions, explain, explain_words};
-use lc_level::Selection;
-use lc_rules::IgnoreFile;
+use lc_level::{RuleText, Selection, exclude_rules};
 use lc_table::run;
-use lc_text::{Outcome, PathStyle, RuleText, Sink, check, check_explained, check_joined};
+use lc_text::{Outcome, PathStyle, Sink};
 use lc_tree::SysTree;
 use lc_walk::{Options, ReportLists};
-use std::alloc::{AllocError, Global};
+use std::alloc::Global;
 use std::rt::Files;
-use std::sync::{Arc, Wait};
+use std::sync::Wait;
 use std::thread::Threads;
+
+// A count may be asked for as many threads and directories as a walk can have.
+const _: () = prove!(MAX_THREADS == MAX_WORKERS && MAX_DIRS == MAX_CAPACITY);
 
 /// Checks the paths of the input by the rules of a file, which is read first.
 fn check_plainly<R: Files + AllocGlobal, S: Source, O: Sink>(
@@ -96,16 +98,6 @@ fn excluded<R: Files + AllocGlobal>(rt: &R, file: Option<&str>) -> Result<Option
     Ok(Some(text))
 }
 
-/// Reads the rules of the file of `--exclude-from`, if the option is given.
-fn rules_in(text: &Option<RuleText>) -> Result<Option<Arc<IgnoreFile, Global>>, AllocError>
-    ensures { IfOk result (λ rules. shared rules ≡ option_map rules_of text.now) }
-{
-    match text {
-        None => Ok(None),
-        Some(text) => Ok(Some(text.shared_rules()?)),
-    }
-}
-
 /// Counts a directory and prints the table.
 fn count<R: Files + Threads + Wait + Sync + AllocGlobal, O: Sink>(
     rt: &R,
@@ -119,7 +111,7 @@ where
     ensures { AnswersCount (LoadsFile ⟦<StdSource<R::File> as Source>⟧.may_give) O.may_take asked.now out.old result out.new }
 {
     let text = excluded(rt, asked.exclusions.from)?;
-    let exclude = rules_in(&text)?;
+    let exclude = exclude_rules(&text)?;
     let tree = SysTree::new(rt, rt.alloc(), asked.directory)?;
     let without = asked.exclusions.without.as_slice();
     let only = asked.only.as_slice();

@@ -2,12 +2,12 @@
 
 ghost use Rattle.std.specs.Prelude.{◌≡◌, IfOk, IsErr};
 ghost use Rattle.std.specs.Cow.{cow_str_bytes};
-ghost use Rattle.lc.specs.Causes.{HasNumber, cause_line, check_cause, explain_cause, print_cause, rules_cause, run_cause};
+ghost use Rattle.lc.specs.Causes.{HasNumber, cause_line, check_cause, print_cause, rules_cause, run_cause};
 ghost use Rattle.lc.specs.declared.cause.Cause.TheVariants.{Memory};
 
-use lc_explain::ExplainFault;
+use lc_level::RulesFileFault;
 use lc_table::RunFault;
-use lc_text::{CheckFault, PrintFault, RulesFileFault};
+use lc_text::{CheckFault, PrintFault};
 use lc_walk::WalkFault;
 use std::alloc::{AllocError, AllocFailed, Global};
 use std::borrow::CowStr;
@@ -108,19 +108,6 @@ impl From<RunFault> for Cause {
             RunFault::Walk(WalkFault::Torn(number)) => Cause::Torn(number),
             RunFault::Walk(WalkFault::Mismatch(worker)) => Cause::Mismatch(worker),
             RunFault::Write => Cause::Unwritten,
-        }
-    }
-}
-
-impl From<ExplainFault> for Cause {
-    ghost from_gives = { λ explain cause. cause ≡ explain_cause explain };
-
-    fn from(fault: ExplainFault) -> Cause {
-        match fault {
-            ExplainFault::Read => Cause::UnreadInput,
-            ExplainFault::InputTooLong => Cause::InputTooLong,
-            ExplainFault::Memory => Cause::Memory,
-            ExplainFault::Write => Cause::Unwritten,
         }
     }
 }

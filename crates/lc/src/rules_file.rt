@@ -3,7 +3,7 @@
 ghost use Rattle.lc.specs.Requests.{LoadsFile};
 
 use lc_census::{Source, StdSource};
-use lc_text::{RuleText, RulesFileFault, read_rule_text};
+use lc_level::{RuleText, RulesFileFault, read_rule_text};
 use std::fs;
 use std::rt::Files;
 

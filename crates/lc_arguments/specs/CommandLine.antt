@@ -48,9 +48,17 @@ table_rules =
     flag_rule (codes "files") ∷ flag_rule (codes "left-out") ∷ text_rule (codes "format") ∷ text_rule (codes "by")
     ∷ text_rule (codes "sort") ∷ []
 
+-- the most threads of a count, and the most directories
+abbrev pub max_threads : ℕ
+max_threads = 16
+
+abbrev pub max_dirs : ℕ
+max_dirs = 1048576
+
 -- the bounds of a count
 abbrev pub limit_rules : List Rule
-limit_rules = number_rule (codes "threads") 16 (codes "4") ∷ number_rule (codes "max-dirs") 1048576 (codes "65536") ∷ []
+limit_rules =
+    number_rule (codes "threads") max_threads (codes "4") ∷ number_rule (codes "max-dirs") max_dirs (codes "65536") ∷ []
 
 abbrev pub count_rules : List Rule
 count_rules = exclusion_rules ++ texts_rule (codes "only") ∷ table_rules ++ limit_rules ++ word_rule (codes "DIR") ∷ []

@@ -19,7 +19,7 @@ use Rattle.clap.specs.declared.error.kind.ErrorKind.{ErrorKind}
 use Rattle.clap.specs.declared.error.kind.ErrorKind.TheVariants.{DisplayHelp, DisplayVersion}
 use Rattle.clap.specs.declared.parser.matches.ArgMatches.{ArgMatches}
 use Rattle.lc_rules.specs.AttrWords.{is_name}
-use Rattle.lc_arguments.specs.CommandLine.{count_app, check_app, explain_app, lc_app}
+use Rattle.lc_arguments.specs.CommandLine.{count_app, check_app, explain_app, lc_app, max_threads, max_dirs}
 use Rattle.lc_arguments.specs.declared.request.ParseExit.{ParseExit}
 use Rattle.lc_arguments.specs.declared.request.ParseExit.TheVariants.{Shown, Refused, Memory}
 use Rattle.lc_arguments.specs.declared.request.Request.{Request}
@@ -38,13 +38,14 @@ ReadsWithin command id low high =
     (m : ArgMatches) → IsParsedFrom command m → (text : List ℕ) → matches.one_text (found_of m) id ≡ Some text
     → (digits : List ℕ) × (text ≡ without_minus digits) × IsSignedIn (pos low) (pos high) digits
 
--- what a parse by the command of a count reads of its numbers: 1 to 16 workers, 1 to 1,048,576 directories
+-- what a parse by the command of a count reads of its numbers
 abbrev pub ReadsCountWithinLimits : Command → Type 0
-ReadsCountWithinLimits command = ReadsWithin command (codes "threads") 1 16 × ReadsWithin command (codes "max-dirs") 1 1048576
+ReadsCountWithinLimits command =
+    ReadsWithin command (codes "threads") 1 max_threads × ReadsWithin command (codes "max-dirs") 1 max_dirs
 
--- a count by 1 to 16 workers, of 1 to 1,048,576 directories
+-- a count by some threads, of some directories, neither over its limit
 abbrev pub IsCountWithinLimits : CountRequest → Type 0
-IsCountWithinLimits c = (1 ≤ c.threads) × (c.threads ≤ 16) × (1 ≤ c.max_dirs) × (c.max_dirs ≤ 1048576)
+IsCountWithinLimits c = (1 ≤ c.threads) × (c.threads ≤ max_threads) × (1 ≤ c.max_dirs) × (c.max_dirs ≤ max_dirs)
 
 abbrev pub IsWithinLimits : Request → Type 0
 IsWithinLimits CheckJoined = Unit {0}

@@ -7,6 +7,7 @@ ghost use Rattle.lc_arguments.specs.Explained.{AnswersCountWords, Explains};
 
 use crate::arguments::{bare, flag, number_option, text_option, word};
 use crate::exclusions::{Exclusions, exclusion_options};
+use crate::limits::{MAX_DIRS, MAX_THREADS};
 use crate::paths::{only, paths_in};
 use crate::request::{ParseExit, explained};
 use crate::table::table_in;
@@ -19,9 +20,9 @@ use std::convert::AsStr;
 /// The options of `lc count`, as in `lc count --threads 8 --exclude-from rules src`.
 #[derive(Drop)]
 pub struct CountRequest<'w> {
-    /// The number of threads: 1 to 16, by default 4.
+    /// The number of threads: 1 to [`MAX_THREADS`], by default 4.
     pub threads: u32,
-    /// The most directories, DIR included: 1 to 1,048,576, by default 65,536.
+    /// The most directories, DIR included: 1 to [`MAX_DIRS`], by default 65,536.
     pub max_dirs: u32,
     /// List each counted file.
     pub files: bool,
@@ -55,8 +56,8 @@ fn limits<'a>(alloc: Global) -> (Arg<'a>, Arg<'a>)
     ensures { AreArgsOf limit_rules (result.0 ∷ result.1 ∷ []) }
 {
     (
-        number_option(alloc, "threads", 16, "4", help::THREADS),
-        number_option(alloc, "max-dirs", 1_048_576, "65536", help::MAX_DIRS),
+        number_option(alloc, "threads", MAX_THREADS, "4", help::THREADS),
+        number_option(alloc, "max-dirs", MAX_DIRS, "65536", help::MAX_DIRS),
     )
 }
 

@@ -4,7 +4,7 @@
 //! - `count`, `check`, `explain`: the options of each command; `table`: those of the table; `paths`: those of `--only`
 //! - `exclusions`: what counts and explanations skip; `arguments`: the forms of options
 //! - `refusals`: the text of a refusal, as a terminal shows it; `suggestions`: what refused arguments may have meant
-//! - `help`: the texts of help and of the version
+//! - `limits`: the largest values of options; `help`: the texts of help and of the version
 #![tactic(auto)]
 
 mod arguments;
@@ -13,6 +13,7 @@ mod count;
 mod exclusions;
 mod explain;
 mod help;
+mod limits;
 mod paths;
 mod refusals;
 mod request;
@@ -23,4 +24,5 @@ pub use check::CheckRequest;
 pub use count::CountRequest;
 pub use exclusions::Exclusions;
 pub use explain::ExplainRequest;
+pub use limits::{MAX_DIRS, MAX_THREADS};
 pub use request::{ParseExit, Request};

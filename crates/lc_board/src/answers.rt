@@ -15,7 +15,7 @@ pub enum Claim<J> {
     Memory,
 }
 
-/// Why a job was not posted. It comes back.
+/// Why a job was not posted. The fault has the job.
 #[derive(PartialEq, Eq, Debug, Drop)]
 pub enum PostFault<J> {
     /// All numbers of the board are used.
@@ -24,12 +24,12 @@ pub enum PostFault<J> {
     Memory(J),
 }
 
-/// Why a board was not closed. They are tested in this order.
+/// Why a board was not closed. The first of these that holds is reported.
 #[derive(Clone, Copy, PartialEq, Eq, Debug, Drop)]
 pub enum CloseFault {
     /// The least number that is neither returned nor faulted.
     Unfinished(u32),
-    /// A worker of whose events the board and the pass tell different things.
+    /// The worker whose events the board and the pass remember differently.
     Mismatch(u32),
     /// There was no memory for the rows.
     Memory,

@@ -2,6 +2,11 @@
 //!
 //! Number 0 is the root's. Who has claimed a number may post further ones under it, each with a job, and ends the claim by a row. A
 //! board is over once no number is open or claimed, and then gives the row of each number.
+//!
+//! - `shared`: the trait of boards that threads share; `event`, `answers`: what its calls do and answer; `limits`: how large a board may be
+//! - `words`: the board of the program, which has a word of a table for each number
+//! - `locked`: a board with a lock, with which tests compare `words`; `plain`: the board of one thread under that lock
+//! - `laws`: what legal histories have in common
 #![tactic(auto)]
 
 mod answers;

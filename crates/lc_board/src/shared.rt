@@ -13,7 +13,7 @@ use std::sync::Wait;
 
 /// A worker's pass.
 pub trait Token<J, R> {
-    /// Its worker, the events that it made, and whether it was refused.
+    /// What contracts see of a pass: its worker, its events, and whether it was refused.
     ghost view: { Self → Pass J R };
 
     /// The worker's number, from 0.
@@ -24,7 +24,7 @@ pub trait Token<J, R> {
     fn holding(&self) -> Option<u32>
         ensures { result ≡ holding (view self.now) };
 
-    /// How much was posted under the present claim.
+    /// The number of posts under the present claim.
     fn posted(&self) -> u32
         ensures { result ≡ posted (view self.now) };
 }
@@ -34,10 +34,10 @@ pub trait Token<J, R> {
 pub trait Shared<J, R>: Sized + Sync + Drop {
     type Pass: Token<J, R> + Send + Drop;
 
-    /// Its capacity.
+    /// The capacity of the board.
     ghost capacity_of: { Self → ℕ };
 
-    /// How many workers share it.
+    /// The number of workers that share the board.
     ghost workers_of: { Self → ℕ };
 
     /// The job of number 0, as far as the board tells it.
@@ -49,8 +49,8 @@ pub trait Shared<J, R>: Sized + Sync + Drop {
     /// What closing such a board promises.
     ghost promises: { Promises };
 
-    /// A board on which number 0 is open with the job of the root, and the passes of its workers, in order. Where memory is refused
-    /// the root is dropped.
+    /// Starts a board on which number 0 is open with the job of the root. It returns the board and the passes of its workers, in order. If
+    /// memory is refused, the root is dropped.
     fn start(
         alloc: Global,
         capacity: u32,

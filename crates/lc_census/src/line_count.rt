@@ -22,12 +22,12 @@ pub enum Eol {
 /// A line ends at LF, at CR LF, or at a CR that no LF follows; bytes after the last end are one more line.
 #[derive(Clone, Copy, Debug, Drop, PartialEq, Eq)]
 pub struct Count {
-    /// The lines.
+    /// The number of lines.
     pub lines: u64,
-    /// Those lines that hold only spaces and tabs, or nothing.
+    /// The number of lines that hold only spaces and tabs, or nothing.
     pub blank: u64,
-    /// The bytes, line ends included.
+    /// The number of bytes, line ends included.
     pub bytes: u64,
-    /// How the lines end.
+    /// The kind of the line ends.
     pub eol: Eol,
 }

@@ -6,14 +6,15 @@ use Rattle.lc_level.specs.Job.{JobModel}
 use Rattle.lc_level.specs.Selection.{SelectionModel}
 use Rattle.lc_level.specs.TopJob.{top_job}
 use Rattle.lc_rules.specs.IgnoreRules.{rules_of}
-use Rattle.lc_text.specs.Check.{AnswersInput}
+use Rattle.lc_text.specs.Input.{AnswersInput}
 use Rattle.lc_text.specs.Lines.{input_lines_of}
 use Rattle.lc_text.specs.declared.outcome.Outcome.{Outcome}
 use Rattle.lc_text.specs.declared.printing.PrintFault.{PrintFault}
 use Rattle.lc_text.specs.declared.printing.PrintFault.TheVariants as print
 use Rattle.lc_text.specs.declared.style.PathStyle.{PathStyle}
 use Rattle.lc_tree.specs.Trees.{Listings, Contents}
-use Rattle.lc_explain.specs.Explain.{MaySay, AnswersLines, AnswersExplain, print_fault}
+use Rattle.lc_text.specs.CheckFaults.{print_fault}
+use Rattle.lc_explain.specs.Explain.{MaySay, AnswersLines, AnswersExplain}
 use Rattle.lc_explain.specs.Explained.{Explanation, IsExplained}
 use Rattle.lc_explain.specs.OpenDirs.{text_or_none, MayEnter}
 use Rattle.lc_explain.specs.declared.explain_options.ExplainOptions.{ExplainOptions}

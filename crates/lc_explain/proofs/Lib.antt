@@ -8,4 +8,3 @@ pub mod OutputLines
 pub mod SoFar
 pub mod Answering
 pub mod Agreeing
-pub mod Searching

@@ -1,8 +1,6 @@
 -- The last directory of a way, and what is left of a path below it.
-use Rattle.std.proofs.Common.{◌≡◌, ℕ, ◌-◌, suc, false, nat_eq, List, [], ◌∷◌, ◌++◌, length, Option, Some, None, Bor, MatchOption, IfSome}
-use Rattle.std.proofs.Common.{slice_get, refl, sym, ◌∙◌, ap, subst, arith}
-use Rattle.lc_glob.specs.Bytes.{slash}
-use Rattle.lc_glob.specs.Path.{path_in}
+use Rattle.std.proofs.Common.{◌≡◌, ℕ, ◌-◌, suc, List, [], ◌∷◌, ◌++◌, length, Option, Some, None, Bor, IfSome}
+use Rattle.std.proofs.Common.{slice_get, refl, sym, ◌∙◌, ap, arith}
 use Rattle.lc_explain.specs.OpenDirs.{OpenDirModel, DirStack}
 use Rattle.lc_explain.specs.DirStacks.{IsRestBelow, StandsBelow}
 
@@ -32,20 +30,6 @@ last_of_end (y ∷ z ∷ zs) x =
 pub last_is : {A : Type 0} (xs front : List A) (x y : A) → xs ≡ front ++ x ∷ [] → slice_get xs (length xs - 1) ≡ Some y → y ≡ x
 last_is xs front x y is last =
     let h : Some x ≡ Some y = sym (last_of_end front x) ∙ ap (λ l. slice_get l (length l - 1)) (sym is) ∙ last in sym (cc h)
-
--- what stands behind a prefix
-abbrev pub Strips : List ℕ → List ℕ → Option (Bor (List ℕ)) → Type 0
-Strips s p r = MatchOption r ((rest : List ℕ) → s ≡ p ++ rest → ⊥) (λ x. s ≡ p ++ x.now)
-
-below_is : (d n : List ℕ) → nat_eq (length d) 0 ≡ false → path_in d n ≡ d ++ slash ∷ n
-below_is [] n e = absurd (cc e)
-below_is (b ∷ bs) n e = refl
-
--- what is left behind a directory's path and a slash
-pub left_below : (d s : List ℕ) (r : Option (Bor (List ℕ))) (x : Bor (List ℕ)) → nat_eq (length d) 0 ≡ false → r ≡ Some x → Strips s d r
-    → (q : Option (Bor (List ℕ))) → Strips x.now (slash ∷ []) q → IfSome q (λ n. s ≡ path_in d n.now)
-left_below d s r x e is strips None none = tt
-left_below d s r x e is strips (Some n) at = subst (Strips s d) is strips ∙ ap (λ l. d ++ l) at ∙ sym (below_is d n.now e)
 
 -- what is left below the directory at the end of a way is left below the way
 pub below_stack : (stack : DirStack) (here : OpenDirModel) (path : List ℕ) (r : Option (Bor (List ℕ)))

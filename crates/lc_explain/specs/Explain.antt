@@ -3,14 +3,15 @@ use Rattle.std.specs.Prelude.{◌≡◌, ◌⊎◌, ◌++◌, if◌then◌else�
 use Rattle.std.specs.List.{AllByRecursion}
 use Rattle.lc_census.specs.Reads.{Answer}
 use Rattle.lc_census.specs.declared.source.Failed.{Failed}
-use Rattle.lc_census.specs.declared.whole.WholeFault.{WholeFault}
 use Rattle.lc_census.specs.declared.whole.WholeFault.TheVariants as whole
 use Rattle.lc_level.specs.TopJob.{top_job}
 use Rattle.lc_rules.specs.IgnoreRules.{rules_of}
-use Rattle.lc_text.specs.Check.{AnswersInput}
+use Rattle.lc_text.specs.Input.{AnswersInput}
 use Rattle.lc_text.specs.Lines.{input_lines_of}
 use Rattle.lc_text.specs.PathLines.{path_of, is_dir_line}
 use Rattle.lc_text.specs.Pieces.{WritesInPieces, AnswersInPieces}
+use Rattle.lc_text.specs.declared.check_fault.CheckFault.{CheckFault}
+use Rattle.lc_text.specs.declared.check_fault.CheckFault.TheVariants.{Read, InputTooLong, RulesTooLong, Memory, Write}
 use Rattle.lc_text.specs.declared.printing.PrintFault.{PrintFault}
 use Rattle.lc_text.specs.declared.printing.PrintFault.TheVariants as print
 use Rattle.lc_text.specs.declared.style.PathStyle.{PathStyle}
@@ -19,8 +20,6 @@ use Rattle.lc_explain.specs.Explained.{Explanation, IsExplained}
 use Rattle.lc_explain.specs.ExplainText.{Told, explained_line, told_text, is_fault, has_fault}
 use Rattle.lc_explain.specs.OpenDirs.{text_or_none, MayEnter}
 use Rattle.lc_explain.specs.declared.explain_options.ExplainOptions.{ExplainOptions}
-use Rattle.lc_explain.specs.declared.explaining.ExplainFault.{ExplainFault}
-use Rattle.lc_explain.specs.declared.explaining.ExplainFault.TheVariants.{Read, InputTooLong, Memory, Write}
 use Rattle.lc_text.specs.declared.outcome.Outcome.{Outcome}
 use Rattle.lc_text.specs.declared.outcome.Outcome.TheVariants.{Clean, SomeFaults}
 
@@ -69,7 +68,7 @@ module _ {O : Type 0} (may_take : O → List ℕ → Result ℕ Failed → O →
   AnswersLines lines out (Err fault) wrote = ExplainsFirst style Says lines (λ text. AnswersInPieces may_take out text (Err fault) wrote)
 
   module _ {I : Type 0} (may_give : I → ℕ → Answer → I → Type 0) where
-    abbrev pub AnswersExplain : I → O → Result Outcome ExplainFault → I → O → Type 0
+    abbrev pub AnswersExplain : I → O → Result Outcome CheckFault → I → O → Type 0
     -- the input was read whole, and the text of its lines was written whole
     AnswersExplain input out (Ok outcome) read wrote =
         (bytes : List ℕ) × AnswersInput may_give input (Ok tt) bytes read × AnswersLines (input_lines_of bytes) out (Ok outcome) wrote
@@ -79,6 +78,8 @@ module _ {O : Type 0} (may_take : O → List ℕ → Result ℕ Failed → O →
     -- the input is too long
     AnswersExplain input out (Err InputTooLong) read wrote =
         ((bytes : List ℕ) × AnswersInput may_give input (Err whole.TooLong) bytes read) × (wrote ≡ out)
+    -- the input has no rules
+    AnswersExplain input out (Err RulesTooLong) read wrote = ⊥
     -- nothing was written, or the input was read whole and a prefix of the text of its first lines was written
     AnswersExplain input out (Err Memory) read wrote =
         (wrote ≡ out)
@@ -87,14 +88,3 @@ module _ {O : Type 0} (may_take : O → List ℕ → Result ℕ Failed → O →
     -- a prefix of the text of its first lines was written
     AnswersExplain input out (Err Write) read wrote =
         (bytes : List ℕ) × AnswersInput may_give input (Ok tt) bytes read × AnswersLines (input_lines_of bytes) out (Err print.Write) wrote
-
--- an input that was not read whole
-abbrev pub input_fault : WholeFault → ExplainFault
-input_fault whole.Read = Read
-input_fault whole.TooLong = InputTooLong
-input_fault whole.Memory = Memory
-
--- a text that was not written, or not whole
-abbrev pub print_fault : PrintFault → ExplainFault
-print_fault print.Write = Write
-print_fault print.Memory = Memory

@@ -10,7 +10,7 @@ use Rattle.lc_rules.specs.IgnoreChains.{rules_in}
 use Rattle.lc_rules.specs.IgnoreRules.{RuleModel}
 use Rattle.lc_rules.specs.Verdicts.{last_match}
 use Rattle.lc_rules.specs.declared.rule_source.RuleSource.{RuleSource}
-use Rattle.lc_text.specs.ExplainedText.{line_text}
+use Rattle.lc_text.specs.RulePlaces.{line_text}
 use Rattle.lc_text.specs.PathLines.{is_bad_path}
 use Rattle.lc_tree.specs.Kinds.{is_dir}
 use Rattle.lc_tree.specs.declared.entry.Kind.{Kind}

@@ -1,15 +1,10 @@
 //! The options of an explanation.
 
-ghost use Rattle.std.specs.Prelude.{◌≡◌, option_map, IfOk};
-ghost use Rattle.lc_level.specs.RuleReads.{shared};
-ghost use Rattle.lc_rules.specs.IgnoreRules.{rules_of};
+ghost use Rattle.std.specs.Prelude.{◌≡◌};
 ghost use Rattle.lc_explain.specs.OpenDirs.{text_or_none};
 
-use lc_level::Selection;
-use lc_rules::IgnoreFile;
-use lc_text::{PathStyle, RuleText};
-use std::alloc::{AllocError, Global};
-use std::sync::Arc;
+use lc_level::{RuleText, Selection};
+use lc_text::PathStyle;
 
 /// The options of an explanation.
 ///
@@ -28,16 +23,6 @@ pub struct ExplainOptions<'o> {
 }
 
 impl<'o> ExplainOptions<'o> {
-    /// Reads the rules of the exclude file, if there is one.
-    pub(crate) fn exclude_rules(&self) -> Result<Option<Arc<IgnoreFile, Global>>, AllocError>
-        ensures { IfOk result (λ file. shared file ≡ option_map rules_of self.now.exclude) }
-    {
-        match &self.exclude {
-            None => Ok(None),
-            Some(text) => Ok(Some(text.shared_rules()?)),
-        }
-    }
-
     /// Returns the bytes of the exclude file, or none if there is no such file.
     pub(crate) fn exclude_text(&self) -> &[u8]
         ensures { result.now ≡ text_or_none self.now.exclude }

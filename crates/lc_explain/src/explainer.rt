@@ -20,7 +20,7 @@ use crate::finding::{DirectoryFault, Finding, Found, RulePlace};
 use crate::open_dir::OpenDir;
 use crate::stack_cache::{Near, StackCache};
 use lc_glob::cut_at_first;
-use lc_level::{Job, LevelReader, OpenFault, ReaderOptions};
+use lc_level::{Job, LevelReader, OpenFault, ReaderOptions, exclude_rules};
 use lc_text::{PathStyle, is_bad_path};
 use lc_tree::{Kind, Tree};
 use std::alloc::{AllocError, Global};
@@ -49,12 +49,12 @@ fn is_directory(there: Option<Kind>) -> bool
 #[derive(Drop)]
 pub(crate) struct Explainer<'t, T> {
     alloc: Global,
-    pub(crate) levels: LevelReader<'t, T>,
+    pub(crate) reader: LevelReader<'t, T>,
     pub(crate) top: Job,
     /// The text of the exclude file.
     pub(crate) exclude: &'t [u8],
     pub(crate) style: PathStyle,
-    ghost keeps: { levels.options.texts ≡ true },
+    ghost keeps: { reader.options.texts ≡ true },
     ghost starts: { top.path ≡ [] },
 }
 
@@ -64,8 +64,8 @@ impl<'t, T: Tree> Explainer<'t, T> {
         tree: &'t T,
         options: &'t ExplainOptions<'t>,
     ) -> Result<Explainer<'t, T>, AllocError>
-        ensures tree { IfOk result (λ e. e.levels.tree.now ≡ tree.entry.now) }
-        ensures selection { IfOk result (λ e. e.levels.selection ≡ options.entry.now.selection) }
+        ensures tree { IfOk result (λ e. e.reader.tree.now ≡ tree.entry.now) }
+        ensures selection { IfOk result (λ e. e.reader.selection ≡ options.entry.now.selection) }
         ensures top { IfOk result (λ e. e.top ≡ top_job (option_map rules_of options.entry.now.exclude)) }
         ensures exclude { IfOk result (λ e. e.exclude.now ≡ text_or_none options.entry.now.exclude) }
         ensures style { IfOk result (λ e. e.style ≡ options.entry.now.style) }
@@ -76,8 +76,8 @@ impl<'t, T: Tree> Explainer<'t, T> {
         };
         Ok(Explainer {
             alloc,
-            levels: LevelReader::new(alloc, tree, options.selection.copy(), reading),
-            top: Job::top(alloc, options.exclude_rules()?)?,
+            reader: LevelReader::new(alloc, tree, options.selection.copy(), reading),
+            top: Job::top(alloc, exclude_rules(&options.exclude)?)?,
             exclude: options.exclude_text(),
             style: options.style,
         })
@@ -93,10 +93,10 @@ impl<'t, T: Tree> Explainer<'t, T> {
         directory: &'p [u8],
     ) -> Result<Result<usize, DirectoryFault<'p>>, AllocError>
         requires { directory.now ≡ job.now.path }
-        ensures { Goes (MayEnter (T.lists self.now.levels.tree.now) (T.gives self.now.levels.tree.now)) job.now
+        ensures { Goes (MayEnter (T.lists self.now.reader.tree.now) (T.gives self.now.reader.tree.now)) job.now
             (stack_to kept.old above) kept.old kept.new result }
     {
-        match self.levels.enter(job, &mut kept.scratch) {
+        match self.reader.enter(job, &mut kept.scratch) {
             Ok(entered) => {
                 let stack = kept.below(above, OpenDir::new(entered))?;
                 let at = kept.keep(stack)?;
@@ -110,7 +110,7 @@ impl<'t, T: Tree> Explainer<'t, T> {
                 };
                 Ok(Err(fault))
             }
-            Err(OpenFault::Broken(_)) => Err(AllocError),
+            Err(OpenFault::Memory | OpenFault::TooDeep) => Err(AllocError),
         }
     }
 
@@ -124,10 +124,10 @@ impl<'t, T: Tree> Explainer<'t, T> {
     ) -> Result<Finding<'p>, AllocError>
         requires { path.now ≡ path_in job.now.path name.now }
         ensures { IfOk result (λ f. (cite : RuleSource → ℕ → CitedRule) → explanation_of cite f
-            ≡ said_by cite (reason_for self.now.levels.selection job.now name.now kind)
+            ≡ said_by cite (reason_for self.now.reader.selection job.now name.now kind)
             (last_match (rules_in job.now.ignore) (path_in job.now.path name.now) (is_dir kind))) }
     {
-        if let Some(reason) = self.levels.reason(job, name, path, kind)? {
+        if let Some(reason) = self.reader.reason(job, name, path, kind)? {
             return Ok(Finding::left_out(reason));
         }
         match job.last_match(path, kind.is_dir()) {
@@ -151,7 +151,7 @@ impl<'t, T: Tree> Explainer<'t, T> {
         requires stands { path.now ≡ path_in job.path rest.now }
         requires good { is_bad_path path.now ≡ false }
         ensures { IfOk result (λ f. (exclude : List ℕ) (stack : List OpenDirModel) → explanation_of (cited exclude stack) f
-            ≡ said_beside self.now.levels.selection exclude stack job (segments_of rest.now) as_dir) }
+            ≡ said_beside self.now.reader.selection exclude stack job (segments_of rest.now) as_dir) }
     {
         let mut job = job;
         let mut rest = rest;
@@ -161,7 +161,7 @@ impl<'t, T: Tree> Explainer<'t, T> {
                 return self.last(&job, path, name, kind_asked(as_dir, None));
             };
             let at = &path[..path.len() - others.len() - 1];
-            if let Some(reason) = self.levels.reason(&job, name, at, Kind::Dir)? {
+            if let Some(reason) = self.reader.reason(&job, name, at, Kind::Dir)? {
                 return Ok(Finding::below(reason));
             }
             job = job.at(self.alloc, at)?;
@@ -177,14 +177,14 @@ impl<'t, T: Tree> Explainer<'t, T> {
         path: &'p [u8],
         as_dir: bool,
     ) -> Result<Found<'p>, AllocError>
-        requires stacks { AreStacks (MayEnter (T.lists self.now.levels.tree.now) (T.gives self.now.levels.tree.now)) self.now.levels.selection
+        requires stacks { AreStacks (MayEnter (T.lists self.now.reader.tree.now) (T.gives self.now.reader.tree.now)) self.now.reader.selection
             self.now.exclude.now self.now.top kept.old }
         requires stands { StandsBelow (stack_at kept.old near.at) path.now near.rest.now }
         requires good { is_bad_path path.now ≡ false }
-        ensures stacks { OnOk result (AreStacks (MayEnter (T.lists self.now.levels.tree.now) (T.gives self.now.levels.tree.now))
-            self.now.levels.selection self.now.exclude.now self.now.top kept.new) }
-        ensures found { IfOk result (λ f. IsExplained (MayEnter (T.lists self.now.levels.tree.now) (T.gives self.now.levels.tree.now))
-            self.now.levels.selection self.now.exclude.now self.now.top path.now as_dir
+        ensures stacks { OnOk result (AreStacks (MayEnter (T.lists self.now.reader.tree.now) (T.gives self.now.reader.tree.now))
+            self.now.reader.selection self.now.exclude.now self.now.top kept.new) }
+        ensures found { IfOk result (λ f. IsExplained (MayEnter (T.lists self.now.reader.tree.now) (T.gives self.now.reader.tree.now))
+            self.now.reader.selection self.now.exclude.now self.now.top path.now as_dir
             (explanation_on self.now.exclude.now kept.new f)) }
     {
         let Near { mut at, mut rest } = near;
@@ -200,7 +200,7 @@ impl<'t, T: Tree> Explainer<'t, T> {
             };
             let place = &path[..path.len() - others.len() - 1];
             if let Some(reason) = self
-                .levels
+                .reader
                 .reason(&here.job, name, place, kind_asked(true, there))?
             {
                 return Ok(Found::on(at, Finding::below(reason)));
@@ -225,12 +225,12 @@ impl<'t, T: Tree> Explainer<'t, T> {
         path: &'p [u8],
         as_dir: bool,
     ) -> Result<Found<'p>, AllocError>
-        requires { AreStacks (MayEnter (T.lists self.now.levels.tree.now) (T.gives self.now.levels.tree.now)) self.now.levels.selection
+        requires { AreStacks (MayEnter (T.lists self.now.reader.tree.now) (T.gives self.now.reader.tree.now)) self.now.reader.selection
             self.now.exclude.now self.now.top kept.old }
-        ensures stacks { OnOk result (AreStacks (MayEnter (T.lists self.now.levels.tree.now) (T.gives self.now.levels.tree.now))
-            self.now.levels.selection self.now.exclude.now self.now.top kept.new) }
-        ensures found { IfOk result (λ f. IsExplained (MayEnter (T.lists self.now.levels.tree.now) (T.gives self.now.levels.tree.now))
-            self.now.levels.selection self.now.exclude.now self.now.top path.now as_dir
+        ensures stacks { OnOk result (AreStacks (MayEnter (T.lists self.now.reader.tree.now) (T.gives self.now.reader.tree.now))
+            self.now.reader.selection self.now.exclude.now self.now.top kept.new) }
+        ensures found { IfOk result (λ f. IsExplained (MayEnter (T.lists self.now.reader.tree.now) (T.gives self.now.reader.tree.now))
+            self.now.reader.selection self.now.exclude.now self.now.top path.now as_dir
             (explanation_on self.now.exclude.now kept.new f)) }
     {
         if is_bad_path(path) {

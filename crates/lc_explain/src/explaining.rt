@@ -1,67 +1,18 @@
 //! Explaining the lines of an input, or words.
 
-ghost use Rattle.std.specs.Prelude.{◌≡◌, map};
-ghost use Rattle.lc_explain.specs.Explain.{MaySay, AnswersLines, AnswersExplain, input_fault, print_fault};
-ghost use Rattle.lc_explain.specs.declared.explaining.ExplainFault.TheVariants.{Memory};
+ghost use Rattle.std.specs.Prelude.{map};
+ghost use Rattle.lc_explain.specs.Explain.{MaySay, AnswersLines, AnswersExplain};
 
 use crate::explain_options::ExplainOptions;
 use crate::explainer::Explainer;
 use crate::printing::{print_lines, print_words};
-use lc_census::{Source, WholeFault, new_buffer, read_whole};
-use lc_text::{MAX_INPUT, Outcome, PrintFault, Sink};
+use lc_census::Source;
+use lc_text::{CheckFault, Outcome, PrintFault, Sink, read_input};
 use lc_tree::Tree;
-use std::alloc::{AllocError, Global};
-use thiserror::Error;
+use std::alloc::Global;
 
-/// Why explanations were not written, or were cut short.
-#[derive(Debug, Clone, Copy, PartialEq, Eq, Error)]
-pub enum ExplainFault {
-    /// A read of the input failed.
-    #[error("cannot read input")]
-    Read,
-    /// The input has over 16,777,216 bytes.
-    #[error("input too long")]
-    InputTooLong,
-    /// There is no memory for the input, for a directory or for the text. What was written is a prefix of the text.
-    #[error("out of memory")]
-    Memory,
-    /// A write failed, or took nothing. What was written is a prefix of the text.
-    #[error("cannot write")]
-    Write,
-}
-
-impl From<AllocError> for ExplainFault {
-    ghost from_gives = { λ _ fault. fault ≡ Memory };
-
-    fn from(_refused: AllocError) -> ExplainFault {
-        ExplainFault::Memory
-    }
-}
-
-impl From<WholeFault> for ExplainFault {
-    ghost from_gives = { λ whole fault. fault ≡ input_fault whole };
-
-    fn from(fault: WholeFault) -> ExplainFault {
-        match fault {
-            WholeFault::Read => ExplainFault::Read,
-            WholeFault::TooLong => ExplainFault::InputTooLong,
-            WholeFault::Memory => ExplainFault::Memory,
-        }
-    }
-}
-
-impl From<PrintFault> for ExplainFault {
-    ghost from_gives = { λ print fault. fault ≡ print_fault print };
-
-    fn from(fault: PrintFault) -> ExplainFault {
-        match fault {
-            PrintFault::Write => ExplainFault::Write,
-            PrintFault::Memory => ExplainFault::Memory,
-        }
-    }
-}
-
-/// Reads paths to the end of the input, at most `MAX_INPUT` bytes, and writes for each which rule of a tree decides it.
+/// Reads paths to the end of the input, at most [`MAX_INPUT`](lc_text::MAX_INPUT) bytes, and writes for each which rule of a tree decides
+/// it.
 ///
 /// A line of the output has four fields, separated by tabs: a word, its source, a pattern, and the line of the input. Paths and patterns
 /// are printed in the style of the options. A path that ends with one slash is a directory; for any other the tree is asked, and a path
@@ -94,13 +45,11 @@ pub fn explain<T: Tree, S: Source, O: Sink>(
     options: &ExplainOptions,
     input: &mut S,
     out: &mut O,
-) -> Result<Outcome, ExplainFault>
+) -> Result<Outcome, CheckFault>
     ensures { AnswersExplain O.may_take options.now.style (MaySay (T.lists tree.now) (T.gives tree.now) options.now) S.may_give input.old
         out.old result input.new out.new }
 {
-    let mut buffer = new_buffer(alloc)?;
-    let mut paths = Vec::new(alloc);
-    read_whole(&mut buffer, &mut paths, input, MAX_INPUT)?;
+    let paths = read_input(alloc, input)?;
     let explainer = Explainer::new(alloc, tree, options)?;
     let outcome = print_lines(alloc, &explainer, &paths, out)?;
     Ok(outcome)

@@ -20,6 +20,6 @@ mod printing;
 mod stack_cache;
 
 pub use explain_options::ExplainOptions;
-pub use explaining::{ExplainFault, explain, explain_words};
+pub use explaining::{explain, explain_words};
 pub use laws::entries_are_explained_as_decided;
 pub use stack_cache::MAX_KEPT;

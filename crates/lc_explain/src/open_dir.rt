@@ -2,14 +2,12 @@
 
 ghost use Rattle.std.specs.Prelude.{◌≡◌, ℕ, List, IfSome};
 ghost use Rattle.lc_level.specs.RuleReads.{text_items};
-ghost use Rattle.lc_tree.specs.ByteOrder.{bytes_cmp};
 ghost use Rattle.lc_tree.specs.Listing.{IsListing};
 ghost use Rattle.lc_explain.specs.OpenDirs.{kind_in};
 ghost use Rattle.lc_explain.specs.DirStacks.{IsRestBelow};
 
-use lc_level::{Entered, Job, RuleTexts};
+use lc_level::{Entered, Job, RuleTexts, entry_named, relative_to};
 use lc_tree::{Entry, Kind};
-use std::cmp::Ordering;
 use std::marker::Model;
 
 /// About how many bytes a directory takes beside its entries, its path and its texts.
@@ -106,12 +104,9 @@ impl OpenDir {
     pub(crate) fn kind(&self, name: &[u8]) -> Option<Kind>
         ensures { result ≡ kind_in self.now.entries name.now }
     {
-        let order = |entry: &Entry| -> Ordering
-            ensures { result ≡ bytes_cmp entry.now.name name.entry.now }
-        { entry.name.as_slice().cmp(name) };
-        match self.entries.binary_search_by(order) {
-            Ok(at) => Some(self.entries[at].kind),
-            Err(_) => None,
+        match entry_named(&self.entries, name) {
+            Some(entry) => Some(entry.kind),
+            None => None,
         }
     }
 
@@ -120,12 +115,6 @@ impl OpenDir {
         ensures { IfSome result (λ rest. IsRestBelow self.now path.now rest.now) }
     {
         let directory = self.job.path();
-        if directory.is_empty() {
-            return Some(path);
-        }
-        let Some(below) = path.strip_prefix(directory) else {
-            return None;
-        };
-        below.strip_prefix(b"/")
+        relative_to(directory, path)
     }
 }

@@ -2,7 +2,7 @@
 
 ghost use Rattle.std.specs.Prelude.{◌≡◌, ◌++◌, if◌then◌else◌, [], codes, IfOk, OnOk};
 ghost use Rattle.lc_level.specs.Reasons.{reason_model};
-ghost use Rattle.lc_text.specs.ExplainedText.{line_text};
+ghost use Rattle.lc_text.specs.RulePlaces.{line_text};
 ghost use Rattle.lc_text.specs.Styles.{styled};
 ghost use Rattle.lc_explain.specs.Explain.{ExplainsLine};
 ghost use Rattle.lc_explain.specs.Explained.{cited, left_out, IsExplained};
@@ -204,13 +204,13 @@ impl ExplainOutput {
         kept: &mut StackCache,
         line: &[u8],
     ) -> Result<(), AllocError>
-        requires { AreStacks (MayEnter (T.lists explainer.now.levels.tree.now) (T.gives explainer.now.levels.tree.now))
-            explainer.now.levels.selection explainer.now.exclude.now explainer.now.top kept.old }
-        ensures stacks { OnOk result (AreStacks (MayEnter (T.lists explainer.now.levels.tree.now) (T.gives explainer.now.levels.tree.now))
-            explainer.now.levels.selection explainer.now.exclude.now explainer.now.top kept.new) }
+        requires { AreStacks (MayEnter (T.lists explainer.now.reader.tree.now) (T.gives explainer.now.reader.tree.now))
+            explainer.now.reader.selection explainer.now.exclude.now explainer.now.top kept.old }
+        ensures stacks { OnOk result (AreStacks (MayEnter (T.lists explainer.now.reader.tree.now) (T.gives explainer.now.reader.tree.now))
+            explainer.now.reader.selection explainer.now.exclude.now explainer.now.top kept.new) }
         ensures told { OnOk result (ExplainsLine explainer.now.style
-            (IsExplained (MayEnter (T.lists explainer.now.levels.tree.now) (T.gives explainer.now.levels.tree.now))
-            explainer.now.levels.selection explainer.now.exclude.now explainer.now.top) line.now self.old.block.text.items
+            (IsExplained (MayEnter (T.lists explainer.now.reader.tree.now) (T.gives explainer.now.reader.tree.now))
+            explainer.now.reader.selection explainer.now.exclude.now explainer.now.top) line.now self.old.block.text.items
             self.new.block.text.items self.old.outcome self.new.outcome) }
     {
         let (path, as_dir) = split_slash(line);

@@ -21,8 +21,8 @@ pub(crate) fn print_lines<T: Tree, O: Sink>(
     out: &mut O,
 ) -> Result<Outcome, PrintFault>
     ensures { AnswersLines O.may_take explainer.now.style
-        (IsExplained (MayEnter (T.lists explainer.now.levels.tree.now) (T.gives explainer.now.levels.tree.now))
-        explainer.now.levels.selection explainer.now.exclude.now explainer.now.top) (input_lines_of paths.now) out.old result out.new }
+        (IsExplained (MayEnter (T.lists explainer.now.reader.tree.now) (T.gives explainer.now.reader.tree.now))
+        explainer.now.reader.selection explainer.now.exclude.now explainer.now.top) (input_lines_of paths.now) out.old result out.new }
 {
     let mut kept = StackCache::new(alloc)?;
     let mut output = ExplainOutput::new(alloc);
@@ -46,8 +46,8 @@ pub(crate) fn print_words<T: Tree, O: Sink>(
     out: &mut O,
 ) -> Result<Outcome, PrintFault>
     ensures { AnswersLines O.may_take explainer.now.style
-        (IsExplained (MayEnter (T.lists explainer.now.levels.tree.now) (T.gives explainer.now.levels.tree.now))
-        explainer.now.levels.selection explainer.now.exclude.now explainer.now.top) (map (λ word. word.now) words.now) out.old result
+        (IsExplained (MayEnter (T.lists explainer.now.reader.tree.now) (T.gives explainer.now.reader.tree.now))
+        explainer.now.reader.selection explainer.now.exclude.now explainer.now.top) (map (λ word. word.now) words.now) out.old result
         out.new }
 {
     let mut kept = StackCache::new(alloc)?;

@@ -21,9 +21,9 @@ use Rattle.lc_rules.specs.Verdicts.{at_depth, last_match, verdict_from}
 use Rattle.lc_rules.specs.declared.rule_source.RuleSource.{RuleSource}
 use Rattle.lc_rules.specs.declared.verdicts.Verdict.{Verdict}
 use Rattle.lc_rules.specs.declared.verdicts.Verdict.TheVariants.{Ignored, Included, NoRule}
-use Rattle.lc_text.specs.CheckText.{file_verdict, is_ignored, has_ignored_parent, verdict_word, path_word}
+use Rattle.lc_check.specs.CheckText.{file_verdict, is_ignored, has_ignored_parent, verdict_word, path_word}
 use Rattle.lc_text.specs.PathLines.{is_bad_path}
-use Rattle.lc_text.proofs.Directories.{is_ignored_parent-slash, has_ignored_parent-some}
+use Rattle.lc_check.proofs.Directories.{is_ignored_parent-slash, has_ignored_parent-some}
 use Rattle.lc_tree.specs.Kinds.{is_dir}
 use Rattle.lc_tree.specs.Paths.{names_of_path}
 use Rattle.lc_tree.specs.Trees.{Listings, Contents}

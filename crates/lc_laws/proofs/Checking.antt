@@ -26,8 +26,8 @@ use Rattle.lc_rules.specs.Verdicts.{at_depth, last_match, verdict_from}
 use Rattle.lc_rules.specs.declared.rule_source.RuleSource.{RuleSource}
 use Rattle.lc_rules.specs.declared.verdicts.Verdict.{Verdict}
 use Rattle.lc_rules.specs.declared.verdicts.Verdict.TheVariants.{Ignored, Included}
-use Rattle.lc_text.specs.CheckText.{file_verdict, is_ignored, is_ignored_parent, has_ignored_parent, IsClearTo}
-use Rattle.lc_text.proofs.Directories.{is_ignored_parent-slash, has_ignored_parent-clear, clear-more}
+use Rattle.lc_check.specs.CheckText.{file_verdict, is_ignored, is_ignored_parent, has_ignored_parent, IsClearTo}
+use Rattle.lc_check.proofs.Directories.{is_ignored_parent-slash, has_ignored_parent-clear, clear-more}
 use Rattle.lc_tree.specs.Kinds.{is_dir}
 use Rattle.lc_tree.specs.Trees.{Listings, Contents}
 use Rattle.lc_tree.specs.declared.entry.Kind.{Kind}

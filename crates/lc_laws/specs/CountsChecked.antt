@@ -8,7 +8,7 @@ use Rattle.lc_level.specs.RuleReads.{shared}
 use Rattle.lc_level.specs.Selection.{selection_of}
 use Rattle.lc_rules.specs.IgnoreRules.{RuleModel, rules_of}
 use Rattle.lc_rules.specs.declared.rule_source.RuleSource.{RuleSource}
-use Rattle.lc_text.specs.CheckText.{file_verdict, path_word}
+use Rattle.lc_check.specs.CheckText.{file_verdict, path_word}
 use Rattle.lc_text.specs.PathLines.{is_bad_path}
 use Rattle.lc_tree.specs.Kinds.{is_dir}
 use Rattle.lc_level.specs.FileReads.{MayReadRules}

@@ -10,22 +10,22 @@ use lc_rules::the_last_match_decides;
 use lc_tree::Tree;
 use lc_walk::the_rule_of_a_line_ignores_it;
 
-/// Of a tree that answers in one way no two things may be said of a path.
+/// A tree that answers in one way has one explanation for each path.
 pub fn one_answer_is_one_explanation<T: Tree>(tree: &T)
     ensures { OneExplanationLaw (T.lists tree.now) (T.gives tree.now) }
 {
     let _tree = tree;
 }
 
-/// Of such a tree what may be said of a directory's path with a slash at its end may be said of it without one.
+/// Over a tree that answers in one way, a slash at the end of a directory's path changes no explanation.
 pub fn slashes_of_directories_say_nothing<T: Tree>(tree: &T)
     ensures { SlashLaw (T.lists tree.now) (T.gives tree.now) }
 {
     let _tree = tree;
 }
 
-/// Of a tree that answers in one way the report of a count agrees with what may be said of each path: a counted file is said to be taken,
-/// what is left out is said to be so for the same reason, and what is said of an entry tells where the report has it.
+/// Over a tree that answers in one way, a count and an explanation agree on each path: a counted file is explained as taken, a skipped
+/// entry by the same reason, and the explanation of an entry tells where the report has it.
 pub fn counts_are_as_explained<T: Tree>(tree: &T)
     ensures { ExplainedLaw (T.lists tree.now) (T.gives tree.now) }
 {
@@ -33,8 +33,8 @@ pub fn counts_are_as_explained<T: Tree>(tree: &T)
     entries_are_explained_as_decided();
 }
 
-/// Of a tree that answers in one way, whose only ignore file is the top's `.gitignore`, a check by that file says `ignored` or `below` of
-/// an entry exactly where the report of a count has it, or a directory above it, as left out by a rule.
+/// Over a tree that answers in one way, whose only ignore file is the top's `.gitignore`, a check by that file answers `ignored` or `below`
+/// for an entry exactly if a count skips it, or a directory above it, by a rule.
 pub fn counts_are_as_checked<T: Tree>(tree: &T)
     ensures { CheckedLaw (T.lists tree.now) (T.gives tree.now) }
 {

@@ -7,6 +7,7 @@ use Rattle.std.specs.Option.{is_some}
 use Rattle.std.specs.Ordering.{is_lt}
 use Rattle.std.specs.Prelude.{option_map}
 use Rattle.std.proofs.lemmas.Bool.{eqb-true}
+use Rattle.std.proofs.Math.Dec.{eqb-suc-zero}
 use Rattle.lc_glob.specs.Bytes.{slash}
 use Rattle.lc_glob.specs.Path.{path_in}
 use Rattle.lc_level.specs.Answers.{Item, entry_of, entries_of}
@@ -80,10 +81,27 @@ rest_is [] (b ∷ bs) rest e = let h : Some (b ∷ bs) ≡ Some rest = e in cc h
 rest_is (b ∷ bs) path rest e =
     after_is (b ∷ bs ++ slash ∷ []) path rest e ∙ ap (λ l. b ∷ l) (append_assoc bs (slash ∷ []) rest)
 
--- below another directory than the top
-pub rest_below : (d path : List ℕ) → nat_eq (length d) 0 ≡ false → rest_from d path ≡ after (d ++ slash ∷ []) path
-rest_below [] path e = let h : true ≡ false = e in absurd (cc h)
-rest_below (b ∷ bs) path e = refl
+-- the empty path is seen from no directory
+pub empty_unseen : (d path : List ℕ) → nat_eq (length path) 0 ≡ true → rest_from d path ≡ None
+empty_unseen [] [] e = refl
+empty_unseen (b ∷ bs) [] e = refl
+empty_unseen d (c ∷ cs) e = let h : false ≡ true = sym (eqb-suc-zero (length cs)) ∙ e in absurd (cc h)
+
+-- what another is, relative to a directory, is what is seen of it
+pub seen_relative : (d path : List ℕ) (r : Option (Bor (List ℕ))) → nat_eq (length path) 0 ≡ false
+    → MatchOption r ((rest : List ℕ) → path ≢ path_in d rest) (λ x. path ≡ path_in d x.now)
+    → option_map (λ x. x.now) r ≡ rest_from d path
+seen_relative d [] r some is = let h : true ≡ false = some in absurd (cc h)
+seen_relative [] (c ∷ cs) None some none = absurd (none (c ∷ cs) refl)
+seen_relative [] (c ∷ cs) (Some x) some is = ap Some (sym is)
+seen_relative (b ∷ bs) (c ∷ cs) None some none = at (after (b ∷ bs ++ slash ∷ []) (c ∷ cs)) refl
+  where
+    at : (o : Option (List ℕ)) → after (b ∷ bs ++ slash ∷ []) (c ∷ cs) ≡ o → None ≡ o
+    at None e = refl
+    at (Some rest) e = absurd (none rest (rest_is (b ∷ bs) (c ∷ cs) rest e))
+seen_relative (b ∷ bs) (c ∷ cs) (Some x) some is =
+    sym (ap (after (b ∷ bs ++ slash ∷ [])) (is ∙ sym (append_assoc (b ∷ bs) (slash ∷ []) x.now))
+    ∙ after_front (b ∷ bs ++ slash ∷ []) x.now)
 
 -- ---- tests of paths
 

@@ -1,5 +1,5 @@
 -- What the first of rising elements that isn't before a place tells of all.
-use Rattle.std.proofs.Common.{◌≡◌, ℕ, zero, suc, ◌<◌, ◌≤◌, Bool, true, false, ◌&&◌, ◌||◌, List, [], ◌∷◌, ◌++◌, length, get_or, map}
+use Rattle.std.proofs.Common.{◌≡◌, ℕ, zero, suc, ◌<◌, ◌≤◌, Bool, true, false, ◌||◌, List, [], ◌∷◌, ◌++◌, length, get_or, map}
 use Rattle.std.proofs.Common.{refl, ◌∙◌, ap, Bor, arith, bytes_eq}
 use Rattle.std.specs.declared.cmp.Ordering.TheVariants.{Less}
 use Rattle.std.specs.List.{list_any, AllByRecursion}
@@ -11,7 +11,6 @@ use Rattle.lc_level.specs.Narrowing.{stands_below}
 use Rattle.lc_level.proofs.AskedPaths.{list_any-map}
 use Rattle.lc_level.proofs.PathOrder.{falls, another, another_later, early_below, late_below}
 use Rattle.lc_tree.specs.ByteOrder.{bytes_cmp, AreInOrder}
-use Rattle.lc_tree.specs.Listing.{EntryModel, names}
 
 -- what `partition_point` answers for elements of which those that come before a place stand in front
 abbrev pub Halves : {X : Type 0} → (X → Bool) → List X → ℕ → Type 0
@@ -98,10 +97,6 @@ lent p = p.now
 abbrev pub precedes : List ℕ → Bor (List ℕ) → Bool
 precedes path p = is_lt (bytes_cmp p.now path)
 
--- whether an entry's name is below another
-abbrev pub is_named_before : List ℕ → EntryModel → Bool
-is_named_before name e = is_lt (bytes_cmp e.name name)
-
 module _ (paths : List (Bor (List ℕ))) (order : AreInOrder (map (λ (p : Bor (List ℕ)). p.now) paths)) (path : List ℕ) (i : ℕ) where
   over : (test : List ℕ → Bool) → Tells (λ (p : Bor (List ℕ)). test p.now) paths i → Searched test paths i
   over test t = record {
@@ -122,14 +117,3 @@ module _ (paths : List (Bor (List ℕ))) (order : AreInOrder (map (λ (p : Bor (
       over (λ p. stands_below p path)
       (tells lent _ _ (λ x. early_below path x.now) (λ x y. late_below path x.now y.now) (λ x y. falls (path ++ slash ∷ []) x.now y.now)
       paths i order search)
-
--- ---- entries
-
--- a search for the entry of a name, in the order of their names: what it tells of a test that no entry of another name passes
-pub finds_entry : (test : EntryModel → Bool) (name : List ℕ) (es : List EntryModel) (i : ℕ) → AreInOrder (names es)
-    → Halves (is_named_before name) es i → Tells (λ (e : EntryModel). bytes_eq name e.name && test e) es i
-finds_entry test name es i order search =
-    tells (λ (e : EntryModel). e.name) (is_named_before name) (λ (e : EntryModel). bytes_eq name e.name && test e)
-    (λ e before. ap (λ b. b && test e) (another name e.name before))
-    (λ e f less past fails. ap (λ b. b && test f) (another_later name e.name f.name less past)) (λ e f. falls name e.name f.name) es i order
-    search

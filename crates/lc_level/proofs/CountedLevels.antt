@@ -10,7 +10,7 @@ use Rattle.lc_level.specs.Job.{JobModel}
 use Rattle.lc_level.specs.Laws.{parts_with}
 use Rattle.lc_level.specs.Classified.{kept_file, bytes_of}
 use Rattle.lc_level.specs.Level.{SkippedModel, IsLevelOf, listed_level, level, level_of, level_after, absent_faults}
-use Rattle.lc_level.specs.Level.{fates_of, counted_in, failed_in, walked_in, classify}
+use Rattle.lc_level.specs.Level.{fates_of, counted_in, failed_in, walked_in, skipped_in}
 use Rattle.lc_level.specs.Narrowing.{rests, takes_part, part_of, absent_from}
 use Rattle.lc_level.specs.PathSteps.{unled}
 use Rattle.lc_level.specs.Selection.{SelectionModel}
@@ -152,7 +152,7 @@ module _ (lists : List ℕ → Listings) (gives : List ℕ → Contents) (left_o
           ∙ ap (λ l. l ++ failed_in (file_fates o.job (bytes_of o.files.items) f.results)) (sym c.absent) ∙ sym f.faults;
       walks = ap (λ l. walked_in (fates_of s o.job l)) part_is ∙ walked_items_are s o.job (counted_all s o.job part f.results)
           ∙ same_children s o.job part f.results ∙ children_of_items s o.job part ∙ sym c.children;
-      leaves = ap (asked left_out) (ap (λ l. classify (fates_of s o.job l)) part_is
+      leaves = ap (asked left_out) (ap (λ l. skipped_in (fates_of s o.job l)) part_is
           ∙ skipped_items_are s o.job (counted_all s o.job part f.results) ∙ same_skipped s o.job part f.results)
           ∙ skipped_of_items s o.job left_out part ∙ sym c.skipped;
       numbers = ap (λ l. length (fates_of s o.job l)) part_is ∙ number_of_fates s o.job (counted_all s o.job part f.results)

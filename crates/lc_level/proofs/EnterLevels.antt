@@ -23,9 +23,8 @@ use Rattle.lc_level.specs.FileReads.{MayReadRules}
 use Rattle.lc_level.specs.declared.entering.Entered.{Entered}
 use Rattle.lc_level.specs.declared.rule_pair.PairRead.{PairRead}
 use Rattle.lc_level.specs.declared.open_fault.OpenFault.{OpenFault}
-use Rattle.lc_level.specs.declared.open_fault.OpenFault.TheVariants.{Faulted, Broken}
+use Rattle.lc_level.specs.declared.open_fault.OpenFault.TheVariants.{Faulted, Memory, TooDeep}
 use Rattle.lc_level.specs.declared.fault_word.FaultWord.{FaultWord}
-use Rattle.lc_level.specs.declared.cause.Cause.TheVariants.{Memory, TooDeep}
 use Rattle.lc_level.specs.declared.fault_site.FaultSite.{FaultSite}
 use Rattle.lc_level.specs.declared.fault_site.FaultSite.TheVariants.{Directory}
 use Rattle.lc_level.proofs.GitReads.{any_count, any_rules, may_rules, listed}
@@ -59,8 +58,8 @@ list_refused lists gives j texts (Faulted site word) (is, l) =
       no_entries,
       λ s. ap (λ (p : FaultSite). faulted_level (site_path j.path p) word) (sym is),
     )
-list_refused lists gives j texts (Broken Memory) l = tt
-list_refused lists gives j texts (Broken TooDeep) l = absurd l
+list_refused lists gives j texts Memory l = tt
+list_refused lists gives j texts TooDeep l = absurd l
 
 module _ (lists : List ℕ → Listings) (gives : List ℕ → Contents)
     (some_content : (path : List ℕ) → (c : Content) × MayHold (gives path) c)
@@ -120,8 +119,8 @@ module _ (lists : List ℕ → Listings) (gives : List ℕ → Contents)
     fault_level own_rules a (site_path j.path site) word
         (bytes_by own_rules a (Err (record { path = site_path j.path site; word = word })) (is j.path)),
   )
-  info_refused (Broken Memory) r = tt
-  info_refused (Broken TooDeep) r = absurd r
+  info_refused Memory r = tt
+  info_refused TooDeep r = absurd r
 
   -- ---- the directory's own two files
 
@@ -150,8 +149,8 @@ module _ (lists : List ℕ → Listings) (gives : List ℕ → Contents)
             (λ o. Ok (record { info = i; own = o }))
             (e (site_path j.path) (any_count lists gives some_content j.path))),
       )
-      at (Broken Memory) r = tt
-      at (Broken TooDeep) r = absurd r
+      at Memory r = tt
+      at TooDeep r = absurd r
 
   -- all rule files were read
   pub record HasRead (info own : PairRead) : Type 0 where

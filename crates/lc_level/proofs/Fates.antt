@@ -7,7 +7,7 @@ use Rattle.lc_level.specs.Answers.{Item, file_item, directory_item, other_item, 
 use Rattle.lc_level.specs.Job.{JobModel}
 use Rattle.lc_level.specs.Level.{CountedModel, FileFaultModel, Reason, other_kind, SkippedModel, Fate, walked, skipped, reason_of}
 use Rattle.lc_level.specs.Level.{is_taken, child_job, file_fate, fate_of, fates_of, counted_of, failed_of, walked_of, skipped_of}
-use Rattle.lc_level.specs.Level.{counted_in, failed_in, walked_in, classify}
+use Rattle.lc_level.specs.Level.{counted_in, failed_in, walked_in, skipped_in}
 use Rattle.lc_level.specs.Classified.{skipped_by, skipped_entry}
 use Rattle.lc_level.specs.Selection.{SelectionModel}
 use Rattle.lc_tree.specs.declared.entry.Kind.{Kind}
@@ -116,5 +116,5 @@ module _ (s : SelectionModel) (j : JobModel) where
   walked_items_are items = by_items walked_of (children_by s j) walked_one items
 
   -- and the entries left out
-  pub skipped_items_are : (items : List Item) → classify (fates_of s j items) ≡ flat_map (skipped_by_item s j) items
+  pub skipped_items_are : (items : List Item) → skipped_in (fates_of s j items) ≡ flat_map (skipped_by_item s j) items
   skipped_items_are items = by_items skipped_of (skipped_by_item s j) skipped_one items

@@ -14,9 +14,8 @@ use Rattle.lc_tree.specs.Trees.{Listings, Content, Contents, MayHold}
 use Rattle.lc_level.specs.FileReads.{MayCount, MayReadRules}
 use Rattle.lc_level.specs.declared.rule_pair.PairRead.{PairRead}
 use Rattle.lc_level.specs.declared.open_fault.OpenFault.{OpenFault}
-use Rattle.lc_level.specs.declared.open_fault.OpenFault.TheVariants.{Faulted, Broken}
+use Rattle.lc_level.specs.declared.open_fault.OpenFault.TheVariants.{Faulted, Memory, TooDeep}
 use Rattle.lc_level.specs.declared.fault_word.FaultWord.{FaultWord}
-use Rattle.lc_level.specs.declared.cause.Cause.TheVariants.{Memory, TooDeep}
 use Rattle.lc_level.specs.declared.fault_site.FaultSite.{FaultSite}
 use Rattle.lc_level.specs.declared.fault_site.FaultSite.TheVariants.{Git, GitInfo, InfoExclude, InfoAttributes}
 use Rattle.lc_level.proofs.GivenItems.{Counted, AsRules, items_at, entries_items, directory_items, may_items}
@@ -119,8 +118,8 @@ module _ (lists : List ℕ → Listings) (gives : List ℕ → Contents)
     pub git_refused : (there : Bool) (u : OpenFault) → there ≡ true → ListsFor (lists (codes ".git")) Git (Err u)
         → ReadsGit lists gives texts there (Err u)
     git_refused there (Faulted site word) e (is, l) = git_fault there site word e is l
-    git_refused there (Broken Memory) e l = tt
-    git_refused there (Broken TooDeep) e l = absurd l
+    git_refused there Memory e l = tt
+    git_refused there TooDeep e l = absurd l
 
     -- where `.git` has no `info` nothing is read
     pub no_info : (there : Bool) (es : List EntryModel) (read : PairRead) → there ≡ true → lists (codes ".git") (Ok es)
@@ -150,8 +149,8 @@ module _ (lists : List ℕ → Listings) (gives : List ℕ → Contents)
         → has_dir (codes "info") es ≡ true →
         ListsFor (lists (codes ".git/info")) GitInfo (Err u) → ReadsGit lists gives texts there (Err u)
     info_refused there es (Faulted site word) e l present (is, m) = info_fault there es site word e l present is m
-    info_refused there es (Broken Memory) e l present m = tt
-    info_refused there es (Broken TooDeep) e l present m = absurd m
+    info_refused there es Memory e l present m = tt
+    info_refused there es TooDeep e l present m = absurd m
 
     abbrev info_of : List EntryModel → AsRules → Items
     info_of fs given = Ok (items_at (any_count (codes ".git/info")) given fs)
@@ -191,5 +190,5 @@ module _ (lists : List ℕ → Listings) (gives : List ℕ → Contents)
           λ directory. by_info es (info_of fs given) true present
               ∙ is (site_path directory) (any_count (codes ".git/info")),
         )
-        at (Err (Broken Memory)) k = tt
-        at (Err (Broken TooDeep)) k = absurd k
+        at (Err Memory) k = tt
+        at (Err TooDeep) k = absurd k

@@ -12,9 +12,8 @@ use Rattle.lc_tree.specs.Trees.{Contents}
 use Rattle.lc_level.specs.FileReads.{MayReadRules}
 use Rattle.lc_level.specs.declared.rule_pair.PairRead.{PairRead}
 use Rattle.lc_level.specs.declared.open_fault.OpenFault.{OpenFault}
-use Rattle.lc_level.specs.declared.open_fault.OpenFault.TheVariants.{Faulted, Broken}
+use Rattle.lc_level.specs.declared.open_fault.OpenFault.TheVariants.{Faulted, Memory, TooDeep}
 use Rattle.lc_level.specs.declared.fault_word.FaultWord.{FaultWord}
-use Rattle.lc_level.specs.declared.cause.Cause.TheVariants.{Memory, TooDeep}
 use Rattle.lc_level.specs.declared.fault_site.FaultSite.{FaultSite}
 use Rattle.lc_level.proofs.GivenItems.{Counted, AsRules, items_at, but, at_name, at_other, may_but, given_items}
 
@@ -62,8 +61,8 @@ module _ (gives : List ℕ → Contents) (asked : PairAsked) (apart : bytes_eq a
       × ((path_at : FaultSite → List ℕ) (counted : Counted)
       → read_of (path_at asked.rules.site) (path_at asked.attributes.site) given counted
       ≡ Err (record { path = path_at site; word = word }))
-  PairGiven (Err (Broken Memory)) = Unit {0}
-  PairGiven (Err (Broken TooDeep)) = ⊥
+  PairGiven (Err Memory) = Unit {0}
+  PairGiven (Err TooDeep) = ⊥
 
   abbrev with_both : Option (Result (List ℕ) FaultWord) → Option (Result (List ℕ) FaultWord) → AsRules
   with_both x y = but second_name y (but first_name x rules)
@@ -125,5 +124,5 @@ module _ (gives : List ℕ → Contents) (asked : PairAsked) (apart : bytes_eq a
             ∙ second_fault (path_at asked.rules.site) (path_at asked.attributes.site) before.0 word
             ∙ ap (λ (l : FaultSite). Err (record { path = path_at l; word = word })) (sym is),
       )
-  pair_given (Err (Broken Memory)) r = tt
-  pair_given (Err (Broken TooDeep)) r = absurd r
+  pair_given (Err Memory) r = tt
+  pair_given (Err TooDeep) r = absurd r

@@ -1,7 +1,7 @@
 -- Which paths have a directory in them, and which entries lead to them.
 use Rattle.std.proofs.Common.{◌≡◌, ℕ, zero, suc, ◌==◌, ◌+◌, ◌<◌, ◌≤◌, Bool, true, false, not, ◌&&◌, ◌||◌, cond, List, [], ◌∷◌, ◌++◌}
 use Rattle.std.proofs.Common.{map, length, get_or, take, drop, refl, sym, ◌∙◌, ap, subst, append_assoc, bytes_eq, Option, Some, None}
-use Rattle.std.proofs.Common.{arith, Bor}
+use Rattle.std.proofs.Common.{arith, find, Bor}
 use Rattle.std.specs.List.{filter, list_any, before_first, position_or_len, AllByRecursion}
 use Rattle.std.specs.Option.{is_some}
 use Rattle.std.proofs.lemmas.Bool.{and_parts, eqb-true, or_parts}
@@ -14,11 +14,11 @@ use Rattle.lc_glob.specs.Pieces.{is_byte}
 use Rattle.lc_level.specs.Level.{FileFaultModel, absent_faults}
 use Rattle.lc_level.specs.Narrowing.{after, stands_below, leads_to, has_part, WantedModel}
 use Rattle.lc_level.specs.PathSteps.{is_cut_among, is_led_to, unled}
-use Rattle.lc_level.proofs.AskedPaths.{after_is, after_front, filter_all}
-use Rattle.lc_level.proofs.ByHalves.{Tells}
+use Rattle.lc_level.proofs.AskedPaths.{after_is, after_front, filter_all, passes}
+use Rattle.lc_level.proofs.Searching.{is_named, named_tells}
 use Rattle.lc_level.proofs.WellFormed.{same_bytes, bytes_same, clash, good_one, IsGoodName}
 use Rattle.lc_tree.specs.Kinds.{is_dir}
-use Rattle.lc_tree.specs.Listing.{EntryModel, have_good_names}
+use Rattle.lc_tree.specs.Listing.{EntryModel, IsListing, have_good_names}
 
 or_true : (a : Bool) → (a || true) ≡ true
 or_true true = refl
@@ -216,30 +216,13 @@ led_by_first (e ∷ es) rest good =
     ap (λ b. b || is_led_to es rest) (only_first e rest (good_one e.name t.0))
     ∙ ap (λ b. (bytes_eq (before_first (is_byte slash) rest) e.name && leads_to e rest) || b) (led_by_first es rest t.1)
 
-good_at : (es : List EntryModel) (i : ℕ) (d : EntryModel) → have_good_names es ≡ true → i < length es → IsGoodName (get_or es i d).name
-good_at [] i d good low = absurd (omega (arith, low))
-good_at (e ∷ es) zero d good low = good_one e.name (and_parts (is_good_name e.name) (have_good_names es) good).0
-good_at (e ∷ es) (suc i) d good low =
-    good_at es i d (and_parts (is_good_name e.name) (have_good_names es) good).1 (omega (arith, low))
-
--- what a search for a path's first name tells
-pub by_first_name : (es : List EntryModel) (rest : List ℕ) (i : ℕ) (name : List ℕ) → name ≡ before_first (is_byte slash) rest
-    → Tells (λ (e : EntryModel). bytes_eq name e.name && leads_to e rest) es i
-    → Tells (λ (e : EntryModel). bytes_eq (before_first (is_byte slash) rest) e.name && leads_to e rest) es i
-by_first_name es rest i name is found = subst (λ n. Tells (λ (e : EntryModel). bytes_eq n e.name && leads_to e rest) es i) is found
-
--- where an entry of a path's first name would stand, one leads to it where the entry there does
-pub led_there : (es : List EntryModel) (rest : List ℕ) (i : ℕ) (d : EntryModel) → have_good_names es ≡ true
-    → Tells (λ (e : EntryModel). bytes_eq (before_first (is_byte slash) rest) e.name && leads_to e rest) es i → i < length es
-    → is_led_to es rest ≡ leads_to (get_or es i d) rest
-led_there es rest i d good found low =
-    led_by_first es rest good ∙ found.here d low ∙ sym (only_first (get_or es i d) rest (good_at es i d good low))
-
--- and none does where nothing stands there
-pub led_nowhere : (es : List EntryModel) (rest : List ℕ) (i : ℕ) → have_good_names es ≡ true
-    → Tells (λ (e : EntryModel). bytes_eq (before_first (is_byte slash) rest) e.name && leads_to e rest) es i → length es ≤ i
-    → is_led_to es rest ≡ false
-led_nowhere es rest i good found past = led_by_first es rest good ∙ found.nowhere past
+-- one leads to it where the entry of that name does
+pub led_by_named : (es : List EntryModel) (rest name : List ℕ) → IsListing es → name ≡ before_first (is_byte slash) rest
+    → is_led_to es rest ≡ passes (λ (e : EntryModel). leads_to e rest) (find (is_named name) es)
+led_by_named es rest name listing is =
+    led_by_first es rest listing.good
+    ∙ ap (λ n. list_any (λ (e : EntryModel). bytes_eq n e.name && leads_to e rest) es) (sym is)
+    ∙ named_tells name (λ (e : EntryModel). leads_to e rest) es listing.order
 
 -- ---- paths to which none leads
 

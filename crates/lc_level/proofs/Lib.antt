@@ -25,8 +25,10 @@ pub mod PartsJoined
 pub mod PassedOn
 pub mod PathOrder
 pub mod ReadOnce
+pub mod PathNames
 pub mod Rooms
 pub mod RuleParsing
+pub mod Searching
 pub mod SeenPaths
 pub mod Selecting
 pub mod SomeReads

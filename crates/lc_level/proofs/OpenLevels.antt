@@ -8,7 +8,7 @@ use Rattle.lc_level.specs.Answers.{Item, Items, entry_of, entries_of}
 use Rattle.lc_level.specs.Deep.{is_too_deep, has_too_deep}
 use Rattle.lc_level.specs.Enters.{IsEntered, EntersLevel}
 use Rattle.lc_level.specs.Job.{JobModel}
-use Rattle.lc_level.specs.Classified.{kept_file, kept_directory, skipped_entry, Classifies}
+use Rattle.lc_level.specs.Classified.{kept_file, kept_directory, skipped_entry, ClassifiesAll}
 use Rattle.lc_level.specs.Level.{FileFaultModel, absent_faults}
 use Rattle.lc_level.specs.Narrowing.{WantedModel, wanted_in, has_part, rests, takes_part, part_of}
 use Rattle.lc_level.specs.Opens.{IsOpened, OpensLevel}
@@ -20,9 +20,7 @@ use Rattle.lc_tree.specs.Trees.{Listings, Contents}
 use Rattle.lc_level.specs.declared.entering.Entered.{Entered}
 use Rattle.lc_level.specs.declared.classify.Classified.{Classified}
 use Rattle.lc_level.specs.declared.open_fault.OpenFault.{OpenFault}
-use Rattle.lc_level.specs.declared.open_fault.OpenFault.TheVariants.{Faulted, Broken}
-use Rattle.lc_level.specs.declared.cause.Cause.{Cause}
-use Rattle.lc_level.specs.declared.cause.Cause.TheVariants.{Memory, TooDeep}
+use Rattle.lc_level.specs.declared.open_fault.OpenFault.TheVariants.{Faulted, Memory, TooDeep}
 use Rattle.lc_level.proofs.AskedPaths.{absent_is, entries_of_part}
 use Rattle.lc_level.proofs.DeepEntries.{deep_by_entries}
 
@@ -51,8 +49,8 @@ module _ (lists : List ℕ → Listings) (gives : List ℕ → Contents) (left_o
   -- what stops entering a directory stops opening it
   pub enter_refused : (texts : Bool) (u : OpenFault) → EntersLevel lists gives j texts (Err u) → OpensLevel lists gives left_out s j (Err u)
   enter_refused texts (Faulted site word) (a, may, well_formed, is) = (a, may, well_formed, is s)
-  enter_refused texts (Broken Memory) e = tt
-  enter_refused texts (Broken TooDeep) e = absurd e
+  enter_refused texts Memory e = tt
+  enter_refused texts TooDeep e = absurd e
 
   -- the entries of a directory that was entered are a listing
   pub are_listed : (texts : Bool) (e : Entered) → IsEntered lists gives j texts e → IsListing e.entries.items
@@ -97,16 +95,17 @@ module _ (lists : List ℕ → Listings) (gives : List ℕ → Contents) (left_o
         deep_by_entries s j e.job c.inside.answers c.inside.items c.inside.bytes c.inside.here c.inside.read c.inside.extends
         ∙ ap (list_any (is_too_deep s e.job)) (sym listed_part) ∙ is_so
 
-    -- its entries were not taken
-    pub take_refused : (cause : Cause) → Classifies left_out s e.job part (Err cause)
-        → OpensLevel lists gives left_out s j (Err (Broken cause))
-    take_refused Memory l = tt
-    take_refused TooDeep l = (c.inside.answers, c.inside.may, c.inside.well_formed, deep_is true l)
+    -- its entries were not classified
+    pub classify_refused : (fault : OpenFault) → ClassifiesAll left_out s e.job part (Err fault)
+        → OpensLevel lists gives left_out s j (Err fault)
+    classify_refused (Faulted site word) l = absurd l
+    classify_refused Memory l = tt
+    classify_refused TooDeep l = (c.inside.answers, c.inside.may, c.inside.well_formed, deep_is true l)
 
-    -- they were taken
+    -- they were classified
     pub opened : (found : Classified) (absent : Vec FileFaultModel Global) (number : ℕ)
         → absent.items ≡ absent_faults (unled e.entries.items (rests s.only e.job.path)) → number ≡ length part
-        → Classifies left_out s e.job part (Ok found)
+        → ClassifiesAll left_out s e.job part (Ok found)
         → IsOpened lists gives left_out s j (record {
           job = e.job;
           files = found.files;

@@ -13,8 +13,8 @@ use Rattle.lc_tree.specs.Listing.{EntryModel}
 use Rattle.lc_level.specs.declared.classify.Classified.{Classified}
 use Rattle.lc_tree.specs.declared.entry.Kind.{Kind}
 use Rattle.lc_tree.specs.declared.entry.Kind.TheVariants.{File, Dir, Other}
-use Rattle.lc_level.specs.declared.cause.Cause.{Cause}
-use Rattle.lc_level.specs.declared.cause.Cause.TheVariants.{Memory, TooDeep}
+use Rattle.lc_level.specs.declared.open_fault.OpenFault.{OpenFault}
+use Rattle.lc_level.specs.declared.open_fault.OpenFault.TheVariants.{Faulted, Memory, TooDeep}
 
 -- the name of an entry, where it is a file that the rules leave in; the child directory, where it is one that they leave in
 abbrev pub kept_file : SelectionModel → JobModel → EntryModel → List (List ℕ)
@@ -45,49 +45,55 @@ pub record Gains (old new : Classified) (files : List (List ℕ)) (children : Li
   pub children_are : new.children.items ≡ old.children.items ++ children
   pub skipped_are : new.skipped.items ≡ old.skipped.items ++ skipped
 
--- what taking the file of a name answers, by why it is left out, if it is
-abbrev pub TakesFile : Bool → Option Reason → List ℕ → Classified → Classified → Result (Unit {0}) Cause → Type 0
-TakesFile left_out reason name old new (Ok _) =
+-- what classifying the file of a name answers, by why it is left out, if it is
+abbrev pub ClassifiesFile : Bool → Option Reason → List ℕ → Classified → Classified → Result (Unit {0}) OpenFault → Type 0
+ClassifiesFile left_out reason name old new (Ok _) =
     Gains old new (cond (is_none reason) (name ∷ []) []) [] (kept_skipped left_out name File reason)
-TakesFile left_out reason name old new (Err Memory) = Unit {0}
-TakesFile left_out reason name old new (Err TooDeep) = ⊥
+ClassifiesFile left_out reason name old new (Err Memory) = Unit {0}
+ClassifiesFile left_out reason name old new (Err TooDeep) = ⊥
+ClassifiesFile left_out reason name old new (Err (Faulted site word)) = ⊥
 
 -- the job of a child directory at a path that may have too many segments
-abbrev pub IsChild : JobModel → List ℕ → Result JobModel Cause → Type 0
+abbrev pub IsChild : JobModel → List ℕ → Result JobModel OpenFault → Type 0
 IsChild j path (Ok child) = (child ≡ job_at j path) × (nat_lt max_depth (depth_of path) ≡ false)
 IsChild j path (Err Memory) = Unit {0}
 IsChild j path (Err TooDeep) = nat_lt max_depth (depth_of path) ≡ true
+IsChild j path (Err (Faulted site word)) = ⊥
 
--- what taking a child directory answers, which may have too many segments: one that is left in has not
-abbrev pub TakesDirectory : Bool → Option Reason → Bool → List ℕ × JobModel → Classified → Classified → Result (Unit {0}) Cause → Type 0
-TakesDirectory left_out reason deep child old new (Ok _) =
+-- what classifying a child directory answers, which may have too many segments: one that is left in has not
+abbrev pub ClassifiesDirectory : Bool → Option Reason → Bool → List ℕ × JobModel → Classified → Classified → Result (Unit {0}) OpenFault → Type 0
+ClassifiesDirectory left_out reason deep child old new (Ok _) =
     Gains old new [] (cond (is_none reason) (child ∷ []) []) (kept_skipped left_out child.0 Dir reason)
     × ((is_none reason && deep) ≡ false)
-TakesDirectory left_out reason deep child old new (Err Memory) = Unit {0}
-TakesDirectory left_out reason deep child old new (Err TooDeep) = (is_none reason ≡ true) × (deep ≡ true)
+ClassifiesDirectory left_out reason deep child old new (Err Memory) = Unit {0}
+ClassifiesDirectory left_out reason deep child old new (Err TooDeep) = (is_none reason ≡ true) × (deep ≡ true)
+ClassifiesDirectory left_out reason deep child old new (Err (Faulted site word)) = ⊥
 
 -- what leaving out an entry of any kind answers
-abbrev pub LeavesOut : Bool → Reason → List ℕ → Kind → Classified → Classified → Result (Unit {0}) Cause → Type 0
+abbrev pub LeavesOut : Bool → Reason → List ℕ → Kind → Classified → Classified → Result (Unit {0}) OpenFault → Type 0
 LeavesOut left_out reason name kind old new (Ok _) = Gains old new [] [] (kept_skipped left_out name kind (Some reason))
 LeavesOut left_out reason name kind old new (Err Memory) = Unit {0}
 LeavesOut left_out reason name kind old new (Err TooDeep) = ⊥
+LeavesOut left_out reason name kind old new (Err (Faulted site word)) = ⊥
 
--- what taking what is neither a file nor a directory answers
-abbrev pub TakesOther : Bool → Option Reason → List ℕ → Classified → Classified → Result (Unit {0}) Cause → Type 0
-TakesOther left_out reason name old new result =
+-- what classifying what is neither a file nor a directory answers
+abbrev pub ClassifiesOther : Bool → Option Reason → List ℕ → Classified → Classified → Result (Unit {0}) OpenFault → Type 0
+ClassifiesOther left_out reason name old new result =
     LeavesOut left_out (unwrap_or reason other_kind) name Other old new result
 
--- what taking one entry more answers: none that is too deep is taken
-abbrev pub Takes : Bool → SelectionModel → JobModel → EntryModel → Classified → Classified → Result (Unit {0}) Cause → Type 0
-Takes left_out s j e old new (Ok _) =
+-- what classifying one entry more answers: none that is too deep is classified
+abbrev pub ClassifiesEntry : Bool → SelectionModel → JobModel → EntryModel → Classified → Classified → Result (Unit {0}) OpenFault → Type 0
+ClassifiesEntry left_out s j e old new (Ok _) =
     Gains old new (kept_file s j e) (kept_directory s j e) (skipped_entry left_out s j e) × (is_too_deep s j e ≡ false)
-Takes left_out s j e old new (Err Memory) = Unit {0}
-Takes left_out s j e old new (Err TooDeep) = is_too_deep s j e ≡ true
+ClassifiesEntry left_out s j e old new (Err Memory) = Unit {0}
+ClassifiesEntry left_out s j e old new (Err TooDeep) = is_too_deep s j e ≡ true
+ClassifiesEntry left_out s j e old new (Err (Faulted site word)) = ⊥
 
--- what taking all entries answers: those left in and out, in order, where none is too deep; or one of them is; or memory was refused
-abbrev pub Classifies : Bool → SelectionModel → JobModel → List EntryModel → Result Classified Cause → Type 0
-Classifies left_out s j es (Ok found) =
+-- what classifying all entries answers: those left in and out, in order, where none is too deep; or one of them is; or memory was refused
+abbrev pub ClassifiesAll : Bool → SelectionModel → JobModel → List EntryModel → Result Classified OpenFault → Type 0
+ClassifiesAll left_out s j es (Ok found) =
     (bytes_of found.files.items ≡ flat_map (kept_file s j) es) × (found.children.items ≡ flat_map (kept_directory s j) es)
     × (found.skipped.items ≡ flat_map (skipped_entry left_out s j) es) × (list_any (is_too_deep s j) es ≡ false)
-Classifies left_out s j es (Err Memory) = Unit {0}
-Classifies left_out s j es (Err TooDeep) = list_any (is_too_deep s j) es ≡ true
+ClassifiesAll left_out s j es (Err Memory) = Unit {0}
+ClassifiesAll left_out s j es (Err TooDeep) = list_any (is_too_deep s j) es ≡ true
+ClassifiesAll left_out s j es (Err (Faulted site word)) = ⊥

@@ -12,8 +12,7 @@ use Rattle.lc_level.specs.TreeAnswers.{MayAnswer}
 use Rattle.lc_tree.specs.Trees.{Listings, Contents}
 use Rattle.lc_level.specs.declared.entering.Entered.{Entered}
 use Rattle.lc_level.specs.declared.open_fault.OpenFault.{OpenFault}
-use Rattle.lc_level.specs.declared.open_fault.OpenFault.TheVariants.{Faulted, Broken}
-use Rattle.lc_level.specs.declared.cause.Cause.TheVariants.{Memory, TooDeep}
+use Rattle.lc_level.specs.declared.open_fault.OpenFault.TheVariants.{Faulted, Memory, TooDeep}
 
 module _ (lists : List ℕ → Listings) (gives : List ℕ → Contents) (j : JobModel) where
   -- by answers that the tree may give, this is the directory with its rule files in both chains
@@ -39,5 +38,5 @@ module _ (lists : List ℕ → Listings) (gives : List ℕ → Contents) (j : Jo
   EntersLevel texts (Ok e) = IsEntered texts e
   EntersLevel texts (Err (Faulted site word)) = (a : Answers) × MayAnswer lists gives j.path a × IsWellFormed a
       × ((s : SelectionModel) → level s j a ≡ faulted_level (site_path j.path site) word)
-  EntersLevel texts (Err (Broken Memory)) = Unit {0}
-  EntersLevel texts (Err (Broken TooDeep)) = ⊥
+  EntersLevel texts (Err Memory) = Unit {0}
+  EntersLevel texts (Err TooDeep) = ⊥

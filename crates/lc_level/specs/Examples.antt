@@ -8,7 +8,7 @@ use Rattle.lc_census.specs.declared.line_count.Eol.TheVariants.{Lf}
 use Rattle.lc_level.specs.Answers.{Item, file_item, directory_item, other_item}
 use Rattle.lc_rules.specs.declared.rule_source.RuleSource.TheVariants.{Gitignore}
 use Rattle.lc_level.specs.Level.{named_git, by_rule, by_attribute, other_kind, SkippedModel, Level, faulted_level, listed_level, level}
-use Rattle.lc_level.specs.Level.{counted_in, failed_in, walked_in, classify}
+use Rattle.lc_level.specs.Level.{counted_in, failed_in, walked_in, skipped_in}
 use Rattle.lc_level.specs.NodeTrees.{tree_of_node}
 use Rattle.lc_level.specs.Selection.{SelectionModel, selection_of}
 use Rattle.lc_level.specs.TopJob.{top_job}
@@ -99,7 +99,7 @@ names_in (listed_level fates absent) = record {
   files = map (λ f. f.name) (counted_in fates);
   faults = map (λ f. f.name) (failed_in fates);
   children = map (λ c. c.0) (walked_in fates);
-  outside = classify fates;
+  outside = skipped_in fates;
 }
 
 -- a tree as it is, and as git exports it

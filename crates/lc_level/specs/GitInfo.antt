@@ -9,16 +9,15 @@ use Rattle.lc_level.specs.TreeAnswers.{FailsBy, MayList, items_of}
 use Rattle.lc_tree.specs.Trees.{Listings, Contents}
 use Rattle.lc_level.specs.declared.rule_pair.PairRead.{PairRead}
 use Rattle.lc_level.specs.declared.open_fault.OpenFault.{OpenFault}
-use Rattle.lc_level.specs.declared.open_fault.OpenFault.TheVariants.{Faulted, Broken}
-use Rattle.lc_level.specs.declared.cause.Cause.TheVariants.{Memory, TooDeep}
+use Rattle.lc_level.specs.declared.open_fault.OpenFault.TheVariants.{Faulted, Memory, TooDeep}
 use Rattle.lc_level.specs.declared.fault_site.FaultSite.{FaultSite}
 
 -- the answer to listing a directory for the sake of its rule files: a fault is one of this site
 abbrev pub ListsFor : Listings → FaultSite → Result (List EntryModel) OpenFault → Type 0
 ListsFor may site (Ok entries) = may (Ok entries)
 ListsFor may site (Err (Faulted at word)) = (at ≡ site) × FailsBy may word
-ListsFor may site (Err (Broken Memory)) = Unit {0}
-ListsFor may site (Err (Broken TooDeep)) = ⊥
+ListsFor may site (Err Memory) = Unit {0}
+ListsFor may site (Err TooDeep) = ⊥
 
 module _ (lists : List ℕ → Listings) (gives : List ℕ → Contents) where
   -- what the tree may answer for `.git` and `.git/info`, where `.git` is there
@@ -35,5 +34,5 @@ module _ (lists : List ℕ → Listings) (gives : List ℕ → Contents) where
       (a : Answers) × MayAnswerGit there a
       × ((directory : List ℕ)
       → and_then (info_items there a) info_bytes ≡ Err (record { path = site_path directory site; word = word }))
-  ReadsGit texts there (Err (Broken Memory)) = Unit {0}
-  ReadsGit texts there (Err (Broken TooDeep)) = ⊥
+  ReadsGit texts there (Err Memory) = Unit {0}
+  ReadsGit texts there (Err TooDeep) = ⊥

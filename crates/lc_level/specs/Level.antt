@@ -154,8 +154,8 @@ failed_in fates = flat_map failed_of fates
 abbrev pub walked_in : List (List ℕ × Fate) → List (List ℕ × JobModel)
 walked_in fates = flat_map walked_of fates
 
-abbrev pub classify : List (List ℕ × Fate) → List SkippedModel
-classify fates = flat_map skipped_of fates
+abbrev pub skipped_in : List (List ℕ × Fate) → List SkippedModel
+skipped_in fates = flat_map skipped_of fates
 
 -- the faults of paths that are absent
 abbrev pub absent_faults : List (List ℕ) → List FileFaultModel
@@ -178,7 +178,7 @@ pub record IsLevelOf (l : Level) (left_out : Bool) (parts : LevelParts) : Type 0
   pub counts : counted_in fates ≡ parts.files
   pub fails : absent_faults absent ++ failed_in fates ≡ parts.faults
   pub walks : walked_in fates ≡ parts.children
-  pub leaves : (if left_out then classify fates else []) ≡ parts.skipped
+  pub leaves : (if left_out then skipped_in fates else []) ≡ parts.skipped
   pub numbers : length fates ≡ parts.entries
 
 -- ---- the whole

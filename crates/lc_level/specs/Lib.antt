@@ -25,6 +25,7 @@ pub mod Reasons
 pub mod RuleFiles
 pub mod RulePairs
 pub mod RuleReads
+pub mod RuleTextReads
 pub mod Selection
 pub mod WellFormed
 pub mod TopJob

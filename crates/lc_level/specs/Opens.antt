@@ -15,8 +15,7 @@ use Rattle.lc_level.specs.TreeAnswers.{MayAnswer}
 use Rattle.lc_tree.specs.Trees.{Listings, Contents}
 use Rattle.lc_level.specs.declared.opening.Opened.{Opened}
 use Rattle.lc_level.specs.declared.open_fault.OpenFault.{OpenFault}
-use Rattle.lc_level.specs.declared.open_fault.OpenFault.TheVariants.{Faulted, Broken}
-use Rattle.lc_level.specs.declared.cause.Cause.TheVariants.{Memory, TooDeep}
+use Rattle.lc_level.specs.declared.open_fault.OpenFault.TheVariants.{Faulted, Memory, TooDeep}
 
 module _ (lists : List ℕ → Listings) (gives : List ℕ → Contents) (left_out : Bool) (s : SelectionModel) (j : JobModel) where
   -- by answers that the tree may give: the directory with its rule files, what of its entries that take part these leave in and out,
@@ -35,5 +34,5 @@ module _ (lists : List ℕ → Listings) (gives : List ℕ → Contents) (left_o
   OpensLevel (Ok o) = IsOpened o
   OpensLevel (Err (Faulted site word)) = (a : Answers) × MayAnswer lists gives j.path a × IsWellFormed a
       × (level s j a ≡ faulted_level (site_path j.path site) word)
-  OpensLevel (Err (Broken Memory)) = Unit {0}
-  OpensLevel (Err (Broken TooDeep)) = (a : Answers) × MayAnswer lists gives j.path a × IsWellFormed a × (has_too_deep s j a ≡ true)
+  OpensLevel (Err Memory) = Unit {0}
+  OpensLevel (Err TooDeep) = (a : Answers) × MayAnswer lists gives j.path a × IsWellFormed a × (has_too_deep s j a ≡ true)

@@ -12,10 +12,9 @@ use Rattle.lc_level.specs.declared.rule_pair.RulePair.{RulePair}
 use Rattle.lc_level.specs.declared.rule_pair.PairNames.{PairNames}
 use Rattle.lc_level.specs.declared.rule_pair.PairRead.{PairRead}
 use Rattle.lc_level.specs.declared.open_fault.OpenFault.{OpenFault}
-use Rattle.lc_level.specs.declared.open_fault.OpenFault.TheVariants.{Faulted, Broken}
+use Rattle.lc_level.specs.declared.open_fault.OpenFault.TheVariants.{Faulted, Memory, TooDeep}
 use Rattle.lc_level.specs.declared.content_fault.ContentFault.{ContentFault}
 use Rattle.lc_level.specs.declared.content_fault.ContentFault.TheVariants as content_fault
-use Rattle.lc_level.specs.declared.cause.Cause.TheVariants.{Memory, TooDeep}
 use Rattle.lc_level.specs.declared.fault_site.FaultSite.{FaultSite}
 use Rattle.lc_level.specs.declared.fault_site.FaultSite.TheVariants.{Gitignore, Gitattributes}
 use Rattle.lc_level.specs.declared.fault_word.FaultWord.{FaultWord}
@@ -23,7 +22,7 @@ use Rattle.lc_level.specs.declared.fault_word.FaultWord.{FaultWord}
 -- what becomes of a directory whose file at a site was not read
 abbrev pub open_fault_by : FaultSite → ContentFault → OpenFault
 open_fault_by site (content_fault.Fault word) = Faulted site word
-open_fault_by site content_fault.Memory = Broken Memory
+open_fault_by site content_fault.Memory = Memory
 
 -- the files are those of these bytes
 pub record AreFilesOf (top : Bool) (files : RulePair) (bytes : Pair) : Type 0 where
@@ -89,5 +88,5 @@ module _ (gives : List ℕ → Contents) (asked : PairAsked) where
       ((site ≡ asked.rules.site) × MayGiveOne asked.rules (Some (Err word)))
       ⊎ ((site ≡ asked.attributes.site) × ((bytes : Option (List ℕ)) × MayGiveOne asked.rules (option_map Ok bytes))
       × MayGiveOne asked.attributes (Some (Err word)))
-  ReadsBoth (Err (Broken Memory)) = Unit {0}
-  ReadsBoth (Err (Broken TooDeep)) = ⊥
+  ReadsBoth (Err Memory) = Unit {0}
+  ReadsBoth (Err TooDeep) = ⊥

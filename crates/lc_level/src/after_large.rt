@@ -12,15 +12,16 @@ use crate::in_parts::MOST_HELPERS;
 use crate::job::Job;
 use crate::level_reader::LevelReader;
 use crate::scratch::Scratch;
+use crate::spare_threads::SpareThreads;
 use lc_tree::{IdleThreads, Tree};
 use std::alloc::AllocError;
 use std::thread::Threads;
 
-/// Of a file with more bytes one may expect that those after it are large too: to count such a file takes some milliseconds, many times
-/// as long as to start a thread.
+/// A file is large if it has more bytes: the files after it may be large too, and counting one takes some milliseconds, many times as
+/// long as starting a thread.
 const LARGE_FILE: u64 = 16 << 20;
 
-/// Takes as many idle threads as are of use with so many files that may be large.
+/// Takes as many idle threads as can help with this many files that may be large.
 fn take_helpers(idle: &IdleThreads, files: usize) -> u32 {
     if files < 2 {
         return 0;
@@ -29,7 +30,7 @@ fn take_helpers(idle: &IdleThreads, files: usize) -> u32 {
 }
 
 impl CountedFiles {
-    /// The file that was counted last is large.
+    /// Whether the file that was counted last is large.
     fn ends_large(&self) -> bool {
         match self.files.last() {
             Some(file) => file.count.bytes > LARGE_FILE,
@@ -39,7 +40,7 @@ impl CountedFiles {
 }
 
 impl<T: Tree> LevelReader<'_, T> {
-    /// Counts the file of a name, unless files are left already or a large one was counted last: then its file is left too.
+    /// Counts the file of a name, or adds the name to the rest where the rest has names already or a large file was counted last.
     fn count_or_leave(
         &self,
         job: &Job,
@@ -61,7 +62,7 @@ impl<T: Tree> LevelReader<'_, T> {
         Ok(())
     }
 
-    /// Counts the files of these names, in order, up to the first that is large, and returns the names that are left.
+    /// Counts the files of these names, in order, up to the first that is large, and returns the rest of the names.
     fn count_to_large(
         &self,
         job: &Job,
@@ -84,7 +85,7 @@ impl<T: Tree> LevelReader<'_, T> {
         Ok((found, rest))
     }
 
-    /// Counts the files of these names with the help of so many threads.
+    /// Counts the files of these names with the help of this many threads.
     fn count_by_helpers<R: Threads + Sync>(
         &self,
         rt: &R,
@@ -107,8 +108,7 @@ impl<T: Tree> LevelReader<'_, T> {
     /// threads are idle.
     pub(crate) fn count_few<R: Threads + Sync>(
         &self,
-        rt: &R,
-        idle: &IdleThreads,
+        threads: &SpareThreads<'_, R>,
         job: &Job,
         names: Vec<Vec<u8>>,
         absent: Vec<FileFault>,
@@ -118,9 +118,9 @@ impl<T: Tree> LevelReader<'_, T> {
         ensures { IfOk result (IsCounted (T.gives self.now.tree.now) job.now (bytes_of names.items) absent.items) }
     {
         let (mut found, rest) = self.count_to_large(job, names, absent, scratch)?;
-        let helpers = take_helpers(idle, rest.len());
-        let later = self.count_by_helpers(rt, helpers, job, rest, scratch);
-        idle.give_back(helpers);
+        let helpers = take_helpers(threads.idle, rest.len());
+        let later = self.count_by_helpers(threads.rt, helpers, job, rest, scratch);
+        threads.idle.give_back(helpers);
         found.append(later?)?;
         Ok(found)
     }

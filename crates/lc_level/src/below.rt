@@ -5,14 +5,16 @@ ghost use Rattle.lc_glob.specs.Bytes.{slash};
 ghost use Rattle.lc_level.specs.Narrowing.{after, rest_from, stands_below};
 ghost use Rattle.lc_tree.specs.ByteOrder.{bytes_cmp};
 
-/// What follows the first bytes, where a text begins with these.
+use crate::paths::relative_to;
+
+/// The rest of a text that begins with these bytes.
 fn after<'p>(front: &[u8], text: &'p [u8]) -> Option<&'p [u8]>
     ensures { option_map (λ rest. rest.now) result ≡ after front.now text.entry.now }
 {
     text.strip_prefix(front)
 }
 
-/// Whether a path stands below another: `a/b` below `a`, and `ab` not.
+/// Whether a path is below another: `a/b` is below `a`, and `ab` is not.
 pub(crate) fn stands_below(path: &[u8], other: &[u8]) -> bool
     ensures { result ≡ stands_below path.now other.now }
 {
@@ -22,21 +24,18 @@ pub(crate) fn stands_below(path: &[u8], other: &[u8]) -> bool
     }
 }
 
-/// A path seen from a directory, where it stands below it: `a/b/c` is `c` from `a/b`.
+/// A path seen from a directory that it is below and not the same as: `a/b/c` is `c` from `a/b`, and the empty path is below none.
 pub(crate) fn rest_from<'p>(directory: &[u8], path: &'p [u8]) -> Option<&'p [u8]>
     ensures { option_map (λ rest. rest.now) result ≡ rest_from directory.now path.entry.now }
 {
-    if directory.is_empty() {
-        return if path.is_empty() { None } else { Some(path) };
+    if path.is_empty() {
+        return None;
     }
-    match after(directory, path) {
-        None => None,
-        Some(rest) => after(b"/", rest),
-    }
+    relative_to(directory, path)
 }
 
-/// Whether a path comes before all that stand below another, in the order of their bytes: `a`, `a-b` and `a.b` do before those below `a`,
-/// and `a/b` and `ab` don't.
+/// Whether a path comes before all paths below another, in the order of their bytes: `a`, `a-b` and `a.b` come before those below `a`,
+/// and `a/b` and `ab` do not.
 pub(crate) fn is_before_below(path: &[u8], other: &[u8]) -> bool
     ensures { result ≡ is_lt (bytes_cmp path.now (other.now ++ slash ∷ [])) }
 {

@@ -8,7 +8,7 @@ use lc_rules::{AttrChain, AttrFile, Chain, IgnoreFile};
 use std::alloc::{AllocError, Global};
 use std::sync::Arc;
 
-/// A chain with the file of `.git/info` and a directory's own file; the same chain, shared, where there is neither.
+/// A chain of ignore files with that of `.git/info` and a directory's own. Where there is neither, the chain is shared as it is.
 pub(crate) fn ignore_below(
     alloc: Global,
     chain: &Arc<Chain, Global>,
@@ -27,7 +27,8 @@ pub(crate) fn ignore_below(
     Ok(Arc::new(alloc, below.with_info(info))?)
 }
 
-/// The same of the attribute files; that of `.git/info` stands above all others.
+/// A chain of attribute files with that of `.git/info`, which overrides all others, and a directory's own. Where there is neither, the
+/// chain is shared as it is.
 pub(crate) fn attributes_below(
     alloc: Global,
     chain: &Arc<AttrChain, Global>,

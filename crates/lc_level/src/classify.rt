@@ -1,11 +1,11 @@
-//! The entries of a directory: those that its rules and the selection leave in, and those that are left out.
+//! The entries of a directory: those that stay by its rules and the selection, and those that are skipped.
 ghost use Rattle.std.specs.Prelude.{◌≡◌, ◌≤◌, true, false, length, nat_lt};
 ghost use Rattle.lc_glob.specs.Path.{depth_of, max_depth, max_path};
-ghost use Rattle.lc_level.specs.Classified.{IsChild, LeavesOut, TakesFile, TakesDirectory, TakesOther, Takes, Classifies};
+ghost use Rattle.lc_level.specs.Classified.{IsChild, LeavesOut, ClassifiesFile, ClassifiesDirectory, ClassifiesOther, ClassifiesEntry, ClassifiesAll};
 ghost use Rattle.lc_level.specs.Level.{reason_at, job_at};
 ghost use Rattle.lc_level.specs.Reasons.{reason_ref_model};
 
-use crate::Cause;
+use crate::OpenFault;
 use crate::job::Job;
 use crate::level_reader::LevelReader;
 use crate::path_buffer::PathBuffer;
@@ -15,7 +15,7 @@ use lc_tree::{Entry, Kind, Tree};
 use std::alloc::Global;
 use std::marker::Model;
 
-/// The files and the directories that are left in, and the entries that are left out, each in the order of the listing.
+/// The files and the directories that stay, and the entries that are skipped, each in the order of the listing.
 #[derive(Drop)]
 pub(crate) struct Classified {
     pub(crate) files: Vec<Vec<u8>>,
@@ -26,9 +26,9 @@ pub(crate) struct Classified {
 /// A directory that is to be walked.
 #[derive(Drop)]
 pub struct ChildDirectory {
-    /// Its name in its parent.
+    /// The name of the directory in its parent.
     pub name: Vec<u8>,
-    /// Its path, and both chains of its parent.
+    /// The path of the directory, and both chains of its parent.
     pub job: Job,
 }
 
@@ -41,98 +41,98 @@ impl Model for ChildDirectory {
     ghost view = { λ c. (c.name.items, c.job) };
 }
 
-/// The job of a child directory, where its path has not too many segments for a walk.
-fn child_job(alloc: Global, job: &Job, path: &[u8]) -> Result<Job, Cause>
+/// The job of a child directory, unless its path has too many segments for a walk.
+fn child_job(alloc: Global, job: &Job, path: &[u8]) -> Result<Job, OpenFault>
     requires { length path.now ≤ max_path }
     ensures { IsChild job.now path.now result }
 {
     if is_too_deep(path) {
-        return Err(Cause::TooDeep);
+        return Err(OpenFault::TooDeep);
     }
     match job.at(alloc, path) {
         Ok(job) => Ok(job),
-        Err(_) => Err(Cause::Memory),
+        Err(_) => Err(OpenFault::Memory),
     }
 }
 
 impl<T: Tree> LevelReader<'_, T> {
-    /// Notes an entry that is left out, where these are kept.
+    /// Adds a skipped entry, where these are kept.
     fn leave_out(
         &self,
         name: Vec<u8>,
         kind: Kind,
         reason: ReasonRef,
         found: &mut Classified,
-    ) -> Result<(), Cause>
+    ) -> Result<(), OpenFault>
         ensures { LeavesOut self.now.options.left_out (reason_ref_model reason.entry) name.items kind found.old found.new result }
     {
         if !self.options.left_out {
             return Ok(());
         }
         let Ok(reason) = reason.to_reason(self.alloc) else {
-            return Err(Cause::Memory);
+            return Err(OpenFault::Memory);
         };
         match found.skipped.push(SkippedEntry { name, kind, reason }) {
             Ok(()) => Ok(()),
-            Err(_) => Err(Cause::Memory),
+            Err(_) => Err(OpenFault::Memory),
         }
     }
 
-    /// Takes a file.
-    fn take_file(
+    /// Adds a file to those that stay, or to the skipped entries.
+    fn classify_file(
         &self,
         job: &Job,
         name: Vec<u8>,
         path: &[u8],
         found: &mut Classified,
-    ) -> Result<(), Cause>
-        ensures { TakesFile self.now.options.left_out (reason_at self.now.selection job.now path.now false) name.items
+    ) -> Result<(), OpenFault>
+        ensures { ClassifiesFile self.now.options.left_out (reason_at self.now.selection job.now path.now false) name.items
             found.old found.new result }
     {
         match self.reason_at(job, path, false) {
             Ok(None) => {}
             Ok(Some(reason)) => return self.leave_out(name, Kind::File, reason, found),
-            Err(_) => return Err(Cause::Memory),
+            Err(_) => return Err(OpenFault::Memory),
         }
         match found.files.push(name) {
             Ok(()) => Ok(()),
-            Err(_) => Err(Cause::Memory),
+            Err(_) => Err(OpenFault::Memory),
         }
     }
 
-    /// Takes a directory.
-    fn take_directory(
+    /// Adds a directory to those that are to be visited, or to the skipped entries.
+    fn classify_directory(
         &self,
         job: &Job,
         name: Vec<u8>,
         path: &[u8],
         found: &mut Classified,
-    ) -> Result<(), Cause>
+    ) -> Result<(), OpenFault>
         requires { length path.now ≤ max_path }
-        ensures { TakesDirectory self.now.options.left_out (reason_at self.now.selection job.now path.now true)
+        ensures { ClassifiesDirectory self.now.options.left_out (reason_at self.now.selection job.now path.now true)
             (nat_lt max_depth (depth_of path.now)) (name.items, job_at job.now path.now) found.old found.new result }
     {
         match self.reason_at(job, path, true) {
             Ok(None) => {}
             Ok(Some(reason)) => return self.leave_out(name, Kind::Dir, reason, found),
-            Err(_) => return Err(Cause::Memory),
+            Err(_) => return Err(OpenFault::Memory),
         }
         let job = child_job(self.alloc, job, path)?;
         match found.children.push(ChildDirectory { name, job }) {
             Ok(()) => Ok(()),
-            Err(_) => Err(Cause::Memory),
+            Err(_) => Err(OpenFault::Memory),
         }
     }
 
-    /// Takes what is neither a file nor a directory.
-    fn take_other(
+    /// Adds what is neither a file nor a directory to the skipped entries.
+    fn classify_other(
         &self,
         job: &Job,
         name: Vec<u8>,
         path: &[u8],
         found: &mut Classified,
-    ) -> Result<(), Cause>
-        ensures { TakesOther self.now.options.left_out (reason_at self.now.selection job.now path.now false) name.items
+    ) -> Result<(), OpenFault>
+        ensures { ClassifiesOther self.now.options.left_out (reason_at self.now.selection job.now path.now false) name.items
             found.old found.new result }
     {
         if !self.options.left_out {
@@ -141,43 +141,43 @@ impl<T: Tree> LevelReader<'_, T> {
         match self.reason_at(job, path, false) {
             Ok(None) => self.leave_out(name, Kind::Other, ReasonRef::OtherKind, found),
             Ok(Some(reason)) => self.leave_out(name, Kind::Other, reason, found),
-            Err(_) => Err(Cause::Memory),
+            Err(_) => Err(OpenFault::Memory),
         }
     }
 
-    /// Takes one entry: its name moves to those that are left in or left out.
-    fn take(
+    /// Adds one entry to those that stay or to those that are skipped. Its name moves there.
+    fn classify_entry(
         &self,
         job: &Job,
         entry: Entry,
         path: &mut PathBuffer,
         found: &mut Classified,
-    ) -> Result<(), Cause>
+    ) -> Result<(), OpenFault>
         requires { path.old.directory ≡ job.now.path }
         ensures same { path.new.directory ≡ path.old.directory }
-        ensures takes { Takes self.now.options.left_out self.now.selection job.now entry found.old found.new result }
+        ensures entry { ClassifiesEntry self.now.options.left_out self.now.selection job.now entry found.old found.new result }
     {
         if entry.name.as_slice() == b".git".as_slice() {
             return self.leave_out(entry.name, entry.kind, ReasonRef::Git, found);
         }
         path.set_short(&entry.name)?;
         match entry.kind {
-            Kind::File => self.take_file(job, entry.name, path.as_slice(), found),
-            Kind::Dir => self.take_directory(job, entry.name, path.as_slice(), found),
-            Kind::Other => self.take_other(job, entry.name, path.as_slice(), found),
+            Kind::File => self.classify_file(job, entry.name, path.as_slice(), found),
+            Kind::Dir => self.classify_directory(job, entry.name, path.as_slice(), found),
+            Kind::Other => self.classify_other(job, entry.name, path.as_slice(), found),
         }
     }
 
-    /// Takes all entries, in order.
-    pub(crate) fn classify(
+    /// Divides all entries into those that stay and those that are skipped, each in the order of the listing.
+    pub(crate) fn classify_all(
         &self,
         job: &Job,
         entries: Vec<Entry>,
         path: &mut PathBuffer,
-    ) -> Result<Classified, Cause>
+    ) -> Result<Classified, OpenFault>
         requires at { path.old.directory ≡ job.now.path }
         ensures same { path.new.directory ≡ path.old.directory }
-        ensures skipped { Classifies self.now.options.left_out self.now.selection job.now entries.items result }
+        ensures all { ClassifiesAll self.now.options.left_out self.now.selection job.now entries.items result }
     {
         let mut found = Classified {
             files: Vec::new(self.alloc),
@@ -185,7 +185,7 @@ impl<T: Tree> LevelReader<'_, T> {
             skipped: Vec::new(self.alloc),
         };
         for entry in entries {
-            self.take(job, entry, path, &mut found)?;
+            self.classify_entry(job, entry, path, &mut found)?;
         }
         Ok(found)
     }

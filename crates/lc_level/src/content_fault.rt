@@ -5,7 +5,7 @@ use crate::FaultWord;
 /// Why a file was not read or not counted.
 #[derive(Clone, Copy, Debug, Drop, PartialEq, Eq)]
 pub(crate) enum ContentFault {
-    /// The report is to tell of it.
+    /// The report has this word for it.
     Fault(FaultWord),
     /// Memory was refused.
     Memory,

@@ -12,7 +12,7 @@ pub struct Counted {
     pub name: Vec<u8>,
     /// What the attribute `text` is for the file.
     pub text: TextState,
-    /// The census of its bytes.
+    /// The census of the file's bytes.
     pub count: Count,
 }
 
@@ -29,7 +29,7 @@ impl Model for Counted {
 pub struct FileFault {
     /// The name of the file in its directory.
     pub name: Vec<u8>,
-    /// Why it was not counted.
+    /// Why the file was not counted.
     pub word: FaultWord,
 }
 

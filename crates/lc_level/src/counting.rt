@@ -21,7 +21,7 @@ pub struct CountedFiles {
 }
 
 impl CountedFiles {
-    /// Adds a counted file of a directory.
+    /// Adds a counted file.
     fn push_file(
         &mut self,
         alloc: Global,
@@ -75,8 +75,8 @@ impl<T: Tree> LevelReader<'_, T> {
         }
     }
 
-    /// Counts the files of these names, in order; the faults of absent paths stay before theirs. The scratch paths are those of
-    /// their directory.
+    /// Counts the files of these names, in order. The faults of absent paths stay before theirs. The scratch paths are those of the
+    /// directory.
     pub fn count(
         &self,
         job: &Job,

@@ -7,22 +7,22 @@ ghost use Rattle.lc_level.specs.RuleFiles.{Pair, is_top, extended};
 ghost use Rattle.lc_level.specs.RulePairs.{AreFilesOf, own_asked, ReadsBoth};
 ghost use Rattle.lc_tree.specs.Trees.{Lists};
 
+use crate::FaultSite;
 use crate::chains::{attributes_below, ignore_below};
 use crate::job::Job;
 use crate::level_reader::LevelReader;
 use crate::open_fault::OpenFault;
 use crate::rule_pair::{PairNames, PairRead, RuleName, RulePair};
 use crate::scratch::Scratch;
-use crate::{Cause, FaultSite};
 use lc_tree::{Entry, Listing, ReadFault, Tree};
 use std::alloc::AllocError;
 
-/// The bytes of the ignore files that speak of a directory for the first time, as far as they are there and texts are kept.
+/// The bytes of the ignore files that apply from a directory on, as far as they are there and texts are kept.
 #[derive(Drop)]
 pub struct RuleTexts {
-    /// Those of `.git/info/exclude`, which are read in the top alone.
+    /// The bytes of `.git/info/exclude`, which is read in the top alone.
     pub info: Option<Vec<u8>>,
-    /// Those of the directory's own `.gitignore`.
+    /// The bytes of the directory's own `.gitignore`.
     pub own: Option<Vec<u8>>,
 }
 
@@ -31,41 +31,41 @@ pub struct RuleTexts {
 pub struct Entered {
     /// The directory, with its own rule files in both chains.
     pub job: Job,
-    /// Its entries, in the order of their names.
+    /// The entries of the directory, in the order of their names.
     pub entries: Vec<Entry>,
-    /// The texts of its rules.
+    /// The texts of the directory's ignore files.
     pub texts: RuleTexts,
 }
 
 impl<T: Tree> LevelReader<'_, T> {
-    /// The files of `.git/info`, which speak of a tree from its top.
+    /// Reads the files of `.git/info`, which apply from the top on. Below the top it reads nothing.
     fn read_info(
         &self,
         directory: &[u8],
-        entries: &[Entry],
+        listing: &Listing,
         scratch: &mut Scratch,
     ) -> Result<PairRead, OpenFault>
         ensures { ReadsGit (T.lists self.now.tree.now) (T.gives self.now.tree.now) self.now.options.texts
-            (is_top directory.now && has_dir (codes ".git") entries.now) result }
+            (is_top directory.now && has_dir (codes ".git") listing.now) result }
     {
         if !directory.is_empty() {
             return Ok(PairRead::none());
         }
-        self.read_git_info(entries, scratch)
+        self.read_git_info(listing, scratch)
     }
 
-    /// A directory's own `.gitignore` and `.gitattributes`. The scratch paths are then the directory's.
+    /// Reads a directory's own `.gitignore` and `.gitattributes`. The scratch paths are then the directory's.
     fn read_own(
         &self,
         directory: &[u8],
-        entries: &[Entry],
+        listing: &Listing,
         scratch: &mut Scratch,
     ) -> Result<PairRead, OpenFault>
         ensures at { OnOk result (scratch.new.path.directory ≡ directory.now) }
-        ensures read { ReadsBoth (T.gives self.now.tree.now) (own_asked self.now.options.texts directory.now entries.now) result }
+        ensures read { ReadsBoth (T.gives self.now.tree.now) (own_asked self.now.options.texts directory.now listing.now) result }
     {
         let Ok(()) = scratch.path.enter(directory) else {
-            return Err(OpenFault::Broken(Cause::Memory));
+            return Err(OpenFault::Memory);
         };
         let names = PairNames {
             rules: RuleName {
@@ -78,10 +78,10 @@ impl<T: Tree> LevelReader<'_, T> {
             },
             top: directory.is_empty(),
         };
-        self.read_pair(entries, names, scratch)
+        self.read_pair(listing, names, scratch)
     }
 
-    /// A directory with these rule files in both chains.
+    /// The directory of a job with these rule files in both chains.
     fn with_files(&self, job: &Job, info: RulePair, own: RulePair) -> Result<Job, AllocError>
         ensures path { IfOk result (λ k. k.path ≡ job.now.path) }
         ensures files { IfOk result (λ k. (i o : Pair) → AreFilesOf true info i → AreFilesOf (is_top job.now.path) own o
@@ -99,8 +99,7 @@ impl<T: Tree> LevelReader<'_, T> {
         job.with_chains(self.alloc, ignore, attributes)
     }
 
-    /// Enters the directory of a job, which was listed so: what stops it is its first fault. The scratch paths are then those of the
-    /// directory.
+    /// Enters the directory of a job by its listing, up to the first fault. The scratch paths are then those of the directory.
     pub(crate) fn enter_listed(
         &self,
         job: &Job,
@@ -113,10 +112,10 @@ impl<T: Tree> LevelReader<'_, T> {
     {
         let path = job.path();
         let listing = self.listed_for(path, listing, FaultSite::Directory)?;
-        let info = self.read_info(path, listing.entries(), scratch)?;
-        let own = self.read_own(path, listing.entries(), scratch)?;
+        let info = self.read_info(path, &listing, scratch)?;
+        let own = self.read_own(path, &listing, scratch)?;
         let Ok(inside) = self.with_files(job, info.files, own.files) else {
-            return Err(OpenFault::Broken(Cause::Memory));
+            return Err(OpenFault::Memory);
         };
         let texts = RuleTexts {
             info: info.text,
@@ -129,7 +128,7 @@ impl<T: Tree> LevelReader<'_, T> {
         })
     }
 
-    /// Lists and enters the directory of a job: what stops it is its first fault. The scratch paths are then those of the directory.
+    /// Lists the directory of a job and reads its rule files, up to the first fault. The scratch paths are then those of the directory.
     pub fn enter(&self, job: &Job, scratch: &mut Scratch) -> Result<Entered, OpenFault>
         ensures at { IfOk result (λ e. scratch.new.path.directory ≡ e.job.path) }
         ensures enters { EntersLevel (T.lists self.now.tree.now) (T.gives self.now.tree.now) job.now self.now.options.texts result }

@@ -1,19 +1,47 @@
 //! What is looked for among the entries of a directory.
-ghost use Rattle.std.specs.Prelude.{◌≡◌};
+ghost use Rattle.std.specs.Prelude.{◌≡◌, bytes_eq, find, option_map};
 ghost use Rattle.lc_level.specs.EntryLooks.{has_file, has_dir};
+ghost use Rattle.lc_tree.specs.ByteOrder.{bytes_cmp};
+ghost use Rattle.lc_tree.specs.Listing.{EntryModel, IsListing};
 
-use lc_tree::Entry;
+use lc_tree::{Entry, Listing};
+use std::cmp::Ordering;
+
+/// The entry of this name, if there is one, among entries in the order of their names. It is found by halving.
+///
+/// ```
+/// let found = entry_named(listing.entries(), b"src");
+/// assert!(found.is_some_and(|entry| entry.kind.is_dir()));
+/// ```
+pub fn entry_named<'e>(entries: &'e [Entry], name: &[u8]) -> Option<&'e Entry>
+    requires { IsListing entries.now }
+    ensures { option_map (λ entry. entry.now) result ≡ find (λ (e : EntryModel). bytes_eq e.name name.now) entries.now }
+{
+    let order = |entry: &Entry| -> Ordering
+        ensures { result ≡ bytes_cmp entry.now.name name.entry.now }
+    { entry.name.as_slice().cmp(name) };
+    match entries.binary_search_by(order) {
+        Ok(at) => Some(&entries[at]),
+        Err(_) => None,
+    }
+}
 
 /// Whether there is a file of this name.
-pub(crate) fn has_file(entries: &[Entry], name: &[u8]) -> bool
-    ensures { result ≡ has_file name.now entries.now }
+pub(crate) fn has_file(listing: &Listing, name: &[u8]) -> bool
+    ensures { result ≡ has_file name.now listing.now }
 {
-    entries.iter().any(|entry| entry.kind.is_file() && entry.name.as_slice() == name)
+    match entry_named(listing.entries(), name) {
+        Some(entry) => entry.kind.is_file(),
+        None => false,
+    }
 }
 
 /// Whether there is a directory of this name.
-pub(crate) fn has_dir(entries: &[Entry], name: &[u8]) -> bool
-    ensures { result ≡ has_dir name.now entries.now }
+pub(crate) fn has_dir(listing: &Listing, name: &[u8]) -> bool
+    ensures { result ≡ has_dir name.now listing.now }
 {
-    entries.iter().any(|entry| entry.kind.is_dir() && entry.name.as_slice() == name)
+    match entry_named(listing.entries(), name) {
+        Some(entry) => entry.kind.is_dir(),
+        None => false,
+    }
 }

@@ -1,22 +1,22 @@
-//! Which path of a directory is at fault.
+//! Which path of a directory could not be read.
 ghost use Rattle.std.specs.Prelude.{◌≡◌, IfOk};
 ghost use Rattle.lc_level.specs.SitePaths.{site_path};
 
 use crate::paths::path_in;
 use std::alloc::{AllocError, Global};
 
-/// Which path of a directory is at fault. Only the top directory has those below `.git`.
+/// Which path of a directory could not be read. Only the top has those below `.git`.
 #[derive(Clone, Copy, PartialEq, Eq, Debug, Drop)]
 pub enum FaultSite {
     /// The directory itself.
     Directory,
-    /// `.git`
+    /// The directory `.git` of the top.
     Git,
-    /// `.git/info`
+    /// The directory `.git/info` of the top.
     GitInfo,
-    /// `.git/info/exclude`
+    /// The file `.git/info/exclude` of the top.
     InfoExclude,
-    /// `.git/info/attributes`
+    /// The file `.git/info/attributes` of the top.
     InfoAttributes,
     /// The `.gitignore` of the directory.
     Gitignore,
@@ -25,7 +25,7 @@ pub enum FaultSite {
 }
 
 impl FaultSite {
-    /// The path that is at fault, seen from the top of the tree. `directory` is the path of the directory.
+    /// The path that could not be read, seen from the top of the tree. `directory` is the path of the directory.
     pub fn path(self, alloc: Global, directory: &[u8]) -> Result<Vec<u8>, AllocError>
         ensures { IfOk result (λ path. path.items ≡ site_path directory.now self) }
     {

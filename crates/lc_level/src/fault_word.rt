@@ -20,12 +20,12 @@ pub enum FaultWord {
     Long,
     /// A file's reads did not come to an end.
     Endless,
-    /// A path that was asked for isn't there, or stands below what is no directory.
+    /// A path that was asked for is not there, or is below what is no directory.
     Absent,
 }
 
 impl FaultWord {
-    /// That of a directory that a tree didn't list. Want of memory has none, since there is no report then.
+    /// The word for a directory that was not listed. Out of memory has none, since there is no report then.
     pub fn of(fault: ReadFault) -> Option<FaultWord>
         ensures { result ≡ fault_word_of fault }
     {
@@ -39,7 +39,7 @@ impl FaultWord {
         }
     }
 
-    /// The word that is printed, as `read`.
+    /// The word that is printed, such as `read`.
     pub fn as_str(self) -> &'static str
         ensures { result.now ≡ fault_word self }
     {

@@ -1,65 +1,37 @@
 //! The rule files of `.git/info`: gitignore(5), DESCRIPTION, and gitattributes(5), DESCRIPTION.
 ghost use Rattle.std.specs.Prelude.{◌≡◌, codes};
 ghost use Rattle.lc_level.specs.EntryLooks.{has_dir};
-ghost use Rattle.lc_level.specs.GitInfo.{ListsFor, ReadsGit};
-ghost use Rattle.lc_tree.specs.Trees.{Lists};
+ghost use Rattle.lc_level.specs.GitInfo.{ReadsGit};
 
+use crate::FaultSite;
 use crate::entry_looks::has_dir;
 use crate::level_reader::LevelReader;
 use crate::open_fault::OpenFault;
 use crate::rule_pair::{PairNames, PairRead, RuleName};
 use crate::scratch::Scratch;
-use crate::{Cause, FaultSite, FaultWord};
-use lc_tree::{Entry, Listing, ReadFault, Tree};
+use lc_tree::{Listing, Tree};
 
 impl<T: Tree> LevelReader<'_, T> {
-    /// A listing of a directory, or its fault, which is one of this site.
-    pub(crate) fn listed_for(
-        &self,
-        path: &[u8],
-        listing: Result<Listing, ReadFault>,
-        site: FaultSite,
-    ) -> Result<Listing, OpenFault>
-        requires { Lists (T.lists self.now.tree.now path.now) listing }
-        ensures { ListsFor (T.lists self.now.tree.now path.now) site result }
-    {
-        match listing {
-            Ok(listing) => Ok(listing),
-            Err(fault) => match FaultWord::of(fault) {
-                Some(word) => Err(OpenFault::Faulted(site, word)),
-                None => Err(OpenFault::Broken(Cause::Memory)),
-            },
-        }
-    }
-
-    /// Lists a directory, whose fault is one of this site.
-    pub(crate) fn list_for(&self, path: &[u8], site: FaultSite) -> Result<Listing, OpenFault>
-        ensures { ListsFor (T.lists self.now.tree.now path.now) site result }
-    {
-        let listing = self.tree.list(self.alloc, path);
-        self.listed_for(path, listing, site)
-    }
-
-    /// Reads `exclude` and `attributes` in `.git/info` of the top, whose entries these are. What is of another kind is absent.
+    /// Reads `exclude` and `attributes` in `.git/info` of the top, which has this listing. What is of another kind is absent.
     /// The scratch paths are then those of another directory.
     pub(crate) fn read_git_info(
         &self,
-        entries: &[Entry],
+        listing: &Listing,
         scratch: &mut Scratch,
     ) -> Result<PairRead, OpenFault>
         ensures { ReadsGit (T.lists self.now.tree.now) (T.gives self.now.tree.now) self.now.options.texts
-            (has_dir (codes ".git") entries.now) result }
+            (has_dir (codes ".git") listing.now) result }
     {
-        if !has_dir(entries, b".git") {
+        if !has_dir(listing, b".git") {
             return Ok(PairRead::none());
         }
         let git = self.list_for(b".git", FaultSite::Git)?;
-        if !has_dir(git.entries(), b"info") {
+        if !has_dir(&git, b"info") {
             return Ok(PairRead::none());
         }
         let info = self.list_for(b".git/info", FaultSite::GitInfo)?;
         let Ok(()) = scratch.path.enter(b".git/info") else {
-            return Err(OpenFault::Broken(Cause::Memory));
+            return Err(OpenFault::Memory);
         };
         let names = PairNames {
             rules: RuleName {
@@ -72,6 +44,6 @@ impl<T: Tree> LevelReader<'_, T> {
             },
             top: true,
         };
-        self.read_pair(info.entries(), names, scratch)
+        self.read_pair(&info, names, scratch)
     }
 }

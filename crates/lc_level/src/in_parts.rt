@@ -9,19 +9,20 @@ use crate::counting::CountedFiles;
 use crate::job::Job;
 use crate::level_reader::LevelReader;
 use crate::scratch::Scratch;
+use crate::spare_threads::SpareThreads;
 use lc_tree::{IdleThreads, Tree};
 use std::alloc::{AllocError, Global};
 use std::thread::Threads;
 use std::{mem, thread};
 
-/// So many files at least make a part: counting them takes about a millisecond where they are small, several times as long as starting
+/// A part has at least this many files: counting them takes about a millisecond where they are small, several times as long as starting
 /// a thread and waiting for its end. So a directory with fewer than twice as many is counted as a whole.
 const PART_FILES: usize = 256;
 
-/// So many threads at most help with one directory, as a walk has no more workers beside its own.
+/// The most threads that help with one directory: a walk has no more workers besides the one that counts it.
 pub(crate) const MOST_HELPERS: usize = 15;
 
-// Takes as many idle threads as are of use with so many files.
+// Takes as many idle threads as can help with this many files.
 fn take_helpers(idle: &IdleThreads, files: usize) -> u32 {
     let parts = files / PART_FILES;
     if parts < 2 {
@@ -124,7 +125,7 @@ impl<T: Tree> LevelReader<'_, T> {
         thread::map_vec(rt, runs, &run)
     }
 
-    // Counts the files of these names in so many parts.
+    // Counts the files of these names in this many parts.
     pub(crate) fn count_side_by_side<R: Threads + Sync>(
         &self,
         rt: &R,
@@ -141,14 +142,13 @@ impl<T: Tree> LevelReader<'_, T> {
         Ok(found)
     }
 
-    /// Counts the files of these names as `count` does. Where they are many and threads are idle, they are counted in parts side by
-    /// side: as many as idle threads can be taken, and one. So are the few that are left after one of over 16 MiB.
+    /// Counts the files of these names as `count` does, in parts side by side where they are many and threads are idle: a part for each
+    /// idle thread that can be taken, and one more. The few files after one of over 16 MiB are counted in parts too.
     ///
     /// Each part takes a buffer of its own.
     pub fn count_in_parts<R: Threads + Sync>(
         &self,
-        rt: &R,
-        idle: &IdleThreads,
+        threads: &SpareThreads<'_, R>,
         job: &Job,
         names: Vec<Vec<u8>>,
         absent: Vec<FileFault>,
@@ -157,12 +157,12 @@ impl<T: Tree> LevelReader<'_, T> {
         requires { scratch.old.path.directory ≡ job.now.path }
         ensures { IfOk result (IsCounted (T.gives self.now.tree.now) job.now (bytes_of names.items) absent.items) }
     {
-        let helpers = take_helpers(idle, names.len());
+        let helpers = take_helpers(threads.idle, names.len());
         if helpers == 0 {
-            return self.count_few(rt, idle, job, names, absent, scratch);
+            return self.count_few(threads, job, names, absent, scratch);
         }
-        let found = self.count_side_by_side(rt, helpers as usize + 1, job, names, absent);
-        idle.give_back(helpers);
+        let found = self.count_side_by_side(threads.rt, helpers as usize + 1, job, names, absent);
+        threads.idle.give_back(helpers);
         found
     }
 }

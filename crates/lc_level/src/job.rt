@@ -1,4 +1,4 @@
-//! A directory to be walked.
+//! A directory to be visited.
 ghost use Rattle.std.specs.Prelude.{◌≡◌, ◌≤◌, length, option_map, IfOk};
 ghost use Rattle.std.specs.Arc.{arc_value};
 ghost use Rattle.lc_glob.specs.Path.{depth_of, max_path};
@@ -14,7 +14,7 @@ use std::alloc::{AllocError, Global};
 use std::marker::Model;
 use std::sync::Arc;
 
-/// A directory to be walked: its path, and both chains of its parent. The chains are shared by all that stand under the
+/// A directory to be visited: its path, and both chains of its parent. The chains are shared by all directories under the
 /// same rule files. A job is one word long, so that it moves at no cost.
 ///
 /// ```
@@ -55,7 +55,7 @@ impl Model for Job {
 }
 
 impl Job {
-    /// The top of a tree. The rules of the exclude file, if there is one, stand before those of all other files.
+    /// Makes the job of the top of a tree. All other files override the rules of the exclude file, if there is one.
     pub fn top(alloc: Global, exclude: Option<Arc<IgnoreFile, Global>>) -> Result<Job, AllocError>
         ensures { IfOk result (λ j. j ≡ top_job (shared exclude)) }
     {
@@ -65,7 +65,7 @@ impl Job {
         Job::new(alloc, path, Arc::new(alloc, ignore)?, attributes)
     }
 
-    /// The job of these parts.
+    /// Makes a job of its parts.
     pub(crate) fn new(
         alloc: Global,
         path: Vec<u8>,
@@ -103,7 +103,7 @@ impl Job {
         &self.parts.attributes
     }
 
-    /// The same directory with other chains.
+    /// The job of this directory with other chains.
     pub(crate) fn with_chains(
         &self,
         alloc: Global,
@@ -123,7 +123,7 @@ impl Job {
         depth_of(self.parts.path.as_slice()) as u32
     }
 
-    /// The job of a directory at this path, under the rule files of this one.
+    /// Makes the job of the directory at this path, under the rule files of this one.
     pub fn at(&self, alloc: Global, path: &[u8]) -> Result<Job, AllocError>
         requires { length path.now ≤ max_path }
         ensures { IfOk result (λ j. j ≡ job_at self.now path.now) }
@@ -133,7 +133,7 @@ impl Job {
         Job::new(alloc, path, ignore, Arc::try_clone(&self.parts.attributes)?)
     }
 
-    /// The rule that decides what stands at a path, and where its file stands.
+    /// The last rule that matches a path, and which file has it.
     pub fn last_match(&self, path: &[u8], is_dir: bool) -> Option<(RuleSource, &Rule)>
         ensures { option_map (λ r. (r.0, r.1.now)) result ≡ last_match (rules_in self.now.ignore) path.now is_dir }
     {

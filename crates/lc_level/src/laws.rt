@@ -16,7 +16,7 @@ pub fn work_is_a_level<T: Tree>(tree: &T)
     let _tree = tree;
 }
 
-/// What is exported is what is left without `export-ignore`: gitattributes(5).
+/// What is exported is what stays without `export-ignore`: gitattributes(5).
 pub fn export_ignore_is_one_more_attribute()
     ensures { ExportLaw }
 {}
@@ -54,7 +54,7 @@ pub fn a_node_is_one_tree()
     trees_of_memory_give_one();
 }
 
-/// The tree of a node of memory, computed on a small node.
+/// The definitions of the tree of a node of memory hold on a small node.
 pub fn level_examples_hold(alloc: Global)
     ensures { LevelExamplesHold alloc }
 {

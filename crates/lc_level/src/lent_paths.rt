@@ -1,4 +1,4 @@
-//! Sorted paths that are lent, and what they ask for of a directory.
+//! Sorted paths that are lent, and what they select of a directory.
 ghost use Rattle.std.specs.Prelude.{◌≡◌, ◌≤◌, IfOk, [], false, true, length, map};
 ghost use Rattle.std.specs.List.{filter_map, AllByRecursion};
 ghost use Rattle.std.specs.List.Sorted.{IsPartitionPoint};
@@ -12,7 +12,7 @@ use crate::sorted_paths::is_within;
 use std::alloc::{AllocError, Global};
 use std::marker::Model;
 
-/// The paths that alone are asked for, as they were given, and sorted.
+/// The paths that `--only` names, as they were given and sorted.
 #[derive(Drop)]
 pub(crate) struct LentPaths<'o> {
     pub(crate) asked: &'o [&'o [u8]],
@@ -31,7 +31,7 @@ impl<'o> Model for LentPaths<'o> {
     ghost invariant = { λ p. map (λ path. path.now) p.sorted.now ≡ each_once (map (λ path. path.now) p.asked.now) };
 }
 
-/// Whether a path comes before all that stand below a directory, in the order of their bytes.
+/// Whether a path comes before all paths below a directory, in the order of their bytes.
 fn comes_before(path: &[u8], directory: &[u8]) -> bool
     ensures { result ≡ comes_before directory.now path.now }
 {
@@ -41,7 +41,7 @@ fn comes_before(path: &[u8], directory: &[u8]) -> bool
     is_before_below(path, directory)
 }
 
-/// The place of the first of sorted paths that doesn't come before those below a directory.
+/// The place of the first of sorted paths that does not come before those below a directory.
 fn first_past(paths: &[&[u8]], directory: &[u8]) -> usize
     requires { AreInOrder (map (λ path. path.now) paths.now) }
     ensures within { result ≤ length paths.now }
@@ -51,7 +51,7 @@ fn first_past(paths: &[&[u8]], directory: &[u8]) -> usize
     paths.partition_point(|path| comes_before(path, directory))
 }
 
-/// The sorted paths that stand below a directory, seen from it, where none of the paths comes before these.
+/// The sorted paths below a directory, seen from it, where none of the paths comes before these.
 fn seen_from<'o>(
     alloc: Global,
     directory: &[u8],
@@ -73,7 +73,7 @@ fn seen_from<'o>(
 }
 
 impl<'o> LentPaths<'o> {
-    /// No path: all of a tree is asked for.
+    /// Lends no path, which selects all of a tree.
     pub(crate) fn none() -> LentPaths<'o>
         ensures { result ≡ [] }
     {
@@ -83,7 +83,7 @@ impl<'o> LentPaths<'o> {
         }
     }
 
-    /// A copy, which lends the same paths.
+    /// Makes a copy that lends the same paths.
     pub(crate) fn copy(&self) -> LentPaths<'o>
         ensures { result ≡ self.now }
     {
@@ -93,14 +93,14 @@ impl<'o> LentPaths<'o> {
         }
     }
 
-    /// Whether a directory is asked for as a whole.
+    /// Whether all of a directory is selected.
     fn is_whole(&self, directory: &[u8]) -> bool
         ensures { result ≡ is_whole self.now directory.now }
     {
         self.asked.is_empty() || is_within(self.sorted, directory)
     }
 
-    /// The paths that stand below a directory, seen from it. Where there are none, this costs no memory.
+    /// The paths below a directory, seen from it. Where there are none, this costs no memory.
     fn rests(&self, alloc: Global, directory: &[u8]) -> Result<Vec<&'o [u8]>, AllocError>
         ensures { IfOk result (λ seen. map (λ rest. rest.now) seen.items ≡ rests self.now directory.now) }
     {
@@ -109,7 +109,7 @@ impl<'o> LentPaths<'o> {
         Ok(seen)
     }
 
-    /// What is asked for of a directory.
+    /// What the paths select of a directory.
     pub(crate) fn wanted_in(
         &self,
         alloc: Global,

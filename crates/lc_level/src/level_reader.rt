@@ -4,24 +4,24 @@ ghost use Rattle.std.specs.Prelude.{◌≡◌};
 use crate::selection::Selection;
 use std::alloc::Global;
 
-/// What is kept beside what a count needs. What isn't kept costs nothing.
+/// What a reader keeps besides what a count needs. What it does not keep costs nothing.
 #[derive(Clone, Copy, Debug, Drop)]
 pub struct ReaderOptions {
-    /// The entries that are left out, with their reasons.
+    /// Whether to keep the skipped entries, with their reasons.
     pub left_out: bool,
-    /// The bytes of `.git/info/exclude` and of each `.gitignore`.
+    /// Whether to keep the bytes of `.git/info/exclude` and of each `.gitignore`.
     pub texts: bool,
 }
 
-/// Reads a tree, a directory at a time: it opens the directory, and counts the files that are left in there.
+/// Reads a tree, a directory at a time: it opens the directory, and counts the files that stay in it.
 ///
 /// ```
-/// let kept = Kept { left_out: false, texts: false };
-/// let levels = LevelReader::new(alloc, &tree, Selection::new(false, &[]), kept);
+/// let options = ReaderOptions { left_out: false, texts: false };
+/// let reader = LevelReader::new(alloc, &tree, Selection::new(false, &[]), options);
 /// let mut scratch = Scratch::new(alloc)?;
 /// let top = Job::top(alloc, None)?;
-/// let opened = levels.open(&top, &mut scratch)?; // `opened.children` has the directories to be walked
-/// let counted = levels.count(&opened.job, opened.files, opened.absent, &mut scratch)?;
+/// let opened = reader.open(&top, &mut scratch)?; // `opened.children` has the directories to be visited
+/// let counted = reader.count(&opened.job, opened.files, opened.absent, &mut scratch)?;
 /// ```
 #[derive(Drop)]
 pub struct LevelReader<'t, T> {
@@ -32,7 +32,7 @@ pub struct LevelReader<'t, T> {
 }
 
 impl<'t, T> LevelReader<'t, T> {
-    /// That of this tree, by this selection.
+    /// Makes the reader of a tree, by a selection. It asks the tree nothing.
     pub fn new(
         alloc: Global,
         tree: &'t T,

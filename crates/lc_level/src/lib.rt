@@ -1,15 +1,16 @@
 //! What one directory gives: its listing, its rule files, its entries in order.
 //!
-//! - `job`: a directory to be walked; `cause`, `fault_site`: why it is given up, and where it is at fault
-//! - `entering`: a directory's listing and its rule files, read whole; `opening`: which of its entries these leave in
+//! - `job`: a directory to be walked; `fault_site`: where it is at fault
+//! - `listing`: a directory's listing; `entering`: that and its rule files, read whole; `opening`: which of its entries stay
 //! - `git_info`, `rule_files`, `rule_pair`: its rule files; `chains`: both chains by them
 //! - `entry_looks`, `classify`: what is looked for among its entries, and which of them stay; `skip_reason`, `reason`: why the others don't
 //! - `selection`: what decides beside the rules; `only_paths`, `lent_paths`: the paths that alone are asked for;
 //!   `sorted_paths`, `below`: looking among them; `narrowing`: which entries take part by them
 //! - `counted`, `counting`: what became of its files, and counting them; `in_parts`, `after_large`: counting
-//!   many, and few large ones, by several threads
+//!   many, and few large ones, by several threads; `spare_threads`: the threads that may help
 //! - `files`, `content_fault`: opening one file, to count it or to read it as rules, and why that was not possible
-//! - `paths`: the path of a name in a directory
+//! - `paths`: the path of a name in a directory, and a path seen from a directory
+//! - `rule_text`: a file of rules that is read by itself, with its text
 //! - `level_reader`: what is lent for all of this; `scratch`, `path_buffer`: its buffers, and the paths of entries one after another
 //! - `open_fault`: why a directory gives nothing of its entries; `fault_word`: the words by which a report tells of faults
 //! - `laws`: that this work makes the level of the definitions
@@ -17,7 +18,6 @@
 
 mod after_large;
 mod below;
-mod cause;
 mod chains;
 mod classify;
 mod content_fault;
@@ -34,6 +34,7 @@ mod job;
 mod laws;
 mod lent_paths;
 mod level_reader;
+mod listing;
 mod narrowing;
 mod only_paths;
 mod open_fault;
@@ -43,16 +44,18 @@ mod paths;
 mod reason;
 mod rule_files;
 mod rule_pair;
+mod rule_text;
 mod scratch;
 mod selection;
 mod skip_reason;
 mod sorted_paths;
+mod spare_threads;
 
-pub use cause::Cause;
 pub use classify::ChildDirectory;
 pub use counted::{Counted, FileFault};
 pub use counting::CountedFiles;
 pub use entering::{Entered, RuleTexts};
+pub use entry_looks::entry_named;
 pub use fault_site::FaultSite;
 pub use fault_word::FaultWord;
 pub use job::Job;
@@ -64,7 +67,9 @@ pub use level_reader::{LevelReader, ReaderOptions};
 pub use only_paths::OnlyPaths;
 pub use open_fault::OpenFault;
 pub use opening::Opened;
-pub use paths::path_in;
+pub use paths::{path_in, relative_to};
 pub use reason::{Reason, SkippedEntry};
+pub use rule_text::{RuleText, RulesFileFault, exclude_rules, read_rule_text};
 pub use scratch::Scratch;
 pub use selection::Selection;
+pub use spare_threads::SpareThreads;

@@ -1,4 +1,4 @@
-//! Which entries of a directory take part, where some paths alone are asked for, and which of these are absent.
+//! Which entries of a directory take part by the paths of `--only`, and which of these paths are absent.
 ghost use Rattle.std.specs.Prelude.{◌≡◌, ◌∷◌, ◌++◌, [], IfOk, map};
 ghost use Rattle.std.specs.List.{filter, list_any};
 ghost use Rattle.lc_level.specs.Level.{absent_faults};
@@ -10,13 +10,14 @@ ghost use Rattle.lc_tree.specs.Listing.{IsListing};
 use crate::FaultWord;
 use crate::below::stands_below;
 use crate::counted::FileFault;
+use crate::entry_looks::entry_named;
 use crate::sorted_paths::{has_below, is_among};
 use lc_glob::cut_at_first;
 use lc_tree::{Entry, Kind};
 use std::alloc::{AllocError, Global};
 use std::marker::Model;
 
-/// What is asked for of a directory.
+/// What the paths of `--only` select of a directory.
 #[derive(Drop)]
 pub(crate) struct Wanted<'o> {
     // Whether all of the directory is.
@@ -64,14 +65,16 @@ fn leads_to(entry: &Entry, rest: &[u8]) -> bool
     }
 }
 
-/// Whether one of a directory's entries leads to a path. Only the one of the path's first name can.
+/// Whether one of a directory's entries leads to a path. Only the entry of the path's first name can.
 fn is_led_to(entries: &[Entry], rest: &[u8]) -> bool
     requires { IsListing entries.now }
     ensures { result ≡ is_led_to entries.now rest.now }
 {
     let (name, _) = cut_at_first(b'/', rest);
-    let at = entries.partition_point(|entry| entry.name.as_slice().cmp(name).is_lt());
-    at < entries.len() && leads_to(&entries[at], rest)
+    match entry_named(entries, name) {
+        Some(entry) => leads_to(entry, rest),
+        None => false,
+    }
 }
 
 /// Adds the fault of a path that is seen from a directory, where no entry leads to it.
@@ -98,7 +101,7 @@ fn add_unled(
 }
 
 impl<'o> Wanted<'o> {
-    /// The entries of the directory that take part. Where all of it is asked for, as where no path is, this costs no memory.
+    /// The entries of the directory that take part. Where all of it is selected, this costs no memory.
     pub(crate) fn part_of(
         &self,
         alloc: Global,

@@ -1,4 +1,4 @@
-//! The paths that alone are asked for, sorted once for a whole walk.
+//! The paths of `--only`, sorted once for a whole walk.
 ghost use Rattle.std.specs.Prelude.{◌≡◌, IfOk, map};
 ghost use Rattle.lc_level.specs.Narrowing.{each_once};
 
@@ -6,7 +6,7 @@ use crate::lent_paths::LentPaths;
 use std::alloc::{AllocError, Global};
 use std::marker::Model;
 
-/// The paths that alone are asked for, sorted once for a whole walk, so that each directory finds by halving those that concern it.
+/// The paths of `--only`, sorted once for a whole walk, so that each directory finds those that concern it by a binary search.
 ///
 /// ```
 /// let only = OnlyPaths::new(alloc, &[b"src", b"docs/a.md"])?;
@@ -41,7 +41,7 @@ fn sorted_once<'o>(alloc: Global, asked: &[&'o [u8]]) -> Result<Vec<&'o [u8]>, A
 }
 
 impl<'o> OnlyPaths<'o> {
-    /// Sorts the paths, which are relative to the top, with no slash at the end. Where there are none, all of a tree is asked for.
+    /// Sorts the paths, which are relative to the top, with no slash at the end. Where there are none, all of a tree is selected.
     pub fn new(alloc: Global, asked: &'o [&'o [u8]]) -> Result<OnlyPaths<'o>, AllocError>
         ensures { IfOk result (λ only. only ≡ map (λ path. path.now) asked.entry.now) }
     {

@@ -4,25 +4,27 @@ ghost use Rattle.std.specs.Prelude.{◌≡◌};
 ghost use Rattle.lc_level.specs.RulePairs.{open_fault_by};
 
 use crate::content_fault::ContentFault;
-use crate::{Cause, FaultSite, FaultWord};
+use crate::{FaultSite, FaultWord};
 
 /// Why a directory gives nothing of its entries.
 #[derive(Clone, Copy, Debug, Drop, PartialEq, Eq)]
 pub enum OpenFault {
-    /// It is at fault at this site.
+    /// Its listing or one of its rule files, at this site, was not read: the report has this word for it.
     Faulted(FaultSite, FaultWord),
-    /// It is given up.
-    Broken(Cause),
+    /// Memory was refused.
+    Memory,
+    /// An entry's path has over 4,096 bytes, or a directory's over 256 segments.
+    TooDeep,
 }
 
 impl ContentFault {
-    /// The same of the directory that the file at this site speaks of.
+    /// The fault of a directory whose file at this site was not read.
     pub fn at(self, site: FaultSite) -> OpenFault
         ensures { result ≡ open_fault_by site self }
     {
         match self {
             ContentFault::Fault(word) => OpenFault::Faulted(site, word),
-            ContentFault::Memory => OpenFault::Broken(Cause::Memory),
+            ContentFault::Memory => OpenFault::Memory,
         }
     }
 }

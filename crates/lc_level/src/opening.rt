@@ -3,7 +3,6 @@ ghost use Rattle.std.specs.Prelude.{◌≡◌, IfOk};
 ghost use Rattle.lc_level.specs.Opens.{OpensLevel};
 ghost use Rattle.lc_tree.specs.Trees.{Lists};
 
-use crate::cause::Cause;
 use crate::classify::ChildDirectory;
 use crate::counted::FileFault;
 use crate::entering::Entered;
@@ -12,7 +11,8 @@ use crate::level_reader::LevelReader;
 use crate::open_fault::OpenFault;
 use crate::reason::SkippedEntry;
 use crate::scratch::Scratch;
-use lc_tree::{IdleThreads, Listing, ReadFault, Tree, list_in_parts};
+use crate::spare_threads::SpareThreads;
+use lc_tree::{Listing, ReadFault, Tree, list_in_parts};
 use std::thread::Threads;
 
 /// A directory whose entries are known, before its files are counted.
@@ -22,9 +22,9 @@ pub struct Opened {
     pub job: Job,
     /// The names of the files that are to be counted.
     pub files: Vec<Vec<u8>>,
-    /// The directories that are to be walked.
+    /// The directories that are to be visited.
     pub children: Vec<ChildDirectory>,
-    /// The entries that are left out, in the order of the listing; none unless they are kept.
+    /// The skipped entries, in the order of the listing; none unless they are kept.
     pub skipped: Vec<SkippedEntry>,
     /// The paths that are asked for and absent, seen from the directory.
     pub absent: Vec<FileFault>,
@@ -33,8 +33,8 @@ pub struct Opened {
 }
 
 impl<T: Tree> LevelReader<'_, T> {
-    /// Opens the directory of a job, which was listed so: what stops it is its first fault, or an entry that is too deep for a walk. The
-    /// scratch paths are then those of the directory.
+    /// Opens the directory of a job by its listing, up to the first fault or an entry that is too deep for a walk. The scratch paths are
+    /// then those of the directory.
     fn open_listed(
         &self,
         job: &Job,
@@ -48,16 +48,16 @@ impl<T: Tree> LevelReader<'_, T> {
     {
         let Entered { job, entries, .. } = self.enter_listed(job, listing, scratch)?;
         let Ok(wanted) = self.selection.wanted_in(self.alloc, job.path()) else {
-            return Err(OpenFault::Broken(Cause::Memory));
+            return Err(OpenFault::Memory);
         };
         let Ok(absent) = wanted.absent(self.alloc, &entries) else {
-            return Err(OpenFault::Broken(Cause::Memory));
+            return Err(OpenFault::Memory);
         };
         let Ok(entries) = wanted.part_of(self.alloc, entries) else {
-            return Err(OpenFault::Broken(Cause::Memory));
+            return Err(OpenFault::Memory);
         };
         let number = entries.len() as u32;
-        match self.classify(&job, entries, &mut scratch.path) {
+        match self.classify_all(&job, entries, &mut scratch.path) {
             Ok(found) => Ok(Opened {
                 job,
                 files: found.files,
@@ -66,12 +66,12 @@ impl<T: Tree> LevelReader<'_, T> {
                 absent,
                 entries: number,
             }),
-            Err(cause) => Err(OpenFault::Broken(cause)),
+            Err(fault) => Err(fault),
         }
     }
 
-    /// Opens the directory of a job: what stops it is its first fault, or an entry that is too deep for a walk. The scratch
-    /// paths are then those of the directory.
+    /// Lists and opens the directory of a job, up to the first fault or an entry that is too deep for a walk. The scratch paths are
+    /// then those of the directory.
     pub fn open(&self, job: &Job, scratch: &mut Scratch) -> Result<Opened, OpenFault>
         ensures at { IfOk result (λ o. scratch.new.path.directory ≡ o.job.path) }
         ensures opens { OpensLevel (T.lists self.now.tree.now) (T.gives self.now.tree.now) self.now.options.left_out
@@ -84,8 +84,7 @@ impl<T: Tree> LevelReader<'_, T> {
     /// Opens the directory of a job, as `open` does. If it is large, idle threads help to look at its entries.
     pub fn open_in_parts<R: Threads + Sync>(
         &self,
-        rt: &R,
-        idle: &IdleThreads,
+        threads: &SpareThreads<'_, R>,
         job: &Job,
         scratch: &mut Scratch,
     ) -> Result<Opened, OpenFault>
@@ -93,7 +92,7 @@ impl<T: Tree> LevelReader<'_, T> {
         ensures opens { OpensLevel (T.lists self.now.tree.now) (T.gives self.now.tree.now) self.now.options.left_out
             self.now.selection job.now result }
     {
-        let listing = list_in_parts(rt, self.alloc, self.tree, job.path(), idle);
+        let listing = list_in_parts(threads.rt, self.alloc, self.tree, job.path(), threads.idle);
         self.open_listed(job, listing, scratch)
     }
 }

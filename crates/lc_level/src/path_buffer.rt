@@ -3,12 +3,12 @@ ghost use Rattle.std.specs.Prelude.{◌≡◌, OnOk};
 ghost use Rattle.lc_glob.specs.Path.{path_in};
 ghost use Rattle.lc_level.specs.PathBuffers.{IsNamed};
 
-use crate::Cause;
+use crate::OpenFault;
 use lc_glob::path::{is_too_long, push_name};
 use std::alloc::{AllocError, Global};
 use std::marker::Model;
 
-/// The path of a directory, after which the name of one entry at a time is put, so that a path costs no memory of its own.
+/// The path of a directory, followed by the name of one entry at a time, so that a path costs no memory of its own.
 #[derive(Debug, Drop)]
 pub(crate) struct PathBuffer {
     bytes: Vec<u8>,
@@ -28,7 +28,7 @@ impl Model for PathBuffer {
 }
 
 impl PathBuffer {
-    /// That of the empty path.
+    /// The buffer of the empty path.
     pub(crate) fn new(alloc: Global) -> PathBuffer {
         PathBuffer {
             bytes: Vec::new(alloc),
@@ -47,7 +47,7 @@ impl PathBuffer {
         Ok(())
     }
 
-    /// Makes the path that of the directory's entry of this name.
+    /// Sets the path to that of the directory's entry of this name.
     pub(crate) fn set_name(&mut self, name: &[u8]) -> Result<(), AllocError>
         ensures same { self.new.directory ≡ self.old.directory }
         ensures path { OnOk result (self.new.path ≡ path_in self.old.directory name.now) }
@@ -57,22 +57,22 @@ impl PathBuffer {
         Ok(())
     }
 
-    /// The same where the path is not too long for a walk.
-    pub(crate) fn set_short(&mut self, name: &[u8]) -> Result<(), Cause>
+    /// Like `set_name`, but refuses a path that is too long for a walk.
+    pub(crate) fn set_short(&mut self, name: &[u8]) -> Result<(), OpenFault>
         ensures same { self.new.directory ≡ self.old.directory }
         ensures named { IsNamed (path_in self.old.directory name.now) self.new.path result }
     {
         let Ok(()) = self.set_name(name) else {
-            return Err(Cause::Memory);
+            return Err(OpenFault::Memory);
         };
         let path = self.as_slice();
         if is_too_long(path) {
-            return Err(Cause::TooDeep);
+            return Err(OpenFault::TooDeep);
         }
         Ok(())
     }
 
-    /// The path that was made last.
+    /// The path that was set last.
     pub(crate) fn as_slice(&self) -> &[u8]
         ensures { result.now ≡ self.now.path }
     {

@@ -1,5 +1,5 @@
-//! Paths.
-ghost use Rattle.std.specs.Prelude.{◌≡◌, IfOk};
+//! Paths of entries: of a name in a directory, and seen from a directory.
+ghost use Rattle.std.specs.Prelude.{◌≡◌, ◌≢◌, ℕ, List, IfOk, MatchOption};
 ghost use Rattle.lc_glob.specs.Path.{path_in};
 
 use std::alloc::{AllocError, Global};
@@ -14,4 +14,23 @@ pub fn path_in(alloc: Global, directory: &[u8], name: &[u8]) -> Result<Vec<u8>, 
     }
     path.extend_from_slice(name)?;
     Ok(path)
+}
+
+/// A path seen from a directory that it is below: `a/b/c` is `c` from `a/b`. From the top every path is itself.
+///
+/// ```
+/// assert_eq!(relative_to(b"a/b", b"a/b/c"), Some(b"c"));
+/// assert_eq!(relative_to(b"a", b"ab"), None);
+/// ```
+pub fn relative_to<'p>(directory: &[u8], path: &'p [u8]) -> Option<&'p [u8]>
+    ensures { MatchOption result ((rest : List ℕ) → path.entry.now ≢ path_in directory.now rest)
+        (λ rest. path.entry.now ≡ path_in directory.now rest.now) }
+{
+    if directory.is_empty() {
+        return Some(path);
+    }
+    let Some(below) = path.strip_prefix(directory) else {
+        return None;
+    };
+    below.strip_prefix(b"/")
 }

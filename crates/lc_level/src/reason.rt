@@ -1,4 +1,4 @@
-//! Why an entry is left out.
+//! Why an entry is skipped.
 
 ghost use Rattle.std.specs.Prelude.{◌≡◌, IfOk};
 ghost use Rattle.lc_level.specs.Reasons.{reason_model, reason_ref_model};
@@ -8,21 +8,21 @@ use lc_tree::Kind;
 use std::alloc::{AllocError, Global};
 use std::marker::Model;
 
-/// Why an entry is left out: the first of these that holds.
+/// Why an entry is skipped: the first of these that holds.
 #[derive(Debug, Drop)]
 pub enum Reason {
     /// It is named `.git`.
     Git,
-    /// The rule that decides ignores it. The rule stands in the file of this source, on the line with this number, from 1.
+    /// The last rule that matches it ignores it. The rule is in the file of this source, on the line with this number, from 1.
     Rule { source: RuleSource, line: u32 },
-    /// This attribute, one of those that leave out, is Set for it.
+    /// This attribute of the selection is Set for it.
     Attribute(Vec<u8>),
     /// It is neither a file nor a directory.
     OtherKind,
 }
 
 impl Reason {
-    /// The same in memory of its own.
+    /// Makes a copy, in memory of its own.
     pub fn copy(&self, alloc: Global) -> Result<Reason, AllocError>
         ensures { IfOk result (λ r. reason_model r ≡ reason_model self.now) }
     {
@@ -38,7 +38,7 @@ impl Reason {
     }
 }
 
-/// The same, lent.
+/// A reason whose attribute is lent.
 #[derive(Clone, Copy, Debug)]
 pub(crate) enum ReasonRef<'a> {
     Git,
@@ -48,7 +48,7 @@ pub(crate) enum ReasonRef<'a> {
 }
 
 impl ReasonRef<'_> {
-    /// The same with the attribute's name in memory of its own.
+    /// The reason with the attribute's name in memory of its own.
     pub(crate) fn to_reason(self, alloc: Global) -> Result<Reason, AllocError>
         ensures { IfOk result (λ r. reason_model r ≡ reason_ref_model self.entry) }
     {
@@ -61,14 +61,14 @@ impl ReasonRef<'_> {
     }
 }
 
-/// An entry that is left out.
+/// An entry that is skipped.
 #[derive(Debug, Drop)]
 pub struct SkippedEntry {
-    /// Its name in its directory.
+    /// The name of the entry in its directory.
     pub name: Vec<u8>,
-    /// What stands under the name.
+    /// What the entry is.
     pub kind: Kind,
-    /// Why it is left out.
+    /// Why the entry is skipped.
     pub reason: Reason,
 }
 

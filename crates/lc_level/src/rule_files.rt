@@ -11,7 +11,7 @@ use crate::entry_looks::has_file;
 use crate::level_reader::LevelReader;
 use crate::scratch::Scratch;
 use lc_rules::{AttrFile, IgnoreFile, RuleFault};
-use lc_tree::{Entry, Tree};
+use lc_tree::{Listing, Tree};
 use std::alloc::{AllocError, Global};
 use std::sync::Arc;
 
@@ -33,18 +33,18 @@ impl<T: Tree> LevelReader<'_, T> {
         Ok(Some(bytes.to_vec(self.alloc)?))
     }
 
-    /// Reads the file of this name in the directory of the scratch paths into its rules, and says whether it is there.
+    /// Reads the file of this name in the directory of the scratch paths into the scratch rules, and returns whether it is there.
     fn read_named(
         &self,
-        entries: &[Entry],
+        listing: &Listing,
         name: &[u8],
         scratch: &mut Scratch,
     ) -> Result<bool, ContentFault>
         ensures same { scratch.new.path.directory ≡ scratch.old.path.directory }
         ensures read { IsRead (T.gives self.now.tree.now (path_in scratch.old.path.directory name.now))
-            (has_file name.now entries.now) result scratch.new.rules.items }
+            (has_file name.now listing.now) result scratch.new.rules.items }
     {
-        if !has_file(entries, name) {
+        if !has_file(listing, name) {
             return Ok(false);
         }
         let Ok(()) = scratch.path.set_name(name) else {
@@ -61,15 +61,15 @@ impl<T: Tree> LevelReader<'_, T> {
     /// Reads the ignore file of this name in the directory of the scratch paths, if it is there.
     pub(crate) fn ignore_file(
         &self,
-        entries: &[Entry],
+        listing: &Listing,
         name: &[u8],
         scratch: &mut Scratch,
     ) -> Result<IgnoreRead, ContentFault>
         ensures same { scratch.new.path.directory ≡ scratch.old.path.directory }
         ensures read { IsIgnoreRead self.now.options.texts (T.gives self.now.tree.now (path_in scratch.old.path.directory name.now))
-            (has_file name.now entries.now) result }
+            (has_file name.now listing.now) result }
     {
-        if !self.read_named(entries, name, scratch)? {
+        if !self.read_named(listing, name, scratch)? {
             return Ok(IgnoreRead {
                 file: None,
                 text: None,
@@ -92,20 +92,20 @@ impl<T: Tree> LevelReader<'_, T> {
         }
     }
 
-    /// Reads the attribute file of this name in the directory of the scratch paths, if it is there; `top` says whether it may
-    /// define macros.
+    /// Reads the attribute file of this name in the directory of the scratch paths, if it is there. It may define macros only if
+    /// `top` is set.
     pub(crate) fn attribute_file(
         &self,
-        entries: &[Entry],
+        listing: &Listing,
         name: &[u8],
         top: bool,
         scratch: &mut Scratch,
     ) -> Result<Option<Arc<AttrFile, Global>>, ContentFault>
         ensures same { scratch.new.path.directory ≡ scratch.old.path.directory }
-        ensures read { IsParsed (T.gives self.now.tree.now (path_in scratch.old.path.directory name.now)) (has_file name.now entries.now)
+        ensures read { IsParsed (T.gives self.now.tree.now (path_in scratch.old.path.directory name.now)) (has_file name.now listing.now)
             (attribute_file_of top) result }
     {
-        if !self.read_named(entries, name, scratch)? {
+        if !self.read_named(listing, name, scratch)? {
             return Ok(None);
         }
         match AttrFile::read(self.alloc, &scratch.rules, top) {

@@ -7,7 +7,7 @@ use crate::level_reader::LevelReader;
 use crate::open_fault::OpenFault;
 use crate::scratch::Scratch;
 use lc_rules::{AttrFile, IgnoreFile};
-use lc_tree::{Entry, Tree};
+use lc_tree::{Listing, Tree};
 use std::alloc::Global;
 use std::sync::Arc;
 
@@ -18,7 +18,7 @@ pub(crate) struct RulePair {
     pub(crate) attributes: Option<Arc<AttrFile, Global>>,
 }
 
-/// Both files as they were read, and the bytes of the rules, as far as they are there and texts are kept.
+/// Both rule files of a directory, and the bytes of the rules, as far as they are there and texts are kept.
 #[derive(Drop)]
 pub(crate) struct PairRead {
     pub(crate) files: RulePair,
@@ -26,7 +26,7 @@ pub(crate) struct PairRead {
 }
 
 impl PairRead {
-    /// Neither of them.
+    /// Reads no file.
     pub(crate) fn none() -> PairRead
         ensures { result ≡ record { files = record { rules = None; attributes = None }; text = None } }
     {
@@ -40,14 +40,14 @@ impl PairRead {
     }
 }
 
-/// A name to be read, and the site that is at fault where it can't be.
+/// The name of a rule file, and the site to report where it could not be read.
 #[derive(Clone, Copy)]
 pub(crate) struct RuleName<'a> {
     pub(crate) name: &'a [u8],
     pub(crate) site: FaultSite,
 }
 
-/// Which two files of a directory are read, and whether it is one whose attributes may define macros.
+/// Which two files of a directory are read, and whether its attributes may define macros.
 #[derive(Clone, Copy)]
 pub(crate) struct PairNames<'a> {
     pub(crate) rules: RuleName<'a>,
@@ -59,20 +59,20 @@ impl<T: Tree> LevelReader<'_, T> {
     /// Reads the two files of these names in the directory of the scratch paths, the rules first.
     pub(crate) fn read_pair(
         &self,
-        entries: &[Entry],
+        listing: &Listing,
         names: PairNames,
         scratch: &mut Scratch,
     ) -> Result<PairRead, OpenFault>
         ensures same { scratch.new.path.directory ≡ scratch.old.path.directory }
         ensures read { ReadsBoth (T.gives self.now.tree.now)
-            (pair_asked names.entry self.now.options.texts scratch.old.path.directory entries.now) result }
+            (pair_asked names.entry self.now.options.texts scratch.old.path.directory listing.now) result }
     {
-        let rules = match self.ignore_file(entries, names.rules.name, scratch) {
+        let rules = match self.ignore_file(listing, names.rules.name, scratch) {
             Ok(read) => read,
             Err(content_fault) => return Err(content_fault.at(names.rules.site)),
         };
         let attributes = match self.attribute_file(
-            entries,
+            listing,
             names.attributes.name,
             names.top,
             scratch,

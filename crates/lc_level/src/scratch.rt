@@ -19,7 +19,7 @@ pub struct Scratch {
 }
 
 impl Scratch {
-    /// Empty buffers, and one of `BUFFER_LEN` bytes for reads.
+    /// Makes empty buffers, and one of `BUFFER_LEN` bytes for reads.
     pub fn new(alloc: Global) -> Result<Scratch, AllocError> {
         Ok(Scratch {
             buffer: new_buffer(alloc)?,

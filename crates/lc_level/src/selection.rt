@@ -1,4 +1,4 @@
-//! What decides, beside the rules of a tree, which of its entries take part, and which of these are left out.
+//! What decides, besides the rules of a tree, which of its entries take part, and which of these are skipped.
 ghost use Rattle.std.specs.Prelude.{◌≡◌, IfOk, option_map, map};
 ghost use Rattle.lc_level.specs.Level.{attribute_reason, by_attribute, is_set};
 ghost use Rattle.lc_level.specs.Narrowing.{wanted_in};
@@ -13,14 +13,14 @@ use lc_rules::State;
 use std::alloc::{AllocError, Global};
 use std::marker::Model;
 
-/// What decides, beside the rules of a tree, which of its entries take part, and which of these are left out.
+/// What decides, besides the rules of a tree, which of its entries take part, and which of these are skipped.
 ///
 /// ```
 /// let as_it_is = Selection::new(false, &[]);
-/// let exported = Selection::new(true, &[]); // leaves out what `docs/ export-ignore` of a `.gitattributes` names
-/// let own_work = Selection::new(false, &["linguist-vendored"]); // leaves out what `lib/ linguist-vendored` names
+/// let exported = Selection::new(true, &[]); // skips what `docs/ export-ignore` of a `.gitattributes` names
+/// let own_work = Selection::new(false, &["linguist-vendored"]); // skips what `lib/ linguist-vendored` names
 /// let only = OnlyPaths::new(alloc, &[b"src"])?;
-/// let sources = Selection::new(false, &[]).narrowed(&only); // of the tree what stands at or below `src`
+/// let sources = Selection::new(false, &[]).narrowed(&only); // of the tree `src` and what is below it
 /// ```
 #[derive(Drop)]
 pub struct Selection<'o> {
@@ -57,7 +57,7 @@ fn is_set(
 }
 
 impl<'o> Selection<'o> {
-    /// That of these attributes, and of an archive also `export-ignore`, as `git archive` reads it.
+    /// Skips what has one of these attributes Set, and for an archive also `export-ignore`, as `git archive` does.
     pub fn new(archive: bool, without: &'o [&'o str]) -> Selection<'o>
         ensures { result ≡ selection_of archive (map (λ name. name.now) without.entry.now) }
     {
@@ -68,7 +68,7 @@ impl<'o> Selection<'o> {
         }
     }
 
-    /// A copy, which lends the same names and paths.
+    /// Makes a copy that lends the same names and paths.
     pub fn copy(&self) -> Selection<'o>
         ensures { result ≡ self.now }
     {
@@ -79,7 +79,7 @@ impl<'o> Selection<'o> {
         }
     }
 
-    /// The same of these paths alone, where there are some: what stands at or below one of them takes part.
+    /// Selects also by these paths, where there are some: only they and what is below them takes part.
     pub fn narrowed(self, only: &'o OnlyPaths<'_>) -> Selection<'o>
         ensures { result ≡ narrowed self.entry only.entry.now }
     {
@@ -90,7 +90,7 @@ impl<'o> Selection<'o> {
         }
     }
 
-    /// What is asked for of a directory.
+    /// What the paths select of a directory.
     pub(crate) fn wanted_in(
         &self,
         alloc: Global,
@@ -102,7 +102,7 @@ impl<'o> Selection<'o> {
         Ok(wanted)
     }
 
-    /// The first attribute that leaves out what stands at a path. Memory is taken for the attributes' macros alone.
+    /// The first attribute for which a path is skipped. Memory is taken for the attributes' macros alone.
     pub(crate) fn first_set(
         &self,
         alloc: Global,

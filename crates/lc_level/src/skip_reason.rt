@@ -1,4 +1,4 @@
-//! Why an entry is left out, by the rules, the selection and its kind.
+//! Why an entry is skipped, by the rules, the selection and its kind.
 ghost use Rattle.std.specs.Prelude.{◌≡◌, IfOk, option_map};
 ghost use Rattle.lc_glob.specs.Path.{path_in};
 ghost use Rattle.lc_level.specs.Level.{rule_reason, reason_at, reason_for};
@@ -13,7 +13,7 @@ use lc_rules::Verdict;
 use lc_tree::Kind;
 use std::alloc::AllocError;
 
-/// The rule that decides what stands at a path, where it ignores.
+/// The last rule that matches a path, if it ignores the path.
 fn ignored_by(job: &Job, path: &[u8], is_dir: bool) -> Option<ReasonRef<'static>>
     ensures { option_map reason_ref_model result ≡ rule_reason (last_match (rules_in job.now.ignore) path.now is_dir) }
 {
@@ -28,7 +28,7 @@ fn ignored_by(job: &Job, path: &[u8], is_dir: bool) -> Option<ReasonRef<'static>
 }
 
 impl<'t, T> LevelReader<'t, T> {
-    /// Why the rules or the selection leave out what stands at a path, if they do. Memory is taken for attributes' macros alone.
+    /// Why the rules or the selection skip a path, if they do. Memory is taken for attributes' macros alone.
     pub(crate) fn reason_at(
         &self,
         job: &Job,
@@ -46,7 +46,7 @@ impl<'t, T> LevelReader<'t, T> {
         }
     }
 
-    /// Why a walk leaves out the entry of this name, if it does. `path` is the entry's path.
+    /// Why a walk skips the entry of this name, if it does. `path` is the entry's path.
     pub fn reason(
         &self,
         job: &Job,

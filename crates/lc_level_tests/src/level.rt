@@ -1,5 +1,6 @@
 //! What one directory's work answers for trees of memory.
 
+mod after_large;
 mod around_slash;
 mod deep;
 mod entering;
@@ -9,4 +10,5 @@ mod left_out;
 mod levels;
 mod narrowed;
 mod repository;
+mod rule_text;
 mod work;

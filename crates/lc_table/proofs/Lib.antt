@@ -1,10 +1,7 @@
 pub mod Decimals
 pub mod Depths
-pub mod RowLaws
 pub mod ScreenLawProofs
-pub mod Sorted
 pub mod Stopping
-pub mod Summing
 pub mod Tokens
 pub mod Widened
 pub mod Commas

@@ -5,7 +5,7 @@ use Rattle.std.proofs.lemmas.Bool.{and_parts, not-true}
 use Rattle.std.proofs.lemmas.List.Elements.{All-append, All-cons, All-nil, All-head, All-tail}
 use Rattle.std.proofs.lemmas.List.Splits.{slice_split_at}
 use Rattle.std.proofs.lemmas.Grind.{flat_map-append}
-use Rattle.lc_text.specs.Joined.{with_feed}
+use Rattle.lc_text.specs.Lines.{with_feed}
 use Rattle.lc_text.specs.Lines.{input_lines_of}
 use Rattle.lc_text.proofs.LinesOf.{input_lines_of-first}
 use Rattle.lc_table.proofs.OneLine.{is_no_feed, is_one_line}

@@ -1,18 +1,13 @@
 -- What is true of a table for a person.
-use Rattle.std.proofs.Common.{◌≡◌, ℕ, suc, ◌+◌, ◌<◌, ◌≤◌, Bool, true, false, not, ◌==◌, nat_lt, ◌&&◌, ◌%◌, if◌then◌else◌, List, [], ◌∷◌}
+use Rattle.std.proofs.Common.{◌≡◌, ℕ, suc, ◌<◌, ◌≤◌, Bool, true, false, not, ◌==◌, nat_lt, ◌&&◌, ◌%◌, if◌then◌else◌, List, [], ◌∷◌}
 use Rattle.std.proofs.Common.{◌++◌, length, get_or, filter, codes, decimal, refl, ap, ap₂, ◌∙◌, arith}
-use Rattle.std.specs.List.{sum_by}
 use Rattle.std.specs.Str.Parse.{digits_value}
 use Rattle.std.proofs.lemmas.Bool.{ne_eqb}
 use Rattle.std.proofs.lemmas.Fmt.{decimal_is_IsNumeral_wide}
 use Rattle.std.proofs.lemmas.List.Elements.{filter-append}
-use Rattle.std.proofs.lemmas.List.Sums.{sum_by-cons}
 use Rattle.std.proofs.lemmas.Str.Parse.{digit_at}
-use Rattle.lc_walk.proofs.RowSums.{same_sums}
-use Rattle.lc_walk.specs.TallyRows.{TallyRowModel}
 use Rattle.lc_table.specs.CellWords.{comma, with_commas}
-use Rattle.lc_table.specs.ScreenText.{is_binary}
-use Rattle.lc_table.specs.ScreenLaws.{CommasLaw, ClassesLaw}
+use Rattle.lc_table.specs.ScreenLaws.{CommasLaw}
 
 gone_if : (b : Bool) → filter (λ d. not (d == 44)) (if b then codes "," else []) ≡ []
 gone_if true = refl
@@ -32,22 +27,3 @@ pub commas_law : CommasLaw
 commas_law n small =
     let numeral = decimal_is_IsNumeral_wide n (omega arith) in
     ap (digits_value 10) (without_commas (decimal n) (λ i l. (digit_at _ i (numeral.0.1) l).0)) ∙ numeral.1
-
-split_at : (v : TallyRowModel → ℕ) (r : TallyRowModel) (rs : List TallyRowModel) (b : Bool) → is_binary r ≡ b
-    → sum_by v (filter (λ r. not (is_binary r)) rs) + sum_by v (filter is_binary rs) ≡ sum_by v rs
-    → sum_by v (filter (λ r. not (is_binary r)) (r ∷ rs)) + sum_by v (filter is_binary (r ∷ rs)) ≡ sum_by v (r ∷ rs)
-split_at v r rs true e rest =
-    rw e (omega (arith, sum_by-cons v r (filter is_binary rs), sum_by-cons v r rs))
-split_at v r rs false e rest =
-    rw e (omega (arith, sum_by-cons v r (filter (λ r. not (is_binary r)) rs), sum_by-cons v r rs))
-
-split_sums : (v : TallyRowModel → ℕ) (rs : List TallyRowModel)
-    → sum_by v (filter (λ r. not (is_binary r)) rs) + sum_by v (filter is_binary rs) ≡ sum_by v rs
-split_sums v [] = refl
-split_sums v (r ∷ rs) = split_at v r rs (is_binary r) refl (split_sums v rs)
-
--- what is binary and what is not add up to all rows
-pub classes_law : ClassesLaw
-classes_law rs =
-    same_sums _ _ (split_sums (λ r. r.sums.files) rs) (split_sums (λ r. r.sums.lines) rs) (split_sums (λ r. r.sums.blank) rs)
-    (split_sums (λ r. r.sums.bytes) rs)

@@ -17,7 +17,7 @@ use Rattle.lc_rules.specs.declared.rule_source.RuleSource.{RuleSource}
 use Rattle.lc_rules.specs.declared.rule_source.RuleSource.TheVariants.{ExcludeFrom, InfoExclude, Gitignore}
 use Rattle.lc_rules.specs.declared.states.TextState.{TextState}
 use Rattle.lc_rules.specs.declared.states.TextState.TheVariants as state
-use Rattle.lc_text.specs.RulePlaces.{above, rule_file}
+use Rattle.lc_text.specs.RulePlaces.{source_directory, source_name, rule_file}
 use Rattle.lc_text.specs.Visible.{visible_bytes, visible_path}
 use Rattle.lc_text.specs.declared.table_options.Columns.{Columns}
 use Rattle.lc_text.specs.Lines.{input_lines_of}
@@ -34,14 +34,15 @@ use Rattle.lc_table.specs.Columns.{CellModel, word, number, width_of, widths_of,
 use Rattle.lc_table.specs.SkippedWords.{reason_word, reason_place, skipped_end, skipped_path}
 use Rattle.lc_table.specs.ScreenText.{cell_if, key_cells, name_cells, sums_cells, row_headings}
 use Rattle.lc_table.specs.ScreenText.{row_cells, sums_line, class_lines, sums_lines}
-use Rattle.lc_table.specs.ScreenText.{all_sums, count_cells, file_headings, file_cells}
+use Rattle.lc_rows.specs.Classes.{all_sums}
+use Rattle.lc_table.specs.ScreenText.{count_cells, file_headings, file_cells}
 use Rattle.lc_table.specs.ScreenText.{skipped_headings, skipped_cells, fault_headings, fault_cells, rows_in_columns}
 use Rattle.lc_table.specs.TsvText.{eol_word, text_word}
 use Rattle.lc_table.specs.WidthLaws.{AreAsWide, AreBytes, HasByteName, SummaryWidthLaw, CountsWidthLaw}
 use Rattle.lc_table.specs.WidthLaws.{FilesWidthLaw, SkippedWidthLaw, FaultsWidthLaw}
 use Rattle.lc_table.specs.declared.cells.Side.{Side}
 use Rattle.lc_table.specs.declared.cells.Side.TheVariants.{Left, Right, End}
-use Rattle.lc_table.specs.declared.classes.ClassSums.{ClassSums}
+use Rattle.lc_rows.specs.declared.classes.ClassSums.{ClassSums}
 use Rattle.lc_table.proofs.EvenLines.{Fit, IsSound, sound-append, span}
 use Rattle.lc_table.proofs.EvenParts.{IsLike, has_no_end, layout_from, like_fit, lined_lines, listing_aligned, rule_is, shown, wide_lines}
 use Rattle.lc_table.proofs.LinesApart.{IsLined, lined-append, lined-one, input_lines_of-lined}
@@ -88,13 +89,20 @@ one_line_path : (path : List ℕ) → is_one_line (visible_path path) ≡ true
 one_line_path [] = refl
 one_line_path (b ∷ bs) = one_line-visible (b ∷ bs)
 
+directory_bytes : (path : List ℕ) (source : RuleSource) → AreBytes path → AreBytes (source_directory path source)
+directory_bytes path ExcludeFrom small = All-nil (λ b. b < 256)
+directory_bytes path InfoExclude small = All-nil (λ b. b < 256)
+directory_bytes path (Gitignore depth) small = All-take (λ b. b < 256) (length path - length (below depth path)) path small
+
+sound_name : (source : RuleSource) → IsSound Left (source_name source)
+sound_name ExcludeFrom = ascii (codes "--exclude-from") refl refl
+sound_name InfoExclude = ascii (codes ".git/info/exclude") refl refl
+sound_name (Gitignore depth) = ascii (codes ".gitignore") refl refl
+
 sound_file : (path : List ℕ) (source : RuleSource) → AreBytes path → IsSound Left (rule_file visible_bytes path source)
-sound_file path ExcludeFrom small = ascii (codes "--exclude-from") refl refl
-sound_file path InfoExclude small = ascii (codes ".git/info/exclude") refl refl
-sound_file path (Gitignore depth) small =
-    sound_join (visible_bytes (above depth path)) (codes ".gitignore")
-    (sound_bytes (above depth path) (All-take (λ b. b < 256) (length path - length (below depth path)) path small))
-    (ascii (codes ".gitignore") refl refl)
+sound_file path source small =
+    sound_join (visible_bytes (source_directory path source)) (source_name source)
+    (sound_bytes (source_directory path source) (directory_bytes path source small)) (sound_name source)
 
 sound_reason : (r : Reason) → IsSound Left (reason_word r)
 sound_reason named_git = ascii (codes "git") refl refl

@@ -1,5 +1,3 @@
-pub mod ShownRows
-pub mod LentRows
 pub mod SkippedWords
 pub mod TsvText
 pub mod Columns
@@ -11,6 +9,5 @@ pub mod JsonText
 pub mod JsonTokens
 pub mod TableText
 pub mod Runs
-pub mod Laws
 pub mod ScreenLaws
 pub mod WidthLaws

@@ -23,21 +23,21 @@ abbrev pub IsOutcomeOf : Report → Outcome → Type 0
 IsOutcomeOf r Clean = r.faults.items ≡ []
 IsOutcomeOf r SomeFaults = r.faults.items ≢ []
 
--- what a call answers that writes a report's table of this shape: it was written whole; a write stopped it; nothing was written
+-- what a call answers that writes a report's table with these options: it was written whole; a write stopped it; nothing was written
 abbrev pub AnswersTable : {O : Type 0} → (O → List ℕ → Result ℕ Failed → O → Type 0) → TableOptions → Report
     → O → Result (Unit {0}) PrintFault → O → Type 0
-AnswersTable may_take shape r out (Ok _) wrote = (text : List ℕ) × IsTextOf shape r text × Writes may_take out text wrote
-AnswersTable may_take shape r out (Err print.Write) wrote = (text : List ℕ) × IsTextOf shape r text × StopsWriting may_take out text wrote
-AnswersTable may_take shape r out (Err print.Memory) wrote = wrote ≡ out
+AnswersTable may_take options r out (Ok _) wrote = (text : List ℕ) × IsTextOf options r text × Writes may_take out text wrote
+AnswersTable may_take options r out (Err print.Write) wrote = (text : List ℕ) × IsTextOf options r text × StopsWriting may_take out text wrote
+AnswersTable may_take options r out (Err print.Memory) wrote = wrote ≡ out
 
 module _ {O : Type 0} (may_take : O → List ℕ → Result ℕ Failed → O → Type 0) (walks : Result Report WalkFault → Type 0)
-    (shape : TableOptions) where
+    (options : TableOptions) where
   abbrev pub AnswersRun : O → Result Outcome RunFault → O → Type 0
   -- the table of the report was written whole
   AnswersRun out (Ok outcome) wrote =
-      (r : Report) × walks (Ok r) × IsOutcomeOf r outcome × AnswersTable may_take shape r out (Ok tt) wrote
+      (r : Report) × walks (Ok r) × IsOutcomeOf r outcome × AnswersTable may_take options r out (Ok tt) wrote
   -- the walk gave no report, and nothing was written
   AnswersRun out (Err (Walk f)) wrote = walks (Err f) × (wrote ≡ out)
   AnswersRun out (Err Memory) wrote = wrote ≡ out
   -- a prefix of the table was written
-  AnswersRun out (Err Write) wrote = (r : Report) × walks (Ok r) × AnswersTable may_take shape r out (Err print.Write) wrote
+  AnswersRun out (Err Write) wrote = (r : Report) × walks (Ok r) × AnswersTable may_take options r out (Err print.Write) wrote

@@ -1,20 +1,18 @@
 -- The text of a table for a person: parts of lines in columns, with an empty line between.
-use Rattle.std.specs.Prelude.{ℕ, Bool, true, false, not, ◌||◌, if◌then◌else◌, List, [], ◌∷◌, ◌++◌, map, filter, codes, decimal, Option}
+use Rattle.std.specs.Prelude.{ℕ, Bool, ◌||◌, if◌then◌else◌, List, [], ◌∷◌, ◌++◌, map, codes, decimal, Option}
 use Rattle.std.specs.Prelude.{Some, None}
-use Rattle.std.specs.List.{list_any}
-use Rattle.lc_census.specs.declared.line_count.Eol.{Eol}
-use Rattle.lc_census.specs.declared.line_count.Eol.TheVariants.{Nul}
 use Rattle.lc_level.specs.FaultLines.{FaultLineModel}
 use Rattle.lc_level.specs.FaultWords.{fault_word}
 use Rattle.lc_text.specs.Visible.{visible_bytes, visible_path}
 use Rattle.lc_text.specs.declared.table_options.Columns.{Columns}
 use Rattle.lc_walk.specs.ReportLines.{FileLineModel, SkippedLineModel}
-use Rattle.lc_walk.specs.TallyRows.{TallyRowModel, sums_of_rows}
+use Rattle.lc_walk.specs.TallyRows.{TallyRowModel}
 use Rattle.lc_walk.specs.declared.report.Report.{Report}
 use Rattle.lc_walk.specs.declared.tally.sums.Sums.{Sums}
 use Rattle.lc_table.specs.CellWords.{with_commas, visible_extension}
-use Rattle.lc_table.specs.declared.classes.AllSums.{AllSums}
-use Rattle.lc_table.specs.declared.classes.ClassSums.{ClassSums}
+use Rattle.lc_rows.specs.Classes.{all_sums}
+use Rattle.lc_rows.specs.declared.classes.AllSums.{AllSums}
+use Rattle.lc_rows.specs.declared.classes.ClassSums.{ClassSums}
 use Rattle.lc_table.specs.Columns.{CellModel, word, number, ending, widths_of, line_in, lines_in, rule_in}
 use Rattle.lc_table.specs.SkippedWords.{reason_word, reason_place, skipped_path}
 use Rattle.lc_table.specs.TsvText.{eol_word, text_word}
@@ -50,24 +48,6 @@ row_cells by r =
     key_cells by (word (visible_extension r.key.extension)) (word (text_word r.key.text)) (word (eol_word r.key.eol))
     ++ sums_cells r.sums
 
-abbrev pub is_nul : Eol → Bool
-is_nul Nul = true
-is_nul _ = false
-
--- the rows of binary files
-abbrev pub is_binary : TallyRowModel → Bool
-is_binary r = is_nul r.key.eol
-
-abbrev pub text_sums : List TallyRowModel → Sums
-text_sums rs = sums_of_rows (filter (λ r. not (is_binary r)) rs)
-
-abbrev pub binary_sums : List TallyRowModel → Sums
-binary_sums rs = sums_of_rows (filter is_binary rs)
-
--- the sums of either class, where some file is binary
-abbrev pub classes_of : List TallyRowModel → Option ClassSums
-classes_of rs = if list_any is_binary rs then Some (record { text = text_sums rs; binary = binary_sums rs }) else None
-
 abbrev pub sums_line : Columns → List ℕ → Sums → List CellModel
 sums_line by name s = name_cells by name ++ sums_cells s
 
@@ -77,10 +57,6 @@ class_lines by (Some c) = sums_line by (codes "text") c.text ∷ sums_line by (c
 
 abbrev pub sums_lines : Columns → AllSums → List (List CellModel)
 sums_lines by s = sums_line by (codes "total") s.total ∷ class_lines by s.classes
-
--- the sums over all files, and by class
-abbrev pub all_sums : Report → AllSums
-all_sums r = record { total = r.totals; classes = classes_of r.rows.items }
 
 -- headings, the rows and the sums, with a rule between
 abbrev pub rows_in_columns : List ℕ → List CellModel → List (List CellModel) → List (List CellModel) → List ℕ

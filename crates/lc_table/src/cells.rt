@@ -1,9 +1,9 @@
-//! A cell of a table in columns: what it shows, and where.
+//! The cells of a table in columns.
 
 ghost use Rattle.std.specs.Prelude.{◌≡◌, ◌<◌, ◌++◌, IsAscii, IfOk, OnOk, decimal, option_map, replicate, string_bytes};
 ghost use Rattle.lc_table.specs.CellWords.{comma, visible_extension, with_commas};
 ghost use Rattle.lc_table.specs.Columns.{ending, number, text_at, width_at, width_of, word};
-ghost use Rattle.lc_table.specs.CellTexts.{cell_model, shown_text};
+ghost use Rattle.lc_table.specs.CellTexts.{cell_model, cells_of, shown_text};
 ghost use Rattle.lc_table.specs.SkippedWords.{skipped_path, reason_place};
 ghost use Rattle.lc_text.specs.RulePlaces.{rule_file, rule_place};
 ghost use Rattle.lc_text.specs.Visible.{visible_bytes, visible_path};
@@ -11,12 +11,12 @@ ghost use Rattle.lc_text.specs.Visible.{visible_bytes, visible_path};
 use crate::words::skipped_end;
 use lc_level::Reason;
 use lc_rules::RuleSource;
-use lc_text::{above, push_visible, push_visible_path};
+use lc_text::{push_visible, push_visible_path, source_directory, source_name};
 use lc_walk::SkippedLine;
 use std::alloc::AllocError;
 use unicode_width::UnicodeWidthStr;
 
-/// Where in its column a cell stands.
+/// The side of its column at which a cell is.
 #[derive(Debug, Clone, Copy, PartialEq, Eq)]
 pub(crate) enum Side {
     Left,
@@ -25,7 +25,7 @@ pub(crate) enum Side {
     End,
 }
 
-/// What a cell shows.
+/// The content of a cell.
 #[derive(Clone, Copy)]
 pub(crate) enum Shown<'a> {
     Word(&'static str),
@@ -33,9 +33,9 @@ pub(crate) enum Shown<'a> {
     /// The extension of a name.
     Extension(Option<&'a [u8]>),
     Path(&'a [u8]),
-    /// Where the rule stands by which an entry is left out, or the attribute's name.
+    /// Where the rule is by which an entry is skipped, or the attribute's name.
     SkippedPlace(&'a SkippedLine),
-    /// The path of an entry left out.
+    /// The path of a skipped entry.
     SkippedPath(&'a SkippedLine),
 }
 
@@ -91,14 +91,8 @@ fn push_extension(text: &mut String, extension: Option<&[u8]>) -> Result<(), All
 fn push_rule_file(text: &mut String, path: &[u8], source: RuleSource) -> Result<(), AllocError>
     ensures { OnOk result (string_bytes text.new ≡ string_bytes text.old ++ rule_file visible_bytes path.now source) }
 {
-    match source {
-        RuleSource::ExcludeFrom => text.push_str("--exclude-from"),
-        RuleSource::InfoExclude => text.push_str(".git/info/exclude"),
-        RuleSource::Gitignore(depth) => {
-            push_visible(text, above(path, depth))?;
-            text.push_str(".gitignore")
-        }
-    }
+    push_visible(text, source_directory(path, source))?;
+    text.push_str(source_name(source))
 }
 
 fn push_rule_place(
@@ -133,6 +127,26 @@ fn push_skipped_path(text: &mut String, skipped: &SkippedLine) -> Result<(), All
     text.push_str(skipped_end(skipped))
 }
 
+/// Appends cells to those of a line.
+pub(crate) fn push_all<'a>(cells: &mut Vec<Cell<'a>>, more: &[Cell<'a>]) -> Result<(), AllocError>
+    ensures { OnOk result (cells_of cells.new.items ≡ cells_of cells.old.items ++ cells_of more.now) }
+{
+    for cell in more {
+        cells.push(*cell)?;
+    }
+    Ok(())
+}
+
+/// Sets the cells to those of a line.
+pub(crate) fn set_cells<'a>(cells: &mut Vec<Cell<'a>>, line: &[Cell<'a>]) -> Result<(), AllocError>
+    ensures { OnOk result (cells_of cells.new.items ≡ cells_of line.now) }
+{
+    cells.clear();
+    push_all(cells, line)?;
+    Ok(())
+}
+
+/// Appends a character so many times.
 pub(crate) fn push_copies(text: &mut String, c: char, count: usize) -> Result<(), AllocError>
     requires { c < 128 }
     ensures { OnOk result (string_bytes text.new ≡ string_bytes text.old ++ replicate count c) }
@@ -159,7 +173,7 @@ impl Shown<'_> {
         }
     }
 
-    /// Makes the text, in place of what `made` had, and says how wide it is.
+    /// Makes the text, in place of what `made` had, and returns its width in columns of a terminal.
     fn make(&self, made: &mut String) -> Result<usize, AllocError>
         ensures text { OnOk result (string_bytes made.new ≡ shown_text self.now) }
         ensures width { IfOk result (λ width. width ≡ width_of (shown_text self.now)) }
@@ -180,7 +194,7 @@ impl<'a> Cell<'a> {
         }
     }
 
-    /// The name of a column of numbers.
+    /// Makes the heading of a column of numbers.
     pub(crate) fn heading(text: &'static str) -> Cell<'a>
         ensures { cell_model result ≡ number text.now }
     {
@@ -190,7 +204,7 @@ impl<'a> Cell<'a> {
         }
     }
 
-    /// The name of the last column, where that is one of paths.
+    /// Makes the heading of the last column, if that is one of paths.
     pub(crate) fn last_heading(text: &'static str) -> Cell<'a>
         ensures { cell_model result ≡ ending text.now }
     {
@@ -245,7 +259,7 @@ impl<'a> Cell<'a> {
         }
     }
 
-    /// How wide its column must be for it.
+    /// Returns how wide its column must be for it.
     pub(crate) fn width(&self, made: &mut String) -> Result<usize, AllocError>
         ensures { IfOk result (λ width. width ≡ width_at (cell_model self.now).side (cell_model self.now).text) }
     {
@@ -255,7 +269,7 @@ impl<'a> Cell<'a> {
         }
     }
 
-    /// Appends it as it stands in a column of this width.
+    /// Appends it as it is shown in a column of this width.
     pub(crate) fn push_in(
         &self,
         width: usize,

@@ -66,7 +66,7 @@ impl Widths {
         Ok(())
     }
 
-    /// Makes each column as wide as the cell of this line.
+    /// Makes each column at least as wide as its cell in this line.
     pub(crate) fn fit(&mut self, cells: &[Cell<'_>], made: &mut String) -> Result<(), AllocError>
         ensures { OnOk result (self.new ≡ wider self.old (cell_widths (cells_of cells.now))) }
     {
@@ -77,7 +77,7 @@ impl Widths {
         Ok(())
     }
 
-    /// That of a column that no cell is in is 0.
+    /// Returns the width of a column: 0 if it has no cell.
     fn width(&self, column: usize) -> usize
         ensures { result ≡ slice_index self.now column }
     {

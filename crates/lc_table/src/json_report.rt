@@ -268,7 +268,7 @@ fn write_report(
     Ok(())
 }
 
-/// One object on one line.
+/// Makes the text of a report as one JSON object on one line.
 pub(crate) fn json_line(
     alloc: Global,
     report: &Report,

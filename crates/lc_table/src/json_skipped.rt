@@ -1,4 +1,4 @@
-//! What was left out, as JSON.
+//! The list of skipped entries as JSON.
 
 ghost use Rattle.std.specs.Prelude.{◌≡◌, ◌++◌, codes, map, OnOk};
 ghost use Rattle.json.specs.Tree.{json_tokens};
@@ -10,7 +10,7 @@ use crate::json_text::JsonText;
 use crate::words::{kind_word, reason_word};
 use lc_level::Reason;
 use lc_rules::RuleSource;
-use lc_text::above;
+use lc_text::{source_directory, source_name};
 use lc_walk::SkippedLine;
 use std::alloc::{AllocError, Global};
 
@@ -18,14 +18,8 @@ fn set_rule_file(file: &mut Vec<u8>, path: &[u8], source: RuleSource) -> Result<
     ensures { OnOk result (file.new.items ≡ rule_file (λ directory. directory) path.now source) }
 {
     file.clear();
-    match source {
-        RuleSource::ExcludeFrom => file.extend_from_slice(b"--exclude-from"),
-        RuleSource::InfoExclude => file.extend_from_slice(b".git/info/exclude"),
-        RuleSource::Gitignore(depth) => {
-            file.extend_from_slice(above(path, depth))?;
-            file.extend_from_slice(b".gitignore")
-        }
-    }
+    file.extend_from_slice(source_directory(path, source))?;
+    file.extend_from_slice(source_name(source).as_bytes())
 }
 
 fn write_reason(

@@ -13,7 +13,7 @@ use std::alloc::{AllocError, Global};
 use std::marker::Model;
 use std::str::from_utf8;
 
-/// The text of some tokens. Nesting is the caller's.
+/// The text of some JSON tokens. The caller has to nest them.
 #[derive(Drop)]
 pub(crate) struct JsonText {
     writer: Writer<Global>,
@@ -41,7 +41,7 @@ impl JsonText {
         }
     }
 
-    /// The text and a line feed.
+    /// Returns the text and a line feed.
     pub(crate) fn into_line(self) -> Result<Vec<u8>, AllocError>
         ensures text { IfOk result (λ line. line.items ≡ print self ++ codes "\n") }
         ensures reads_back { IfOk result (λ _. tokens (print self) ≡ self) }
@@ -101,7 +101,7 @@ impl JsonText {
         self.writer.number(buffer.format(n))
     }
 
-    /// A name, and the start of the list that it has.
+    /// Writes a name, and the start of the list that it has.
     pub(crate) fn begin_list(&mut self, name: &str) -> Result<(), AllocError>
         ensures { OnOk result (self.new ≡ self.old ++ key name.now ∷ begin_array ∷ []) }
     {
@@ -110,7 +110,7 @@ impl JsonText {
         Ok(())
     }
 
-    /// A member whose value is null.
+    /// Writes a member whose value is null.
     pub(crate) fn null_member(&mut self, name: &str) -> Result<(), AllocError>
         ensures { OnOk result (self.new ≡ self.old ++ key name.now ∷ null ∷ []) }
     {
@@ -119,7 +119,7 @@ impl JsonText {
         Ok(())
     }
 
-    /// A member whose value is a number.
+    /// Writes a member whose value is a number.
     pub(crate) fn integer_member(&mut self, name: &str, n: u128) -> Result<(), AllocError>
         ensures { OnOk result (self.new ≡ self.old ++ key name.now ∷ number (decimal n) ∷ []) }
     {
@@ -128,7 +128,7 @@ impl JsonText {
         Ok(())
     }
 
-    /// A member whose value is a text.
+    /// Writes a member whose value is a string.
     pub(crate) fn string_member(&mut self, name: &str, text: &str) -> Result<(), AllocError>
         ensures { OnOk result (self.new ≡ self.old ++ key name.now ∷ string text.now ∷ []) }
     {
@@ -155,7 +155,7 @@ impl JsonText {
         Ok(())
     }
 
-    /// A member whose value is a text, or under another name a list of numbers where the bytes are no text.
+    /// Writes a member whose value is a string, or under another name a list of numbers if the bytes are not UTF-8.
     pub(crate) fn bytes_member(
         &mut self,
         name: &str,

@@ -62,8 +62,8 @@ fn outcome_of(report: &Report) -> Outcome
 ///
 /// ```
 /// let tree = SysTree::new(&rt, rt.alloc(), "src")?;
-/// let shape = Shape { format: Format::Tsv, by: Columns::ALL, sort: None };
-/// let outcome = run(&rt, rt.alloc(), &tree, &options, shape, &mut out)?;
+/// let table_options = TableOptions { format: Format::Tsv, by: Columns::ALL, sort: None };
+/// let outcome = run(&rt, rt.alloc(), &tree, &options, table_options, &mut out)?;
 /// assert_eq!(outcome, Outcome::Clean);
 /// ```
 pub fn run<T: Tree, R: Threads + Wait + Sync, O: Sink>(
@@ -71,14 +71,14 @@ pub fn run<T: Tree, R: Threads + Wait + Sync, O: Sink>(
     alloc: Global,
     tree: &T,
     options: &Options<'_>,
-    shape: TableOptions,
+    table_options: TableOptions,
     out: &mut O,
 ) -> Result<Outcome, RunFault>
     requires limits { AreWithinLimits options.now }
-    ensures { AnswersRun O.may_take (Walks (T.lists tree.now) (T.gives tree.now) options.now) shape out.old result out.new }
+    ensures { AnswersRun O.may_take (Walks (T.lists tree.now) (T.gives tree.now) options.now) table_options out.old result out.new }
 {
     let report = walk(rt, alloc, tree, options)?;
     let outcome = outcome_of(&report);
-    table(alloc, &report, shape, out)?;
+    table(alloc, &report, table_options, out)?;
     Ok(outcome)
 }

@@ -1,4 +1,4 @@
-//! The text of a table for a person, in columns.
+//! The text of a table in columns, for reading.
 
 ghost use Rattle.std.specs.Prelude.{◌≡◌, ◌++◌, [], ◌∷◌, IfOk, OnOk, string_bytes};
 ghost use Rattle.lc_table.specs.CellTexts.{cells_of};
@@ -7,7 +7,7 @@ ghost use Rattle.lc_table.specs.ScreenText.{count_cells, counts, screen_text_of}
 
 use crate::cells::Cell;
 use crate::columns::Widths;
-use crate::listings::{push_faults, push_files, push_skipped};
+use crate::listing::push_listing;
 use crate::summary::push_summary;
 use lc_text::Columns;
 use lc_walk::{Report, TallyRow};
@@ -71,7 +71,9 @@ fn push_counts(
     Ok(())
 }
 
-/// What is listed comes first, and the rows with their sums last, so that a terminal shows them. Paths are shown as
+/// Makes the text of a report in columns.
+///
+/// Lists come first, and the rows with their sums last, so that a terminal shows them. Paths are shown as
 /// [`push_visible`](lc_text::push_visible) has them.
 pub(crate) fn screen_text(
     alloc: Global,
@@ -83,9 +85,9 @@ pub(crate) fn screen_text(
 {
     let mut text = String::new(alloc);
     let mut made = String::new(alloc);
-    push_files(alloc, &report.files, &mut text, &mut made)?;
-    push_skipped(alloc, &report.skipped, &mut text, &mut made)?;
-    push_faults(alloc, &report.faults, &mut text, &mut made)?;
+    push_listing(alloc, &report.files, &mut text, &mut made)?;
+    push_listing(alloc, &report.skipped, &mut text, &mut made)?;
+    push_listing(alloc, &report.faults, &mut text, &mut made)?;
     push_summary(alloc, report, by, rows, &mut text, &mut made)?;
     text.push_str("\n")?;
     push_counts(alloc, report, &mut text, &mut made)?;

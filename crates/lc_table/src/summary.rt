@@ -7,10 +7,10 @@ ghost use Rattle.lc_table.specs.ScreenText.{cell_if, key_cells, number_headings,
 ghost use Rattle.lc_table.specs.ScreenText.{sums_cells, sums_line, sums_lines, summary};
 ghost use Rattle.lc_table.specs.Columns.{word};
 
-use crate::cells::Cell;
-use crate::classes::AllSums;
+use crate::cells::{Cell, push_all};
 use crate::columns::Widths;
 use crate::words::{eol_word, text_word};
+use lc_rows::AllSums;
 use lc_text::Columns;
 use lc_walk::{Report, Sums, TallyRow};
 use std::alloc::{AllocError, Global};
@@ -37,15 +37,6 @@ fn push_key<'a>(
     push_if(cells, by.ext, ext)?;
     push_if(cells, by.text, Cell::word(text))?;
     push_if(cells, by.eol, Cell::word(eol))
-}
-
-fn push_all<'a>(cells: &mut Vec<Cell<'a>>, more: &[Cell<'a>]) -> Result<(), AllocError>
-    ensures { OnOk result (cells_of cells.new.items ≡ cells_of cells.old.items ++ cells_of more.now) }
-{
-    for cell in more {
-        cells.push(*cell)?;
-    }
-    Ok(())
 }
 
 fn sums_cells(sums: Sums) -> [Cell<'static>; 4]

@@ -172,9 +172,10 @@ fn push_faults(text: &mut Vec<u8>, faults: &[FaultLine]) -> Result<(), AllocErro
     Ok(())
 }
 
-/// Fields are separated by one tab. After a header there is a line for each row, one for the totals, one with the number of
-/// directories, and one for each file, each entry left out, if these were asked for, and each fault, with their paths escaped as
-/// [`escape`](lc_text::escape) has it.
+/// Makes the text of a report with one tab between fields.
+///
+/// After a header there is a line for each row, one for the totals, one with the number of directories, one for each file and each
+/// skipped entry, if these were asked for, and one for each error, with paths as [`escape`](lc_text::escape) has them.
 pub(crate) fn tsv_text(
     alloc: Global,
     report: &Report,

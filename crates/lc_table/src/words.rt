@@ -56,7 +56,7 @@ pub(crate) fn kind_word(kind: Kind) -> &'static str
     }
 }
 
-/// What follows the path of an entry left out.
+/// Returns what follows the path of a skipped entry: a slash if it is a directory other than `.git`.
 pub(crate) fn skipped_end(skipped: &SkippedLine) -> &'static str
     ensures { result.now ≡ skipped_end skipped.now.kind skipped.now.reason }
 {

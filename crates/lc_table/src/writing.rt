@@ -11,12 +11,12 @@ use std::alloc::Global;
 pub fn table<O: Sink>(
     alloc: Global,
     report: &Report,
-    shape: TableOptions,
+    options: TableOptions,
     out: &mut O,
 ) -> Result<(), PrintFault>
-    ensures { AnswersTable O.may_take shape report.now out.old result out.new }
+    ensures { AnswersTable O.may_take options report.now out.old result out.new }
 {
-    let text = table_text(alloc, report, shape)?;
+    let text = table_text(alloc, report, options)?;
     print(out, &text)?;
     Ok(())
 }

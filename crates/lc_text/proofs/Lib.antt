@@ -1,13 +1,7 @@
 pub mod LinesOf
 pub mod Taking
-pub mod Directories
-pub mod Ignoring
-pub mod Explained
-pub mod GivenWords
-pub mod Dashes
 pub mod Plain
 pub mod Appended
 pub mod Clear
-pub mod Stopping
 pub mod InPieces
 pub mod KnownWrites

@@ -5,8 +5,8 @@ use Rattle.lc_rules.specs.declared.faults.RuleFault.{RuleFault}
 use Rattle.lc_rules.specs.declared.faults.RuleFault.TheVariants as rule
 use Rattle.lc_text.specs.declared.printing.PrintFault.{PrintFault}
 use Rattle.lc_text.specs.declared.printing.PrintFault.TheVariants as print
-use Rattle.lc_text.specs.declared.checking.CheckFault.{CheckFault}
-use Rattle.lc_text.specs.declared.checking.CheckFault.TheVariants.{Read, InputTooLong, RulesTooLong, Memory, Write}
+use Rattle.lc_text.specs.declared.check_fault.CheckFault.{CheckFault}
+use Rattle.lc_text.specs.declared.check_fault.CheckFault.TheVariants.{Read, InputTooLong, RulesTooLong, Memory, Write}
 
 -- of its input
 abbrev pub input_fault : WholeFault → CheckFault

@@ -4,15 +4,9 @@ pub mod Styles
 pub mod RulePlaces
 pub mod Lines
 pub mod PathLines
-pub mod CheckText
-pub mod ExplainedText
-pub mod ExplainLaws
-pub mod Findings
-pub mod Joined
+pub mod Input
 pub mod Writes
 pub mod Pieces
 pub mod Blocks
 pub mod TrialWrites
-pub mod RuleReads
-pub mod Check
 pub mod CheckFaults

@@ -27,7 +27,7 @@ pub const BLOCK_SIZE: usize = 65_536;
 /// ```
 #[derive(Drop)]
 pub struct Block {
-    /// What was appended since the last write.
+    /// The text that was appended since the last write.
     pub text: Vec<u8>,
 }
 
@@ -53,7 +53,7 @@ impl Block {
         Ok(())
     }
 
-    /// Writes what is left in the block at the end of the text.
+    /// Writes the rest of the block, at the end of the text.
     pub fn print_rest<O: Sink>(self, out: &mut O) -> Result<(), PrintFault>
         ensures answers { AnswersPrint O.may_take out.old self.text.items result out.new }
         ensures no_memory { result ≢ Err Memory }

@@ -1,4 +1,4 @@
-//! How paths are printed.
+//! Paths as they are printed for a program.
 
 ghost use Rattle.std.specs.Prelude.{◌≡◌, ◌<◌, ◌++◌, IfOk, OnOk};
 ghost use Rattle.std.specs.List.{list_all};
@@ -52,7 +52,7 @@ fn push_each_escaped(text: &mut Vec<u8>, bytes: &[u8]) -> Result<(), AllocError>
     Ok(())
 }
 
-/// Appends bytes as they are printed: a backslash as two, a control byte as `\x` and two digits.
+/// Appends bytes as they are printed: a backslash as two, a control byte as `\x` and two hexadecimal digits.
 pub fn push_escaped(text: &mut Vec<u8>, bytes: &[u8]) -> Result<(), AllocError>
     ensures { OnOk result (text.new.items ≡ text.old.items ++ escape_bytes bytes.now) }
 {
@@ -75,7 +75,7 @@ pub fn push_path(text: &mut Vec<u8>, path: &[u8]) -> Result<(), AllocError>
     }
 }
 
-/// A path as it is printed, on one line and without a tab, whatever its bytes; the top's empty path is a dot.
+/// Returns a path as it is printed, on one line and without a tab, whatever its bytes. The top's empty path is a dot.
 ///
 /// `t`, the byte 1 and `.c` are printed `t\x01.c`, and `a\b` is printed `a\\b`.
 pub fn escape(alloc: Global, path: &[u8]) -> Result<Vec<u8>, AllocError>

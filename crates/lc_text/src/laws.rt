@@ -2,7 +2,6 @@
 
 ghost use Rattle.std.specs.Prelude.{◌≡◌, ◌++◌, ℕ, List, Vec};
 ghost use Rattle.std.specs.Global.{Global};
-ghost use Rattle.lc_text.specs.ExplainLaws.{WordLaw};
 ghost use Rattle.lc_text.specs.Pieces.{WritesInPieces};
 ghost use Rattle.lc_text.specs.Writes.{AppendsAll, Writes};
 
@@ -11,10 +10,4 @@ pub fn a_vector_takes_the_text()
     ensures whole { (old new : Vec ℕ Global) (text : List ℕ) → Writes AppendsAll old text new → new.items ≡ old.items ++ text }
     ensures in_pieces { (old new : Vec ℕ Global) (text : List ℕ) → WritesInPieces AppendsAll old text new
         → new.items ≡ old.items ++ text }
-{}
-
-/// The rule that gives a path its word says it: below an ignored directory it is one that ignores, and else the word is what the
-/// rule says, or `none` where there is none.
-pub fn the_rule_gives_the_word()
-    ensures { WordLaw }
 {}

@@ -1,10 +1,10 @@
-//! Whether what was written tells of a fault.
+//! The outcome of a text that was written.
 
-/// Whether a text that was written tells of something that could not be read.
+/// The outcome of a text that was written: whether it shows something that could not be read.
 #[derive(Debug, Clone, Copy, PartialEq, Eq)]
 pub enum Outcome {
-    /// Everything that was met was read.
+    /// All that was met could be read.
     Clean,
-    /// The text has a line for each directory or file that was not read.
+    /// The text has a line for each directory or file that could not be read.
     SomeFaults,
 }

@@ -1,10 +1,10 @@
-//! Where a rule stands, as it is printed.
+//! The places of rules, as they are printed.
 
 ghost use Rattle.std.specs.Prelude.{◌≡◌, ◌≤◌, ◌++◌, length, OnOk};
 ghost use Rattle.std.specs.List.{after_first};
 ghost use Rattle.lc_glob.specs.Bytes.{slash};
 ghost use Rattle.lc_glob.specs.Pieces.{is_byte};
-ghost use Rattle.lc_text.specs.RulePlaces.{above, rule_file, rule_place};
+ghost use Rattle.lc_text.specs.RulePlaces.{above, source_directory, source_name, rule_place};
 ghost use Rattle.lc_text.specs.Styles.{styled};
 
 use crate::style::{PathStyle, push_styled};
@@ -25,42 +25,47 @@ fn after_slash(path: &[u8]) -> &[u8]
 
 /// The part of a path above what a file of the directory with `depth` segments sees: that directory's path with a slash at its end,
 /// or nothing at the top.
-///
-/// ```
-/// assert!(rt; above(b"src/gen/a.c", 1) == b"src/".as_slice());
-/// ```
-pub fn above(path: &[u8], depth: u32) -> &[u8]
+fn above(path: &[u8], depth: u32) -> &[u8]
     ensures { result.now ≡ above depth path.now }
 {
-    let mut left = depth;
+    let mut levels = depth;
     let mut rest = path;
-    'depths: while left > 0 {
+    'depths: while levels > 0 {
         rest = after_slash(rest);
-        left -= 1;
+        levels -= 1;
     }
     &path[..path.len() - rest.len()]
 }
 
-fn push_rule_file(
-    text: &mut Vec<u8>,
-    style: PathStyle,
-    path: &[u8],
-    source: RuleSource,
-) -> Result<(), AllocError>
-    ensures { OnOk result (text.new.items ≡ text.old.items ++ rule_file (styled style) path.now source) }
+/// Returns the directory of the file that a rule was read from, as the front of a path that the rule decides.
+///
+/// It ends with a slash. At the top, and where the file's name is all of its path, there is none.
+///
+/// ```
+/// assert!(rt; source_directory(b"src/gen/a.c", RuleSource::Gitignore(1)) == b"src/".as_slice());
+/// ```
+pub fn source_directory(path: &[u8], source: RuleSource) -> &[u8]
+    ensures { result.now ≡ source_directory path.now source }
 {
     match source {
-        RuleSource::ExcludeFrom => text.extend_from_slice(b"--exclude-from"),
-        RuleSource::InfoExclude => text.extend_from_slice(b".git/info/exclude"),
-        RuleSource::Gitignore(depth) => {
-            push_styled(text, style, above(path, depth))?;
-            text.extend_from_slice(b".gitignore")
-        }
+        RuleSource::ExcludeFrom | RuleSource::InfoExclude => &[],
+        RuleSource::Gitignore(depth) => above(path, depth),
     }
 }
 
-/// Appends where the rule stands that decides a path, by its file's path in a style, and the number of its line, as
-/// `src/.gitignore:3`, `.git/info/exclude:2` or `--exclude-from:7`.
+/// Returns the name of the file that a rule was read from, which follows its directory ([`source_directory`]).
+pub fn source_name(source: RuleSource) -> &'static str
+    ensures { result.now ≡ source_name source }
+{
+    match source {
+        RuleSource::ExcludeFrom => "--exclude-from",
+        RuleSource::InfoExclude => ".git/info/exclude",
+        RuleSource::Gitignore(_) => ".gitignore",
+    }
+}
+
+/// Appends where the rule is that decides a path: the path of its file in a style, and the number of its line, as `src/.gitignore:3`,
+/// `.git/info/exclude:2` or `--exclude-from:7`.
 ///
 /// ```
 /// push_rule_source(&mut text, PathStyle::Escaped, b"src/gen/a.c", RuleSource::Gitignore(1), 3)?; // src/.gitignore:3
@@ -74,6 +79,7 @@ pub fn push_rule_source(
 ) -> Result<(), AllocError>
     ensures { OnOk result (text.new.items ≡ text.old.items ++ rule_place (styled style) path.now source line) }
 {
-    push_rule_file(text, style, path, source)?;
-    write!(text, ":{line}").map_err(|_| AllocError)
+    push_styled(text, style, source_directory(path, source))?;
+    let name = source_name(source);
+    write!(text, "{name}:{line}").map_err(|_| AllocError)
 }

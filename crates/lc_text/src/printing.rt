@@ -1,4 +1,4 @@
-//! A text is written whole, or why not.
+//! Writing a text whole.
 
 ghost use Rattle.std.specs.Prelude.{◌≡◌, ◌≢◌};
 ghost use Rattle.lc_text.specs.declared.printing.PrintFault.TheVariants.{Write, Memory};
@@ -36,7 +36,7 @@ impl From<Failed> for PrintFault {
     }
 }
 
-/// Writes the whole text. A write that takes nothing of a rest that is not empty is a fault too.
+/// Writes a text whole. A write that takes no byte of a rest that is not empty is an error too.
 pub fn print<O: Sink>(out: &mut O, text: &[u8]) -> Result<(), PrintFault>
     ensures answers { AnswersPrint O.may_take out.old text.now result out.new }
     ensures no_memory { result ≢ Err PrintFault.Memory }

@@ -1,4 +1,4 @@
-//! Where text is written.
+//! Outputs.
 
 ghost use Rattle.std.specs.Prelude.{ℕ, ◌≤◌, ◌≢◌, length, IfOk, IfErr, List, Result};
 ghost use Rattle.std.specs.Io.{WritesAtMost};
@@ -17,13 +17,13 @@ pub trait Sink {
     /// Whether a write of these bytes may give this answer and leave the sink so.
     ghost may_take: { Self → List ℕ → Result ℕ Failed → Self → Type 0 };
 
-    /// Takes some bytes from the front, and says how many.
+    /// Writes some bytes from the front, and returns how many.
     fn write(&mut self, bytes: &[u8]) -> Result<usize, Failed>
         ensures within { IfOk result (λ n. n ≤ length bytes.now) }
         ensures taken { may_take self.old bytes.now result self.new };
 }
 
-/// Takes all bytes at once, and fails only where its growth is refused.
+/// A vector takes all bytes at once, and fails only for want of memory.
 impl Sink for Vec<u8> {
     ghost may_take = { AppendsAll };
 
@@ -35,7 +35,7 @@ impl Sink for Vec<u8> {
     }
 }
 
-/// A sink over a writer of std, as a file or standard output.
+/// A sink over a writer of std, such as a file or standard output.
 ///
 /// A `write` that a signal interrupts has taken nothing, and is tried again, up to `MAX_TRIES` times in all; every other error
 /// of the writer is a failure. Where it is known which bytes the writer holds, as of a vector, those grow by what is taken.
@@ -53,7 +53,7 @@ impl<W: Write> Sink for StdSink<W> {
     }
 }
 
-// A write, tried again where a signal interrupts it.
+/// Writes, and tries again where a signal interrupts the write.
 #[tactic(auto, using(crate::proofs::KnownWrites::keeps_and_keeps, crate::proofs::KnownWrites::keeps_and_appends))]
 fn write_again<W: Write>(writer: &mut W, bytes: &[u8]) -> io::Result<usize>
     ensures bound { WritesAtMost result bytes.now }

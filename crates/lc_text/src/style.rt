@@ -1,4 +1,4 @@
-//! How paths are printed for a program, and for a terminal.
+//! The styles in which paths are printed: for a program, and for a terminal.
 
 ghost use Rattle.std.specs.Prelude.{◌≡◌, ◌++◌, OnOk};
 ghost use Rattle.lc_text.specs.Styles.{styled, styled_path};
@@ -8,7 +8,7 @@ use crate::escaping::push_escaped;
 use crate::visible::push_visible;
 use std::alloc::AllocError;
 
-/// How the bytes of paths and of patterns are printed.
+/// The style in which the bytes of paths and of patterns are printed.
 #[derive(Debug, Clone, Copy, PartialEq, Eq)]
 pub enum PathStyle {
     /// For a pipe or a file: a program can read the bytes back ([`push_escaped`]).

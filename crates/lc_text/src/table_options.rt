@@ -1,29 +1,29 @@
-//! What a table is to look like.
+//! The options of a table: its format, its columns and its order.
 
-/// The writing of a table.
+/// The format in which a table is written.
 #[derive(Debug, Clone, Copy, PartialEq, Eq)]
 pub enum Format {
-    /// A tab between fields.
+    /// Fields with a tab between.
     Tsv,
-    /// Columns as wide as what stands in them, for a person.
+    /// Columns that are as wide as their widest cell, for reading.
     Table,
     /// One JSON object (RFC 8259) on one line.
     Json,
 }
 
-/// The columns of a key that a table keeps apart: its rows are summed over the others.
+/// The columns by which the rows of a table are kept apart. Rows are summed over the columns that it leaves out.
 #[derive(Debug, Clone, Copy, PartialEq, Eq)]
 pub struct Columns {
-    /// The extension of the name.
+    /// The extension of the file's name.
     pub ext: bool,
-    /// What the attribute `text` is.
+    /// The state of the attribute `text`.
     pub text: bool,
     /// The class of line ends.
     pub eol: bool,
 }
 
 impl Columns {
-    /// Each column.
+    /// All columns, so that no rows are summed.
     pub const ALL: Columns = Columns {
         ext: true,
         text: true,
@@ -31,24 +31,30 @@ impl Columns {
     };
 }
 
-/// The number by which rows are sorted, the largest first.
+/// The number by which the rows of a table are sorted, largest first.
 #[derive(Debug, Clone, Copy, PartialEq, Eq)]
 pub enum SortBy {
+    /// The number of files.
     Files,
+    /// The number of lines.
     Lines,
+    /// The number of blank lines.
     Blank,
+    /// The number of bytes.
     Bytes,
 }
 
-/// What a table is to look like.
+/// The options of a table.
 ///
 /// ```
-/// let shape = Shape { format: Format::Tsv, by: Columns::ALL, sort: None };
+/// let options = TableOptions { format: Format::Tsv, by: Columns::ALL, sort: None };
 /// ```
 #[derive(Debug, Clone, Copy, PartialEq, Eq)]
 pub struct TableOptions {
+    /// The format in which it is written.
     pub format: Format,
+    /// The columns by which its rows are kept apart.
     pub by: Columns,
-    /// Rows of equal numbers, and all where there is none, stand in the order of their keys.
+    /// The number by which its rows are sorted. Rows with equal numbers, and all rows without one, come in the order of their keys.
     pub sort: Option<SortBy>,
 }

@@ -7,7 +7,7 @@ use crate::sink::Sink;
 use lc_census::Failed;
 use std::alloc::{AllocError, Global};
 
-/// What a writer answers once it has no room.
+/// The answer of a writer that has no more room.
 #[derive(Debug, Clone, Copy, PartialEq, Eq)]
 pub enum WhenFull {
     /// A write takes nothing.
@@ -31,7 +31,7 @@ pub const WRITERS: &[(usize, WhenFull)] = &[
 /// ```
 #[derive(Drop)]
 pub struct Narrow {
-    /// What it took.
+    /// The bytes that it took.
     pub taken: Vec<u8>,
     step: usize,
     room: usize,
@@ -39,7 +39,7 @@ pub struct Narrow {
 }
 
 impl Narrow {
-    /// Nothing was taken so far. The memory for all that it may take is taken at once.
+    /// Makes a writer that took nothing so far. It allocates the memory for all that it may take.
     pub fn new(
         alloc: Global,
         step: usize,
@@ -61,8 +61,8 @@ impl Sink for Narrow {
     ghost may_take = { λ old bytes answer new. TakesSome old.taken.items bytes answer new.taken.items };
 
     fn write(&mut self, bytes: &[u8]) -> Result<usize, Failed> {
-        let left = self.room.saturating_sub(self.taken.len());
-        let count = bytes.len().min(self.step).min(left);
+        let room = self.room.saturating_sub(self.taken.len());
+        let count = bytes.len().min(self.step).min(room);
         if count == 0 {
             return match self.when_full {
                 WhenFull::TakesNothing => Ok(0),

@@ -1,10 +1,7 @@
 //! What no clause says: worked cases, that calls succeed where there is memory, and streams that misbehave.
 
 mod blocks;
-mod explained;
 mod interrupted;
 mod places;
-mod streams;
 mod styles;
-mod texts;
 mod visible;

@@ -5,4 +5,5 @@ pub mod NodesIn
 pub mod OneAnswer
 pub mod OneOrder
 mod Readings
+pub mod SomeNames
 pub mod Sorting

@@ -39,6 +39,14 @@ impl IdleThreads {
         }
     }
 
+    /// A count of so many threads, all of them idle, such as workers that are about to start.
+    pub const fn all_idle(threads: u32) -> IdleThreads {
+        IdleThreads {
+            idle: AtomicU32::new(threads),
+            lent: AtomicU32::new(0),
+        }
+    }
+
     /// One thread more is idle.
     pub fn begin(&self) {
         let more = |idle: u32| idle.checked_add(1);

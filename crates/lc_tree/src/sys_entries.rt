@@ -1,8 +1,10 @@
 //! The entries of a directory of the system.
-ghost use Rattle.std.specs.Prelude.{◌≡◌, ◌↔◌, IsTrue, Ok, Some, length, nat_lt, string_bytes};
+ghost use Rattle.std.specs.Prelude.{◌≡◌, ◌↔◌, IfOk, IsTrue, Ok, OnOk, Some, length, nat_lt, string_bytes};
 ghost use Rattle.std.specs.Fs.{file_type, IsFile, IsDir};
 ghost use Rattle.lc_glob.specs.Path.{path_in, max_path};
 ghost use Rattle.lc_tree.specs.Kinds.{is_file, is_dir};
+ghost use Rattle.lc_tree.specs.SysTrees.{AddsIfThere};
+ghost use Rattle.lc_tree.specs.Trees.{AreOf};
 ghost use Rattle.lc_tree.specs.declared.entry.Kind.TheVariants.{Other};
 
 use crate::system_call::uninterrupted;
@@ -21,18 +23,35 @@ pub(crate) fn look_at_each<R: Files>(
     directory: &[u8],
     path: String,
     names: Vec<Vec<u8>>,
-) -> Result<Vec<Entry>, ReadFault> {
+) -> Result<Vec<Entry>, ReadFault>
+    ensures { IfOk result (λ entries. AreOf entries.items names.items) }
+{
     let mut path = path;
     let mut entries = Vec::with_capacity(alloc, names.len())?;
     for name in names {
-        let Ok(text) = str::from_utf8(&name) else {
-            return Err(ReadFault::Unnamed);
-        };
-        if let Some(kind) = kind_of(files, directory, &mut path, text)? {
-            entries.push(Entry { name, kind })?;
-        }
+        look_at_one(files, directory, &mut path, name, &mut entries)?;
     }
     Ok(entries)
+}
+
+// Adds the entry of a name, if it is still there.
+fn look_at_one<R: Files>(
+    files: &R,
+    directory: &[u8],
+    path: &mut String,
+    name: Vec<u8>,
+    entries: &mut Vec<Entry>,
+) -> Result<(), ReadFault>
+    ensures { OnOk result (AddsIfThere name.items entries.old.items entries.new.items) }
+{
+    let Ok(text) = str::from_utf8(&name) else {
+        return Err(ReadFault::Unnamed);
+    };
+    let Some(kind) = kind_of(files, directory, path, text)? else {
+        return Ok(());
+    };
+    entries.push(Entry { name, kind })?;
+    Ok(())
 }
 
 // What stands under a name in a directory. An entry whose path in the tree is too long is not looked at: the system may refuse so

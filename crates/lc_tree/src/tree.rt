@@ -1,6 +1,6 @@
 //! The trait of trees of directories and files.
-ghost use Rattle.std.specs.Prelude.{ℕ, List};
-ghost use Rattle.lc_tree.specs.Trees.{Content, Contents, LeavesLooks, Listings, Lists, MayHold, Opens};
+ghost use Rattle.std.specs.Prelude.{ℕ, List, IfOk};
+ghost use Rattle.lc_tree.specs.Trees.{AreOf, Content, Contents, LeavesLooks, Listings, Lists, MayHold, Opens};
 
 use crate::{Entry, Listing, ReadFault};
 use lc_census::Source;
@@ -45,7 +45,9 @@ pub trait Tree: Sync {
         _alloc: Global,
         _path: &[u8],
         _names: Vec<Vec<u8>>,
-    ) -> Result<Vec<Entry>, ReadFault> {
+    ) -> Result<Vec<Entry>, ReadFault>
+        ensures { IfOk result (λ entries. AreOf entries.items _names.items) }
+    {
         Err(ReadFault::Failed)
     }
 

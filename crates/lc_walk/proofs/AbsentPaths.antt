@@ -23,7 +23,7 @@ use Rattle.lc_tree.specs.ByteOrder.{bytes_cmp, AreInOrder}
 use Rattle.lc_tree.specs.Paths.{names_of_path}
 use Rattle.lc_walk.proofs.Distinct.{Distinct}
 use Rattle.lc_walk.proofs.Elements.{In}
-use Rattle.lc_walk.proofs.PathNames.{one_name}
+use Rattle.lc_level.proofs.PathNames.{one_name}
 use Rattle.lc_walk.proofs.TakingPart.{each_filter, each_passes}
 
 -- ---- paths seen from a directory

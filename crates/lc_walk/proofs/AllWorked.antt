@@ -12,7 +12,7 @@ use Rattle.lc_walk.specs.Running.{HasRun, AllOver, TalliesAll}
 use Rattle.lc_walk.specs.Serving.{EndsAs}
 use Rattle.lc_walk.specs.Tally.{TallyModel, CountedFile, StandsFor}
 use Rattle.lc_walk.specs.TreeOfRows.{numbers_below}
-use Rattle.lc_walk.specs.Worked.{AreLawful, FoundOver, TalliesFor, files_given, files_of_pass}
+use Rattle.lc_walk.specs.WorkerResults.{AreLawful, FoundOver, TalliesFor, files_given, files_of_pass}
 use Rattle.lc_walk.specs.declared.row.Row.{Row}
 use Rattle.lc_walk.specs.declared.worker.StopReason.TheVariants.{Over}
 use Rattle.lc_walk.specs.declared.worker.WorkerResult.{WorkerResult}

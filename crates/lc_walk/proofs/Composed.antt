@@ -23,7 +23,7 @@ use Rattle.lc_walk.specs.declared.report.Report.{Report}
 use Rattle.lc_walk.specs.declared.report.findings.Findings.{Findings}
 use Rattle.lc_level.specs.Answers.{Answers, no_answers}
 use Rattle.lc_level.specs.Job.{JobModel}
-use Rattle.lc_level.specs.Level.{counted_in, classify}
+use Rattle.lc_level.specs.Level.{counted_in, skipped_in}
 use Rattle.lc_walk.specs.Found.{Found, path_of, found_of, found_at}
 use Rattle.lc_walk.specs.Rows.{row_of, job_of, IsWhole}
 use Rattle.lc_walk.specs.Lawful.{Asked, IsLawful, Says, counted_files}
@@ -34,7 +34,7 @@ use Rattle.lc_walk.specs.WalkReport.{tallied, line_of, skipped_line, tallied_in,
 use Rattle.lc_walk.specs.WalkReport.{tallied_of, files_of, faults_of, directories_of, skipped_lines_of, entry_count, IsReportOf}
 use Rattle.lc_walk.specs.Assembled.{fault_line, directories_by_row, files_by_row, faults_by_row, skipped_by_row, entries_by_row}
 use Rattle.lc_walk.specs.Assembled.{directories_in_rows, files_in_rows, faults_in_rows, skipped_in_rows, entries_in_rows, AreFindings}
-use Rattle.lc_walk.specs.Worked.{MayStand, IsLawfulEnd, AreLawful, returned_files, files_given, files_of_pass, files_of_passes}
+use Rattle.lc_walk.specs.WorkerResults.{MayStand, IsLawfulEnd, AreLawful, returned_files, files_given, files_of_pass, files_of_passes}
 use Rattle.lc_walk.proofs.Broken.{NoneFor, unbroken}
 use Rattle.lc_walk.proofs.Fuller.{fuller_says, full_pass}
 use Rattle.lc_walk.specs.WalkAnswers.{SomeRows, IsWalkReport}
@@ -149,7 +149,7 @@ module _ (ask : Asked) (MayAnswer : List ℕ → Answers → Type 0) (capacity w
     lawful = λ i e is. (lawful_here i e is).0;
   }
 
-  -- where no row was given up for want of memory, the tree was asked about each
+  -- where no row was broken off for want of memory, the tree was asked about each
   pub may_here : NoneFor Memory rows → (i : ℕ) (e : Ended Row) → slice_get rows i ≡ Some e → MayAnswer (job_of (row_of e)).path (answers i)
   may_here fed i e is = at (lawful_here i e is).1
     where
@@ -220,7 +220,7 @@ module _ (ask : Asked) (MayAnswer : List ℕ → Answers → Type 0) (capacity w
           faults = ap (λ x. faults_of (f x)) l ∙ faults_went r.job s.fates s.absent ∙ ap (map (fault_line r.job.path)) (sym s.faults_are);
           skipped = ap (λ x. cond ask.lists.left_out (skipped_lines_of (f x)) []) l
               ∙ ap (λ xs. cond ask.lists.left_out xs []) (skipped_went r.job s.fates s.absent)
-              ∙ sym (mapped_asked (skipped_line r.job.path) ask.lists.left_out (classify s.fates))
+              ∙ sym (mapped_asked (skipped_line r.job.path) ask.lists.left_out (skipped_in s.fates))
               ∙ ap (map (skipped_line r.job.path)) (sym s.skipped_are);
           directories = ap (λ x. directories_of (f x)) l ∙ directories_went r.job s.fates s.absent;
           entries = ap (λ x. entry_count (f x)) l ∙ entries_went r.job s.fates s.absent ∙ sym s.entries_are;

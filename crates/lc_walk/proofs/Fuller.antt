@@ -10,7 +10,7 @@ use Rattle.lc_board.specs.declared.answers.Ended.TheVariants as ended
 use Rattle.lc_level.specs.Answers.{Answers}
 use Rattle.lc_level.specs.Job.{JobModel}
 use Rattle.lc_walk.specs.Lawful.{Asked, Says, IsCause}
-use Rattle.lc_walk.specs.Worked.{IsLawfulEnd, AreLawfulSince}
+use Rattle.lc_walk.specs.WorkerResults.{IsLawfulEnd, AreLawfulSince}
 use Rattle.lc_walk.specs.declared.broken_cause.BrokenCause.{BrokenCause}
 use Rattle.lc_walk.specs.declared.broken_cause.BrokenCause.TheVariants.{Memory, TooManyDirs, TooDeep}
 use Rattle.lc_walk.specs.declared.row.Row.{Row}

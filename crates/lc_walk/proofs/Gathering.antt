@@ -6,7 +6,7 @@ use Rattle.std.proofs.lemmas.Grind.{flat_map-append}
 use Rattle.lc_walk.specs.Running.{AllOver, TalliesAll}
 use Rattle.lc_walk.specs.Tally.{TallyModel, CountedFile, StandsFor}
 use Rattle.lc_walk.specs.TreeOfRows.{numbers_below}
-use Rattle.lc_walk.specs.Worked.{TalliesFor}
+use Rattle.lc_walk.specs.WorkerResults.{TalliesFor}
 use Rattle.lc_walk.specs.declared.worker.StopReason.TheVariants.{Over}
 use Rattle.lc_walk.specs.declared.worker.WorkerResult.{WorkerResult}
 

@@ -27,7 +27,6 @@ pub mod PartFates
 pub mod PartOfWalk
 pub mod PartsOfTrees
 pub mod PathGroups
-pub mod PathNames
 pub mod PathsApart
 pub mod PathsOnce
 pub mod PathsWithin

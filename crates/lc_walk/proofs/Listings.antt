@@ -7,7 +7,7 @@ use Rattle.std.proofs.lemmas.List.{map-append}
 use Rattle.std.proofs.lemmas.List.Sums.{sum_by-append, sum_by-cons}
 use Rattle.lc_level.specs.Job.{JobModel}
 use Rattle.lc_level.specs.Level.{Fate, counted, failed, walked, skipped, listed_level, counted_of, failed_of, skipped_of, counted_in, failed_in}
-use Rattle.lc_level.specs.Level.{FileFaultModel, classify, absent_faults}
+use Rattle.lc_level.specs.Level.{FileFaultModel, skipped_in, absent_faults}
 use Rattle.lc_level.specs.declared.fault_word.FaultWord.TheVariants.{Absent}
 use Rattle.lc_walk.specs.Found.{Found, found_directory, found_absent, found_by, found_of}
 use Rattle.lc_walk.specs.WalkReport.{tallied, line_of, skipped_line, tallied_in, file_in, fault_in, directory_in, skipped_lines_in, entries_in}
@@ -104,7 +104,7 @@ skipped_one d (name, skipped kind reason) = refl
 
 -- to the lines of entries left out
 pub skipped_went : (j : JobModel) (fates : List (List ℕ × Fate)) (absent : List (List ℕ)) →
-    skipped_lines_of (found_of j (listed_level fates absent)) ≡ map (skipped_line j.path) (classify fates)
+    skipped_lines_of (found_of j (listed_level fates absent)) ≡ map (skipped_line j.path) (skipped_in fates)
 skipped_went j fates absent =
     after_absent skipped_lines_in j.path (λ rest. refl) absent _
     ∙ went skipped_lines_in skipped_of (skipped_line j.path) j.path (skipped_one j.path) fates

@@ -21,7 +21,7 @@ abbrev pub IsFateOf : Fate → Kind → Type 0
 IsFateOf (counted f) kind = kind ≡ File
 IsFateOf (failed word) kind = kind ≡ File
 IsFateOf (walked job) kind = kind ≡ Dir
-IsFateOf (skipped out reason) kind = kind ≡ out
+IsFateOf (skipped other reason) kind = kind ≡ other
 
 fits_by : (kind : Kind) (own : Fate) → IsFateOf own kind → (o : Option Reason) → IsFateOf (option_map_or (skipped kind) o own) kind
 fits_by kind own is None = is

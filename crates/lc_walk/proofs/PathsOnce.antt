@@ -29,7 +29,7 @@ use Rattle.lc_walk.proofs.AbsentPaths.{absent_distinct, absent_asked, absent_lea
 use Rattle.lc_walk.proofs.Distinct.{Distinct, distinct-append, picked, each_picked, picked_distinct, picked_apart}
 use Rattle.lc_walk.proofs.Levels.{IsOwnPlace, own_level_keeps, well_formed_items, IsChild, each_child}
 use Rattle.lc_walk.proofs.PathGroups.{Below, Under, Group, IsGroup, groups_distinct, groups_below, groups_above}
-use Rattle.lc_walk.proofs.PathNames.{one_name}
+use Rattle.lc_level.proofs.PathNames.{one_name}
 use Rattle.lc_walk.proofs.Places.{names_of_path-path_in}
 use Rattle.lc_walk.proofs.TakingPart.{each_filter, spread_part}
 use Rattle.lc_level.proofs.Fates.{children_by, walked_items_are}

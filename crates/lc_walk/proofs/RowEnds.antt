@@ -28,16 +28,13 @@ use Rattle.lc_walk.specs.Found.{children_of, children_at}
 use Rattle.lc_walk.specs.Lawful.{Asked, IsCause, jobs_of, named, counted_files, files_at}
 use Rattle.lc_walk.specs.Posting.{HasPosted, RefusesPost}
 use Rattle.lc_walk.specs.RowViews.{ListedRowModel}
-use Rattle.lc_walk.specs.Serving.{HoldsJob, GivesUp, AddsFiles, WorksOn, Serves}
+use Rattle.lc_walk.specs.Serving.{HoldsJob, BreaksOff, AddsFiles, WorksOn, Serves}
 use Rattle.lc_walk.specs.Tally.{TallyModel, CountedFile, StandsFor}
 use Rattle.lc_walk.specs.WalkReport.{tallied}
-use Rattle.lc_walk.specs.Worked.{IsLawfulEnd}
+use Rattle.lc_walk.specs.WorkerResults.{IsLawfulEnd}
 use Rattle.lc_walk.proofs.Joining.{stands_permuted}
 use Rattle.lc_walk.proofs.Posted.{posts_come, job_stays}
 use Rattle.lc_walk.proofs.Working.{works_posts, works_give, works_fault, serves_broken, then_serves}
-use Rattle.lc_level.specs.declared.cause.Cause.{Cause}
-use Rattle.lc_level.specs.declared.cause.Cause.TheVariants as level
-use Rattle.lc_walk.specs.BrokenCauses.{broken_cause_for}
 use Rattle.lc_walk.specs.declared.broken_cause.BrokenCause.{BrokenCause}
 use Rattle.lc_walk.specs.declared.broken_cause.BrokenCause.TheVariants.{Memory, TooManyDirs, TooDeep}
 use Rattle.lc_level.specs.declared.counting.CountedFiles.{CountedFiles}
@@ -56,7 +53,7 @@ module _ (ask : Asked) (lists : List ℕ → Listings) (gives : List ℕ → Con
   Lawful p j c a = IsLawfulEnd ask p.full (MayAnswer lists gives) (job_held p.mine) (posts_held p.mine)
       (ended.Returned (Broken (record { job = j; cause = c }))) a
 
-  -- a directory was given up before anything was posted
+  -- a directory was broken off before anything was posted
   memory_end : (p : Pass JobModel Row) (j : JobModel) → HoldsJob j p → Lawful p j Memory no_answers
   memory_end p j h = record {
     job_is = h.job_is;
@@ -70,28 +67,24 @@ module _ (ask : Asked) (lists : List ℕ → Listings) (gives : List ℕ → Con
       → WorksOn ask (MayAnswer lists gives) p (after_give p (Broken (record { job = j; cause = Memory }))) t None
   serves_unasked p j t h = works_give ask (MayAnswer lists gives) p _ no_answers t None (memory_end p j h) (λ fs s. tt) (λ e. inl refl)
 
-  unopened_end : (p : Pass JobModel Row) (j : JobModel) (c : Cause) → HoldsJob j p
-      → OpensLevel lists gives ask.lists.left_out ask.selection j (Err (open_fault.Broken c))
-      → (a : Answers) × Lawful p j (broken_cause_for c) a
-  unopened_end p j level.Memory h o = (no_answers, memory_end p j h)
-  unopened_end p j level.TooDeep h o = (
-    o.0,
-    record {
-      job_is = h.job_is;
-      well_formed = o.2;
-      says = record { posted = 0; posts_are = ap jobs_of h.none; cause_is = o.3 };
-      may = inr o.1;
-    },
-  )
+  -- a directory was broken off before it was opened, for want of memory
+  pub serves_unread : (p : Pass JobModel Row) (j : JobModel) (t : TallyModel) (result : Result (Unit {0}) AllocError)
+      → HoldsJob j p → BreaksOff Memory result →
+      Serves ask (MayAnswer lists gives) p (after_give p (Broken (record { job = j; cause = Memory }))) t t result
+  serves_unread p j t result h g =
+      serves_broken ask (MayAnswer lists gives) p j Memory no_answers t t result (memory_end p j h) g (λ n. refl)
 
-  -- a directory that was given up before it was opened
-  pub serves_unopened : (p : Pass JobModel Row) (j : JobModel) (c : Cause) (t : TallyModel) (result : Result (Unit {0}) AllocError)
-      → HoldsJob j p →
-      OpensLevel lists gives ask.lists.left_out ask.selection j (Err (open_fault.Broken c)) → GivesUp (broken_cause_for c) result →
-      Serves ask (MayAnswer lists gives) p (after_give p (Broken (record { job = j; cause = broken_cause_for c }))) t t result
-  serves_unopened p j c t result h o g =
-      let e = unopened_end p j c h o in
-      serves_broken ask (MayAnswer lists gives) p j (broken_cause_for c) e.0 t t result e.1 g (λ n. refl)
+  -- or since one of its entries is too deep
+  pub serves_too_deep : (p : Pass JobModel Row) (j : JobModel) (t : TallyModel) (result : Result (Unit {0}) AllocError)
+      → HoldsJob j p → OpensLevel lists gives ask.lists.left_out ask.selection j (Err open_fault.TooDeep) → BreaksOff TooDeep result →
+      Serves ask (MayAnswer lists gives) p (after_give p (Broken (record { job = j; cause = TooDeep }))) t t result
+  serves_too_deep p j t result h o g =
+      serves_broken ask (MayAnswer lists gives) p j TooDeep o.0 t t result (record {
+        job_is = h.job_is;
+        well_formed = o.2;
+        says = record { posted = 0; posts_are = ap jobs_of h.none; cause_is = o.3 };
+        may = inr o.1;
+      }) g (λ n. refl)
 
   -- a directory at fault
   pub serves_faulted : (p : Pass JobModel Row) (j : JobModel) (site : FaultSite) (word : FaultWord) (t : TallyModel) → HoldsJob j p →
@@ -146,7 +139,7 @@ module _ (ask : Asked) (lists : List ℕ → Listings) (gives : List ℕ → Con
 
     -- not all were posted
     pub serves_refused : (cause : BrokenCause) (t : TallyModel) (result : Result (Unit {0}) AllocError)
-        → RefusesPost (jobs_of o.children.items) p q cause → GivesUp cause result →
+        → RefusesPost (jobs_of o.children.items) p q cause → BreaksOff cause result →
         Serves ask (MayAnswer lists gives) p (after_give q (Broken (record { job = j; cause = cause }))) t t result
     serves_refused Memory t result x g =
         then_serves ask (MayAnswer lists gives) p q _ t t result (works_posts ask (MayAnswer lists gives) p q _ (Some t) x.1)
@@ -160,7 +153,7 @@ module _ (ask : Asked) (lists : List ℕ → Listings) (gives : List ℕ → Con
 
     -- all were posted, and then memory was refused
     pub serves_uncounted : (t u : TallyModel) (result : Result (Unit {0}) AllocError) → HasPosted p q (jobs_of o.children.items)
-        → GivesUp Memory result →
+        → BreaksOff Memory result →
         Serves ask (MayAnswer lists gives) p (after_give q (Broken (record { job = j; cause = Memory }))) t u result
     serves_uncounted t u result x g =
         let all = subst (HasPosted p q) (sym (take-length (jobs_of o.children.items))) x in

@@ -15,9 +15,9 @@ use Rattle.lc_level.specs.Answers.{Answers}
 use Rattle.lc_level.specs.Job.{JobModel}
 use Rattle.lc_walk.specs.Lawful.{Asked}
 use Rattle.lc_walk.specs.Posting.{IsPost, HasPosted}
-use Rattle.lc_walk.specs.Serving.{GivesUp, WorksOn, Serves}
+use Rattle.lc_walk.specs.Serving.{BreaksOff, WorksOn, Serves}
 use Rattle.lc_walk.specs.Tally.{TallyModel, CountedFile, StandsFor}
-use Rattle.lc_walk.specs.Worked.{IsLawfulEnd, AreLawful, AreLawfulSince, HasWorked, TalliesFor, GaveUp, files_given, returned_files}
+use Rattle.lc_walk.specs.WorkerResults.{IsLawfulEnd, AreLawful, AreLawfulSince, HasWorked, TalliesFor, RanOutOfMemory, files_given, returned_files}
 use Rattle.lc_walk.specs.Assembled.{IsBrokenBy}
 use Rattle.lc_walk.proofs.Fuller.{fuller_since}
 use Rattle.lc_walk.specs.declared.broken_cause.BrokenCause.{BrokenCause}
@@ -63,13 +63,13 @@ posts_files ask (Return w i r ∷ s) m given a = absurd a.0
 posts_files ask (Fault w i r ∷ s) m given a = absurd a.0
 posts_files ask (Over w ∷ s) m given a = absurd a.0
 
-posts_gave_up : (s m : Events) → AllByRecursion IsPost s → GaveUp m → GaveUp (s ++ m)
-posts_gave_up [] m a u = u
-posts_gave_up (Post w p i j ∷ s) m a u = posts_gave_up s m a.1 u
-posts_gave_up (Claim w i j ∷ s) m a u = absurd a.0
-posts_gave_up (Return w i r ∷ s) m a u = absurd a.0
-posts_gave_up (Fault w i r ∷ s) m a u = absurd a.0
-posts_gave_up (Over w ∷ s) m a u = absurd a.0
+posts_keep_refusal : (s m : Events) → AllByRecursion IsPost s → RanOutOfMemory m → RanOutOfMemory (s ++ m)
+posts_keep_refusal [] m a u = u
+posts_keep_refusal (Post w p i j ∷ s) m a u = posts_keep_refusal s m a.1 u
+posts_keep_refusal (Claim w i j ∷ s) m a u = absurd a.0
+posts_keep_refusal (Return w i r ∷ s) m a u = absurd a.0
+posts_keep_refusal (Fault w i r ∷ s) m a u = absurd a.0
+posts_keep_refusal (Over w ∷ s) m a u = absurd a.0
 
 module _ (ask : Asked) (MayAnswer : List ℕ → Answers → Type 0) where
   -- a worker that has done nothing has no files
@@ -128,7 +128,7 @@ module _ (ask : Asked) (MayAnswer : List ℕ → Answers → Type 0) where
     lawful = posts_lawful ask q.full MayAnswer first.mine h.since w.since w.answers h.only
         (fuller_since ask p.full q.full MayAnswer h.fuller first.mine w.since w.answers w.lawful);
     tallied = subst (TalliesFor t) (sym (posts_files ask h.since w.since w.answers h.only)) w.tallied;
-    untallied = λ e. posts_gave_up h.since w.since h.only (w.untallied e);
+    untallied = λ e. posts_keep_refusal h.since w.since h.only (w.untallied e);
   }
 
   -- a claim is ended by a lawful row, of which the tally gets the files
@@ -146,7 +146,7 @@ module _ (ask : Asked) (MayAnswer : List ℕ → Answers → Type 0) where
     untallied = λ e. at (none e);
   }
     where
-      at : IsBrokenBy Memory r ⊎ (t ≡ None) → IsBrokenBy Memory r ⊎ GaveUp w.since
+      at : IsBrokenBy Memory r ⊎ (t ≡ None) → IsBrokenBy Memory r ⊎ RanOutOfMemory w.since
       at (inl b) = inl b
       at (inr e) = inr (w.untallied e)
 
@@ -164,11 +164,11 @@ module _ (ask : Asked) (MayAnswer : List ℕ → Answers → Type 0) where
     untallied = w.untallied;
   }
 
-  -- a directory was given up
+  -- a directory was broken off
   pub serves_broken : (p : Pass JobModel Row) (j : JobModel) (c : BrokenCause) (a : Answers) (t u : TallyModel)
       (result : Result (Unit {0}) AllocError) →
       IsLawfulEnd ask p.full MayAnswer (job_held p.mine) (posts_held p.mine) (ended.Returned (Broken (record { job = j; cause = c })))
-      a → GivesUp c result → (c ≢ Memory → t ≡ u) →
+      a → BreaksOff c result → (c ≢ Memory → t ≡ u) →
       Serves ask MayAnswer p (after_give p (Broken (record { job = j; cause = c }))) t u result
   serves_broken p j Memory a t u (Ok _) l g same = absurd g
   serves_broken p j Memory a t u (Err _) l g same = works_give p _ a (Some t) None l (λ fs s. tt) (λ e. inl refl)

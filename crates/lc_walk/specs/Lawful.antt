@@ -9,7 +9,7 @@ use Rattle.lc_level.specs.Answers.{Answers}
 use Rattle.lc_level.specs.WellFormed.{IsWellFormed}
 use Rattle.lc_level.specs.Job.{JobModel}
 use Rattle.lc_level.specs.Level.{CountedModel, Fate, Level, faulted_level, listed_level, level, absent_faults, counted_in, failed_in}
-use Rattle.lc_level.specs.Level.{walked_in, classify}
+use Rattle.lc_level.specs.Level.{walked_in, skipped_in}
 use Rattle.lc_level.specs.Selection.{SelectionModel}
 use Rattle.lc_walk.specs.Found.{children_at}
 use Rattle.lc_level.specs.Deep.{has_too_deep}
@@ -56,7 +56,7 @@ pub record SaysListed (ask : Asked) (r : ListedRowModel) (a : Answers) (posts : 
   pub entries_are : r.entries ≡ length fates
   pub files_are : r.files ≡ (if ask.lists.files then counted_in fates else [])
   pub faults_are : r.faults ≡ absent_faults absent ++ failed_in fates
-  pub skipped_are : r.skipped ≡ (if ask.lists.left_out then classify fates else [])
+  pub skipped_are : r.skipped ≡ (if ask.lists.left_out then skipped_in fates else [])
   pub posts_are : jobs_of posts ≡ jobs_of (walked_in fates)
   pub children_are : r.children ≡ named (walked_in fates) posts
   pub shallow : has_too_deep ask.selection r.job a ≡ false
@@ -66,13 +66,13 @@ pub record SaysFaulted (ask : Asked) (r : FaultedRow) (a : Answers) (posts : Lis
   pub level_is : level ask.selection r.job a ≡ faulted_level (site_path r.job.path r.site) r.word
   pub posts_are : posts ≡ []
 
--- why a directory was given up, by what was posted; `full` says whether a post of the row's pass was answered Full
+-- why a directory was broken off, by what was posted; `full` says whether a post of the row's pass was answered Full
 abbrev pub IsCause : Asked → Bool → JobModel → Answers → List (ℕ × JobModel) → BrokenCause → Type 0
 IsCause ask full j a posts Memory = Unit {0}
 IsCause ask full j a posts TooManyDirs = (full ≡ true) × (length posts < length (children_at ask.selection j a))
 IsCause ask full j a posts TooDeep = has_too_deep ask.selection j a ≡ true
 
--- a directory that was given up: the first of its children were posted
+-- a directory that was broken off: the first of its children were posted
 pub record SaysBroken (ask : Asked) (full : Bool) (r : BrokenRow) (a : Answers) (posts : List (ℕ × JobModel)) : Type 0 where
   pub posted : ℕ
   pub posts_are : jobs_of posts ≡ take posted (jobs_of (children_at ask.selection r.job a))

@@ -5,7 +5,6 @@ pub mod Examples
 pub mod Extension
 pub mod Found
 pub mod FoundAt
-pub mod BrokenCauses
 pub mod RowParts
 pub mod Key
 pub mod Lawful
@@ -32,4 +31,4 @@ pub mod WalkOptions
 pub mod WalkReport
 pub mod Walked
 pub mod Walks
-pub mod Worked
+pub mod WorkerResults

@@ -7,7 +7,7 @@ use Rattle.lc_level.specs.Answers.{Answers}
 use Rattle.lc_level.specs.Job.{JobModel}
 use Rattle.lc_level.specs.Selection.{SelectionModel}
 use Rattle.lc_walk.specs.Lawful.{Asked}
-use Rattle.lc_walk.specs.Worked.{AreLawful, FoundOver, files_of_passes}
+use Rattle.lc_walk.specs.WorkerResults.{AreLawful, FoundOver, files_of_passes}
 use Rattle.lc_walk.specs.declared.options.ReportLists.{ReportLists}
 use Rattle.lc_walk.specs.declared.row.Row.{Row}
 

@@ -9,7 +9,7 @@ use Rattle.lc_walk.specs.Lawful.{Asked}
 use Rattle.lc_walk.specs.Serving.{EndsAs}
 use Rattle.lc_walk.specs.Tally.{TallyModel, CountedFile, StandsFor}
 use Rattle.lc_walk.specs.TreeOfRows.{numbers_below}
-use Rattle.lc_walk.specs.Worked.{TalliesFor, HasWorked}
+use Rattle.lc_walk.specs.WorkerResults.{TalliesFor, HasWorked}
 use Rattle.lc_walk.specs.declared.row.Row.{Row}
 use Rattle.lc_walk.specs.declared.worker.StopReason.{StopReason}
 use Rattle.lc_walk.specs.declared.worker.StopReason.TheVariants.{Over}
@@ -29,7 +29,7 @@ module _ {B P : Type 0} (owns : B → P → Type 0) (view : P → Pass JobModel 
 
   -- a worker that was given one has run, and leaves one that is the board's own
   abbrev pub HasRunOn : Asked → (List ℕ → Answers → Type 0) → P → WorkerResult P → Type 0
-  HasRunOn ask MayAnswer given skipped = owns board skipped.pass × HasRun ask MayAnswer (view given) (view skipped.pass) skipped.end skipped.tally
+  HasRunOn ask MayAnswer given worked = owns board worked.pass × HasRun ask MayAnswer (view given) (view worked.pass) worked.end worked.tally
 
   -- so has each worker that was given one of them, in order
   abbrev pub HaveRunOn : Asked → (List ℕ → Answers → Type 0) → List P → List (WorkerResult P) → Type 0

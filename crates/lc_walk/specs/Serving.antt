@@ -7,7 +7,7 @@ use Rattle.lc_level.specs.Answers.{Answers}
 use Rattle.lc_level.specs.Job.{JobModel}
 use Rattle.lc_walk.specs.Lawful.{Asked}
 use Rattle.lc_walk.specs.Tally.{TallyModel, CountedFile, StandsFor}
-use Rattle.lc_walk.specs.Worked.{HasWorked, FoundOver}
+use Rattle.lc_walk.specs.WorkerResults.{HasWorked, FoundOver}
 use Rattle.lc_walk.specs.declared.broken_cause.BrokenCause.{BrokenCause}
 use Rattle.lc_walk.specs.declared.broken_cause.BrokenCause.TheVariants.{Memory, TooManyDirs, TooDeep}
 use Rattle.lc_walk.specs.declared.row.Row.{Row}
@@ -22,14 +22,14 @@ pub record HoldsJob (j : JobModel) (p : Pass JobModel Row) : Type 0 where
   pub none : posts_held p.mine ≡ []
   pub nothing : posted p ≡ 0
 
--- what giving up a directory for a cause answers: whether it was for want of memory
-abbrev pub GivesUp : BrokenCause → Result (Unit {0}) AllocError → Type 0
-GivesUp Memory (Ok _) = ⊥
-GivesUp Memory (Err _) = Unit {0}
-GivesUp TooManyDirs (Ok _) = Unit {0}
-GivesUp TooManyDirs (Err _) = ⊥
-GivesUp TooDeep (Ok _) = Unit {0}
-GivesUp TooDeep (Err _) = ⊥
+-- what breaking off a directory for a cause answers: whether it was for want of memory
+abbrev pub BreaksOff : BrokenCause → Result (Unit {0}) AllocError → Type 0
+BreaksOff Memory (Ok _) = ⊥
+BreaksOff Memory (Err _) = Unit {0}
+BreaksOff TooManyDirs (Ok _) = Unit {0}
+BreaksOff TooManyDirs (Err _) = ⊥
+BreaksOff TooDeep (Ok _) = Unit {0}
+BreaksOff TooDeep (Err _) = ⊥
 
 -- what adding files to a tally answers; after a refusal the tally stands for nothing
 abbrev pub AddsFiles : List CountedFile → TallyModel → TallyModel → Result (Unit {0}) AllocError → Type 0

@@ -1,10 +1,6 @@
-//! Why a directory was given up.
-ghost use Rattle.std.specs.Prelude.{◌≡◌};
-ghost use Rattle.lc_walk.specs.BrokenCauses.{broken_cause_for};
+//! Why a directory was broken off.
 
-use lc_level::Cause;
-
-/// Why a directory was given up.
+/// Why a directory was broken off.
 #[derive(Clone, Copy, Debug, Drop, PartialEq, Eq)]
 pub enum BrokenCause {
     /// Memory was refused.
@@ -13,16 +9,4 @@ pub enum BrokenCause {
     TooManyDirs,
     /// An entry's path has over 4,096 bytes, or a directory's over 256 segments.
     TooDeep,
-}
-
-impl BrokenCause {
-    /// The same of a directory that could not be opened.
-    pub(crate) fn unopened(cause: Cause) -> BrokenCause
-        ensures { result ≡ broken_cause_for cause }
-    {
-        match cause {
-            Cause::Memory => BrokenCause::Memory,
-            Cause::TooDeep => BrokenCause::TooDeep,
-        }
-    }
 }

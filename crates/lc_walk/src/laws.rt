@@ -51,7 +51,7 @@ pub fn all_that_is_found_is_given()
     ensures { FoundLaw }
 {}
 
-/// In the report of a walk that was asked for entries left out, all entries of the listed directories that take part are files, faults,
+/// In the report of a walk that lists the skipped entries, all entries of the listed directories that take part are files, faults,
 /// directories or entries left out, and the top alone is no entry; each other fault is a path that was asked for and is absent.
 pub fn entries_are_accounted_for<T: Tree>(tree: &T)
     ensures { EntriesLaw (T.lists tree.now) (T.gives tree.now) }
@@ -65,24 +65,24 @@ pub fn a_part_is_the_whole_filtered()
     ensures { PartOfWalkLaw }
 {}
 
-/// Of each entry that a report has as left out by a rule, that rule is the last that matches it, and ignores it.
+/// The rule for which a report has an entry as skipped is the last that matches the entry, and ignores it.
 pub fn the_rule_of_a_line_ignores_it()
     ensures { RuleLaw }
 {
     the_last_match_decides();
 }
 
-/// No path stands twice in what a walk finds.
+/// No path is twice in what a walk finds.
 pub fn paths_stand_once()
     ensures { PathsOnceLaw }
 {}
 
-/// A report tells nothing of the order in which things were found.
+/// A report does not depend on the order in which things were found.
 pub fn a_report_has_no_order()
     ensures { ReportLaw }
 {}
 
-/// The definitions of a level, computed on a small directory.
+/// The definitions of a level hold on a small directory.
 pub fn walk_examples_hold()
     ensures { WalkExamplesHold }
 {}

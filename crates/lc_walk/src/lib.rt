@@ -1,11 +1,11 @@
 //! The walk over a tree: its workers, their rows and tallies, and what it reports.
 //!
-//! - `row`: what a worker gives for a directory, `served_job` among it; `broken_cause`: why one was given up
+//! - `row`: what a worker returns for a directory, `served_job` among it; `broken_cause`: why one was broken off
 //! - `tally`: the sums over the counted files, a row for each key
 //! - `report`: what a walk reports, and how the rows of a closed board make it
 //! - `worker`, with what is below it: one worker; `workers`: all workers at the same time
 //! - `closing`: the end of a walk; `walking`: the whole walk; `walk_fault`: why there is no report
-//! - `options`: what is asked of a walk; `prepared_options`: with its paths sorted, for all workers
+//! - `options`: the options of a walk; `prepared_options`: with their paths sorted, for all workers
 //! - `laws`: what is true of the definitions that the contracts cite
 #![tactic(auto)]
 

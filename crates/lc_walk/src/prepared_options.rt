@@ -1,4 +1,4 @@
-//! What is asked of a walk, prepared for its workers.
+//! The options of a walk, prepared for its workers.
 ghost use Rattle.std.specs.Prelude.{◌≡◌, IfOk};
 ghost use Rattle.lc_walk.specs.WalkOptions.{asked_by};
 
@@ -7,7 +7,7 @@ use lc_level::{OnlyPaths, Selection};
 use std::alloc::{AllocError, Global};
 use std::marker::Model;
 
-/// What is asked of a walk, with the paths that alone are asked for sorted once for all its workers.
+/// The options of a walk, with their paths sorted once for all its workers.
 ///
 /// ```
 /// let prepared = PreparedOptions::new(alloc, &options)?;
@@ -30,7 +30,7 @@ impl<'o> Model for PreparedOptions<'o> {
 }
 
 impl<'o> PreparedOptions<'o> {
-    /// Sorts the paths that alone are asked for. Where there are none, this costs no memory.
+    /// Sorts the paths of the options. Where there are none, this costs no memory.
     pub fn new(alloc: Global, options: &'o Options<'o>) -> Result<PreparedOptions<'o>, AllocError>
         ensures { IfOk result (λ prepared. prepared ≡ options.entry.now) }
     {
@@ -38,14 +38,14 @@ impl<'o> PreparedOptions<'o> {
         Ok(PreparedOptions { options, only })
     }
 
-    /// Which lists the report is to have, beside its rows and its faults.
+    /// Which lists the report is to have, besides its rows and its faults.
     pub(crate) fn lists(&self) -> ReportLists
         ensures { result ≡ self.now.lists }
     {
         self.options.lists
     }
 
-    /// What decides, beside the rules of the tree, which entries take part and which are left out.
+    /// What decides, besides the rules of the tree, which entries take part and which are skipped.
     pub fn selection(&self) -> Selection<'_>
         ensures { result ≡ (asked_by self.now).selection }
     {

@@ -1,7 +1,7 @@
 //! The report of a walk.
 //!
-//! - `report_lines`: what it says of a file, of a fault and of an entry left out
-//! - `findings`: what a walk has found beside the sums
+//! - `report_lines`: what it says of a file, of a fault and of a skipped entry
+//! - `findings`: what a walk has found besides the sums
 //! - `assembly`, with `row_lines` and `tree_check`: the report that the rows of a closed board make
 ghost use Rattle.std.specs.Prelude.{◌≡◌};
 ghost use Rattle.std.specs.List.Sorted.{IsPermutation, IsSortedByKey};
@@ -31,20 +31,21 @@ pub struct Report {
     pub totals: Sums,
     /// The number of directories whose listing and rule files were read, the top included.
     pub directories: u64,
-    /// The number of their entries that take part.
+    /// The number of these directories' entries that take part.
     pub entries: u64,
-    /// Which lists were asked for.
+    /// Which lists the report has.
     pub lists: ReportLists,
-    /// The counted files in order of their paths' bytes, if they were asked for.
+    /// The counted files in order of their paths' bytes, where the report has them.
     pub files: Vec<FileLine>,
     /// The faults in order of their paths' bytes.
     pub faults: Vec<FaultLine>,
-    /// The entries that were left out in order of their paths' bytes, if they were asked for.
+    /// The skipped entries in order of their paths' bytes, where the report has them.
     pub skipped: Vec<SkippedLine>,
 }
 
 impl Report {
-    /// Sorts the rows of the tally by their keys, and each list of the findings by its paths, in place. It takes no memory.
+    /// Makes a report: it sorts the rows of the tally by their keys, and each list of the findings by its paths, in place. It takes no
+    /// memory.
     ///
     /// ```
     /// let report = Report::new(tally, lists, findings);

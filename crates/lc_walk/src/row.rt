@@ -1,4 +1,4 @@
-//! What a worker gives for a directory.
+//! What a worker returns for a directory.
 ghost use Rattle.std.specs.Prelude.{◌≡◌, IfOk, IfErr};
 ghost use Rattle.lc_walk.specs.RowParts.{listed_in};
 
@@ -8,7 +8,7 @@ use lc_level::{Counted, FaultSite, FaultWord, FileFault, SkippedEntry};
 use std::alloc::Global;
 use std::marker::Model;
 
-/// A posted child directory.
+/// A child directory that was posted, by its name and its number.
 #[derive(Drop)]
 pub struct Child {
     pub name: Vec<u8>,
@@ -26,15 +26,15 @@ impl Model for Child {
 /// What the row of a listed directory has.
 #[derive(Drop)]
 pub struct ListedParts {
-    /// The directory.
+    /// The directory that was listed.
     pub job: ServedJob,
-    /// The number of its entries that take part.
+    /// The number of the directory's entries that take part.
     pub entries: u32,
     /// The counted files, in the order of their names, where the report is to have them.
     pub files: Vec<Counted>,
     /// The paths that are asked for and absent, then the files that were not counted, in the order of their names.
     pub faults: Vec<FileFault>,
-    /// The entries that were left out, in the order of their names, where the report is to have them.
+    /// The skipped entries, in the order of their names, where the report is to have them.
     pub skipped: Vec<SkippedEntry>,
     /// The posted child directories, in the order of their names.
     pub children: Vec<Child>,
@@ -55,7 +55,7 @@ impl Model for ListedParts {
     } };
 }
 
-/// What is kept of a listed directory. Most have nothing to list, and take no room for it.
+/// What is kept of a listed directory. Most have no file, fault, entry or child to keep, and take no room for them.
 #[derive(Drop)]
 enum RowParts {
     Bare { job: ServedJob, entries: u32 },
@@ -63,7 +63,7 @@ enum RowParts {
 }
 
 impl RowParts {
-    /// Where memory is refused the job comes back.
+    /// Keeps these parts. Where memory is refused the job comes back.
     fn new(alloc: Global, parts: ListedParts) -> Result<RowParts, ServedJob>
         ensures kept { IfOk result (λ k. listed_in k ≡ parts) }
         ensures job { IfErr result (λ j. j ≡ parts.job) }
@@ -109,7 +109,7 @@ impl Model for ListedRow {
 }
 
 impl ListedRow {
-    /// The row of these parts. Where memory is refused the job comes back.
+    /// Makes the row of these parts. Where memory is refused the job comes back.
     pub fn new(alloc: Global, parts: ListedParts) -> Result<ListedRow, ServedJob>
         ensures row { IfOk result (λ r. r ≡ parts) }
         ensures job { IfErr result (λ j. j ≡ parts.job) }
@@ -121,7 +121,7 @@ impl ListedRow {
         }
     }
 
-    /// The directory.
+    /// The directory that was listed.
     pub fn job(&self) -> &ServedJob
         ensures { result.now ≡ self.now.job }
     {
@@ -131,7 +131,7 @@ impl ListedRow {
         }
     }
 
-    /// The number of its entries that take part.
+    /// The number of the directory's entries that take part.
     pub fn entries(&self) -> u32
         ensures { result ≡ self.now.entries }
     {
@@ -161,7 +161,7 @@ impl ListedRow {
         }
     }
 
-    /// The entries that were left out, in the order of their names, where the report is to have them.
+    /// The skipped entries, in the order of their names, where the report is to have them.
     pub fn skipped(&self) -> &[SkippedEntry]
         ensures { result.now ≡ self.now.skipped }
     {
@@ -182,7 +182,7 @@ impl ListedRow {
     }
 }
 
-/// A directory at fault.
+/// A directory whose listing or rule files could not be read.
 #[derive(Drop)]
 pub struct FaultedRow {
     pub job: ServedJob,
@@ -190,14 +190,14 @@ pub struct FaultedRow {
     pub word: FaultWord,
 }
 
-/// A directory that was given up.
+/// A directory that was broken off.
 #[derive(Drop)]
 pub struct BrokenRow {
     pub job: ServedJob,
     pub cause: BrokenCause,
 }
 
-/// What a worker gives for a directory.
+/// What a worker returns for a directory.
 #[derive(Drop)]
 pub enum Row {
     Listed(ListedRow),

@@ -6,8 +6,8 @@ use std::alloc::Global;
 use std::marker::Model;
 use std::snapshot::Snapshot;
 
-/// A directory that was served. Of its job only the path is kept: its chains are given back where no other job shares them. Contracts
-/// see the job as it was.
+/// A directory that was served. Of its job only the path is kept, so that its chains are dropped where no other job shares them.
+/// Contracts see the job as it was.
 ///
 /// ```
 /// let served = ServedJob::of(job); // served.path() is what job.path() was
@@ -30,7 +30,7 @@ impl Model for ServedJob {
 }
 
 impl ServedJob {
-    /// The job, of which nothing but the path is needed any more.
+    /// Keeps the path of a job, and drops the rest.
     pub fn of(job: Job) -> ServedJob
         ensures { result ≡ job }
     {

@@ -25,7 +25,7 @@ use std::marker::Model;
 pub use sums::Sums;
 pub use tally_row::TallyRow;
 
-/// The most files of a tally. A walk has fewer than 2^40, so none is ever full: workers test for it in place of a sum over all rows.
+/// The most files of a tally. A walk has fewer than 2^40, so no tally is ever full: workers test for it in place of a sum over all rows.
 pub(crate) const MAX_FILES: u64 = 1 << 63;
 
 /// The tally of the files counted so far.
@@ -59,7 +59,7 @@ impl Model for Tally {
 }
 
 impl Tally {
-    /// The tally of no files. It takes no memory; later calls take it from `alloc`.
+    /// Makes the tally of no files. It takes no memory; later calls take it from `alloc`.
     pub fn new(alloc: Global) -> Tally
         ensures { StandsFor result [] }
     {
@@ -99,7 +99,7 @@ impl Tally {
         self.grow(&key, Sums::one(count))
     }
 
-    /// The tally of the files of both. A refusal of memory gives up both.
+    /// The tally of the files of both. Where memory is refused, both are dropped.
     pub fn merge(self, other: Tally) -> Result<Tally, AllocError>
         requires { self.totals.files + other.totals.files ≤ 2 ^ 63 }
         ensures { IfOk result (λ t. (fs gs : List CountedFile)
@@ -135,8 +135,8 @@ impl Tally {
         rows.into_sorted()
     }
 
-    /// Adds some files of one key by their sums. What no walk's files have is refused as want of memory is: more than 2^63 files in
-    /// all, or more than 2^64 - 1 lines, blank lines or bytes a file.
+    /// Adds some files of one key by their sums. It fails, as where memory is refused, for sums that no walk's files have: more than 2^63
+    /// files in all, or more than 2^64 - 1 lines, blank lines or bytes a file.
     pub fn add_sums(&mut self, key: &KeyRef<'_>, more: Sums) -> Result<(), AllocError>
         ensures grows { OnOk result (Grows self.old self.new key.now more) }
         ensures unchanged { OnErr result (self.new ≡ self.old) }

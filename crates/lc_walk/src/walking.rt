@@ -19,7 +19,7 @@ use std::alloc::{AllocError, Global};
 use std::sync::{Arc, Wait};
 use std::thread::Threads;
 
-/// The job of the top.
+/// The job of the top, with the rules for the whole tree.
 fn top_of(alloc: Global, options: &Options<'_>) -> Result<Job, AllocError>
     ensures { IfOk result (λ job. job ≡ top_of options.now) }
 {
@@ -29,7 +29,7 @@ fn top_of(alloc: Global, options: &Options<'_>) -> Result<Job, AllocError>
     }
 }
 
-/// Walks a tree over a board of this type, by so many workers.
+/// Walks a tree over a board of this type, with this many workers.
 fn walk_by<B: Shared<Job, Row>, T: Tree, R: Threads + Wait + Sync>(
     rt: &R,
     alloc: Global,
@@ -61,11 +61,11 @@ fn walk_by<B: Shared<Job, Row>, T: Tree, R: Threads + Wait + Sync>(
     finish::<B, T>(alloc, board, passes, options.lists, tally)
 }
 
-/// So many bytes are kept from several workers for one that walks after them: the C library keeps up to 40 MB of stacks of threads that
+/// The bytes that are kept from several workers for one that walks after them: the C library keeps up to 40 MB of stacks of threads that
 /// ended. Given back a block of up to 32 MB, it maps no later one of that size by itself, and a vector that grows is copied.
 const RESERVE: usize = 64 << 20;
 
-/// Walks a tree over a board of this type, by all workers that are asked for. The reserve is free again after their walk.
+/// Walks a tree over a board of this type, with all workers that the options name. The reserve is free again after their walk.
 fn walk_by_all<B: Shared<Job, Row>, T: Tree, R: Threads + Wait + Sync>(
     rt: &R,
     alloc: Global,
@@ -84,7 +84,7 @@ fn walk_by_all<B: Shared<Job, Row>, T: Tree, R: Threads + Wait + Sync>(
     answer
 }
 
-/// Walks a tree over a board of this type, by a thread for each worker. Where memory is refused to several, or there is none to keep from
+/// Walks a tree over a board of this type, with a thread for each worker. Where memory is refused to several, or there is none to keep from
 /// them, one worker walks, since many stacks take what one walk may need.
 pub fn walk_on<B: Shared<Job, Row>, T: Tree, R: Threads + Wait + Sync>(
     rt: &R,

@@ -2,30 +2,31 @@
 //!
 //! - `serving`: what it does with a directory that it has claimed
 //! - `posting`: how it posts the child directories; `adding`: how it adds the counted files to its tally
-//! - `idle`: how it waits where there is nothing to claim
+//! - `backoff`: how it waits where there is nothing to claim
+ghost use Rattle.std.specs.Prelude.{◌≡◌};
 ghost use Rattle.lc_level.specs.TreeAnswers.{MayAnswer};
 ghost use Rattle.lc_walk.specs.BoardPasses.{IsFree, IsPassOf};
 ghost use Rattle.lc_walk.specs.Serving.{EndsAs};
 ghost use Rattle.lc_walk.specs.WalkOptions.{asked_by};
-ghost use Rattle.lc_walk.specs.Worked.{HasWorked};
+ghost use Rattle.lc_walk.specs.WorkerResults.{HasWorked};
 
 mod adding;
-mod idle;
+mod backoff;
 mod posting;
 mod serving;
 
 use crate::prepared_options::PreparedOptions;
 use crate::row::Row;
 use crate::tally::Tally;
-use crate::worker::idle::Idle;
+use crate::worker::backoff::Backoff;
 use lc_board::{Claim, Shared};
-use lc_level::{Job, Scratch};
+use lc_level::{Job, LevelReader, ReaderOptions, Scratch, SpareThreads};
 use lc_tree::{IdleThreads, Tree};
 use std::alloc::Global;
 use std::sync::{Wait, WaitMethods};
 use std::thread::Threads;
 
-/// How a worker has come to its end.
+/// Why a worker has stopped.
 #[derive(Clone, Copy, Debug, Drop, PartialEq, Eq)]
 pub enum StopReason {
     /// It found the board over.
@@ -34,7 +35,7 @@ pub enum StopReason {
     Memory,
 }
 
-/// A worker that has come to its end.
+/// What a worker leaves that has stopped.
 #[derive(Drop)]
 pub struct WorkerResult<P> {
     pub pass: P,
@@ -43,23 +44,61 @@ pub struct WorkerResult<P> {
     pub tally: Option<Tally>,
 }
 
-/// A worker, by what is lent to it for all its directories.
+/// A worker, with what is lent to it for all its directories.
 ///
 /// ```
 /// let options = PreparedOptions::new(alloc, &options)?;
-/// let idle = IdleThreads::new();
-/// let worker = Worker { rt, alloc, board: &board, tree: &tree, options: &options, idle: &idle };
+/// let idle = IdleThreads::all_idle(1);
+/// let worker = Worker::new(&rt, alloc, &board, &tree, &options, &idle);
 /// let WorkerResult { pass, end, tally } = worker.run(pass);
 /// ```
 #[derive(Drop)]
 pub struct Worker<'w, 'o, B, T, W> {
-    pub rt: &'w W,
-    pub alloc: Global,
-    pub board: &'w B,
-    pub tree: &'w T,
-    pub options: &'w PreparedOptions<'o>,
-    /// The idle workers, which help one that has a large directory.
-    pub idle: &'w IdleThreads,
+    rt: &'w W,
+    alloc: Global,
+    board: &'w B,
+    reader: LevelReader<'w, T>,
+    options: &'w PreparedOptions<'o>,
+    idle: &'w IdleThreads,
+    ghost selects: { reader.selection ≡ (asked_by options.now).selection },
+    ghost keeps: { reader.options.left_out ≡ options.now.lists.left_out },
+}
+
+impl<'w, 'o, B, T, W> Worker<'w, 'o, B, T, W> {
+    /// Makes a worker. `idle` counts it as idle from its start, and has all workers that help one with a large directory.
+    pub fn new(
+        rt: &'w W,
+        alloc: Global,
+        board: &'w B,
+        tree: &'w T,
+        options: &'w PreparedOptions<'o>,
+        idle: &'w IdleThreads,
+    ) -> Worker<'w, 'o, B, T, W>
+        ensures board { result.board.now ≡ board.entry.now }
+        ensures tree { result.reader.tree.now ≡ tree.entry.now }
+        ensures options { result.options.now ≡ options.entry.now }
+    {
+        let reading = ReaderOptions {
+            left_out: options.lists().left_out,
+            texts: false,
+        };
+        Worker {
+            rt,
+            alloc,
+            board,
+            reader: LevelReader::new(alloc, tree, options.selection(), reading),
+            options,
+            idle,
+        }
+    }
+
+    /// The threads that may help with a large directory.
+    fn threads(&self) -> SpareThreads<'w, W> {
+        SpareThreads {
+            rt: self.rt,
+            idle: self.idle,
+        }
+    }
 }
 
 impl<B: Shared<Job, Row>, T: Tree, W: Threads + Wait + Sync> Worker<'_, '_, B, T, W> {
@@ -68,28 +107,28 @@ impl<B: Shared<Job, Row>, T: Tree, W: Threads + Wait + Sync> Worker<'_, '_, B, T
         requires { IsPassOf B.owns B.Pass.view self.now.board.now IsFree pass }
         ensures pass { IsPassOf B.owns B.Pass.view self.now.board.now IsFree result.pass }
         ensures end { EndsAs result.end (B.Pass.view result.pass) }
-        ensures worked { HasWorked (asked_by self.now.options.now) (MayAnswer (T.lists self.now.tree.now) (T.gives self.now.tree.now))
+        ensures worked { HasWorked (asked_by self.now.options.now) (MayAnswer (T.lists self.now.reader.tree.now) (T.gives self.now.reader.tree.now))
             (B.Pass.view pass) (B.Pass.view result.pass) result.tally }
     {
         let mut pass = pass;
         let mut scratch = Scratch::new(self.alloc).ok();
         let mut tally = Some(Tally::new(self.alloc));
-        let mut idle = Idle::new(self.idle);
+        let mut backoff = Backoff::new(self.idle);
         for _ in self.rt.forever() {
             let end = match self.board.claim(self.rt, &mut pass) {
                 Claim::Got(_, job) => {
-                    idle.end();
-                    self.serve_or_give_up(&mut pass, job, &mut scratch, &mut tally);
+                    backoff.reset();
+                    self.serve_or_break_off(&mut pass, job, &mut scratch, &mut tally);
                     continue;
                 }
                 Claim::Later => {
-                    idle.wait(self.rt);
+                    backoff.wait(self.rt);
                     continue;
                 }
                 Claim::Over => StopReason::Over,
                 Claim::Memory => StopReason::Memory,
             };
-            idle.end();
+            backoff.reset();
             return WorkerResult { pass, end, tally };
         }
         unreachable!()

@@ -3,7 +3,7 @@ ghost use Rattle.std.specs.Prelude.{◌≡◌, ◌++◌, ◌∷◌, [], List, If
 ghost use Rattle.lc_level.specs.TreeAnswers.{MayAnswer};
 ghost use Rattle.lc_walk.specs.BoardPasses.{IsFree, IsPassOf};
 ghost use Rattle.lc_walk.specs.Running.{AreFree, HasRunOn, HaveRunOn, AllOver, TalliesAll};
-ghost use Rattle.lc_walk.specs.Worked.{TalliesFor};
+ghost use Rattle.lc_walk.specs.WorkerResults.{TalliesFor};
 ghost use Rattle.lc_walk.specs.declared.worker.StopReason.TheVariants.{Over};
 ghost use Rattle.lc_walk.specs.Tally.{CountedFile, StandsFor};
 ghost use Rattle.lc_walk.specs.WalkOptions.{asked_by};
@@ -41,26 +41,17 @@ pub(crate) fn run_all<B: Shared<Job, Row>, T: Tree, R: Threads + Wait + Sync>(
     ensures each { IfOk result (λ v. HaveRunOn B.owns B.Pass.view board.now (asked_by options.now)
         (MayAnswer (T.lists tree.now) (T.gives tree.now)) passes.items v.items) }
 {
-    let idle = IdleThreads::new();
+    let workers = u32::try_from(passes.len()).unwrap_or(u32::MAX);
+    let idle = IdleThreads::all_idle(workers);
     let run = |pass: B::Pass| -> WorkerResult<B::Pass>
         requires { IsPassOf B.owns B.Pass.view board.now IsFree pass }
         ensures { HasRunOn B.owns B.Pass.view board.entry.now (asked_by options.entry.now)
             (MayAnswer (T.lists tree.entry.now) (T.gives tree.entry.now)) pass result }
-    {
-        let worker = Worker {
-            rt,
-            alloc,
-            board,
-            tree,
-            options,
-            idle: &idle,
-        };
-        worker.run(pass)
-    };
+    { Worker::new(rt, alloc, board, tree, options, &idle).run(pass) };
     thread::map_vec(rt, passes, &run)
 }
 
-/// The tally of the files of both.
+/// The tally of the files of both, if memory suffices.
 fn merge(first: Tally, second: Tally) -> Option<Tally>
     ensures { IfSome result (λ t. (fs gs : List CountedFile) → StandsFor first fs → StandsFor second gs → StandsFor t (fs ++ gs)) }
 {
@@ -71,7 +62,7 @@ fn merge(first: Tally, second: Tally) -> Option<Tally>
     first.merge(second).ok()
 }
 
-/// The passes and the tally of one worker more.
+/// Adds the pass and the tally of one worker more.
 fn join<P: Drop>(gathered: Gathered<P>, worked: WorkerResult<P>) -> Option<Gathered<P>>
     ensures over { IfSome result (λ r. worked.end ≡ Over) }
     ensures pass { IfSome result (λ r. r.passes.items ≡ gathered.passes.items ++ worked.pass ∷ []) }
@@ -100,7 +91,7 @@ fn join<P: Drop>(gathered: Gathered<P>, worked: WorkerResult<P>) -> Option<Gathe
     }
 }
 
-/// What all workers leave. There is nothing where memory was refused to one of them, or is refused here.
+/// Gathers what all workers leave. There is nothing where memory was refused to one of them, or is refused here.
 pub(crate) fn gather<P: Drop>(alloc: Global, workers: Vec<WorkerResult<P>>) -> Option<Gathered<P>>
     ensures over { IfSome result (λ r. AllOver workers.items) }
     ensures passes { IfSome result (λ r. r.passes.items ≡ map (λ w. w.pass) workers.items) }

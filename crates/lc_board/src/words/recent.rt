@@ -18,7 +18,7 @@ pub struct Span {
 pub struct Recent {
     spans: [Span; SPANS],
     count: usize,
-    /// Where the next span is laid.
+    /// The index of the next span.
     next: usize,
     ghost inside: { (count ≤ 32) × (next < 32) },
 }

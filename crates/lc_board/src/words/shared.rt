@@ -55,7 +55,7 @@ impl<J: Drop + Send, R: Drop + Send> Shared<J, R> for Words<J, R> {
         Ok((board, passes))
     }
 
-    /// As `Words::claim`.
+    /// Claims as `Words::claim` does.
     fn claim<W: Wait>(&self, _rt: &W, pass: &mut WordsPass<J, R>) -> Claim<J>
         requires pass { Owns self.now pass.old }
         requires free { holding (told pass.old) ≡ None }
@@ -71,7 +71,7 @@ impl<J: Drop + Send, R: Drop + Send> Shared<J, R> for Words<J, R> {
         }
     }
 
-    /// As `Words::post`.
+    /// Posts as `Words::post` does.
     fn post<W: Wait>(
         &self,
         _rt: &W,
@@ -95,7 +95,7 @@ impl<J: Drop + Send, R: Drop + Send> Shared<J, R> for Words<J, R> {
         }
     }
 
-    /// As `Words::give`.
+    /// Ends a claim as `Words::give` does.
     fn give<W: Wait>(&self, _rt: &W, pass: &mut WordsPass<J, R>, row: R)
         requires pass { Owns self.now pass.old }
         requires holds { holding (told pass.old) ≢ None }
@@ -106,7 +106,7 @@ impl<J: Drop + Send, R: Drop + Send> Shared<J, R> for Words<J, R> {
         Words::give(self, pass, row);
     }
 
-    /// As `Words::fault`.
+    /// Ends a claim as `Words::fault` does.
     fn fault<W: Wait>(&self, _rt: &W, pass: &mut WordsPass<J, R>, row: R)
         requires pass { Owns self.now pass.old }
         requires holds { holding (told pass.old) ≢ None }

@@ -3,7 +3,7 @@ ghost use Rattle.std.specs.Prelude.{min};
 
 use crate::{Failed, Source};
 
-/// Another reader, asked for at most one byte a read.
+/// A reader that asks another one for at most one byte a read.
 ///
 /// ```
 /// let mut reader = Bytewise(b"a\r\n".as_slice()); // three reads of a byte, and then the end

@@ -4,7 +4,7 @@ ghost use Rattle.lc_census.specs.TrialReads.{CountsRead};
 
 use crate::{Failed, Source};
 
-/// Another reader, and how it was asked.
+/// A reader that passes reads on, and counts them.
 #[derive(Drop)]
 pub struct Counted<S> {
     /// The reader itself.

@@ -1,10 +1,10 @@
 //! Asking about paths of a tree of memory.
 
 use lc_census::Source;
-use lc_explain::{ExplainFault, ExplainOptions, explain, explain_words};
-use lc_level::Selection;
+use lc_explain::{ExplainOptions, explain, explain_words};
+use lc_level::{RuleText, Selection, read_rule_text};
 use lc_text::trials::{Narrow, WhenFull};
-use lc_text::{Outcome, PathStyle, PrintFault, RuleText, read_rule_text};
+use lc_text::{CheckFault, Outcome, PathStyle, PrintFault};
 use lc_tree::{MemTree, Sketch, Tree};
 use std::alloc::{AllocError, Global};
 use std::process::Abort;
@@ -39,9 +39,9 @@ pub(crate) fn explained<T: Tree, S: Source>(
     options: &ExplainOptions,
     input: &mut S,
     out: &mut Narrow,
-) -> Result<Result<Outcome, ExplainFault>, AllocError> {
+) -> Result<Result<Outcome, CheckFault>, AllocError> {
     match explain(alloc, tree, options, input, out) {
-        Err(ExplainFault::Memory) => {
+        Err(CheckFault::Memory) => {
             assert!(rt; out.taken.is_empty());
             Err(AllocError)
         }

@@ -1,9 +1,9 @@
 //! Explanations longer than a block: their text is written as it is made, and what was written is a prefix.
 
 use crate::explain::asking::plain;
-use lc_explain::{ExplainFault, explain, explain_words};
+use lc_explain::{explain, explain_words};
 use lc_text::trials::{Narrow, WhenFull};
-use lc_text::{BLOCK_SIZE, Outcome, PrintFault};
+use lc_text::{BLOCK_SIZE, CheckFault, Outcome, PrintFault};
 use lc_tree::{MemTree, Node};
 use std::alloc::{AllocError, Global};
 use std::process::Abort;
@@ -64,13 +64,13 @@ fn writes_stop_in_each_block(rt: HostRuntime) -> Result<(), Fail> {
         let mut out = Narrow::new(alloc, BLOCK_SIZE, *room, WhenFull::Fails)?;
         let answer = explain(alloc, &tree, &plain(), &mut paths.as_slice(), &mut out);
         assert!(rt; text.starts_with(&out.taken), "at {room}");
-        if answer == Err(ExplainFault::Memory) {
+        if answer == Err(CheckFault::Memory) {
             return Err(AllocError.into());
         }
         let wanted = if *room == text.len() {
             Ok(Outcome::Clean)
         } else {
-            Err(ExplainFault::Write)
+            Err(CheckFault::Write)
         };
         assert!(rt; answer == wanted && out.taken.len() == *room, "at {room}");
     }

@@ -2,9 +2,8 @@
 
 use crate::explain::asking::{explained, explained_words, plain};
 use lc_census::trials::{Bytewise, Endless, Failing};
-use lc_explain::ExplainFault;
 use lc_text::trials::{Narrow, WRITERS, WhenFull};
-use lc_text::{Outcome, PrintFault};
+use lc_text::{CheckFault, Outcome, PrintFault};
 use lc_tree::{MemTree, Sketch};
 use std::process::Abort;
 use std::test::Fail;
@@ -29,7 +28,7 @@ fn writes_stop_at_every_place(rt: HostRuntime) -> Result<(), Fail> {
             let wanted = if room == TEXT.len() {
                 Ok(Outcome::Clean)
             } else {
-                Err(ExplainFault::Write)
+                Err(CheckFault::Write)
             };
             assert!(rt;
                 answer == wanted && out.taken.as_slice() == &TEXT[..room],
@@ -62,7 +61,7 @@ fn reads_that_fail(rt: HostRuntime) -> Result<(), Fail> {
         let mut out = Narrow::new(rt.alloc(), 64, 64, WhenFull::Fails)?;
         let answer = explained(&rt, rt.alloc(), &tree, &plain(), &mut input, &mut out)?;
         assert!(rt;
-            answer == Err(ExplainFault::Read) && out.taken.is_empty(),
+            answer == Err(CheckFault::Read) && out.taken.is_empty(),
             "at {given}"
         );
     }
@@ -75,6 +74,6 @@ fn an_input_without_end_is_too_long(rt: HostRuntime) -> Result<(), Fail> {
     let tree = MemTree::new(&node);
     let mut out = Narrow::new(rt.alloc(), 64, 64, WhenFull::Fails)?;
     let answer = explained(&rt, rt.alloc(), &tree, &plain(), &mut Endless, &mut out)?;
-    assert!(rt; answer == Err(ExplainFault::InputTooLong) && out.taken.is_empty());
+    assert!(rt; answer == Err(CheckFault::InputTooLong) && out.taken.is_empty());
     Ok(())
 }

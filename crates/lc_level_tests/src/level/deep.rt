@@ -1,7 +1,7 @@
 //! What is too long or too deep for a walk.
 
 use crate::level::work::{Case, NOTHING, check, child_of};
-use lc_level::{Cause, Job, LevelReader, OpenFault, Scratch, Selection};
+use lc_level::{Job, LevelReader, OpenFault, Scratch, Selection};
 use lc_tree::{MemTree, Node};
 use std::alloc::{AllocError, Global};
 use std::process::Abort;
@@ -13,7 +13,7 @@ const LONG: &[(&str, &str)] = &[("=", ""), ("/!", ""), ("@", ""), ("=", "--exclu
 fn check_long(rt: &impl Abort, alloc: Global, name: &str) -> Result<(), AllocError> {
     for (kind, asked) in LONG {
         let sketch = format!(in alloc; "a{name}{kind}")?;
-        let case: Case = (kind, &sketch, asked, "Broken(TooDeep)");
+        let case: Case = (kind, &sketch, asked, "TooDeep");
         check(rt, alloc, &[case])?;
     }
     let (sketch, wanted) = (
@@ -47,10 +47,10 @@ fn nested(alloc: Global, depth: u32) -> Result<Node, AllocError> {
 /// Goes down to the directory from which no other is reached, and says how deep it is and how it ended.
 fn descend(alloc: Global, tree: &MemTree) -> Result<(u32, Option<OpenFault>), AllocError> {
     let mut scratch = Scratch::new(alloc)?;
-    let levels = LevelReader::new(alloc, tree, Selection::new(false, &[]), NOTHING);
+    let reader = LevelReader::new(alloc, tree, Selection::new(false, &[]), NOTHING);
     let mut job = Job::top(alloc, None)?;
     for depth in 0..300 {
-        match child_of(&levels, &job, b"d", &mut scratch)? {
+        match child_of(&reader, &job, b"d", &mut scratch)? {
             Err(open_fault) => return Ok((depth, Some(open_fault))),
             Ok(None) => return Ok((depth, None)),
             Ok(Some(child)) => job = child,
@@ -59,7 +59,7 @@ fn descend(alloc: Global, tree: &MemTree) -> Result<(u32, Option<OpenFault>), Al
     Ok((300, None))
 }
 
-const DEEP: OpenFault = OpenFault::Broken(Cause::TooDeep);
+const DEEP: OpenFault = OpenFault::TooDeep;
 
 /// How many directories stand one in the other, how deep the last is that is reached, and how it ended there.
 const DEPTHS: &[(u32, u32, Option<OpenFault>)] = &[

@@ -1,9 +1,7 @@
 //! Directories that are entered: their entries, the texts of their rules, and what these decide of a path.
 
 use crate::level::work::{NOTHING, job_of};
-use lc_level::{
-    Cause, Entered, Job, LevelReader, OpenFault, ReaderOptions, Scratch, Selection, path_in,
-};
+use lc_level::{Entered, Job, LevelReader, OpenFault, ReaderOptions, Scratch, Selection, path_in};
 use lc_rules::{RuleSource, Verdict};
 use lc_tests::{has_words, push_name, push_reason, tree};
 use lc_tree::{Kind, MemTree};
@@ -75,13 +73,13 @@ fn text_of(alloc: Global, found: &Entered) -> Result<String, AllocError> {
 /// What is found in the directory of the job, or what stops it.
 fn enter(
     alloc: Global,
-    levels: &LevelReader<MemTree>,
+    reader: &LevelReader<MemTree>,
     job: &Job,
     scratch: &mut Scratch,
 ) -> Result<String, AllocError> {
-    match levels.enter(job, scratch) {
+    match reader.enter(job, scratch) {
         Ok(found) => text_of(alloc, &found),
-        Err(OpenFault::Broken(Cause::Memory)) => Err(AllocError),
+        Err(OpenFault::Memory) => Err(AllocError),
         Err(open_fault) => format!(in alloc; "{open_fault:?}"),
     }
 }
@@ -92,12 +90,12 @@ fn check_entered(
     tree: &MemTree,
     (below, kept, wanted): &Case,
 ) -> Result<(), AllocError> {
-    let levels = LevelReader::new(alloc, tree, Selection::new(false, WITHOUT), *kept);
+    let reader = LevelReader::new(alloc, tree, Selection::new(false, WITHOUT), *kept);
     let mut scratch = Scratch::new(alloc)?;
-    let job = job_of(alloc, &levels, None, below, &mut scratch)?;
+    let job = job_of(alloc, &reader, None, below, &mut scratch)?;
     assert!(rt; job.is_some(), "there is no {below}");
     if let Some(job) = job {
-        let found = enter(alloc, &levels, &job, &mut scratch)?;
+        let found = enter(alloc, &reader, &job, &mut scratch)?;
         assert!(rt; has_words(&found, wanted), "{below}: {found}");
     }
     Ok(())
@@ -147,13 +145,13 @@ const JUDGED: &[Judged] = &[
 fn check_reason(
     rt: &impl Abort,
     alloc: Global,
-    levels: &LevelReader<MemTree>,
+    reader: &LevelReader<MemTree>,
     job: &Job,
     (name, kind, wanted): &Judged,
 ) -> Result<(), AllocError> {
     let path = path_in(alloc, job.path(), name)?;
     let mut text = String::new(alloc);
-    if let Some(reason) = levels.reason(job, name, &path, *kind)? {
+    if let Some(reason) = reader.reason(job, name, &path, *kind)? {
         push_reason(&mut text, &reason)?;
     }
     assert!(rt; has_words(&text, wanted), "{path:?}: {text}");
@@ -164,29 +162,29 @@ fn check_reason(
 fn check_inside(
     rt: &impl Abort,
     alloc: Global,
-    levels: &LevelReader<MemTree>,
+    reader: &LevelReader<MemTree>,
     inside: &Job,
 ) -> Result<(), AllocError> {
     check_last_match(rt, inside);
     for judged in JUDGED {
-        check_reason(rt, alloc, levels, inside, judged)?;
+        check_reason(rt, alloc, reader, inside, judged)?;
     }
     let below = inside.at(alloc, b"s")?;
     check_reason(
         rt,
         alloc,
-        levels,
+        reader,
         &below,
         &(b"a.log", Kind::File, "rule .gitignore:1"),
     )
 }
 
 fn check_top(rt: &impl Abort, alloc: Global, tree: &MemTree) -> Result<(), AllocError> {
-    let levels = LevelReader::new(alloc, tree, Selection::new(false, WITHOUT), NOTHING);
+    let reader = LevelReader::new(alloc, tree, Selection::new(false, WITHOUT), NOTHING);
     let mut scratch = Scratch::new(alloc)?;
-    match levels.enter(&Job::top(alloc, None)?, &mut scratch) {
-        Ok(entered) => check_inside(rt, alloc, &levels, &entered.job),
-        Err(OpenFault::Broken(Cause::Memory)) => Err(AllocError),
+    match reader.enter(&Job::top(alloc, None)?, &mut scratch) {
+        Ok(entered) => check_inside(rt, alloc, &reader, &entered.job),
+        Err(OpenFault::Memory) => Err(AllocError),
         Err(open_fault) => {
             assert!(rt; false, "{open_fault:?}");
             Ok(())

@@ -1,7 +1,9 @@
 //! A directory with many files, which idle threads help to count.
 
 use crate::level::work::NOTHING;
-use lc_level::{CountedFiles, FaultWord, FileFault, Job, LevelReader, Opened, Scratch, Selection};
+use lc_level::{
+    CountedFiles, FaultWord, FileFault, Job, LevelReader, Opened, Scratch, Selection, SpareThreads,
+};
 use lc_tree::{IdleThreads, MemTree, Node};
 use std::alloc::{AllocError, Global};
 use std::process::Abort;
@@ -40,16 +42,16 @@ fn is_same(found: &CountedFiles, wanted: &CountedFiles) -> bool {
 }
 
 /// The files of the directory, and an absent path, counted with the help of these threads or by `count`.
-fn count_flat<R: Threads + Sync>(
+pub(crate) fn count_flat<R: Threads + Sync>(
     rt: &R,
     alloc: Global,
     node: &Node,
     idle: Option<&IdleThreads>,
 ) -> Result<CountedFiles, AllocError> {
     let tree = MemTree::new(node);
-    let levels = LevelReader::new(alloc, &tree, Selection::new(false, &[]), NOTHING);
+    let reader = LevelReader::new(alloc, &tree, Selection::new(false, &[]), NOTHING);
     let mut scratch = Scratch::new(alloc)?;
-    let Ok(opened) = levels.open(&Job::top(alloc, None)?, &mut scratch) else {
+    let Ok(opened) = reader.open(&Job::top(alloc, None)?, &mut scratch) else {
         return Err(AllocError);
     };
     let Opened {
@@ -63,13 +65,16 @@ fn count_flat<R: Threads + Sync>(
         word: FaultWord::Absent,
     })?;
     match idle {
-        Some(idle) => levels.count_in_parts(rt, idle, &job, files, absent, &mut scratch),
-        None => levels.count(&job, files, absent, &mut scratch),
+        Some(idle) => {
+            let threads = SpareThreads { rt, idle };
+            reader.count_in_parts(&threads, &job, files, absent, &mut scratch)
+        },
+        None => reader.count(&job, files, absent, &mut scratch),
     }
 }
 
 /// With so many idle threads the files are what they are without, and the threads are free again, also where memory is refused.
-fn check<R: Threads + Sync + Abort>(
+pub(crate) fn check<R: Threads + Sync + Abort>(
     rt: &R,
     alloc: Global,
     node: &Node,

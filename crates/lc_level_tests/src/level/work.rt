@@ -1,7 +1,7 @@
 //! One directory's work on a tree of memory, and what is found there as text.
 
 use lc_level::{
-    Cause, ChildDirectory, CountedFiles, FaultWord, Job, LevelReader, OnlyPaths, OpenFault, Opened,
+    ChildDirectory, CountedFiles, FaultWord, Job, LevelReader, OnlyPaths, OpenFault, Opened,
     ReaderOptions, Scratch, Selection, SkippedEntry,
 };
 use lc_rules::IgnoreFile;
@@ -39,14 +39,14 @@ fn job_named(children: Vec<ChildDirectory>, name: &[u8]) -> Option<Job> {
 
 /// The job of the directory of this name in another, if it is there.
 pub(crate) fn child_of(
-    levels: &LevelReader<MemTree>,
+    reader: &LevelReader<MemTree>,
     job: &Job,
     name: &[u8],
     scratch: &mut Scratch,
 ) -> Result<Result<Option<Job>, OpenFault>, AllocError> {
-    match levels.open(job, scratch) {
+    match reader.open(job, scratch) {
         Ok(opened) => Ok(Ok(job_named(opened.children, name))),
-        Err(OpenFault::Broken(Cause::Memory)) => Err(AllocError),
+        Err(OpenFault::Memory) => Err(AllocError),
         Err(open_fault) => Ok(Err(open_fault)),
     }
 }
@@ -54,7 +54,7 @@ pub(crate) fn child_of(
 /// The job of the top, or of the directory of this name below it, if it is there.
 pub(crate) fn job_of(
     alloc: Global,
-    levels: &LevelReader<MemTree>,
+    reader: &LevelReader<MemTree>,
     exclude: Option<Arc<IgnoreFile, Global>>,
     below: &str,
     scratch: &mut Scratch,
@@ -63,7 +63,7 @@ pub(crate) fn job_of(
     if below.is_empty() {
         return Ok(Some(top));
     }
-    Ok(child_of(levels, &top, below.as_bytes(), scratch)?.unwrap_or(None))
+    Ok(child_of(reader, &top, below.as_bytes(), scratch)?.unwrap_or(None))
 }
 
 /// What the work on a directory found.
@@ -77,13 +77,13 @@ struct Found {
 
 /// Opens the directory of the job and counts its files.
 fn work(
-    levels: &LevelReader<MemTree>,
+    reader: &LevelReader<MemTree>,
     job: &Job,
     scratch: &mut Scratch,
 ) -> Result<Result<Found, OpenFault>, AllocError> {
-    let opened = match levels.open(job, scratch) {
+    let opened = match reader.open(job, scratch) {
         Ok(opened) => opened,
-        Err(OpenFault::Broken(Cause::Memory)) => return Err(AllocError),
+        Err(OpenFault::Memory) => return Err(AllocError),
         Err(open_fault) => return Ok(Err(open_fault)),
     };
     let Opened {
@@ -94,7 +94,7 @@ fn work(
         absent,
         entries,
     } = opened;
-    match levels.count(&job, files, absent, scratch) {
+    match reader.count(&job, files, absent, scratch) {
         Ok(counted) => Ok(Ok(Found {
             counted,
             children,
@@ -170,13 +170,13 @@ fn found_in(
     let tree = MemTree::new(node);
     let only = OnlyPaths::new(alloc, &asked.only)?;
     let selection = Selection::new(asked.archive, &asked.without).narrowed(&only);
-    let levels = LevelReader::new(alloc, &tree, selection, kept);
+    let reader = LevelReader::new(alloc, &tree, selection, kept);
     let mut scratch = Scratch::new(alloc)?;
     let exclude = asked.exclude_file(alloc)?;
-    let Some(job) = job_of(alloc, &levels, exclude, below, &mut scratch)? else {
+    let Some(job) = job_of(alloc, &reader, exclude, below, &mut scratch)? else {
         return Ok((String::new(alloc), 0));
     };
-    match work(&levels, &job, &mut scratch)? {
+    match work(&reader, &job, &mut scratch)? {
         Ok(found) => {
             assert!(rt;
                 !kept.left_out || is_whole(&found),

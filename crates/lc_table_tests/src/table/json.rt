@@ -15,7 +15,7 @@ const JSON: TableOptions = TableOptions {
 
 const SMALL: Case = Case {
     name: "files_and_faults",
-    shape: JSON,
+    options: JSON,
     rows: &[
         (None, NONE, Eol::NoEnd, [1, 1, 0, 6]),
         (Some(b"c"), TextState::Set, Eol::Lf, [1, 3, 1, 16]),
@@ -38,7 +38,7 @@ const SMALL: Case = Case {
 
 const NO_TEXT: Case = Case {
     name: "names_that_are_no_text",
-    shape: JSON,
+    options: JSON,
     rows: &[(Some(b"\xff"), TextState::Auto, Eol::Nul, [1, 0, 0, 0])],
     totals: [1, 0, 0, 18_446_744_073_709_551_615],
     directories: 1,
@@ -53,7 +53,7 @@ const NO_TEXT: Case = Case {
 
 const EMPTY: Case = Case {
     name: "nothing",
-    shape: JSON,
+    options: JSON,
     rows: &[],
     totals: [0, 0, 0, 0],
     directories: 1,
@@ -73,7 +73,7 @@ const BY_TEXT: TableOptions = TableOptions {
 
 const SUMMED: Case = Case {
     name: "summed_rows",
-    shape: BY_TEXT,
+    options: BY_TEXT,
     lines: b"{\"rows\":[{\"text\":\"set\",\"files\":2,\"lines\":4,\"blank\":1,\"bytes\":9},\
              {\"text\":\"unset\",\"files\":1,\"lines\":1,\"blank\":0,\"bytes\":2},{\"text\":null,\
              \"files\":1,\"lines\":2,\"blank\":0,\"bytes\":20}],\"total\":{\"files\":4,\"lines\":7,\
@@ -84,7 +84,7 @@ const SUMMED: Case = Case {
 
 const SORTED: Case = Case {
     name: "sorted_rows",
-    shape: TableOptions {
+    options: TableOptions {
         sort: Some(SortBy::Bytes),
         ..BY_TEXT
     },

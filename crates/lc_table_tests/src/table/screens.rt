@@ -15,7 +15,7 @@ const SCREEN: TableOptions = TableOptions {
 
 pub(super) const EMPTY: Case = Case {
     name: "no_files",
-    shape: SCREEN,
+    options: SCREEN,
     rows: &[],
     totals: [0, 0, 0, 0],
     directories: 1,
@@ -122,7 +122,7 @@ const CASES: &[Case] = &[
     },
     Case {
         name: "classes_by_text_sorted_by_lines",
-        shape: TableOptions {
+        options: TableOptions {
             by: BY_TEXT,
             sort: Some(SortBy::Lines),
             ..SCREEN
@@ -153,7 +153,7 @@ const CASES: &[Case] = &[
         ..WIDE
     },
     Case {
-        shape: TableOptions {
+        options: TableOptions {
             by: BY_EOL,
             ..SCREEN
         },

@@ -18,11 +18,11 @@ pub(super) type Row = (Option<&'static [u8]>, TextState, Eol, [u64; 4]);
 /// A path, a text state, a class, and the lines, blank lines and bytes.
 pub(super) type File = (&'static [u8], TextState, Eol, [u64; 3]);
 
-/// What is shown, the shape, the rows, the totals, the directories, the files, the faults, and the text, of tabs below the header.
+/// What is shown, the options of the table, the rows, the totals, the directories, the files, the faults, and the text, of tabs below the header.
 #[derive(Clone, Copy)]
 pub(super) struct Case {
     pub(super) name: &'static str,
-    pub(super) shape: TableOptions,
+    pub(super) options: TableOptions,
     pub(super) rows: &'static [Row],
     pub(super) totals: [u64; 4],
     pub(super) directories: u64,
@@ -35,7 +35,7 @@ pub(super) const NONE: TextState = TextState::Unspecified;
 
 pub(super) const TEXT_STATES: Case = Case {
     name: "files_with_their_text_states",
-    shape: TSV,
+    options: TSV,
     rows: &[
         (None, NONE, Eol::Lf, [1, 2, 0, 20]),
         (Some(b"b"), TextState::Unset, Eol::Nul, [1, 1, 0, 2]),
@@ -65,7 +65,7 @@ pub(super) const TEXT_STATES: Case = Case {
 
 const TOP_UNREAD: Case = Case {
     name: "a_top_that_is_not_read",
-    shape: TSV,
+    options: TSV,
     rows: &[],
     totals: [0, 0, 0, 0],
     directories: 0,
@@ -77,7 +77,7 @@ const TOP_UNREAD: Case = Case {
 const CASES: &[Case] = &[
     Case {
         name: "a_line_for_each_key",
-        shape: TSV,
+        options: TSV,
         rows: &[
             (None, NONE, Eol::Lf, [1, 3, 0, 24]),
             (Some(b"c"), NONE, Eol::CrLf, [1, 1, 0, 8]),
@@ -93,7 +93,7 @@ const CASES: &[Case] = &[
     TOP_UNREAD,
     Case {
         name: "faults_of_a_file_and_of_a_rule_file",
-        shape: TSV,
+        options: TSV,
         rows: &[(Some(b"c"), NONE, Eol::Lf, [1, 1, 0, 2])],
         totals: [1, 1, 0, 2],
         directories: 1,
@@ -106,7 +106,7 @@ const CASES: &[Case] = &[
     },
     Case {
         name: "every_word_and_escapes",
-        shape: TSV,
+        options: TSV,
         rows: &[
             (Some(b"a\tb"), TextState::Auto, Eol::NoEnd, [1, 0, 0, 0]),
             (Some(b"c"), TextState::Other, Eol::Cr, [1, 1, 0, 2]),
@@ -225,21 +225,21 @@ fn is_made_of(text: &[u8], (header, rows, below): Parts<'_>) -> bool {
     rest.strip_prefix(rows) == Some(below)
 }
 
-/// Whether the table of a report in a shape is these parts, one after the other.
+/// Whether the table of a report with these options is these parts, one after the other.
 pub(super) fn has_parts(
     alloc: Global,
     report: &Report,
-    shape: TableOptions,
+    options: TableOptions,
     parts: Parts<'_>,
 ) -> Result<bool, AllocError> {
-    let text = table_text(alloc, report, shape)?;
+    let text = table_text(alloc, report, options)?;
     Ok(is_made_of(&text, parts))
 }
 
 /// Whether the table of a report is its text below this header.
 fn has_text(alloc: Global, header: &[u8], case: &Case) -> Result<bool, AllocError> {
     let report = report_of(alloc, case)?;
-    has_parts(alloc, &report, case.shape, (header, b"", case.lines))
+    has_parts(alloc, &report, case.options, (header, b"", case.lines))
 }
 
 /// The table of each report is its text.

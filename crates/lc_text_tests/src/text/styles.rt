@@ -1,6 +1,6 @@
 //! Bytes as they are printed for a program, and for a terminal.
 
-use lc_text::{PathStyle, push_styled, push_styled_path};
+use lc_text::{PathStyle, escape, push_styled, push_styled_path};
 use std::alloc::{AllocError, Global};
 use std::process::Abort;
 use std::test::Fail;
@@ -68,6 +68,27 @@ fn the_top_is_a_dot(rt: HostRuntime) -> Result<(), Fail> {
         push_styled_path(&mut text, *style, b"")?;
         push_styled_path(&mut text, *style, b"/\x7f")?;
         assert!(rt; text.as_slice() == b"./\\x7f".as_slice());
+    }
+    Ok(())
+}
+
+/// Paths, and their text.
+const ESCAPED: &[(&[u8], &[u8])] = &[
+    (b"t\x01.c", b"t\\x01.c"),
+    (b"a\\b", b"a\\\\b"),
+    (b"", b"."),
+    (b"\x1f \x7f\xe4", b"\\x1f \\x7f\xe4"),
+];
+
+fn is_escaped(alloc: Global, path: &[u8], text: &[u8]) -> Result<bool, AllocError> {
+    let escaped = escape(alloc, path)?;
+    Ok(escaped.as_slice() == text)
+}
+
+#[test]
+fn escapes(rt: HostRuntime) -> Result<(), Fail> {
+    for (path, text) in ESCAPED {
+        assert!(rt; is_escaped(rt.alloc(), path, text)?);
     }
     Ok(())
 }

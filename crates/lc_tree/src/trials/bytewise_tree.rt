@@ -5,7 +5,7 @@ use crate::{Listing, ReadFault, Tree};
 use lc_census::trials::Bytewise;
 use std::alloc::Global;
 
-/// Another tree, whose files give at most one byte a read.
+/// A tree that passes calls on to another, and gives at most one byte a read of its files.
 ///
 /// ```
 /// let node = sketch.node(rt.alloc())?;

@@ -5,7 +5,7 @@ use super::failing_file::FailingFile;
 use crate::{Listing, ReadFault, Tree};
 use std::alloc::Global;
 
-/// Another tree, of which one call fails: a listing, an opening of a file or a read of one, all counted together.
+/// A tree that passes calls on to another, and fails one of them: a listing, an opening of a file or a read, all counted together.
 ///
 /// A listing and an opening then answer `ReadFault::Failed`.
 ///
@@ -17,7 +17,7 @@ use std::alloc::Global;
 pub struct FailingTree<'a, T> {
     /// The tree itself.
     pub tree: &'a T,
-    /// Which call fails.
+    /// The number of the call that fails.
     pub call: &'a FailingCall,
 }
 

@@ -17,7 +17,7 @@ use crate::walk_fault::WalkFault;
 use lc_board::{Closed, Ended};
 use std::alloc::Global;
 
-/// The row was given up for this cause.
+/// Whether the row is Broken for this cause.
 fn is_broken_by(row: &Row, cause: BrokenCause) -> bool
     ensures broken { result ≡ true → IsBrokenBy cause row.now }
     ensures other { result ≡ false → IsBrokenBy cause row.now → ⊥ }
@@ -29,7 +29,7 @@ fn is_broken_by(row: &Row, cause: BrokenCause) -> bool
     }
 }
 
-/// Some row was given up for this cause.
+/// Whether some row is Broken for this cause.
 fn some_broken(rows: &[Ended<Row>], cause: BrokenCause) -> bool
     ensures some { result ≡ true → SomeBroken cause rows.now }
     ensures none { result ≡ false → (i : ℕ) (e : Ended Row) → slice_get rows.now i ≡ Some e → IsBrokenBy cause (row_of e) → ⊥ }
@@ -51,7 +51,7 @@ fn fault_of_tree(fault: TreeFault) -> WalkFault
     }
 }
 
-/// Makes the report of a closed board and of the tally of all its counted files. A refusal gives up the rows and the tally.
+/// Makes the report of a closed board and of the tally of all its counted files. On an error the rows and the tally are dropped.
 pub fn assemble(
     alloc: Global,
     closed: Closed<Row>,

@@ -1,18 +1,18 @@
-//! What a walk has found beside the sums.
+//! What a walk has found besides the sums.
 
 use crate::report::{FaultLine, FileLine, SkippedLine};
 
-/// What a walk has found beside the sums over its files: the lists in any order.
+/// What a walk has found besides the sums over its files, with the lists in any order.
 #[derive(Drop)]
 pub struct Findings {
     /// The number of directories that were listed.
     pub directories: u64,
-    /// The number of their entries that take part.
+    /// The number of these directories' entries that take part.
     pub entries: u64,
-    /// The counted files, if they were asked for.
+    /// The counted files, where the report is to have them.
     pub files: Vec<FileLine>,
     /// The files and directories that were not counted.
     pub faults: Vec<FaultLine>,
-    /// The entries that were left out, if they were asked for.
+    /// The skipped entries, where the report is to have them.
     pub skipped: Vec<SkippedLine>,
 }

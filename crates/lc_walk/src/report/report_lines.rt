@@ -1,18 +1,18 @@
-//! What a report says of one file, of one fault and of one entry left out.
+//! What a report says of one file, of one fault and of one skipped entry.
 use lc_census::Count;
 use lc_level::{FaultWord, Reason};
 use lc_rules::TextState;
 use lc_tree::Kind;
 use std::marker::Model;
 
-/// A counted file.
+/// A counted file, as a report has it.
 #[derive(Debug, Drop)]
 pub struct FileLine {
     /// The names from the top down to the file, joined by slashes.
     pub path: Vec<u8>,
     /// What the attribute `text` is for the file.
     pub text: TextState,
-    /// The census of its bytes.
+    /// The census of the file's bytes.
     pub count: Count,
 }
 
@@ -27,9 +27,9 @@ impl Model for FileLine {
 /// A file or a directory that was not counted, and why.
 #[derive(Debug, Drop)]
 pub struct FaultLine {
-    /// The names from the top down to it, joined by slashes; empty for the top itself.
+    /// The names from the top down to the file or directory, joined by slashes; empty for the top itself.
     pub path: Vec<u8>,
-    /// Why it was not counted.
+    /// Why the file or directory was not counted.
     pub word: FaultWord,
 }
 
@@ -41,14 +41,14 @@ impl Model for FaultLine {
     ghost view = { λ a. record { path = a.path.items; word = a.word } };
 }
 
-/// An entry of a listed directory that was left out, and why.
+/// A skipped entry of a listed directory, and why it was skipped.
 #[derive(Debug, Drop)]
 pub struct SkippedLine {
-    /// The names from the top down to it, joined by slashes.
+    /// The names from the top down to the entry, joined by slashes.
     pub path: Vec<u8>,
-    /// What stands there.
+    /// What the entry is.
     pub kind: Kind,
-    /// The first reason that holds for it.
+    /// The first reason that holds for the entry.
     pub reason: Reason,
 }
 

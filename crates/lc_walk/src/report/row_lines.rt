@@ -1,4 +1,4 @@
-//! The lines of a report, as the rows tell them.
+//! The lines of a report, made of the rows.
 ghost use Rattle.std.specs.Prelude.{◌≡◌, ℕ, ◌+◌, ◌≤◌, ◌<◌, ◌^◌, List, ◌++◌, map, length, IfOk, OnOk};
 ghost use Rattle.lc_walk.specs.Rows.{row_of};
 ghost use Rattle.lc_walk.specs.WalkReport.{skipped_line, line_of};
@@ -62,7 +62,7 @@ pub fn push_faults(
     Ok(())
 }
 
-/// Adds the lines of the entries of a directory that were left out.
+/// Adds the lines of the skipped entries of a directory.
 pub fn push_skipped(
     alloc: Global,
     directory: &[u8],
@@ -83,7 +83,7 @@ pub fn push_skipped(
     Ok(())
 }
 
-/// Adds what one row tells.
+/// Adds the lines and the numbers of one row.
 pub fn push_row(alloc: Global, row: &Row, found: &mut Findings) -> Result<(), AllocError>
     requires directories { found.old.directories ≤ 2 ^ 62 }
     requires entries { found.old.entries + 2 ^ 32 ≤ 2 ^ 64 }
@@ -114,7 +114,7 @@ pub fn push_row(alloc: Global, row: &Row, found: &mut Findings) -> Result<(), Al
     Ok(())
 }
 
-/// What all rows tell.
+/// The lines and the numbers of all rows.
 pub fn findings_of(alloc: Global, rows: &[Ended<Row>]) -> Result<Findings, AllocError>
     requires { length rows.now ≤ 2 ^ 32 }
     ensures { IfOk result (AreFindings rows.now) }

@@ -1,6 +1,6 @@
 //! Whether rows make a tree.
 ghost use Rattle.std.specs.Prelude.{◌≡◌, ◌≢◌, ℕ, ◌+◌, ◌<◌, ◌≤◌, ◌^◌, List, true, false, length, slice_get, slice_set, replicate, Some};
-ghost use Rattle.std.specs.Prelude.{IfOk, IfErr, OnOk, OnErr, MatchOption};
+ghost use Rattle.std.specs.Prelude.{IfOk, IfErr, OnOk, OnErr};
 ghost use Rattle.lc_walk.specs.Rows.{row_of, job_of, children_in};
 ghost use Rattle.lc_glob.specs.Path.{path_in};
 ghost use Rattle.lc_walk.specs.Assembled.{IsPlaced};
@@ -9,11 +9,13 @@ ghost use Rattle.lc_walk.specs.Links.{AreLinked, IsNext, IsPathAt, RefusesTree};
 use crate::report::row_lines::row_of;
 use crate::row::{Child, Row};
 use lc_board::Ended;
+use lc_level::relative_to;
 use std::alloc::{AllocError, Global};
 
-/// Why rows make no tree.
+/// Why rows make no tree, or why that is not known.
 #[derive(Clone, Copy, PartialEq, Eq, Debug, Drop)]
 pub enum TreeFault {
+    /// Memory was refused.
     Memory,
     /// The rows make no tree at this number.
     Torn(u32),
@@ -41,26 +43,12 @@ pub fn children_of(row: &Row) -> &[Child]
     }
 }
 
-/// The name by which a directory has an entry of this path.
-fn name_in<'a>(directory: &[u8], path: &'a [u8]) -> Option<&'a [u8]>
-    ensures { MatchOption result ((name : List ℕ) → path.entry.now ≢ path_in directory.now name)
-        (λ name. path.entry.now ≡ path_in directory.now name.now) }
-{
-    if directory.is_empty() {
-        return Some(path);
-    }
-    let Some(below) = path.strip_prefix(directory) else {
-        return None;
-    };
-    below.strip_prefix(b"/")
-}
-
-/// The path of a child is that of its directory with its name.
+/// Whether the path of a child is that of its directory with its name.
 fn is_child_path(directory: &[u8], child: &Child, path: &[u8]) -> bool
     ensures is { result ≡ true → path.now ≡ path_in directory.now child.now.name }
     ensures other { result ≡ false → path.now ≢ path_in directory.now child.now.name }
 {
-    match name_in(directory, path) {
+    match relative_to(directory, path) {
         Some(name) => name == child.name.as_slice(),
         None => false,
     }
@@ -95,7 +83,7 @@ fn path_at(rows: &[Ended<Row>], at: usize) -> &[u8]
     path_of(row_of(&rows[at]))
 }
 
-/// Marks the number of the next child.
+/// Marks the number of the next child of a row.
 fn link(
     rows: &[Ended<Row>],
     at: usize,
@@ -152,7 +140,7 @@ fn no_marks(alloc: Global, count: usize) -> Result<Vec<bool>, AllocError>
     Ok(vec![in alloc; false; count]?)
 }
 
-/// Marks the numbers that rows name as children.
+/// Marks the numbers of all children of all rows.
 fn link_all(alloc: Global, rows: &[Ended<Row>]) -> Result<Vec<bool>, TreeFault>
     requires few { length rows.now ≤ 2 ^ 32 }
     ensures marks { IfOk result (λ linked. AreLinked rows.now (length rows.now) 0 linked.items) }
@@ -167,7 +155,7 @@ fn link_all(alloc: Global, rows: &[Ended<Row>]) -> Result<Vec<bool>, TreeFault>
     Ok(linked)
 }
 
-/// Whether the rows make a tree, and else a number at which they don't.
+/// Checks that the rows make a tree; the fault has a number at which they do not.
 pub fn check_tree(alloc: Global, rows: &[Ended<Row>]) -> Result<(), TreeFault>
     requires few { length rows.now ≤ 2 ^ 32 }
     ensures placed { IfOk result (λ _. (k : ℕ) → IsPlaced rows.now k) }

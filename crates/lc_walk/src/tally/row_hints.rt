@@ -3,7 +3,7 @@ ghost use Rattle.std.specs.Prelude.{◌<◌};
 
 use crate::tally::key::{KeyRef, eol_rank, text_rank};
 
-/// A row's index for each slot; keys of one slot share it, and the last one noted stands.
+/// A row's index for each slot. Keys of one slot share it, and the last index that was noted stays.
 #[derive(Drop)]
 pub(crate) struct RowHints {
     rows: [u16; 512],

@@ -1,5 +1,5 @@
 //! The sums over some counted files.
-ghost use Rattle.std.specs.Prelude.{◌≡◌, true};
+ghost use Rattle.std.specs.Prelude.{◌≡◌, true, MatchOption};
 ghost use Rattle.lc_walk.specs.Sums.{plus, one_file, no_files, IsInRange, IsModest};
 
 use lc_census::Count;
@@ -18,7 +18,8 @@ pub struct Sums {
 }
 
 impl Sums {
-    pub(crate) fn none() -> Sums
+    /// The sums over no files.
+    pub fn none() -> Sums
         ensures { result ≡ no_files }
     {
         Sums {
@@ -29,6 +30,7 @@ impl Sums {
         }
     }
 
+    /// The sums over one file.
     pub(crate) fn one(count: Count) -> Sums
         ensures { result ≡ one_file count }
     {
@@ -48,6 +50,23 @@ impl Sums {
         self.files <= 1 << 63 && self.lines <= most && self.blank <= most && self.bytes <= most
     }
 
+    /// The sums over the files of both, where each fits its type.
+    ///
+    /// ```
+    /// let both = one.checked_add(other)?;
+    /// ```
+    pub fn checked_add(self, more: Sums) -> Option<Sums>
+        ensures { MatchOption result (IsInRange (plus self more) → ⊥) (λ sums. sums ≡ plus self more) }
+    {
+        Some(Sums {
+            files: self.files.checked_add(more.files)?,
+            lines: self.lines.checked_add(more.lines)?,
+            blank: self.blank.checked_add(more.blank)?,
+            bytes: self.bytes.checked_add(more.bytes)?,
+        })
+    }
+
+    /// The sums over the files of both, which fit their types.
     pub(crate) fn add(self, more: Sums) -> Sums
         requires { IsInRange (plus self more) }
         ensures { result ≡ plus self more }

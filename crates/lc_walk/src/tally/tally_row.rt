@@ -24,7 +24,7 @@ pub struct TallyRow {
     pub text: TextState,
     /// How the files' lines end.
     pub eol: Eol,
-    /// The number of the files.
+    /// The number of files.
     pub files: u64,
     /// The sum of their lines.
     pub lines: u128,
@@ -61,7 +61,7 @@ impl TallyRow {
         })
     }
 
-    /// The sums over its files.
+    /// The sums over the row's files.
     pub fn sums(&self) -> Sums
         ensures { result ≡ self.now.sums }
     {
@@ -73,7 +73,7 @@ impl TallyRow {
         }
     }
 
-    /// Its key.
+    /// The key of the row.
     pub fn key(&self) -> KeyRef<'_>
         ensures { result ≡ self.now.key }
     {
@@ -84,14 +84,14 @@ impl TallyRow {
         }
     }
 
-    /// A copy of the row and its extension.
+    /// Makes a copy of the row and its extension.
     pub fn copy(&self, alloc: Global) -> Result<TallyRow, AllocError>
         ensures { IfOk result (λ r. r ≡ self.now) }
     {
         TallyRow::new(alloc, &self.key(), self.sums())
     }
 
-    /// Where its key stands to this one in the order of keys.
+    /// Compares the row's key with another, in the order of keys.
     #[tactic(auto, unfolding(crate::specs::Key::key_cmp))]
     pub fn compare(&self, key: &KeyRef<'_>) -> Ordering
         ensures { result ≡ key_cmp self.now.key key.now }
@@ -101,7 +101,7 @@ impl TallyRow {
             .then(eol_rank(self.eol).cmp(&eol_rank(key.eol)))
     }
 
-    /// Adds to its sums. No sums of a tally are too large to be added.
+    /// Adds to the row's sums. No sums of a tally are too large to be added.
     pub(crate) fn absorb(&mut self, more: Sums)
         ensures key { self.new.key ≡ self.old.key }
         ensures sums { IsInRange (plus self.old.sums more) → self.new.sums ≡ plus self.old.sums more }
@@ -112,7 +112,7 @@ impl TallyRow {
         self.bytes = self.bytes.saturating_add(more.bytes);
     }
 
-    /// Adds the sums of another row of its key, and returns whether the other row has its key.
+    /// Adds the sums of another row if it has the same key, and returns whether it has.
     pub(crate) fn absorb_row(&mut self, row: &TallyRow) -> bool
         ensures { IsAbsorbed row.now self.old result row.now self.new }
     {

@@ -7,6 +7,7 @@ use crate::tally::{MAX_FILES, Tally, extension};
 use lc_level::Counted;
 use std::alloc::AllocError;
 
+/// Adds a file to the tally.
 fn add_file(tally: &mut Tally, file: &Counted) -> Result<(), AllocError>
     ensures { AddsFiles (tallied file.now ∷ []) tally.old tally.new result }
 {

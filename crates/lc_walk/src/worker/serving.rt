@@ -4,7 +4,7 @@ ghost use Rattle.lc_board.specs.Pass.{after_give};
 ghost use Rattle.lc_level.specs.Opens.{IsOpened};
 ghost use Rattle.lc_level.specs.TreeAnswers.{MayAnswer};
 ghost use Rattle.lc_walk.specs.BoardPasses.{HoldsClaim, IsFree, IsPassOf};
-ghost use Rattle.lc_walk.specs.Serving.{HoldsJob, GivesUp, WorksOn, Serves};
+ghost use Rattle.lc_walk.specs.Serving.{HoldsJob, BreaksOff, WorksOn, Serves};
 ghost use Rattle.lc_walk.specs.WalkOptions.{asked_by};
 ghost use Rattle.lc_walk.specs.declared.row.Row.TheVariants.{Broken};
 
@@ -15,30 +15,15 @@ use crate::tally::Tally;
 use crate::worker::Worker;
 use crate::worker::adding::add_files;
 use lc_board::Shared;
-use lc_level::{
-    Counted, CountedFiles, Job, LevelReader, OpenFault, Opened, ReaderOptions, Scratch,
-};
+use lc_level::{Counted, CountedFiles, Job, OpenFault, Opened, Scratch};
 use lc_tree::Tree;
 use std::alloc::AllocError;
 use std::sync::Wait;
 use std::thread::Threads;
 
-impl<'w, B: Shared<Job, Row>, T: Tree, W: Threads + Wait + Sync> Worker<'w, '_, B, T, W> {
-    /// What reads its tree.
-    fn levels(&self) -> LevelReader<'w, T>
-        ensures tree { result.tree.now ≡ self.now.tree.now }
-        ensures selection { result.selection ≡ (asked_by self.now.options.now).selection }
-        ensures options { result.options.left_out ≡ self.now.options.now.lists.left_out }
-    {
-        let options = ReaderOptions {
-            left_out: self.options.lists().left_out,
-            texts: false,
-        };
-        LevelReader::new(self.alloc, self.tree, self.options.selection(), options)
-    }
-
-    /// Ends the claim of a directory by giving it up. It answers `Err` where that was for want of memory.
-    fn give_up(
+impl<B: Shared<Job, Row>, T: Tree, W: Threads + Wait + Sync> Worker<'_, '_, B, T, W> {
+    /// Ends the claim of a directory with a Broken row. It returns `Err` if the cause is memory.
+    fn break_off(
         &self,
         pass: &mut B::Pass,
         job: ServedJob,
@@ -47,7 +32,7 @@ impl<'w, B: Shared<Job, Row>, T: Tree, W: Threads + Wait + Sync> Worker<'w, '_, 
         requires { IsPassOf B.owns B.Pass.view self.now.board.now HoldsClaim pass.old }
         ensures pass { IsPassOf B.owns B.Pass.view self.now.board.now IsFree pass.new }
         ensures mine { B.Pass.view pass.new ≡ after_give (B.Pass.view pass.old) (Broken (record { job = job; cause = cause })) }
-        ensures memory { GivesUp cause result }
+        ensures memory { BreaksOff cause result }
     {
         self.board
             .give(self.rt, pass, Row::Broken(BrokenRow { job, cause }));
@@ -68,8 +53,8 @@ impl<'w, B: Shared<Job, Row>, T: Tree, W: Threads + Wait + Sync> Worker<'w, '_, 
         Vec::new(self.alloc)
     }
 
-    /// Serves the claim of a directory that was opened: its child directories are posted before its files are counted, so that
-    /// other workers need not wait for these.
+    /// Serves the claim of a directory that was opened. It posts the child directories before it counts the files, so that other workers
+    /// need not wait for these.
     fn serve_opened(
         &self,
         pass: &mut B::Pass,
@@ -79,11 +64,11 @@ impl<'w, B: Shared<Job, Row>, T: Tree, W: Threads + Wait + Sync> Worker<'w, '_, 
         tally: &mut Tally,
     ) -> Result<(), AllocError>
         requires pass { IsPassOf B.owns B.Pass.view self.now.board.now (HoldsJob job) pass.old }
-        requires opened { IsOpened (T.lists self.now.tree.now) (T.gives self.now.tree.now) self.now.options.now.lists.left_out
+        requires opened { IsOpened (T.lists self.now.reader.tree.now) (T.gives self.now.reader.tree.now) self.now.options.now.lists.left_out
             (asked_by self.now.options.now).selection job opened }
         requires scratch { scratch.old.path.directory ≡ opened.job.path }
         ensures pass { IsPassOf B.owns B.Pass.view self.now.board.now IsFree pass.new }
-        ensures serves { Serves (asked_by self.now.options.now) (MayAnswer (T.lists self.now.tree.now) (T.gives self.now.tree.now))
+        ensures serves { Serves (asked_by self.now.options.now) (MayAnswer (T.lists self.now.reader.tree.now) (T.gives self.now.reader.tree.now))
             (B.Pass.view pass.old) (B.Pass.view pass.new) tally.old tally.new result }
     {
         let Opened {
@@ -96,16 +81,16 @@ impl<'w, B: Shared<Job, Row>, T: Tree, W: Threads + Wait + Sync> Worker<'w, '_, 
         } = opened;
         let children = match self.post_children(pass, children) {
             Ok(children) => children,
-            Err(cause) => return self.give_up(pass, job, cause),
+            Err(cause) => return self.break_off(pass, job, cause),
         };
         let Ok(found) = self
-            .levels()
-            .count_in_parts(self.rt, self.idle, &inside, files, absent, scratch)
+            .reader
+            .count_in_parts(&self.threads(), &inside, files, absent, scratch)
         else {
-            return self.give_up(pass, job, BrokenCause::Memory);
+            return self.break_off(pass, job, BrokenCause::Memory);
         };
         let Ok(()) = add_files(tally, &found.files) else {
-            return self.give_up(pass, job, BrokenCause::Memory);
+            return self.break_off(pass, job, BrokenCause::Memory);
         };
         let CountedFiles { files, faults } = found;
         let parts = ListedParts {
@@ -121,11 +106,11 @@ impl<'w, B: Shared<Job, Row>, T: Tree, W: Threads + Wait + Sync> Worker<'w, '_, 
                 self.board.give(self.rt, pass, Row::Listed(row));
                 Ok(())
             }
-            Err(job) => self.give_up(pass, job, BrokenCause::Memory),
+            Err(job) => self.break_off(pass, job, BrokenCause::Memory),
         }
     }
 
-    /// Serves the claim of a directory, up to its end. It answers `Err` where memory was refused; the row says so too.
+    /// Serves the claim of a directory, up to its end. It returns `Err` where memory was refused; the row says so too.
     fn serve(
         &self,
         pass: &mut B::Pass,
@@ -135,11 +120,10 @@ impl<'w, B: Shared<Job, Row>, T: Tree, W: Threads + Wait + Sync> Worker<'w, '_, 
     ) -> Result<(), AllocError>
         requires { IsPassOf B.owns B.Pass.view self.now.board.now (HoldsJob job) pass.old }
         ensures pass { IsPassOf B.owns B.Pass.view self.now.board.now IsFree pass.new }
-        ensures serves { Serves (asked_by self.now.options.now) (MayAnswer (T.lists self.now.tree.now) (T.gives self.now.tree.now))
+        ensures serves { Serves (asked_by self.now.options.now) (MayAnswer (T.lists self.now.reader.tree.now) (T.gives self.now.reader.tree.now))
             (B.Pass.view pass.old) (B.Pass.view pass.new) tally.old tally.new result }
     {
-        let levels = self.levels();
-        match levels.open_in_parts(self.rt, self.idle, &job, scratch) {
+        match self.reader.open_in_parts(&self.threads(), &job, scratch) {
             Ok(opened) => {
                 let job = ServedJob::of(job);
                 self.serve_opened(pass, job, opened, scratch, tally)
@@ -149,16 +133,18 @@ impl<'w, B: Shared<Job, Row>, T: Tree, W: Threads + Wait + Sync> Worker<'w, '_, 
                 self.board.fault(self.rt, pass, Row::Faulted(FaultedRow { job, site, word }));
                 Ok(())
             }
-            Err(OpenFault::Broken(cause)) => {
-                let job = ServedJob::of(job);
-                self.give_up(pass, job, BrokenCause::unopened(cause))
+            Err(OpenFault::Memory) => {
+                self.break_off(pass, ServedJob::of(job), BrokenCause::Memory)
+            }
+            Err(OpenFault::TooDeep) => {
+                self.break_off(pass, ServedJob::of(job), BrokenCause::TooDeep)
             }
         }
     }
 
-    /// Serves the claim of a directory. Once memory was refused there is no tally, and every further directory is given up, as there
-    /// is no report without memory.
-    pub(crate) fn serve_or_give_up(
+    /// Serves the claim of a directory. Once memory was refused there is no tally, and every further directory is broken off, as
+    /// there is no report without memory.
+    pub(crate) fn serve_or_break_off(
         &self,
         pass: &mut B::Pass,
         job: Job,
@@ -167,7 +153,7 @@ impl<'w, B: Shared<Job, Row>, T: Tree, W: Threads + Wait + Sync> Worker<'w, '_, 
     )
         requires { IsPassOf B.owns B.Pass.view self.now.board.now (HoldsJob job) pass.old }
         ensures pass { IsPassOf B.owns B.Pass.view self.now.board.now IsFree pass.new }
-        ensures goes_on { WorksOn (asked_by self.now.options.now) (MayAnswer (T.lists self.now.tree.now) (T.gives self.now.tree.now))
+        ensures goes_on { WorksOn (asked_by self.now.options.now) (MayAnswer (T.lists self.now.reader.tree.now) (T.gives self.now.reader.tree.now))
             (B.Pass.view pass.old) (B.Pass.view pass.new) tally.old tally.new }
     {
         let served = if let Some(scratch) = scratch
@@ -175,7 +161,7 @@ impl<'w, B: Shared<Job, Row>, T: Tree, W: Threads + Wait + Sync> Worker<'w, '_, 
         {
             self.serve(pass, job, scratch, tally)
         } else {
-            self.give_up(pass, ServedJob::of(job), BrokenCause::Memory)
+            self.break_off(pass, ServedJob::of(job), BrokenCause::Memory)
         };
         if served.is_err() {
             *tally = None;

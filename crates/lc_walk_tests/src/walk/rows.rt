@@ -90,9 +90,9 @@ fn last_child(alloc: Global, tree: &MemTree, job: &Job) -> Result<Job, AllocErro
         left_out: false,
         texts: false,
     };
-    let levels = LevelReader::new(alloc, tree, Selection::new(false, &[]), kept);
+    let reader = LevelReader::new(alloc, tree, Selection::new(false, &[]), kept);
     let mut scratch = Scratch::new(alloc)?;
-    let Ok(mut opened) = levels.open(job, &mut scratch) else {
+    let Ok(mut opened) = reader.open(job, &mut scratch) else {
         return Err(AllocError);
     };
     match opened.children.pop() {
@@ -146,15 +146,8 @@ fn work<B: Shared<Job, Row>, R: Threads + Wait + Sync + Abort>(
     let (board, mut pass) = start_one::<B>(alloc)?;
     begin(rt, alloc, &board, &mut pass, &tree, case.is_broken)?;
     let options = PreparedOptions::new(alloc, options)?;
-    let idle = IdleThreads::new();
-    let worker = Worker {
-        rt,
-        alloc,
-        board: &board,
-        tree: &tree,
-        options: &options,
-        idle: &idle,
-    };
+    let idle = IdleThreads::all_idle(1);
+    let worker = Worker::new(rt, alloc, &board, &tree, &options, &idle);
     let WorkerResult { pass, end, tally } = worker.run(pass);
     if end == StopReason::Memory {
         return Err(AllocError);

@@ -1,7 +1,7 @@
 use Rattle.std.proofs.Common.{◌≡◌, [], length}
 use Rattle.std.specs.List.{slice_index_or}
 use Rattle.lc_rules.specs.IgnoreRules.{text_of_line}
-use Rattle.lc_text.specs.ExplainedText.{line_text}
+use Rattle.lc_text.specs.RulePlaces.{line_text}
 use Rattle.lc_explain.proofs.output.line_text.Given as goal
 
 abbrev pub invariant-lines : goal.invariant-lines

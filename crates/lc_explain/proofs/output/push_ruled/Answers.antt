@@ -2,7 +2,7 @@ use Rattle.std.proofs.Common.{ℕ, List, ◌++◌, ◌∷◌, [], ◌∙◌, ap}
 use Rattle.lc_text.specs.PathLines.{path_of}
 use Rattle.lc_text.specs.RulePlaces.{rule_place}
 use Rattle.lc_text.specs.Styles.{styled}
-use Rattle.lc_text.proofs.Explained.{last_piece}
+use Rattle.lc_text.proofs.Appended.{last_piece}
 use Rattle.lc_explain.proofs.OutputLines.{eight_pieces}
 use Rattle.lc_explain.proofs.output.push_ruled.Goals as goal
 

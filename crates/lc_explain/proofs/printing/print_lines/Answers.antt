@@ -15,8 +15,8 @@ use Rattle.lc_explain.proofs.printing.print_lines.Goals as goal
 pub returns-in_err-kept : goal.returns-in_err-kept
 returns-in_err-kept g c =
     let explainer = c.args.explainer.now in
-    let enters = MayEnter (g.T.Tree.lists explainer.levels.tree.now) (g.T.Tree.gives explainer.levels.tree.now) in
-    let Says : List ℕ → Bool → Explanation → Type 0 = IsExplained enters explainer.levels.selection explainer.exclude.now explainer.top in
+    let enters = MayEnter (g.T.Tree.lists explainer.reader.tree.now) (g.T.Tree.gives explainer.reader.tree.now) in
+    let Says : List ℕ → Bool → Explanation → Type 0 = IsExplained enters explainer.reader.selection explainer.exclude.now explainer.top in
     let may_take = g.O.Sink.may_take in
     let style = explainer.style in
     let out = c.args.out.now in
@@ -28,13 +28,13 @@ returns-in_err-kept g c =
 pub lines-init : goal.lines-init
 lines-init g c =
     let explainer = c.args.explainer.now in
-    let enters = MayEnter (g.T.Tree.lists explainer.levels.tree.now) (g.T.Tree.gives explainer.levels.tree.now) in
-    let Says : List ℕ → Bool → Explanation → Type 0 = IsExplained enters explainer.levels.selection explainer.exclude.now explainer.top in
+    let enters = MayEnter (g.T.Tree.lists explainer.reader.tree.now) (g.T.Tree.gives explainer.reader.tree.now) in
+    let Says : List ℕ → Bool → Explanation → Type 0 = IsExplained enters explainer.reader.selection explainer.exclude.now explainer.top in
     let may_take = g.O.Sink.may_take in
     let style = explainer.style in
     let out = c.args.out.now in
     record {
-      stacks = no_stacks enters explainer.levels.selection explainer.exclude.now explainer.top c.in_ok-kept.kept c.in_ok-kept.ensures;
+      stacks = no_stacks enters explainer.reader.selection explainer.exclude.now explainer.top c.in_ok-kept.kept c.in_ok-kept.ensures;
       done = [];
       so_far = so_far_none may_take style Says out c.new-output.result.block.text.items c.new-output.result.outcome
           c.new-output.ensures.text c.new-output.ensures.outcome;
@@ -44,8 +44,8 @@ lines-init g c =
 pub returns-in_err-tell : goal.returns-in_err-tell
 returns-in_err-tell g c =
     let explainer = c.args.explainer.now in
-    let enters = MayEnter (g.T.Tree.lists explainer.levels.tree.now) (g.T.Tree.gives explainer.levels.tree.now) in
-    let Says : List ℕ → Bool → Explanation → Type 0 = IsExplained enters explainer.levels.selection explainer.exclude.now explainer.top in
+    let enters = MayEnter (g.T.Tree.lists explainer.reader.tree.now) (g.T.Tree.gives explainer.reader.tree.now) in
+    let Says : List ℕ → Bool → Explanation → Type 0 = IsExplained enters explainer.reader.selection explainer.exclude.now explainer.top in
     let may_take = g.O.Sink.may_take in
     let style = explainer.style in
     let out = c.args.out.now in
@@ -60,8 +60,8 @@ returns-in_err-tell g c =
 pub returns-in_err-print_if_full : goal.returns-in_err-print_if_full
 returns-in_err-print_if_full g c =
     let explainer = c.args.explainer.now in
-    let enters = MayEnter (g.T.Tree.lists explainer.levels.tree.now) (g.T.Tree.gives explainer.levels.tree.now) in
-    let Says : List ℕ → Bool → Explanation → Type 0 = IsExplained enters explainer.levels.selection explainer.exclude.now explainer.top in
+    let enters = MayEnter (g.T.Tree.lists explainer.reader.tree.now) (g.T.Tree.gives explainer.reader.tree.now) in
+    let Says : List ℕ → Bool → Explanation → Type 0 = IsExplained enters explainer.reader.selection explainer.exclude.now explainer.top in
     let may_take = g.O.Sink.may_take in
     let style = explainer.style in
     let out = c.args.out.now in
@@ -83,8 +83,8 @@ returns-in_err-print_if_full g c =
 pub lines-preserved : goal.lines-preserved
 lines-preserved g c =
     let explainer = c.args.explainer.now in
-    let enters = MayEnter (g.T.Tree.lists explainer.levels.tree.now) (g.T.Tree.gives explainer.levels.tree.now) in
-    let Says : List ℕ → Bool → Explanation → Type 0 = IsExplained enters explainer.levels.selection explainer.exclude.now explainer.top in
+    let enters = MayEnter (g.T.Tree.lists explainer.reader.tree.now) (g.T.Tree.gives explainer.reader.tree.now) in
+    let Says : List ℕ → Bool → Explanation → Type 0 = IsExplained enters explainer.reader.selection explainer.exclude.now explainer.top in
     let may_take = g.O.Sink.may_take in
     let style = explainer.style in
     let out = c.args.out.now in
@@ -107,8 +107,8 @@ lines-preserved g c =
 pub returns-in_err-print_rest : goal.returns-in_err-print_rest
 returns-in_err-print_rest g c =
     let explainer = c.args.explainer.now in
-    let enters = MayEnter (g.T.Tree.lists explainer.levels.tree.now) (g.T.Tree.gives explainer.levels.tree.now) in
-    let Says : List ℕ → Bool → Explanation → Type 0 = IsExplained enters explainer.levels.selection explainer.exclude.now explainer.top in
+    let enters = MayEnter (g.T.Tree.lists explainer.reader.tree.now) (g.T.Tree.gives explainer.reader.tree.now) in
+    let Says : List ℕ → Bool → Explanation → Type 0 = IsExplained enters explainer.reader.selection explainer.exclude.now explainer.top in
     let may_take = g.O.Sink.may_take in
     let style = explainer.style in
     let out = c.args.out.now in
@@ -127,8 +127,8 @@ returns-in_err-print_rest g c =
 pub returns : goal.returns
 returns g c =
     let explainer = c.args.explainer.now in
-    let enters = MayEnter (g.T.Tree.lists explainer.levels.tree.now) (g.T.Tree.gives explainer.levels.tree.now) in
-    let Says : List ℕ → Bool → Explanation → Type 0 = IsExplained enters explainer.levels.selection explainer.exclude.now explainer.top in
+    let enters = MayEnter (g.T.Tree.lists explainer.reader.tree.now) (g.T.Tree.gives explainer.reader.tree.now) in
+    let Says : List ℕ → Bool → Explanation → Type 0 = IsExplained enters explainer.reader.selection explainer.exclude.now explainer.top in
     let may_take = g.O.Sink.may_take in
     let style = explainer.style in
     let out = c.args.out.now in

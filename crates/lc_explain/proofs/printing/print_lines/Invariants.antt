@@ -8,12 +8,12 @@ use Rattle.lc_explain.proofs.printing.print_lines.Given as goal
 
 abbrev pub invariant-lines : goal.invariant-lines
 invariant-lines g l = record {
-  stacks : AreStacks (MayEnter (g.T.Tree.lists l.explainer.levels.tree.now) (g.T.Tree.gives l.explainer.levels.tree.now))
-      l.explainer.levels.selection l.explainer.exclude.now l.explainer.top l.kept;
+  stacks : AreStacks (MayEnter (g.T.Tree.lists l.explainer.reader.tree.now) (g.T.Tree.gives l.explainer.reader.tree.now))
+      l.explainer.reader.selection l.explainer.exclude.now l.explainer.top l.kept;
   done : List (List ℕ);
   so_far : SoFar g.O.Sink.may_take l.explainer.style
-      (IsExplained (MayEnter (g.T.Tree.lists l.explainer.levels.tree.now) (g.T.Tree.gives l.explainer.levels.tree.now))
-      l.explainer.levels.selection l.explainer.exclude.now l.explainer.top) done l.initial.out l.output.block.text.items
+      (IsExplained (MayEnter (g.T.Tree.lists l.explainer.reader.tree.now) (g.T.Tree.gives l.explainer.reader.tree.now))
+      l.explainer.reader.selection l.explainer.exclude.now l.explainer.top) done l.initial.out l.output.block.text.items
       l.output.outcome l.out;
   left : done ++ input_lines_of l.rest ≡ input_lines_of l.fn.paths;
 }

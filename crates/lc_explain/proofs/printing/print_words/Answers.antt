@@ -13,8 +13,8 @@ use Rattle.lc_explain.proofs.printing.print_words.Goals as goal
 pub returns-in_err-kept : goal.returns-in_err-kept
 returns-in_err-kept g c =
     let explainer = c.args.explainer.now in
-    let enters = MayEnter (g.T.Tree.lists explainer.levels.tree.now) (g.T.Tree.gives explainer.levels.tree.now) in
-    let Says : List ℕ → Bool → Explanation → Type 0 = IsExplained enters explainer.levels.selection explainer.exclude.now explainer.top in
+    let enters = MayEnter (g.T.Tree.lists explainer.reader.tree.now) (g.T.Tree.gives explainer.reader.tree.now) in
+    let Says : List ℕ → Bool → Explanation → Type 0 = IsExplained enters explainer.reader.selection explainer.exclude.now explainer.top in
     let may_take = g.O.Sink.may_take in
     let style = explainer.style in
     let out = c.args.out.now in
@@ -26,13 +26,13 @@ returns-in_err-kept g c =
 pub loop-word-init : goal.loop-word-init
 loop-word-init g c =
     let explainer = c.args.explainer.now in
-    let enters = MayEnter (g.T.Tree.lists explainer.levels.tree.now) (g.T.Tree.gives explainer.levels.tree.now) in
-    let Says : List ℕ → Bool → Explanation → Type 0 = IsExplained enters explainer.levels.selection explainer.exclude.now explainer.top in
+    let enters = MayEnter (g.T.Tree.lists explainer.reader.tree.now) (g.T.Tree.gives explainer.reader.tree.now) in
+    let Says : List ℕ → Bool → Explanation → Type 0 = IsExplained enters explainer.reader.selection explainer.exclude.now explainer.top in
     let may_take = g.O.Sink.may_take in
     let style = explainer.style in
     let out = c.args.out.now in
     record {
-      stacks = no_stacks enters explainer.levels.selection explainer.exclude.now explainer.top c.in_ok-kept.kept c.in_ok-kept.ensures;
+      stacks = no_stacks enters explainer.reader.selection explainer.exclude.now explainer.top c.in_ok-kept.kept c.in_ok-kept.ensures;
       so_far = so_far_none may_take style Says out c.new-output.result.block.text.items c.new-output.result.outcome
           c.new-output.ensures.text c.new-output.ensures.outcome;
     }
@@ -40,8 +40,8 @@ loop-word-init g c =
 pub returns-in_err-tell : goal.returns-in_err-tell
 returns-in_err-tell g c =
     let explainer = c.args.explainer.now in
-    let enters = MayEnter (g.T.Tree.lists explainer.levels.tree.now) (g.T.Tree.gives explainer.levels.tree.now) in
-    let Says : List ℕ → Bool → Explanation → Type 0 = IsExplained enters explainer.levels.selection explainer.exclude.now explainer.top in
+    let enters = MayEnter (g.T.Tree.lists explainer.reader.tree.now) (g.T.Tree.gives explainer.reader.tree.now) in
+    let Says : List ℕ → Bool → Explanation → Type 0 = IsExplained enters explainer.reader.selection explainer.exclude.now explainer.top in
     let may_take = g.O.Sink.may_take in
     let style = explainer.style in
     let out = c.args.out.now in
@@ -59,8 +59,8 @@ returns-in_err-tell g c =
 pub returns-in_err-print_if_full : goal.returns-in_err-print_if_full
 returns-in_err-print_if_full g c =
     let explainer = c.args.explainer.now in
-    let enters = MayEnter (g.T.Tree.lists explainer.levels.tree.now) (g.T.Tree.gives explainer.levels.tree.now) in
-    let Says : List ℕ → Bool → Explanation → Type 0 = IsExplained enters explainer.levels.selection explainer.exclude.now explainer.top in
+    let enters = MayEnter (g.T.Tree.lists explainer.reader.tree.now) (g.T.Tree.gives explainer.reader.tree.now) in
+    let Says : List ℕ → Bool → Explanation → Type 0 = IsExplained enters explainer.reader.selection explainer.exclude.now explainer.top in
     let may_take = g.O.Sink.may_take in
     let style = explainer.style in
     let out = c.args.out.now in
@@ -87,8 +87,8 @@ returns-in_err-print_if_full g c =
 pub loop-word-preserved : goal.loop-word-preserved
 loop-word-preserved g c =
     let explainer = c.args.explainer.now in
-    let enters = MayEnter (g.T.Tree.lists explainer.levels.tree.now) (g.T.Tree.gives explainer.levels.tree.now) in
-    let Says : List ℕ → Bool → Explanation → Type 0 = IsExplained enters explainer.levels.selection explainer.exclude.now explainer.top in
+    let enters = MayEnter (g.T.Tree.lists explainer.reader.tree.now) (g.T.Tree.gives explainer.reader.tree.now) in
+    let Says : List ℕ → Bool → Explanation → Type 0 = IsExplained enters explainer.reader.selection explainer.exclude.now explainer.top in
     let may_take = g.O.Sink.may_take in
     let style = explainer.style in
     let out = c.args.out.now in
@@ -112,8 +112,8 @@ loop-word-preserved g c =
 pub returns-in_err-print_rest : goal.returns-in_err-print_rest
 returns-in_err-print_rest g c =
     let explainer = c.args.explainer.now in
-    let enters = MayEnter (g.T.Tree.lists explainer.levels.tree.now) (g.T.Tree.gives explainer.levels.tree.now) in
-    let Says : List ℕ → Bool → Explanation → Type 0 = IsExplained enters explainer.levels.selection explainer.exclude.now explainer.top in
+    let enters = MayEnter (g.T.Tree.lists explainer.reader.tree.now) (g.T.Tree.gives explainer.reader.tree.now) in
+    let Says : List ℕ → Bool → Explanation → Type 0 = IsExplained enters explainer.reader.selection explainer.exclude.now explainer.top in
     let may_take = g.O.Sink.may_take in
     let style = explainer.style in
     let out = c.args.out.now in
@@ -131,8 +131,8 @@ returns-in_err-print_rest g c =
 pub returns : goal.returns
 returns g c =
     let explainer = c.args.explainer.now in
-    let enters = MayEnter (g.T.Tree.lists explainer.levels.tree.now) (g.T.Tree.gives explainer.levels.tree.now) in
-    let Says : List ℕ → Bool → Explanation → Type 0 = IsExplained enters explainer.levels.selection explainer.exclude.now explainer.top in
+    let enters = MayEnter (g.T.Tree.lists explainer.reader.tree.now) (g.T.Tree.gives explainer.reader.tree.now) in
+    let Says : List ℕ → Bool → Explanation → Type 0 = IsExplained enters explainer.reader.selection explainer.exclude.now explainer.top in
     let may_take = g.O.Sink.may_take in
     let style = explainer.style in
     let out = c.args.out.now in

@@ -7,10 +7,10 @@ use Rattle.lc_explain.proofs.printing.print_words.Given as goal
 
 abbrev pub invariant-loop-word : goal.invariant-loop-word
 invariant-loop-word g l = record {
-  stacks : AreStacks (MayEnter (g.T.Tree.lists l.explainer.levels.tree.now) (g.T.Tree.gives l.explainer.levels.tree.now))
-      l.explainer.levels.selection l.explainer.exclude.now l.explainer.top l.kept;
+  stacks : AreStacks (MayEnter (g.T.Tree.lists l.explainer.reader.tree.now) (g.T.Tree.gives l.explainer.reader.tree.now))
+      l.explainer.reader.selection l.explainer.exclude.now l.explainer.top l.kept;
   so_far : SoFar g.O.Sink.may_take l.explainer.style
-      (IsExplained (MayEnter (g.T.Tree.lists l.explainer.levels.tree.now) (g.T.Tree.gives l.explainer.levels.tree.now))
-      l.explainer.levels.selection l.explainer.exclude.now l.explainer.top) (map (λ word. word.now) (take l.word-index l.words))
+      (IsExplained (MayEnter (g.T.Tree.lists l.explainer.reader.tree.now) (g.T.Tree.gives l.explainer.reader.tree.now))
+      l.explainer.reader.selection l.explainer.exclude.now l.explainer.top) (map (λ word. word.now) (take l.word-index l.words))
       l.initial.out l.output.block.text.items l.output.outcome l.out;
 }

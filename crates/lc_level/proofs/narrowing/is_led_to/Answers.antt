@@ -1,30 +1,18 @@
-use Rattle.std.proofs.Common.{rules, ap, sym, ◌∙◌, le-ltb}
-use Rattle.std.proofs.lemmas.List.Sorted.{IsPartitionPoint-from_clause}
+use Rattle.std.proofs.Common.{ap, sym, ◌∙◌, option_map, Bor}
 use Rattle.lc_level.specs.Narrowing.{leads_to}
-use Rattle.lc_level.proofs.ByHalves.{finds_entry, is_named_before}
-use Rattle.lc_level.proofs.Leading.{by_first_name, led_there, led_nowhere}
+use Rattle.lc_level.proofs.AskedPaths.{passes}
+use Rattle.lc_level.proofs.Leading.{led_by_named}
+use Rattle.lc_tree.specs.Listing.{EntryModel}
 use Rattle.lc_level.proofs.narrowing.is_led_to.Goals as goal
 
-pub returns-then-at-entries : goal.returns-then-at-entries
-returns-then-at-entries c =
-    let es = c.args.entries.now in
+pub returns-in-Some : goal.returns-in-Some
+returns-in-Some c =
     let rest = c.args.rest.now in
-    let name = c.cut_at_first.result.0.now in
-    let found = finds_entry (λ e. leads_to e rest) name es c.partition_point-at.result c.requires.order
-    (λ parted. IsPartitionPoint-from_clause (is_named_before name) es _ c.partition_point-at.ensures.partitioned parted
-    (λ a r f' k. search rules)) in
-    c.leads_to.ensures ∙ ap (λ e. leads_to e rest) c.index-entries-at.is
-    ∙ sym (led_there es rest c.partition_point-at.result c.index-entries-at.result c.requires.good
-    (by_first_name es rest c.partition_point-at.result name c.cut_at_first.ensures.before found) c.if-at-entries.true)
+    c.leads_to.ensures ∙ ap (passes (λ (e : EntryModel). leads_to e rest)) (ap (option_map (λ (e : Bor EntryModel). e.now)) (sym c.in-Some.is) ∙ c.entry_named.ensures)
+    ∙ sym (led_by_named c.args.entries.now rest c.cut_at_first.result.0.now c.requires c.cut_at_first.ensures.before)
 
-pub returns-else-at-entries : goal.returns-else-at-entries
-returns-else-at-entries c =
-    let es = c.args.entries.now in
+pub returns-in-None : goal.returns-in-None
+returns-in-None c =
     let rest = c.args.rest.now in
-    let name = c.cut_at_first.result.0.now in
-    let found = finds_entry (λ e. leads_to e rest) name es c.partition_point-at.result c.requires.order
-    (λ parted. IsPartitionPoint-from_clause (is_named_before name) es _ c.partition_point-at.ensures.partitioned parted
-    (λ a r f' k. search rules)) in
-    le-ltb _ _ c.if-at-entries.false
-    ∙ sym (led_nowhere es rest c.partition_point-at.result c.requires.good
-    (by_first_name es rest c.partition_point-at.result name c.cut_at_first.ensures.before found) c.if-at-entries.false)
+    ap (passes (λ (e : EntryModel). leads_to e rest)) (ap (option_map (λ (e : Bor EntryModel). e.now)) (sym c.in-None.is) ∙ c.entry_named.ensures)
+    ∙ sym (led_by_named c.args.entries.now rest c.cut_at_first.result.0.now c.requires c.cut_at_first.ensures.before)

@@ -2,7 +2,7 @@ use Rattle.std.proofs.Common.{◌++◌, [], ◌∷◌, List, ℕ, map, ap, ◌�
 use Rattle.lc_table.specs.CellTexts.{cells_of}
 use Rattle.lc_table.specs.Columns.{CellModel, cell_widths, line_in, wider, widths_of}
 use Rattle.lc_table.specs.ScreenText.{row_cells, row_headings, rows_in_columns, sums_lines}
-use Rattle.lc_table.specs.declared.classes.AllSums.{AllSums}
+use Rattle.lc_rows.specs.declared.classes.AllSums.{AllSums}
 use Rattle.lc_table.proofs.Widened.{rows_written}
 use Rattle.lc_table.proofs.summary.push_summary.Goals as goal
 

@@ -8,8 +8,8 @@ abbrev pub invariant-names : goal.invariant-names
 invariant-names g l = record {
   stands : l.path ≡ path_in l.job.path l.rest;
   same : (exclude : List ℕ) (stack : DirStack) →
-      said_beside l.self.levels.selection exclude stack l.job (segments_of l.rest) l.as_dir
-      ≡ said_beside l.self.levels.selection exclude stack l.fn.job (segments_of l.fn.rest) l.as_dir;
+      said_beside l.self.reader.selection exclude stack l.job (segments_of l.rest) l.as_dir
+      ≡ said_beside l.self.reader.selection exclude stack l.fn.job (segments_of l.fn.rest) l.as_dir;
 }
 
 abbrev pub decreases-names : goal.decreases-names

@@ -19,8 +19,8 @@ use Rattle.lc_explain.proofs.explainer.Explainer.descend.Goals as goal
 
 pub returns-in_default-others-clause-found : goal.returns-in_default-others-clause-found
 returns-in_default-others-clause-found g c =
-    let enters = MayEnter (g.T.Tree.lists c.args.self.now.levels.tree.now) (g.T.Tree.gives c.args.self.now.levels.tree.now) in
-    let s = c.args.self.now.levels.selection in
+    let enters = MayEnter (g.T.Tree.lists c.args.self.now.reader.tree.now) (g.T.Tree.gives c.args.self.now.reader.tree.now) in
+    let s = c.args.self.now.reader.selection in
     let exclude = c.args.self.now.exclude.now in
     let top = c.args.self.now.top in
     let path = c.args.path.now in
@@ -41,8 +41,8 @@ returns-in_default-others-clause-found g c =
 
 pub overflow_sub-place : goal.overflow_sub-place
 overflow_sub-place g c =
-    let enters = MayEnter (g.T.Tree.lists c.args.self.now.levels.tree.now) (g.T.Tree.gives c.args.self.now.levels.tree.now) in
-    let s = c.args.self.now.levels.selection in
+    let enters = MayEnter (g.T.Tree.lists c.args.self.now.reader.tree.now) (g.T.Tree.gives c.args.self.now.reader.tree.now) in
+    let s = c.args.self.now.reader.selection in
     let exclude = c.args.self.now.exclude.now in
     let top = c.args.self.now.top in
     let path = c.args.path.now in
@@ -59,8 +59,8 @@ overflow_sub-place g c =
 
 pub slice_bounds-place-count : goal.slice_bounds-place-count
 slice_bounds-place-count g c =
-    let enters = MayEnter (g.T.Tree.lists c.args.self.now.levels.tree.now) (g.T.Tree.gives c.args.self.now.levels.tree.now) in
-    let s = c.args.self.now.levels.selection in
+    let enters = MayEnter (g.T.Tree.lists c.args.self.now.reader.tree.now) (g.T.Tree.gives c.args.self.now.reader.tree.now) in
+    let s = c.args.self.now.reader.selection in
     let exclude = c.args.self.now.exclude.now in
     let top = c.args.self.now.top in
     let path = c.args.path.now in
@@ -77,8 +77,8 @@ slice_bounds-place-count g c =
 
 pub reason-requires : goal.reason-requires
 reason-requires g c =
-    let enters = MayEnter (g.T.Tree.lists c.args.self.now.levels.tree.now) (g.T.Tree.gives c.args.self.now.levels.tree.now) in
-    let s = c.args.self.now.levels.selection in
+    let enters = MayEnter (g.T.Tree.lists c.args.self.now.reader.tree.now) (g.T.Tree.gives c.args.self.now.reader.tree.now) in
+    let s = c.args.self.now.reader.selection in
     let exclude = c.args.self.now.exclude.now in
     let top = c.args.self.now.top in
     let path = c.args.path.now in
@@ -96,8 +96,8 @@ reason-requires g c =
 
 pub returns-in-Some-2-clause-found : goal.returns-in-Some-2-clause-found
 returns-in-Some-2-clause-found g c =
-    let enters = MayEnter (g.T.Tree.lists c.args.self.now.levels.tree.now) (g.T.Tree.gives c.args.self.now.levels.tree.now) in
-    let s = c.args.self.now.levels.selection in
+    let enters = MayEnter (g.T.Tree.lists c.args.self.now.reader.tree.now) (g.T.Tree.gives c.args.self.now.reader.tree.now) in
+    let s = c.args.self.now.reader.selection in
     let exclude = c.args.self.now.exclude.now in
     let top = c.args.self.now.top in
     let path = c.args.path.now in
@@ -120,8 +120,8 @@ returns-in-Some-2-clause-found g c =
 
 pub beside-requires-clause-stands : goal.beside-requires-clause-stands
 beside-requires-clause-stands g c κs within =
-    let enters = MayEnter (g.T.Tree.lists c.args.self.now.levels.tree.now) (g.T.Tree.gives c.args.self.now.levels.tree.now) in
-    let s = c.args.self.now.levels.selection in
+    let enters = MayEnter (g.T.Tree.lists c.args.self.now.reader.tree.now) (g.T.Tree.gives c.args.self.now.reader.tree.now) in
+    let s = c.args.self.now.reader.selection in
     let exclude = c.args.self.now.exclude.now in
     let top = c.args.self.now.top in
     let path = c.args.path.now in
@@ -141,8 +141,8 @@ beside-requires-clause-stands g c κs within =
 
 pub returns-then-not-is_directory-clause-found : goal.returns-then-not-is_directory-clause-found
 returns-then-not-is_directory-clause-found g c =
-    let enters = MayEnter (g.T.Tree.lists c.args.self.now.levels.tree.now) (g.T.Tree.gives c.args.self.now.levels.tree.now) in
-    let s = c.args.self.now.levels.selection in
+    let enters = MayEnter (g.T.Tree.lists c.args.self.now.reader.tree.now) (g.T.Tree.gives c.args.self.now.reader.tree.now) in
+    let s = c.args.self.now.reader.selection in
     let exclude = c.args.self.now.exclude.now in
     let top = c.args.self.now.top in
     let path = c.args.path.now in
@@ -172,8 +172,8 @@ returns-then-not-is_directory-clause-found g c =
 
 pub returns-in-Err-clause-found : goal.returns-in-Err-clause-found
 returns-in-Err-clause-found g c =
-    let enters = MayEnter (g.T.Tree.lists c.args.self.now.levels.tree.now) (g.T.Tree.gives c.args.self.now.levels.tree.now) in
-    let s = c.args.self.now.levels.selection in
+    let enters = MayEnter (g.T.Tree.lists c.args.self.now.reader.tree.now) (g.T.Tree.gives c.args.self.now.reader.tree.now) in
+    let s = c.args.self.now.reader.selection in
     let exclude = c.args.self.now.exclude.now in
     let top = c.args.self.now.top in
     let path = c.args.path.now in
@@ -204,8 +204,8 @@ returns-in-Err-clause-found g c =
 
 pub names-preserved : goal.names-preserved
 names-preserved g c =
-    let enters = MayEnter (g.T.Tree.lists c.args.self.now.levels.tree.now) (g.T.Tree.gives c.args.self.now.levels.tree.now) in
-    let s = c.args.self.now.levels.selection in
+    let enters = MayEnter (g.T.Tree.lists c.args.self.now.reader.tree.now) (g.T.Tree.gives c.args.self.now.reader.tree.now) in
+    let s = c.args.self.now.reader.selection in
     let exclude = c.args.self.now.exclude.now in
     let top = c.args.self.now.top in
     let path = c.args.path.now in
@@ -231,8 +231,8 @@ names-preserved g c =
     let longer_stack = stack ++ entered.0 ∷ [] in
     let on = stack_on enters s exclude top stack path rest here last c.requires.good name others at entered.0
     (c.names.invariant.stacks c.names.at) none inside
-    (entered_path (g.T.Tree.lists c.args.self.now.levels.tree.now)
-    (g.T.Tree.gives c.args.self.now.levels.tree.now) c.in_ok-job.job entered.0
+    (entered_path (g.T.Tree.lists c.args.self.now.reader.tree.now)
+    (g.T.Tree.gives c.args.self.now.reader.tree.now) c.in_ok-job.job entered.0
     entered.1 ∙ ap (λ (j : JobModel). j.path) child)
     (subst (λ j. enters j (Ok entered.0)) child entered.1) in
     record {

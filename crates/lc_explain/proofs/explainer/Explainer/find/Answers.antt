@@ -8,10 +8,10 @@ use Rattle.lc_explain.proofs.explainer.Explainer.find.Goals as goal
 
 pub descend-requires-in-Ok-clause-stacks : goal.descend-requires-in-Ok-clause-stacks
 descend-requires-in-Ok-clause-stacks g c κs within =
-    let lists = g.T.Tree.lists c.args.self.now.levels.tree.now in
-    let gives = g.T.Tree.gives c.args.self.now.levels.tree.now in
+    let lists = g.T.Tree.lists c.args.self.now.reader.tree.now in
+    let gives = g.T.Tree.gives c.args.self.now.reader.tree.now in
     let enters = MayEnter lists gives in
-    let s = c.args.self.now.levels.selection in
+    let s = c.args.self.now.reader.selection in
     let exclude = c.args.self.now.exclude.now in
     let top = c.args.self.now.top in
     let entered = subst (λ o. Goes enters top [] c.args.kept.now c.enter.new.kept (Ok o)) c.in-Ok.is c.in_ok-at.ensures in
@@ -22,10 +22,10 @@ descend-requires-in-Ok-clause-stacks g c κs within =
 
 pub descend-requires-in-Ok-clause-stands : goal.descend-requires-in-Ok-clause-stands
 descend-requires-in-Ok-clause-stands g c κs within =
-    let lists = g.T.Tree.lists c.args.self.now.levels.tree.now in
-    let gives = g.T.Tree.gives c.args.self.now.levels.tree.now in
+    let lists = g.T.Tree.lists c.args.self.now.reader.tree.now in
+    let gives = g.T.Tree.gives c.args.self.now.reader.tree.now in
     let enters = MayEnter lists gives in
-    let s = c.args.self.now.levels.selection in
+    let s = c.args.self.now.reader.selection in
     let exclude = c.args.self.now.exclude.now in
     let top = c.args.self.now.top in
     let entered = subst (λ o. Goes enters top [] c.args.kept.now c.enter.new.kept (Ok o)) c.in-Ok.is c.in_ok-at.ensures in

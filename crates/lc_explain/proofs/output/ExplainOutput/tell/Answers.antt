@@ -9,7 +9,7 @@ pub returns-clause-told : goal.returns-clause-told
 returns-clause-told g c =
     let explainer = c.args.explainer.now in
     let Says : List ℕ → Bool → Explanation → Type 0 =
-    IsExplained (MayEnter (g.T.Tree.lists explainer.levels.tree.now) (g.T.Tree.gives explainer.levels.tree.now)) explainer.levels.selection
+    IsExplained (MayEnter (g.T.Tree.lists explainer.reader.tree.now) (g.T.Tree.gives explainer.reader.tree.now)) explainer.reader.selection
     explainer.exclude.now explainer.top in
     let x = explanation_on explainer.exclude.now c.find.new.kept c.in_ok-found.found in
     let here = subst (λ (d : Bool). Says c.split_slash-as_dir.result.0.now d x) c.split_slash-as_dir.ensures.dir

@@ -13,22 +13,16 @@ use Rattle.lc_level.proofs.EnterLevels.{list_refused, info_refused, own_refused,
 use Rattle.lc_level.proofs.PassedOn.{passed_on}
 use Rattle.lc_level.proofs.level_reader.LevelReader.enter_listed.Goals as goal
 
--- the same of a directory's path and its entries
-git_of : (lists : List ℕ → Listings) (gives : List ℕ → Contents) (texts : Bool) (p q : List ℕ) (es fs : List EntryModel)
-    (r : Result PairRead OpenFault) → p ≡ q → es ≡ fs →
-    ReadsGit lists gives texts (is_top p && has_dir (codes ".git") es) r
-    → ReadsGit lists gives texts (is_top q && has_dir (codes ".git") fs) r
-git_of lists gives texts p q es fs r a b k =
-    subst (λ (d : List ℕ). ReadsGit lists gives texts (is_top d && has_dir (codes ".git") fs) r) a
-    (subst (λ (l : List EntryModel). ReadsGit lists gives texts (is_top p && has_dir (codes ".git") l) r) b k)
+-- the same of a directory's path
+git_of : (lists : List ℕ → Listings) (gives : List ℕ → Contents) (texts : Bool) (p q : List ℕ) (es : List EntryModel)
+    (r : Result PairRead OpenFault) → p ≡ q → ReadsGit lists gives texts (is_top p && has_dir (codes ".git") es) r
+    → ReadsGit lists gives texts (is_top q && has_dir (codes ".git") es) r
+git_of lists gives texts p q es r a k =
+    subst (λ (d : List ℕ). ReadsGit lists gives texts (is_top d && has_dir (codes ".git") es) r) a k
 
-abbrev Own : (List ℕ → Contents) → Bool → List ℕ → List EntryModel → Result PairRead OpenFault → Type 0
-Own gives texts p es r = ReadsBoth gives (own_asked texts p es) r
-
-own_of : (gives : List ℕ → Contents) (texts : Bool) (p q : List ℕ) (es fs : List EntryModel) (r : Result PairRead OpenFault) → p ≡ q
-    → es ≡ fs → Own gives texts p es r → Own gives texts q fs r
-own_of gives texts p q es fs r a b k =
-    subst (λ (d : List ℕ). Own gives texts d fs r) a (subst (λ (l : List EntryModel). Own gives texts p l r) b k)
+own_of : (gives : List ℕ → Contents) (texts : Bool) (p q : List ℕ) (es : List EntryModel) (r : Result PairRead OpenFault) → p ≡ q
+    → ReadsBoth gives (own_asked texts p es) r → ReadsBoth gives (own_asked texts q es) r
+own_of gives texts p q es r a k = subst (λ (d : List ℕ). ReadsBoth gives (own_asked texts d es) r) a k
 
 pub returns-in_err-listing-clause-enters : goal.returns-in_err-listing-clause-enters
 returns-in_err-listing-clause-enters g c =
@@ -46,15 +40,14 @@ returns-in_err-info-clause-enters g c =
     let lists = g.T.Tree.lists c.args.self.now.tree.now in
     let gives = g.T.Tree.gives c.args.self.now.tree.now in
     let texts = c.args.self.now.options.texts in
-    let same : c.entries.result.now ≡ c.in_ok-listing.listing = cc in
-    let is : IsListing c.in_ok-listing.listing = subst IsListing same c.entries.ensures.listing in
+    let is : IsListing c.in_ok-listing.listing = subst IsListing c.listing.view_is c.listing.invariant in
     passed_on (EntersLevel lists gives c.args.job.now texts) c.from_residual-in_err-info.result c.in_err-info.field-0.0
     c.from_residual-in_err-info.ensures.1
     (info_refused lists gives (law.some_content c.args.self.now.tree.now) c.args.job.now texts
     c.in_ok-listing.listing
     (subst (λ (p : List ℕ). lists p (Ok c.in_ok-listing.listing)) c.path-path.ensures c.in_ok-listing.ensures) is c.in_err-info.field-0.0
-    (git_of lists gives texts c.path-path.result.now c.args.job.now.path c.entries.result.now c.in_ok-listing.listing
-    (Err c.in_err-info.field-0.0) c.path-path.ensures same c.in_err-info.ensures))
+    (git_of lists gives texts c.path-path.result.now c.args.job.now.path c.in_ok-listing.listing
+    (Err c.in_err-info.field-0.0) c.path-path.ensures c.in_err-info.ensures))
 
 pub returns-in_err-own-clause-enters : goal.returns-in_err-own-clause-enters
 returns-in_err-own-clause-enters g c =
@@ -62,19 +55,17 @@ returns-in_err-own-clause-enters g c =
     let lists = g.T.Tree.lists c.args.self.now.tree.now in
     let gives = g.T.Tree.gives c.args.self.now.tree.now in
     let texts = c.args.self.now.options.texts in
-    let same : c.entries.result.now ≡ c.in_ok-listing.listing = cc in
-    let again : c.entries-2.result.now ≡ c.in_ok-listing.listing = cc in
-    let is : IsListing c.in_ok-listing.listing = subst IsListing same c.entries.ensures.listing in
+    let is : IsListing c.in_ok-listing.listing = subst IsListing c.listing.view_is c.listing.invariant in
     passed_on (EntersLevel lists gives c.args.job.now texts) c.from_residual-in_err-own.result c.in_err-own.field-0.0
     c.from_residual-in_err-own.ensures.1
     (own_refused lists gives (law.some_content c.args.self.now.tree.now) c.args.job.now texts
     c.in_ok-listing.listing
     (subst (λ (p : List ℕ). lists p (Ok c.in_ok-listing.listing)) c.path-path.ensures c.in_ok-listing.ensures) is c.in_ok-info.info
-    (git_of lists gives texts c.path-path.result.now c.args.job.now.path c.entries.result.now c.in_ok-listing.listing
-    (Ok c.in_ok-info.info) c.path-path.ensures same c.in_ok-info.ensures)
+    (git_of lists gives texts c.path-path.result.now c.args.job.now.path c.in_ok-listing.listing
+    (Ok c.in_ok-info.info) c.path-path.ensures c.in_ok-info.ensures)
     c.in_err-own.field-0.0
-    (own_of gives texts c.path-path.result.now c.args.job.now.path c.entries-2.result.now c.in_ok-listing.listing
-    (Err c.in_err-own.field-0.0) c.path-path.ensures again c.in_err-own.ensures.read))
+    (own_of gives texts c.path-path.result.now c.args.job.now.path c.in_ok-listing.listing
+    (Err c.in_err-own.field-0.0) c.path-path.ensures c.in_err-own.ensures.read))
 
 pub returns-clause-enters : goal.returns-clause-enters
 returns-clause-enters g c =
@@ -84,15 +75,11 @@ returns-clause-enters g c =
     let texts = c.args.self.now.options.texts in
     let j = c.args.job.now in
     let es = c.in_ok-listing.listing in
-    let same : c.entries.result.now ≡ es = cc in
-    let again : c.entries-2.result.now ≡ es = cc in
     let moved : c.into_entries.result.items ≡ es = cc in
-    let is : IsListing es = subst IsListing same c.entries.ensures.listing in
+    let is : IsListing es = subst IsListing moved c.into_entries.ensures.listing in
     let here = subst (λ (p : List ℕ). lists p (Ok es)) c.path-path.ensures c.in_ok-listing.ensures in
-    let git = git_of lists gives texts c.path-path.result.now j.path c.entries.result.now es (Ok c.in_ok-info.info) c.path-path.ensures same
-    c.in_ok-info.ensures in
-    let own = own_of gives texts c.path-path.result.now j.path c.entries-2.result.now es (Ok c.in_ok-own.own) c.path-path.ensures again
-    c.in_ok-own.ensures.read in
+    let git = git_of lists gives texts c.path-path.result.now j.path es (Ok c.in_ok-info.info) c.path-path.ensures c.in_ok-info.ensures in
+    let own = own_of gives texts c.path-path.result.now j.path es (Ok c.in_ok-own.own) c.path-path.ensures c.in_ok-own.ensures.read in
     let read = has_read lists gives (law.some_content c.args.self.now.tree.now) j texts es here is
     c.in_ok-info.info c.in_ok-own.own git own in
     entered lists gives (law.some_content c.args.self.now.tree.now) j texts es here is

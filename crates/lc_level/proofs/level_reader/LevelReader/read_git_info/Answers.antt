@@ -1,6 +1,5 @@
 use Rattle.std.proofs.Common.{◌≡◌, ℕ, true, false, List, codes, subst}
 use Rattle.lc_level.specs.EntryLooks.{has_dir}
-use Rattle.lc_tree.specs.Listing.{EntryModel}
 use Rattle.lc_level.specs.GitInfo.{ReadsGit}
 use Rattle.lc_level.specs.RulePairs.{ReadsBoth}
 use Rattle.lc_level.proofs.GitReads.{info_asked, no_git, git_refused, no_info, info_refused, both_files}
@@ -11,9 +10,9 @@ pub returns-then-not-has_dir : goal.returns-then-not-has_dir
 returns-then-not-has_dir g c =
     let texts = c.args.self.now.options.texts in
     let law = g.met.T.Tree g.world.𝓛 g.world.𝓜 g.world.𝓡 ((λ s x. x), (λ x. x), (λ x. x), λ x. x) in
-    let absent : has_dir (codes ".git") c.args.entries.now ≡ false = cc in
+    let absent : has_dir (codes ".git") c.args.listing.now ≡ false = cc in
     no_git (g.T.Tree.lists c.args.self.now.tree.now) (g.T.Tree.gives c.args.self.now.tree.now) (law.some_content c.args.self.now.tree.now)
-    texts (has_dir (codes ".git") c.args.entries.now) c.none.result absent c.none.ensures
+    texts (has_dir (codes ".git") c.args.listing.now) c.none.result absent c.none.ensures
 
 pub returns-in_err-git : goal.returns-in_err-git
 returns-in_err-git g c =
@@ -21,7 +20,7 @@ returns-in_err-git g c =
     let law = g.met.T.Tree g.world.𝓛 g.world.𝓜 g.world.𝓡 ((λ s x. x), (λ x. x), (λ x. x), λ x. x) in
     let lists = g.T.Tree.lists c.args.self.now.tree.now in
     let gives = g.T.Tree.gives c.args.self.now.tree.now in
-    let git = has_dir (codes ".git") c.args.entries.now in
+    let git = has_dir (codes ".git") c.args.listing.now in
     let there : git ≡ true = cc in
     passed_on (ReadsGit lists gives texts git) c.from_residual.result c.in_err-git.field-0.0 c.from_residual.ensures.1
     (git_refused lists gives (law.some_content c.args.self.now.tree.now) texts git
@@ -32,10 +31,10 @@ pub returns-then-not-has_dir-2 : goal.returns-then-not-has_dir-2
 returns-then-not-has_dir-2 g c =
     let texts = c.args.self.now.options.texts in
     let law = g.met.T.Tree g.world.𝓛 g.world.𝓜 g.world.𝓡 ((λ s x. x), (λ x. x), (λ x. x), λ x. x) in
-    let there : has_dir (codes ".git") c.args.entries.now ≡ true = cc in
+    let there : has_dir (codes ".git") c.args.listing.now ≡ true = cc in
     let absent : has_dir (codes "info") c.in_ok-git.git ≡ false = cc in
     no_info (g.T.Tree.lists c.args.self.now.tree.now) (g.T.Tree.gives c.args.self.now.tree.now) (law.some_content c.args.self.now.tree.now)
-    texts (has_dir (codes ".git") c.args.entries.now) c.in_ok-git.git c.none-then-not-has_dir-2.result there c.in_ok-git.ensures absent
+    texts (has_dir (codes ".git") c.args.listing.now) c.in_ok-git.git c.none-then-not-has_dir-2.result there c.in_ok-git.ensures absent
     c.none-then-not-has_dir-2.ensures
 
 pub returns-in_err-info : goal.returns-in_err-info
@@ -44,7 +43,7 @@ returns-in_err-info g c =
     let law = g.met.T.Tree g.world.𝓛 g.world.𝓜 g.world.𝓡 ((λ s x. x), (λ x. x), (λ x. x), λ x. x) in
     let lists = g.T.Tree.lists c.args.self.now.tree.now in
     let gives = g.T.Tree.gives c.args.self.now.tree.now in
-    let git = has_dir (codes ".git") c.args.entries.now in
+    let git = has_dir (codes ".git") c.args.listing.now in
     let there : git ≡ true = cc in
     let present : has_dir (codes "info") c.in_ok-git.git ≡ true = cc in
     passed_on (ReadsGit lists gives texts git) c.from_residual-in_err-info.result c.in_err-info.field-0.0
@@ -57,14 +56,12 @@ pub returns : goal.returns
 returns g c =
     let texts = c.args.self.now.options.texts in
     let law = g.met.T.Tree g.world.𝓛 g.world.𝓜 g.world.𝓡 ((λ s x. x), (λ x. x), (λ x. x), λ x. x) in
-    let there : has_dir (codes ".git") c.args.entries.now ≡ true = cc in
+    let there : has_dir (codes ".git") c.args.listing.now ≡ true = cc in
     let present : has_dir (codes "info") c.in_ok-git.git ≡ true = cc in
-    let same : c.entries-2.result.now ≡ c.in_ok-info.info = cc in
     let gives = g.T.Tree.gives c.args.self.now.tree.now in
-    let in_directory : ReadsBoth gives (info_asked texts (codes ".git/info") c.entries-2.result.now) c.read_pair.result =
-    subst (λ (d : List ℕ). ReadsBoth gives (info_asked texts d c.entries-2.result.now) c.read_pair.result)
+    let in_directory : ReadsBoth gives (info_asked texts (codes ".git/info") c.in_ok-info.info) c.read_pair.result =
+    subst (λ (d : List ℕ). ReadsBoth gives (info_asked texts d c.in_ok-info.info) c.read_pair.result)
     c.in-Ok.ensures c.read_pair.ensures.read in
     both_files (g.T.Tree.lists c.args.self.now.tree.now) gives (law.some_content c.args.self.now.tree.now)
-    texts (has_dir (codes ".git") c.args.entries.now) c.in_ok-git.git c.in_ok-info.info c.read_pair.result there c.in_ok-git.ensures present
-    c.in_ok-info.ensures
-    (subst (λ (l : List EntryModel). ReadsBoth gives (info_asked texts (codes ".git/info") l) c.read_pair.result) same in_directory)
+    texts (has_dir (codes ".git") c.args.listing.now) c.in_ok-git.git c.in_ok-info.info c.read_pair.result there c.in_ok-git.ensures present
+    c.in_ok-info.ensures in_directory

@@ -24,7 +24,7 @@ pub returns-clause-read : goal.returns-clause-read
 returns-clause-read g c =
     let texts = c.args.self.now.options.texts in
     let gives = g.T.Tree.gives c.args.self.now.tree.now in
-    let here = subst (λ (d : List ℕ). ReadsBoth gives (asked c.is_empty.result texts d c.args.entries.now) c.read_pair.result)
+    let here = subst (λ (d : List ℕ). ReadsBoth gives (asked c.is_empty.result texts d c.args.listing.now) c.read_pair.result)
     c.in-Ok.ensures c.read_pair.ensures.read in
-    subst (λ (b : Bool). ReadsBoth gives (asked b texts c.args.directory.now c.args.entries.now) c.read_pair.result)
+    subst (λ (b : Bool). ReadsBoth gives (asked b texts c.args.directory.now c.args.listing.now) c.read_pair.result)
     (c.is_empty.ensures ∙ top_of_length c.args.directory.now) here

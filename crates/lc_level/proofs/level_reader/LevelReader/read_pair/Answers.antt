@@ -14,7 +14,7 @@ returns-clause-read g c =
         rules_given = first.3;
         attributes_given =
             subst (λ (d : List ℕ). MayGive (g.T.Tree.gives c.args.self.now.tree.now (path_in d c.args.names.attributes.name.now))
-            (has_file c.args.names.attributes.name.now c.args.entries.now) (option_map Ok second.0))
+            (has_file c.args.names.attributes.name.now c.args.listing.now) (option_map Ok second.0))
             c.in-Ok.ensures.same second.2;
       },
     )

@@ -1,6 +1,6 @@
 use Rattle.lc_level.specs.TreeAnswers.{MayAnswer}
 use Rattle.lc_walk.specs.BoardPasses.{IsFree, IsPassOf}
-use Rattle.lc_walk.specs.Worked.{HasWorked}
+use Rattle.lc_walk.specs.WorkerResults.{HasWorked}
 use Rattle.lc_walk.specs.WalkOptions.{asked_by}
 use Rattle.lc_walk.proofs.worker.Worker.run.Given as goal
 
@@ -9,5 +9,5 @@ invariant-loop g l =
     (goal.iterator-loop g).can_next l.iterator'
     × (goal.iterator-loop g).is_finite l.iterator'
     × IsPassOf g.B.Shared.owns g.B.Pass.Token.view l.self.board.now IsFree l.pass
-    × HasWorked (asked_by l.self.options.now) (MayAnswer (g.T.Tree.lists l.self.tree.now) (g.T.Tree.gives l.self.tree.now))
+    × HasWorked (asked_by l.self.options.now) (MayAnswer (g.T.Tree.lists l.self.reader.tree.now) (g.T.Tree.gives l.self.reader.tree.now))
     (g.B.Pass.Token.view l.fn.pass) (g.B.Pass.Token.view l.pass) l.tally

@@ -11,38 +11,38 @@ use Rattle.lc_walk.proofs.worker.Worker.serve_opened.Goals as goal
 pub returns-in-Err-clause-serves : goal.returns-in-Err-clause-serves
 returns-in-Err-clause-serves g c =
     let ask = asked_by c.args.self.now.options.now in
-    let lists = g.T.Tree.lists c.args.self.now.tree.now in
-    let gives = g.T.Tree.gives c.args.self.now.tree.now in
-    rw c.give_up.ensures.mine
+    let lists = g.T.Tree.lists c.args.self.now.reader.tree.now in
+    let gives = g.T.Tree.gives c.args.self.now.reader.tree.now in
+    rw c.break_off.ensures.mine
     (serves_refused ask lists gives _ _ c.args.job c.args.opened c.requires.pass.1 c.requires.opened
-    c.in-Err.cause c.args.tally.now c.give_up.result c.in-Err.ensures.posts c.give_up.ensures.memory)
+    c.in-Err.cause c.args.tally.now c.break_off.result c.in-Err.ensures.posts c.break_off.ensures.memory)
 
 pub returns-in_default-clause-serves : goal.returns-in_default-clause-serves
 returns-in_default-clause-serves g c =
     let ask = asked_by c.args.self.now.options.now in
-    let lists = g.T.Tree.lists c.args.self.now.tree.now in
-    let gives = g.T.Tree.gives c.args.self.now.tree.now in
-    rw c.give_up-in_default.ensures.mine
+    let lists = g.T.Tree.lists c.args.self.now.reader.tree.now in
+    let gives = g.T.Tree.gives c.args.self.now.reader.tree.now in
+    rw c.break_off-in_default.ensures.mine
     (serves_uncounted ask lists gives _ _ c.args.job c.args.opened c.requires.pass.1 c.requires.opened
-    c.args.tally.now c.args.tally.now c.give_up-in_default.result c.in-Ok.ensures.posts.0 c.give_up-in_default.ensures.memory)
+    c.args.tally.now c.args.tally.now c.break_off-in_default.result c.in-Ok.ensures.posts.0 c.break_off-in_default.ensures.memory)
 
 pub returns-in_default-add_files-clause-serves : goal.returns-in_default-add_files-clause-serves
 returns-in_default-add_files-clause-serves g c =
     let ask = asked_by c.args.self.now.options.now in
-    let lists = g.T.Tree.lists c.args.self.now.tree.now in
-    let gives = g.T.Tree.gives c.args.self.now.tree.now in
-    rw c.give_up-in_default-add_files.ensures.mine
+    let lists = g.T.Tree.lists c.args.self.now.reader.tree.now in
+    let gives = g.T.Tree.gives c.args.self.now.reader.tree.now in
+    rw c.break_off-in_default-add_files.ensures.mine
     (serves_uncounted ask lists gives _ _ c.args.job c.args.opened c.requires.pass.1 c.requires.opened
-    c.args.tally.now c.add_files.new.tally c.give_up-in_default-add_files.result c.in-Ok.ensures.posts.0
-    c.give_up-in_default-add_files.ensures.memory)
+    c.args.tally.now c.add_files.new.tally c.break_off-in_default-add_files.result c.in-Ok.ensures.posts.0
+    c.break_off-in_default-add_files.ensures.memory)
 
 pub returns-in-Ok-new-clause-serves : goal.returns-in-Ok-new-clause-serves
 returns-in-Ok-new-clause-serves g c =
     let ask = asked_by c.args.self.now.options.now in
-    let lists = g.T.Tree.lists c.args.self.now.tree.now in
-    let gives = g.T.Tree.gives c.args.self.now.tree.now in
+    let lists = g.T.Tree.lists c.args.self.now.reader.tree.now in
+    let gives = g.T.Tree.gives c.args.self.now.reader.tree.now in
     let counted : IsCounted gives c.args.opened.job (bytes_of c.args.opened.files.items) c.args.opened.absent.items
-    c.in-Ok-count_in_parts.found = rw c.levels.ensures.tree at c.in-Ok-count_in_parts.ensures in
+    c.in-Ok-count_in_parts.found = c.in-Ok-count_in_parts.ensures in
     let added : AddsFiles (map tallied c.in-Ok-count_in_parts.found.files.items) c.args.tally.now c.add_files.new.tally (Ok tt) = rw
     c.deref.ensures.value at c.in-Ok-add_files.ensures in
     let row : c.in-Ok-new.row ≡ _ = c.in-Ok-new.ensures.row in
@@ -61,8 +61,8 @@ returns-in-Ok-new-clause-serves g c =
 pub returns-clause-serves : goal.returns-clause-serves
 returns-clause-serves g c =
     let ask = asked_by c.args.self.now.options.now in
-    let lists = g.T.Tree.lists c.args.self.now.tree.now in
-    let gives = g.T.Tree.gives c.args.self.now.tree.now in
-    rw (c.give_up-in-Err-new.ensures.mine, c.in-Err-new.ensures.job)
+    let lists = g.T.Tree.lists c.args.self.now.reader.tree.now in
+    let gives = g.T.Tree.gives c.args.self.now.reader.tree.now in
+    rw (c.break_off-in-Err-new.ensures.mine, c.in-Err-new.ensures.job)
     (serves_uncounted ask lists gives _ _ c.args.job c.args.opened c.requires.pass.1 c.requires.opened
-    c.args.tally.now c.add_files.new.tally c.give_up-in-Err-new.result c.in-Ok.ensures.posts.0 c.give_up-in-Err-new.ensures.memory)
+    c.args.tally.now c.add_files.new.tally c.break_off-in-Err-new.result c.in-Ok.ensures.posts.0 c.break_off-in-Err-new.ensures.memory)

@@ -1,0 +1,7 @@
+//! The limits of the numbers that a count is asked for.
+
+/// The most threads of a count.
+pub const MAX_THREADS: u32 = 16;
+
+/// The most directories of a count, the counted one included.
+pub const MAX_DIRS: u32 = 1_048_576;

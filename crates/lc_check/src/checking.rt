@@ -1,0 +1,79 @@
+//! The three checks of paths: an input is read whole, then answered, then written.
+
+ghost use Rattle.lc_check.specs.Check.{AnswersCheck, AnswersExplainedCheck, no_rules};
+ghost use Rattle.lc_check.specs.CheckText.{text_by};
+ghost use Rattle.lc_check.specs.ExplainedText.{explained_text_of};
+ghost use Rattle.lc_check.specs.Joined.{rules_part, joined_text};
+ghost use Rattle.lc_text.specs.Styles.{styled};
+
+use crate::explained::{RuleLines, print_explained};
+use crate::joined::split_joined;
+use crate::text::check_text;
+use lc_census::Source;
+use lc_level::RuleText;
+use lc_rules::IgnoreFile;
+use lc_text::{CheckFault, PathStyle, Sink, print, read_input};
+use std::alloc::Global;
+
+/// Reads paths to the input's end, and writes what the rules say of each ([`check_text`]).
+///
+/// After any fault but `Write` nothing was written.
+pub fn check<S: Source, O: Sink>(
+    alloc: Global,
+    rules: &IgnoreFile,
+    style: PathStyle,
+    input: &mut S,
+    out: &mut O,
+) -> Result<(), CheckFault>
+    ensures { AnswersCheck S.may_give O.may_take no_rules (text_by (styled style) rules.now) input.old out.old result input.new out.new }
+{
+    let paths = read_input(alloc, input)?;
+    let text = check_text(alloc, rules, style, &paths)?;
+    print(out, &text)?;
+    Ok(())
+}
+
+/// Reads paths to the input's end, and writes what the rules of a file with this name say of each, and which of them says it.
+///
+/// A line of the text is four fields with tabs between: the word, as [`check_text`] has it; where the rule is that gives it, as
+/// `NAME:LINE`, lines being counted from 1; the text of that line, with its `!`, without its trailing spaces; and the line of paths. Of
+/// `below` it is the rule that ignores the highest ignored directory above the path. Where no rule gives the word, the second field and
+/// the third are dashes. Name, text and path are printed in a style.
+///
+/// The text is written in blocks as it is made ([`Block`](lc_text::Block)). After a fault of the input nothing was written, and after
+/// any other a prefix of the text.
+pub fn check_explained<S: Source, O: Sink>(
+    alloc: Global,
+    name: &[u8],
+    rules: &RuleText,
+    style: PathStyle,
+    input: &mut S,
+    out: &mut O,
+) -> Result<(), CheckFault>
+    ensures { AnswersExplainedCheck S.may_give O.may_take (explained_text_of (styled style) name.now rules.now) input.old out.old result
+        input.new out.new }
+{
+    let paths = read_input(alloc, input)?;
+    let lines = RuleLines::new(alloc, name, rules, style)?;
+    print_explained(alloc, &lines, &paths, out)?;
+    Ok(())
+}
+
+/// Reads rules, a line `--` and paths from one input, and writes what the rules say of each path ([`check_text`]).
+///
+/// Without such a line all of the input is rules, and there are no paths. After any fault but `Write` nothing was written.
+pub fn check_joined<S: Source, O: Sink>(
+    alloc: Global,
+    style: PathStyle,
+    input: &mut S,
+    out: &mut O,
+) -> Result<(), CheckFault>
+    ensures { AnswersCheck S.may_give O.may_take rules_part (joined_text (styled style)) input.old out.old result input.new out.new }
+{
+    let bytes = read_input(alloc, input)?;
+    let (rules, paths) = split_joined(&bytes);
+    let rules = IgnoreFile::read(alloc, rules)?;
+    let text = check_text(alloc, &rules, style, paths)?;
+    print(out, &text)?;
+    Ok(())
+}

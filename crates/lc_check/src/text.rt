@@ -1,0 +1,55 @@
+//! The text of a check.
+
+ghost use Rattle.std.specs.Prelude.{◌≡◌, ◌++◌, OnOk, IfOk};
+ghost use Rattle.lc_check.specs.CheckText.{file_verdict, checked_line, text_by};
+ghost use Rattle.lc_text.specs.Styles.{styled};
+
+use crate::checker::Checker;
+use lc_rules::IgnoreFile;
+use lc_text::{PathStyle, push_styled, split_line, split_slash};
+use std::alloc::{AllocError, Global};
+
+/// Appends the line that is printed for a line of the paths.
+fn push_checked<'a>(
+    checker: &mut Checker<'a>,
+    style: PathStyle,
+    line: &'a [u8],
+    text: &mut Vec<u8>,
+) -> Result<(), AllocError>
+    ensures text { OnOk result (text.new.items
+        ≡ text.old.items ++ checked_line (styled style) (file_verdict checker.old.rules.now) line.now) }
+    ensures rules { checker.new.rules.now ≡ checker.old.rules.now }
+{
+    let (path, is_dir) = split_slash(line);
+    text.extend_from_slice(checker.find(path, is_dir).word().as_bytes())?;
+    text.extend_from_slice(b"\t")?;
+    push_styled(text, style, line)?;
+    text.extend_from_slice(b"\n")
+}
+
+/// Makes the text of a check: what the rules say of each line of paths.
+///
+/// A line of the text is a word, a tab and the line of paths, in a style. One slash at a path's end means a directory. The word is the
+/// first that holds of
+///
+/// - `bad`: no entry of a tree can have this path;
+/// - `below`: some directory above it is ignored, so that nothing can include it again (gitignore(5), PATTERN FORMAT);
+/// - `ignored`, `included` or `none`: what the last rule that matches says.
+pub fn check_text(
+    alloc: Global,
+    rules: &IgnoreFile,
+    style: PathStyle,
+    paths: &[u8],
+) -> Result<Vec<u8>, AllocError>
+    ensures { IfOk result (λ text. text.items ≡ text_by (styled style) rules.now paths.now) }
+{
+    let mut checker = Checker::new(rules);
+    let mut text = Vec::new(alloc);
+    let mut rest = paths;
+    'lines: while !rest.is_empty() {
+        let (line, others) = split_line(rest);
+        push_checked(&mut checker, style, line, &mut text)?;
+        rest = others;
+    }
+    Ok(text)
+}

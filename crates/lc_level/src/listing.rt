@@ -1,0 +1,37 @@
+//! Listing a directory for the sake of its entries or of the rule files in it.
+ghost use Rattle.lc_level.specs.GitInfo.{ListsFor};
+ghost use Rattle.lc_tree.specs.Trees.{Lists};
+
+use crate::level_reader::LevelReader;
+use crate::open_fault::OpenFault;
+use crate::{FaultSite, FaultWord};
+use lc_tree::{Listing, ReadFault, Tree};
+
+impl<T: Tree> LevelReader<'_, T> {
+    /// A listing of the directory at a path, or its fault, which is one of this site.
+    pub(crate) fn listed_for(
+        &self,
+        path: &[u8],
+        listing: Result<Listing, ReadFault>,
+        site: FaultSite,
+    ) -> Result<Listing, OpenFault>
+        requires { Lists (T.lists self.now.tree.now path.now) listing }
+        ensures { ListsFor (T.lists self.now.tree.now path.now) site result }
+    {
+        match listing {
+            Ok(listing) => Ok(listing),
+            Err(fault) => match FaultWord::of(fault) {
+                Some(word) => Err(OpenFault::Faulted(site, word)),
+                None => Err(OpenFault::Memory),
+            },
+        }
+    }
+
+    /// Lists the directory at a path, whose fault is one of this site.
+    pub(crate) fn list_for(&self, path: &[u8], site: FaultSite) -> Result<Listing, OpenFault>
+        ensures { ListsFor (T.lists self.now.tree.now path.now) site result }
+    {
+        let listing = self.tree.list(self.alloc, path);
+        self.listed_for(path, listing, site)
+    }
+}

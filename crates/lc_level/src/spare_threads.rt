@@ -1,0 +1,18 @@
+//! The threads that may help with a large directory.
+
+use lc_tree::IdleThreads;
+
+/// The threads that may help with a large directory: the runtime that starts them, and how many are idle.
+///
+/// ```
+/// let idle = IdleThreads::new();
+/// let threads = SpareThreads { rt: &rt, idle: &idle };
+/// let opened = reader.open_in_parts(&threads, &job, &mut scratch)?;
+/// ```
+#[derive(Drop)]
+pub struct SpareThreads<'h, R> {
+    /// The runtime, which starts a thread for each part but one.
+    pub rt: &'h R,
+    /// How many threads are idle.
+    pub idle: &'h IdleThreads,
+}

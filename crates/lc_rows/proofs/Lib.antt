@@ -1,0 +1,4 @@
+pub mod Sorted
+pub mod Summing
+pub mod RowLaws
+pub mod ClassLaw

@@ -1,0 +1,4 @@
+pub mod ShownRows
+pub mod LentRows
+pub mod Classes
+pub mod Laws

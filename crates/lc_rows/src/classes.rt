@@ -1,0 +1,113 @@
+//! The sums over binary files, and over others.
+
+ghost use Rattle.std.specs.Prelude.{◌≡◌, if◌then◌else◌, IfOk, OnOk};
+ghost use Rattle.std.specs.List.{list_any};
+ghost use Rattle.lc_rows.specs.Classes.{all_sums, binary_sums, classes_of, is_binary, text_sums};
+ghost use Rattle.lc_walk.specs.Sums.{no_files, plus};
+
+use lc_census::Eol;
+use lc_walk::{Report, Sums, TallyRow};
+use std::alloc::AllocError;
+
+/// The sums over the files of each class: those with a NUL byte are binary, and the others are text.
+#[derive(Clone, Copy)]
+pub struct ClassSums {
+    /// The sums over the files without a NUL byte.
+    pub text: Sums,
+    /// The sums over the files with a NUL byte.
+    pub binary: Sums,
+}
+
+/// The sums over all files of a report, and by class where some file is binary.
+#[derive(Clone, Copy)]
+pub struct AllSums {
+    /// The sums over all files.
+    pub total: Sums,
+    /// The sums of each class, where some file is binary.
+    pub classes: Option<ClassSums>,
+}
+
+const NONE: Sums = Sums {
+    files: 0,
+    lines: 0,
+    blank: 0,
+    bytes: 0,
+};
+
+fn plus(a: Sums, b: Sums) -> Result<Sums, AllocError>
+    ensures { IfOk result (λ sums. sums ≡ plus a b) }
+{
+    Ok(Sums {
+        files: a.files.checked_add(b.files).ok_or(AllocError)?,
+        lines: a.lines.checked_add(b.lines).ok_or(AllocError)?,
+        blank: a.blank.checked_add(b.blank).ok_or(AllocError)?,
+        bytes: a.bytes.checked_add(b.bytes).ok_or(AllocError)?,
+    })
+}
+
+fn is_binary(row: &TallyRow) -> bool
+    ensures { result ≡ is_binary row.now }
+{
+    row.eol == Eol::Nul
+}
+
+fn some_binary(rows: &[TallyRow]) -> bool
+    ensures { result ≡ list_any is_binary rows.now }
+{
+    rows.iter().any(is_binary)
+}
+
+impl ClassSums {
+    fn with_row(self, row: &TallyRow) -> Result<ClassSums, AllocError>
+        ensures text { IfOk result (λ sums. sums.text ≡ (if is_binary row.now then self.text else plus self.text row.now.sums)) }
+        ensures binary { IfOk result (λ sums. sums.binary ≡ (if is_binary row.now then plus self.binary row.now.sums else self.binary)) }
+    {
+        if is_binary(row) {
+            Ok(ClassSums {
+                text: self.text,
+                binary: plus(self.binary, row.sums())?,
+            })
+        } else {
+            Ok(ClassSums {
+                text: plus(self.text, row.sums())?,
+                binary: self.binary,
+            })
+        }
+    }
+
+    fn of_all(rows: &[TallyRow]) -> Result<ClassSums, AllocError>
+        ensures text { IfOk result (λ sums. sums.text ≡ text_sums rows.now) }
+        ensures binary { IfOk result (λ sums. sums.binary ≡ binary_sums rows.now) }
+    {
+        let mut sums = ClassSums {
+            text: NONE,
+            binary: NONE,
+        };
+        for row in rows {
+            sums = sums.with_row(row)?;
+        }
+        Ok(sums)
+    }
+
+    fn of(rows: &[TallyRow]) -> Result<Option<ClassSums>, AllocError>
+        ensures { IfOk result (λ classes. classes ≡ classes_of rows.now) }
+    {
+        if some_binary(rows) {
+            Ok(Some(ClassSums::of_all(rows)?))
+        } else {
+            Ok(None)
+        }
+    }
+}
+
+impl AllSums {
+    /// Adds up the rows of a report by class. It stops with an error for rows that no walk has, whose sums overflow.
+    pub fn of(report: &Report) -> Result<AllSums, AllocError>
+        ensures { IfOk result (λ sums. sums ≡ all_sums report.now) }
+    {
+        Ok(AllSums {
+            total: report.totals,
+            classes: ClassSums::of(&report.rows)?,
+        })
+    }
+}

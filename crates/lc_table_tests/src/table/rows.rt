@@ -1,0 +1,156 @@
+//! The rows of a table by each subset of its columns, and sorted by each number.
+
+use crate::table::asking::{HEADER, TSV};
+use crate::table::tables::{Case, NONE, compare_all, has_parts, report_of};
+use lc_census::Eol;
+use lc_rules::TextState;
+use lc_text::{Columns, SortBy, TableOptions};
+use lc_walk::Report;
+use std::alloc::{AllocError, Global};
+use std::process::Abort;
+use std::test::Fail;
+
+/// What stands below the rows.
+const TOTALS: &[u8] = b"total\t*\t*\t7\t30\t8\t157\ndirectories\t2\n";
+
+const SUMMED: Case = Case {
+    name: "rows_to_be_summed",
+    options: TSV,
+    rows: &[
+        (None, NONE, Eol::Lf, [1, 4, 1, 9]),
+        (Some(b"c"), TextState::Set, Eol::Lf, [2, 10, 3, 70]),
+        (Some(b"c"), TextState::Set, Eol::CrLf, [1, 10, 0, 40]),
+        (Some(b"c"), NONE, Eol::Lf, [1, 2, 3, 8]),
+        (Some(b"h"), TextState::Set, Eol::Lf, [2, 4, 1, 30]),
+    ],
+    totals: [7, 30, 8, 157],
+    directories: 2,
+    files: &[],
+    faults: &[],
+    lines: TOTALS,
+};
+
+const NO_ROWS: &[Case] = &[Case {
+    name: "no_rows",
+    options: TableOptions {
+        by: Columns {
+            ext: false,
+            text: false,
+            eol: false,
+        },
+        sort: Some(SortBy::Bytes),
+        ..TSV
+    },
+    rows: &[],
+    totals: [0, 0, 0, 0],
+    directories: 1,
+    files: &[],
+    faults: &[],
+    lines: b"total\t*\t*\t0\t0\t0\t0\ndirectories\t1\n",
+}];
+
+/// What is shown, whether the three columns are kept, the number that sorts, and the rows.
+type ShapeCase = (&'static str, [bool; 3], Option<SortBy>, &'static [u8]);
+
+const CASES: &[ShapeCase] = &[
+    (
+        "ext_text_eol",
+        [true, true, true],
+        None,
+        b"-\t-\tlf\t1\t4\t1\t9\n.c\tset\tlf\t2\t10\t3\t70\n.c\tset\tcrlf\t1\t10\t0\t40\n.c\t-\tlf\t1\t2\t3\t8\n.h\tset\tlf\t2\t4\t1\t30\n",
+    ),
+    (
+        "ext_text",
+        [true, true, false],
+        None,
+        b"-\t-\t*\t1\t4\t1\t9\n.c\tset\t*\t3\t20\t3\t110\n.c\t-\t*\t1\t2\t3\t8\n.h\tset\t*\t2\t4\t1\t30\n",
+    ),
+    (
+        "ext_eol",
+        [true, false, true],
+        None,
+        b"-\t*\tlf\t1\t4\t1\t9\n.c\t*\tlf\t3\t12\t6\t78\n.c\t*\tcrlf\t1\t10\t0\t40\n.h\t*\tlf\t2\t4\t1\t30\n",
+    ),
+    (
+        "ext",
+        [true, false, false],
+        None,
+        b"-\t*\t*\t1\t4\t1\t9\n.c\t*\t*\t4\t22\t6\t118\n.h\t*\t*\t2\t4\t1\t30\n",
+    ),
+    (
+        "text_eol",
+        [false, true, true],
+        None,
+        b"*\tset\tlf\t4\t14\t4\t100\n*\tset\tcrlf\t1\t10\t0\t40\n*\t-\tlf\t2\t6\t4\t17\n",
+    ),
+    (
+        "text",
+        [false, true, false],
+        None,
+        b"*\tset\t*\t5\t24\t4\t140\n*\t-\t*\t2\t6\t4\t17\n",
+    ),
+    (
+        "eol",
+        [false, false, true],
+        None,
+        b"*\t*\tlf\t6\t20\t8\t117\n*\t*\tcrlf\t1\t10\t0\t40\n",
+    ),
+    (
+        "no_columns",
+        [false, false, false],
+        None,
+        b"*\t*\t*\t7\t30\t8\t157\n",
+    ),
+    (
+        "sorted_by_files",
+        [true, true, true],
+        Some(SortBy::Files),
+        b".c\tset\tlf\t2\t10\t3\t70\n.h\tset\tlf\t2\t4\t1\t30\n-\t-\tlf\t1\t4\t1\t9\n.c\tset\tcrlf\t1\t10\t0\t40\n.c\t-\tlf\t1\t2\t3\t8\n",
+    ),
+    (
+        "sorted_by_lines",
+        [true, true, true],
+        Some(SortBy::Lines),
+        b".c\tset\tlf\t2\t10\t3\t70\n.c\tset\tcrlf\t1\t10\t0\t40\n-\t-\tlf\t1\t4\t1\t9\n.h\tset\tlf\t2\t4\t1\t30\n.c\t-\tlf\t1\t2\t3\t8\n",
+    ),
+    (
+        "sorted_by_blank",
+        [true, true, true],
+        Some(SortBy::Blank),
+        b".c\tset\tlf\t2\t10\t3\t70\n.c\t-\tlf\t1\t2\t3\t8\n-\t-\tlf\t1\t4\t1\t9\n.h\tset\tlf\t2\t4\t1\t30\n.c\tset\tcrlf\t1\t10\t0\t40\n",
+    ),
+    (
+        "sorted_by_bytes",
+        [true, true, true],
+        Some(SortBy::Bytes),
+        b".c\tset\tlf\t2\t10\t3\t70\n.c\tset\tcrlf\t1\t10\t0\t40\n.h\tset\tlf\t2\t4\t1\t30\n-\t-\tlf\t1\t4\t1\t9\n.c\t-\tlf\t1\t2\t3\t8\n",
+    ),
+    (
+        "ext_sorted_by_blank",
+        [true, false, false],
+        Some(SortBy::Blank),
+        b".c\t*\t*\t4\t22\t6\t118\n-\t*\t*\t1\t4\t1\t9\n.h\t*\t*\t2\t4\t1\t30\n",
+    ),
+];
+
+/// Whether the rows of a report with these options are those of the case.
+fn has_rows(alloc: Global, report: &Report, case: &ShapeCase) -> Result<bool, AllocError> {
+    let (_, [ext, text, eol], sort, rows) = *case;
+    let by = Columns { ext, text, eol };
+    let options = TableOptions { by, sort, ..TSV };
+    has_parts(alloc, report, options, (HEADER, rows, TOTALS))
+}
+
+#[test]
+fn rows_by_columns_and_sorted(rt: HostRuntime) -> Result<(), Fail> {
+    let report = report_of(rt.alloc(), &SUMMED)?;
+    for case in CASES {
+        assert!(rt; has_rows(rt.alloc(), &report, case)?, "{}", case.0);
+    }
+    Ok(())
+}
+
+#[test]
+fn no_rows_by_no_columns(rt: HostRuntime) -> Result<(), Fail> {
+    compare_all(&rt, HEADER, NO_ROWS)
+}

@@ -1,0 +1,75 @@
+//! Why the paths of an input were not answered.
+
+ghost use Rattle.std.specs.Prelude.{◌≡◌};
+ghost use Rattle.lc_text.specs.CheckFaults.{input_fault, rules_fault, print_fault};
+ghost use Rattle.lc_text.specs.declared.check_fault.CheckFault.TheVariants.{Memory};
+
+use crate::printing::PrintFault;
+use lc_census::WholeFault;
+use lc_rules::RuleFault;
+use std::alloc::AllocError;
+use thiserror::Error;
+
+/// Why a check or an explanation of paths was not written, or not whole.
+#[derive(Debug, Clone, Copy, PartialEq, Eq, Error)]
+pub enum CheckFault {
+    /// A read of the input failed.
+    #[error("cannot read input")]
+    Read,
+    /// The input has over [`MAX_INPUT`](crate::MAX_INPUT) bytes.
+    #[error("input too long")]
+    InputTooLong,
+    /// The rules that come with the paths have over [`MAX_RULE_BYTES`](lc_rules::MAX_RULE_BYTES) bytes. Only a check of rules and
+    /// paths in one input stops with it.
+    #[error("rules too long")]
+    RulesTooLong,
+    /// There is no memory for the input, the rules or the text. A prefix of a text that is written as it is made may have been
+    /// written.
+    #[error("out of memory")]
+    Memory,
+    /// A write failed, or took nothing. What was written is a prefix of the text.
+    #[error("cannot write")]
+    Write,
+}
+
+impl From<AllocError> for CheckFault {
+    ghost from_gives = { λ _ fault. fault ≡ Memory };
+
+    fn from(_refused: AllocError) -> CheckFault {
+        CheckFault::Memory
+    }
+}
+
+impl From<WholeFault> for CheckFault {
+    ghost from_gives = { λ whole fault. fault ≡ input_fault whole };
+
+    fn from(fault: WholeFault) -> CheckFault {
+        match fault {
+            WholeFault::Read => CheckFault::Read,
+            WholeFault::TooLong => CheckFault::InputTooLong,
+            WholeFault::Memory => CheckFault::Memory,
+        }
+    }
+}
+
+impl From<RuleFault> for CheckFault {
+    ghost from_gives = { λ rule fault. fault ≡ rules_fault rule };
+
+    fn from(fault: RuleFault) -> CheckFault {
+        match fault {
+            RuleFault::TooLong => CheckFault::RulesTooLong,
+            RuleFault::Memory => CheckFault::Memory,
+        }
+    }
+}
+
+impl From<PrintFault> for CheckFault {
+    ghost from_gives = { λ print fault. fault ≡ print_fault print };
+
+    fn from(fault: PrintFault) -> CheckFault {
+        match fault {
+            PrintFault::Write => CheckFault::Write,
+            PrintFault::Memory => CheckFault::Memory,
+        }
+    }
+}

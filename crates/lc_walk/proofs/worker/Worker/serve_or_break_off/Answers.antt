@@ -1,0 +1,23 @@
+use Rattle.std.proofs.Common.{sym, ◌∙◌, ap}
+use Rattle.std.specs.Result.{is_err}
+use Rattle.lc_level.specs.TreeAnswers.{MayAnswer}
+use Rattle.lc_walk.specs.WalkOptions.{asked_by}
+use Rattle.lc_walk.proofs.RowEnds.{serves_unasked}
+use Rattle.lc_walk.proofs.Working.{refused_serves}
+use Rattle.lc_walk.proofs.worker.Worker.serve_or_break_off.Goals as goal
+use Rattle.lc_walk.proofs.worker.Worker.serve_or_break_off.Goals.{in-Some+in-Some-tally, in_default}
+
+pub returns-then-is_err-clause-goes_on : goal.returns-then-is_err-clause-goes_on
+returns-then-is_err-clause-goes_on g c =
+    let ask = asked_by c.args.self.now.options.now in
+    let lists = g.T.Tree.lists c.args.self.now.reader.tree.now in
+    let gives = g.T.Tree.gives c.args.self.now.reader.tree.now in
+    elim c.match-scratch.branch [
+      | in-Some+in-Some-tally w ↦
+          rw (w.pass-is, w.in-Some-tally.is)
+          (refused_serves ask (MayAnswer lists gives) _ _ _ _ w.serve-served.result
+          (ap is_err (sym w.served-is) ∙ sym c.is_err.ensures.value ∙ c.if-is_err.true) w.serve-served.ensures.serves)
+      | in_default w ↦
+          rw (w.pass-is, w.break_off-served.ensures.mine, w.of.ensures)
+          (serves_unasked ask lists gives _ c.args.job c.args.tally.now c.requires.1)
+    ]

@@ -1,0 +1,108 @@
+-- What a worker leaves.
+use Rattle.std.specs.Prelude.{◌⊎◌, ◌≡◌, ℕ, Bool, List, [], ◌∷◌, ◌++◌, Option, Some, None, map, flat_map, length, slice_get}
+use Rattle.lc_board.specs.Holding.{job_held, posts_held}
+use Rattle.lc_board.specs.Pass.{Pass}
+use Rattle.lc_board.specs.declared.event.Event.{Event}
+use Rattle.lc_board.specs.declared.event.Event.TheVariants.{Post, Claim, Return, Fault, Over}
+use Rattle.lc_board.specs.declared.answers.Ended.{Ended}
+use Rattle.lc_board.specs.declared.answers.Ended.TheVariants as ended
+use Rattle.lc_walk.specs.Tally.{TallyModel, CountedFile, StandsFor}
+use Rattle.lc_board.specs.Ends.{EachEnd}
+use Rattle.lc_level.specs.Answers.{Answers}
+use Rattle.lc_level.specs.Job.{JobModel}
+use Rattle.lc_walk.specs.Rows.{row_of, job_of}
+use Rattle.lc_walk.specs.Lawful.{Asked, Says, files_at}
+use Rattle.lc_level.specs.WellFormed.{IsWellFormed}
+use Rattle.lc_walk.specs.TreeOfRows.{numbers_below}
+use Rattle.lc_walk.specs.WalkReport.{tallied}
+use Rattle.lc_walk.specs.Assembled.{IsBrokenBy}
+use Rattle.lc_walk.specs.declared.broken_cause.BrokenCause.TheVariants.{Memory}
+use Rattle.lc_walk.specs.declared.row.Row.{Row}
+use Rattle.lc_walk.specs.declared.row.Row.TheVariants.{Listed, Faulted, Broken}
+
+-- the counted files of a returned row, by its answers
+abbrev pub returned_files : Asked → Row → Answers → List CountedFile
+returned_files ask (Listed r) a = map tallied (files_at ask.selection r.job a)
+returned_files ask (Faulted r) a = []
+returned_files ask (Broken r) a = []
+
+-- a tree may give these answers for the directory of a row; of one that was broken off for want of memory it may have been asked nothing
+abbrev pub MayStand : (List ℕ → Answers → Type 0) → List (ℕ × JobModel) → Row → Answers → Type 0
+MayStand MayAnswer posts r a = (IsBrokenBy Memory r × (posts ≡ [])) ⊎ MayAnswer (job_of r).path a
+
+-- a row is lawful with these answers for the claim that it ends, by the job and the posts of that claim, and the tree may give them
+pub record IsLawfulEnd (ask : Asked) (full : Bool) (MayAnswer : List ℕ → Answers → Type 0)
+    (got : Option JobModel) (posts : List (ℕ × JobModel)) (e : Ended Row) (a : Answers) : Type 0 where
+  pub job_is : got ≡ Some (job_of (row_of e))
+  pub well_formed : IsWellFormed a
+  pub says : Says ask full e a posts
+  pub may : MayStand MayAnswer posts (row_of e) a
+
+-- each row that some events gave is lawful with its answers: one for each row, the newest first. It speaks of each claim alone: until
+-- the board is closed nothing says that no number is got twice
+abbrev pub AreLawful : Asked → Bool → (List ℕ → Answers → Type 0) → List (Event JobModel Row) → List Answers → Type 0
+AreLawful ask full MayAnswer m given = EachEnd (λ got posts e a. IsLawfulEnd ask full MayAnswer got posts e a) m given
+
+-- the same of the rows that some events gave after others, which may have begun their claims
+module _ (ask : Asked) (full : Bool) (MayAnswer : List ℕ → Answers → Type 0) (old : List (Event JobModel Row)) where
+  abbrev pub AreLawfulSince : List (Event JobModel Row) → List Answers → Type 0
+  AreLawfulSince [] [] = Unit {0}
+  AreLawfulSince [] (a ∷ given) = ⊥
+  AreLawfulSince (Post w p i j ∷ m) given = AreLawfulSince m given
+  AreLawfulSince (Claim w i j ∷ m) given = AreLawfulSince m given
+  AreLawfulSince (Return w i r ∷ m) [] = ⊥
+  AreLawfulSince (Return w i r ∷ m) (a ∷ given) =
+      IsLawfulEnd ask full MayAnswer (job_held (m ++ old)) (posts_held (m ++ old)) (ended.Returned r) a × AreLawfulSince m given
+  AreLawfulSince (Fault w i r ∷ m) [] = ⊥
+  AreLawfulSince (Fault w i r ∷ m) (a ∷ given) =
+      IsLawfulEnd ask full MayAnswer (job_held (m ++ old)) (posts_held (m ++ old)) (ended.Faulted r) a × AreLawfulSince m given
+  AreLawfulSince (Over w ∷ m) given = AreLawfulSince m given
+
+-- the counted files of the rows that were returned as Listed, by these answers
+abbrev pub files_given : Asked → List (Event JobModel Row) → List Answers → List CountedFile
+files_given ask [] given = []
+files_given ask (Post w p i j ∷ m) given = files_given ask m given
+files_given ask (Claim w i j ∷ m) given = files_given ask m given
+files_given ask (Return w i r ∷ m) [] = []
+files_given ask (Return w i r ∷ m) (a ∷ given) = returned_files ask r a ++ files_given ask m given
+files_given ask (Fault w i r ∷ m) [] = []
+files_given ask (Fault w i r ∷ m) (a ∷ given) = files_given ask m given
+files_given ask (Over w ∷ m) given = files_given ask m given
+
+-- a tally, where there is one, is that of these files
+abbrev pub TalliesFor : Option TallyModel → List CountedFile → Type 0
+TalliesFor None fs = Unit {0}
+TalliesFor (Some t) fs = StandsFor t fs
+
+-- some row was broken off for want of memory
+abbrev pub RanOutOfMemory : List (Event JobModel Row) → Type 0
+RanOutOfMemory [] = ⊥
+RanOutOfMemory (Post w p i j ∷ m) = RanOutOfMemory m
+RanOutOfMemory (Claim w i j ∷ m) = RanOutOfMemory m
+RanOutOfMemory (Return w i r ∷ m) = IsBrokenBy Memory r ⊎ RanOutOfMemory m
+RanOutOfMemory (Fault w i r ∷ m) = RanOutOfMemory m
+RanOutOfMemory (Over w ∷ m) = RanOutOfMemory m
+
+-- from one pass to a later one of the same worker: what the worker has done since, each row of it lawful with some answers that the
+-- tree may give, and its tally, where it has one, which is that of the files of these rows
+pub record HasWorked (ask : Asked) (MayAnswer : List ℕ → Answers → Type 0)
+    (old new : Pass JobModel Row) (tally : Option TallyModel) : Type 0 where
+  pub worker : new.worker ≡ old.worker
+  pub since : List (Event JobModel Row)
+  pub mine : new.mine ≡ since ++ old.mine
+  pub answers : List Answers
+  pub lawful : AreLawfulSince ask new.full MayAnswer old.mine since answers
+  pub tallied : TalliesFor tally (files_given ask since answers)
+  pub untallied : tally ≡ None → RanOutOfMemory since
+
+-- the pass has found that the board is over
+abbrev pub FoundOver : Pass JobModel Row → Type 0
+FoundOver p = (m : List (Event JobModel Row)) × (p.mine ≡ Over p.worker ∷ m)
+
+-- the counted files of the rows that all passes returned, by their answers, pass by pass
+abbrev pub files_of_pass : Asked → List Answers → Option (Pass JobModel Row) → List CountedFile
+files_of_pass ask answers None = []
+files_of_pass ask answers (Some p) = files_given ask p.mine answers
+
+abbrev pub files_of_passes : Asked → (ℕ → List Answers) → List (Pass JobModel Row) → List CountedFile
+files_of_passes ask answers passes = flat_map (λ w. files_of_pass ask (answers w) (slice_get passes w)) (numbers_below (length passes))
