@@ -12,7 +12,6 @@ mod narrowed;
 mod other_boards;
 mod reports;
 mod rows;
-mod same;
 mod stress;
 mod tallies;
 mod told;

@@ -159,7 +159,7 @@ const DOCUMENTED: &[Case] = &[
 ];
 
 #[test]
-fn each_case_holds(rt: HostRuntime) -> Result<(), Fail> {
+fn patterns_and_paths(rt: HostRuntime) -> Result<(), Fail> {
     check(&rt, rt.alloc(), STAR)?;
     check(&rt, rt.alloc(), LAST_DOUBLE_STAR)?;
     check(&rt, rt.alloc(), DOUBLE_STAR)?;

@@ -13,7 +13,7 @@ const LONG: &[(&str, &str)] = &[("=", ""), ("/!", ""), ("@", ""), ("=", "--exclu
 fn check_long(rt: &impl Abort, alloc: Global, name: &str) -> Result<(), AllocError> {
     for (kind, asked) in LONG {
         let sketch = format!(in alloc; "a{name}{kind}")?;
-        let case: Case = (kind, &sketch, asked, "Broken(TooDeep)");
+        let case: Case = (kind, &sketch, asked, "TooDeep");
         check(rt, alloc, &[case])?;
     }
     let (sketch, wanted) = (

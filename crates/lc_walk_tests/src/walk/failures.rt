@@ -1,36 +1,25 @@
 //! Trees one call of which fails: what that call was for is at fault, and all else is found.
 ghost use Rattle.std.specs.Prelude.{◌<◌, IfOk, IfSome};
 
-use crate::walk::same::is_same_file;
+use crate::walk::told::push_faults;
 use crate::walk::walked::{BOARDS, Board, NO_LISTS, report_of, walk_options};
-use crate::walk::walks::{LINE, WITH_INFO};
+use crate::walk::walks::{IGNORING, WITH_INFO};
 use lc_level::FaultWord;
+use lc_tests::{has_words, tree};
+use lc_tree::MemTree;
 use lc_tree::trials::{FailingCall, FailingTree};
-use lc_tree::{MemTree, Sketch};
-use lc_walk::{FileLine, Options, Report, ReportLists, Sums};
+use lc_walk::{FileLine, Options, Report, ReportLists};
 use std::alloc::{AllocError, Global};
 use std::process::Abort;
 use std::sync::Wait;
 use std::test::Fail;
 use std::thread::Threads;
 
-const INFO: Sketch = Sketch::Dir(&[(b"exclude", Sketch::File(b"*.o\n"))]);
-
-const TREE: Sketch = Sketch::Dir(&[
-    (b".git", Sketch::Dir(&[(b"info", INFO)])),
-    (b".gitignore", Sketch::File(b"*.log\n")),
-    (b"a", Sketch::File(b"1\n2\n")),
-    (
-        b"d",
-        Sketch::Dir(&[
-            (b".gitattributes", Sketch::File(b"b text\n")),
-            (b"b", Sketch::File(b"22\n\n")),
-            (b"c.log", LINE),
-            (b"c.o", LINE),
-            (b"e", Sketch::Dir(&[(b"c", LINE)])),
-        ]),
-    ),
-]);
+const TREE: &str = "
+    .git/{ info/{ exclude=*.o; } }
+    .gitignore=*.log;
+    a=1;2;
+    d/{ .gitattributes=b_text; b=22;; c.log c.o e/{ c } }";
 
 /// What may be at fault, how many directories are then read, and how the paths of the files begin that are not counted.
 const OUTCOMES: [(&[u8], u64, &[u8]); 13] = [
@@ -66,6 +55,10 @@ fn walk_failing<R: Threads + Wait + Sync + Abort>(
     };
     let tree = FailingTree { tree, call };
     report_of(rt, board.walk(rt, alloc, &tree, &options))
+}
+
+fn is_same_file(file: &FileLine, other: &FileLine) -> bool {
+    file.path == other.path && file.text == other.text && file.count == other.count
 }
 
 /// The lines are those of the whole walk but for the paths that begin so, and the totals are theirs.
@@ -140,7 +133,7 @@ fn check_calls<R: Threads + Wait + Sync + Abort>(
     alloc: Global,
     run: (Board, u32),
 ) -> Result<(), AllocError> {
-    let node = TREE.node(alloc)?;
+    let node = tree(alloc, TREE)?;
     let tree = MemTree::new(&node);
     let none = FailingCall::new(u64::MAX);
     let whole = walk_failing(rt, alloc, &tree, &none, (run.0, 1))?;
@@ -160,113 +153,61 @@ fn check_calls<R: Threads + Wait + Sync + Abort>(
     Ok(())
 }
 
-/// The files, lines, blank lines and bytes that a walk finds, its directories, and what is at fault.
-type Finding<'a> = ([u64; 4], u64, Option<&'a [u8]>);
-
-/// A tree whose rules ignore `a.log` and `build`: whether its rules, `a.log`, `keep.log`, `build/x.c` and `src/build/y.c` can be read.
-macro_rules! ignoring {
-    ($rules:ident, $log:ident, $kept:ident, $ignored:ident, $built:ident) => {
-        Sketch::Dir(&[
-            (
-                b".gitignore",
-                Sketch::$rules(b"*.log\n!keep.log\n/build/\n"),
-            ),
-            (b"a.log", Sketch::$log(b"x\n")),
-            (b"keep.log", Sketch::$kept(b"k\n")),
-            (b"build", Sketch::Dir(&[(b"x.c", Sketch::$ignored(b"x\n"))])),
-            (
-                b"src",
-                Sketch::Dir(&[(
-                    b"build",
-                    Sketch::Dir(&[(b"y.c", Sketch::$built(b"int y;\r\n"))]),
-                )]),
-            ),
-        ])
-    };
-}
-
-const IGNORING: Sketch = ignoring!(File, File, File, File, File);
-
-/// Calls of one worker that fail, each in turn: the place of the first, and of the one after the last; what is then found; and how many
-/// calls are begun, where the line is about that.
-type Step<'a> = (u64, u64, Finding<'a>, Option<u64>);
+/// Calls of one worker that fail, each in turn: the place of the first, and of the one after the last; what is then found: files, lines,
+/// blank lines and bytes, directories, and what is at fault; and how many calls are begun, where the line is about that.
+type Step<'a> = (u64, u64, &'a str, Option<u64>);
 
 /// What one worker asks of a tree, in its order. A listing is one call; a file is opened, read, and read to its end. The last line is of
 /// no call.
 const OF_IGNORING: &[Step] = &[
-    (0, 1, ([0, 0, 0, 0], 0, Some(b"")), None),
-    (1, 4, ([0, 0, 0, 0], 0, Some(b".gitignore")), None),
-    (4, 7, ([2, 2, 0, 10], 3, Some(b".gitignore")), None),
-    (7, 10, ([2, 4, 0, 32], 3, Some(b"keep.log")), None),
-    (10, 11, ([2, 4, 0, 26], 1, Some(b"src")), None),
-    (11, 12, ([2, 4, 0, 26], 2, Some(b"src/build")), None),
-    (12, 15, ([2, 4, 0, 26], 3, Some(b"src/build/y.c")), None),
+    (0, 1, "0 0 0 0 in 0, fault read .", None),
+    (1, 4, "0 0 0 0 in 0, fault read .gitignore", None),
+    (4, 7, "2 2 0 10 in 3, fault read .gitignore", None),
+    (7, 10, "2 4 0 32 in 3, fault read keep.log", None),
+    (10, 11, "2 4 0 26 in 1, fault read src", None),
+    (11, 12, "2 4 0 26 in 2, fault read src/build", None),
+    (12, 15, "2 4 0 26 in 3, fault read src/build/y.c", None),
     (15, 16, WHOLE, Some(15)),
 ];
 
 const OF_INFO: &[Step] = &[
-    (0, 1, ([0, 0, 0, 0], 0, Some(b"")), None),
-    (1, 2, ([0, 0, 0, 0], 0, Some(b".git")), None),
-    (2, 3, ([0, 0, 0, 0], 0, Some(b".git/info")), None),
-    (3, 6, ([0, 0, 0, 0], 0, Some(b".git/info/exclude")), None),
-    (6, 9, ([0, 0, 0, 0], 0, Some(b".git/info/attributes")), None),
-    (9, 12, ([0, 0, 0, 0], 0, Some(b".gitignore")), None),
-    (12, 15, ([0, 0, 0, 0], 0, Some(b".gitattributes")), None),
-    (15, 18, ([2, 2, 0, 6], 1, Some(b".gitattributes")), None),
-    (18, 21, ([2, 2, 0, 12], 1, Some(b".gitignore")), None),
-    (21, 24, ([2, 2, 0, 14], 1, Some(b"m.c")), None),
-    (24, 25, ([3, 3, 0, 16], 1, None), Some(24)),
+    (0, 1, "0 0 0 0 in 0, fault read .", None),
+    (1, 2, "0 0 0 0 in 0, fault read .git", None),
+    (2, 3, "0 0 0 0 in 0, fault read .git/info", None),
+    (3, 6, "0 0 0 0 in 0, fault read .git/info/exclude", None),
+    (6, 9, "0 0 0 0 in 0, fault read .git/info/attributes", None),
+    (9, 12, "0 0 0 0 in 0, fault read .gitignore", None),
+    (12, 15, "0 0 0 0 in 0, fault read .gitattributes", None),
+    (15, 18, "2 2 0 6 in 1, fault read .gitattributes", None),
+    (18, 21, "2 2 0 12 in 1, fault read .gitignore", None),
+    (21, 24, "2 2 0 14 in 1, fault read m.c", None),
+    (24, 25, "3 3 0 16 in 1", Some(24)),
 ];
 
-const WHOLE: Finding = ([3, 5, 0, 34], 3, None);
+const WHOLE: &str = "3 5 0 34 in 3";
 
 /// A place that no call has.
 const NO_CALL: u64 = 1_000_000;
 
-/// What is found where no call fails.
-macro_rules! unfailed {
-    ($finding:expr) => {
-        &[(NO_CALL, NO_CALL + 1, $finding, None)]
-    };
-}
+/// Each call of a walk fails.
+const FAILING_CALLS: &[(&str, &[Step])] = &[(IGNORING, OF_IGNORING), (WITH_INFO, OF_INFO)];
 
-/// Each call of a walk fails; then each file of a tree can't be read.
-const FAILING: &[(Sketch, &[Step])] = &[
-    (IGNORING, OF_IGNORING),
-    (WITH_INFO, OF_INFO),
-    (
-        ignoring!(Failing, File, File, File, File),
-        unfailed!(([0, 0, 0, 0], 0, Some(b".gitignore"))),
-    ),
-    (ignoring!(File, Failing, File, File, File), unfailed!(WHOLE)),
-    (
-        ignoring!(File, File, Failing, File, File),
-        unfailed!(([2, 4, 0, 32], 3, Some(b"keep.log"))),
-    ),
-    (ignoring!(File, File, File, Failing, File), unfailed!(WHOLE)),
-    (
-        ignoring!(File, File, File, File, Failing),
-        unfailed!(([2, 4, 0, 26], 3, Some(b"src/build/y.c"))),
-    ),
+/// A file of `IGNORING` fails.
+const FAILING_FILES: &[(&str, &str)] = &[
+    (".gitignore", "0 0 0 0 in 0, fault read .gitignore"),
+    ("a.log", WHOLE),
+    ("keep.log", "2 4 0 32 in 3, fault read keep.log"),
+    ("x.c", WHOLE),
+    ("y.c", "2 4 0 26 in 3, fault read src/build/y.c"),
 ];
 
-fn has_fault(report: &Report, path: Option<&[u8]>) -> bool {
-    match (report.faults.as_slice(), path) {
-        ([], None) => true,
-        ([fault], Some(path)) => fault.path.as_slice() == path && fault.word == FaultWord::Read,
-        _ => false,
-    }
-}
-
-fn has_found(report: &Report, wanted: Finding) -> bool {
-    let ([files, lines, blank, bytes], directories, path) = wanted;
-    let sums = Sums {
-        files,
-        lines: u128::from(lines),
-        blank: u128::from(blank),
-        bytes: u128::from(bytes),
-    };
-    report.totals == sums && report.directories == directories && has_fault(report, path)
+/// The totals, the directories and the faults.
+fn sums_text(alloc: Global, report: &Report) -> Result<String, AllocError> {
+    let sums = report.totals;
+    let mut text = format!(in alloc; "{} {} {}", sums.files, sums.lines, sums.blank)?;
+    write!(text, " {} in {}\n", sums.bytes, report.directories)?;
+    push_faults(&mut text, report)?;
+    Ok(text)
 }
 
 /// Each of these calls of the walk by one worker fails.
@@ -281,16 +222,9 @@ fn check_step<R: Threads + Wait + Sync + Abort>(
     for place in from..to {
         let call = FailingCall::new(place);
         let report = walk_failing(rt, alloc, tree, &call, (board, 1))?;
-        assert!(rt;
-            has_found(&report, wanted),
-            "{place}, {:?}: {report:?}",
-            wanted.2
-        );
-        assert!(rt;
-            begun.unwrap_or(call.begun()) == call.begun(),
-            "{}",
-            call.begun()
-        );
+        let (found, calls) = (sums_text(alloc, &report)?, call.begun());
+        assert!(rt; has_words(&found, wanted), "{place}: {found}");
+        assert!(rt; begun.unwrap_or(calls) == calls, "{calls}");
     }
     Ok(())
 }
@@ -300,15 +234,23 @@ fn check_steps<R: Threads + Wait + Sync + Abort>(
     rt: &R,
     alloc: Global,
     board: Board,
-    sketch: Sketch,
+    sketch: &str,
     steps: &[Step],
 ) -> Result<(), AllocError> {
-    let top = sketch.node(alloc)?;
-    let tree = MemTree::new(&top);
+    let top = tree(alloc, sketch)?;
     for step in steps {
-        check_step(rt, alloc, board, &tree, *step)?;
+        check_step(rt, alloc, board, &MemTree::new(&top), *step)?;
     }
     Ok(())
+}
+
+/// The file of this name fails in place of its end.
+fn with_failing(alloc: Global, name: &str) -> Result<String, AllocError> {
+    let file = format!(in alloc; "{name}=")?;
+    match IGNORING.split_once(file.as_str()) {
+        Some((before, after)) => format!(in alloc; "{before}{name}!{after}"),
+        None => Ok(String::new(alloc)),
+    }
 }
 
 /// By one worker, and by four.
@@ -332,8 +274,13 @@ fn check_failing<R: Threads + Wait + Sync + Abort>(
     alloc: Global,
     board: Board,
 ) -> Result<(), AllocError> {
-    for (sketch, steps) in FAILING {
-        check_steps(rt, alloc, board, *sketch, steps)?;
+    for (sketch, steps) in FAILING_CALLS {
+        check_steps(rt, alloc, board, sketch, steps)?;
+    }
+    for (name, found) in FAILING_FILES {
+        let sketch = with_failing(alloc, name)?;
+        let step = (NO_CALL, NO_CALL + 1, *found, None);
+        check_steps(rt, alloc, board, &sketch, &[step])?;
     }
     Ok(())
 }

@@ -1,10 +1,9 @@
 //! Several workers list directories at the same time.
 
-use crate::walk::told::{FOUND, Found, NONE, has_told};
+use crate::walk::told::report_text;
 use crate::walk::walked::{Board, report_of, walk_options};
-use lc_census::Eol;
-use lc_level::FaultWord;
-use lc_tree::{Listing, MemFile, MemTree, ReadFault, Sketch, Tree};
+use lc_tests::{has_words, tree};
+use lc_tree::{Listing, MemFile, MemTree, ReadFault, Tree};
 use std::alloc::{AllocError, Global};
 use std::process::Abort;
 use std::sync::Wait;
@@ -60,132 +59,54 @@ impl<'a> Tree for Gate<'a> {
     ghost some_content = { λ t path. (content_of (node_at t.tree path), λ pieces stop given. given) };
 }
 
-const ONE: Sketch = Sketch::Dir(&[(b"f", Sketch::File(b"1\n"))]);
+const TWO: &str = "a/{ f } b/{ f }";
 
-const TWO: Sketch = Sketch::Dir(&[(b"a", ONE), (b"b", ONE)]);
+const SIXTEEN: &str = "
+    a/{ f } b/{ f } c/{ f } d/{ f } e/{ f } f/{ f } g/{ f } h/{ f }
+    i/{ f } j/{ f } k/{ f } l/{ f } m/{ f } n/{ f } o/{ f } p/{ f }";
 
-const SIXTEEN: Sketch = Sketch::Dir(&[
-    (b"a", ONE),
-    (b"b", ONE),
-    (b"c", ONE),
-    (b"d", ONE),
-    (b"e", ONE),
-    (b"f", ONE),
-    (b"g", ONE),
-    (b"h", ONE),
-    (b"i", ONE),
-    (b"j", ONE),
-    (b"k", ONE),
-    (b"l", ONE),
-    (b"m", ONE),
-    (b"n", ONE),
-    (b"o", ONE),
-    (b"p", ONE),
-]);
+const OF_TWO: &str = "- - lf 2 2 0 4, directories 3 entries 4";
 
-const OF_TWO: Found = Found {
-    rows: &[(None, NONE, Eol::Lf, [2, 2, 0, 4])],
-    directories: 3,
-    ..FOUND
-};
+const OF_SIXTEEN: &str = "- - lf 16 16 0 32, directories 17 entries 32";
 
-const OF_SIXTEEN: Found = Found {
-    rows: &[(None, NONE, Eol::Lf, [16, 16, 0, 32])],
-    directories: 17,
-    ..FOUND
-};
+const WITHOUT_A: &str = "- - lf 1 1 0 2, directories 2 entries 3, fault read a";
 
-const WITHOUT_THE_FIRST: Found = Found {
-    rows: &[(None, NONE, Eol::Lf, [1, 1, 0, 2])],
-    directories: 2,
-    faults: &[(b"a", FaultWord::Read)],
-    ..FOUND
-};
-
-const WITHOUT_THE_LAST: Found = Found {
-    faults: &[(b"b", FaultWord::Read)],
-    ..WITHOUT_THE_FIRST
-};
+const WITHOUT_B: &str = "- - lf 1 1 0 2, directories 2 entries 3, fault read b";
 
 /// A tree, how many directories it has below the top, over which board and by how many workers it is walked, and what they find.
-struct Case<'a> {
-    sketch: Sketch<'a>,
-    directories: usize,
-    board: Board,
-    threads: u32,
-    wanted: Found<'a>,
-}
+type Case = (&'static str, usize, Board, u32, &'static str);
 
 /// As many workers as there are directories list them at the same time. One worker alone finds the gate of the directory shut that it
 /// claims before the other.
 const CASES: &[Case] = &[
-    Case {
-        sketch: TWO,
-        directories: 2,
-        board: Board::Words,
-        threads: 2,
-        wanted: OF_TWO,
-    },
-    Case {
-        sketch: SIXTEEN,
-        directories: 16,
-        board: Board::Words,
-        threads: 16,
-        wanted: OF_SIXTEEN,
-    },
-    Case {
-        sketch: TWO,
-        directories: 2,
-        board: Board::Words,
-        threads: 1,
-        wanted: WITHOUT_THE_LAST,
-    },
-    Case {
-        sketch: TWO,
-        directories: 2,
-        board: Board::Locked,
-        threads: 2,
-        wanted: OF_TWO,
-    },
-    Case {
-        sketch: SIXTEEN,
-        directories: 16,
-        board: Board::Locked,
-        threads: 16,
-        wanted: OF_SIXTEEN,
-    },
-    Case {
-        sketch: TWO,
-        directories: 2,
-        board: Board::Locked,
-        threads: 1,
-        wanted: WITHOUT_THE_FIRST,
-    },
+    (TWO, 2, Board::Words, 2, OF_TWO),
+    (SIXTEEN, 16, Board::Words, 16, OF_SIXTEEN),
+    (TWO, 2, Board::Words, 1, WITHOUT_B),
+    (TWO, 2, Board::Locked, 2, OF_TWO),
+    (SIXTEEN, 16, Board::Locked, 16, OF_SIXTEEN),
+    (TWO, 2, Board::Locked, 1, WITHOUT_A),
 ];
 
 /// The walk of a tree behind its gate.
 fn check<R: Threads + Wait + Sync + Abort>(
     rt: &R,
     alloc: Global,
-    case: &Case,
+    (sketch, directories, board, threads, wanted): &Case,
 ) -> Result<(), AllocError> {
-    let node = case.sketch.node(alloc)?;
+    let node = tree(alloc, sketch)?;
     let gate = Gate {
         tree: MemTree::new(&node),
         begun: AtomicUsize::new(0),
-        directories: case.directories,
+        directories: *directories,
     };
-    let options = walk_options(rt, case.threads, 100);
-    let report = report_of(rt, case.board.walk(rt, alloc, &gate, &options))?;
+    let options = walk_options(rt, *threads, 100);
+    let report = report_of(rt, board.walk(rt, alloc, &gate, &options))?;
     // Where memory is refused, for a thread or for the reserve, one worker lists after another, which finds the gate shut.
-    if case.wanted.faults.is_empty() && !report.faults.is_empty() {
+    if *threads > 1 && !report.faults.is_empty() {
         return Err(AllocError);
     }
-    let (board, threads) = (case.board, case.threads);
-    assert!(rt;
-        has_told(&report, case.wanted),
-        "{board:?}, {threads}: {report:?}"
-    );
+    let found = report_text(alloc, &report)?;
+    assert!(rt; has_words(&found, wanted), "{board:?}, {threads}: {found}");
     Ok(())
 }
 

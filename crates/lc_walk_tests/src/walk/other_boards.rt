@@ -3,12 +3,11 @@ ghost use Rattle.lc_walk.specs.WalkOptions.{AreWithinLimits};
 
 use crate::walk::boards::Odd;
 use crate::walk::drawn::draw_tree;
-use crate::walk::told::{FOUND, Found, NONE};
-use crate::walk::walked::{ASKED, Asked, Board, Case, check_answer, walk_options};
+use crate::walk::walked::{Board, check_answer, walk_options};
 use lc_board::{Locked, Words};
-use lc_census::Eol;
 use lc_level::Job;
-use lc_tree::{MemTree, Sketch};
+use lc_tests::tree;
+use lc_tree::MemTree;
 use lc_walk::{Options, Report, Row, WalkFault, walk_on};
 use std::alloc::{AllocError, Global};
 use std::process::Abort;
@@ -40,52 +39,31 @@ const RUNS: &[(Board, u32)] = &[
     (Board::Locked, 4),
 ];
 
-/// What is asked of a board that has room for the root alone.
-const CROWDED: Asked = Asked {
-    max_dirs: 3,
-    ..ASKED
-};
-
-const CASES: &[Case] = &[
-    Case {
-        name: "the top alone",
-        asked: Asked {
-            tree: Sketch::Dir(&[(b"a", Sketch::File(b"q"))]),
-            ..CROWDED
-        },
-        wanted: Ok(Found {
-            rows: &[(None, NONE, Eol::NoEnd, [1, 1, 0, 1])],
-            ..FOUND
-        }),
-    },
-    Case {
-        name: "one more",
-        asked: Asked {
-            tree: Sketch::Dir(&[(b"s", Sketch::Dir(&[]))]),
-            ..CROWDED
-        },
-        wanted: Err(WalkFault::TooManyDirs),
-    },
+/// Trees on boards that have room for the top alone.
+const CROWDED: &[(&str, &str)] = &[
+    ("a=q", "- - none 1 1 0 1, directories 1 entries 1"),
+    ("s/", "too many directories"),
 ];
 
 fn check_crowded<R: Threads + Wait + Sync + Abort>(
     rt: &R,
     alloc: Global,
-    case: &Case,
+    (sketch, wanted): (&str, &str),
 ) -> Result<(), AllocError> {
-    let node = case.asked.tree.node(alloc)?;
+    let node = tree(alloc, sketch)?;
     let tree = MemTree::new(&node);
     for (board, threads) in RUNS {
-        let options = walk_options(rt, *threads, case.asked.max_dirs);
-        check_answer(rt, case, walk_oddly(rt, alloc, *board, &tree, &options), 0)?;
+        let options = walk_options(rt, *threads, 3);
+        let answer = walk_oddly(rt, alloc, *board, &tree, &options);
+        check_answer(rt, alloc, (sketch, wanted), &answer, 0)?;
     }
     Ok(())
 }
 
 #[test]
 fn a_board_that_is_full_from_the_start(rt: HostRuntime) -> Result<(), Fail> {
-    for case in CASES {
-        check_crowded(&rt, rt.alloc(), case)?;
+    for case in CROWDED {
+        check_crowded(&rt, rt.alloc(), *case)?;
     }
     Ok(())
 }

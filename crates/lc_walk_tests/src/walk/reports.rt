@@ -1,10 +1,11 @@
 //! The lists of a report.
 
 use crate::walk::tallies::tally_of;
-use crate::walk::told::{FOUND, Fault, File, Found, Skipped, Sum, Why, has_told};
+use crate::walk::told::report_text;
 use lc_census::{Count, Eol};
 use lc_level::{FaultWord, Reason};
 use lc_rules::TextState;
+use lc_tests::has_words;
 use lc_tree::Kind;
 use lc_walk::{FaultLine, FileLine, Findings, Report, ReportLists, SkippedLine};
 use std::alloc::{AllocError, Global};
@@ -12,7 +13,7 @@ use std::test::Fail;
 
 const PATHS: &[&[u8]] = &[b"d/a.c", b"d.c", b"a.c"];
 
-const FAULTS: &[Fault] = &[(b"e", FaultWord::Long), (b"", FaultWord::Read)];
+const FAULTS: &[(&[u8], FaultWord)] = &[(b"e", FaultWord::Long), (b"", FaultWord::Read)];
 
 fn files(alloc: Global) -> Result<Vec<FileLine>, AllocError> {
     let mut files = Vec::new(alloc);
@@ -72,35 +73,27 @@ const LISTS: ReportLists = ReportLists {
     left_out: true,
 };
 
-/// The tally of the report is of one file.
-const TALLIED: &[Sum] = &[(Some(b"c"), TextState::Set, Eol::Lf, [1, 1, 0, 1])];
-
 /// In order of the paths' bytes.
-const IN_ORDER: Found = Found {
-    rows: TALLIED,
-    directories: 3,
-    faults: &[(b"", FaultWord::Read), (b"e", FaultWord::Long)],
-    files: &[
-        (b"a.c", TextState::Set, 1),
-        (b"d.c", TextState::Set, 1),
-        (b"d/a.c", TextState::Set, 1),
-    ],
-    skipped: &[
-        (b"a.c", Kind::Other, Why::OtherKind),
-        (b"d.c", Kind::Other, Why::OtherKind),
-        (b"d/a.c", Kind::Other, Why::OtherKind),
-    ],
-    entries: Some(9),
-    ..FOUND
-};
+const IN_ORDER: &str = "
+    .c set lf 1 1 0 1
+    directories 3 entries 9
+    file set lf 1 0 1 a.c
+    file set lf 1 0 1 d.c
+    file set lf 1 0 1 d/a.c
+    left other a.c@
+    left other d.c@
+    left other d/a.c@
+    fault read .
+    fault long e";
 
 #[test]
 fn lists_by_paths_bytes(rt: HostRuntime) -> Result<(), Fail> {
-    let tally = tally_of(&rt, rt.alloc(), TALLIED)?;
+    let tally = tally_of(&rt, rt.alloc(), &[".c set lf 1 1 0 1"])?;
     let report = Report::new(tally, LISTS, findings(rt.alloc())?);
+    let found = report_text(rt.alloc(), &report)?;
     assert!(rt;
-        report.lists == LISTS && has_told(&report, IN_ORDER),
-        "{report:?}"
+        report.lists == LISTS && has_words(&found, IN_ORDER),
+        "{found}"
     );
     Ok(())
 }

@@ -3,13 +3,13 @@ ghost use Rattle.std.specs.Prelude.{◌≡◌, None, IfOk, OnOk};
 ghost use Rattle.lc_board.specs.Pass.{holding, new_pass};
 
 use crate::walk::walked::{Board, walk_options};
-use crate::walk::walks::LINE;
 use lc_board::{Claim, CloseFault, Closed, Ended, Locked, Shared, Words};
-use lc_level::{FaultSite, FaultWord, Job, LevelReader, ReaderOptions, Scratch, Selection};
-use lc_tree::{IdleThreads, MemTree, Sketch};
+use lc_level::{Job, LevelReader, ReaderOptions, Scratch, Selection};
+use lc_tests::tree;
+use lc_tree::{IdleThreads, MemTree, Node};
 use lc_walk::{
     BrokenCause, BrokenRow, Options, PreparedOptions, ReportLists, Row, ServedJob, StopReason,
-    Tally, WalkFault, Worker, WorkerResult, assemble,
+    Tally, Worker, WorkerResult, assemble,
 };
 use std::alloc::{AllocError, Global};
 use std::process::Abort;
@@ -17,40 +17,29 @@ use std::sync::Wait;
 use std::test::Fail;
 use std::thread::Threads;
 
-/// What a row says, but for names.
-#[derive(Clone, Copy, Debug, Drop, PartialEq, Eq)]
-enum Said {
-    /// How many files and child directories it has.
-    Listed(usize, usize),
-    Faulted(FaultSite, FaultWord),
-    Broken(BrokenCause),
-    /// It was given as no such row is.
-    Amiss,
-}
-
-impl Said {
-    fn by(row: &Ended<Row>) -> Said {
-        match row {
-            Ended::Returned(Row::Listed(row)) => {
-                Said::Listed(row.files().len(), row.children().len())
-            }
-            Ended::Faulted(Row::Faulted(row)) => Said::Faulted(row.site, row.word),
-            Ended::Returned(Row::Broken(row)) => Said::Broken(row.cause),
-            _ => Said::Amiss,
+/// What a row says, but for names: how many files and child directories it has, or why it has none. It is amiss where it was given as no
+/// such row is.
+fn words_of(alloc: Global, row: &Ended<Row>) -> Result<String, AllocError> {
+    match row {
+        Ended::Returned(Row::Listed(row)) => {
+            let (files, children) = (row.files().len(), row.children().len());
+            format!(in alloc; "listed {files} {children}")
         }
+        Ended::Faulted(Row::Faulted(row)) => format!(in alloc; "{:?} {:?}", row.site, row.word),
+        Ended::Returned(Row::Broken(row)) => format!(in alloc; "broken {:?}", row.cause),
+        _ => format!(in alloc; "amiss"),
     }
 }
 
 /// A tree whose top one worker serves, or was given up after a post of its last child; what the rows say, by their numbers; the order
 /// in which the worker claims them over `Words` and over `Locked`; and the files, entries and lines of what is left out of the report.
 struct Case<'a> {
-    name: &'a str,
-    tree: Sketch<'a>,
+    tree: &'a str,
     is_broken: bool,
-    rows: &'a [Said],
+    rows: &'a [&'a str],
     words: &'a [usize],
     locked: &'a [usize],
-    report: Result<(u64, u64, usize), WalkFault>,
+    report: &'a str,
 }
 
 /// A board of four numbers for one worker, and its pass.
@@ -141,7 +130,7 @@ fn work<B: Shared<Job, Row>, R: Threads + Wait + Sync + Abort>(
     case: &Case,
     options: &Options<'_>,
 ) -> Result<Skipped, AllocError> {
-    let node = case.tree.node(alloc)?;
+    let node = node_of(alloc, case.tree)?;
     let tree = MemTree::new(&node);
     let (board, mut pass) = start_one::<B>(alloc)?;
     begin(rt, alloc, &board, &mut pass, &tree, case.is_broken)?;
@@ -168,78 +157,77 @@ fn work_over<R: Threads + Wait + Sync + Abort>(
     }
 }
 
-const LONG: [u8; 4097] = [b'a'; 4097];
-
-const EACH_KIND: Sketch = Sketch::Dir(&[
-    (b"closed", Sketch::Closed),
-    (b"deep", Sketch::Dir(&[(&LONG, LINE)])),
-    (b"file", LINE),
-    (b"listed", Sketch::Dir(&[(b"a", LINE), (b"b", LINE)])),
-]);
-
-const ONE_IN_THE_OTHER: Sketch = Sketch::Dir(&[(b"d", Sketch::Dir(&[(b"e", Sketch::Dir(&[]))]))]);
-
-const TWO_BELOW: Sketch = Sketch::Dir(&[
-    (b"a", LINE),
-    (b"d", Sketch::Dir(&[(b"b", LINE)])),
-    (b"e", Sketch::Dir(&[(b"c", LINE), (b"l", Sketch::Other)])),
-]);
-
 const CASES: &[Case] = &[
+    // a row of each kind
     Case {
-        name: "a row of each kind",
-        tree: EACH_KIND,
+        tree: "closed/! deep/{ LONG } file listed/{ a b }",
         is_broken: false,
         rows: &[
-            Said::Listed(1, 3),
-            Said::Faulted(FaultSite::Directory, FaultWord::Read),
-            Said::Broken(BrokenCause::TooDeep),
-            Said::Listed(2, 0),
+            "listed 1 3",
+            "Directory Read",
+            "broken TooDeep",
+            "listed 2 0",
         ],
         words: &[0, 3, 2, 1],
         locked: &[0, 1, 2, 3],
-        report: Err(WalkFault::TooDeep),
+        report: "path too deep",
     },
+    // a row that was refused memory after a post
     Case {
-        name: "a row that was refused memory after a post",
-        tree: ONE_IN_THE_OTHER,
+        tree: "d/{ e/ }",
         is_broken: true,
-        rows: &[
-            Said::Broken(BrokenCause::Memory),
-            Said::Listed(0, 1),
-            Said::Listed(0, 0),
-        ],
+        rows: &[GIVEN_UP, "listed 0 1", "listed 0 0"],
         words: &[0, 1, 2],
         locked: &[0, 1, 2],
-        report: Err(WalkFault::Memory),
+        report: "out of memory",
     },
+    // two directories below the top
     Case {
-        name: "two directories below the top",
-        tree: TWO_BELOW,
+        tree: "a d/{ b } e/{ c l@ }",
         is_broken: false,
-        rows: &[Said::Listed(1, 2), Said::Listed(1, 0), Said::Listed(1, 0)],
+        rows: &["listed 1 2", "listed 1 0", "listed 1 0"],
         words: &[0, 2, 1],
         locked: &[0, 1, 2],
-        report: Ok((3, 6, 1)),
+        report: "3 6 1",
     },
 ];
 
+/// What the row of a worker says that was refused memory.
+const GIVEN_UP: &str = "broken Memory";
+
+/// The tree of a sketch in which `LONG` is a name of 4,097 bytes.
+fn node_of(alloc: Global, sketch: &str) -> Result<Node, AllocError> {
+    let Some((before, after)) = sketch.split_once("LONG") else {
+        return tree(alloc, sketch);
+    };
+    let mut long = String::new(alloc);
+    for _ in 0..4097 {
+        long.push('a')?;
+    }
+    tree(alloc, &format!(in alloc; "{before}{long}{after}")?)
+}
+
 /// In this order of claims the rows of one worker say this up to the first that was refused memory, and all after it were given up for
 /// that. It answers whether one was.
-fn some_refused(rt: &impl Abort, rows: &[Ended<Row>], wanted: &[Said], claims: &[usize]) -> bool {
-    let given_up = Said::Broken(BrokenCause::Memory);
+fn some_refused(
+    rt: &impl Abort,
+    alloc: Global,
+    rows: &[Ended<Row>],
+    wanted: &[&str],
+    claims: &[usize],
+) -> Result<bool, AllocError> {
     let mut refused = false;
     for number in claims {
         if let Some(row) = rows.get(*number)
             && let Some(wanted) = wanted.get(*number)
         {
-            let said = Said::by(row);
-            refused = refused || said == given_up && said != *wanted;
-            let wanted = if refused { given_up } else { *wanted };
-            assert!(rt; said == wanted, "{said:?}");
+            let found = words_of(alloc, row)?;
+            refused = refused || found.as_str() == GIVEN_UP && *wanted != GIVEN_UP;
+            let wanted = if refused { GIVEN_UP } else { *wanted };
+            assert!(rt; found.as_str() == wanted, "{found}, not {wanted}");
         }
     }
-    refused
+    Ok(refused)
 }
 
 /// Both lists.
@@ -262,19 +250,21 @@ fn check_report(
         Some(tally) => tally,
         None => Tally::new(alloc),
     };
-    let (name, wanted) = (case.name, case.report);
-    match assemble(alloc, closed, LISTS, tally) {
+    let found = match assemble(alloc, closed, LISTS, tally) {
         Ok(report) => {
-            let told = (report.totals.files, report.entries, report.skipped.len());
-            assert!(rt; !refused && wanted.ok() == Some(told), "{name}: {report:?}");
+            let (files, entries) = (report.totals.files, report.entries);
+            format!(in alloc; "{files} {entries} {}", report.skipped.len())?
         }
-        Err(fault) => {
-            if fault == WalkFault::Memory && wanted.err() != Some(fault) {
-                return Err(AllocError);
-            }
-            assert!(rt; wanted.err() == Some(fault), "{name}: {fault:?}");
-        }
+        Err(fault) => format!(in alloc; "{fault}")?,
+    };
+    let is_memory = found.as_str() == "out of memory";
+    if is_memory && found.as_str() != case.report {
+        return Err(AllocError);
     }
+    assert!(rt;
+        found.as_str() == case.report && (is_memory || !refused),
+        "{found}"
+    );
     Ok(())
 }
 
@@ -294,7 +284,7 @@ fn check<R: Threads + Wait + Sync + Abort>(
         Board::Words => case.words,
         Board::Locked => case.locked,
     };
-    let refused = some_refused(rt, &skipped.0.rows, case.rows, claims);
+    let refused = some_refused(rt, alloc, &skipped.0.rows, case.rows, claims)?;
     let (many, all) = (skipped.0.rows.len(), case.rows.len());
     assert!(rt; many == all || refused && many < all, "{many}");
     check_report(rt, alloc, case, skipped, refused)

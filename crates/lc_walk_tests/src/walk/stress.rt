@@ -1,7 +1,7 @@
 //! Sixteen workers over a large tree.
 
 use crate::walk::drawn::draw_tree;
-use crate::walk::same::is_same;
+use crate::walk::told::report_text;
 use crate::walk::walked::{BOARDS, Board};
 use std::alloc::{AllocError, Global};
 use std::process::Abort;
@@ -20,10 +20,11 @@ fn check_runs<R: Threads + Wait + Sync + Abort>(
     board: Board,
 ) -> Result<(), AllocError> {
     let drawn = draw_tree(alloc, 0x9E37_79B9_7F4A_7C15, DIRECTORIES)?;
-    let wanted = drawn.walk(rt, alloc, Board::Words, 1)?;
+    let wanted = report_text(alloc, &drawn.walk(rt, alloc, Board::Words, 1)?)?;
     for run in 0..RUNS {
         let report = drawn.walk(rt, alloc, board, 16)?;
-        assert!(rt; is_same(&report, &wanted), "{run}: {:?}", report.totals);
+        let same = report_text(alloc, &report)? == wanted;
+        assert!(rt; same, "{run}: {:?}", report.totals);
     }
     Ok(())
 }

@@ -1,151 +1,127 @@
 //! The rows of tallies: their keys, their order and their sums.
 
-use crate::walk::told::{NONE, Sum, has_rows, is_sum};
+use crate::walk::told::push_row;
 use lc_census::{Count, Eol};
 use lc_rules::TextState;
-use lc_walk::{Sums, Tally};
+use lc_tests::{eol_of_word, has_words, text_of_word};
+use lc_walk::{Tally, TallyRow};
 use std::alloc::{AllocError, Global};
 use std::process::Abort;
 use std::test::Fail;
 
+/// Adds the file of a row: its extension, text state and line ends, one, its lines, blank lines and bytes.
+fn add_row(tally: &mut Tally, row: &str) -> Result<(), AllocError> {
+    let mut words = row.split_ascii_whitespace();
+    let ext = words.next().unwrap_or("-");
+    let text = text_of_word(words.next().unwrap_or("-"));
+    let eol = eol_of_word(words.next().unwrap_or("-"));
+    let mut numbers = words.map(|word| word.parse::<u64>().unwrap_or(0));
+    let _one = numbers.next();
+    let count = Count {
+        lines: numbers.next().unwrap_or(0),
+        blank: numbers.next().unwrap_or(0),
+        bytes: numbers.next().unwrap_or(0),
+        eol,
+    };
+    tally.add(ext.strip_prefix('.').map(|ext| ext.as_bytes()), text, count)
+}
+
 /// The tally of files, each written as a row of it alone, which are added from the last to the first.
-pub(super) fn tally_of(rt: &impl Abort, alloc: Global, files: &[Sum]) -> Result<Tally, AllocError> {
+pub(super) fn tally_of(rt: &impl Abort, alloc: Global, rows: &[&str]) -> Result<Tally, AllocError> {
     let mut tally = Tally::new(alloc);
-    for file in files.iter().rev() {
+    for row in rows.iter().rev() {
         assert!(rt; tally.totals().files < 9);
-        let (ext, text, eol, [_, lines, blank, bytes]) = *file;
-        let count = Count {
-            lines,
-            blank,
-            bytes,
-            eol,
-        };
-        tally.add(ext, text, count)?;
+        add_row(&mut tally, row)?;
     }
     Ok(tally)
 }
 
-/// The files of a tally, those of one that is merged with it, its rows and its totals.
-struct Case<'a> {
-    name: &'a str,
-    files: &'a [Sum<'a>],
-    others: Option<&'a [Sum<'a>]>,
-    rows: &'a [Sum<'a>],
-    totals: [u64; 4],
-}
+/// The files of a tally, those of one that is merged with it, its rows, and its totals.
+type Case = (
+    &'static [&'static str],
+    &'static [&'static str],
+    &'static [&'static str],
+    &'static str,
+);
 
-fn is_totals(sums: Sums, wanted: [u64; 4]) -> bool {
-    let [files, lines, blank, bytes] = wanted;
-    sums.files == files
-        && sums.lines == u128::from(lines)
-        && sums.blank == u128::from(blank)
-        && sums.bytes == u128::from(bytes)
-}
-
-fn merged(
-    rt: &impl Abort,
-    alloc: Global,
-    files: &[Sum],
-    others: Option<&[Sum]>,
-) -> Result<Tally, AllocError> {
-    let tally = tally_of(rt, alloc, files)?;
-    let Some(others) = others else {
-        return Ok(tally);
-    };
-    let other = tally_of(rt, alloc, others)?;
-    assert!(rt; tally.totals().files < 9 && other.totals().files < 9);
-    tally.merge(other)
-}
-
-/// A file of one line of one byte.
-const ONE: [u64; 4] = [1, 1, 0, 1];
-
-const EXTENSIONS: &[Sum] = &[
-    (None, NONE, Eol::Nul, ONE),
-    (Some(b"b"), NONE, Eol::Nul, ONE),
-    (Some(b"c"), TextState::Unset, Eol::Mixed, ONE),
-    (Some(b"ca"), TextState::Set, Eol::NoEnd, ONE),
-    (Some(b"\xFF"), TextState::Set, Eol::NoEnd, ONE),
+/// No extension comes before extensions by their bytes.
+const EXTENSIONS: &[&str] = &[
+    "- - nul 1 1 0 1",
+    ".b - nul 1 1 0 1",
+    ".c unset mixed 1 1 0 1",
+    ".ca set none 1 1 0 1",
+    ".\u{e9} set none 1 1 0 1",
 ];
 
-const TEXT_STATES: &[Sum] = &[
-    (Some(b"c"), TextState::Set, Eol::Nul, ONE),
-    (Some(b"c"), TextState::Unset, Eol::Mixed, ONE),
-    (Some(b"c"), TextState::Auto, Eol::Cr, ONE),
-    (Some(b"c"), TextState::Other, Eol::Lf, ONE),
-    (Some(b"c"), NONE, Eol::NoEnd, ONE),
+const TEXT_STATES: &[&str] = &[
+    ".c set nul 1 1 0 1",
+    ".c unset mixed 1 1 0 1",
+    ".c auto cr 1 1 0 1",
+    ".c other lf 1 1 0 1",
+    ".c - none 1 1 0 1",
 ];
 
-const CLASSES: &[Sum] = &[
-    (None, TextState::Auto, Eol::NoEnd, ONE),
-    (None, TextState::Auto, Eol::Lf, ONE),
-    (None, TextState::Auto, Eol::CrLf, ONE),
-    (None, TextState::Auto, Eol::Cr, ONE),
-    (None, TextState::Auto, Eol::Mixed, ONE),
-    (None, TextState::Auto, Eol::Nul, ONE),
+const LINE_ENDS: &[&str] = &[
+    "- auto none 1 1 0 1",
+    "- auto lf 1 1 0 1",
+    "- auto crlf 1 1 0 1",
+    "- auto cr 1 1 0 1",
+    "- auto mixed 1 1 0 1",
+    "- auto nul 1 1 0 1",
 ];
 
-/// A row of this extension.
-macro_rules! set {
-    ($ext:literal, $sums:expr) => {
-        (Some($ext), TextState::Set, Eol::Lf, $sums)
-    };
-}
+const B: &str = ".b set lf 1 1 0 2";
+
+const C: &str = ".c set lf 1 1 0 2";
 
 const CASES: &[Case] = &[
-    Case {
-        name: "no extension before extensions by their bytes",
-        files: EXTENSIONS,
-        others: None,
-        rows: EXTENSIONS,
-        totals: [5, 5, 0, 5],
-    },
-    Case {
-        name: "text states of one extension",
-        files: TEXT_STATES,
-        others: None,
-        rows: TEXT_STATES,
-        totals: [5, 5, 0, 5],
-    },
-    Case {
-        name: "classes of one extension and text state",
-        files: CLASSES,
-        others: None,
-        rows: CLASSES,
-        totals: [6, 6, 0, 6],
-    },
-    Case {
-        name: "two files merged with one are one row",
-        files: &[set!(b"c", [1, 1, 0, 2]), set!(b"c", [1, 1, 0, 2])],
-        others: Some(&[set!(b"c", [1, 2, 1, 5])]),
-        rows: &[set!(b"c", [3, 4, 1, 9])],
-        totals: [3, 4, 1, 9],
-    },
-    Case {
-        name: "rows of both are kept",
-        files: &[set!(b"c", [1, 1, 0, 2])],
-        others: Some(&[set!(b"b", [1, 1, 0, 2])]),
-        rows: &[set!(b"b", [1, 1, 0, 2]), set!(b"c", [1, 1, 0, 2])],
-        totals: [2, 2, 0, 4],
-    },
-    Case {
-        name: "no files have no rows",
-        files: &[],
-        others: None,
-        rows: &[],
-        totals: [0, 0, 0, 0],
-    },
+    (EXTENSIONS, &[], EXTENSIONS, "5 5 0 5"),
+    (TEXT_STATES, &[], TEXT_STATES, "5 5 0 5"),
+    (LINE_ENDS, &[], LINE_ENDS, "6 6 0 6"),
+    // files of one key are one row
+    (
+        &[C, C],
+        &[".c set lf 1 2 1 5"],
+        &[".c set lf 3 4 1 9"],
+        "3 4 1 9",
+    ),
+    (&[C], &[B], &[B, C], "2 2 0 4"),
+    (&[], &[], &[], "0 0 0 0"),
 ];
 
-fn check(rt: &impl Abort, alloc: Global, case: &Case) -> Result<(), AllocError> {
-    let tally = merged(rt, alloc, case.files, case.others)?;
-    let (totals, name) = (tally.totals(), case.name);
-    let rows = tally.rows()?;
-    assert!(rt;
-        has_rows(&rows, totals.files, case.rows) && is_totals(totals, case.totals),
-        "{name}: {rows:?}, {totals:?}"
-    );
+fn check_rows(
+    rt: &impl Abort,
+    alloc: Global,
+    rows: &[TallyRow],
+    wanted: &[&str],
+) -> Result<(), AllocError> {
+    assert!(rt; rows.len() == wanted.len(), "{rows:?}");
+    for (row, wanted) in rows.iter().zip(wanted) {
+        let mut text = String::new(alloc);
+        push_row(&mut text, row)?;
+        assert!(rt; has_words(&text, wanted), "{text}, not {wanted}");
+    }
     Ok(())
+}
+
+fn check(
+    rt: &impl Abort,
+    alloc: Global,
+    (files, others, rows, totals): &Case,
+) -> Result<(), AllocError> {
+    let mut tally = tally_of(rt, alloc, files)?;
+    if !others.is_empty() {
+        let other = tally_of(rt, alloc, others)?;
+        assert!(rt; tally.totals().files < 9 && other.totals().files < 9);
+        tally = tally.merge(other)?;
+    }
+    let sums = tally.totals();
+    let found = format!(in alloc;
+        "{} {} {} {}",
+        sums.files, sums.lines, sums.blank, sums.bytes
+    )?;
+    assert!(rt; found.as_str() == *totals, "{found}, not {totals}");
+    check_rows(rt, alloc, &tally.rows()?, rows)
 }
 
 #[test]
@@ -168,10 +144,17 @@ fn falling(rt: &impl Abort, alloc: Global) -> Result<Tally, AllocError> {
                 bytes: 2,
                 eol: Eol::Lf,
             };
-            tally.add(Some(&[byte]), NONE, count)?;
+            tally.add(Some(&[byte]), TextState::Unspecified, count)?;
         }
     }
     Ok(tally)
+}
+
+fn is_row_of(row: &TallyRow, byte: u8) -> bool {
+    let Some(ext) = &row.ext else {
+        return false;
+    };
+    ext.as_slice() == [byte].as_slice() && (row.files, row.lines, row.bytes) == (2, 2, 4)
 }
 
 #[test]
@@ -179,11 +162,7 @@ fn rows_of_many_keys_rise(rt: HostRuntime) -> Result<(), Fail> {
     let rows = falling(&rt, rt.alloc())?.into_rows();
     assert!(rt; rows.len() == 256);
     for (row, byte) in rows.iter().zip(0..=255u8) {
-        let extension: &[u8] = &[byte];
-        assert!(rt;
-            is_sum(row, (Some(extension), NONE, Eol::Lf, [2, 2, 0, 4])),
-            "{row:?}"
-        );
+        assert!(rt; is_row_of(row, byte), "{row:?}");
     }
     Ok(())
 }

@@ -1,133 +1,79 @@
-//! What reports are to tell.
+//! What a report tells, in the lines of `lc count`.
 
-use lc_census::Eol;
-use lc_level::{FaultWord, Reason};
-use lc_rules::{RuleSource, TextState};
-use lc_tree::Kind;
-use lc_walk::{FaultLine, FileLine, Report, SkippedLine, TallyRow};
+use lc_tests::{eol_word, push_kind, push_name, push_reason, text_word};
+use lc_walk::{FileLine, Report, TallyRow};
+use std::alloc::{AllocError, Global};
 
-pub(super) const NONE: TextState = TextState::Unspecified;
-
-/// The extension, text state and line ends of a row; its files, lines, blank lines and bytes.
-pub(super) type Sum<'a> = (Option<&'a [u8]>, TextState, Eol, [u64; 4]);
-
-/// The path of a counted file, its text state and its bytes.
-pub(super) type File<'a> = (&'a [u8], TextState, u64);
-
-/// The path of a fault, and its word.
-pub(super) type Fault<'a> = (&'a [u8], FaultWord);
-
-/// The path of an entry left out, its kind and why it is.
-pub(super) type Skipped<'a> = (&'a [u8], Kind, Why<'a>);
-
-/// Why an entry is left out.
-#[derive(Clone, Copy)]
-pub(super) enum Why<'a> {
-    Git,
-    Rule(RuleSource, u32),
-    Attribute(&'a [u8]),
-    OtherKind,
-}
-
-/// What a walk finds.
-#[derive(Clone, Copy)]
-pub(super) struct Found<'a> {
-    pub(super) rows: &'a [Sum<'a>],
-    pub(super) directories: u64,
-    pub(super) faults: &'a [Fault<'a>],
-    /// The counted files, where they are asked for.
-    pub(super) files: &'a [File<'a>],
-    /// The entries left out, where they are asked for.
-    pub(super) skipped: &'a [Skipped<'a>],
-    /// The entries that take part, where the case is about them.
-    pub(super) entries: Option<u64>,
-    /// How often the tree is asked, where the case is about that. A listing is one call; a file is opened, read, and read to its end.
-    pub(super) calls: Option<u64>,
-}
-
-/// What is found in one directory without an entry.
-pub(super) const FOUND: Found = Found {
-    rows: &[],
-    directories: 1,
-    faults: &[],
-    files: &[],
-    skipped: &[],
-    entries: None,
-    calls: None,
-};
-
-/// The row is this.
-pub(super) fn is_sum(row: &TallyRow, wanted: Sum) -> bool {
-    let ext = match &row.ext {
-        Some(bytes) => Some(bytes.as_slice()),
-        None => None,
-    };
-    let [files, lines, blank, bytes] = wanted.3;
-    ext == wanted.0
-        && row.text == wanted.1
-        && row.eol == wanted.2
-        && row.files == files
-        && row.lines == u128::from(lines)
-        && row.blank == u128::from(blank)
-        && row.bytes == u128::from(bytes)
-}
-
-/// The rows are these, and have so many files together.
-pub(super) fn has_rows(rows: &[TallyRow], files: u64, wanted: &[Sum]) -> bool {
-    let mut sum: u64 = 0;
-    for (row, wanted) in rows.iter().zip(wanted) {
-        if !is_sum(row, *wanted) {
-            return false;
+/// Adds the row's extension, text state and line ends, and its files, lines, blank lines and bytes.
+pub(super) fn push_row(text: &mut String, row: &TallyRow) -> Result<(), AllocError> {
+    match &row.ext {
+        Some(ext) => {
+            text.push_str(".")?;
+            push_name(text, ext)?;
         }
-        sum = sum.wrapping_add(row.files);
+        None => text.push_str("-")?,
     }
-    rows.len() == wanted.len() && files == sum
+    let (state, eol) = (text_word(row.text), eol_word(row.eol));
+    write!(text, " {state} {eol} {}", row.files)?;
+    write!(text, " {} {} {}\n", row.lines, row.blank, row.bytes)
 }
 
-pub(super) fn has_files(files: &[FileLine], wanted: &[File]) -> bool {
-    for (file, (path, text, bytes)) in files.iter().zip(wanted) {
-        if file.path.as_slice() != *path || file.text != *text || file.count.bytes != *bytes {
-            return false;
-        }
-    }
-    files.len() == wanted.len()
+fn push_file(text: &mut String, file: &FileLine) -> Result<(), AllocError> {
+    let count = &file.count;
+    let (state, eol) = (text_word(file.text), eol_word(count.eol));
+    write!(
+        text,
+        "file {state} {eol} {} {} {} ",
+        count.lines, count.blank, count.bytes
+    )?;
+    push_name(text, &file.path)?;
+    text.push_str("\n")
 }
 
-pub(super) fn has_faults(faults: &[FaultLine], wanted: &[Fault]) -> bool {
-    for (fault, (path, word)) in faults.iter().zip(wanted) {
-        if fault.path.as_slice() != *path || fault.word != *word {
-            return false;
-        }
+fn push_skipped(text: &mut String, report: &Report) -> Result<(), AllocError> {
+    for entry in &report.skipped {
+        text.push_str("left ")?;
+        push_reason(text, &entry.reason)?;
+        text.push_str(" ")?;
+        push_name(text, &entry.path)?;
+        push_kind(text, entry.kind)?;
+        text.push_str("\n")?;
     }
-    faults.len() == wanted.len()
+    Ok(())
 }
 
-fn is_reason(reason: &Reason, why: Why) -> bool {
-    match (reason, why) {
-        (Reason::Git, Why::Git) => true,
-        (Reason::Rule { source, line }, Why::Rule(file, number)) => *source == file
-            && *line == number,
-        (Reason::Attribute(name), Why::Attribute(wanted)) => name.as_slice() == wanted,
-        (Reason::OtherKind, Why::OtherKind) => true,
-        _ => false,
+/// Adds the faults of a report.
+pub(super) fn push_faults(text: &mut String, report: &Report) -> Result<(), AllocError> {
+    for fault in &report.faults {
+        let word = fault.word.as_str();
+        write!(text, "fault {word} ")?;
+        push_name(text, &fault.path)?;
+        text.push_str("\n")?;
     }
+    Ok(())
 }
 
-pub(super) fn has_skipped(lines: &[SkippedLine], wanted: &[Skipped]) -> bool {
-    for (line, (path, kind, why)) in lines.iter().zip(wanted) {
-        if line.path.as_slice() != *path || line.kind != *kind || !is_reason(&line.reason, *why) {
-            return false;
-        }
+/// The rows of a report, its directories and entries, its lists and its faults; before them the number of all files, where that isn't
+/// the sum of the rows'.
+pub(super) fn report_text(alloc: Global, report: &Report) -> Result<String, AllocError> {
+    let mut text = String::new(alloc);
+    let mut files: u64 = 0;
+    for row in &report.rows {
+        push_row(&mut text, row)?;
+        files = files.wrapping_add(row.files);
     }
-    lines.len() == wanted.len()
-}
-
-/// The report tells just this.
-pub(super) fn has_told(report: &Report, found: Found) -> bool {
-    report.directories == found.directories
-        && found.entries.unwrap_or(report.entries) == report.entries
-        && has_rows(&report.rows, report.totals.files, found.rows)
-        && has_files(&report.files, found.files)
-        && has_faults(&report.faults, found.faults)
-        && has_skipped(&report.skipped, found.skipped)
+    if files != report.totals.files {
+        write!(text, "total {} ", report.totals.files)?;
+    }
+    write!(
+        text,
+        "directories {} entries {}\n",
+        report.directories, report.entries
+    )?;
+    for file in &report.files {
+        push_file(&mut text, file)?;
+    }
+    push_skipped(&mut text, report)?;
+    push_faults(&mut text, report)?;
+    Ok(text)
 }

@@ -2,16 +2,16 @@
 ghost use Rattle.std.specs.Prelude.{IfOk};
 ghost use Rattle.lc_walk.specs.WalkOptions.{AreWithinLimits};
 
-use crate::walk::told::{Found, has_told};
+use crate::walk::told::report_text;
 use lc_board::Locked;
 use lc_level::Job;
-use lc_rules::{IgnoreFile, RuleFault};
+use lc_tests::{Asked, has_words, tree};
 use lc_tree::trials::{FailingCall, FailingTree};
-use lc_tree::{MemTree, Node, Sketch, Tree};
+use lc_tree::{MemTree, Node, Tree};
 use lc_walk::{Options, Report, ReportLists, Row, WalkFault, walk, walk_on};
 use std::alloc::{AllocError, Global};
 use std::process::Abort;
-use std::sync::{Arc, Wait};
+use std::sync::Wait;
 use std::thread::Threads;
 
 /// Neither list.
@@ -20,38 +20,12 @@ pub(super) const NO_LISTS: ReportLists = ReportLists {
     left_out: false,
 };
 
-/// What is asked of a walk, but for the number of its workers.
-#[derive(Clone, Copy)]
-pub(super) struct Asked<'a> {
-    pub(super) tree: Sketch<'a>,
-    pub(super) exclude: Option<&'a [u8]>,
-    pub(super) archive: bool,
-    pub(super) without: &'a [&'a str],
-    pub(super) only: &'a [&'a [u8]],
-    pub(super) lists: ReportLists,
-    pub(super) max_dirs: u32,
-}
+/// A name, the sketch of a tree, what is asked as on a command line, and what a walk finds, or why it finds nothing.
+pub(super) type Case<'a> = (&'a str, &'a str, &'a str, &'a str);
 
-/// What is asked by default, of no entries.
-pub(super) const ASKED: Asked = Asked {
-    tree: Sketch::Dir(&[]),
-    exclude: None,
-    archive: false,
-    without: &[],
-    only: &[],
-    lists: NO_LISTS,
-    max_dirs: 100,
-};
-
-type Wanted<'a> = Result<Found<'a>, WalkFault>;
-
-/// The name of a walk, what is asked of it, and what it finds.
-#[derive(Clone, Copy)]
-pub(super) struct Case<'a> {
-    pub(super) name: &'a str,
-    pub(super) asked: Asked<'a>,
-    pub(super) wanted: Wanted<'a>,
-}
+/// What a walk finds by what is asked. It may end with how often the tree is asked: a listing is one call; a file is opened, read, and
+/// read to its end.
+pub(super) type Part<'a> = (&'a str, &'a str, &'a str);
 
 /// A walk of the whole tree by so many workers.
 pub(super) fn walk_options(rt: &impl Abort, threads: u32, max_dirs: u32) -> Options<'static>
@@ -62,40 +36,27 @@ pub(super) fn walk_options(rt: &impl Abort, threads: u32, max_dirs: u32) -> Opti
     Options::new(threads, max_dirs)
 }
 
-fn exclude_file(
+/// What is asked, of so many workers.
+fn options_of<'a>(
+    rt: &impl Abort,
     alloc: Global,
-    bytes: Option<&[u8]>,
-) -> Result<Option<Arc<IgnoreFile, Global>>, AllocError> {
-    let Some(bytes) = bytes else {
-        return Ok(None);
-    };
-    match IgnoreFile::read(alloc, bytes) {
-        Ok(file) => Ok(Some(Arc::new(alloc, file)?)),
-        Err(RuleFault::Memory) => Err(AllocError),
-        Err(RuleFault::TooLong) => Ok(None),
-    }
-}
-
-impl<'a> Asked<'a> {
-    /// The same by so many workers.
-    fn options(
-        &self,
-        rt: &impl Abort,
-        alloc: Global,
-        threads: u32,
-    ) -> Result<Options<'a>, AllocError>
-        ensures { IfOk result (λ options. AreWithinLimits options) }
-    {
-        let exclude = exclude_file(alloc, self.exclude)?;
-        Ok(Options {
-            lists: self.lists,
-            exclude,
-            archive: self.archive,
-            without: self.without,
-            only: self.only,
-            ..walk_options(rt, threads, self.max_dirs)
-        })
-    }
+    asked: &'a Asked<'a>,
+    threads: u32,
+) -> Result<Options<'a>, AllocError>
+    ensures { IfOk result (λ options. AreWithinLimits options) }
+{
+    let exclude = asked.exclude_file(alloc)?;
+    Ok(Options {
+        lists: ReportLists {
+            files: asked.files,
+            left_out: asked.left_out,
+        },
+        exclude,
+        archive: asked.archive,
+        without: &asked.without,
+        only: &asked.only,
+        ..walk_options(rt, threads, asked.max_dirs)
+    })
 }
 
 /// A board over which walks are tried.
@@ -149,75 +110,90 @@ pub(super) fn report_of(
     }
 }
 
-fn is_answer(answer: &Result<Report, WalkFault>, wanted: Wanted, calls: u64) -> bool {
-    match (answer, wanted) {
-        (Ok(report), Ok(found)) => {
-            has_told(report, found) && found.calls.unwrap_or(calls) == calls
-        }
-        (Err(fault), Err(wanted)) => *fault == wanted,
-        _ => false,
+/// What a walk found, or why it found nothing.
+fn answer_text(alloc: Global, answer: &Result<Report, WalkFault>) -> Result<String, AllocError> {
+    match answer {
+        Ok(report) => report_text(alloc, report),
+        Err(WalkFault::Memory) => Err(AllocError),
+        Err(fault) => format!(in alloc; "{fault}"),
     }
 }
 
-/// Whether a walk asked its tree more often than its case says: it began again, since several workers were refused memory.
-fn has_begun_again(wanted: Wanted, calls: u64) -> bool {
-    match wanted {
-        Ok(found) => found.calls.unwrap_or(calls) < calls,
-        Err(_) => false,
+/// What is wanted but for the number of calls, and that number, if it is there.
+fn without_calls(wanted: &str) -> (&str, Option<u64>) {
+    match wanted.split_once("calls ") {
+        Some((wanted, calls)) => (wanted, calls.parse::<u64>().ok()),
+        None => (wanted, None),
     }
 }
 
-/// A walk that asked its tree so often answers as its case says.
+/// A walk that asked its tree so often answers as is wanted. One that asked more often began again, since several workers were refused
+/// memory.
 pub(super) fn check_answer(
     rt: &impl Abort,
-    case: &Case,
-    answer: Result<Report, WalkFault>,
+    alloc: Global,
+    (name, wanted): (&str, &str),
+    answer: &Result<Report, WalkFault>,
     calls: u64,
 ) -> Result<(), AllocError> {
-    if let Err(WalkFault::Memory) = &answer {
+    let found = answer_text(alloc, answer)?;
+    let (wanted, wanted_calls) = without_calls(wanted);
+    let wanted_calls = wanted_calls.unwrap_or(calls);
+    if wanted_calls < calls {
         return Err(AllocError);
     }
-    if has_begun_again(case.wanted, calls) {
-        return Err(AllocError);
-    }
-    let name = case.name;
     assert!(rt;
-        is_answer(&answer, case.wanted, calls),
-        "{name}: {answer:?}, {calls}"
+        has_words(&found, wanted) && wanted_calls == calls,
+        "{name}: {found} calls {calls}"
     );
     Ok(())
 }
 
-/// The walk of this tree finds what its case says, over each board and by each number of workers.
+/// The walk of this tree finds what is wanted, over each board and by each number of workers.
 pub(super) fn check_node<R: Threads + Wait + Sync + Abort>(
     rt: &R,
     alloc: Global,
     top: &Node,
-    case: &Case,
+    (name, words, wanted): &Part,
 ) -> Result<(), AllocError> {
     let tree = MemTree::new(top);
+    let asked = Asked::read(alloc, words)?;
+    assert!(rt; asked.is_known, "{words}");
     for (board, threads) in RUNS {
-        let options = case.asked.options(rt, alloc, *threads)?;
+        let options = options_of(rt, alloc, &asked, *threads)?;
         let call = FailingCall::new(u64::MAX);
         let counted = FailingTree {
             tree: &tree,
             call: &call,
         };
         let answer = board.walk(rt, alloc, &counted, &options);
-        check_answer(rt, case, answer, call.begun())?;
+        check_answer(rt, alloc, (name, wanted), &answer, call.begun())?;
     }
     Ok(())
 }
 
-/// Each walk finds what its case says.
+/// Walks of one tree.
+pub(super) fn check_parts<R: Threads + Wait + Sync + Abort>(
+    rt: &R,
+    alloc: Global,
+    sketch: &str,
+    parts: &[Part],
+) -> Result<(), AllocError> {
+    let top = tree(alloc, sketch)?;
+    for part in parts {
+        check_node(rt, alloc, &top, part)?;
+    }
+    Ok(())
+}
+
+/// A walk of each tree.
 pub(super) fn check<R: Threads + Wait + Sync + Abort>(
     rt: &R,
     alloc: Global,
     cases: &[Case],
 ) -> Result<(), AllocError> {
-    for case in cases {
-        let top = case.asked.tree.node(alloc)?;
-        check_node(rt, alloc, &top, case)?;
+    for (name, sketch, words, wanted) in cases {
+        check_parts(rt, alloc, sketch, &[(*name, *words, *wanted)])?;
     }
     Ok(())
 }

@@ -1,0 +1,5 @@
+//! The tests of the command line.
+#![tactic(auto)]
+
+#[cfg(test)]
+mod requests;
