@@ -10,7 +10,10 @@ use std::test::Fail;
 type Case = (&'static str, &'static str);
 
 const COUNTS: &[Case] = &[
-    ("count .", "count .: 4 threads, 65536 directories, Tsv by ext text eol"),
+    (
+        "count .",
+        "count .: 4 threads, 65536 directories, Tsv by ext text eol",
+    ),
     (
         "count --threads 16 --max-dirs=1 src",
         "count src: 16 threads, 1 directories, Tsv by ext text eol",
@@ -44,15 +47,36 @@ const OTHERS: &[Case] = &[
 const EXITS: &[Case] = &[
     ("--version", "shown: lc "),
     ("-h", "shown: Count files, lines and bytes in a source tree"),
-    ("count --threads 17 .", "refused: error: invalid value '17' for '--threads <N>'"),
-    ("count --max-dirs 0 .", "refused: error: invalid value '0' for '--max-dirs <N>'"),
-    ("count --by ext,ext .", "refused: error: invalid value 'ext,ext' for '--by <COLUMNS>'"),
-    ("count --without=-x .", "refused: error: invalid value '-x' for '--without <ATTR>'"),
-    ("count --only /src .", "refused: error: invalid value '/src' for '--only <PATH>'"),
-    ("count", "refused: error: the following required arguments were not provided"),
+    (
+        "count --threads 17 .",
+        "refused: error: invalid value '17' for '--threads <N>'",
+    ),
+    (
+        "count --max-dirs 0 .",
+        "refused: error: invalid value '0' for '--max-dirs <N>'",
+    ),
+    (
+        "count --by ext,ext .",
+        "refused: error: invalid value 'ext,ext' for '--by <COLUMNS>'",
+    ),
+    (
+        "count --without=-x .",
+        "refused: error: invalid value '-x' for '--without <ATTR>'",
+    ),
+    (
+        "count --only /src .",
+        "refused: error: invalid value '/src' for '--only <PATH>'",
+    ),
+    (
+        "count",
+        "refused: error: the following required arguments were not provided",
+    ),
     ("count a b", "refused: error: unexpected argument 'b' found"),
     ("cuont .", "refused: error: unrecognized subcommand 'cuont'"),
-    ("a\u{1b}", "refused: error: unrecognized subcommand 'a\\x1b'"),
+    (
+        "a\u{1b}",
+        "refused: error: unrecognized subcommand 'a\\x1b'",
+    ),
 ];
 
 fn push_exclusions(text: &mut String, exclusions: &Exclusions) -> Result<(), AllocError> {
@@ -119,7 +143,10 @@ fn answer_text(
     match answer {
         Ok(Request::CheckJoined) => format!(in alloc; "check joined"),
         Ok(Request::Check(request)) => {
-            let (file, end) = (request.file, if request.explain { ", explained" } else { "" });
+            let (file, end) = (
+                request.file,
+                if request.explain { ", explained" } else { "" },
+            );
             format!(in alloc; "check {file}{end}")
         }
         Ok(Request::Count(request)) => count_text(alloc, &request),
@@ -137,7 +164,11 @@ fn check(rt: &impl Abort, alloc: Global, (line, wanted): &Case) -> Result<(), Al
     }
     let found = answer_text(alloc, Request::read(alloc, words.as_slice()))?;
     let is_exit = wanted.starts_with("shown: ") || wanted.starts_with("refused: ");
-    let holds = if is_exit { found.starts_with(wanted) } else { found.as_str() == *wanted };
+    let holds = if is_exit {
+        found.starts_with(wanted)
+    } else {
+        found.as_str() == *wanted
+    };
     assert!(rt; holds, "{line}: {found}");
     Ok(())
 }

@@ -77,7 +77,10 @@ fn has_state(
     (parts, (path, is_dir), name, state): &StateCase,
 ) -> Result<(bool, bool), AllocError> {
     let chain = chain_of(alloc, parts)?;
-    Ok((is_same(chain.state(alloc, path, *is_dir, name)?, *state), true))
+    Ok((
+        is_same(chain.state(alloc, path, *is_dir, name)?, *state),
+        true,
+    ))
 }
 
 /// Whether lines behind these have the state that is wanted, and that they have to.

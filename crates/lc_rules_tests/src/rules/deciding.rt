@@ -62,10 +62,7 @@ const CASES: &[Case] = &[
 /// The line of a rule, and what it says.
 type Line = Option<(u32, Verdict)>;
 
-fn lines(
-    alloc: Global,
-    (rules, path, is_dir, wanted): &Case,
-) -> Result<(Line, Line), AllocError> {
+fn lines(alloc: Global, (rules, path, is_dir, wanted): &Case) -> Result<(Line, Line), AllocError> {
     let file = read(alloc, rules)?;
     let found = match file.last_match(path, *is_dir) {
         Some(rule) => Some((rule.line(), rule.verdict())),
