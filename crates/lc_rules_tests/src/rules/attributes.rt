@@ -214,12 +214,19 @@ const LATER_ASSIGNMENTS_DECIDE: &[Case] = &[
 #[test]
 fn states_of_files(rt: HostRuntime) -> Result<(), Fail> {
     let alloc = rt.alloc();
-    let check = |case: &Case| has_wanted(alloc, b"", case);
-    each_case_holds(&rt, WORDS, &check)?;
-    each_case_holds(&rt, LINES, &check)?;
-    each_case_holds(&rt, QUOTED_PATTERNS, &check)?;
-    each_case_holds(&rt, MACROS, &check)?;
-    each_case_holds(&rt, LATER_ASSIGNMENTS_DECIDE, &check)?;
+    each_case_holds(&rt, WORDS, &|case: &Case| has_wanted(alloc, b"", case))?;
+    each_case_holds(&rt, LINES, &|case: &Case| has_wanted(alloc, b"", case))?;
+    each_case_holds(
+        &rt,
+        QUOTED_PATTERNS,
+        &|case: &Case| has_wanted(alloc, b"", case),
+    )?;
+    each_case_holds(&rt, MACROS, &|case: &Case| has_wanted(alloc, b"", case))?;
+    each_case_holds(
+        &rt,
+        LATER_ASSIGNMENTS_DECIDE,
+        &|case: &Case| has_wanted(alloc, b"", case),
+    )?;
     Ok(())
 }
 
@@ -236,11 +243,18 @@ fn many_lines(alloc: Global) -> Result<Vec<u8>, AllocError> {
 fn states_after_many_lines(rt: HostRuntime) -> Result<(), Fail> {
     let alloc = rt.alloc();
     let before = many_lines(alloc)?;
-    let check = |case: &Case| has_wanted(alloc, &before, case);
-    each_case_holds(&rt, WORDS, &check)?;
-    each_case_holds(&rt, QUOTED_PATTERNS, &check)?;
-    each_case_holds(&rt, MACROS, &check)?;
-    each_case_holds(&rt, LATER_ASSIGNMENTS_DECIDE, &check)?;
+    each_case_holds(&rt, WORDS, &|case: &Case| has_wanted(alloc, &before, case))?;
+    each_case_holds(
+        &rt,
+        QUOTED_PATTERNS,
+        &|case: &Case| has_wanted(alloc, &before, case),
+    )?;
+    each_case_holds(&rt, MACROS, &|case: &Case| has_wanted(alloc, &before, case))?;
+    each_case_holds(
+        &rt,
+        LATER_ASSIGNMENTS_DECIDE,
+        &|case: &Case| has_wanted(alloc, &before, case),
+    )?;
     Ok(())
 }
 

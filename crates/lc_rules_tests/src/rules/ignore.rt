@@ -200,18 +200,29 @@ const DEAD_PATTERNS: &[Case] = &[
 #[test]
 fn verdicts_of_files(rt: HostRuntime) -> Result<(), Fail> {
     let alloc = rt.alloc();
-    let check = |case: &Case| verdicts(alloc, case);
-    each_case_holds(&rt, LINES, &check)?;
-    each_case_holds(&rt, COMMENTS, &check)?;
-    each_case_holds(&rt, TRAILING_SPACES_QUOTED, &check)?;
-    each_case_holds(&rt, NEGATION, &check)?;
-    each_case_holds(&rt, LAST_MATCH_DECIDES, &check)?;
-    each_case_holds(&rt, MANUAL_EXAMPLE_CHECK, &check)?;
-    each_case_holds(&rt, SEPARATORS, &check)?;
-    each_case_holds(&rt, WILDCARDS, &check)?;
-    each_case_holds(&rt, DOUBLE_STARS, &check)?;
-    each_case_holds(&rt, BRACKETS, &check)?;
-    each_case_holds(&rt, DEAD_PATTERNS, &check)?;
+    each_case_holds(&rt, LINES, &|case: &Case| verdicts(alloc, case))?;
+    each_case_holds(&rt, COMMENTS, &|case: &Case| verdicts(alloc, case))?;
+    each_case_holds(
+        &rt,
+        TRAILING_SPACES_QUOTED,
+        &|case: &Case| verdicts(alloc, case),
+    )?;
+    each_case_holds(&rt, NEGATION, &|case: &Case| verdicts(alloc, case))?;
+    each_case_holds(
+        &rt,
+        LAST_MATCH_DECIDES,
+        &|case: &Case| verdicts(alloc, case),
+    )?;
+    each_case_holds(
+        &rt,
+        MANUAL_EXAMPLE_CHECK,
+        &|case: &Case| verdicts(alloc, case),
+    )?;
+    each_case_holds(&rt, SEPARATORS, &|case: &Case| verdicts(alloc, case))?;
+    each_case_holds(&rt, WILDCARDS, &|case: &Case| verdicts(alloc, case))?;
+    each_case_holds(&rt, DOUBLE_STARS, &|case: &Case| verdicts(alloc, case))?;
+    each_case_holds(&rt, BRACKETS, &|case: &Case| verdicts(alloc, case))?;
+    each_case_holds(&rt, DEAD_PATTERNS, &|case: &Case| verdicts(alloc, case))?;
     Ok(())
 }
 
