@@ -49,6 +49,11 @@ fn a_set_matches_as_its_patterns_do(rt: HostRuntime) -> Result<(), Fail> {
     Ok(())
 }
 
+/// The last of the first `count` patterns, or of all, that matches a path.
+fn last_of(set: &PatternSet, path: &Candidate, is_dir: bool, count: usize) -> Option<usize> {
+    set.last_match(path, is_dir, count.min(set.len()))
+}
+
 #[test]
 fn the_last_match_is_below_an_index(rt: HostRuntime) -> Result<(), Fail> {
     let mut set = PatternSet::new(rt.alloc());
@@ -56,10 +61,10 @@ fn the_last_match_is_below_an_index(rt: HostRuntime) -> Result<(), Fail> {
         set.push(&Pattern::read(rt.alloc(), bytes)?)?;
     }
     let path = Candidate::new(b"src/main.o");
-    assert!(rt; set.last_match(&path, true, 4) == Some(3));
-    assert!(rt; set.last_match(&path, false, 4) == Some(1));
-    assert!(rt; set.last_match(&path, false, 1) == Some(0));
-    assert!(rt; set.last_match(&path, false, 0).is_none());
+    assert!(rt; last_of(&set, &path, true, 4) == Some(3));
+    assert!(rt; last_of(&set, &path, false, 4) == Some(1));
+    assert!(rt; last_of(&set, &path, false, 1) == Some(0));
+    assert!(rt; last_of(&set, &path, false, 0).is_none());
     Ok(())
 }
 

@@ -10,7 +10,7 @@ use std::process::Abort;
 use std::test::Fail;
 
 /// Adds the file of a row: its extension, text state and line ends, one, its lines, blank lines and bytes.
-fn add_row(tally: &mut Tally, row: &str) -> Result<(), AllocError> {
+fn add_row(rt: &impl Abort, tally: &mut Tally, row: &str) -> Result<(), AllocError> {
     let mut words = row.split_ascii_whitespace();
     let ext = words.next().unwrap_or("-");
     let text = text_of_word(words.next().unwrap_or("-"));
@@ -23,6 +23,7 @@ fn add_row(tally: &mut Tally, row: &str) -> Result<(), AllocError> {
         bytes: numbers.next().unwrap_or(0),
         eol,
     };
+    assert!(rt; tally.totals().files < 9);
     tally.add(ext.strip_prefix('.').map(|ext| ext.as_bytes()), text, count)
 }
 
@@ -30,8 +31,7 @@ fn add_row(tally: &mut Tally, row: &str) -> Result<(), AllocError> {
 pub(super) fn tally_of(rt: &impl Abort, alloc: Global, rows: &[&str]) -> Result<Tally, AllocError> {
     let mut tally = Tally::new(alloc);
     for row in rows.iter().rev() {
-        assert!(rt; tally.totals().files < 9);
-        add_row(&mut tally, row)?;
+        add_row(rt, &mut tally, row)?;
     }
     Ok(tally)
 }

@@ -40,7 +40,7 @@ pub(super) fn walk_options(rt: &impl Abort, threads: u32, max_dirs: u32) -> Opti
 fn options_of<'a>(
     rt: &impl Abort,
     alloc: Global,
-    asked: &'a Asked<'a>,
+    asked: &'a Asked<'_>,
     threads: u32,
 ) -> Result<Options<'a>, AllocError>
     ensures { IfOk result (λ options. AreWithinLimits options) }
@@ -149,6 +149,26 @@ pub(super) fn check_answer(
     Ok(())
 }
 
+/// The walk of this tree finds what is wanted, over this board and by this number of workers.
+fn check_run<R: Threads + Wait + Sync + Abort>(
+    rt: &R,
+    alloc: Global,
+    top: &Node,
+    asked: &Asked<'_>,
+    wanted: (&str, &str),
+    (board, threads): &(Board, u32),
+) -> Result<(), AllocError> {
+    let options = options_of(rt, alloc, asked, *threads)?;
+    let tree = MemTree::new(top);
+    let call = FailingCall::new(u64::MAX);
+    let counted = FailingTree {
+        tree: &tree,
+        call: &call,
+    };
+    let answer = board.walk(rt, alloc, &counted, &options);
+    check_answer(rt, alloc, wanted, &answer, call.begun())
+}
+
 /// The walk of this tree finds what is wanted, over each board and by each number of workers.
 pub(super) fn check_node<R: Threads + Wait + Sync + Abort>(
     rt: &R,
@@ -156,18 +176,10 @@ pub(super) fn check_node<R: Threads + Wait + Sync + Abort>(
     top: &Node,
     (name, words, wanted): &Part,
 ) -> Result<(), AllocError> {
-    let tree = MemTree::new(top);
     let asked = Asked::read(alloc, words)?;
     assert!(rt; asked.is_known, "{words}");
-    for (board, threads) in RUNS {
-        let options = options_of(rt, alloc, &asked, *threads)?;
-        let call = FailingCall::new(u64::MAX);
-        let counted = FailingTree {
-            tree: &tree,
-            call: &call,
-        };
-        let answer = board.walk(rt, alloc, &counted, &options);
-        check_answer(rt, alloc, (name, wanted), &answer, call.begun())?;
+    for run in RUNS {
+        check_run(rt, alloc, top, &asked, (name, wanted), run)?;
     }
     Ok(())
 }

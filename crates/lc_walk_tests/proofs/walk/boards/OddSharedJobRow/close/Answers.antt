@@ -30,7 +30,7 @@ module _ {J R : Type 0} (c d n : ℕ) (le : c ≤ d) (promises : Promises) (pass
   refused_larger (close.Unfinished k) u = record {
     history = u.history;
     legal = stays_legal c d n u.history le u.legal;
-    skipped = u.skipped;
+    left = u.left;
     least = u.least;
     parts = u.parts;
   }
