@@ -1,7 +1,6 @@
 //! What the rules of files say of paths: values from outside, and that each call can succeed.
 
 mod attributes;
-mod cases;
 mod chains;
 mod deciding;
 mod ignore;

@@ -1,9 +1,9 @@
 //! Attribute files. `tools/cases` makes each table of cases from those of `docs/cases/attributes.tsv` whose topic
 //! is its name.
 
-use crate::rules::cases::each_case_holds;
 use lc_rules::{AttrChain, AttrFile, RuleFault, State, TextState, is_attribute_name};
 use std::alloc::{AllocError, Global};
+use std::process::Abort;
 use std::sync::Arc;
 use std::test::Fail;
 
@@ -71,36 +71,28 @@ fn is_same(a: State, b: State) -> bool {
     }
 }
 
-/// Whether a chain has the state that is wanted, and that it has to.
 fn has_state(
+    parts: &[Part],
     alloc: Global,
-    (parts, (path, is_dir), name, state): &StateCase,
-) -> Result<(bool, bool), AllocError> {
+    (path, is_dir): (&[u8], bool),
+    name: &[u8],
+    state: State,
+) -> Result<bool, AllocError> {
     let chain = chain_of(alloc, parts)?;
-    Ok((
-        is_same(chain.state(alloc, path, *is_dir, name)?, *state),
-        true,
-    ))
+    Ok(is_same(chain.state(alloc, path, is_dir, name)?, state))
 }
 
-/// Whether lines behind these have the state that is wanted, and that they have to.
-fn has_wanted(
-    alloc: Global,
-    before: &[u8],
-    (lines, path, name, state): &Case,
-) -> Result<(bool, bool), AllocError> {
-    let mut bytes = before.to_vec(alloc)?;
-    bytes.extend_from_slice(lines)?;
-    let chain = AttrChain::top().below(alloc, 0, Some(file(alloc, &bytes, true)?))?;
-    Ok((is_same(chain.state(alloc, path, FILE, name)?, *state), true))
+fn check(rt: &impl Abort, alloc: Global, cases: &[Case]) -> Result<(), AllocError> {
+    for (lines, path, name, state) in cases {
+        let holds = has_state(&[Part::File(0, lines)], alloc, (path, false), name, *state)?;
+        assert!(rt; holds, "{lines:?} at {path:?}: {name:?}");
+    }
+    Ok(())
 }
 
-fn texts(
-    alloc: Global,
-    (parts, path, text): &TextCase,
-) -> Result<(TextState, TextState), AllocError> {
+fn text_of(parts: &[Part], alloc: Global, path: &[u8]) -> Result<TextState, AllocError> {
     let chain = chain_of(alloc, parts)?;
-    Ok((chain.text(alloc, path)?, *text))
+    Ok(chain.text(alloc, path)?)
 }
 
 // Tables are constant slices, since an array is written out in the proof of each function that lends it.
@@ -212,21 +204,12 @@ const LATER_ASSIGNMENTS_DECIDE: &[Case] = &[
 ];
 
 #[test]
-fn states_of_files(rt: HostRuntime) -> Result<(), Fail> {
-    let alloc = rt.alloc();
-    each_case_holds(&rt, WORDS, &|case: &Case| has_wanted(alloc, b"", case))?;
-    each_case_holds(&rt, LINES, &|case: &Case| has_wanted(alloc, b"", case))?;
-    each_case_holds(
-        &rt,
-        QUOTED_PATTERNS,
-        &|case: &Case| has_wanted(alloc, b"", case),
-    )?;
-    each_case_holds(&rt, MACROS, &|case: &Case| has_wanted(alloc, b"", case))?;
-    each_case_holds(
-        &rt,
-        LATER_ASSIGNMENTS_DECIDE,
-        &|case: &Case| has_wanted(alloc, b"", case),
-    )?;
+fn each_case_holds(rt: HostRuntime) -> Result<(), Fail> {
+    check(&rt, rt.alloc(), WORDS)?;
+    check(&rt, rt.alloc(), LINES)?;
+    check(&rt, rt.alloc(), QUOTED_PATTERNS)?;
+    check(&rt, rt.alloc(), MACROS)?;
+    check(&rt, rt.alloc(), LATER_ASSIGNMENTS_DECIDE)?;
     Ok(())
 }
 
@@ -239,22 +222,29 @@ fn many_lines(alloc: Global) -> Result<Vec<u8>, AllocError> {
     Ok(lines)
 }
 
+fn check_after(
+    rt: &impl Abort,
+    alloc: Global,
+    before: &[u8],
+    cases: &[Case],
+) -> Result<(), AllocError> {
+    for (lines, path, name, state) in cases {
+        let mut bytes = before.to_vec(alloc)?;
+        bytes.extend_from_slice(lines)?;
+        let chain = AttrChain::top().below(alloc, 0, Some(file(alloc, &bytes, true)?))?;
+        let holds = is_same(chain.state(alloc, path, FILE, name)?, *state);
+        assert!(rt; holds, "{lines:?} at {path:?}: {name:?}");
+    }
+    Ok(())
+}
+
 #[test]
-fn states_after_many_lines(rt: HostRuntime) -> Result<(), Fail> {
-    let alloc = rt.alloc();
-    let before = many_lines(alloc)?;
-    each_case_holds(&rt, WORDS, &|case: &Case| has_wanted(alloc, &before, case))?;
-    each_case_holds(
-        &rt,
-        QUOTED_PATTERNS,
-        &|case: &Case| has_wanted(alloc, &before, case),
-    )?;
-    each_case_holds(&rt, MACROS, &|case: &Case| has_wanted(alloc, &before, case))?;
-    each_case_holds(
-        &rt,
-        LATER_ASSIGNMENTS_DECIDE,
-        &|case: &Case| has_wanted(alloc, &before, case),
-    )?;
+fn each_case_holds_after_many_lines(rt: HostRuntime) -> Result<(), Fail> {
+    let before = many_lines(rt.alloc())?;
+    check_after(&rt, rt.alloc(), &before, WORDS)?;
+    check_after(&rt, rt.alloc(), &before, QUOTED_PATTERNS)?;
+    check_after(&rt, rt.alloc(), &before, MACROS)?;
+    check_after(&rt, rt.alloc(), &before, LATER_ASSIGNMENTS_DECIDE)?;
     Ok(())
 }
 
@@ -325,8 +315,10 @@ const TEXTS: &[TextCase] = &[
 
 #[test]
 fn texts_by_a_chain(rt: HostRuntime) -> Result<(), Fail> {
-    let alloc = rt.alloc();
-    each_case_holds(&rt, TEXTS, &|case: &TextCase| texts(alloc, case))?;
+    for (parts, path, text) in TEXTS {
+        let found = text_of(parts, rt.alloc(), path)?;
+        assert!(rt; found == *text, "{} parts, {path:?}", parts.len());
+    }
     Ok(())
 }
 
@@ -342,8 +334,10 @@ const STATES: &[StateCase] = &[
 
 #[test]
 fn states_by_a_chain(rt: HostRuntime) -> Result<(), Fail> {
-    let alloc = rt.alloc();
-    each_case_holds(&rt, STATES, &|case: &StateCase| has_state(alloc, case))?;
+    for (parts, path, name, state) in STATES {
+        let holds = has_state(parts, rt.alloc(), *path, name, *state)?;
+        assert!(rt; holds, "{name:?}");
+    }
     Ok(())
 }
 

@@ -1,6 +1,5 @@
 //! Chains of ignore files.
 
-use crate::rules::cases::each_case_holds;
 use lc_rules::{Chain, IgnoreFile, Verdict};
 use std::alloc::{AllocError, Global};
 use std::sync::Arc;
@@ -83,17 +82,15 @@ const CASES: &[Case] = &[
     (MANY, b"1/2/3/4/5/6/7/8/9/10/11/b", FILE, Verdict::Included),
 ];
 
-fn verdicts(
-    alloc: Global,
-    (directories, path, is_dir, verdict): &Case,
-) -> Result<(Verdict, Verdict), AllocError> {
-    let chain = chain_of(alloc, directories)?;
-    Ok((chain.verdict(path, *is_dir), *verdict))
-}
-
 #[test]
-fn verdicts_of_chains(rt: HostRuntime) -> Result<(), Fail> {
-    let alloc = rt.alloc();
-    each_case_holds(&rt, CASES, &|case: &Case| verdicts(alloc, case))?;
+fn each_case_holds(rt: HostRuntime) -> Result<(), Fail> {
+    for (directories, path, is_dir, verdict) in CASES {
+        let found = chain_of(rt.alloc(), directories)?.verdict(path, *is_dir);
+        assert!(rt;
+            found == *verdict,
+            "{} directories, {path:?}",
+            directories.len()
+        );
+    }
     Ok(())
 }

@@ -1,6 +1,5 @@
 //! Which rule decides, by the line that it stands on.
 
-use crate::rules::cases::each_case_holds;
 use lc_rules::{Chain, DirectoriesAbove, IgnoreFile, Lines, RuleSource, Verdict, text_of_line};
 use std::alloc::{AllocError, Global};
 use std::sync::Arc;
@@ -59,22 +58,16 @@ const CASES: &[Case] = &[
     (b"", b"a", FILE, None),
 ];
 
-/// The line of a rule, and what it says.
-type Line = Option<(u32, Verdict)>;
-
-fn lines(alloc: Global, (rules, path, is_dir, wanted): &Case) -> Result<(Line, Line), AllocError> {
-    let file = read(alloc, rules)?;
-    let found = match file.last_match(path, *is_dir) {
-        Some(rule) => Some((rule.line(), rule.verdict())),
-        None => None,
-    };
-    Ok((found, *wanted))
-}
-
 #[test]
-fn lines_that_decide(rt: HostRuntime) -> Result<(), Fail> {
-    let alloc = rt.alloc();
-    each_case_holds(&rt, CASES, &|case: &Case| lines(alloc, case))?;
+fn each_case_holds(rt: HostRuntime) -> Result<(), Fail> {
+    for (rules, path, is_dir, wanted) in CASES {
+        let file = read(rt.alloc(), rules)?;
+        let found = match file.last_match(path, *is_dir) {
+            Some(rule) => Some((rule.line(), rule.verdict())),
+            None => None,
+        };
+        assert!(rt; found == *wanted, "{rules:?} at {path:?}: {found:?}");
+    }
     Ok(())
 }
 

@@ -1,6 +1,5 @@
 //! Ignore files. `tools/cases` makes each table of cases from those of `docs/cases/ignore.tsv` whose topic is its name.
 
-use crate::rules::cases::each_case_holds;
 use lc_rules::{IgnoreFile, RuleFault, Verdict};
 use std::alloc::{AllocError, Global};
 use std::process::Abort;
@@ -17,11 +16,15 @@ fn read(alloc: Global, bytes: &[u8]) -> Result<IgnoreFile, AllocError> {
     IgnoreFile::read(alloc, bytes).map_err(|_| AllocError)
 }
 
-fn verdicts(
-    alloc: Global,
-    (rules, path, is_dir, verdict): &Case,
-) -> Result<(Verdict, Verdict), AllocError> {
-    Ok((read(alloc, rules)?.verdict(path, *is_dir), *verdict))
+fn check(rt: &impl Abort, alloc: Global, cases: &[Case]) -> Result<(), AllocError> {
+    for (rules, path, is_dir, verdict) in cases {
+        let file = read(alloc, rules)?;
+        assert!(rt;
+            file.verdict(path, *is_dir) == *verdict,
+            "{rules:?} at {path:?}"
+        );
+    }
+    Ok(())
 }
 
 /// Asserts that a file has this many rules.
@@ -198,31 +201,18 @@ const DEAD_PATTERNS: &[Case] = &[
 ];
 
 #[test]
-fn verdicts_of_files(rt: HostRuntime) -> Result<(), Fail> {
-    let alloc = rt.alloc();
-    each_case_holds(&rt, LINES, &|case: &Case| verdicts(alloc, case))?;
-    each_case_holds(&rt, COMMENTS, &|case: &Case| verdicts(alloc, case))?;
-    each_case_holds(
-        &rt,
-        TRAILING_SPACES_QUOTED,
-        &|case: &Case| verdicts(alloc, case),
-    )?;
-    each_case_holds(&rt, NEGATION, &|case: &Case| verdicts(alloc, case))?;
-    each_case_holds(
-        &rt,
-        LAST_MATCH_DECIDES,
-        &|case: &Case| verdicts(alloc, case),
-    )?;
-    each_case_holds(
-        &rt,
-        MANUAL_EXAMPLE_CHECK,
-        &|case: &Case| verdicts(alloc, case),
-    )?;
-    each_case_holds(&rt, SEPARATORS, &|case: &Case| verdicts(alloc, case))?;
-    each_case_holds(&rt, WILDCARDS, &|case: &Case| verdicts(alloc, case))?;
-    each_case_holds(&rt, DOUBLE_STARS, &|case: &Case| verdicts(alloc, case))?;
-    each_case_holds(&rt, BRACKETS, &|case: &Case| verdicts(alloc, case))?;
-    each_case_holds(&rt, DEAD_PATTERNS, &|case: &Case| verdicts(alloc, case))?;
+fn each_case_holds(rt: HostRuntime) -> Result<(), Fail> {
+    check(&rt, rt.alloc(), LINES)?;
+    check(&rt, rt.alloc(), COMMENTS)?;
+    check(&rt, rt.alloc(), TRAILING_SPACES_QUOTED)?;
+    check(&rt, rt.alloc(), NEGATION)?;
+    check(&rt, rt.alloc(), LAST_MATCH_DECIDES)?;
+    check(&rt, rt.alloc(), MANUAL_EXAMPLE_CHECK)?;
+    check(&rt, rt.alloc(), SEPARATORS)?;
+    check(&rt, rt.alloc(), WILDCARDS)?;
+    check(&rt, rt.alloc(), DOUBLE_STARS)?;
+    check(&rt, rt.alloc(), BRACKETS)?;
+    check(&rt, rt.alloc(), DEAD_PATTERNS)?;
     Ok(())
 }
 
