@@ -1,4 +1,4 @@
--- The one way to cut bytes into lines, from the last byte to the first.
+-- That bytes have one cutting, which is that of `TheCutting`.
 use Rattle.std.proofs.Common.{◌≡◌, ℕ, Bool, true, false, ◌||◌, ◌⊎◌, inl, inr, List, [], ◌∷◌, ◌++◌, refl, sym, ap, subst, ◌∙◌, eqb-true}
 use Rattle.std.specs.List.{list_any}
 use Rattle.std.proofs.lemmas.Bool.{cases_Bool, or_from, or_parts}
@@ -6,35 +6,7 @@ use Rattle.lc_census.specs.Bytes.{is_lf, is_cr}
 use Rattle.lc_census.specs.Cutting.{End, lf, cr_lf, cr, Line, Cutting, HasNoEnd, bytes_of, joined, starts_with_lf, AreLines, IsCutting}
 use Rattle.lc_census.specs.Cutting.{HasOneCutting}
 use Rattle.lc_census.specs.Bytes.{is_end}
-
-abbrev pub line : List ℕ → End → Line
-line t e = record { text = t; end = e }
-
-abbrev pub cutting : List Line → List ℕ → Cutting
-cutting ls r = record { lines = ls; rest = r }
-
--- a CR before these lines: the end of an empty line, or joined to an LF that stands alone
-abbrev pub with_cr : Bool → List Line → List Line
-with_cr true [] = []
-with_cr true (l ∷ ls) = line [] cr_lf ∷ ls
-with_cr false ls = line [] cr ∷ ls
-
--- a byte of a text before this cutting
-abbrev pub with_text : ℕ → List Line → List ℕ → Cutting
-with_text x [] r = cutting [] (x ∷ r)
-with_text x (l ∷ ls) r = cutting (line (x ∷ l.text) l.end ∷ ls) r
-
-abbrev pub by_byte : Bool → Bool → ℕ → Cutting → Cutting
-by_byte true c x d = cutting (line [] lf ∷ d.lines) d.rest
-by_byte false true x d = cutting (with_cr (starts_with_lf d.lines) d.lines) d.rest
-by_byte false false x d = with_text x d.lines d.rest
-
-abbrev pub before : ℕ → Cutting → Cutting
-before x d = by_byte (is_lf x) (is_cr x) x d
-
-abbrev pub cut : List ℕ → Cutting
-cut [] = cutting [] []
-cut (x ∷ xs) = before x (cut xs)
+use Rattle.lc_census.specs.TheCutting.{line, cutting, with_cr, with_text, by_byte, before, cut}
 
 -- a byte is LF, CR or neither
 pub by_kind : (P : ℕ → Type 0) → P 10 → P 13 → ((x : ℕ) → is_lf x ≡ false → is_cr x ≡ false → P x) → (x : ℕ) → P x

@@ -17,7 +17,8 @@ use Rattle.std.proofs.lemmas.List.Sums.{sum_by-cons}
 use Rattle.std.proofs.lemmas.Bool.{cases_Bool}
 use Rattle.lc_census.specs.Fed.{rest_after}
 use Rattle.lc_census.specs.Scan.{start}
-use Rattle.lc_census.proofs.OneCutting.{line, cut, before, with_cr, with_text, before-text, by_kind}
+use Rattle.lc_census.specs.TheCutting.{line, cut, before, with_cr, with_text}
+use Rattle.lc_census.proofs.OneCutting.{before-text, by_kind}
 use Rattle.std.proofs.Math.Bool.{and-true, or-true}
 use Rattle.lc_census.proofs.Tells.Ends.{passing, ends_of, lf_run, cr_run, crlf_run}
 use Rattle.lc_census.proofs.Tells.Blank.{blank_whole, blank_run}

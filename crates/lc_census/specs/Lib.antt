@@ -8,5 +8,6 @@ pub mod Limits
 pub mod Reads
 pub mod Scan
 pub mod StdReads
+pub mod TheCutting
 pub mod TrialReads
 pub mod Whole

@@ -1,4 +1,4 @@
-//! What a census says of some bytes.
+//! The counts of a census.
 
 /// How lines end.
 #[derive(Clone, Copy, Debug, Drop, PartialEq, Eq)]

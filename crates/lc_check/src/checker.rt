@@ -1,4 +1,4 @@
-//! What the rules say of one path after another.
+//! Matching one path after another with the rules.
 //!
 //! Paths come in runs that share their directories, so the rules are matched with these once for a run.
 
@@ -75,7 +75,7 @@ fn ignoring_among<'a>(
     }
 }
 
-/// Returns what the rules say of a path, by the rule that ignores the highest ignored directory above it.
+/// Returns the finding for a path, by the rule that ignores the highest ignored directory above it.
 fn found_below<'a>(
     rules: &'a IgnoreFile,
     above: Option<&'a Rule>,
@@ -93,7 +93,7 @@ fn found_below<'a>(
     }
 }
 
-/// The rules of a file, and what they say of the directories above the last path.
+/// The rules of a file, and the rule that ignores a directory above the last path.
 #[derive(Drop)]
 pub(crate) struct Checker<'a> {
     rules: &'a IgnoreFile,
@@ -123,7 +123,7 @@ impl<'a> Checker<'a> {
         }
     }
 
-    /// Returns what the rules say of a path.
+    /// Returns the finding for a path.
     pub(crate) fn find(&mut self, path: &'a [u8], is_dir: bool) -> Finding<'a>
         ensures word { finding_word result ≡ path_word (file_verdict self.old.rules.now) path.now is_dir }
         ensures rule { finding_rule result ≡ path_rule self.old.rules.now path.now is_dir }

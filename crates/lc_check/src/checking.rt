@@ -15,7 +15,7 @@ use lc_rules::IgnoreFile;
 use lc_text::{CheckFault, PathStyle, Sink, print, read_input};
 use std::alloc::Global;
 
-/// Reads paths to the input's end, and writes what the rules say of each ([`check_text`]).
+/// Reads paths to the input's end, and writes the word of each ([`check_text`]).
 ///
 /// After any fault but `Write` nothing was written.
 pub fn check<S: Source, O: Sink>(
@@ -33,7 +33,7 @@ pub fn check<S: Source, O: Sink>(
     Ok(())
 }
 
-/// Reads paths to the input's end, and writes what the rules of a file with this name say of each, and which of them says it.
+/// Reads paths to the input's end, and writes the word of each with the rule that gives it, in the file of this name.
 ///
 /// A line of the text is four fields with tabs between: the word, as [`check_text`] has it; where the rule is that gives it, as
 /// `NAME:LINE`, lines being counted from 1; the text of that line, with its `!`, without its trailing spaces; and the line of paths. Of
@@ -59,7 +59,7 @@ pub fn check_explained<S: Source, O: Sink>(
     Ok(())
 }
 
-/// Reads rules, a line `--` and paths from one input, and writes what the rules say of each path ([`check_text`]).
+/// Reads rules, a line `--` and paths from one input, and writes the word of each path ([`check_text`]).
 ///
 /// Without such a line all of the input is rules, and there are no paths. After any fault but `Write` nothing was written.
 pub fn check_joined<S: Source, O: Sink>(

@@ -95,7 +95,7 @@ fn push_explained<'a>(
     text.extend_from_slice(b"\n")
 }
 
-/// Writes what the rules of a file say of each line of paths, and which rule says it.
+/// Writes the word of each line of paths, with the rule that gives it.
 pub(crate) fn print_explained<O: Sink>(
     alloc: Global,
     lines: &RuleLines,

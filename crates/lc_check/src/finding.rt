@@ -1,4 +1,4 @@
-//! What the rules of a file say of a path.
+//! What the rules of a file decide about a path.
 
 ghost use Rattle.std.specs.Prelude.{◌≡◌, option_map};
 ghost use Rattle.lc_check.specs.CheckText.{verdict_word};
@@ -16,7 +16,7 @@ fn verdict_word(verdict: Verdict) -> &'static str
     }
 }
 
-/// What the rules of a file say of a path: the first that holds.
+/// What the rules of a file decide about a path: the first variant that holds.
 #[derive(Clone, Copy)]
 pub(crate) enum Finding<'a> {
     /// No entry of a tree can have this path.

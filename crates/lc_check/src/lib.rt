@@ -1,8 +1,8 @@
-//! The check of paths by the rules of one file: what they say of each path, a line each.
+//! The check of paths by the rules of one file: a word for each path, a line each.
 //!
 //! - `checking`: the three checks, of paths, with the rule of each, and of rules and paths in one input
 //! - `joined`: rules and paths in one input; `text`: the text of a check; `explained`: that with the rules, written as it is made
-//! - `checker`: what the rules say of one path after another; `finding`: what is found of a path
+//! - `checker`: matching one path after another; `finding`: what the rules decide about a path
 //! - `laws`: what is true of the definitions that the contracts cite
 #![tactic(auto)]
 

@@ -27,7 +27,7 @@ fn push_checked<'a>(
     text.extend_from_slice(b"\n")
 }
 
-/// Makes the text of a check: what the rules say of each line of paths.
+/// Makes the text of a check: the word of each line of paths.
 ///
 /// A line of the text is a word, a tab and the line of paths, in a style. One slash at a path's end means a directory. The word is the
 /// first that holds of

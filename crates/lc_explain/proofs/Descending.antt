@@ -23,7 +23,8 @@ use Rattle.lc_explain.proofs.StackEnds.{last_is}
 module _ (s : SelectionModel) (exclude : List ℕ) (stack : DirStack) (j : JobModel) (rest name others : List ℕ) (as_dir : Bool)
     (at : IsCutAt rest name others) where
   beside_step : said_beside s exclude stack j (segments_of rest) as_dir
-      ≡ said_above (cited exclude stack) (reason_for s j name Dir) (said_beside s exclude stack (child_job j name) (segments_of others) as_dir)
+      ≡ said_above (cited exclude stack) (reason_for s j name Dir)
+          (said_beside s exclude stack (child_job j name) (segments_of others) as_dir)
   beside_step =
       let h = has_first others in
       ap (λ (l : List (List ℕ)). said_beside s exclude stack j l as_dir) (at.cut ∙ ap (λ (l : List (List ℕ)). name ∷ l) h.are)
@@ -68,7 +69,8 @@ module _ (Enters : JobModel → Result OpenDirModel FaultLineModel → Type 0) (
       (stack_end Enters s exclude top [] above here (subst (λ (l : DirStack). IsStack Enters s exclude top l) end is))
 
   -- the last element of a way is where what is left of the path stands
-  pub at_last : (stack : DirStack) (path rest : List ℕ) (here : OpenDirModel) → IsStack Enters s exclude top stack → StandsBelow stack path rest
+  pub at_last : (stack : DirStack) (path rest : List ℕ) (here : OpenDirModel) → IsStack Enters s exclude top stack
+      → StandsBelow stack path rest
       → slice_get stack (length stack - 1) ≡ Some here → IsLast stack path rest here
   at_last stack path rest here is stands last =
       let same : here ≡ stands.here = last_is stack stands.above stands.here here stands.is last in
@@ -78,7 +80,8 @@ module _ (Enters : JobModel → Result OpenDirModel FaultLineModel → Type 0) (
         left = stands.left ∙ ap (λ (h : OpenDirModel). path_in h.job.path rest) (sym same);
       }
 
-  module _ (stack : DirStack) (path rest : List ℕ) (here : OpenDirModel) (last : IsLast stack path rest here) (good : is_bad_path path ≡ false)
+  module _ (stack : DirStack) (path rest : List ℕ) (here : OpenDirModel) (last : IsLast stack path rest here)
+      (good : is_bad_path path ≡ false)
       (name : List ℕ) where
     -- a path that ends in a name of the last directory is explained by what is said of that name
     pub last_explained : (as_dir : Bool) (x : Explanation) → segments_of rest ≡ name ∷ []

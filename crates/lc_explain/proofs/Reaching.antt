@@ -32,7 +32,8 @@ module _ (reason : Option Reason) (is_there : Bool) (Skipped : Reason → Type 0
 
 module _ (Enters : JobModel → Result OpenDirModel FaultLineModel → Type 0) (s : SelectionModel) (exclude : List ℕ) where
   -- the last name is said of
-  pub last_said : (stack : DirStack) (here : OpenDirModel) (rest name : List ℕ) (as_dir : Bool) (x : Explanation) → segments_of rest ≡ name ∷ []
+  pub last_said : (stack : DirStack) (here : OpenDirModel) (rest name : List ℕ) (as_dir : Bool) (x : Explanation)
+      → segments_of rest ≡ name ∷ []
       → x ≡ said_of s exclude stack here.job name (kind_asked as_dir (kind_in here.entries name))
       → IsSaid Enters s exclude stack here (segments_of rest) as_dir x
   last_said stack here rest name as_dir x cut is =
@@ -47,7 +48,8 @@ module _ (Enters : JobModel → Result OpenDirModel FaultLineModel → Type 0) (
     is_there = is_directory (kind_in here.entries name)
 
     abbrev Below : List (List ℕ) → Type 0
-    Below names = OnEntering Enters (child_job here.job name) x (λ child. IsSaid Enters s exclude (stack ++ child ∷ []) child names as_dir x)
+    Below names = OnEntering Enters (child_job here.job name) x
+        (λ child. IsSaid Enters s exclude (stack ++ child ∷ []) child names as_dir x)
 
     abbrev Step : List (List ℕ) → Type 0
     Step names =
@@ -57,7 +59,8 @@ module _ (Enters : JobModel → Result OpenDirModel FaultLineModel → Type 0) (
     at_name : Step (segments_of others) → IsSaid Enters s exclude stack here (segments_of rest) as_dir x
     at_name step =
         let h = has_first others in
-        subst (λ (l : List (List ℕ)). IsSaid Enters s exclude stack here l as_dir x) (sym (cut ∙ ap (λ (l : List (List ℕ)). name ∷ l) h.are))
+        subst (λ (l : List (List ℕ)). IsSaid Enters s exclude stack here l as_dir x)
+            (sym (cut ∙ ap (λ (l : List (List ℕ)). name ∷ l) h.are))
         (subst Step h.are step)
 
     -- by the reason to leave out a name before it
@@ -130,7 +133,8 @@ module _ (Enters : JobModel → Result OpenDirModel FaultLineModel → Type 0) (
     )
 
     -- a way that was cut
-    pub stack_cut : (above stack gone : DirStack) → IsStackBelow Enters s exclude top above (stack ++ gone) → IsStackBelow Enters s exclude top above stack
+    pub stack_cut : (above stack gone : DirStack) → IsStackBelow Enters s exclude top above (stack ++ gone)
+        → IsStackBelow Enters s exclude top above stack
     stack_cut above [] gone is = tt
     stack_cut above (w ∷ ws) gone is = (is.0, stack_cut (above ++ w ∷ []) ws gone is.1)
 

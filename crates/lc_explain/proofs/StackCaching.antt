@@ -85,7 +85,8 @@ module _ (Enters : JobModel → Result OpenDirModel FaultLineModel → Type 0) (
   no_stacks stacks none = subst (λ (l : DirStacks). AreStacks Enters s exclude top l) (sym none) (λ at. tt)
 
   -- a way more, and with it no other but its beginnings
-  pub stacks_kept : (old new : DirStacks) (stack : DirStack) (at : ℕ) → AreStacks Enters s exclude top old → IsStack Enters s exclude top stack
+  pub stacks_kept : (old new : DirStacks) (stack : DirStack) (at : ℕ) → AreStacks Enters s exclude top old
+      → IsStack Enters s exclude top stack
       → Keeps old stack new at → AreStacks Enters s exclude top new
   stacks_kept old new stack at are is keeps i = by (keeps.others i)
     where

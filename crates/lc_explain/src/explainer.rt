@@ -177,7 +177,8 @@ impl<'t, T: Tree> Explainer<'t, T> {
         path: &'p [u8],
         as_dir: bool,
     ) -> Result<Found<'p>, AllocError>
-        requires stacks { AreStacks (MayEnter (T.lists self.now.reader.tree.now) (T.gives self.now.reader.tree.now)) self.now.reader.selection
+        requires stacks { AreStacks
+            (MayEnter (T.lists self.now.reader.tree.now) (T.gives self.now.reader.tree.now)) self.now.reader.selection
             self.now.exclude.now self.now.top kept.old }
         requires stands { StandsBelow (stack_at kept.old near.at) path.now near.rest.now }
         requires good { is_bad_path path.now ≡ false }

@@ -1,5 +1,6 @@
 -- Counting goes on, name by name.
-use Rattle.std.proofs.Common.{◌≡◌, false, codes, ℕ, List, [], ◌∷◌, ◌++◌, refl, sym, ◌∙◌, ap, subst, Result, Ok, Err, Vec, append-nil, append_assoc}
+use Rattle.std.proofs.Common.{◌≡◌, false, codes, ℕ, List, [], ◌∷◌, ◌++◌, refl, sym, ◌∙◌, ap, subst, Result, Ok, Err, Vec, append-nil}
+use Rattle.std.proofs.Common.{append_assoc}
 use Rattle.std.specs.Global.{Global}
 use Rattle.std.specs.List.{flat_map}
 use Rattle.std.proofs.lemmas.Grind.{flat_map-append}

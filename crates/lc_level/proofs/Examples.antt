@@ -6,7 +6,8 @@ use Rattle.lc_level.specs.Answers.{Item, file_item, directory_item, other_item, 
 use Rattle.lc_level.specs.Examples.{bad_name, entries, small_node, whole_file, small_items, vec}
 use Rattle.lc_level.specs.Examples.{Names, names_in, as_it_is, exported, small_names, small_outside, small_as_it_is}
 use Rattle.lc_census.specs.Census.{count_of}
-use Rattle.lc_census.proofs.OneCutting.{cut, cut_is}
+use Rattle.lc_census.specs.TheCutting.{cut}
+use Rattle.lc_census.proofs.OneCutting.{cut_is}
 use Rattle.lc_census.specs.Cutting.{lf, Cutting, IsCutting, HasOneCutting}
 use Rattle.lc_census.specs.declared.line_count.Eol.TheVariants.{Lf}
 use Rattle.lc_glob.specs.IsMatch as IsMatch

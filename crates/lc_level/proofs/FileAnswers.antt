@@ -4,7 +4,8 @@ use Rattle.std.proofs.Common.{ap, subst, arith, length-append}
 use Rattle.std.specs.List.{concat}
 use Rattle.std.proofs.lemmas.Bool.{lt-ltb, le-ltb}
 use Rattle.lc_census.specs.Census.{IsCensus}
-use Rattle.lc_census.proofs.OneCutting.{cut, cut_is}
+use Rattle.lc_census.specs.TheCutting.{cut}
+use Rattle.lc_census.proofs.OneCutting.{cut_is}
 use Rattle.lc_level.specs.FileAnswers.{census, counted, read_as_rules}
 use Rattle.lc_level.specs.FileReads.{MayCount, MayReadRules}
 use Rattle.lc_level.proofs.SomeReads.{held_rules}

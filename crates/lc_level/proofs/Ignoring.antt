@@ -15,7 +15,8 @@ use Rattle.lc_rules.specs.declared.rule_source.RuleSource.{RuleSource}
 use Rattle.lc_rules.specs.declared.verdicts.Verdict.TheVariants.{Ignored, Included}
 
 -- a rule that ignores is told by its line
-pub by_ignoring : (source : RuleSource) (rule : RuleModel) (line : ℕ) (decides : Option (RuleSource × RuleModel)) → Some (source, rule) ≡ decides
+pub by_ignoring : (source : RuleSource) (rule : RuleModel) (line : ℕ) (decides : Option (RuleSource × RuleModel))
+    → Some (source, rule) ≡ decides
     → Ignored ≡ verdict_by rule → line ≡ rule.line → Some (by_rule source line) ≡ rule_reason decides
 by_ignoring source rule line decides is ignores at =
     ap (λ n. Some (by_rule source n)) at ∙ told rule.is_negated ignores ∙ ap rule_reason is

@@ -5,7 +5,8 @@ use Rattle.std.specs.List.{concat}
 use Rattle.std.proofs.Math.Nat.{le-pred_of_lt}
 use Rattle.std.proofs.lemmas.Bool.{cases_lt}
 use Rattle.std.proofs.lemmas.List.{append-nil, take-append-drop, length-take-le}
-use Rattle.lc_census.proofs.OneCutting.{cut, cut_is}
+use Rattle.lc_census.specs.TheCutting.{cut}
+use Rattle.lc_census.proofs.OneCutting.{cut_is}
 use Rattle.lc_census.specs.Census.{IsCensus, count_of}
 use Rattle.lc_census.specs.Reads.{at_end, at_failure, at_neither}
 use Rattle.lc_census.specs.declared.line_count.Count.{Count}

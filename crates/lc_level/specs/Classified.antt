@@ -40,7 +40,8 @@ abbrev pub bytes_of : List (Vec ℕ Global) → List (List ℕ)
 bytes_of names = map (λ (n : Vec ℕ Global). n.items) names
 
 -- what was taken before, and after it these names of files, child directories and entries left out
-pub record Gains (old new : Classified) (files : List (List ℕ)) (children : List (List ℕ × JobModel)) (skipped : List SkippedModel) : Type 0 where
+pub record Gains (old new : Classified) (files : List (List ℕ)) (children : List (List ℕ × JobModel))
+    (skipped : List SkippedModel) : Type 0 where
   pub files_are : bytes_of new.files.items ≡ bytes_of old.files.items ++ files
   pub children_are : new.children.items ≡ old.children.items ++ children
   pub skipped_are : new.skipped.items ≡ old.skipped.items ++ skipped
@@ -61,7 +62,8 @@ IsChild j path (Err TooDeep) = nat_lt max_depth (depth_of path) ≡ true
 IsChild j path (Err (Faulted site word)) = ⊥
 
 -- what classifying a child directory answers, which may have too many segments: one that is left in has not
-abbrev pub ClassifiesDirectory : Bool → Option Reason → Bool → List ℕ × JobModel → Classified → Classified → Result (Unit {0}) OpenFault → Type 0
+abbrev pub ClassifiesDirectory : Bool → Option Reason → Bool → List ℕ × JobModel → Classified → Classified → Result (Unit {0}) OpenFault
+    → Type 0
 ClassifiesDirectory left_out reason deep child old new (Ok _) =
     Gains old new [] (cond (is_none reason) (child ∷ []) []) (kept_skipped left_out child.0 Dir reason)
     × ((is_none reason && deep) ≡ false)

@@ -1,7 +1,7 @@
 -- What a file of memory gives, as values: where it is counted, and where it is read as rules.
 use Rattle.std.specs.Prelude.{ℕ, cond, nat_lt, List, length, Result, Ok, Err}
 use Rattle.lc_census.specs.Census.{count_of}
-use Rattle.lc_census.proofs.OneCutting.{cut}
+use Rattle.lc_census.specs.TheCutting.{cut}
 use Rattle.lc_census.specs.declared.line_count.Count.{Count}
 use Rattle.lc_rules.specs.Limits.{max_rule_bytes}
 use Rattle.lc_tree.specs.Trees.{Content}

@@ -1,7 +1,8 @@
 //! The entries of a directory: those that stay by its rules and the selection, and those that are skipped.
 ghost use Rattle.std.specs.Prelude.{◌≡◌, ◌≤◌, true, false, length, nat_lt};
 ghost use Rattle.lc_glob.specs.Path.{depth_of, max_depth, max_path};
-ghost use Rattle.lc_level.specs.Classified.{IsChild, LeavesOut, ClassifiesFile, ClassifiesDirectory, ClassifiesOther, ClassifiesEntry, ClassifiesAll};
+ghost use Rattle.lc_level.specs.Classified.{IsChild, LeavesOut, ClassifiesFile, ClassifiesDirectory, ClassifiesOther, ClassifiesEntry};
+ghost use Rattle.lc_level.specs.Classified.{ClassifiesAll};
 ghost use Rattle.lc_level.specs.Level.{reason_at, job_at};
 ghost use Rattle.lc_level.specs.Reasons.{reason_ref_model};
 

@@ -44,7 +44,7 @@ pub fn trees_of_memory_give_one()
     files_of_memory_are_read_once();
 }
 
-/// A node of memory stands for one tree, given as a value: its answers are some that a tree of memory may give, and where each
+/// A node of memory is one tree, given as a value: its answers are some that a tree of memory may give, and where each
 /// file has under 4 GiB no others give another level.
 pub fn a_node_is_one_tree()
     ensures answers { NodeAnswersLaw }

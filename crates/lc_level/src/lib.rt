@@ -12,7 +12,7 @@
 //! - `paths`: the path of a name in a directory, and a path seen from a directory
 //! - `rule_text`: a file of rules that is read by itself, with its text
 //! - `level_reader`: what is lent for all of this; `scratch`, `path_buffer`: its buffers, and the paths of entries one after another
-//! - `open_fault`: why a directory gives nothing of its entries; `fault_word`: the words by which a report tells of faults
+//! - `open_fault`: why a directory gives nothing of its entries; `fault_word`: the words by which a report names errors
 //! - `laws`: that this work makes the level of the definitions
 #![tactic(auto)]
 

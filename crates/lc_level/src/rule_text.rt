@@ -37,7 +37,7 @@ impl From<AllocError> for RulesFileFault {
     }
 }
 
-/// A file that was not opened has no rules: for want of memory, or as one that cannot be read.
+/// A file that was not opened has no rules: an allocation failed, or it cannot be read.
 impl From<io::Error> for RulesFileFault {
     ghost from_gives = { λ _ fault. fault ≢ TooLong };
 

@@ -23,7 +23,7 @@ pub trait Sink {
         ensures taken { may_take self.old bytes.now result self.new };
 }
 
-/// A vector takes all bytes at once, and fails only for want of memory.
+/// A vector takes all bytes in one write, and fails only if an allocation fails.
 impl Sink for Vec<u8> {
     ghost may_take = { AppendsAll };
 

@@ -6,7 +6,8 @@ use Rattle.lc_census.specs.Scan.{after, after_all}
 use Rattle.lc_census.specs.Cutting.{End, lf, cr_lf, cr, Line, Cutting, starts_with_lf}
 use Rattle.lc_census.specs.Bytes.{is_lf, is_cr, is_end, is_space, one_if}
 use Rattle.lc_census.specs.Census.{is_blank_text}
-use Rattle.lc_census.proofs.OneCutting.{line, cut, before, with_cr, with_text, before-text, by_kind}
+use Rattle.lc_census.specs.TheCutting.{line, cut, before, with_cr, with_text}
+use Rattle.lc_census.proofs.OneCutting.{before-text, by_kind}
 use Rattle.std.proofs.Math.Bool.{and-true}
 use Rattle.lc_census.proofs.Tells.Ends.{passing}
 

@@ -7,7 +7,8 @@ use Rattle.lc_census.specs.Cutting.{lf, Line, Cutting, is_empty, starts_with_lf}
 use Rattle.lc_census.specs.Bytes.{is_end, is_space}
 use Rattle.lc_census.specs.Census.{is_blank_text}
 use Rattle.lc_census.specs.Fed.{rest_after}
-use Rattle.lc_census.proofs.OneCutting.{line, cut, before, with_cr, with_text, before-text, by_kind}
+use Rattle.lc_census.specs.TheCutting.{line, cut, before, with_cr, with_text}
+use Rattle.lc_census.proofs.OneCutting.{before-text, by_kind}
 use Rattle.std.proofs.Math.Bool.{and-true, or-true}
 
 -- whether the rest goes on and is blank, where the line before the bytes does and is

@@ -3,7 +3,8 @@ use mir.Val.{bool_byte}
 use Rattle.lc_census.specs.Bytes.{one_if}
 use Rattle.lc_census.specs.Fed.{CensusModel}
 use Rattle.lc_census.specs.declared.line_count.Count.{Count}
-use Rattle.lc_census.proofs.OneCutting.{cut, cut_is}
+use Rattle.lc_census.specs.TheCutting.{cut}
+use Rattle.lc_census.proofs.OneCutting.{cut_is}
 use Rattle.lc_census.proofs.Tells.{told, scan_tells}
 use Rattle.lc_census.proofs.census.Census.finish.Goals as goal
 

@@ -236,6 +236,7 @@ names-preserved g c =
     entered.1 ∙ ap (λ (j : JobModel). j.path) child)
     (subst (λ j. enters j (Ok entered.0)) child entered.1) in
     record {
-      stacks = stacks_kept enters s exclude top c.names.kept c.enter.new.kept longer_stack c.in-Ok.child c.names.invariant.stacks on.0 entered.2;
+      stacks = stacks_kept enters s exclude top c.names.kept c.enter.new.kept longer_stack c.in-Ok.child c.names.invariant.stacks on.0
+          entered.2;
       stands = subst (λ l. StandsBelow l path others) (sym entered.2.is) on.1;
     }

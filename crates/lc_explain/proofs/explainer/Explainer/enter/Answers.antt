@@ -8,7 +8,7 @@ returns-in-Err-Faulted g c =
     let fault = c.in-Err-Faulted in
     let entered = rw fault.field-0-is at fault.ensures.enters in (
       same_fault lists gives c.args.job.now c.args.directory.now fault.site _ fault.word _ fault.site-is fault.word-is
-          (fault_entered lists gives c.args.job.now c.args.self.now.reader.options.texts fault.site fault.word c.args.directory.now c.requires
-          entered),
+          (fault_entered lists gives c.args.job.now c.args.self.now.reader.options.texts fault.site fault.word c.args.directory.now
+          c.requires entered),
       c.kept.view_is,
     )

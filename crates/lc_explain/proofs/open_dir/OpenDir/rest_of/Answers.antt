@@ -3,7 +3,8 @@ use Rattle.lc_glob.specs.Path.{path_in}
 use Rattle.lc_explain.specs.OpenDirs.{OpenDirModel}
 use Rattle.lc_explain.proofs.open_dir.OpenDir.rest_of.Goals as goal
 
-below : (d path : List ℕ) (r : Option (Bor (List ℕ))) → MatchOption r ((rest : List ℕ) → path ≢ path_in d rest) (λ x. path ≡ path_in d x.now)
+below : (d path : List ℕ) (r : Option (Bor (List ℕ)))
+    → MatchOption r ((rest : List ℕ) → path ≢ path_in d rest) (λ x. path ≡ path_in d x.now)
     → IfSome r (λ x. path ≡ path_in d x.now)
 below d path None none = tt
 below d path (Some x) is = is
