@@ -261,6 +261,12 @@ name_cost weight names k name d t m n low is before paid =
     subst (λ (b : ℕ). n ≤ t + weight * b) (sym more)
     (grown weight (bytes_with_ends (names_of (take k names))) (length name + 1) t m n before paid)
 
+-- the name at a place is that of the one that is lent there
+pub at_place : (names : List (Bor (List ℕ))) (k : ℕ) (name : List ℕ) → k < length names → name ≡ get_or (names_of names) k []
+    → (d : Bor (List ℕ)) × (name ≡ (get_or names k d).now)
+at_place [] k name low is = let no : ⊥ = omega (arith, low) in absurd no
+at_place (n ∷ ns) k name low is = (n, is ∙ get_or-map (λ x. x.now) (n ∷ ns) k n [] low)
+
 -- one flag more is kept or not
 module _ (us : List TokenModel) (names : List (Bor (List ℕ))) (old now : List Bool) (k : ℕ) (b : Bool) (name : List ℕ) (d : Bor (List ℕ))
     (low : k < length now) (within : k < length names) (is : name ≡ (get_or names k d).now)

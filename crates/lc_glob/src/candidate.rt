@@ -3,10 +3,8 @@
 ghost use Rattle.std.specs.Prelude.{◌≡◌, ◌==◌, length, bytes_eq};
 ghost use Rattle.lc_glob.specs.ByteTests.{tests_if};
 
-use crate::element::Element;
 use crate::lengths::Lengths;
-use crate::path_segment::{ByteTests, PathSegment};
-use crate::segments_left::SegmentsLeft;
+use crate::path_segment::{ByteTests, PathLeft, PathSegment};
 use std::marker::Model;
 
 /// The least number of bytes of a path that is measured. To look at each segment of a shorter one costs less.
@@ -25,8 +23,9 @@ const MANY_PATTERNS: usize = 64;
 /// ```
 #[derive(Drop)]
 pub struct Candidate<'a> {
-    path: &'a [u8],
-    pub(crate) above: SegmentsLeft<'a, u8>,
+    /// The path, as if it were one segment.
+    whole: PathSegment<'a>,
+    pub(crate) above: PathLeft<'a>,
     pub(crate) last: PathSegment<'a>,
     /// The lengths of the segments above the last.
     pub(crate) lengths: Lengths,
@@ -39,9 +38,9 @@ impl<'a> Model for Candidate<'a> {
 
     ghost Value = { List ℕ };
 
-    ghost view = { λ c. c.path.now };
+    ghost view = { λ c. c.whole.bytes.now };
 
-    ghost invariant = { λ c. (segments_of c.path.now ≡ segments_left c.above.rest ++ c.last.bytes.now ∷ [])
+    ghost invariant = { λ c. (segments_of c.whole.bytes.now ≡ segments_left c.above.rest ++ c.last.bytes.now ∷ [])
         × AreBetween c.lengths (segments_left c.above.rest) };
 }
 
@@ -76,17 +75,17 @@ impl<'a> Candidate<'a> {
     fn measured_from(path: &'a [u8], long: usize) -> Self
         ensures { result ≡ path.now }
     {
-        let (rest, last) = u8::cut_at_last_separator(path);
-        let above = SegmentsLeft { rest };
+        let whole = PathSegment::new(path);
+        let (above, last) = PathLeft::split_path(whole);
         let lengths = if path.len() < long {
             Lengths::unknown()
         } else {
             Lengths::of(above)
         };
         Candidate {
-            path,
+            whole,
             above,
-            last: PathSegment::new(last),
+            last,
             lengths,
         }
     }
@@ -96,7 +95,7 @@ impl<'a> Candidate<'a> {
     pub(crate) fn whole(&self) -> PathSegment<'a>
         ensures { result.bytes.now ≡ self.now }
     {
-        PathSegment::new(self.path)
+        self.whole
     }
 
     /// Whether the path is these bytes. It makes a byte test for each of them, where the path has as many.

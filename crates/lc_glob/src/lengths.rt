@@ -9,8 +9,8 @@ ghost use Rattle.lc_glob.specs.Patterns.{plain};
 ghost use Rattle.lc_glob.specs.Views.{segment_ref_model, segments_ref_model, tokens_ref_model};
 
 use crate::element::{Element, has_star};
+use crate::path_segment::PathLeft;
 use crate::segment_ref::{SegmentRef, SegmentsRef, TokensRef};
-use crate::segments_left::SegmentsLeft;
 
 /// The least and the greatest number of bytes of a path's segments, as far as they are known.
 #[derive(Clone, Copy)]
@@ -31,7 +31,7 @@ impl Lengths {
     }
 
     /// Measures segments, in one pass over them.
-    pub(crate) fn of(path: SegmentsLeft<u8>) -> Self
+    pub(crate) fn of(path: PathLeft) -> Self
         ensures { AreBetween result (segments_left path.entry.rest) }
     {
         let mut rest = path;

@@ -12,20 +12,20 @@ ghost use Rattle.lc_glob.specs.Matches.{MatchesPath};
 ghost use Rattle.lc_glob.specs.Views.{segments_ref_model, tokens_ref_model};
 
 use crate::match_segment::fits;
-use crate::path_segment::{ByteTests, PathSegment};
+use crate::path_segment::{ByteTests, PathNames, PathSegment};
 use crate::segment_ref::{SegmentRef, SegmentsRef, TokensRef};
 
 /// Flags the names of the directories that the segments match.
 pub(crate) fn match_above(
     segments: SegmentsRef,
-    names: &[&[u8]],
+    names: PathNames,
     flags: &mut [bool],
     tests: &mut ByteTests,
 )
-    requires { length names.now ≡ length flags.old }
+    requires { length names.names.now ≡ length flags.old }
     ensures len { length flags.new ≡ length flags.old }
-    ensures cost { tests.new.made ≤ tests.old.made + full_cost (segments_ref_model segments.entry) (names_of names.now) }
-    ensures set { AreSet flags.new (λ k. MatchesPath (segments_ref_model segments.entry) (take (k + 1) (names_of names.now))) }
+    ensures cost { tests.new.made ≤ tests.old.made + full_cost (segments_ref_model segments.entry) (names_of names.entry.names.now) }
+    ensures set { AreSet flags.new (λ k. MatchesPath (segments_ref_model segments.entry) (take (k + 1) (names_of names.entry.names.now))) }
 {
     let Some((last, front)) = segments.split_last() else {
         flags.fill(false);
@@ -40,11 +40,11 @@ pub(crate) fn match_above(
 }
 
 /// Flags the names of which the segments lead to what stands above.
-fn lead_above(segments: SegmentsRef, names: &[&[u8]], flags: &mut [bool], tests: &mut ByteTests)
-    requires { length names.now ≡ length flags.old }
+fn lead_above(segments: SegmentsRef, names: PathNames, flags: &mut [bool], tests: &mut ByteTests)
+    requires { length names.names.now ≡ length flags.old }
     ensures len { length flags.new ≡ length flags.old }
-    ensures cost { tests.new.made ≤ tests.old.made + full_cost (segments_ref_model segments.entry) (names_of names.now) }
-    ensures set { AreSet flags.new (λ k. Leads (segments_ref_model segments.entry) (take k (names_of names.now))) }
+    ensures cost { tests.new.made ≤ tests.old.made + full_cost (segments_ref_model segments.entry) (names_of names.entry.names.now) }
+    ensures set { AreSet flags.new (λ k. Leads (segments_ref_model segments.entry) (take k (names_of names.entry.names.now))) }
 {
     flag_first(flags);
     let mut rest = segments;
@@ -72,16 +72,16 @@ fn flag_first(flags: &mut [bool])
 }
 
 /// Keeps the flags of the names that the tokens fit, each of which is compared at most once.
-pub(crate) fn keep(flags: &mut [bool], names: &[&[u8]], tokens: TokensRef, tests: &mut ByteTests)
-    requires { length names.now ≡ length flags.old }
+pub(crate) fn keep(flags: &mut [bool], names: PathNames, tokens: TokensRef, tests: &mut ByteTests)
+    requires { length names.names.now ≡ length flags.old }
     ensures len { length flags.new ≡ length flags.old }
     ensures set { AreSet flags.new
-        (λ k. IsSet flags.old k × Fits (tokens_ref_model tokens.entry) (slice_index_or (names_of names.now) k [])) }
+        (λ k. IsSet flags.old k × Fits (tokens_ref_model tokens.entry) (slice_index_or (names_of names.entry.names.now) k [])) }
     ensures cost { tests.new.made ≤ tests.old.made
-        + (length (tokens_ref_model tokens.entry) + 1) * bytes_with_ends (names_of names.now) }
+        + (length (tokens_ref_model tokens.entry) + 1) * bytes_with_ends (names_of names.entry.names.now) }
 {
     for k in 0..flags.len() {
-        flags[k] = keeps(flags[k], tokens, PathSegment::new(names[k]), tests);
+        flags[k] = keeps(flags[k], tokens, names.at(k), tests);
     }
 }
 

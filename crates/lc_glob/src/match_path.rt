@@ -13,9 +13,8 @@ ghost use Rattle.lc_glob.specs.Views.{segments_ref_model};
 
 use crate::candidate::Candidate;
 use crate::match_segment::fits;
-use crate::path_segment::{ByteTests, PathSegment};
+use crate::path_segment::{ByteTests, PathLeft};
 use crate::segment_ref::{SegmentRef, SegmentsRef};
-use crate::segments_left::SegmentsLeft;
 
 /// Whether the segments match the path's. It is inlined, so that segments of each kind have code of their own: to test which kind
 /// they are, and to pass them on in memory, costs more than to compare the last of them, which rejects most paths.
@@ -50,7 +49,7 @@ pub(crate) fn matches_path(segments: SegmentsRef, path: &Candidate, tests: &mut 
 #[derive(Clone, Copy)]
 struct PathCursor<'p, 'n> {
     segments: SegmentsRef<'p>,
-    left: SegmentsLeft<'n, u8>,
+    left: PathLeft<'n>,
 }
 
 /// What the last of a pattern's segments does with the last of a path's.
@@ -100,7 +99,7 @@ impl<'p, 'n> PathCursor<'p, 'n> {
         let Some((left, name)) = self.left.split_last() else {
             return PathEndStep::Stuck;
         };
-        if fits(tokens, PathSegment::new(name), tests) {
+        if fits(tokens, name, tests) {
             PathEndStep::Taken(PathCursor { segments, left })
         } else {
             PathEndStep::Stuck
@@ -129,7 +128,7 @@ impl<'p, 'n> PathCursor<'p, 'n> {
         let Some((name, left)) = self.left.split_first() else {
             return PathFrontStep::Stuck;
         };
-        if fits(tokens, PathSegment::new(name), tests) {
+        if fits(tokens, name, tests) {
             PathFrontStep::Taken(PathCursor { segments, left })
         } else {
             PathFrontStep::Stuck

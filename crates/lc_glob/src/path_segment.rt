@@ -1,10 +1,17 @@
-//! One segment of a path, whose bytes are seen only through tests that are counted.
+//! Segments of a path, whose bytes are seen only through tests that are counted.
+//!
+//! What is matched leaves this module as `PathSegment`s, `PathLeft`s and `PathNames`, whose bytes no other module can read. The search
+//! for slashes is not counted.
 
-ghost use Rattle.std.specs.Prelude.{◌≡◌, ◌↔◌, ◌==◌, nat_le, nat_lt, IsTrue, length, bytes_eq, nat_eq};
+ghost use Rattle.std.specs.Prelude.{◌≡◌, ◌↔◌, ◌==◌, ◌<◌, ◌∷◌, ◌++◌, [], nat_le, nat_lt, IsTrue, MatchOption, length, bytes_eq, nat_eq};
+ghost use Rattle.std.specs.Prelude.{slice_index_or};
 ghost use Rattle.std.specs.List.{ends_with};
+ghost use Rattle.lc_glob.specs.Above.{names_of};
 ghost use Rattle.lc_glob.specs.ByteTests.{tests_after, tests_if, SkipsFirst, StripsFirst, StripsLast};
+ghost use Rattle.lc_glob.specs.Path.{segments_of, segments_left};
 ghost use Rattle.lc_glob.specs.Views.{token_ref_model};
 
+use crate::element::Element;
 use crate::token::TokenRef;
 
 /// The number of byte tests. It stops at the greatest `u64`.
@@ -139,5 +146,74 @@ impl<'a> PathSegment<'a> {
     {
         tests.add(literals.len());
         self.bytes.ends_with(literals)
+    }
+}
+
+/// The segments of a path that are still to be matched: none, or those of the bytes that are left. They are found one by one from
+/// either end.
+#[derive(Clone, Copy)]
+pub(crate) struct PathLeft<'a> {
+    rest: Option<&'a [u8]>,
+}
+
+impl<'a> PathLeft<'a> {
+    /// The segments above the last of a path, and the last.
+    pub(crate) fn split_path(path: PathSegment<'a>) -> (Self, PathSegment<'a>)
+        ensures { segments_of path.entry.bytes.now ≡ segments_left result.0.rest ++ result.1.bytes.now ∷ [] }
+    {
+        let (rest, last) = u8::cut_at_last_separator(path.bytes);
+        (PathLeft { rest }, PathSegment { bytes: last })
+    }
+
+    /// Whether no segment is left.
+    pub(crate) fn is_over(self) -> bool
+        ensures { IsTrue result ↔ (segments_left self.entry.rest ≡ []) }
+    {
+        match self.rest {
+            None => true,
+            Some(_) => false,
+        }
+    }
+
+    /// The first of the segments, and the others.
+    pub(crate) fn split_first(self) -> Option<(PathSegment<'a>, Self)>
+        ensures { MatchOption result (segments_left self.entry.rest ≡ [])
+            (λ p. segments_left self.entry.rest ≡ p.0.bytes.now ∷ segments_left p.1.rest) }
+    {
+        let (first, rest) = u8::cut_at_first_separator(self.rest?);
+        Some((PathSegment { bytes: first }, PathLeft { rest }))
+    }
+
+    /// The segments before the last, and the last.
+    pub(crate) fn split_last(self) -> Option<(Self, PathSegment<'a>)>
+        ensures { MatchOption result (segments_left self.entry.rest ≡ [])
+            (λ p. segments_left self.entry.rest ≡ segments_left p.0.rest ++ p.1.bytes.now ∷ []) }
+    {
+        let (rest, last) = u8::cut_at_last_separator(self.rest?);
+        Some((PathLeft { rest }, PathSegment { bytes: last }))
+    }
+}
+
+/// The names on the way down to a directory, one segment each.
+#[derive(Clone, Copy)]
+pub(crate) struct PathNames<'a> {
+    names: &'a [&'a [u8]],
+}
+
+impl<'a> PathNames<'a> {
+    pub(crate) fn new(names: &'a [&'a [u8]]) -> Self
+        ensures { result.names.now ≡ names.now }
+    {
+        PathNames { names }
+    }
+
+    /// The name at a place.
+    pub(crate) fn at(self, place: usize) -> PathSegment<'a>
+        requires { place < length self.names.now }
+        ensures { result.bytes.now ≡ slice_index_or (names_of self.entry.names.now) place [] }
+    {
+        PathSegment {
+            bytes: self.names[place],
+        }
     }
 }

@@ -9,7 +9,7 @@ ghost use Rattle.lc_glob.specs.Reading.{pattern_of};
 ghost use Rattle.lc_glob.specs.Views.{pattern_ref_model};
 
 use crate::candidate::Candidate;
-use crate::path_segment::ByteTests;
+use crate::path_segment::{ByteTests, PathNames};
 use crate::pattern_ref::PatternRef;
 use crate::reading::read_pattern;
 use crate::scope::Scope;
@@ -146,7 +146,8 @@ impl Pattern {
         ensures len { length flags.new ≡ length flags.old }
         ensures told { TellMatches self.now (names_of names.now) flags.new }
     {
-        self.as_ref().match_directories(names, flags);
+        self.as_ref()
+            .match_directories(PathNames::new(names), flags);
     }
 
     /// Like `match_directories`, but also counts byte tests: for all directories together it makes no more than one match
@@ -165,7 +166,8 @@ impl Pattern {
             → result ≤ (length bytes + 1) * (length path + 1) }
     {
         let mut tests = ByteTests::none();
-        self.as_ref().flag_directories(names, flags, &mut tests);
+        self.as_ref()
+            .flag_directories(PathNames::new(names), flags, &mut tests);
         tests.made()
     }
 

@@ -8,7 +8,7 @@ ghost use Rattle.lc_glob.specs.Matches.{Matches};
 ghost use Rattle.lc_glob.specs.Views.{pattern_ref_model};
 
 use crate::candidate::Candidate;
-use crate::path_segment::ByteTests;
+use crate::path_segment::{ByteTests, PathNames};
 use crate::pattern_view::PatternView;
 use crate::simple_pattern::SimplePattern;
 use crate::token_pattern::TokenPattern;
@@ -74,21 +74,26 @@ impl<'p> PatternRef<'p> {
         }
     }
 
-    pub(crate) fn match_directories(self, names: &[&[u8]], flags: &mut [bool])
-        requires { length names.now ≡ length flags.old }
+    pub(crate) fn match_directories(self, names: PathNames, flags: &mut [bool])
+        requires { length names.names.now ≡ length flags.old }
         ensures len { length flags.new ≡ length flags.old }
-        ensures told { TellMatches (pattern_ref_model self.entry) (names_of names.now) flags.new }
+        ensures told { TellMatches (pattern_ref_model self.entry) (names_of names.entry.names.now) flags.new }
     {
         self.flag_directories(names, flags, &mut ByteTests::none());
     }
 
     /// Like `match_directories`, but also counts byte tests.
-    pub(crate) fn flag_directories(self, names: &[&[u8]], flags: &mut [bool], tests: &mut ByteTests)
-        requires { length names.now ≡ length flags.old }
+    pub(crate) fn flag_directories(
+        self,
+        names: PathNames,
+        flags: &mut [bool],
+        tests: &mut ByteTests,
+    )
+        requires { length names.names.now ≡ length flags.old }
         ensures len { length flags.new ≡ length flags.old }
-        ensures told { TellMatches (pattern_ref_model self.entry) (names_of names.now) flags.new }
+        ensures told { TellMatches (pattern_ref_model self.entry) (names_of names.entry.names.now) flags.new }
         ensures cost { tests.new.made
-            ≤ tests.old.made + full_cost (pattern_ref_model self.entry).segments (names_of names.now) }
+            ≤ tests.old.made + full_cost (pattern_ref_model self.entry).segments (names_of names.entry.names.now) }
     {
         self.view().flag_directories(names, flags, tests);
     }

@@ -7,6 +7,7 @@ ghost use Rattle.lc_glob.specs.PatternSets.{last_match_below, pattern_at};
 ghost use Rattle.lc_glob.specs.Views.{form_model, token_pattern_model, pattern_ref_model};
 
 use crate::candidate::Candidate;
+use crate::path_segment::PathNames;
 use crate::pattern::Pattern;
 use crate::pattern_ref::PatternRef;
 use crate::scope::Scope;
@@ -205,7 +206,8 @@ impl PatternSet {
         ensures len { length flags.new ≡ length flags.old }
         ensures told { TellMatches (pattern_at self.now index) (names_of names.now) flags.new }
     {
-        self.pattern(index).match_directories(names, flags);
+        self.pattern(index)
+            .match_directories(PathNames::new(names), flags);
     }
 
     /// Whether some pattern has nested wildcards, as `Pattern::has_nested_wildcards` says.

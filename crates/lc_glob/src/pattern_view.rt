@@ -7,7 +7,7 @@ ghost use Rattle.lc_glob.specs.Views.{pattern_view_model, simple_model};
 ghost use Rattle.lc_glob.specs.declared.simple_pattern.SimpleKind.TheVariants.{Other};
 
 use crate::match_above::{has_nested_wildcards, keep, match_above};
-use crate::path_segment::ByteTests;
+use crate::path_segment::{ByteTests, PathNames};
 use crate::segment_ref::{SegmentsRef, TokensRef};
 use crate::segments_left::SegmentsLeft;
 use crate::simple_pattern::{OtherKind, SimpleKind};
@@ -99,14 +99,14 @@ impl<'p> PatternView<'p> {
 
     pub(crate) fn flag_directories(
         &self,
-        names: &[&[u8]],
+        names: PathNames,
         flags: &mut [bool],
         tests: &mut ByteTests,
     )
-        requires { length names.now ≡ length flags.old }
+        requires { length names.names.now ≡ length flags.old }
         ensures len { length flags.new ≡ length flags.old }
-        ensures told { TellMatches self.now (names_of names.now) flags.new }
-        ensures cost { tests.new.made ≤ tests.old.made + full_cost self.now.segments (names_of names.now) }
+        ensures told { TellMatches self.now (names_of names.entry.names.now) flags.new }
+        ensures cost { tests.new.made ≤ tests.old.made + full_cost self.now.segments (names_of names.entry.names.now) }
     {
         match self.kind {
             KindRef::Dead => flags.fill(false),

@@ -1,4 +1,4 @@
-//! Segments, cut by separators, that are found one by one from either end.
+//! Segments of a pattern, cut by separators, that are found one by one from either end.
 
 ghost use Rattle.std.specs.Prelude.{◌≡◌, ◌↔◌, IsTrue, [], ◌∷◌, ◌++◌, MatchOption};
 ghost use Rattle.std.specs.List.{slice_split};
@@ -6,7 +6,7 @@ ghost use Rattle.lc_glob.specs.Pieces.{cuts_left};
 
 use crate::element::Element;
 
-/// The segments that are still to be matched: none, or those of the elements.
+/// The segments of a pattern that are still to be matched: none, or those of the elements.
 #[derive(Clone, Copy)]
 pub(crate) struct SegmentsLeft<'a, E> {
     pub(crate) rest: Option<&'a [E]>,

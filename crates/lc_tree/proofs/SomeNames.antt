@@ -1,36 +1,88 @@
 -- Entries of some names, name by name.
-use Rattle.std.proofs.Common.{ℕ, List, [], ◌∷◌, ◌++◌, inl, inr, map, refl, sym, subst, Vec}
-use Rattle.std.proofs.lemmas.List.{map-append}
+use Rattle.std.proofs.Common.{ℕ, List, [], ◌∷◌, ◌++◌, Option, Some, None, Result, Ok, Err, Vec, inl, inr, refl, sym, ◌∙◌, ap, subst, append_assoc}
 use Rattle.std.specs.Global.{Global}
+use Rattle.std.specs.Prelude.{IfOk, MatchResult}
+use Rattle.std.proofs.lemmas.List.{append-nil}
 use Rattle.lc_tree.specs.Listing.{EntryModel, names}
-use Rattle.lc_tree.specs.SysTrees.{AddsIfThere}
+use Rattle.lc_census.specs.Reads.{Answer}
+use Rattle.lc_tree.specs.SysLists.{IsListed}
+use Rattle.lc_tree.specs.SysNames.{AreNamesRead}
+use Rattle.lc_tree.specs.SysLooks.{Looks, bytes_of, entry_of, AreEntriesOf, IsEntryOf, IsFaultOf, IsFirstFault}
 use Rattle.lc_tree.specs.Trees.{AreOf, AreSomeOf}
+use Rattle.lc_tree.specs.declared.entry.Kind.{Kind}
+use Rattle.lc_tree.specs.declared.read_fault.ReadFault.{ReadFault}
+use Rattle.lc_tree.specs.declared.read_fault.ReadFault.TheVariants as fault
 
--- a name that is not there
-passed : (ns os : List (List ℕ)) (o : List ℕ) → AreSomeOf ns os → AreSomeOf ns (os ++ o ∷ [])
+-- a name in front that is not there
+passed : (ns os : List (List ℕ)) (o : List ℕ) → AreSomeOf ns os → AreSomeOf ns (o ∷ os)
 passed [] os o some = tt
-passed (n ∷ ns) [] o some = absurd some
-passed (n ∷ ns) (p ∷ os) o (inl (is, some)) = inl (is, passed ns os o some)
-passed (n ∷ ns) (p ∷ os) o (inr some) = inr (passed (n ∷ ns) os o some)
+passed (n ∷ ns) os o some = inr some
 
--- a name that is
-added : (ns os : List (List ℕ)) (o : List ℕ) → AreSomeOf ns os → AreSomeOf (ns ++ o ∷ []) (os ++ o ∷ [])
-added [] [] o some = inl (refl, tt)
-added [] (p ∷ os) o some = inr (added [] os o tt)
-added (n ∷ ns) [] o some = absurd some
-added (n ∷ ns) (p ∷ os) o (inl (is, some)) = inl (is, added ns os o some)
-added (n ∷ ns) (p ∷ os) o (inr some) = inr (added (n ∷ ns) os o some)
+module _ (may : List ℕ → Looks) (directory text : List ℕ) where
+  -- the names of these entries are some of the names, in their order
+  pub of_some : (ns : List (List ℕ)) (es : List EntryModel) → AreEntriesOf may directory text ns es → AreSomeOf (names es) ns
+  of_some [] es none = subst (λ (l : List EntryModel). AreSomeOf (names l) []) (sym none) tt
+  of_some (n ∷ ns) es (None, rest, is, all, e) =
+      subst (λ (l : List EntryModel). AreSomeOf (names l) (n ∷ ns)) (sym e) (passed (names rest) ns n (of_some ns rest all))
+  of_some (n ∷ ns) es (Some kind, rest, is, all, e) =
+      subst (λ (l : List EntryModel). AreSomeOf (names l) (n ∷ ns)) (sym e) (inl (refl, of_some ns rest all))
 
--- one name more is looked at
-pub next_looked : (old new : List EntryModel) (asked : List (Vec ℕ Global)) (name : Vec ℕ Global) → AreOf old asked
-    → AddsIfThere name.items old new → AreOf new (asked ++ name ∷ [])
-next_looked old new asked name some adds =
-    subst (AreSomeOf (names new)) (sym (map-append (λ (n : Vec ℕ Global). n.items) asked (name ∷ []))) (at adds)
-  where
-    at : AddsIfThere name.items old new → AreSomeOf (names new) (map (λ (n : Vec ℕ Global). n.items) asked ++ name.items ∷ [])
-    at (inl same) =
-        subst (λ (es : List EntryModel). AreSomeOf (names es) (map (λ (n : Vec ℕ Global). n.items) asked ++ name.items ∷ [])) (sym same)
-        (passed (names old) (map (λ (n : Vec ℕ Global). n.items) asked) name.items some)
-    at (inr more) =
-        subst (λ ns. AreSomeOf ns (map (λ (n : Vec ℕ Global). n.items) asked ++ name.items ∷ [])) (sym more)
-        (added (names old) (map (λ (n : Vec ℕ Global). n.items) asked) name.items some)
+  -- one name more
+  pub entries_more : (ns : List (List ℕ)) (es : List EntryModel) (name : List ℕ) (kind : Option Kind) → AreEntriesOf may directory text ns es
+      → IsEntryOf may directory text name kind → AreEntriesOf may directory text (ns ++ name ∷ []) (es ++ entry_of name kind)
+  entries_more [] es name kind none is =
+      (kind, [], is, refl, ap (λ (l : List EntryModel). l ++ entry_of name kind) none ∙ sym (append-nil (entry_of name kind)))
+  entries_more (n ∷ ns) es name kind (k, rest, first, all, e) is = (
+    k,
+    rest ++ entry_of name kind,
+    first,
+    entries_more ns rest name kind all is,
+    ap (λ (l : List EntryModel). l ++ entry_of name kind) e ∙ append_assoc (entry_of n k) rest (entry_of name kind),
+  )
+
+  -- the fault of a name after names that have entries
+  pub first_fault : (ns : List (List ℕ)) (es : List EntryModel) (name : List ℕ) (after : List (List ℕ)) (found : ReadFault)
+      → AreEntriesOf may directory text ns es → IsFaultOf may directory text name found
+      → IsFirstFault may directory text (ns ++ name ∷ after) found
+  first_fault [] es name after found all is = inl is
+  first_fault (n ∷ ns) es name after found (k, rest, first, all, e) is = inr ((k, first), first_fault ns rest name after found all is)
+
+  -- the entries of the names that were asked are entries of some of them
+  pub are_of : (asked : List (Vec ℕ Global)) (result : Result (Vec EntryModel Global) ReadFault)
+      → MatchResult result (λ (entries : Vec EntryModel Global). AreEntriesOf may directory text (bytes_of asked) entries.items)
+      (IsFirstFault may directory text (bytes_of asked))
+      → IfOk result (λ (entries : Vec EntryModel Global). AreOf entries.items asked)
+  are_of asked (Ok entries) is = of_some (bytes_of asked) entries.items is
+  are_of asked (Err found) is = tt
+
+  -- memory may be refused at any name
+  pub memory_fault : (ns : List (List ℕ)) → IsFirstFault may directory text ns fault.Memory
+  memory_fault [] = refl
+  memory_fault (n ∷ ns) = inl tt
+
+  -- no name is at fault for what entries make no listing for
+  pub no_bad_name : (ns : List (List ℕ)) → IsFirstFault may directory text ns fault.BadName → ⊥
+  no_bad_name [] is = cc
+  no_bad_name (n ∷ ns) (inl is) = is
+  no_bad_name (n ∷ ns) (inr later) = no_bad_name ns later.1
+
+  pub no_twice : (ns : List (List ℕ)) → IsFirstFault may directory text ns fault.Twice → ⊥
+  no_twice [] is = cc
+  no_twice (n ∷ ns) (inl is) = is
+  no_twice (n ∷ ns) (inr later) = no_twice ns later.1
+
+  pub no_too_many : (ns : List (List ℕ)) → IsFirstFault may directory text ns fault.TooMany → ⊥
+  no_too_many [] is = cc
+  no_too_many (n ∷ ns) (inl is) = is
+  no_too_many (n ∷ ns) (inr later) = no_too_many ns later.1
+
+-- a directory is not listed where a name is at fault
+pub not_listed : {D : Type 0} (may_give : D → ℕ → Answer → D → Type 0) (old new : D) (may : List ℕ → Looks) (directory text : List ℕ)
+    (ns : List (List ℕ)) (found : ReadFault) → AreNamesRead may_give old ns new → IsFirstFault may directory text ns found
+    → IsListed may_give old new may directory text (Err found)
+not_listed may_give old new may directory text ns fault.Failed read is = tt
+not_listed may_give old new may directory text ns fault.Memory read is = tt
+not_listed may_give old new may directory text ns fault.Unnamed read is = (ns, read, is)
+not_listed may_give old new may directory text ns fault.BadName read is = absurd (no_bad_name may directory text ns is)
+not_listed may_give old new may directory text ns fault.Twice read is = absurd (no_twice may directory text ns is)
+not_listed may_give old new may directory text ns fault.TooMany read is = absurd (no_too_many may directory text ns is)

@@ -7,7 +7,12 @@ pub mod Listing
 pub mod MemTrees
 pub mod Nodes
 pub mod OneAnswer
+pub mod Parts
 pub mod Paths
+pub mod Sketches
+pub mod SysLists
+pub mod SysLooks
+pub mod SysNames
 pub mod SysTrees
 pub mod TreeFaults
 pub mod Trees

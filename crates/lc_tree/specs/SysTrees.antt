@@ -1,7 +1,7 @@
 -- What a directory of the system may answer.
-use Rattle.std.specs.Prelude.{◌≡◌, ◌⊎◌, ℕ, List, [], ◌∷◌, ◌++◌, Ok, Err}
+use Rattle.std.specs.Prelude.{ℕ, List, [], ◌∷◌, ◌++◌, Ok, Err}
 use Rattle.lc_glob.specs.Bytes.{slash}
-use Rattle.lc_tree.specs.Listing.{EntryModel, IsListing, names}
+use Rattle.lc_tree.specs.Listing.{IsListing}
 use Rattle.lc_tree.specs.Trees.{Listings, Contents, IsOpenFault}
 use Rattle.lc_tree.specs.declared.read_fault.ReadFault.{ReadFault}
 
@@ -22,7 +22,3 @@ IsFaultOfOpening fault = IsOpenFault AnyContents fault
 abbrev pub top_text : List ℕ → List ℕ
 top_text [] = []
 top_text (b ∷ bs) = b ∷ bs ++ slash ∷ []
-
--- the entry of a name is added, or it is not there
-abbrev pub AddsIfThere : List ℕ → List EntryModel → List EntryModel → Type 0
-AddsIfThere name old new = (new ≡ old) ⊎ (names new ≡ names old ++ name ∷ [])

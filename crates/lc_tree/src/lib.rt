@@ -3,7 +3,8 @@
 //! - `tree`: the trait `Tree`
 //! - `entry`, `listing`: the entries of one directory, in the order of their names
 //! - `read_fault`: why a tree did not answer
-//! - `sys_tree`, `sys_names`, `sys_entries`: a directory of the system as a tree; `system_call`: calls that signals interrupt
+//! - `sys_tree`, `sys_list`, `sys_names`, `sys_entries`, `sys_looks`: a directory of the system as a tree
+//! - `system_call`: calls of the system that signals interrupt
 //! - `list_parts`: the listing of a large directory, with the help of idle threads; `idle_threads`: how many there are
 //! - `node`, `mem_tree`, `mem_file`: a tree of memory
 //! - `sketch`, `trials`: trees for tests of any crate
@@ -21,6 +22,8 @@ mod node;
 mod read_fault;
 mod sketch;
 mod sys_entries;
+mod sys_list;
+mod sys_looks;
 mod sys_names;
 mod sys_tree;
 mod system_call;

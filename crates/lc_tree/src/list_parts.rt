@@ -1,5 +1,6 @@
 //! The listing of a large directory, whose entries are looked at in parts side by side.
-ghost use Rattle.std.specs.Prelude.{◌≡◌, ◌<◌};
+ghost use Rattle.std.specs.Prelude.{◌≡◌, ◌<◌, IfOk, MatchResult};
+ghost use Rattle.lc_tree.specs.Parts.{all_of, AreJoined, IsFaultOfJoining};
 ghost use Rattle.lc_tree.specs.Trees.{Lists};
 
 use crate::{Entry, IdleThreads, Listing, ReadFault, Tree};
@@ -85,7 +86,9 @@ fn look_in_parts<T: Tree, R: Threads + Sync>(
 }
 
 // Cuts names into so many parts of nearly equal length, in order.
-fn cut(alloc: Global, names: Vec<Vec<u8>>, count: usize) -> Result<Vec<Vec<Vec<u8>>>, AllocError> {
+fn cut(alloc: Global, names: Vec<Vec<u8>>, count: usize) -> Result<Vec<Vec<Vec<u8>>>, AllocError>
+    ensures { IfOk result (λ parts. all_of parts.items ≡ names.items) }
+{
     let mut names = names;
     let mut parts = Vec::with_capacity(alloc, count)?;
     // From the last to the second, so that each name is moved once.
@@ -99,11 +102,18 @@ fn cut(alloc: Global, names: Vec<Vec<u8>>, count: usize) -> Result<Vec<Vec<Vec<u
 }
 
 // The entries of all parts, or the first fault.
-fn join(alloc: Global, parts: Vec<Result<Vec<Entry>, ReadFault>>) -> Result<Vec<Entry>, ReadFault> {
+fn join(alloc: Global, parts: Vec<Result<Vec<Entry>, ReadFault>>) -> Result<Vec<Entry>, ReadFault>
+    ensures { MatchResult result (λ entries. AreJoined parts.items entries.items) (IsFaultOfJoining parts.items) }
+{
     let mut entries = Vec::new(alloc);
     for part in parts {
-        let mut part = part?;
-        entries.append(&mut part)?;
+        let mut part = match part {
+            Ok(part) => part,
+            Err(fault) => return Err(fault),
+        };
+        let Ok(()) = entries.append(&mut part) else {
+            return Err(ReadFault::Memory);
+        };
     }
     Ok(entries)
 }

@@ -1,4 +1,6 @@
 //! A tree of memory as a table writes it.
+ghost use Rattle.std.specs.Prelude.{IfOk};
+ghost use Rattle.lc_tree.specs.Sketches.{IsTreeOf};
 
 use crate::Node;
 use std::alloc::{AllocError, Global};
@@ -19,12 +21,15 @@ pub enum Sketch<'a> {
 }
 
 impl Sketch<'_> {
-    /// The tree itself.
-    pub fn node(&self, alloc: Global) -> Result<Node, AllocError> {
+    /// The tree itself: at each path is what the sketch has there. Of a name that stands twice the first entry counts.
+    pub fn node(&self, alloc: Global) -> Result<Node, AllocError>
+        ensures { IfOk result (λ node. IsTreeOf self.now node) }
+    {
         match self {
             Sketch::Dir(entries) => {
                 let mut children = Vec::with_capacity(alloc, entries.len())?;
-                for (name, sketch) in *entries {
+                for entry in *entries {
+                    let (name, sketch) = entry;
                     children.push((name.to_vec(alloc)?, sketch.node(alloc)?))?;
                 }
                 Ok(Node::Dir(children))

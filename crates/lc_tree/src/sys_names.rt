@@ -1,54 +1,87 @@
 //! The names in a directory of the system.
+ghost use Rattle.std.specs.Prelude.{◌≡◌, ◌++◌, ◌∷◌, ◌<◌, [], IfOk, MatchResult, OnOk, filter, length, not, string_bytes};
+ghost use Rattle.lc_glob.specs.Path.{is_no_name};
+ghost use Rattle.lc_tree.specs.SysLooks.{bytes_of};
+ghost use Rattle.lc_tree.specs.SysNames.{names_in, with_slash, AreNamesRead};
+ghost use Rattle.lc_tree.specs.SysTrees.{IsFaultOfOpening};
+
 use crate::ReadFault;
 use crate::system_call::uninterrupted;
 use lc_census::{Failed, Source, StdSource};
+use lc_glob::cut_at_first;
 use std::alloc::{AllocError, Global};
 use std::rt::Files;
 
 /// The length of the buffer of one read of a directory, which has room for the names of a few hundred entries.
 const NAMES_LEN: usize = 8_192;
 
-/// All names in the directory at a path of the system, but for `.` and `..`.
-pub(crate) fn names_of<R: Files>(
-    files: &R,
-    alloc: Global,
-    path: &str,
-) -> Result<Vec<Vec<u8>>, ReadFault> {
-    let Ok(dir) = uninterrupted(|| files.open_dir(path)) else {
-        return Err(ReadFault::Failed);
-    };
-    let mut dir = StdSource(dir);
-    read_names(alloc, &mut dir)
+/// Opens the directory at a path of the system. Its reads give the names in it, each with a NUL byte after it.
+pub(crate) fn open_dir<R: Files>(files: &R, path: &str) -> Result<StdSource<R::Dir>, ReadFault>
+    ensures { MatchResult result (λ _. Unit {0}) IsFaultOfOpening }
+{
+    match uninterrupted(|| files.open_dir(path)) {
+        Ok(dir) => Ok(StdSource(dir)),
+        Err(_) => Err(ReadFault::Failed),
+    }
 }
 
-// The names that are left to be read.
-fn read_names<S: Source>(alloc: Global, dir: &mut S) -> Result<Vec<Vec<u8>>, ReadFault> {
+/// All names that the reads of a directory give up to its end, but for `.` and `..`.
+pub(crate) fn read_names<S: Source>(alloc: Global, dir: &mut S) -> Result<Vec<Vec<u8>>, ReadFault>
+    ensures { MatchResult result (λ names. AreNamesRead S.may_give dir.old (bytes_of names.items) dir.new) IsFaultOfOpening }
+{
+    let mut buffer = [0; NAMES_LEN];
+    read_names_by(alloc, &mut buffer, dir)
+}
+
+// All names, by reads into the buffer.
+fn read_names_by<S: Source>(
+    alloc: Global,
+    buffer: &mut [u8],
+    dir: &mut S,
+) -> Result<Vec<Vec<u8>>, ReadFault>
+    requires { 0 < length buffer.old }
+    ensures { MatchResult result (λ names. AreNamesRead S.may_give dir.old (bytes_of names.items) dir.new) IsFaultOfOpening }
+{
     let mut all = Vec::new(alloc);
-    let mut names = [0; NAMES_LEN];
-    for _ in 0..u64::MAX {
-        match dir.read(&mut names) {
+    for _turn in 0..u64::MAX {
+        match dir.read(buffer) {
             Ok(0) => return Ok(all),
-            Ok(len) => add_names(alloc, &names[..len], &mut all)?,
+            Ok(len) => add_names(alloc, &buffer[..len], &mut all)?,
             Err(Failed) => return Err(ReadFault::Failed),
         }
     }
     Err(ReadFault::Failed)
 }
 
-// Adds names that each end with a NUL byte.
-fn add_names(alloc: Global, names: &[u8], all: &mut Vec<Vec<u8>>) -> Result<(), AllocError> {
-    for name in names.split(|b| *b == 0) {
-        if !matches!(name, [] | [b'.'] | [b'.', b'.']) {
-            all.push(name.to_vec(alloc)?)?;
-        }
+// Adds the names that bytes hold.
+fn add_names(alloc: Global, bytes: &[u8], all: &mut Vec<Vec<u8>>) -> Result<(), AllocError>
+    ensures { OnOk result (bytes_of all.new.items ≡ bytes_of all.old.items ++ names_in bytes.now) }
+{
+    let mut rest = Some(bytes);
+    'names: while let Some(left) = rest {
+        let (name, others) = cut_at_first(0, left);
+        add_name(alloc, name, all)?;
+        rest = others;
+    }
+    Ok(())
+}
+
+// Adds a name, unless no entry has it: the empty one behind the last NUL byte, `.` and `..`.
+fn add_name(alloc: Global, name: &[u8], all: &mut Vec<Vec<u8>>) -> Result<(), AllocError>
+    ensures { OnOk result (bytes_of all.new.items ≡ bytes_of all.old.items ++ filter (λ n. not (is_no_name n)) (name.now ∷ [])) }
+{
+    if !matches!(name, [] | [b'.'] | [b'.', b'.']) {
+        all.push(name.to_vec(alloc)?)?;
     }
     Ok(())
 }
 
 /// The path of a directory with a slash at its end, which stands before the name of an entry.
-pub(crate) fn with_slash(path: String) -> Result<String, AllocError> {
+pub(crate) fn with_slash(path: String) -> Result<String, AllocError>
+    ensures { IfOk result (λ text. string_bytes text ≡ with_slash (string_bytes path)) }
+{
     let mut path = path;
-    if !path.as_str().ends_with('/') {
+    if !path.as_bytes().ends_with(b"/") {
         path.push('/')?;
     }
     Ok(path)

@@ -3,7 +3,9 @@ ghost use Rattle.std.specs.Prelude.{◌≡◌, ◌++◌, IfOk, MatchResult, stri
 ghost use Rattle.lc_tree.specs.SysTrees.{top_text, IsFaultOfOpening};
 
 use crate::sys_entries::look_at_each;
-use crate::sys_names::{names_of, with_slash};
+use crate::sys_list::list_dir;
+use crate::sys_looks::SysLook;
+use crate::sys_names::{open_dir, read_names, with_slash};
 use crate::system_call::uninterrupted;
 use crate::{Entry, Listing, ReadFault, Tree};
 use lc_census::StdSource;
@@ -96,15 +98,14 @@ where
 
     fn list(&self, alloc: Global, path: &[u8]) -> Result<Listing, ReadFault> {
         let text = self.full_path(alloc, path)?;
-        let names = names_of(self.files, alloc, text.as_str())?;
-        let entries = look_at_each(self.files, alloc, path, with_slash(text)?, names)?;
-        Ok(Listing::new(entries)?)
+        let mut dir = open_dir(self.files, text.as_str())?;
+        list_dir(&SysLook { files: self.files }, alloc, &mut dir, path, text)
     }
 
     fn names(&self, alloc: Global, path: &[u8]) -> Result<Option<Vec<Vec<u8>>>, ReadFault> {
         let text = self.full_path(alloc, path)?;
-        let names = names_of(self.files, alloc, text.as_str())?;
-        Ok(Some(names))
+        let mut dir = open_dir(self.files, text.as_str())?;
+        Ok(Some(read_names(alloc, &mut dir)?))
     }
 
     fn look(
@@ -114,7 +115,8 @@ where
         names: Vec<Vec<u8>>,
     ) -> Result<Vec<Entry>, ReadFault> {
         let text = self.full_path(alloc, path)?;
-        look_at_each(self.files, alloc, path, with_slash(text)?, names)
+        let looks = SysLook { files: self.files };
+        look_at_each(&looks, alloc, path, with_slash(text)?, names)
     }
 
     fn open_file(&self, alloc: Global, path: &[u8]) -> Result<StdSource<R::File>, ReadFault> {

@@ -30,7 +30,7 @@ impl FailingCall {
         }
     }
 
-    /// How many calls were begun so far.
+    /// How many calls were begun so far. No clause can say so of a count that threads share; tests compare it.
     pub fn begun(&self) -> u64 {
         self.begun.load(Ordering::SeqCst)
     }

@@ -7,16 +7,16 @@ use Rattle.lc_glob.proofs.match_above.lead_above.Goals as goal
 
 pub segments-init : goal.segments-init
 segments-init c =
-    let len = names_length c.args.names.now in
+    let len = names_length c.args.names.names.now in
     (refl, [], refl, led_first _ _ (omega (arith, len, c.requires, c.flag_first.ensures.len)) c.flag_first.ensures.set, omega arith)
 
 pub segments-preserved : goal.segments-preserved
 segments-preserved c =
-    let names = names_of c.args.names.now in
+    let names = names_of c.args.names.names.now in
     let before = c.segments.invariant in
     let us = tokens_ref_model c.in-Plain.tokens in
     let old_len : length c.segments.flags ≡ length names =
-    omega (arith, names_length c.args.names.now, c.requires, c.flag_first.ensures.len, before.0) in
+    omega (arith, names_length c.args.names.names.now, c.requires, c.flag_first.ensures.len, before.0) in
     let kept_len : length c.keep.new.flags ≡ length names = omega (arith, old_len, c.keep.ensures.len) in
     let new_len : length c.shift.new.flags ≡ length names = omega (arith, kept_len, c.shift.ensures.len) in (
       omega (arith, before.0, c.keep.ensures.len, c.shift.ensures.len),
@@ -29,10 +29,10 @@ segments-preserved c =
 
 pub segments-preserved-in-DoubleStar : goal.segments-preserved-in-DoubleStar
 segments-preserved-in-DoubleStar c =
-    let names = names_of c.args.names.now in
+    let names = names_of c.args.names.names.now in
     let before = c.segments.invariant in
     let old_len : length c.segments.flags ≡ length names =
-    omega (arith, names_length c.args.names.now, c.requires, c.flag_first.ensures.len, before.0) in
+    omega (arith, names_length c.args.names.names.now, c.requires, c.flag_first.ensures.len, before.0) in
     let new_len : length c.spread.new.flags ≡ length names = omega (arith, old_len, c.spread.ensures.len) in (
       omega (arith, before.0, c.spread.ensures.len),
       before.1 ++ double_star ∷ [],

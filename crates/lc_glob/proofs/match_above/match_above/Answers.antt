@@ -7,23 +7,23 @@ use Rattle.lc_glob.proofs.match_above.match_above.Goals as goal
 
 pub returns-in_default-clause-set : goal.returns-in_default-clause-set
 returns-in_default-clause-set c =
-    let len = names_length c.args.names.now in
-    matched_none _ (names_of c.args.names.now) _ c.in_default.ensures
+    let len = names_length c.args.names.names.now in
+    matched_none _ (names_of c.args.names.names.now) _ c.in_default.ensures
     (omega (arith, len, c.requires, c.fill.ensures.len)) (c.fill.ensures.after (λ y e. e) ∙ ap (λ n. replicate n false)
     (omega (arith, len, c.requires)))
 
 pub returns-in-DoubleStar-clause-set : goal.returns-in-DoubleStar-clause-set
 returns-in-DoubleStar-clause-set c =
-    let len = names_length c.args.names.now in
-    matched_star (segments_ref_model c.in-Some.front) (names_of c.args.names.now) c.lead_above.new.flags c.spread.new.flags
+    let len = names_length c.args.names.names.now in
+    matched_star (segments_ref_model c.in-Some.front) (names_of c.args.names.names.now) c.lead_above.new.flags c.spread.new.flags
     (omega (arith, len, c.requires, c.lead_above.ensures.len))
     (omega (arith, len, c.requires, c.lead_above.ensures.len, c.spread.ensures.len))
     c.lead_above.ensures.set _ (end_double _ _ _ c.in-Some.ensures c.in-DoubleStar.is) c.spread.ensures.set
 
 pub returns-in-Plain-clause-set : goal.returns-in-Plain-clause-set
 returns-in-Plain-clause-set c =
-    let len = names_length c.args.names.now in
-    matched_plain (segments_ref_model c.in-Some.front) (names_of c.args.names.now) c.lead_above.new.flags c.keep.new.flags
+    let len = names_length c.args.names.names.now in
+    matched_plain (segments_ref_model c.in-Some.front) (names_of c.args.names.names.now) c.lead_above.new.flags c.keep.new.flags
     (omega (arith, len, c.requires, c.lead_above.ensures.len))
     (omega (arith, len, c.requires, c.lead_above.ensures.len, c.keep.ensures.len))
     c.lead_above.ensures.set _ (tokens_ref_model c.in-Plain.tokens) (end_segment _ _ _ _ c.in-Some.ensures c.in-Plain.is)
@@ -31,10 +31,10 @@ returns-in-Plain-clause-set c =
 
 pub returns-in-DoubleStar-clause-cost : goal.returns-in-DoubleStar-clause-cost
 returns-in-DoubleStar-clause-cost c =
-    star_cost _ (segments_ref_model c.in-Some.front) (names_of c.args.names.now) _ _
+    star_cost _ (segments_ref_model c.in-Some.front) (names_of c.args.names.names.now) _ _
     (end_double _ _ _ c.in-Some.ensures c.in-DoubleStar.is) c.lead_above.ensures.cost
 
 pub returns-in-Plain-clause-cost : goal.returns-in-Plain-clause-cost
 returns-in-Plain-clause-cost c =
-    plain_cost _ (segments_ref_model c.in-Some.front) (tokens_ref_model c.in-Plain.tokens) (names_of c.args.names.now) _ _ _
+    plain_cost _ (segments_ref_model c.in-Some.front) (tokens_ref_model c.in-Plain.tokens) (names_of c.args.names.names.now) _ _ _
     (end_segment _ _ _ _ c.in-Some.ensures c.in-Plain.is) c.lead_above.ensures.cost c.keep.ensures.cost

@@ -11,18 +11,18 @@ returns-in_default-split_last-clause-is c =
 pub returns-then-fits-clause-cost : goal.returns-then-fits-clause-cost
 returns-then-fits-clause-cost c =
     let all = end_cost _ _ _ _ _ _ _ _
-    (end_segment _ _ _ _ c.in-Some.ensures c.in-Plain.is) c.in-Some-split_last.ensures (rw c.new.ensures at c.fits.ensures.cost) in
+    (end_segment _ _ _ _ c.in-Some.ensures c.in-Plain.is) c.in-Some-split_last.ensures c.fits.ensures.cost in
     omega (arith, all)
 
 pub returns-else-fits-clause-is : goal.returns-else-fits-clause-is
 returns-else-fits-clause-is c = λ h.
-    false≢true ((rw c.new.ensures at c.if-fits.ensures.fits).1 ((when_end _ _ _ _ _ _
+    false≢true (c.if-fits.ensures.fits.1 ((when_end _ _ _ _ _ _
     (end_segment _ _ _ _ c.in-Some.ensures c.in-Plain.is) c.in-Some-split_last.ensures).0 h).1)
 
 pub returns-else-fits-clause-cost : goal.returns-else-fits-clause-cost
 returns-else-fits-clause-cost c =
     let all = end_cost _ _ _ _ _ _ _ _
-    (end_segment _ _ _ _ c.in-Some.ensures c.in-Plain.is) c.in-Some-split_last.ensures (rw c.new.ensures at c.fits.ensures.cost) in
+    (end_segment _ _ _ _ c.in-Some.ensures c.in-Plain.is) c.in-Some-split_last.ensures c.fits.ensures.cost in
     omega (arith, all)
 
 pub returns-then-is_empty-clause-is : goal.returns-then-is_empty-clause-is

@@ -7,8 +7,8 @@ use Rattle.lc_glob.proofs.pattern_view.PatternView.flag_directories.Goals as goa
 
 pub returns-in-Dead-clause-told : goal.returns-in-Dead-clause-told
 returns-in-Dead-clause-told c =
-    let names = names_of c.args.names.now in
-    let len = names_length c.args.names.now in
+    let names = names_of c.args.names.names.now in
+    let len = names_length c.args.names.names.now in
     let is = sym c.self.view_is ∙ ap (pattern_view_model c.self.inside.is_dir_only) c.in-Dead.is in
     subst (λ (p : PatternModel). TellMatches p names c.fill.new.self) (sym is)
     (told_dead _ names c.fill.new.self refl (c.fill.ensures.after (λ y e. e)
@@ -16,8 +16,8 @@ returns-in-Dead-clause-told c =
 
 pub returns-in-LastSegment-clause-told : goal.returns-in-LastSegment-clause-told
 returns-in-LastSegment-clause-told c =
-    let names = names_of c.args.names.now in
-    let len = names_length c.args.names.now in
+    let names = names_of c.args.names.names.now in
+    let len = names_length c.args.names.names.now in
     let full : length c.keep.new.flags ≡ length names =
     omega (arith, len, c.requires, c.keep.ensures.len, c.fill-in-LastSegment.ensures.len) in
     let is = sym c.self.view_is ∙ ap (pattern_view_model c.self.inside.is_dir_only) c.in-LastSegment.is in
@@ -28,8 +28,8 @@ returns-in-LastSegment-clause-told c =
 
 pub returns-in-WholePath-clause-told : goal.returns-in-WholePath-clause-told
 returns-in-WholePath-clause-told c =
-    let names = names_of c.args.names.now in
-    let len = names_length c.args.names.now in
+    let names = names_of c.args.names.names.now in
+    let len = names_length c.args.names.names.now in
     let full : length c.match_above.new.flags ≡ length names = omega (arith, len, c.requires, c.match_above.ensures.len) in
     let is = sym c.self.view_is ∙ ap (pattern_view_model c.self.inside.is_dir_only) c.in-WholePath.is in
     subst (λ (p : PatternModel). TellMatches p names c.match_above.new.flags) (sym is)

@@ -1,7 +1,7 @@
 use Rattle.std.proofs.Common.{◌≡◌, sym, ◌∙◌, subst, string_bytes, length}
 use Rattle.std.specs.String.Boundary.{IsSplitPoint}
 use Rattle.std.proofs.lemmas.Str.{IsCharBoundary-at_seam}
-use Rattle.lc_tree.proofs.sys_entries.look.Goals as goal
+use Rattle.lc_tree.proofs.sys_entries.kind_in.Goals as goal
 
 -- the name begins where the path ended, and a text may be cut before a text
 pub truncate-requires : goal.truncate-requires

@@ -1,0 +1,12 @@
+use Rattle.std.proofs.Common.{◌≡◌, ◌++◌, List, Vec, ℕ, reverse, sym, subst}
+use Rattle.std.specs.Global.{Global}
+use Rattle.lc_tree.specs.Parts.{all_of}
+use Rattle.lc_tree.proofs.Joining.{cut_more}
+use Rattle.lc_tree.proofs.list_parts.cut.Goals as goal
+
+pub loop-left-preserved : goal.loop-left-preserved
+loop-left-preserved c =
+    subst (λ (ps : List (Vec (Vec ℕ Global) Global)). c.split_off.new.self.items ++ all_of (reverse ps) ≡ c.args.names.items)
+    (sym c.in_ok-push.ensures.items)
+    (cut_more c.args.names.items c.loop-left.names.items c.split_off.new.self.items c.loop-left.parts.items c.in_ok-part.part _
+    c.loop-left.invariant c.in_ok-part.ensures.items c.in_ok-part.ensures.tail)

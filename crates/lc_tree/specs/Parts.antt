@@ -1,0 +1,27 @@
+-- What is cut into parts, and what is joined from them.
+use Rattle.std.specs.Prelude.{◌≡◌, ◌⊎◌, List, [], ◌∷◌, ◌++◌, Result, Ok, Err, Vec}
+use Rattle.std.specs.Global.{Global}
+use Rattle.std.specs.List.{flat_map}
+use Rattle.lc_tree.specs.Listing.{EntryModel}
+use Rattle.lc_tree.specs.declared.read_fault.ReadFault.{ReadFault}
+use Rattle.lc_tree.specs.declared.read_fault.ReadFault.TheVariants as fault
+
+-- what is in all parts, part by part
+abbrev pub all_of : {X : Type 0} → List (Vec X Global) → List X
+all_of {X} parts = flat_map (λ (part : Vec X Global). part.items) parts
+
+-- what was found of a part: its entries or a fault
+abbrev pub Part : Type 0
+Part = Result (Vec EntryModel Global) ReadFault
+
+-- the entries of all parts, none of which has a fault
+abbrev pub AreJoined : List Part → List EntryModel → Type 0
+AreJoined [] entries = entries ≡ []
+AreJoined (Ok part ∷ parts) entries = (rest : List EntryModel) × AreJoined parts rest × (entries ≡ part.items ++ rest)
+AreJoined (Err found ∷ parts) entries = ⊥
+
+-- the fault of the first part that has one; before it, memory may be refused
+abbrev pub IsFaultOfJoining : List Part → ReadFault → Type 0
+IsFaultOfJoining [] found = ⊥
+IsFaultOfJoining (Ok part ∷ parts) found = (found ≡ fault.Memory) ⊎ IsFaultOfJoining parts found
+IsFaultOfJoining (Err first ∷ parts) found = found ≡ first
