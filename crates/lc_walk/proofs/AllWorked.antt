@@ -48,7 +48,8 @@ module _ {P : Type 0} (view : P → Pass JobModel Row) (ask : Asked) (MayAnswer 
       (subst (λ m. AreLawful ask (view x.pass).full MayAnswer m (r.answers ++ [])) (sym r.mine)
       (lawful_since ask (view x.pass).full MayAnswer [] r.since [] r.answers tt r.lawful)))
 
-  ended_at : (w : ℕ) (o : Option (WorkerResult P)) → ((x : WorkerResult P) → o ≡ Some x → Ran w x) → ((x : WorkerResult P) → o ≡ Some x → x.end ≡ Over)
+  ended_at : (w : ℕ) (o : Option (WorkerResult P)) → ((x : WorkerResult P) → o ≡ Some x → Ran w x)
+      → ((x : WorkerResult P) → o ≡ Some x → x.end ≡ Over)
       → (p : Pass JobModel Row) → option_map last o ≡ Some p →
       (p.worker ≡ w) × FoundOver p
   ended_at w None ran over p e = let n : None ≡ Some p = e in absurd (cc n)

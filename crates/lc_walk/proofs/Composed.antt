@@ -30,7 +30,8 @@ use Rattle.lc_walk.specs.Lawful.{Asked, IsLawful, Says, counted_files}
 use Rattle.lc_level.specs.WellFormed.{IsWellFormed}
 use Rattle.lc_walk.specs.TreeOfRows.{numbers_below, child_number, tree_from, children_by_rows, tree_of_rows}
 use Rattle.lc_walk.specs.Walked.{Walked, AreWhole, row_found, rows_found}
-use Rattle.lc_walk.specs.WalkReport.{tallied, line_of, skipped_line, tallied_in, file_in, fault_in, directory_in, skipped_lines_in, entries_in}
+use Rattle.lc_walk.specs.WalkReport.{tallied, line_of, skipped_line, tallied_in, file_in, fault_in, directory_in, skipped_lines_in}
+use Rattle.lc_walk.specs.WalkReport.{entries_in}
 use Rattle.lc_walk.specs.WalkReport.{tallied_of, files_of, faults_of, directories_of, skipped_lines_of, entry_count, IsReportOf}
 use Rattle.lc_walk.specs.Assembled.{fault_line, directories_by_row, files_by_row, faults_by_row, skipped_by_row, entries_by_row}
 use Rattle.lc_walk.specs.Assembled.{directories_in_rows, files_in_rows, faults_in_rows, skipped_in_rows, entries_in_rows, AreFindings}
@@ -54,7 +55,8 @@ use Rattle.lc_board.proofs.Weights.{each-map, flat_map-on}
 use Rattle.lc_walk.proofs.Moves.{lists_moved}
 use Rattle.lc_walk.proofs.Law.{core_law, one_answer_law}
 use Rattle.lc_walk.proofs.OneTree.{agrees}
-use Rattle.lc_walk.proofs.Listings.{flat_twice, sum_twice, flat_asked, tallied_went, files_went, faults_went, skipped_went, directories_went}
+use Rattle.lc_walk.proofs.Listings.{flat_twice, sum_twice, flat_asked, tallied_went, files_went, faults_went, skipped_went}
+use Rattle.lc_walk.proofs.Listings.{directories_went}
 use Rattle.lc_walk.proofs.Listings.{entries_went, got_here, by_number, by_place, sums_by_number, below_all, numbers_from_0}
 
 -- whether a post of a pass was answered Full
@@ -367,7 +369,8 @@ module _ (ask : Asked) (MayAnswer : List ℕ → Answers → Type 0) (capacity w
           faults_once = is.faults_strictly
               (subst (λ l. AreApart (fault_paths l)) (fault_rows ∙ sym tells.faults) (fault_list_apart found once));
           skipped_once = is.skipped_strictly
-              (subst (λ l. AreApart (skipped_paths l)) (skipped_rows ∙ sym tells.skipped) (skipped_list_apart found once ask.lists.left_out));
+              (subst (λ l. AreApart (skipped_paths l)) (skipped_rows ∙ sym tells.skipped)
+              (skipped_list_apart found once ask.lists.left_out));
           apart = all_lists_apart found once ask.lists r ours;
           one_answer = λ tree one depth deep. report_law ask.lists found (walk_of ask.selection depth top tree) r
               (IsPermutation-sym _ _ (one_answer_law tree ask full capacity workers top history rows answers walked whole at_top

@@ -11,6 +11,7 @@ use Rattle.lc_level.specs.Job.{JobModel}
 use Rattle.lc_level.specs.Level.{Fate, counted, failed, walked, skipped, Level, faulted_level, listed_level, level, walked_in, fates_of}
 use Rattle.lc_level.specs.Narrowing.{part_of, absent_from}
 use Rattle.lc_level.specs.RuleFiles.{extended}
+use Rattle.lc_level.specs.FaultLines.{FaultLineModel}
 use Rattle.lc_level.specs.Selection.{SelectionModel}
 use Rattle.lc_tree.specs.Trees.{Listings, Contents}
 use Rattle.lc_level.specs.declared.fault_word.FaultWord.TheVariants.{Absent}
@@ -18,7 +19,6 @@ use Rattle.lc_walk.specs.Accounts.{absent_line, IsAccounted, EntriesLaw}
 use Rattle.lc_walk.specs.Found.{Found, found_file, found_fault, found_directory, found_skipped, found_absent, found_by, found_of, found_at}
 use Rattle.lc_walk.specs.Found.{children_of}
 use Rattle.lc_walk.specs.Found.{children_at}
-use Rattle.lc_walk.specs.TreeOfRows.{tree_of_rows}
 use Rattle.lc_walk.specs.Walk.{walks_below, walk_by, walk_of}
 use Rattle.lc_walk.specs.WalkOptions.{asked_by, top_of}
 use Rattle.lc_walk.specs.WalkReport.{entries_in, tallied_of, faults_of, directories_of, skipped_lines_of, entry_count, IsReportOf}
@@ -28,7 +28,9 @@ use Rattle.lc_walk.proofs.Levels.{level_keeps}
 use Rattle.lc_walk.proofs.AbsentPaths.{absent_asked}
 use Rattle.lc_walk.proofs.Elements.{In, contains}
 use Rattle.lc_walk.proofs.Listings.{no_entries_within}
+use Rattle.lc_walk.proofs.PresentFaults.{IsOther, IsFineFate, IsFineLevel, level_fine, each_led}
 use Rattle.lc_walk.proofs.Reports.{report_law}
+use Rattle.lc_walk.proofs.RowTrees.{by_answers}
 use Rattle.lc_walk.proofs.WalkParts.{walk_splits, walk_maps, walk_grows, walk_each}
 
 -- each entry is found, or is a child directory
@@ -48,6 +50,33 @@ absent_of j (listed_level fates absent) = map (path_in j.path) absent
 abbrev own_of : JobModel → Level → List Found
 own_of j (faulted_level path word) = found_fault path word ∷ []
 own_of j (listed_level fates absent) = found_directory j.path (length fates) ∷ flat_map (found_by j.path) fates
+
+-- a fault of what is there
+abbrev IsPresent : Found → Type 0
+IsPresent (found_file directory f) = Unit {0}
+IsPresent (found_fault path word) = IsOther word
+IsPresent (found_directory path entries) = Unit {0}
+IsPresent (found_skipped directory l) = Unit {0}
+
+present_by : (d : List ℕ) (fates : List (List ℕ × Fate)) → AllByRecursion (λ f. IsFineFate f.1) fates
+    → AllByRecursion IsPresent (flat_map (found_by d) fates)
+present_by d [] fine = tt
+present_by d ((name, counted file) ∷ fates) fine = (tt, present_by d fates fine.1)
+present_by d ((name, failed word) ∷ fates) fine = (fine.0, present_by d fates fine.1)
+present_by d ((name, walked job) ∷ fates) fine = present_by d fates fine.1
+present_by d ((name, skipped kind reason) ∷ fates) fine = (tt, present_by d fates fine.1)
+
+own_present : (j : JobModel) (l : Level) → IsFineLevel l → AllByRecursion IsPresent (own_of j l)
+own_present j (faulted_level path word) fine = (fine, tt)
+own_present j (listed_level fates absent) fine = (tt, present_by j.path fates fine)
+
+-- and so are the lines of faults
+present_lines : (xs : List Found) → AllByRecursion IsPresent xs → AllByRecursion (λ (f : FaultLineModel). IsOther f.word) (faults_of xs)
+present_lines [] fine = tt
+present_lines (found_file directory f ∷ xs) fine = present_lines xs fine.1
+present_lines (found_fault path word ∷ xs) fine = (fine.0, present_lines xs fine.1)
+present_lines (found_directory path entries ∷ xs) fine = present_lines xs fine.1
+present_lines (found_skipped directory l ∷ xs) fine = present_lines xs fine.1
 
 abbrev absent_fault : List ℕ → Found
 absent_fault path = found_fault path Absent
@@ -273,10 +302,10 @@ tells lists ps xs r asked is =
     }
 
 -- a report of walks to two depths accounts for all entries
-pub accounted : (lists : ReportLists) (selection : SelectionModel) (depth : ℕ) (top : JobModel) (t : Tree) (r : Report) →
+accounted : (lists : ReportLists) (selection : SelectionModel) (depth : ℕ) (top : JobModel) (t : Tree) (r : Report) →
     lists.left_out ≡ true → IsReportOf lists (walk_of selection depth top t) r → IsReportOf lists (walk_of selection (suc depth) top t) r →
-    IsAccounted selection.only r
-accounted lists selection depth top t r asked is deeper =
+    AllByRecursion IsPresent (own_walk selection depth top t) → IsAccounted selection.only r
+accounted lists selection depth top t r asked is deeper present =
     let here = tells lists (absent_walk selection depth top t) (own_walk selection depth top t) r asked
     (report_law lists _ _ r (two_walks selection depth top t) is) in
     let below = tells lists (absent_walk selection (suc depth) top t) (own_walk selection (suc depth) top t) r asked
@@ -284,6 +313,7 @@ accounted lists selection depth top t r asked is deeper =
       absent = absent_walk selection depth top t;
       asked = walk_each (children_at selection) (absent_at selection) (Contains selection.only) (absent_here selection) depth top t;
       others = faults_of (own_walk selection depth top t);
+      present = present_lines (own_walk selection depth top t) present;
       faults = here.faults;
       all = omega (
         arith,
@@ -301,5 +331,10 @@ accounted lists selection depth top t r asked is deeper =
 -- so does the report of a walk
 pub entries_law : (lists : List ℕ → Listings) (gives : List ℕ → Contents) → EntriesLaw lists gives
 entries_law lists gives o r w asked =
-    accounted o.lists (asked_by o).selection o.max_dirs (top_of o) (tree_of_rows w.found.rows w.found.answers) r asked
-    (w.report o.max_dirs (omega arith)) (w.report (suc o.max_dirs) (omega arith))
+    let by = by_answers lists gives o r w in
+    let s : SelectionModel = (asked_by o).selection in
+    accounted o.lists s o.max_dirs (top_of o) by.answers r asked (by.report o.max_dirs (omega arith))
+    (by.report (suc o.max_dirs) (omega arith))
+    (each_led s (own_at s) IsPresent o.max_dirs (top_of o) by.answers
+    (λ place k leads. own_present k (level s k (by.answers place))
+    (level_fine lists gives s k (by.answers place) (by.given place k leads))))

@@ -33,10 +33,13 @@ pub mod PathsWithin
 pub mod Places
 pub mod Placing
 pub mod Posted
+pub mod PresentFaults
 pub mod Reach
 pub mod Reports
 pub mod RowEnds
 pub mod RowSums
+pub mod RowTrees
+pub mod SameWalks
 pub mod RulesThatIgnore
 pub mod TakingPart
 pub mod Totals

@@ -6,11 +6,13 @@ use Rattle.std.proofs.lemmas.Grind.{flat_map-append}
 use Rattle.std.proofs.lemmas.List.{map-append}
 use Rattle.std.proofs.lemmas.List.Sums.{sum_by-append, sum_by-cons}
 use Rattle.lc_level.specs.Job.{JobModel}
-use Rattle.lc_level.specs.Level.{Fate, counted, failed, walked, skipped, listed_level, counted_of, failed_of, skipped_of, counted_in, failed_in}
+use Rattle.lc_level.specs.Level.{Fate, counted, failed, walked, skipped, listed_level, counted_of, failed_of, skipped_of, counted_in}
+use Rattle.lc_level.specs.Level.{failed_in}
 use Rattle.lc_level.specs.Level.{FileFaultModel, skipped_in, absent_faults}
 use Rattle.lc_level.specs.declared.fault_word.FaultWord.TheVariants.{Absent}
 use Rattle.lc_walk.specs.Found.{Found, found_directory, found_absent, found_by, found_of}
-use Rattle.lc_walk.specs.WalkReport.{tallied, line_of, skipped_line, tallied_in, file_in, fault_in, directory_in, skipped_lines_in, entries_in}
+use Rattle.lc_walk.specs.WalkReport.{tallied, line_of, skipped_line, tallied_in, file_in, fault_in, directory_in, skipped_lines_in}
+use Rattle.lc_walk.specs.WalkReport.{entries_in}
 use Rattle.lc_walk.specs.WalkReport.{tallied_of, files_of, faults_of, directories_of, skipped_lines_of, entry_count}
 use Rattle.lc_walk.specs.Assembled.{fault_line}
 use Rattle.lc_walk.specs.TreeOfRows.{numbers_below}

@@ -17,7 +17,8 @@ use Rattle.lc_level.specs.declared.fault_word.FaultWord.{FaultWord}
 use Rattle.lc_level.specs.declared.fault_word.FaultWord.TheVariants.{Absent}
 use Rattle.lc_walk.specs.Found.{Found, found_file, found_fault, found_directory, found_skipped}
 use Rattle.lc_walk.specs.FoundAt.{IsListed, WalksInto, LeadsTo, HasEntry, Gives, IsFoundIn}
-use Rattle.lc_walk.specs.PartOfWalk.{IsWithin, EntryTakesPart, IsOnWay, IsFaultOnWay, ListsPath, PartOfWalkLaw}
+use Rattle.lc_walk.specs.GivenAnswers.{HasListings}
+use Rattle.lc_walk.specs.PartOfWalk.{IsWithin, EntryTakesPart, IsOnWay, IsFaultOnWay, ListsPath, IsPartOfWalk, PartOfWalkLaw, TwoWalksLaw}
 use Rattle.lc_walk.specs.PartOfWalk.{whole_walk, part_walk}
 use Rattle.lc_walk.proofs.AbsentPaths.{absent_asked}
 use Rattle.lc_walk.proofs.Elements.{In, is_in, contains}
@@ -27,6 +28,7 @@ use Rattle.lc_walk.proofs.PartFates.{IsFateOf, fits, same_fate, same_fault, faul
 use Rattle.lc_walk.proofs.PartsOfTrees.{by_part, of_part}
 use Rattle.lc_walk.proofs.PathsWithin.{IsAtOrBelow, name_below, name_some, path_some, below_at, on_way_of_child, on_way_up}
 use Rattle.lc_walk.proofs.PathsWithin.{within_file, directory_takes, takes_on_way}
+use Rattle.lc_walk.proofs.SameWalks.{same_walk}
 use Rattle.lc_walk.proofs.TakingPart.{in_filter, of_filter}
 
 inside_path : (j inside : JobModel) (a : Answers) (items : List Item) → IsListed j a items inside → inside.path ≡ j.path
@@ -109,18 +111,18 @@ module _ (s : SelectionModel) (only : List (List ℕ)) where
       (inr (below_at k.path (path_in inside.path n) inside.path
       (reach place (child_job inside n) k (λ p. t (n ∷ p)) more (path_some inside.path n there)) (name_below inside.path n there)))
 
-  leads_part : (place : List (List ℕ)) (j k : JobModel) (t : Tree) → ((p : List (List ℕ)) → IsWellFormed (t p)) → LeadsTo whole j t place k
+  leads_part : (place : List (List ℕ)) (j k : JobModel) (t : Tree) → HasListings whole j t → LeadsTo whole j t place k
       → IsOnWay only k.path → LeadsTo part j t place k
   leads_part [] j k t well_formed e on = e
   leads_part (n ∷ place) j k t well_formed (inside, l, more) on =
       let same : inside.path ≡ j.path = inside_path j inside (t []) l.items l.listed in
-      let there : path_in inside.path n ≢ [] = name_some inside.path n (child_good j (t []) n inside (well_formed []) l) in
+      let there : path_in inside.path n ≢ [] = name_some inside.path n (child_good j (t []) n inside (well_formed [] j refl) l) in
       let takes : EntryTakesPart only Dir (path_in inside.path n) =
       directory_takes only (path_in inside.path n)
       (on_way_up only k.path (path_in inside.path n) there (reach place (child_job inside n) k (λ p. t (n ∷ p)) more there) on) in (
         inside,
-        leaves_part j (t []) n inside (well_formed []) l (subst (λ p. EntryTakesPart only Dir (path_in p n)) same takes),
-        leads_part place (child_job inside n) k (λ p. t (n ∷ p)) (λ p. well_formed (n ∷ p)) more on,
+        leaves_part j (t []) n inside (well_formed [] j refl) l (subst (λ p. EntryTakesPart only Dir (path_in p n)) same takes),
+        leads_part place (child_job inside n) k (λ p. t (n ∷ p)) (λ p i leads. well_formed (n ∷ p) i (inside, l, leads)) more on,
       )
 
   module _ (some : only ≢ []) (good : AllByRecursion (λ path. is_good_path path ≡ true) only) where
@@ -169,8 +171,7 @@ module _ (s : SelectionModel) (only : List (List ℕ)) where
 
     -- ---- the walk
 
-    module _ (depth : ℕ) (top : JobModel) (t : Tree) (at_top : top.path ≡ [])
-        (well_formed : (place : List (List ℕ)) → IsWellFormed (t place)) where
+    module _ (depth : ℕ) (top : JobModel) (t : Tree) (at_top : top.path ≡ []) (well_formed : HasListings whole top t) where
       in_whole_walk : (x : Found) → IsFoundIn whole depth top t x → Contains (whole_walk s only depth top t) x
       in_whole_walk x r = (found_law whole depth top t x).1 r
 
@@ -191,7 +192,7 @@ module _ (s : SelectionModel) (only : List (List ℕ)) where
           IsWithin only (path_in directory f.name) → Contains (part_walk s only depth top t) (found_file directory f)
       has_file directory f r within =
           let here : IsWithin only (path_in r.job.path f.name) = subst (λ d. IsWithin only (path_in d f.name)) r.gives.0 within in
-          let name = entry_good r.job (t r.place) f.name (counted f) (well_formed r.place) r.gives.1 in
+          let name = entry_good r.job (t r.place) f.name (counted f) (well_formed r.place r.job r.leads) r.gives.1 in
           in_part_walk _ (record {
             place = r.place;
             shallow = r.shallow;
@@ -199,7 +200,7 @@ module _ (s : SelectionModel) (only : List (List ℕ)) where
             leads = leads_part r.place top r.job t well_formed r.leads (on_way_of_child only r.job.path f.name File name (inl here));
             gives = (
               r.gives.0,
-              part_entry r.job (t r.place) f.name (counted f) (well_formed r.place) r.gives.1 (λ kind is. inl here),
+              part_entry r.job (t r.place) f.name (counted f) (well_formed r.place r.job r.leads) r.gives.1 (λ kind is. inl here),
             );
           })
 
@@ -218,7 +219,7 @@ module _ (s : SelectionModel) (only : List (List ℕ)) where
       has_left_out directory l r takes =
           let here : EntryTakesPart only l.kind (path_in r.job.path l.name) =
           subst (λ d. EntryTakesPart only l.kind (path_in d l.name)) r.gives.0 takes in
-          let name = entry_good r.job (t r.place) l.name (skipped l.kind l.reason) (well_formed r.place) r.gives.1 in
+          let name = entry_good r.job (t r.place) l.name (skipped l.kind l.reason) (well_formed r.place r.job r.leads) r.gives.1 in
           in_part_walk _ (record {
             place = r.place;
             shallow = r.shallow;
@@ -226,7 +227,7 @@ module _ (s : SelectionModel) (only : List (List ℕ)) where
             leads = leads_part r.place top r.job t well_formed r.leads (on_way_of_child only r.job.path l.name l.kind name here);
             gives = (
               r.gives.0,
-              part_entry r.job (t r.place) l.name (skipped l.kind l.reason) (well_formed r.place) r.gives.1
+              part_entry r.job (t r.place) l.name (skipped l.kind l.reason) (well_formed r.place r.job r.leads) r.gives.1
                   (λ kind is. subst (λ k. EntryTakesPart only k (path_in r.job.path l.name)) (sym is) here),
             );
           })
@@ -328,24 +329,31 @@ module _ (s : SelectionModel) (only : List (List ℕ)) where
           })
       has_fault path word r (inr (inl (n, e, h))) (inl within) =
           let here : IsWithin only (path_in r.job.path n) = subst (IsWithin only) e within in
-          let name = entry_good r.job (t r.place) n (failed word) (well_formed r.place) h in
+          let name = entry_good r.job (t r.place) n (failed word) (well_formed r.place r.job r.leads) h in
           in_part_walk _ (record {
             place = r.place;
             shallow = r.shallow;
             job = r.job;
             leads = leads_part r.place top r.job t well_formed r.leads (on_way_of_child only r.job.path n File name (inl here));
-            gives = inr (inl (n, e, part_entry r.job (t r.place) n (failed word) (well_formed r.place) h (λ kind is. inl here)));
+            gives = inr (inl (
+              n,
+              e,
+              part_entry r.job (t r.place) n (failed word) (well_formed r.place r.job r.leads) h (λ kind is. inl here),
+            ));
           })
       has_fault path word r (inr (inr (rest, e, is, h))) (inl within) = absurd (is_in rest [] h.absent)
 
 -- so a walk of some paths finds of the whole
-pub part_law : PartOfWalkLaw
-part_law s only some good depth top t at_top well_formed =
+of_one_tree : (s : SelectionModel) (only : List (List ℕ)) → only ≢ [] → AllByRecursion (λ path. is_good_path path ≡ true) only →
+    (depth : ℕ) (top : JobModel) (t : Tree) → top.path ≡ [] → HasListings (narrowed s []) top t →
+    IsPartOfWalk s only depth top t (part_walk s only depth top t)
+of_one_tree s only some good depth top t at_top well_formed =
     record {
       file = λ d f c. file s only some good depth top t at_top well_formed d f ((found_law (narrowed s only) depth top t _).0 c);
       has_file = λ d f c. has_file s only some good depth top t at_top well_formed d f ((found_law (narrowed s []) depth top t _).0 c);
       skipped = λ d l c. left_out s only some good depth top t at_top well_formed d l ((found_law (narrowed s only) depth top t _).0 c);
-      has_skipped = λ d l c. has_left_out s only some good depth top t at_top well_formed d l ((found_law (narrowed s []) depth top t _).0 c);
+      has_skipped = λ d l c. has_left_out s only some good depth top t at_top well_formed d l
+          ((found_law (narrowed s []) depth top t _).0 c);
       directory = λ p c. directory s only some good depth top t at_top well_formed p c.0
           ((found_law (narrowed s only) depth top t _).0 c.1);
       has_directory = λ p c. has_directory s only some good depth top t at_top well_formed p c.0
@@ -357,3 +365,14 @@ part_law s only some good depth top t at_top well_formed =
           let r = (found_law (narrowed s []) depth top t (found_fault p w)).0 c in
           has_fault s only some good depth top t at_top well_formed p w r r.gives;
     }
+
+-- where each tree has listings
+pub part_law : PartOfWalkLaw
+part_law s only some good depth top t at_top well_formed =
+    of_one_tree s only some good depth top t at_top (λ place k leads. well_formed place)
+
+-- and of two walks whose directories answer alike
+pub two_walks_law : TwoWalksLaw
+two_walks_law s only some good depth top t u at_top well_formed alike =
+    subst (IsPartOfWalk s only depth top t) (sym (same_walk s only depth top t u alike))
+    (of_one_tree s only some good depth top t at_top well_formed)

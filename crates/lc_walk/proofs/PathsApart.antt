@@ -105,7 +105,8 @@ fault_paths_are (found_fault path word ∷ xs) = ap (λ l. path ∷ l) (fault_pa
 fault_paths_are (found_directory path entries ∷ xs) = fault_paths_are xs
 fault_paths_are (found_skipped directory l ∷ xs) = fault_paths_are xs
 
-skipped_paths_are : (asked : Bool) (xs : List Found) → skipped_paths (cond asked (skipped_lines_of xs) []) ≡ picked path_of (is_skipped asked) xs
+skipped_paths_are : (asked : Bool) (xs : List Found)
+    → skipped_paths (cond asked (skipped_lines_of xs) []) ≡ picked path_of (is_skipped asked) xs
 skipped_paths_are false xs = sym (none_picked xs (is_skipped false) none_skipped)
 skipped_paths_are true [] = refl
 skipped_paths_are true (found_file directory f ∷ xs) = skipped_paths_are true xs

@@ -15,7 +15,8 @@ use Rattle.lc_tree.specs.Paths.{names_of_path}
 use Rattle.lc_level.specs.Answers.{Item, file_item, directory_item, other_item, Tree, entry_of, name_of}
 use Rattle.lc_level.specs.Job.{JobModel}
 use Rattle.lc_level.specs.RuleFiles.{extended}
-use Rattle.lc_level.specs.Level.{Reason, other_kind, Fate, walked, skipped, level_of_items, reason_of, is_taken, child_job, file_fate, fate_of}
+use Rattle.lc_level.specs.Level.{Reason, other_kind, Fate, walked, skipped, level_of_items, reason_of, is_taken, child_job, file_fate}
+use Rattle.lc_level.specs.Level.{fate_of}
 use Rattle.lc_level.specs.Level.{listed_level, walked_in, fates_of}
 use Rattle.lc_level.specs.Narrowing.{stands_below, leads_to, part_of, absent_from}
 use Rattle.lc_level.specs.Selection.{SelectionModel}
@@ -73,7 +74,8 @@ always_so false = refl
 path_by_item : (selection : SelectionModel) (j : JobModel) (e : Item)
     → map path_of (found_by j.path (name_of e, fate_of selection j e)) ≡ map (path_in j.path) (picked name_of (stays selection j) (e ∷ []))
 path_by_item selection j (file_item n c r) =
-    path_by_reason j.path n (skipped File) (file_fate j n c) true (reason_of selection j n false) (λ reason. refl) (path_of_file j.path n j c)
+    path_by_reason j.path n (skipped File) (file_fate j n c) true (reason_of selection j n false) (λ reason. refl)
+    (path_of_file j.path n j c)
     ∙ ap (λ b. map (path_in j.path) (cond b (n ∷ []) [])) (always_so (is_taken selection j n false))
 path_by_item selection j (directory_item n) =
     path_by_reason j.path n (skipped Dir) (walked (child_job j n)) false (reason_of selection j n true) (λ reason. refl) refl
@@ -264,7 +266,8 @@ module _ (selection : SelectionModel) where
           (absent_no_own j.path r (picked name_of (stays selection j) es)
           (each_picked name_of (stays selection j) (λ n. bytes_eq n r ≡ false) es
           (each-map (λ item. leads_to (entry_of item) r ≡ false) (λ item. bytes_eq (name_of item) r ≡ false)
-          (λ item e. (or_parts (bytes_eq (name_of item) r) (is_dir (entry_of item).kind && stands_below r (name_of item)) e).0) es leads.0)))
+          (λ item e. (or_parts (bytes_eq (name_of item) r) (is_dir (entry_of item).kind && stands_below r (name_of item)) e).0)
+          es leads.0)))
           (absent_no_child k j.path r t (walked_in (fates_of selection j es)) asked.0
           (subst (AllByRecursion (IsApartFrom r)) (sym (walked_items_are selection j es))
           (no_child_led j r es leads.0)) groups)),

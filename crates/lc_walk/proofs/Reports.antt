@@ -28,6 +28,7 @@ report_law lists xs ys r moved is =
       faults_are = IsPermutation-trans _ _ _ (IsPermutation-sym _ _ (lists_moved fault_in xs ys moved)) is.faults_are;
       fault_order = is.fault_order;
       skipped_are = IsPermutation-trans _ _ _ (IsPermutation-sym _ _
-          (cond_moved lists.left_out (skipped_lines_of xs) (skipped_lines_of ys) (lists_moved skipped_lines_in xs ys moved))) is.skipped_are;
+          (cond_moved lists.left_out (skipped_lines_of xs) (skipped_lines_of ys) (lists_moved skipped_lines_in xs ys moved)))
+          is.skipped_are;
       skipped_order = is.skipped_order;
     }

@@ -63,7 +63,8 @@ module _ (s : SelectionModel) (k : JobModel) (path : List ℕ) (is_dir : Bool) (
   abbrev Decided : Type 0
   Decided = Decides (rules_in k.ignore) path is_dir source line
 
-  by_rule_at : (rule : RuleSource × RuleModel) → last_match (rules_in k.ignore) path is_dir ≡ Some rule → (b : Bool) → rule.1.is_negated ≡ b →
+  by_rule_at : (rule : RuleSource × RuleModel) → last_match (rules_in k.ignore) path is_dir ≡ Some rule → (b : Bool)
+      → rule.1.is_negated ≡ b →
       option_or (cond b None (Some (by_rule rule.0 rule.1.line))) (attribute_reason s k path is_dir) ≡ Some (by_rule source line) → Decided
   by_rule_at rule is true n e = absurd (no_attribute (find (λ name. _) s.without) source line e)
   by_rule_at rule is false n e =

@@ -17,7 +17,8 @@ use Rattle.lc_walk.specs.Lawful.{Asked}
 use Rattle.lc_walk.specs.Posting.{IsPost, HasPosted}
 use Rattle.lc_walk.specs.Serving.{BreaksOff, WorksOn, Serves}
 use Rattle.lc_walk.specs.Tally.{TallyModel, CountedFile, StandsFor}
-use Rattle.lc_walk.specs.WorkerResults.{IsLawfulEnd, AreLawful, AreLawfulSince, HasWorked, TalliesFor, RanOutOfMemory, files_given, returned_files}
+use Rattle.lc_walk.specs.WorkerResults.{IsLawfulEnd, AreLawful, AreLawfulSince, HasWorked, TalliesFor, RanOutOfMemory, files_given}
+use Rattle.lc_walk.specs.WorkerResults.{returned_files}
 use Rattle.lc_walk.specs.Assembled.{IsBrokenBy}
 use Rattle.lc_walk.proofs.Fuller.{fuller_since}
 use Rattle.lc_walk.specs.declared.broken_cause.BrokenCause.{BrokenCause}

@@ -1,5 +1,5 @@
 -- What becomes of the entries of all listed directories, by the report of a walk.
-use Rattle.std.specs.Prelude.{◌≡◌, ℕ, ◌+◌, true, false, List, ◌++◌, length, map, Ok}
+use Rattle.std.specs.Prelude.{◌≡◌, ◌≢◌, ℕ, ◌+◌, true, false, List, ◌++◌, length, map, Ok}
 use Rattle.std.specs.List.{Contains, AllByRecursion}
 use Rattle.std.specs.List.Sorted.{IsPermutation}
 use Rattle.lc_glob.specs.Path.{path_in}
@@ -29,13 +29,14 @@ use Rattle.lc_walk.specs.declared.report.Report.{Report}
 abbrev pub absent_line : List ℕ → FaultLineModel
 absent_line path = record { path = path; word = Absent }
 
--- the faults are those of paths that were asked for and are absent, and others; all entries that take part are counted files, such other
--- faults, listed directories or entries left out; the top alone is no entry. An other fault stands for a file or for a directory,
--- whichever of its files it is at
+-- the faults are those of paths that were asked for and are absent, and others, none of which has their word; all entries that take part
+-- are counted files, such other faults, listed directories or entries left out; the top alone is no entry. An other fault stands for a
+-- file or for a directory, whichever of its files it is at
 pub record IsAccounted (only : List (List ℕ)) (r : Report) : Type 0 where
   pub absent : List (List ℕ)
   pub asked : AllByRecursion (Contains only) absent
   pub others : List FaultLineModel
+  pub present : AllByRecursion (λ (f : FaultLineModel). f.word ≢ Absent) others
   pub faults : IsPermutation (map absent_line absent ++ others) r.faults.items
   pub all : r.entries + 1 ≡ r.totals.files + length others + r.directories + length r.skipped.items
 
@@ -46,7 +47,8 @@ EntriesLaw lists gives =
 
 -- an entry at this path stands in a directory to which names lead, and the last rule that matches it among those that hold there
 -- ignores it, and stands in a file of this source, on the line with this number
-pub record IsIgnoredBy (selection : SelectionModel) (top : JobModel) (t : Tree) (path : List ℕ) (source : RuleSource) (line : ℕ) : Type 0 where
+pub record IsIgnoredBy (selection : SelectionModel) (top : JobModel) (t : Tree) (path : List ℕ) (source : RuleSource) (line : ℕ)
+    : Type 0 where
   pub place : List (List ℕ)
   pub job : JobModel
   pub leads : LeadsTo selection top t place job

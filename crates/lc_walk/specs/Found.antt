@@ -6,8 +6,8 @@ use Rattle.lc_level.specs.declared.fault_word.FaultWord.TheVariants.{Absent}
 use Rattle.lc_glob.specs.Path.{path_in}
 use Rattle.lc_level.specs.Answers.{Answers}
 use Rattle.lc_level.specs.Job.{JobModel}
-use Rattle.lc_level.specs.Level.{CountedModel, SkippedModel, Fate, counted, failed, walked, skipped, Level, faulted_level, listed_level, level}
-use Rattle.lc_level.specs.Level.{walked_in}
+use Rattle.lc_level.specs.Level.{CountedModel, SkippedModel, Fate, counted, failed, walked, skipped, Level, faulted_level, listed_level}
+use Rattle.lc_level.specs.Level.{level, walked_in}
 use Rattle.lc_level.specs.Selection.{SelectionModel}
 
 -- a counted file of the directory at a path, a fault at a path, a listed directory at a path with the number of its entries that take

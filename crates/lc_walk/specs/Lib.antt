@@ -5,6 +5,7 @@ pub mod Examples
 pub mod Extension
 pub mod Found
 pub mod FoundAt
+pub mod GivenAnswers
 pub mod RowParts
 pub mod Key
 pub mod Lawful

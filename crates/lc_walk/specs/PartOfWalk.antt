@@ -14,6 +14,7 @@ use Rattle.lc_level.specs.declared.fault_word.FaultWord.{FaultWord}
 use Rattle.lc_level.specs.declared.fault_word.FaultWord.TheVariants.{Absent}
 use Rattle.lc_walk.specs.Found.{Found, found_file, found_fault, found_directory, found_skipped}
 use Rattle.lc_walk.specs.FoundAt.{LeadsTo}
+use Rattle.lc_walk.specs.GivenAnswers.{HasListings}
 use Rattle.lc_walk.specs.Walk.{walk_of}
 
 -- a path stands below another
@@ -60,26 +61,41 @@ module _ (selection : SelectionModel) (only : List (List ℕ)) (depth : ℕ) (to
 
   -- of the whole the part has the counted files that stand within, the entries left out that take part, the directories on the way, and
   -- the faults within or of directories on the way, and all of these; each other fault is of a path that is asked for and absent
-  pub record IsPartOfWalk : Type 0 where
-    pub file : (directory : List ℕ) (f : CountedModel) → Contains part_walk (found_file directory f) →
+  pub record IsPartOfWalk (part : List Found) : Type 0 where
+    pub file : (directory : List ℕ) (f : CountedModel) → Contains part (found_file directory f) →
         Contains whole_walk (found_file directory f) × IsWithin only (path_in directory f.name)
     pub has_file : (directory : List ℕ) (f : CountedModel) → Contains whole_walk (found_file directory f) →
-        IsWithin only (path_in directory f.name) → Contains part_walk (found_file directory f)
-    pub skipped : (directory : List ℕ) (l : SkippedModel) → Contains part_walk (found_skipped directory l) →
+        IsWithin only (path_in directory f.name) → Contains part (found_file directory f)
+    pub skipped : (directory : List ℕ) (l : SkippedModel) → Contains part (found_skipped directory l) →
         Contains whole_walk (found_skipped directory l) × EntryTakesPart only l.kind (path_in directory l.name)
     pub has_skipped : (directory : List ℕ) (l : SkippedModel) → Contains whole_walk (found_skipped directory l) →
-        EntryTakesPart only l.kind (path_in directory l.name) → Contains part_walk (found_skipped directory l)
-    pub directory : (path : List ℕ) → ListsPath part_walk path → ListsPath whole_walk path × IsOnWay only path
-    pub has_directory : (path : List ℕ) → ListsPath whole_walk path → IsOnWay only path → ListsPath part_walk path
-    pub fault : (path : List ℕ) (word : FaultWord) → Contains part_walk (found_fault path word) →
+        EntryTakesPart only l.kind (path_in directory l.name) → Contains part (found_skipped directory l)
+    pub directory : (path : List ℕ) → ListsPath part path → ListsPath whole_walk path × IsOnWay only path
+    pub has_directory : (path : List ℕ) → ListsPath whole_walk path → IsOnWay only path → ListsPath part path
+    pub fault : (path : List ℕ) (word : FaultWord) → Contains part (found_fault path word) →
         (Contains whole_walk (found_fault path word) × (IsWithin only path ⊎ IsFaultOnWay path word))
         ⊎ ((word ≡ Absent) × Contains only path)
     pub has_fault : (path : List ℕ) (word : FaultWord) → Contains whole_walk (found_fault path word) →
-        IsWithin only path ⊎ IsFaultOnWay path word → Contains part_walk (found_fault path word)
+        IsWithin only path ⊎ IsFaultOnWay path word → Contains part (found_fault path word)
 
--- so it is of each tree with well-formed listings, for some paths that entries can have
+  -- where a walk of the whole tree with these answers and one of these paths with others ask the same directory, both answers give the
+  -- latter one level: they may differ in what it doesn't read, as in a file that is left out
+  abbrev pub AnswerAlike : Tree → Type 0
+  AnswerAlike u =
+      (place : List (List ℕ)) (k : JobModel) → LeadsTo (narrowed selection []) top t place k
+      → LeadsTo (narrowed selection only) top u place k
+      → level (narrowed selection only) k (u place) ≡ level (narrowed selection only) k (t place)
+
+-- so it is of two such walks, for some paths that entries can have
+abbrev pub TwoWalksLaw : Type 0
+TwoWalksLaw =
+    (selection : SelectionModel) (only : List (List ℕ)) → only ≢ [] → AllByRecursion (λ path. is_good_path path ≡ true) only →
+    (depth : ℕ) (top : JobModel) (t u : Tree) → top.path ≡ [] → HasListings (narrowed selection []) top t →
+    AnswerAlike selection only depth top t u → IsPartOfWalk selection only depth top t (part_walk selection only depth top u)
+
+-- and of each tree with well-formed listings
 abbrev pub PartOfWalkLaw : Type 0
 PartOfWalkLaw =
     (selection : SelectionModel) (only : List (List ℕ)) → only ≢ [] → AllByRecursion (λ path. is_good_path path ≡ true) only →
     (depth : ℕ) (top : JobModel) (t : Tree) → top.path ≡ [] → ((place : List (List ℕ)) → IsWellFormed (t place)) →
-    IsPartOfWalk selection only depth top t
+    IsPartOfWalk selection only depth top t (part_walk selection only depth top t)

@@ -29,7 +29,8 @@ module _ {B P : Type 0} (owns : B → P → Type 0) (view : P → Pass JobModel 
 
   -- a worker that was given one has run, and leaves one that is the board's own
   abbrev pub HasRunOn : Asked → (List ℕ → Answers → Type 0) → P → WorkerResult P → Type 0
-  HasRunOn ask MayAnswer given worked = owns board worked.pass × HasRun ask MayAnswer (view given) (view worked.pass) worked.end worked.tally
+  HasRunOn ask MayAnswer given worked =
+      owns board worked.pass × HasRun ask MayAnswer (view given) (view worked.pass) worked.end worked.tally
 
   -- so has each worker that was given one of them, in order
   abbrev pub HaveRunOn : Asked → (List ℕ → Answers → Type 0) → List P → List (WorkerResult P) → Type 0

@@ -4,9 +4,10 @@ ghost use Rattle.std.specs.List.Sorted.{IsPermutation};
 ghost use Rattle.lc_walk.specs.Accounts.{EntriesLaw, RuleLaw};
 ghost use Rattle.lc_walk.specs.Examples.{WalkExamplesHold};
 ghost use Rattle.lc_walk.specs.FoundAt.{FoundLaw};
+ghost use Rattle.lc_walk.specs.GivenAnswers.{ByAnswersLaw};
 ghost use Rattle.lc_walk.specs.Laws.{CoreLaw, NumbersLaw, OneAnswerLaw, PartLaw, PathsOnceLaw};
 ghost use Rattle.lc_walk.specs.NodeWalks.{NodeOneAnswerLaw, NodeReportLaw};
-ghost use Rattle.lc_walk.specs.PartOfWalk.{PartOfWalkLaw};
+ghost use Rattle.lc_walk.specs.PartOfWalk.{PartOfWalkLaw, TwoWalksLaw};
 ghost use Rattle.lc_walk.specs.Tally.{TallyModel, CountedFile, StandsFor};
 ghost use Rattle.lc_walk.specs.WalkReport.{ReportLaw};
 
@@ -31,6 +32,14 @@ pub fn rows_are_the_walk_of_one_tree()
     ensures { OneAnswerLaw }
 {}
 
+/// The report of a walk is that of the recursive walk of some answers that its tree may give: listings, one for each directory to which
+/// names lead.
+pub fn reports_are_by_given_answers<T: Tree>(tree: &T)
+    ensures { ByAnswersLaw (T.lists tree.now) (T.gives tree.now) }
+{
+    let _tree = tree;
+}
+
 /// The report of a walk of a tree of memory, each of whose files has under 4 GiB, is that of the recursive walk of the tree that its
 /// node stands for.
 pub fn reports_of_memory_are_those_of_its_node()
@@ -52,7 +61,8 @@ pub fn all_that_is_found_is_given()
 {}
 
 /// In the report of a walk that lists the skipped entries, all entries of the listed directories that take part are files, faults,
-/// directories or entries left out, and the top alone is no entry; each other fault is a path that was asked for and is absent.
+/// directories or entries left out, and the top alone is no entry; each fault of the word `absent`, and no other, is beside these, and
+/// is of a path that was asked for.
 pub fn entries_are_accounted_for<T: Tree>(tree: &T)
     ensures { EntriesLaw (T.lists tree.now) (T.gives tree.now) }
 {
@@ -60,9 +70,11 @@ pub fn entries_are_accounted_for<T: Tree>(tree: &T)
 }
 
 /// A walk of some paths finds, of what the walk of the whole tree finds, what stands at or below one of them, the directories above, and
-/// the faults on the way; and beside that the paths that are absent.
+/// the faults on the way; and beside that the paths that are absent. So it is of two walks whose directories answered alike where both
+/// asked.
 pub fn a_part_is_the_whole_filtered()
-    ensures { PartOfWalkLaw }
+    ensures two_walks { TwoWalksLaw }
+    ensures one_tree { PartOfWalkLaw }
 {}
 
 /// The rule for which a report has an entry as skipped is the last that matches the entry, and ignores it.

@@ -107,7 +107,8 @@ impl<B: Shared<Job, Row>, T: Tree, W: Threads + Wait + Sync> Worker<'_, '_, B, T
         requires { IsPassOf B.owns B.Pass.view self.now.board.now IsFree pass }
         ensures pass { IsPassOf B.owns B.Pass.view self.now.board.now IsFree result.pass }
         ensures end { EndsAs result.end (B.Pass.view result.pass) }
-        ensures worked { HasWorked (asked_by self.now.options.now) (MayAnswer (T.lists self.now.reader.tree.now) (T.gives self.now.reader.tree.now))
+        ensures worked { HasWorked (asked_by self.now.options.now)
+            (MayAnswer (T.lists self.now.reader.tree.now) (T.gives self.now.reader.tree.now))
             (B.Pass.view pass) (B.Pass.view result.pass) result.tally }
     {
         let mut pass = pass;

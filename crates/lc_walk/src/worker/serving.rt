@@ -68,7 +68,8 @@ impl<B: Shared<Job, Row>, T: Tree, W: Threads + Wait + Sync> Worker<'_, '_, B, T
             (asked_by self.now.options.now).selection job opened }
         requires scratch { scratch.old.path.directory ≡ opened.job.path }
         ensures pass { IsPassOf B.owns B.Pass.view self.now.board.now IsFree pass.new }
-        ensures serves { Serves (asked_by self.now.options.now) (MayAnswer (T.lists self.now.reader.tree.now) (T.gives self.now.reader.tree.now))
+        ensures serves { Serves (asked_by self.now.options.now)
+            (MayAnswer (T.lists self.now.reader.tree.now) (T.gives self.now.reader.tree.now))
             (B.Pass.view pass.old) (B.Pass.view pass.new) tally.old tally.new result }
     {
         let Opened {
@@ -120,7 +121,8 @@ impl<B: Shared<Job, Row>, T: Tree, W: Threads + Wait + Sync> Worker<'_, '_, B, T
     ) -> Result<(), AllocError>
         requires { IsPassOf B.owns B.Pass.view self.now.board.now (HoldsJob job) pass.old }
         ensures pass { IsPassOf B.owns B.Pass.view self.now.board.now IsFree pass.new }
-        ensures serves { Serves (asked_by self.now.options.now) (MayAnswer (T.lists self.now.reader.tree.now) (T.gives self.now.reader.tree.now))
+        ensures serves { Serves (asked_by self.now.options.now)
+            (MayAnswer (T.lists self.now.reader.tree.now) (T.gives self.now.reader.tree.now))
             (B.Pass.view pass.old) (B.Pass.view pass.new) tally.old tally.new result }
     {
         match self.reader.open_in_parts(&self.threads(), &job, scratch) {
@@ -153,7 +155,8 @@ impl<B: Shared<Job, Row>, T: Tree, W: Threads + Wait + Sync> Worker<'_, '_, B, T
     )
         requires { IsPassOf B.owns B.Pass.view self.now.board.now (HoldsJob job) pass.old }
         ensures pass { IsPassOf B.owns B.Pass.view self.now.board.now IsFree pass.new }
-        ensures goes_on { WorksOn (asked_by self.now.options.now) (MayAnswer (T.lists self.now.reader.tree.now) (T.gives self.now.reader.tree.now))
+        ensures goes_on { WorksOn (asked_by self.now.options.now)
+            (MayAnswer (T.lists self.now.reader.tree.now) (T.gives self.now.reader.tree.now))
             (B.Pass.view pass.old) (B.Pass.view pass.new) tally.old tally.new }
     {
         let served = if let Some(scratch) = scratch
