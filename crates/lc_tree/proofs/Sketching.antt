@@ -1,6 +1,6 @@
 -- A directory that is written entry by entry.
-use Rattle.std.proofs.Common.{◌≡◌, ℕ, suc, ◌+◌, ◌<◌, Bool, true, false, cond, List, [], ◌∷◌, ◌++◌, length, take, get_or, map, Option, Some, None, Vec}
-use Rattle.std.proofs.Common.{refl, sym, ◌∙◌, ap, subst, arith, bytes_eq}
+use Rattle.std.proofs.Common.{◌≡◌, ℕ, suc, ◌+◌, ◌<◌, Bool, true, false, cond, List, [], ◌∷◌, ◌++◌, length, take, get_or, map, Option}
+use Rattle.std.proofs.Common.{Some, Vec, refl, sym, ◌∙◌, ap, subst, arith, bytes_eq}
 use Rattle.std.proofs.Math.Seq.{take-suc}
 use Rattle.std.specs.Prelude.{find, option_map, option_and_then}
 use Rattle.std.specs.Borrow.{Bor}
@@ -22,7 +22,7 @@ AreTreesOf (e ∷ es) [] = ⊥
 AreTreesOf (e ∷ es) (c ∷ cs) = (c.0.items ≡ e.0.now) × IsTreeOf e.1 c.1 × AreTreesOf es cs
 
 -- one more child
-pub trees_more : (es : List Drawn) (cs : List Child) (e : Drawn) (c : Child) → AreTreesOf es cs → c.0.items ≡ e.0.now → IsTreeOf e.1 c.1
+trees_more : (es : List Drawn) (cs : List Child) (e : Drawn) (c : Child) → AreTreesOf es cs → c.0.items ≡ e.0.now → IsTreeOf e.1 c.1
     → AreTreesOf (es ++ e ∷ []) (cs ++ c ∷ [])
 trees_more [] [] e c all name is = (name, is, tt)
 trees_more [] (d ∷ cs) e c all name is = absurd all
@@ -40,14 +40,15 @@ trees_next es k d cs more c low all name is grown =
     (trees_more (take k es) cs (get_or es k d) c all name is))
 
 -- the names of the children are those that are written
-pub same_names : (es : List Drawn) (cs : List Child) → AreTreesOf es cs → map (λ (c : Child). c.0.items) cs ≡ map (λ (e : Drawn). e.0.now) es
+same_names : (es : List Drawn) (cs : List Child) → AreTreesOf es cs
+    → map (λ (c : Child). c.0.items) cs ≡ map (λ (e : Drawn). e.0.now) es
 same_names [] [] all = refl
 same_names [] (c ∷ cs) all = absurd all
 same_names (e ∷ es) [] all = absurd all
 same_names (e ∷ es) (c ∷ cs) all = cc (all.0, same_names es cs all.2)
 
 -- names that lead on from a child lead on from what is written under its name
-pub found_below : (es : List Drawn) (cs : List Child) (name : List ℕ) (names : List (List ℕ)) → AreTreesOf es cs
+found_below : (es : List Drawn) (cs : List Child) (name : List ℕ) (names : List (List ℕ)) → AreTreesOf es cs
     → Has (option_and_then (λ (s : Sketch). sketch_below names s) (sketch_among name es))
     (option_and_then (λ (n : Node). node_below names n) (child_among name cs))
 found_below [] [] name names all = tt
@@ -71,31 +72,48 @@ found_below (e ∷ es) (c ∷ cs) name names all =
     at true here later = here
     at false here later = later
 
--- what is in a directory that is written, and in one of memory
-drawn : (entries : Bor (List Drawn)) → out-Sketch (sketch.Dir entries) ≡ Sketch-F.Dir entries
-drawn entries = ap out-Sketch (sym (sketch.rolls-Dir entries)) ∙ out-roll-Sketch (Sketch-F.Dir entries)
+-- a sketch and a node with these contents: a node has what is written where each of its names leads to what is written there
+module _ (top : Sketch) (node : Node) (written : Sketch-F Sketch) (held : Node-F Node) where
+  by_contents : out-Sketch top ≡ written → out-Node node ≡ held → HasWithin written held
+      → ((name : List ℕ) (names : List (List ℕ)) → Has (option_and_then (λ (s : Sketch). sketch_below names s) (sketch_within name written))
+      (option_and_then (λ (n : Node). node_below names n) (child_within name held))) → IsTreeOf top node
+  by_contents drawn kept has below [] =
+      subst (λ (s : Sketch-F Sketch). HasWithin s (out-Node node)) (sym drawn) (subst (λ (n : Node-F Node). HasWithin written n) (sym kept) has)
+  by_contents drawn kept has below (name ∷ names) =
+      subst (λ (s : Sketch-F Sketch). Has (option_and_then (λ (next : Sketch). sketch_below names next) (sketch_within name s))
+      (option_and_then (λ (next : Node). node_below names next) (child_of name node))) (sym drawn)
+      (subst (λ (n : Node-F Node). Has (option_and_then (λ (next : Sketch). sketch_below names next) (sketch_within name written))
+      (option_and_then (λ (next : Node). node_below names next) (child_within name n))) (sym kept) (below name names))
 
-held : (children : Vec Child Global) → out-Node (node.Dir children) ≡ Node-F.Dir children
-held children = ap out-Node (sym (node.rolls-Dir children)) ∙ out-roll-Node (Node-F.Dir children)
-
--- neither a sketch nor a node that has no entries leads on
-pub is_leaf : (sketch : Sketch) (node : Node) → HasWithin (out-Sketch sketch) (out-Node node)
-    → ((name : List ℕ) → sketch_within name (out-Sketch sketch) ≡ None) → ((name : List ℕ) → child_of name node ≡ None) → IsTreeOf sketch node
-is_leaf sketch node has written held [] = has
-is_leaf sketch node has written held (name ∷ names) =
-    subst (λ (o : Option Sketch). Has (option_and_then (λ (s : Sketch). sketch_below names s) o)
-    (option_and_then (λ (n : Node). node_below names n) (child_of name node))) (sym (written name))
-    (subst (λ (o : Option Node). Has None (option_and_then (λ (n : Node). node_below names n) o)) (sym (held name)) tt)
-
--- a directory leads on to its entries
+-- each kind of sketch
 pub is_directory : (entries : Bor (List Drawn)) (children : Vec Child Global) → AreTreesOf entries.now children.items
     → IsTreeOf (sketch.Dir entries) (node.Dir children)
-is_directory entries children all [] =
-    subst (λ (s : Sketch-F Sketch). HasWithin s (out-Node (node.Dir children))) (sym (drawn entries))
-    (subst (λ (n : Node-F Node). HasWithin (Sketch-F.Dir entries) n) (sym (held children)) (same_names entries.now children.items all))
-is_directory entries children all (name ∷ names) =
-    subst (λ (s : Sketch-F Sketch). Has (option_and_then (λ (next : Sketch). sketch_below names next) (sketch_within name s))
-    (option_and_then (λ (n : Node). node_below names n) (child_of name (node.Dir children)))) (sym (drawn entries))
-    (subst (λ (n : Node-F Node). Has (option_and_then (λ (next : Sketch). sketch_below names next) (sketch_among name entries.now))
-    (option_and_then (λ (next : Node). node_below names next) (child_within name n))) (sym (held children))
-    (found_below entries.now children.items name names all))
+is_directory entries children all =
+    by_contents (sketch.Dir entries) (node.Dir children) (Sketch-F.Dir entries) (Node-F.Dir children)
+    (ap out-Sketch (sym (sketch.rolls-Dir entries)) ∙ out-roll-Sketch (Sketch-F.Dir entries))
+    (ap out-Node (sym (node.rolls-Dir children)) ∙ out-roll-Node (Node-F.Dir children)) (same_names entries.now children.items all)
+    (λ name names. found_below entries.now children.items name names all)
+
+pub is_closed : IsTreeOf sketch.Closed node.Closed
+is_closed =
+    by_contents sketch.Closed node.Closed Sketch-F.Closed Node-F.Closed
+    (ap out-Sketch (sym sketch.rolls-Closed) ∙ out-roll-Sketch Sketch-F.Closed)
+    (ap out-Node (sym node.rolls-Closed) ∙ out-roll-Node Node-F.Closed) tt (λ name names. tt)
+
+pub is_other : IsTreeOf sketch.Other node.Other
+is_other =
+    by_contents sketch.Other node.Other Sketch-F.Other Node-F.Other (ap out-Sketch (sym sketch.rolls-Other) ∙ out-roll-Sketch Sketch-F.Other)
+    (ap out-Node (sym node.rolls-Other) ∙ out-roll-Node Node-F.Other) tt (λ name names. tt)
+
+pub is_file : (bytes : Bor (List ℕ)) (held : Vec ℕ Global) → held.items ≡ bytes.now → IsTreeOf (sketch.File bytes) (node.File held)
+is_file bytes held same =
+    by_contents (sketch.File bytes) (node.File held) (Sketch-F.File bytes) (Node-F.File held)
+    (ap out-Sketch (sym (sketch.rolls-File bytes)) ∙ out-roll-Sketch (Sketch-F.File bytes))
+    (ap out-Node (sym (node.rolls-File held)) ∙ out-roll-Node (Node-F.File held)) same (λ name names. tt)
+
+pub is_failing : (bytes : Bor (List ℕ)) (held : Vec ℕ Global) → held.items ≡ bytes.now
+    → IsTreeOf (sketch.Failing bytes) (node.Failing held)
+is_failing bytes held same =
+    by_contents (sketch.Failing bytes) (node.Failing held) (Sketch-F.Failing bytes) (Node-F.Failing held)
+    (ap out-Sketch (sym (sketch.rolls-Failing bytes)) ∙ out-roll-Sketch (Sketch-F.Failing bytes))
+    (ap out-Node (sym (node.rolls-Failing held)) ∙ out-roll-Node (Node-F.Failing held)) same (λ name names. tt)

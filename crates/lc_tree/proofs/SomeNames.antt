@@ -1,5 +1,6 @@
 -- Entries of some names, name by name.
-use Rattle.std.proofs.Common.{ℕ, List, [], ◌∷◌, ◌++◌, Option, Some, None, Result, Ok, Err, Vec, inl, inr, refl, sym, ◌∙◌, ap, subst, append_assoc}
+use Rattle.std.proofs.Common.{ℕ, List, [], ◌∷◌, ◌++◌, Option, Some, None, Result, Ok, Err, Vec, inl, inr, refl, sym, ◌∙◌}
+use Rattle.std.proofs.Common.{ap, subst, append_assoc}
 use Rattle.std.specs.Global.{Global}
 use Rattle.std.specs.Prelude.{IfOk, MatchResult}
 use Rattle.std.proofs.lemmas.List.{append-nil}
@@ -28,8 +29,8 @@ module _ (may : List ℕ → Looks) (directory text : List ℕ) where
       subst (λ (l : List EntryModel). AreSomeOf (names l) (n ∷ ns)) (sym e) (inl (refl, of_some ns rest all))
 
   -- one name more
-  pub entries_more : (ns : List (List ℕ)) (es : List EntryModel) (name : List ℕ) (kind : Option Kind) → AreEntriesOf may directory text ns es
-      → IsEntryOf may directory text name kind → AreEntriesOf may directory text (ns ++ name ∷ []) (es ++ entry_of name kind)
+  pub entries_more : (ns : List (List ℕ)) (es : List EntryModel) (name : List ℕ) (kind : Option Kind)
+      → AreEntriesOf may directory text ns es → IsEntryOf may directory text name kind → AreEntriesOf may directory text (ns ++ name ∷ []) (es ++ entry_of name kind)
   entries_more [] es name kind none is =
       (kind, [], is, refl, ap (λ (l : List EntryModel). l ++ entry_of name kind) none ∙ sym (append-nil (entry_of name kind)))
   entries_more (n ∷ ns) es name kind (k, rest, first, all, e) is = (

@@ -30,7 +30,8 @@ sketch_below (name ∷ names) sketch =
 
 -- a node has what is written, as far as its own entries' names
 abbrev pub HasWithin : Sketch-F Sketch → Node-F Node → Type 0
-HasWithin (Sketch-F.Dir entries) (Node-F.Dir children) = map (λ (c : Child). c.0.items) children.items ≡ map (λ (e : Drawn). e.0.now) entries.now
+HasWithin (Sketch-F.Dir entries) (Node-F.Dir children) =
+    map (λ (c : Child). c.0.items) children.items ≡ map (λ (e : Drawn). e.0.now) entries.now
 HasWithin Sketch-F.Closed Node-F.Closed = Unit {0}
 HasWithin (Sketch-F.File bytes) (Node-F.File held) = held.items ≡ bytes.now
 HasWithin (Sketch-F.Failing bytes) (Node-F.Failing held) = held.items ≡ bytes.now

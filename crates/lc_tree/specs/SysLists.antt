@@ -21,6 +21,7 @@ module _ {D : Type 0} (may_give : D → ℕ → Answer → D → Type 0) (old ne
   IsListed (Err fault.BadName) = (found : List EntryModel) × AreEntriesRead found × IsRefusedBy found BadName
   IsListed (Err fault.Twice) = (found : List EntryModel) × AreEntriesRead found × IsRefusedBy found listing.Twice
   IsListed (Err fault.TooMany) = (found : List EntryModel) × AreEntriesRead found × IsRefusedBy found TooMany
-  IsListed (Err fault.Unnamed) = (names : List (List ℕ)) × AreNamesRead may_give old names new × IsFirstFault may directory text names fault.Unnamed
+  IsListed (Err fault.Unnamed) =
+      (names : List (List ℕ)) × AreNamesRead may_give old names new × IsFirstFault may directory text names fault.Unnamed
   IsListed (Err fault.Failed) = Unit {0}
   IsListed (Err fault.Memory) = Unit {0}

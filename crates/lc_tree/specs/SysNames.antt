@@ -12,7 +12,8 @@ names_in bytes = filter (λ name. not (is_no_name name)) (pieces_of nul bytes)
 
 -- the names that the reads of a directory gave up to its end, in their order; no read ends inside a name
 abbrev pub AreNamesRead : {D : Type 0} → (D → ℕ → Answer → D → Type 0) → D → List (List ℕ) → D → Type 0
-AreNamesRead may_give old names new = (pieces : List (List ℕ)) × Reads may_give AnyRoom old pieces at_end new × (names ≡ flat_map names_in pieces)
+AreNamesRead may_give old names new =
+    (pieces : List (List ℕ)) × Reads may_give AnyRoom old pieces at_end new × (names ≡ flat_map names_in pieces)
 
 -- a path with a slash at its end, where it has none
 abbrev pub with_slash : List ℕ → List ℕ

@@ -19,6 +19,7 @@ loop-name-preserved g c =
     let name = c.in-Some.name in
     let inv = c.loop-name.invariant in
     let look = c.in_default-look_at_one.ensures in
+    let entries = c.loop-name.entries.items in
     let is : IsEntryOf may directory text name.items look.entry.0
     = subst (λ (t : List ℕ). IsEntryOf may directory t name.items look.entry.0) inv.3 look.entry.1 in (
       tt,
@@ -27,9 +28,9 @@ loop-name-preserved g c =
           ∙ sym (append_assoc c.loop-name.yielded (name ∷ []) c.next.new.self.rest.items),
       look.path ∙ inv.3,
       subst (λ (l : List EntryModel). AreEntriesOf may directory text (bytes_of (c.loop-name.yielded ++ name ∷ [])) l) (sym look.entry.2)
-          (subst (λ (ns : List (List ℕ)). AreEntriesOf may directory text ns (c.loop-name.entries.items ++ entry_of name.items look.entry.0))
+          (subst (λ (ns : List (List ℕ)). AreEntriesOf may directory text ns (entries ++ entry_of name.items look.entry.0))
           (sym {A = List (List ℕ)} (map-append (λ (n : Vec ℕ Global). n.items) c.loop-name.yielded (name ∷ [])))
-          (entries_more may directory text (bytes_of c.loop-name.yielded) c.loop-name.entries.items name.items look.entry.0 inv.4 is)),
+          (entries_more may directory text (bytes_of c.loop-name.yielded) entries name.items look.entry.0 inv.4 is)),
     )
 
 -- the first name at fault

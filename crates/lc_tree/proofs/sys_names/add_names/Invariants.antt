@@ -9,7 +9,8 @@ use Rattle.lc_tree.proofs.sys_names.add_names.Given as goal
 
 abbrev pub invariant-names : goal.invariant-names
 invariant-names l =
-    bytes_of l.all.items ++ filter (λ name. not (is_no_name name)) (pieces_left nul l.rest) ≡ bytes_of l.initial.all.items ++ names_in l.bytes
+    bytes_of l.all.items ++ filter (λ name. not (is_no_name name)) (pieces_left nul l.rest)
+    ≡ bytes_of l.initial.all.items ++ names_in l.bytes
 
 abbrev pub decreases-names : goal.decreases-names
 decreases-names l = length (pieces_left nul l.rest)

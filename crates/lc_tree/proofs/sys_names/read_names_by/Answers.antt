@@ -20,7 +20,8 @@ pub returns-in-Ok-eq0 : goal.returns-in-Ok-eq0
 returns-in-Ok-eq0 g c =
     let run = c.loop-turn.invariant in
     let may_give = g.S.Source.may_give in
-    let none : gave (take c.in-Ok-eq0.field-0 c.read.new.buffer) ≡ gave [] = ap (λ n. gave (take n c.read.new.buffer)) c.in-Ok-eq0.field-0-test in
+    let bytes = c.read.new.buffer in
+    let none : gave (take c.in-Ok-eq0.field-0 bytes) ≡ gave [] = ap (λ n. gave (take n bytes)) c.in-Ok-eq0.field-0-test in
     let given = subst (λ a. may_give c.loop-turn.dir (length c.loop-turn.buffer) a c.read.new.self) none c.in-Ok-eq0.ensures.given in (
       run.0,
       reads_stop may_give AnyRoom run.0 at_end c.args.dir.now c.loop-turn.dir c.read.new.self run.1

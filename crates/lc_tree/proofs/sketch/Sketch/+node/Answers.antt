@@ -1,10 +1,9 @@
-use Rattle.std.proofs.Common.{refl, sym, ap, subst, List}
-use Rattle.lc_tree.specs.Sketches.{Drawn, IsTreeOf, sketch_within}
-use Rattle.lc_tree.specs.declared.node.Node.{out-Node}
+use Rattle.std.proofs.Common.{sym, subst, List}
+use Rattle.lc_tree.specs.Sketches.{Drawn, IsTreeOf}
 use Rattle.lc_tree.specs.declared.node.Node.TheVariants as node
-use Rattle.lc_tree.specs.declared.sketch.Sketch.{Sketch, out-Sketch}
+use Rattle.lc_tree.specs.declared.sketch.Sketch.{Sketch}
 use Rattle.std.proofs.lemmas.List.{take_all}
-use Rattle.lc_tree.proofs.Sketching.{AreTreesOf, is_directory, is_leaf, trees_next}
+use Rattle.lc_tree.proofs.Sketching.{AreTreesOf, is_closed, is_directory, is_failing, is_file, is_other, trees_next}
 use Rattle.lc_tree.proofs.sketch.Sketch.+node.Goals as goal
 
 pub loop-entry-preserved : goal.loop-entry-preserved
@@ -22,27 +21,19 @@ returns-after-loop-entry t c =
     (is_directory c.in-Dir.entries c.loop-entry.children all)
 
 pub returns-in-Closed : goal.returns-in-Closed
-unfolding out-Sketch denote.Hole.Carrier.out out-Node
-returns-in-Closed t c =
-    let is = c.in-Closed.is in
-    is_leaf _ _ (rw is tt) (λ name. ap (λ (s : Sketch). sketch_within name (out-Sketch s)) is) (λ name. refl)
+returns-in-Closed t c = subst (λ (s : Sketch). IsTreeOf s node.Closed) (sym c.in-Closed.is) is_closed
 
 pub returns-in-Other : goal.returns-in-Other
-unfolding out-Sketch denote.Hole.Carrier.out out-Node
-returns-in-Other t c =
-    let is = c.in-Other.is in
-    is_leaf _ _ (rw is tt) (λ name. ap (λ (s : Sketch). sketch_within name (out-Sketch s)) is) (λ name. refl)
+returns-in-Other t c = subst (λ (s : Sketch). IsTreeOf s node.Other) (sym c.in-Other.is) is_other
 
 pub returns-in_ok-to_vec-in-File : goal.returns-in_ok-to_vec-in-File
-unfolding out-Sketch denote.Hole.Carrier.out out-Node
 returns-in_ok-to_vec-in-File t c =
-    let is = c.in-File.is in
-    let bytes = c.in_ok-to_vec-in-File.ensures.items_if_clones_equal (λ x y e. e) in
-    is_leaf _ _ (rw is bytes) (λ name. ap (λ (s : Sketch). sketch_within name (out-Sketch s)) is) (λ name. refl)
+    let held = c.in_ok-to_vec-in-File.field-0 in
+    subst (λ (s : Sketch). IsTreeOf s (node.File held)) (sym c.in-File.is)
+    (is_file c.in-File.bytes held (c.in_ok-to_vec-in-File.ensures.items_if_clones_equal (λ x y e. e)))
 
 pub returns-in_ok-to_vec-in-Failing : goal.returns-in_ok-to_vec-in-Failing
-unfolding out-Sketch denote.Hole.Carrier.out out-Node
 returns-in_ok-to_vec-in-Failing t c =
-    let is = c.in-Failing.is in
-    let bytes = c.in_ok-to_vec-in-Failing.ensures.items_if_clones_equal (λ x y e. e) in
-    is_leaf _ _ (rw is bytes) (λ name. ap (λ (s : Sketch). sketch_within name (out-Sketch s)) is) (λ name. refl)
+    let held = c.in_ok-to_vec-in-Failing.field-0 in
+    subst (λ (s : Sketch). IsTreeOf s (node.Failing held)) (sym c.in-Failing.is)
+    (is_failing c.in-Failing.bytes held (c.in_ok-to_vec-in-Failing.ensures.items_if_clones_equal (λ x y e. e)))
