@@ -5,32 +5,34 @@ use Rattle.std.specs.List.{Contains}
 use Rattle.lc_explain.specs.Explained.{Explanation, bad, ignored, cited, said_for, IsExplained}
 use Rattle.lc_explain.specs.Laws.{IsSaidKept, EntryLaw}
 use Rattle.lc_explain.specs.OpenDirs.{DirStack, MayEnter, text_or_none}
+use Rattle.lc_explain.specs.declared.explain_options.ExplainOptions.{ExplainOptions}
 use Rattle.lc_glob.specs.Path.{path_in, segments_of}
 use Rattle.lc_level.specs.Answers.{Tree}
 use Rattle.lc_level.specs.Job.{JobModel}
 use Rattle.lc_level.specs.Level.{Reason, named_git, by_rule, by_attribute, other_kind, counted, skipped}
-use Rattle.lc_level.specs.OneAnswer.{GivesOne}
 use Rattle.lc_level.specs.Selection.{SelectionModel}
 use Rattle.lc_level.specs.TopJob.{top_job}
 use Rattle.lc_rules.specs.IgnoreRules.{RuleModel}
 use Rattle.lc_text.specs.PathLines.{is_bad_path}
 use Rattle.lc_tree.specs.Trees.{Listings, Contents}
 use Rattle.lc_walk.specs.ReportLines.{skipped_paths}
-use Rattle.lc_walk.specs.TreeOfRows.{tree_of_rows}
 use Rattle.lc_walk.specs.Walk.{walk_of}
 use Rattle.lc_walk.specs.WalkOptions.{asked_by, top_of}
 use Rattle.lc_walk.specs.WalkReport.{IsReportOf}
+use Rattle.lc_walk.specs.declared.options.Options.{Options}
 use Rattle.lc_walk.specs.declared.options.ReportLists.{ReportLists}
 use Rattle.lc_walk.specs.declared.report.Report.{Report}
 use Rattle.lc_walk.proofs.FoundByPlace.{place_by_walk}
-use Rattle.lc_laws.specs.CountsExplained.{IsSaidSkipped, AgreesOn, ExplainedLaw}
-use Rattle.lc_laws.specs.Entries.{LeadDown}
+use Rattle.lc_walk.proofs.RowTrees.{by_answers}
+use Rattle.lc_laws.specs.ByAnswers.{EntersBy, SaysEntering, IsEntryBy}
+use Rattle.lc_laws.specs.CountsExplained.{AskAlike, IsSaidSkipped, AgreesOn, AnswersExplainedLaw, ExplainedLaw}
 use Rattle.lc_laws.specs.ReportedPaths.{IsCounted, IsSkipped}
-use Rattle.lc_laws.proofs.Following.{IsSaidBelow, entry_agrees}
-use Rattle.lc_laws.proofs.OneWay.{IsGiven}
-use Rattle.lc_laws.proofs.ReportLists.{counted_found, skipped_found, skipped_somehow}
-use Rattle.lc_laws.proofs.RowTrees.{rows_given}
 use Rattle.lc_laws.proofs.ExplainedEntries.{told}
+use Rattle.lc_laws.proofs.Following.{IsSaidBelow, entry_agrees}
+use Rattle.lc_laws.proofs.Items.{entry_by_lists}
+use Rattle.lc_laws.proofs.OneWay.{Entering, IsKnown, known_by_tree, known_by_one}
+use Rattle.lc_laws.proofs.ReportLists.{counted_found, skipped_found, skipped_somehow}
+use Rattle.lc_laws.proofs.SameWay.{said_by_other}
 
 -- what is said for a reason, by any citing of its rule
 said_skipped : (exclude : List ℕ) (stack : DirStack) (reason : Reason) (x : Explanation) → x ≡ said_for (cited exclude stack) ignored reason
@@ -51,25 +53,24 @@ not_both (by_attribute name) x e (inr u) = absurd (cc (sym e ∙ u.1))
 not_both other_kind x e (inl u) = absurd (cc (sym e ∙ u))
 not_both other_kind x e (inr u) = absurd (cc (sym e ∙ u.1))
 
-module _ (law : EntryLaw) (lists : List ℕ → Listings) (gives : List ℕ → Contents) (one : GivesOne lists gives) (s : SelectionModel)
-    (whole : s.only ≡ []) (exclude : List ℕ) (x : Explanation) (top : JobModel) (at_top : top.path ≡ []) (t : Tree)
-    (given : IsGiven lists gives s top t)
+module _ (law : EntryLaw) (Enters : Entering) (s : SelectionModel) (whole : s.only ≡ []) (exclude : List ℕ) (x : Explanation)
+    (top : JobModel) (at_top : top.path ≡ []) (t : Tree) (known : IsKnown Enters s top t)
     (asked : ReportLists) (depth : ℕ) (r : Report) (report : IsReportOf asked (walk_of s depth top t) r) (files : asked.files ≡ true)
     (skipped_ones : asked.left_out ≡ true) (path : List ℕ) (good : is_bad_path path ≡ false)
-    (said : IsExplained (MayEnter lists gives) s exclude top path false x) where
+    (said : IsExplained Enters s exclude top path false x) where
   counted_said : IsCounted r path → IsSaidKept x
   counted_said has =
       let c = counted_found asked (walk_of s depth top t) r report files path has in
       let p = place_by_walk s depth top t _ c.found in
       let d = p.gives.0 in
-      (entry_agrees lists gives one s exclude x law top t at_top given p.place p.job p.leads c.file.name (counted c.file) p.gives.1 path
+      (entry_agrees Enters s exclude x law top t at_top known p.place p.job p.leads c.file.name (counted c.file) p.gives.1 path
       (c.path_is ∙ ap (λ d. path_in d c.file.name) d) good said).1
 
   skipped_said : (reason : Reason) → IsSkipped r path reason → IsSaidSkipped reason x
   skipped_said reason has =
       let l = skipped_found asked (walk_of s depth top t) r report skipped_ones path reason has in
       let p = place_by_walk s depth top t _ l.found in
-      let a = entry_agrees lists gives one s exclude x law top t at_top given p.place p.job p.leads l.entry.name
+      let a = entry_agrees Enters s exclude x law top t at_top known p.place p.job p.leads l.entry.name
       (skipped l.entry.kind l.entry.reason) p.gives.1 path (l.path_is ∙ ap (λ d. path_in d l.entry.name) p.gives.0) good said in
       subst (λ w. IsSaidSkipped w x) l.reason_is (said_skipped exclude a.0 l.entry.reason x a.1)
 
@@ -77,29 +78,50 @@ module _ (law : EntryLaw) (lists : List ℕ → Listings) (gives : List ℕ → 
   taken_kept taken has = let l = skipped_somehow r path has in not_both l.0 x (skipped_said l.0 l.1) taken
 
   -- a report agrees on the path with what is said of it
-  pub agrees : length (segments_of path) ≤ depth → AgreesOn lists r path x
+  pub agrees : length (segments_of path) ≤ depth → AgreesOn (IsEntryBy s top t path) r path x
   agrees deep = record {
     counted = counted_said;
     skipped = skipped_said;
     told = λ kind entry.
-        told lists gives one s whole exclude x top t given asked depth r report files skipped_ones path kind taken_kept
-        (segments_of path) [] [] top refl
-        (omega (arith, deep)) path refl (sym (ap (λ d. path_in d path) at_top))
-        (subst (λ d. LeadDown lists d (segments_of path) kind) (sym at_top) entry)
-        (subst (λ b. cond b (x ≡ bad) (IsSaidBelow lists gives one s exclude x [] top (segments_of path))) good said);
+        told Enters s whole exclude x top t known asked depth r report files skipped_ones path kind entry taken_kept
+        (segments_of path) [] [] top refl (omega (arith, deep)) path refl (sym (ap (λ d. path_in d path) at_top)) refl
+        (subst (λ b. cond b (x ≡ bad) (IsSaidBelow Enters s exclude x [] top (segments_of path))) good said);
   }
 
--- so does the report of a walk
+-- where a count and an explanation are asked for alike, the one begins and leaves out as the other does
+same_question : (Enters : Entering) (o : Options) (q : ExplainOptions) → AskAlike o q → (path : List ℕ) (x : Explanation)
+    → SaysEntering q Enters path false x
+    → IsExplained Enters (asked_by o).selection (text_or_none q.exclude) (top_of o) path false x
+same_question Enters o q alike path x said =
+    subst (λ (w : SelectionModel). IsExplained Enters w (text_or_none q.exclude) (top_of o) path false x) (sym alike.selection)
+    (subst (λ (e : Option (List RuleModel)). IsExplained Enters q.selection (text_or_none q.exclude) (top_job e) path false x)
+    (sym alike.exclude) said)
+
+asks_whole : (o : Options) (q : ExplainOptions) → AskAlike o q → (asked_by o).selection.only ≡ []
+asks_whole o q alike = ap (λ (w : SelectionModel). w.only) alike.selection ∙ alike.whole
+
+-- so does the report by some answers
+pub answers_explained_law : EntryLaw → AnswersExplainedLaw
+answers_explained_law law t u o q r alike listings report path x good agree said =
+    let s : SelectionModel = (asked_by o).selection in
+    let depth : ℕ = o.max_dirs + length (segments_of path) in
+    let whole : s.only ≡ [] = asks_whole o q alike in
+    agrees law (EntersBy t) s whole (text_or_none q.exclude) x (top_of o) refl t
+    (known_by_tree s (top_of o) t refl listings) o.lists depth r (report depth (omega arith)) alike.files alike.left_out path good
+    (said_by_other s whole (text_or_none q.exclude) false x (top_of o) refl t listings u path agree
+    (same_question (EntersBy u) o q alike path x said)) (omega arith)
+
+-- and the report of a walk of a tree that answers in one way
 pub explained_law : EntryLaw → (lists : List ℕ → Listings) (gives : List ℕ → Contents) → ExplainedLaw lists gives
 explained_law law lists gives one o q r alike walks path x good said =
     let s : SelectionModel = (asked_by o).selection in
     let depth : ℕ = o.max_dirs + length (segments_of path) in
-    let exclude : List ℕ = text_or_none q.exclude in
-    let same : IsExplained (MayEnter lists gives) s exclude (top_of o) path false x =
-    subst (λ (w : SelectionModel). IsExplained (MayEnter lists gives) w exclude (top_of o) path false x) (sym alike.selection)
-    (subst (λ (e : Option (List RuleModel)). IsExplained (MayEnter lists gives)
-    q.selection exclude (top_job e) path false x) (sym alike.exclude) said) in
-    agrees law lists gives one s (ap (λ (w : SelectionModel). w.only) alike.selection ∙ alike.whole) exclude x (top_of o) refl
-    (tree_of_rows walks.found.rows walks.found.answers)
-    (rows_given lists gives (asked_by o) o.max_dirs o.threads (top_of o) _ walks.found walks.whole) o.lists depth r
-    (walks.report depth (omega arith)) alike.files alike.left_out path good same (omega arith)
+    let by = by_answers lists gives o r walks in
+    let a = agrees law (MayEnter lists gives) s (asks_whole o q alike) (text_or_none q.exclude) x (top_of o) refl by.answers
+    (known_by_one lists gives one s (top_of o) by.answers by.listings by.given) o.lists depth r (by.report depth (omega arith))
+    alike.files alike.left_out path good (same_question (MayEnter lists gives) o q alike path x said) (omega arith) in
+    record {
+      counted = a.counted;
+      skipped = a.skipped;
+      told = λ kind entry. a.told kind (entry_by_lists lists gives one s (top_of o) by.answers refl by.given path kind entry);
+    }

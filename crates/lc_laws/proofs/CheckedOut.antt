@@ -1,7 +1,8 @@
 -- The report of a count agrees with a check by the top's rules.
-use Rattle.std.proofs.Common.{◌≡◌, ℕ, ◌+◌, ◌<◌, Bool, true, false, cond, nat_eq, List, [], ◌∷◌, ◌++◌, length, take, get_or, refl}
-use Rattle.std.proofs.Common.{sym, ◌∙◌, ap, subst, arith, Option, Some, None, ◌⊎◌, inl, inr, length-append, codes}
+use Rattle.std.proofs.Common.{◌≡◌, ℕ, ◌+◌, ◌<◌, ◌≤◌, Bool, true, false, cond, nat_eq, List, [], ◌∷◌, ◌++◌, length, take, get_or, refl}
+use Rattle.std.proofs.Common.{sym, ◌∙◌, ap, subst, arith, Option, Some, None, ◌⊎◌, inl, inr, length-append, append_assoc, codes}
 use Rattle.std.proofs.Math.Seq.{get_or-append_seam, take-append_seam}
+use Rattle.std.specs.List.{Contains}
 use Rattle.lc_explain.specs.OpenDirs.{kind_in}
 use Rattle.lc_explain.proofs.PathSegments.{names_below}
 use Rattle.lc_glob.proofs.Naming.{has_first, segments_apart}
@@ -9,8 +10,7 @@ use Rattle.lc_glob.specs.Bytes.{slash}
 use Rattle.lc_glob.specs.Path.{path_in, segments_of}
 use Rattle.lc_level.specs.Answers.{Item, name_of, entry_of, entries_of, Tree}
 use Rattle.lc_level.specs.Job.{JobModel}
-use Rattle.lc_level.specs.Level.{by_rule, child_job}
-use Rattle.lc_level.specs.OneAnswer.{GivesOne}
+use Rattle.lc_level.specs.Level.{by_rule}
 use Rattle.lc_level.specs.Selection.{SelectionModel}
 use Rattle.lc_level.specs.TopJob.{top_job}
 use Rattle.lc_level.proofs.WellFormed.{Spread}
@@ -32,22 +32,24 @@ use Rattle.lc_tree.specs.declared.entry.Kind.TheVariants.{Dir}
 use Rattle.lc_walk.specs.Accounts.{RuleLaw}
 use Rattle.lc_walk.specs.FoundAt.{IsListed, LeadsTo}
 use Rattle.lc_walk.specs.ReportLines.{SkippedLineModel}
-use Rattle.lc_walk.specs.TreeOfRows.{tree_of_rows}
+use Rattle.lc_walk.specs.GivenAnswers.{HasListings, IsGiven}
 use Rattle.lc_walk.specs.Walk.{walk_of}
 use Rattle.lc_walk.specs.WalkOptions.{asked_by, top_of}
 use Rattle.lc_walk.specs.WalkReport.{IsReportOf}
+use Rattle.lc_walk.specs.declared.options.Options.{Options}
 use Rattle.lc_walk.specs.declared.options.ReportLists.{ReportLists}
 use Rattle.lc_walk.specs.declared.report.Report.{Report}
 use Rattle.lc_walk.proofs.Elements.{In, is_in, contains}
 use Rattle.lc_walk.proofs.Levels.{well_formed_items}
-use Rattle.lc_laws.specs.CountsChecked.{IsCheckedOut, IsRuledOut, CheckedLaw}
-use Rattle.lc_laws.specs.Entries.{HasListed, LeadDown, IsEntry}
+use Rattle.lc_walk.proofs.RowTrees.{by_answers}
+use Rattle.lc_laws.specs.ByAnswers.{kind_before, IsEntryBy}
+use Rattle.lc_laws.specs.CountsChecked.{ReadsTopRules, AsksRulesAlone, IsCheckedOut, IsRuledOut, CheckAgrees, AnswersCheckedLaw}
+use Rattle.lc_laws.specs.CountsChecked.{CheckedLaw}
 use Rattle.lc_laws.specs.ReportedPaths.{IsSkipped}
 use Rattle.lc_laws.proofs.Checking.{plain, decided}
-use Rattle.lc_laws.proofs.Items.{item_of}
-use Rattle.lc_laws.proofs.OneWay.{kind_found, good_name, one_segment, IsGiven, place_names}
-use Rattle.lc_laws.proofs.RowTrees.{rows_given}
-use Rattle.lc_laws.proofs.TopRules.{rules_at}
+use Rattle.lc_laws.proofs.Items.{named_item, entry_by_lists}
+use Rattle.lc_laws.proofs.OneWay.{kind_found, good_name, one_segment, place_names}
+use Rattle.lc_laws.proofs.TopRules.{rules_at, reads_by_lists}
 
 -- ---- the words of a check
 
@@ -99,71 +101,53 @@ module _ (verdict : List ℕ → Bool → Verdict) (path : List ℕ) (as_dir : B
 
 -- ---- the kind of an entry
 
--- names lead on past a name
-down_past : (lists : List ℕ → Listings) (directory name : List ℕ) (names : List (List ℕ)) (kind : Kind) → (names ≡ [] → ⊥)
-    → LeadDown lists directory (name ∷ names) kind → LeadDown lists (path_in directory name) names kind
-down_past lists directory name [] kind some down = absurd (some refl)
-down_past lists directory name (next ∷ names) kind some down = down.1
+-- an item of a directory to which names lead has the kind of the entry
+kind_same : (s : SelectionModel) (top : JobModel) (t : Tree) → top.path ≡ [] → HasListings s top t → (place : List (List ℕ)) (k : JobModel)
+    → LeadsTo s top t place k → (items : List Item) (inside : JobModel) → IsListed k (t place) items inside → (item : Item)
+    → In item items → (path : List ℕ) → path ≡ path_in inside.path (name_of item) → (kind : Kind) → IsEntryBy s top t path kind
+    → (entry_of item).kind ≡ kind
+kind_same s top t at_top listings place k leads items inside listed item has path path_is kind entry =
+    let spread : Spread items = well_formed_items (t place) (listings place k leads) items listed.here in
+    let names : segments_of path ≡ place ++ name_of item ∷ [] =
+    ap segments_of (path_is ∙ ap (λ (j : JobModel). path_in j.path (name_of item)) listed.is) ∙ names_below k.path (name_of item)
+    ∙ ap (λ l. l ++ segments_of (name_of item)) (place_names s place top k t listings leads
+    ∙ ap (λ p. names_of_path p ++ place) at_top)
+    ∙ ap (λ l. place ++ l) (one_segment (name_of item) (good_name items spread item has)) in
+    let i = named_item items (name_of item) kind (entry place (name_of item) [] k items names leads listed.here) in
+    let mine : kind_in (entries_of items) (name_of item) ≡ Some (entry_of item).kind = kind_found items spread item has in
+    let its : kind_in (entries_of items) (name_of item) ≡ Some (entry_of i.item).kind =
+    subst (λ n. kind_in (entries_of items) n ≡ Some (entry_of i.item).kind) i.named (kind_found items spread i.item i.has) in
+    let both : Some (entry_of item).kind ≡ Some (entry_of i.item).kind = sym mine ∙ its in
+    let same : (entry_of item).kind ≡ (entry_of i.item).kind = cc both in
+    same ∙ i.kind_is
 
--- the first of more names lead to a directory
-down_above : (lists : List ℕ → Listings) (directory : List ℕ) (names : List (List ℕ)) (next : List ℕ) (others : List (List ℕ))
-    (kind : Kind) → (names ≡ [] → ⊥) → LeadDown lists directory (names ++ next ∷ others) kind → LeadDown lists directory names Dir
-down_above lists directory [] next others kind some down = absurd (some refl)
-down_above lists directory (name ∷ []) next others kind some down = down.0
-down_above lists directory (name ∷ more ∷ names) next others kind some down =
-    (down.0, down_above lists (path_in directory name) (more ∷ names) next others kind (λ e. cc e) down.1)
+kind_above : (kind : Kind) (names : List (List ℕ)) (next : List ℕ) (others : List (List ℕ))
+    → kind_before kind (names ++ next ∷ others) ≡ kind_before Dir names
+kind_above kind [] next others = refl
+kind_above kind (n ∷ names) next others = refl
 
-some_end : (place : List (List ℕ)) (name : List ℕ) → place ++ name ∷ [] ≡ [] → ⊥
-some_end [] name e = cc
-some_end (n ∷ place) name e = cc
-
-module _ (lists : List ℕ → Listings) (gives : List ℕ → Contents) (one : GivesOne lists gives) (s : SelectionModel) where
-  listed_at_end : (place : List (List ℕ)) (j k : JobModel) (t : Tree) (name : List ℕ) (kind : Kind) → LeadsTo s j t place k
-      → LeadDown lists j.path (place ++ name ∷ []) kind → HasListed lists k.path name kind
-  listed_at_end [] j k t name kind leads down = subst (λ (i : JobModel). HasListed lists i.path name kind) leads down
-  listed_at_end (n ∷ place) j k t name kind (within, leaves, leads) down =
-      let same : within.path ≡ j.path = ap (λ (i : JobModel). i.path) leaves.listed.is in
-      listed_at_end place (child_job within n) k (λ p. t (n ∷ p)) name kind leads
-      (subst (λ d. LeadDown lists (path_in d n) (place ++ name ∷ []) kind) (sym same)
-      (down_past lists j.path n (place ++ name ∷ []) kind (some_end place name) down))
-
-  -- an item of a directory to which names lead has the kind of the entry
-  kind_same : (top : JobModel) (t : Tree) → top.path ≡ [] → IsGiven lists gives s top t → (place : List (List ℕ)) (k : JobModel)
-      → LeadsTo s top t place k → (items : List Item) (inside : JobModel) → IsListed k (t place) items inside → (item : Item)
-      → In item items → (path : List ℕ) → path ≡ path_in inside.path (name_of item) → (kind : Kind) → IsEntry lists path kind
-      → (entry_of item).kind ≡ kind
-  kind_same top t at_top given place k leads items inside listed item has path path_is kind entry =
-      let spread : Spread items = well_formed_items (t place) (given place k leads).1 items listed.here in
-      let names : segments_of path ≡ place ++ name_of item ∷ [] =
-      ap segments_of (path_is ∙ ap (λ (j : JobModel). path_in j.path (name_of item)) listed.is) ∙ names_below k.path (name_of item)
-      ∙ ap (λ l. l ++ segments_of (name_of item)) (place_names lists gives s place top k t given leads
-      ∙ ap (λ p. names_of_path p ++ place) at_top)
-      ∙ ap (λ l. place ++ l) (one_segment (name_of item) (good_name items spread item has)) in
-      let down : LeadDown lists top.path (place ++ name_of item ∷ []) kind =
-      subst (λ d. LeadDown lists d (place ++ name_of item ∷ []) kind) (sym at_top) (subst (λ l. LeadDown lists [] l kind) names entry) in
-      let i = item_of lists gives one s top t given place k items inside leads listed (name_of item) kind
-      (listed_at_end place top k t (name_of item) kind leads down) in
-      let mine : kind_in (entries_of items) (name_of item) ≡ Some (entry_of item).kind = kind_found items spread item has in
-      let its : kind_in (entries_of items) (name_of item) ≡ Some (entry_of i.item).kind =
-      subst (λ n. kind_in (entries_of items) n ≡ Some (entry_of i.item).kind) i.named (kind_found items spread i.item i.has) in
-      let both : Some (entry_of item).kind ≡ Some (entry_of i.item).kind = sym mine ∙ its in
-      let same : (entry_of item).kind ≡ (entry_of i.item).kind = cc both in
-      same ∙ i.kind_is
+-- a directory above an entry is one
+entry_above : (s : SelectionModel) (top : JobModel) (t : Tree) (path directory next : List ℕ) (others : List (List ℕ)) (kind : Kind)
+    → segments_of path ≡ segments_of directory ++ next ∷ others → IsEntryBy s top t path kind → IsEntryBy s top t directory Dir
+entry_above s top t path directory next others kind is entry place name names k items cut leads here =
+    let longer : segments_of path ≡ place ++ name ∷ (names ++ next ∷ others) =
+    is ∙ ap (λ l. l ++ next ∷ others) cut ∙ append_assoc place (name ∷ names) (next ∷ others) in
+    subst (λ (d : Kind). Contains (entries_of items) (record { name = name; kind = d })) (kind_above kind names next others)
+    (entry place name (names ++ next ∷ others) k items longer leads here)
 
 -- ---- by the report
 
-module _ (law : RuleLaw) (last : LastMatchLaw) (lists : List ℕ → Listings) (gives : List ℕ → Contents) (one : GivesOne lists gives)
-    (t : Tree) (given : IsGiven lists gives plain (top_job None) t) (asked : ReportLists) (depth : ℕ) (r : Report)
-    (report : IsReportOf asked (walk_of plain depth (top_job None) t) r) (rules : List RuleModel)
+module _ (law : RuleLaw) (last : LastMatchLaw) (t : Tree) (listings : HasListings plain (top_job None) t) (asked : ReportLists)
+    (depth : ℕ) (r : Report) (report : IsReportOf asked (walk_of plain depth (top_job None) t) r) (rules : List RuleModel)
     (chain : (place : List (List ℕ)) (k : JobModel) → LeadsTo plain (top_job None) t place k → (items : List Item) (inside : JobModel)
     → IsListed k (t place) items inside → rules_in inside.ignore ≡ at_depth 0 rules) where
   -- what a rule leaves out is ignored by the check
-  ignored_there : (path : List ℕ) (kind : Kind) (source : RuleSource) (line : ℕ) → IsEntry lists path kind → IsSkipped r path (by_rule source line)
-      → is_ignored (file_verdict rules path (is_dir kind)) ≡ true
+  ignored_there : (path : List ℕ) (kind : Kind) (source : RuleSource) (line : ℕ) → IsEntryBy plain (top_job None) t path kind
+      → IsSkipped r path (by_rule source line) → is_ignored (file_verdict rules path (is_dir kind)) ≡ true
   ignored_there path kind source line entry has =
       let skipped : SkippedLineModel = record { path = path; kind = has.0; reason = by_rule source line } in
       let by = law asked plain depth (top_job None) t r report skipped source line has.1 refl in
-      let own = kind_same lists gives one plain (top_job None) t refl given by.place by.job by.leads by.items by.inside by.listed by.item
+      let own = kind_same plain (top_job None) t refl listings by.place by.job by.leads by.items by.inside by.listed by.item
       (is_in by.item by.items by.has) path by.path_is kind entry in
       let decides = (last (rules_in by.inside.ignore) path (is_dir (entry_of by.item).kind)).1 (source, by.rule) by.decides in
       ap (λ rs. is_ignored (verdict_from (last_match rs path (is_dir kind))))
@@ -172,54 +156,59 @@ module _ (law : RuleLaw) (last : LastMatchLaw) (lists : List ℕ → Listings) (
       ∙ ap (λ found. is_ignored (verdict_from found)) decides ∙ ap (λ b. is_ignored (cond b Included Ignored)) by.ignores
 
   -- what a report says to be ruled out, itself or by a directory above it, a check calls ignored or below
-  pub checked_out : (path : List ℕ) (kind : Kind) → IsEntry lists path kind → is_bad_path path ≡ false → IsRuledOut r path
-      → IsCheckedOut rules path kind
+  checked_out : (path : List ℕ) (kind : Kind) → IsEntryBy plain (top_job None) t path kind → is_bad_path path ≡ false
+      → IsRuledOut r path → IsCheckedOut rules path kind
   checked_out path kind entry good (source, line, inl has) =
       out_itself (file_verdict rules) path (is_dir kind) good (ignored_there path kind source line entry has)
   checked_out path kind entry good (source, line, inr (directory, rest, is, has)) =
-      let first = has_first directory in
       let next = has_first rest in
       let names : segments_of path ≡ segments_of directory ++ next.first ∷ next.others =
       ap segments_of is ∙ segments_apart directory rest ∙ ap (λ l. segments_of directory ++ l) next.are in
-      let some : segments_of directory ≡ [] → ⊥ = λ e. let none : first.first ∷ first.others ≡ [] = sym first.are ∙ e in absurd (cc none) in
-      let above = down_above lists [] (segments_of directory) next.first next.others kind some
-      (subst (λ l. LeadDown lists [] l kind) names entry) in
+      let above = entry_above plain (top_job None) t path directory next.first next.others kind names entry in
       out_below (file_verdict rules) path (is_dir kind) good directory rest is (ignored_there directory Dir source line above has)
 
--- so does the report of a walk
+  -- and the other way round, where nothing is at fault
+  agrees : asked.left_out ≡ true → (path : List ℕ) (kind : Kind) → length (segments_of path) ≤ depth
+      → IsEntryBy plain (top_job None) t path kind → CheckAgrees r rules path kind
+  agrees left_out path kind deep entry faultless good no_git = (
+    λ out. by out (decided t listings asked depth r report left_out faultless rules chain path kind entry
+        (segments_of path) [] [] (top_job None) refl (omega (arith, deep)) path refl refl (λ m. refl)
+        (record { within = omega arith; clear = λ k low. absurd (omega (arith, low)) })
+        (λ i. no_git (contains (codes ".git") (segments_of path) i)) refl),
+    checked_out path kind entry good,
+  )
+    where
+      by : IsCheckedOut rules path kind
+          → IsRuledOut r path ⊎ ((has_ignored_parent (file_verdict rules) path ≡ false)
+          × (is_ignored (file_verdict rules path (is_dir kind)) ≡ false)) → IsRuledOut r path
+      by out (inl ruled) = ruled
+      by out (inr (clear, kept)) = absurd (not_out (file_verdict rules) path (is_dir kind) good clear kept out)
+
+-- a count by the rules of a tree alone is plain, and begins with no rules
+plainly : (o : Options) → AsksRulesAlone o → (Q : SelectionModel → JobModel → Type 0) → Q (asked_by o).selection (top_of o)
+    → Q plain (top_job None)
+plainly o asks Q holds =
+    subst (λ (s : SelectionModel). Q s (top_job None)) asks.selection
+    (subst (λ (e : Option (List RuleModel)). Q (asked_by o).selection (top_job e)) asks.exclude holds)
+
+-- so does the report by some answers
+pub answers_checked_law : RuleLaw → LastMatchLaw → AnswersCheckedLaw
+answers_checked_law law last t bytes o r asks listings reads report path kind entry =
+    let depth : ℕ = o.max_dirs + length (segments_of path) in
+    agrees law last t (plainly o asks (λ s top. HasListings s top t) listings) o.lists depth r
+    (plainly o asks (λ s top. IsReportOf o.lists (walk_of s depth top t) r) (report depth (omega arith))) (rules_of bytes)
+    (rules_at t bytes (plainly o asks (λ s top. ReadsTopRules s top t bytes) reads)) asks.left_out path kind (omega arith)
+    (plainly o asks (λ s top. IsEntryBy s top t path kind) entry)
+
+-- and the report of a walk of a tree that answers in one way
 pub checked_law : RuleLaw → LastMatchLaw → (lists : List ℕ → Listings) (gives : List ℕ → Contents) → CheckedLaw lists gives
-checked_law law last lists gives one bytes has o r asks walks faultless path kind entry good no_git = (
-  λ out. by out (decided lists gives one t given o.lists depth r report asks.left_out faultless (rules_of bytes) chain path kind
-      (segments_of path) [] [] (top_job None) refl (omega arith) path refl refl (λ m. refl)
-      (record { within = omega arith; clear = λ k low. absurd (omega (arith, low)) })
-      (λ i. no_git (contains (codes ".git") (segments_of path) i)) entry),
-  checked_out law last lists gives one t given o.lists depth r report (rules_of bytes) chain path kind entry good,
-)
-  where
-    depth : ℕ
-    depth = o.max_dirs + length (segments_of path)
-
-    t : Tree
-    t = tree_of_rows walks.found.rows walks.found.answers
-
-    report : IsReportOf o.lists (walk_of plain depth (top_job None) t) r
-    report =
-        subst (λ (s : SelectionModel). IsReportOf o.lists (walk_of s depth (top_job None) t) r) asks.selection
-        (subst (λ (e : Option (List RuleModel)). IsReportOf o.lists (walk_of (asked_by o).selection depth (top_job e) t) r) asks.exclude
-        (walks.report depth (omega arith)))
-
-    given : IsGiven lists gives plain (top_job None) t
-    given =
-        subst (λ (s : SelectionModel). IsGiven lists gives s (top_job None) t) asks.selection
-        (subst (λ (e : Option (List RuleModel)). IsGiven lists gives (asked_by o).selection (top_job e) t) asks.exclude
-        (rows_given lists gives (asked_by o) o.max_dirs o.threads (top_of o) _ walks.found walks.whole))
-
-    chain : (place : List (List ℕ)) (k : JobModel) → LeadsTo plain (top_job None) t place k → (items : List Item) (inside : JobModel)
-        → IsListed k (t place) items inside → rules_in inside.ignore ≡ at_depth 0 (rules_of bytes)
-    chain = rules_at lists gives one bytes has plain t given
-
-    by : IsCheckedOut (rules_of bytes) path kind
-        → IsRuledOut r path ⊎ ((has_ignored_parent (file_verdict (rules_of bytes)) path ≡ false)
-        × (is_ignored (file_verdict (rules_of bytes) path (is_dir kind)) ≡ false)) → IsRuledOut r path
-    by out (inl ruled) = ruled
-    by out (inr (clear, kept)) = absurd (not_out (file_verdict (rules_of bytes)) path (is_dir kind) good clear kept out)
+checked_law law last lists gives one bytes has o r asks walks path kind entry =
+    let by = by_answers lists gives o r walks in
+    let t : Tree = by.answers in
+    let depth : ℕ = o.max_dirs + length (segments_of path) in
+    let listings = plainly o asks (λ s top. HasListings s top t) by.listings in
+    let given = plainly o asks (λ s top. IsGiven lists gives s top t) by.given in
+    agrees law last t listings o.lists depth r
+    (plainly o asks (λ s top. IsReportOf o.lists (walk_of s depth top t) r) (by.report depth (omega arith))) (rules_of bytes)
+    (rules_at t bytes (reads_by_lists lists gives one bytes has t listings given)) asks.left_out path kind (omega arith)
+    (entry_by_lists lists gives one plain (top_job None) t refl given path kind entry)

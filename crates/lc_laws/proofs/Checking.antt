@@ -8,6 +8,7 @@ use Rattle.std.specs.Option.{is_none, option_map_or, option_or}
 use Rattle.std.proofs.Math.Seq.{get_or-append_seam, take-append_seam}
 use Rattle.lc_explain.specs.OpenDirs.{OpenDirModel, open_dir}
 use Rattle.lc_explain.proofs.PathSegments.{below_child, joined_end}
+use Rattle.lc_glob.proofs.Naming.{some_segment}
 use Rattle.lc_glob.specs.Bytes.{slash}
 use Rattle.lc_glob.specs.Path.{path_in, segments_of}
 use Rattle.lc_level.specs.Answers.{Item, file_item, directory_item, other_item, name_of, entry_of, Tree}
@@ -16,7 +17,6 @@ use Rattle.lc_level.specs.Job.{JobModel}
 use Rattle.lc_level.specs.Level.{Reason, named_git, by_rule, other_kind, walked}
 use Rattle.lc_level.specs.Level.{skipped, rule_reason, reason_at, reason_of, file_fate, fate_of}
 use Rattle.lc_level.specs.Level.{child_job}
-use Rattle.lc_level.specs.OneAnswer.{GivesOne}
 use Rattle.lc_level.specs.Selection.{SelectionModel, selection_of}
 use Rattle.lc_level.specs.TopJob.{top_job}
 use Rattle.lc_level.proofs.WellFormed.{Spread, other_bytes}
@@ -29,10 +29,10 @@ use Rattle.lc_rules.specs.declared.verdicts.Verdict.TheVariants.{Ignored, Includ
 use Rattle.lc_check.specs.CheckText.{file_verdict, is_ignored, is_ignored_parent, has_ignored_parent, IsClearTo}
 use Rattle.lc_check.proofs.Directories.{is_ignored_parent-slash, has_ignored_parent-clear, clear-more}
 use Rattle.lc_tree.specs.Kinds.{is_dir}
-use Rattle.lc_tree.specs.Trees.{Listings, Contents}
 use Rattle.lc_tree.specs.declared.entry.Kind.{Kind}
 use Rattle.lc_tree.specs.declared.entry.Kind.TheVariants.{File, Dir, Other}
 use Rattle.lc_walk.specs.FoundAt.{IsListed, WalksInto, LeadsTo}
+use Rattle.lc_walk.specs.GivenAnswers.{HasListings}
 use Rattle.lc_walk.specs.Walk.{walk_of}
 use Rattle.lc_walk.specs.WalkReport.{IsReportOf}
 use Rattle.lc_walk.specs.declared.options.ReportLists.{ReportLists}
@@ -40,12 +40,12 @@ use Rattle.lc_walk.specs.declared.report.Report.{Report}
 use Rattle.lc_walk.proofs.Elements.{In, is_in}
 use Rattle.lc_walk.proofs.Levels.{well_formed_items}
 use Rattle.lc_walk.proofs.OneTree.{leads_on}
+use Rattle.lc_laws.specs.ByAnswers.{IsEntryBy}
 use Rattle.lc_laws.specs.CountsChecked.{IsRuledOut}
-use Rattle.lc_laws.specs.Entries.{LeadDown}
 use Rattle.lc_laws.specs.ReportedPaths.{IsSkipped}
 use Rattle.lc_laws.proofs.FirstSegments.{first_cut}
-use Rattle.lc_laws.proofs.Items.{IsItem, item_of, directory_is}
-use Rattle.lc_laws.proofs.OneWay.{entered_listed, good_name, IsGiven}
+use Rattle.lc_laws.proofs.Items.{IsItem, named_item, directory_is}
+use Rattle.lc_laws.proofs.OneWay.{entered_listed, good_name}
 use Rattle.lc_laws.proofs.Placed.{fault_there, skipped_there}
 use Rattle.lc_laws.proofs.TakingPart.{part_has}
 
@@ -135,13 +135,12 @@ fate_skipped s inside (other_item n) reason e = ap (λ o. option_map_or (skipped
 
 -- ---- down to the entry
 
-module _ (lists : List ℕ → Listings) (gives : List ℕ → Contents) (one : GivesOne lists gives) (t : Tree)
-    (given : IsGiven lists gives plain (top_job None) t) (asked : ReportLists) (depth : ℕ) (r : Report)
+module _ (t : Tree) (listings : HasListings plain (top_job None) t) (asked : ReportLists) (depth : ℕ) (r : Report)
     (report : IsReportOf asked (walk_of plain depth (top_job None) t) r) (skipped_ones : asked.left_out ≡ true)
     (faultless : r.faults.items ≡ []) (rules : List RuleModel)
     (chain : (place : List (List ℕ)) (k : JobModel) → LeadsTo plain (top_job None) t place k → (items : List Item) (inside : JobModel)
     → IsListed k (t place) items inside → rules_in inside.ignore ≡ at_depth 0 rules)
-    (path : List ℕ) (kind : Kind) where
+    (path : List ℕ) (kind : Kind) (entry : IsEntryBy plain (top_job None) t path kind) where
   -- the report leaves it out by a rule, or it is not ignored and stands below nothing that is
   abbrev pub IsDecided : Type 0
   IsDecided =
@@ -168,7 +167,7 @@ module _ (lists : List ℕ → Listings) (gives : List ℕ → Contents) (one : 
       (front : List ℕ) (place : List (List ℕ)) (k : JobModel) → LeadsTo plain (top_job None) t place k
       → length place + length names ≤ depth → (rest : List ℕ) → segments_of rest ≡ names → path ≡ front ++ rest
       → ((m : List ℕ) → front ++ m ≡ path_in k.path m) → IsClearTo (file_verdict rules) path (length front)
-      → (In (codes ".git") names → ⊥) → LeadDown lists k.path names kind → IsDecided
+      → (In (codes ".git") names → ⊥) → segments_of path ≡ place ++ names → IsDecided
 
   last_decides : (name : List ℕ) → Decides (name ∷ [])
   last_decides name front place k leads deep rest cut at joined to no_git down =
@@ -181,10 +180,10 @@ module _ (lists : List ℕ → Listings) (gives : List ℕ → Contents) (one : 
       m = met place k leads shallow
 
       i : IsItem m.items name kind
-      i = item_of lists gives one plain (top_job None) t given place k m.items m.inside leads m.listed name kind down
+      i = named_item m.items name kind (entry place name [] k m.items down leads m.listed.here)
 
       spread : Spread m.items
-      spread = well_formed_items (t place) (given place k leads).1 m.items m.listed.here
+      spread = well_formed_items (t place) (listings place k leads) m.items m.listed.here
 
       whole : path ≡ front ++ name
       whole = at ∙ ap (λ l. front ++ l) (first_cut rest name [] cut)
@@ -202,9 +201,8 @@ module _ (lists : List ℕ → Listings) (gives : List ℕ → Contents) (one : 
           let fate = fate_skipped plain m.inside i.item (by_rule source line)
           (ap (λ n. reason_of plain m.inside n (is_dir (entry_of i.item).kind)) i.named
           ∙ ap (λ (d : Kind). reason_of plain m.inside name (is_dir d)) i.kind_is ∙ e) in
-          let there = skipped_there plain refl (top_job None) t asked depth r report place k leads shallow m.items m.inside m.listed skipped_ones
-          i.item
-          i.has (entry_of i.item).kind (by_rule source line) fate in
+          let there = skipped_there plain refl (top_job None) t asked depth r report place k leads shallow m.items m.inside m.listed
+          skipped_ones i.item i.has (entry_of i.item).kind (by_rule source line) fate in
           inl (source, line, inl (subst (λ p. IsSkipped r p (by_rule source line)) (ap (path_in k.path) i.named ∙ sym path_is) there))
       by (inr (none, kept)) =
           let good = good_name m.items spread i.item i.has in
@@ -229,10 +227,10 @@ module _ (lists : List ℕ → Listings) (gives : List ℕ → Contents) (one : 
       m = met place k leads shallow
 
       i : IsItem m.items name Dir
-      i = item_of lists gives one plain (top_job None) t given place k m.items m.inside leads m.listed name Dir down.0
+      i = named_item m.items name Dir (entry place name (next ∷ names) k m.items down leads m.listed.here)
 
       spread : Spread m.items
-      spread = well_formed_items (t place) (given place k leads).1 m.items m.listed.here
+      spread = well_formed_items (t place) (listings place k leads) m.items m.listed.here
 
       has : In (directory_item name) m.items
       has = subst (λ (y : Item). In y m.items) (directory_is i.item i.kind_is ∙ ap directory_item i.named) i.has
@@ -253,8 +251,9 @@ module _ (lists : List ℕ → Listings) (gives : List ℕ → Contents) (one : 
           ⊎ ((reason_of plain m.inside name true ≡ None)
           × (is_ignored (file_verdict rules (path_in m.inside.path name) true) ≡ false)) → IsDecided
       by (inl (source, line, e)) =
-          let there = skipped_there plain refl (top_job None) t asked depth r report place k leads shallow m.items m.inside m.listed skipped_ones
-          (directory_item name) has Dir (by_rule source line) (fate_skipped plain m.inside (directory_item name) (by_rule source line) e) in
+          let there = skipped_there plain refl (top_job None) t asked depth r report place k leads shallow m.items m.inside m.listed
+          skipped_ones (directory_item name) has Dir (by_rule source line)
+          (fate_skipped plain m.inside (directory_item name) (by_rule source line) e) in
           inl (
             source,
             line,
@@ -286,10 +285,10 @@ module _ (lists : List ℕ → Listings) (gives : List ℕ → Contents) (one : 
           (λ l. append_assoc (front ++ name) (slash ∷ []) l ∙ append_assoc front name (slash ∷ l) ∙ joined (name ++ slash ∷ l)
           ∙ below_child k.path name l good.0 ∙ ap (λ d. path_in (path_in d name) l) (sym inside_path))
           clear (λ g. no_git (inr g))
-          (subst (λ d. LeadDown lists (path_in d name) (next ∷ names) kind) (sym inside_path) down.1)
+          (down ∙ sym (append_assoc place (name ∷ []) (next ∷ names)))
 
   -- for each number of names below a directory
   pub decided : (names : List (List ℕ)) → Decides names
-  decided [] = λ front place k leads deep rest cut at joined to no_git down. absurd down
+  decided [] = λ front place k leads deep rest cut at joined to no_git down. absurd (some_segment rest cut)
   decided (name ∷ []) = last_decides name
   decided (name ∷ next ∷ names) = on_the_way_decides name next names (decided (next ∷ names))

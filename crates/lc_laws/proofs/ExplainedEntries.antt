@@ -1,13 +1,14 @@
 -- What is said of an entry tells where the report has it.
 use Rattle.std.proofs.Common.{◌≡◌, ℕ, ◌+◌, ◌<◌, ◌≤◌, Bool, true, false, List, [], ◌∷◌, ◌++◌, length, refl, sym, ◌∙◌, ap, subst, arith}
-use Rattle.std.proofs.Common.{Option, Some, None, Result, Ok, Err, MatchResult, ◌⊎◌, inl, inr, length-append}
+use Rattle.std.proofs.Common.{Option, Some, None, Result, Ok, Err, MatchResult, ◌⊎◌, inl, inr, length-append, append_assoc}
 use Rattle.std.specs.List.{Contains}
 use Rattle.std.specs.Option.{is_none, option_map_or, option_or}
 use Rattle.lc_explain.specs.Explained.{CitedRule, Explanation, faulted, below, ignored, cited, said_for, said_by}
 use Rattle.lc_explain.specs.Explained.{said_of, kind_asked, is_directory, OnTheWay, IsSaid}
 use Rattle.lc_explain.specs.Laws.{IsSaidKept}
-use Rattle.lc_explain.specs.OpenDirs.{OpenDirModel, DirStack, open_dir, MayEnter, kind_in}
+use Rattle.lc_explain.specs.OpenDirs.{OpenDirModel, DirStack, open_dir, kind_in}
 use Rattle.lc_explain.proofs.PathSegments.{below_child, joined_end}
+use Rattle.lc_glob.proofs.Naming.{some_segment}
 use Rattle.lc_glob.specs.Bytes.{slash}
 use Rattle.lc_glob.specs.Path.{path_in, segments_of}
 use Rattle.lc_level.specs.Answers.{Item, file_item, directory_item, other_item, name_of, entry_of, entries_of, Tree}
@@ -15,7 +16,6 @@ use Rattle.lc_level.specs.FaultLines.{FaultLineModel}
 use Rattle.lc_level.specs.Job.{JobModel}
 use Rattle.lc_level.specs.Level.{Reason, named_git, by_rule, by_attribute, other_kind, walked, skipped, file_fate}
 use Rattle.lc_level.specs.Level.{fate_of, reason_of, reason_for, child_job}
-use Rattle.lc_level.specs.OneAnswer.{GivesOne}
 use Rattle.lc_level.specs.Selection.{SelectionModel}
 use Rattle.lc_level.proofs.WellFormed.{Spread}
 use Rattle.lc_rules.specs.IgnoreChains.{rules_in}
@@ -23,7 +23,6 @@ use Rattle.lc_rules.specs.IgnoreRules.{RuleModel}
 use Rattle.lc_rules.specs.Verdicts.{last_match}
 use Rattle.lc_rules.specs.declared.rule_source.RuleSource.{RuleSource}
 use Rattle.lc_tree.specs.Listing.{EntryModel}
-use Rattle.lc_tree.specs.Trees.{Listings, Contents}
 use Rattle.lc_tree.specs.declared.entry.Kind.{Kind}
 use Rattle.lc_tree.specs.declared.entry.Kind.TheVariants.{File, Dir, Other}
 use Rattle.lc_walk.specs.Found.{Found}
@@ -36,13 +35,13 @@ use Rattle.lc_walk.specs.declared.report.Report.{Report}
 use Rattle.lc_walk.proofs.Elements.{In}
 use Rattle.lc_walk.proofs.Levels.{well_formed_items}
 use Rattle.lc_walk.proofs.OneTree.{leads_on}
+use Rattle.lc_laws.specs.ByAnswers.{IsEntryBy}
 use Rattle.lc_laws.specs.CountsExplained.{TellsOf}
-use Rattle.lc_laws.specs.Entries.{LeadDown}
 use Rattle.lc_laws.specs.ReportedPaths.{IsSkipped, IsKept, IsSkippedAbove}
 use Rattle.lc_laws.proofs.FirstSegments.{first_cut}
 use Rattle.lc_laws.proofs.Following.{asked_as_it_is, went_into, IsSaidBelow, IsSaidIn, said_in, on_the_way, said_at_end}
-use Rattle.lc_laws.proofs.OneWay.{entered_listed, entered_by, kind_found, good_name, IsGiven}
-use Rattle.lc_laws.proofs.Items.{IsItem, item_of, directory_is}
+use Rattle.lc_laws.proofs.OneWay.{entered_listed, kind_found, good_name, Entering, IsKnown}
+use Rattle.lc_laws.proofs.Items.{IsItem, named_item, directory_is}
 use Rattle.lc_laws.proofs.Placed.{fault_there, skipped_there, file_there}
 use Rattle.lc_laws.proofs.TakingPart.{part_has}
 
@@ -74,11 +73,11 @@ module _ (r : Report) (path : List ℕ) (kind : Kind) (exclude : List ℕ) (stac
   taken_told None has = has
   taken_told (Some rule) has = has
 
-module _ (lists : List ℕ → Listings) (gives : List ℕ → Contents) (one : GivesOne lists gives) (s : SelectionModel) (whole : s.only ≡ [])
-    (exclude : List ℕ) (x : Explanation) (top : JobModel) (t : Tree) (given : IsGiven lists gives s top t) (asked : ReportLists) (depth : ℕ)
-    (r : Report)
+module _ (Enters : Entering) (s : SelectionModel) (whole : s.only ≡ []) (exclude : List ℕ) (x : Explanation) (top : JobModel) (t : Tree)
+    (known : IsKnown Enters s top t) (asked : ReportLists) (depth : ℕ) (r : Report)
     (report : IsReportOf asked (walk_of s depth top t) r) (files : asked.files ≡ true) (skipped_ones : asked.left_out ≡ true)
-    (path : List ℕ) (kind : Kind) (kept : IsSaidKept x → Contains (skipped_paths r.skipped.items) path → ⊥) where
+    (path : List ℕ) (kind : Kind) (entry : IsEntryBy s top t path kind)
+    (kept : IsSaidKept x → Contains (skipped_paths r.skipped.items) path → ⊥) where
   abbrev xs : List Found
   xs = walk_of s depth top t
 
@@ -131,8 +130,8 @@ module _ (lists : List ℕ → Listings) (gives : List ℕ → Contents) (one : 
                 (kept (subst IsSaidKept (sym same) (taken (cited exclude stack) (rule_for n true))))))
         entry_told (other_item n) has at own is = by (reason_of s inside n false) refl
           where
-            told : (reason : Reason) → x ≡ said_for (cited exclude stack) ignored reason → fate_of s inside (other_item n) ≡ skipped Other reason
-                → TellsOf r path kind x
+            told : (reason : Reason) → x ≡ said_for (cited exclude stack) ignored reason
+                → fate_of s inside (other_item n) ≡ skipped Other reason → TellsOf r path kind x
             told reason same fate =
                 subst (TellsOf r path kind) (sym same)
                 (skipped_told r path kind exclude stack reason
@@ -153,16 +152,16 @@ module _ (lists : List ℕ → Listings) (gives : List ℕ → Contents) (one : 
     items : List Item
     inside : JobModel
     listed : IsListed k (t place) items inside
-    says : IsSaidIn lists gives one s exclude x stack items inside names
+    says : IsSaidIn Enters s exclude x stack items inside names
 
   met : (stack : DirStack) (place : List (List ℕ)) (k : JobModel) (names : List (List ℕ)) → LeadsTo s top t place k
-      → IsSaidBelow lists gives one s exclude x stack k names
+      → IsSaidBelow Enters s exclude x stack k names
       → ((fault : FaultLineModel) × (open_dir k (t place) ≡ Err fault) × (x ≡ faulted fault)) ⊎ IsMet stack place k names
   met stack place k names leads (entered, enters, said) =
-      by (open_dir k (t place)) refl (entered_by lists gives one s k (t place) entered (given place k leads).0 enters)
+      by (open_dir k (t place)) refl ((known place k leads).0 entered enters)
     where
       Holds : Result OpenDirModel FaultLineModel → Type 0
-      Holds w = MatchResult w (λ here. IsSaid (MayEnter lists gives) s exclude (stack ++ here ∷ []) here names false x)
+      Holds w = MatchResult w (λ here. IsSaid Enters s exclude (stack ++ here ∷ []) here names false x)
           (λ fault. x ≡ faulted fault)
 
       by : (w : Result OpenDirModel FaultLineModel) → open_dir k (t place) ≡ w → entered ≡ open_dir k (t place)
@@ -173,7 +172,7 @@ module _ (lists : List ℕ → Listings) (gives : List ℕ → Contents) (one : 
             items = l.items;
             inside = here.job;
             listed = l.listed;
-            says = said_in lists gives one s exclude x stack k (t place) l.items here.job names (given place k leads).0 l.listed
+            says = said_in Enters s exclude x stack k (t place) l.items here.job names (known place k leads).0 l.listed
                 (entered, enters, said);
           })
       by (Err fault) is same = inl (fault, is, subst Holds (same ∙ is) said)
@@ -182,8 +181,8 @@ module _ (lists : List ℕ → Listings) (gives : List ℕ → Contents) (one : 
   abbrev Tells : List (List ℕ) → Type 0
   Tells names =
       (stack : DirStack) (place : List (List ℕ)) (k : JobModel) → LeadsTo s top t place k → length place + length names ≤ depth
-      → (rest : List ℕ) → segments_of rest ≡ names → path ≡ path_in k.path rest → LeadDown lists k.path names kind
-      → IsSaidBelow lists gives one s exclude x stack k names → TellsOf r path kind x
+      → (rest : List ℕ) → segments_of rest ≡ names → path ≡ path_in k.path rest → segments_of path ≡ place ++ names
+      → IsSaidBelow Enters s exclude x stack k names → TellsOf r path kind x
 
   last_tells : (name : List ℕ) → Tells (name ∷ [])
   last_tells name stack place k leads deep rest cut at down said = by (met stack place k (name ∷ []) leads said)
@@ -195,9 +194,9 @@ module _ (lists : List ℕ → Listings) (gives : List ℕ → Contents) (one : 
           → TellsOf r path kind x
       by (inl f) = subst (TellsOf r path kind) (sym f.2) (fault_told place k leads shallow f.0 f.1)
       by (inr m) =
-          let i = item_of lists gives one s top t given place k m.items m.inside leads m.listed name kind down in
-          let spread : Spread m.items = well_formed_items (t place) (given place k leads).1 m.items m.listed.here in
-          let e = said_at_end lists gives one s exclude x stack m.items m.inside name m.says in
+          let i = named_item m.items name kind (entry place name [] k m.items down leads m.listed.here) in
+          let spread : Spread m.items = well_formed_items (t place) (known place k leads).1 m.items m.listed.here in
+          let e = said_at_end Enters s exclude x stack m.items m.inside name m.says in
           let found_kind : kind_in (entries_of m.items) name ≡ Some (entry_of i.item).kind =
           subst (λ n. kind_in (entries_of m.items) n ≡ Some (entry_of i.item).kind) i.named (kind_found m.items spread i.item i.has) in
           entry_told place k leads shallow m.items m.inside m.listed e.stack i.item i.has
@@ -219,10 +218,10 @@ module _ (lists : List ℕ → Listings) (gives : List ℕ → Contents) (one : 
       by (inr m) = onward (reason_of s m.inside name true) refl
         where
           i : IsItem m.items name Dir
-          i = item_of lists gives one s top t given place k m.items m.inside leads m.listed name Dir down.0
+          i = named_item m.items name Dir (entry place name (next ∷ names) k m.items down leads m.listed.here)
 
           spread : Spread m.items
-          spread = well_formed_items (t place) (given place k leads).1 m.items m.listed.here
+          spread = well_formed_items (t place) (known place k leads).1 m.items m.listed.here
 
           has : In (directory_item name) m.items
           has = subst (λ (y : Item). In y m.items) (directory_is i.item i.kind_is ∙ ap directory_item i.named) i.has
@@ -248,7 +247,7 @@ module _ (lists : List ℕ → Listings) (gives : List ℕ → Contents) (one : 
           onward : (o : Option Reason) → reason_of s m.inside name true ≡ o → TellsOf r path kind x
           onward (Some reason) e =
               let same = skipped_on_the_way _ _ _ _ _ reason (reason_is ∙ e)
-              (on_the_way lists gives one s exclude x (stack ++ m.says.here ∷ []) m.says.here name (next ∷ names) (λ n. cc n) m.says.says) in
+              (on_the_way Enters s exclude x (stack ++ m.says.here ∷ []) m.says.here name (next ∷ names) (λ n. cc n) m.says.says) in
               subst (TellsOf r path kind) (sym same)
               (above_told r path kind exclude (stack ++ m.says.here ∷ []) reason (
                 path_in k.path name,
@@ -259,7 +258,7 @@ module _ (lists : List ℕ → Listings) (gives : List ℕ → Contents) (one : 
               ))
           onward None e =
               let into = went_into _ _ _ _ _ (reason_is ∙ e) (ap is_directory there)
-              (on_the_way lists gives one s exclude x (stack ++ m.says.here ∷ []) m.says.here name (next ∷ names) (λ n. cc n) m.says.says) in
+              (on_the_way Enters s exclude x (stack ++ m.says.here ∷ []) m.says.here name (next ∷ names) (λ n. cc n) m.says.says) in
               let leaves : WalksInto s k (t place) name m.inside = record {
                 items = m.items;
                 listed = m.listed;
@@ -271,12 +270,12 @@ module _ (lists : List ℕ → Listings) (gives : List ℕ → Contents) (one : 
               (omega (arith, deep, length-append place (name ∷ []))) parts.0 parts.2
               (at ∙ ap (path_in k.path) parts.1 ∙ below_child k.path name parts.0 some_name
               ∙ ap (λ d. path_in (path_in d name) parts.0) (sym inside_path))
-              (subst (λ d. LeadDown lists (path_in d name) (next ∷ names) kind) (sym inside_path) down.1)
-              (subst (λ (j : JobModel). IsSaidBelow lists gives one s exclude x (stack ++ m.says.here ∷ []) (child_job j name) (next ∷ names))
+              (down ∙ sym (append_assoc place (name ∷ []) (next ∷ names)))
+              (subst (λ (j : JobModel). IsSaidBelow Enters s exclude x (stack ++ m.says.here ∷ []) (child_job j name) (next ∷ names))
               m.says.job into)
 
   -- for each number of names below a directory
   pub told : (names : List (List ℕ)) → Tells names
-  told [] = λ stack place k leads deep rest cut at down said. absurd down
+  told [] = λ stack place k leads deep rest cut at down said. absurd (some_segment rest cut)
   told (name ∷ []) = last_tells name
   told (name ∷ next ∷ names) = on_the_way_tells name next names (told (next ∷ names))

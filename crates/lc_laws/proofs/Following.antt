@@ -5,27 +5,25 @@ use Rattle.std.specs.Option.{is_none}
 use Rattle.lc_explain.specs.Explained.{Explanation, bad, faulted, below, cited, said_for, said_of, said_beside, kind_asked, is_directory}
 use Rattle.lc_explain.specs.Explained.{OnTheWay, OnEntering, IsSaid, IsExplained}
 use Rattle.lc_explain.specs.Laws.{Agrees, EntryLaw}
-use Rattle.lc_explain.specs.OpenDirs.{OpenDirModel, DirStack, MayEnter, kind_in}
+use Rattle.lc_explain.specs.OpenDirs.{OpenDirModel, DirStack, open_dir, kind_in}
 use Rattle.lc_explain.proofs.PathSegments.{names_below}
 use Rattle.lc_glob.specs.Path.{path_in, segments_of}
 use Rattle.lc_level.specs.Answers.{Item, directory_item, name_of, entry_of, entries_of, Answers, Tree}
 use Rattle.lc_level.specs.FaultLines.{FaultLineModel}
 use Rattle.lc_level.specs.Job.{JobModel}
 use Rattle.lc_level.specs.Level.{Reason, Fate, fate_of, reason_of, reason_for, child_job}
-use Rattle.lc_level.specs.OneAnswer.{GivesOne}
 use Rattle.lc_level.specs.Selection.{SelectionModel}
-use Rattle.lc_level.specs.TreeAnswers.{MayAnswer}
 use Rattle.lc_level.proofs.WellFormed.{Spread}
 use Rattle.lc_text.specs.PathLines.{is_bad_path}
 use Rattle.lc_tree.specs.Listing.{EntryModel}
 use Rattle.lc_tree.specs.Paths.{names_of_path}
-use Rattle.lc_tree.specs.Trees.{Listings, Contents}
 use Rattle.lc_tree.specs.declared.entry.Kind.{Kind}
 use Rattle.lc_tree.specs.declared.entry.Kind.TheVariants.{File, Dir, Other}
 use Rattle.lc_walk.specs.FoundAt.{IsListed, LeadsTo, HasEntry}
 use Rattle.lc_walk.proofs.Elements.{In}
 use Rattle.lc_walk.proofs.Levels.{well_formed_items}
-use Rattle.lc_laws.proofs.OneWay.{listed_entered, entered_by, kind_found, good_name, one_segment, IsGiven, given_below, place_names}
+use Rattle.lc_laws.proofs.OneWay.{listed_entered, kind_found, good_name, one_segment, place_names, Entering, IsKnown, known_below}
+use Rattle.lc_laws.proofs.OneWay.{known_listings}
 use Rattle.lc_laws.proofs.TakingPart.{in_part}
 
 -- what is none has no reason
@@ -40,8 +38,8 @@ asked_as_it_is Dir = refl
 asked_as_it_is Other = refl
 
 -- a directory that nothing leaves out is gone into
-pub went_into : (reason : Option Reason) (is_there : Bool) (Skipped : Reason → Type 0) (Into Beside : Type 0) → reason ≡ None → is_there ≡ true
-    → OnTheWay reason is_there Skipped Into Beside → Into
+pub went_into : (reason : Option Reason) (is_there : Bool) (Skipped : Reason → Type 0) (Into Beside : Type 0) → reason ≡ None
+    → is_there ≡ true → OnTheWay reason is_there Skipped Into Beside → Into
 went_into None true Skipped Into Beside a b stack = stack
 went_into None false Skipped Into Beside a b stack = absurd (cc b)
 went_into (Some r) is_there Skipped Into Beside a b stack = absurd (cc a)
@@ -50,37 +48,36 @@ some_end : (place : List (List ℕ)) (name : List ℕ) → place ++ name ∷ [] 
 some_end [] name e = cc
 some_end (n ∷ place) name e = cc
 
-module _ (lists : List ℕ → Listings) (gives : List ℕ → Contents) (one : GivesOne lists gives) (s : SelectionModel) (exclude : List ℕ)
-    (x : Explanation) where
+module _ (Enters : Entering) (s : SelectionModel) (exclude : List ℕ) (x : Explanation) where
   -- so it is said of names below a directory that is entered at the end of a way
   abbrev pub IsSaidBelow : DirStack → JobModel → List (List ℕ) → Type 0
-  IsSaidBelow stack j names =
-      OnEntering (MayEnter lists gives) j x (λ here. IsSaid (MayEnter lists gives) s exclude (stack ++ here ∷ []) here names false x)
+  IsSaidBelow stack j names = OnEntering Enters j x (λ here. IsSaid Enters s exclude (stack ++ here ∷ []) here names false x)
 
   -- the directory that was entered
   pub record IsSaidIn (stack : DirStack) (items : List Item) (inside : JobModel) (names : List (List ℕ)) : Type 0 where
     pub here : OpenDirModel
     pub job : here.job ≡ inside
     pub entries : here.entries ≡ entries_of items
-    pub says : IsSaid (MayEnter lists gives) s exclude (stack ++ here ∷ []) here names false x
+    pub says : IsSaid Enters s exclude (stack ++ here ∷ []) here names false x
 
   -- a listed directory is entered, and says it
   pub said_in : (stack : DirStack) (j : JobModel) (a : Answers) (items : List Item) (inside : JobModel) (names : List (List ℕ))
-      → MayAnswer lists gives j.path a → IsListed j a items inside → IsSaidBelow stack j names → IsSaidIn stack items inside names
-  said_in stack j a items inside names may listed (entered, enters, said) =
+      → ((entered : Result OpenDirModel FaultLineModel) → Enters j entered → entered ≡ open_dir j a) → IsListed j a items inside
+      → IsSaidBelow stack j names → IsSaidIn stack items inside names
+  said_in stack j a items inside names known listed (entered, enters, said) =
       let e = listed_entered j a items inside listed in
       record {
         here = e.here;
         job = e.job;
         entries = e.entries;
         says = subst (λ (r : Result OpenDirModel FaultLineModel). MatchResult r
-            (λ here. IsSaid (MayEnter lists gives) s exclude (stack ++ here ∷ []) here names false x) (λ fault. x ≡ faulted fault))
-            (entered_by lists gives one s j a entered may enters ∙ e.is) said;
+            (λ here. IsSaid Enters s exclude (stack ++ here ∷ []) here names false x) (λ fault. x ≡ faulted fault))
+            (known entered enters ∙ e.is) said;
       }
 
   -- a name before others
   pub on_the_way : (stack : DirStack) (here : OpenDirModel) (name : List ℕ) (names : List (List ℕ)) → (names ≡ [] → ⊥)
-      → IsSaid (MayEnter lists gives) s exclude stack here (name ∷ names) false x →
+      → IsSaid Enters s exclude stack here (name ∷ names) false x →
       OnTheWay (reason_for s here.job name (kind_asked true (kind_in here.entries name))) (is_directory (kind_in here.entries name))
       (λ reason. x ≡ said_for (cited exclude stack) below reason) (IsSaidBelow stack (child_job here.job name) names)
       (x ≡ said_beside s exclude stack (child_job here.job name) names false)
@@ -93,55 +90,58 @@ module _ (lists : List ℕ → Listings) (gives : List ℕ → Contents) (one : 
     pub is : x ≡ said_of s exclude stack inside name (kind_asked false (kind_in (entries_of items) name))
 
   -- what is said at the end of a path is said of its last name
-  pub said_at_end : (stack : DirStack) (items : List Item) (inside : JobModel) (name : List ℕ) → IsSaidIn stack items inside (name ∷ [])
-      → IsSaidOf items inside name
+  pub said_at_end : (stack : DirStack) (items : List Item) (inside : JobModel) (name : List ℕ)
+      → IsSaidIn stack items inside (name ∷ []) → IsSaidOf items inside name
   said_at_end stack items inside name a = record {
     stack = stack ++ a.here ∷ [];
     is = a.says
         ∙ ap (λ (j : JobModel). said_of s exclude (stack ++ a.here ∷ []) j name (kind_asked false (kind_in a.here.entries name))) a.job
-        ∙ ap (λ (es : List EntryModel). said_of s exclude (stack ++ a.here ∷ []) inside name (kind_asked false (kind_in es name))) a.entries;
+        ∙ ap (λ (es : List EntryModel). said_of s exclude (stack ++ a.here ∷ []) inside name (kind_asked false (kind_in es name)))
+        a.entries;
   }
 
   -- what is said of names that the walk goes down is said at their end
-  followed : (place : List (List ℕ)) (stack : DirStack) (j k : JobModel) (t : Tree) (items : List Item) (inside : JobModel) (name : List ℕ)
-      → IsGiven lists gives s j t → LeadsTo s j t place k → IsListed k (t place) items inside → IsSaidBelow stack j (place ++ name ∷ [])
-      → IsSaidOf items inside name
-  followed [] stack j k t items inside name given leads listed said =
-      said_at_end stack items inside name (said_in stack j (t []) items inside (name ∷ []) (given [] j refl).0
+  followed : (place : List (List ℕ)) (stack : DirStack) (j k : JobModel) (t : Tree) (items : List Item) (inside : JobModel)
+      (name : List ℕ) → IsKnown Enters s j t → LeadsTo s j t place k → IsListed k (t place) items inside
+      → IsSaidBelow stack j (place ++ name ∷ []) → IsSaidOf items inside name
+  followed [] stack j k t items inside name known leads listed said =
+      said_at_end stack items inside name (said_in stack j (t []) items inside (name ∷ []) (known [] j refl).0
       (subst (λ (i : JobModel). IsListed i (t []) items inside) (sym leads) listed) said)
-  followed (n ∷ place) stack j k t items inside name given (within, leaves, leads) listed said =
-      let a = said_in stack j (t []) leaves.items within (n ∷ place ++ name ∷ []) (given [] j refl).0 leaves.listed said in
-      let spread : Spread leaves.items = well_formed_items (t []) (given [] j refl).1 leaves.items leaves.listed.here in
+  followed (n ∷ place) stack j k t items inside name known (within, leaves, leads) listed said =
+      let a = said_in stack j (t []) leaves.items within (n ∷ place ++ name ∷ []) (known [] j refl).0 leaves.listed said in
+      let spread : Spread leaves.items = well_formed_items (t []) (known [] j refl).1 leaves.items leaves.listed.here in
       let kind : kind_in a.here.entries n ≡ Some Dir =
       ap (λ (es : List EntryModel). kind_in es n) a.entries
       ∙ kind_found leaves.items spread (directory_item n) (in_part s j.path (directory_item n) leaves.items leaves.has) in
       let none : reason_for s a.here.job n (kind_asked true (kind_in a.here.entries n)) ≡ None =
-      ap (λ (o : Option Kind). reason_for s a.here.job n (kind_asked true o)) kind ∙ ap (λ (i : JobModel). reason_of s i n true) a.job
+      ap (λ (o : Option Kind). reason_for s a.here.job n (kind_asked true o)) kind
+      ∙ ap (λ (i : JobModel). reason_of s i n true) a.job
       ∙ none_is (reason_of s within n true) leaves.taken in
       let into : IsSaidBelow (stack ++ a.here ∷ []) (child_job a.here.job n) (place ++ name ∷ []) =
       went_into _ _ _ _ _ none (ap is_directory kind)
       (on_the_way (stack ++ a.here ∷ []) a.here n (place ++ name ∷ []) (some_end place name) a.says) in
       followed place (stack ++ a.here ∷ []) (child_job within n) k (λ p. t (n ∷ p)) items inside name
-      (given_below lists gives s j t n within given leaves) leads listed
+      (known_below Enters s j t n within known leaves) leads listed
       (subst (λ (i : JobModel). IsSaidBelow (stack ++ a.here ∷ []) (child_job i n) (place ++ name ∷ [])) a.job into)
 
   -- so what is said of an entry agrees with its fate
-  pub entry_agrees : EntryLaw → (top : JobModel) (t : Tree) → top.path ≡ [] → IsGiven lists gives s top t → (place : List (List ℕ))
+  pub entry_agrees : EntryLaw → (top : JobModel) (t : Tree) → top.path ≡ [] → IsKnown Enters s top t → (place : List (List ℕ))
       (k : JobModel) → LeadsTo s top t place k → (name : List ℕ) (fate : Fate) → HasEntry s k (t place) name fate → (path : List ℕ)
-      → path ≡ path_in k.path name → is_bad_path path ≡ false → IsExplained (MayEnter lists gives) s exclude top path false x
+      → path ≡ path_in k.path name → is_bad_path path ≡ false → IsExplained Enters s exclude top path false x
       → (stack : DirStack) × Agrees (cited exclude stack) fate x
-  entry_agrees law top t at_top given place k leads name fate h path path_is good said =
-      let spread : Spread h.items = well_formed_items (t place) (given place k leads).1 h.items h.listed.here in
+  entry_agrees law top t at_top known place k leads name fate h path path_is good said =
+      let spread : Spread h.items = well_formed_items (t place) (known place k leads).1 h.items h.listed.here in
       let item : In h.item h.items = in_part s k.path h.item h.items h.has in
       let named : segments_of name ≡ name ∷ [] =
       subst (λ n. segments_of n ≡ n ∷ []) h.named (one_segment (name_of h.item) (good_name h.items spread h.item item)) in
       let names : segments_of path ≡ place ++ name ∷ [] =
       ap segments_of path_is ∙ names_below k.path name
-      ∙ ap (λ l. l ++ segments_of name) (place_names lists gives s place top k t given leads ∙ ap (λ p. names_of_path p ++ place) at_top)
+      ∙ ap (λ l. l ++ segments_of name) (place_names s place top k t (known_listings Enters s top t known) leads
+      ∙ ap (λ p. names_of_path p ++ place) at_top)
       ∙ ap (λ l. place ++ l) named in
       let below_top : IsSaidBelow [] top (segments_of path) =
       subst (λ b. cond b (x ≡ bad) (IsSaidBelow [] top (segments_of path))) good said in
-      let at = followed place [] top k t h.items h.inside name given leads h.listed (subst (IsSaidBelow [] top) names below_top) in
+      let at = followed place [] top k t h.items h.inside name known leads h.listed (subst (IsSaidBelow [] top) names below_top) in
       let kind : kind_in (entries_of h.items) name ≡ Some (entry_of h.item).kind =
       subst (λ n. kind_in (entries_of h.items) n ≡ Some (entry_of h.item).kind) h.named (kind_found h.items spread h.item item) in
       let is : x ≡ said_of s exclude at.stack h.inside name (entry_of h.item).kind =

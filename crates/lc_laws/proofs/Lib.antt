@@ -7,8 +7,10 @@ pub mod Items
 pub mod OneWay
 pub mod Placed
 pub mod ReportLists
-pub mod RowTrees
+pub mod SaidByAnswers
 pub mod SaidOnce
+pub mod SameWay
+pub mod SlashByAnswers
 pub mod SlashesSaidAlike
 pub mod TakingPart
 pub mod ExplainedEntries

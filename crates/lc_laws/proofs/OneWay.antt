@@ -20,9 +20,11 @@ use Rattle.lc_tree.specs.Paths.{names_of_path}
 use Rattle.lc_tree.specs.Trees.{Listings, Contents}
 use Rattle.lc_tree.specs.declared.entry.Kind.{Kind}
 use Rattle.lc_walk.specs.FoundAt.{IsListed, WalksInto, LeadsTo}
+use Rattle.lc_walk.specs.GivenAnswers.{HasListings, IsGiven}
 use Rattle.lc_walk.proofs.Elements.{In}
 use Rattle.lc_walk.proofs.Levels.{well_formed_items}
 use Rattle.lc_walk.proofs.Places.{names_of_path-path_in}
+use Rattle.lc_laws.specs.ByAnswers.{EntersBy}
 use Rattle.lc_laws.proofs.TakingPart.{in_part}
 
 -- ---- entering
@@ -146,28 +148,59 @@ pub one_segment : (name : List ℕ) → IsGoodName name → segments_of name ≡
 one_segment [] good = absurd (good.0 refl)
 one_segment (b ∷ bs) good = names_of_path-path_in [] (b ∷ bs) good
 
--- ---- trees whose answers may be given
+-- ---- the directories to which names lead
 
-module _ (lists : List ℕ → Listings) (gives : List ℕ → Contents) (s : SelectionModel) where
-  -- the answers at each place that names lead to are well-formed, and some that may be given
-  abbrev pub IsGiven : JobModel → Tree → Type 0
-  IsGiven j t =
-      (place : List (List ℕ)) (k : JobModel) → LeadsTo s j t place k → MayAnswer lists gives k.path (t place) × IsWellFormed (t place)
-
-  -- so it is below
-  pub given_below : (j : JobModel) (t : Tree) (name : List ℕ) (inside : JobModel) → IsGiven j t → WalksInto s j (t []) name inside
-      → IsGiven (child_job inside name) (λ p. t (name ∷ p))
-  given_below j t name inside given leaves place k leads = given (name ∷ place) k (inside, leaves, leads)
+module _ (s : SelectionModel) where
+  -- below a directory with listings are others
+  pub listings_below : (j : JobModel) (t : Tree) (name : List ℕ) (inside : JobModel) → HasListings s j t
+      → WalksInto s j (t []) name inside → HasListings s (child_job inside name) (λ p. t (name ∷ p))
+  listings_below j t name inside listings leaves place k leads = listings (name ∷ place) k (inside, leaves, leads)
 
   -- the names are those of the path
-  pub place_names : (place : List (List ℕ)) (j k : JobModel) (t : Tree) → IsGiven j t → LeadsTo s j t place k
+  pub place_names : (place : List (List ℕ)) (j k : JobModel) (t : Tree) → HasListings s j t → LeadsTo s j t place k
       → names_of_path k.path ≡ names_of_path j.path ++ place
-  place_names [] j k t given leads = ap (λ (i : JobModel). names_of_path i.path) (sym leads) ∙ sym (append-nil (names_of_path j.path))
-  place_names (n ∷ place) j k t given (inside, leaves, leads) =
-      let spread : Spread leaves.items = well_formed_items (t []) (given [] j refl).1 leaves.items leaves.listed.here in
+  place_names [] j k t listings leads = ap (λ (i : JobModel). names_of_path i.path) (sym leads) ∙ sym (append-nil (names_of_path j.path))
+  place_names (n ∷ place) j k t listings (inside, leaves, leads) =
+      let spread : Spread leaves.items = well_formed_items (t []) (listings [] j refl) leaves.items leaves.listed.here in
       let good : IsGoodName n = good_name leaves.items spread (directory_item n)
       (in_part s j.path (directory_item n) leaves.items leaves.has) in
       let same : inside.path ≡ j.path = ap (λ (i : JobModel). i.path) leaves.listed.is in
-      place_names place (child_job inside n) k (λ p. t (n ∷ p)) (given_below j t n inside given leaves) leads
+      place_names place (child_job inside n) k (λ p. t (n ∷ p)) (listings_below j t n inside listings leaves) leads
       ∙ ap (λ p. p ++ place) (names_of_path-path_in inside.path n good ∙ ap (λ p. names_of_path p ++ n ∷ []) same)
       ∙ append_assoc (names_of_path j.path) (n ∷ []) place
+
+-- ---- how a directory is entered
+
+-- a relation by which directories are entered
+abbrev pub Entering : Type 1
+Entering = JobModel → Result OpenDirModel FaultLineModel → Type 0
+
+module _ (Enters : Entering) (s : SelectionModel) where
+  -- each directory to which names lead is entered by its answers alone, and has a listing that is one
+  abbrev pub IsKnown : JobModel → Tree → Type 0
+  IsKnown j t =
+      (place : List (List ℕ)) (k : JobModel) → LeadsTo s j t place k
+      → ((entered : Result OpenDirModel FaultLineModel) → Enters k entered → entered ≡ open_dir k (t place)) × IsWellFormed (t place)
+
+  -- so it is below
+  pub known_below : (j : JobModel) (t : Tree) (name : List ℕ) (inside : JobModel) → IsKnown j t → WalksInto s j (t []) name inside
+      → IsKnown (child_job inside name) (λ p. t (name ∷ p))
+  known_below j t name inside known leaves place k leads = known (name ∷ place) k (inside, leaves, leads)
+
+  pub known_listings : (j : JobModel) (t : Tree) → IsKnown j t → HasListings s j t
+  known_listings j t known place k leads = (known place k leads).1
+
+-- a tree of answers is known so by itself
+pub known_by_tree : (s : SelectionModel) (top : JobModel) (t : Tree) → top.path ≡ [] → HasListings s top t → IsKnown (EntersBy t) s top t
+known_by_tree s top t at_top listings place k leads =
+    let there : names_of_path k.path ≡ place =
+    place_names s place top k t listings leads ∙ ap (λ p. names_of_path p ++ place) at_top in (
+      λ entered enters. sym enters ∙ ap (λ p. open_dir k (t p)) there,
+      listings place k leads,
+    )
+
+-- and by a tree that answers in one way
+pub known_by_one : (lists : List ℕ → Listings) (gives : List ℕ → Contents) → GivesOne lists gives → (s : SelectionModel) (top : JobModel)
+    (t : Tree) → HasListings s top t → IsGiven lists gives s top t → IsKnown (MayEnter lists gives) s top t
+known_by_one lists gives one s top t listings given place k leads =
+    (λ entered. entered_by lists gives one s k (t place) entered (given place k leads), listings place k leads)

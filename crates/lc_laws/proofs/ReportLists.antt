@@ -10,7 +10,8 @@ use Rattle.lc_tree.specs.declared.entry.Kind.{Kind}
 use Rattle.lc_level.specs.declared.fault_word.FaultWord.{FaultWord}
 use Rattle.lc_walk.specs.Found.{Found, found_file, found_fault, found_directory, found_skipped}
 use Rattle.lc_walk.specs.ReportLines.{FileLineModel, SkippedLineModel, file_paths, fault_paths, skipped_paths}
-use Rattle.lc_walk.specs.WalkReport.{line_of, skipped_line, file_in, fault_in, skipped_lines_in, files_of, faults_of, skipped_lines_of, IsReportOf}
+use Rattle.lc_walk.specs.WalkReport.{line_of, skipped_line, file_in, fault_in, skipped_lines_in, files_of, faults_of}
+use Rattle.lc_walk.specs.WalkReport.{skipped_lines_of, IsReportOf}
 use Rattle.lc_walk.specs.declared.options.ReportLists.{ReportLists}
 use Rattle.lc_walk.specs.declared.report.Report.{Report}
 use Rattle.lc_walk.proofs.Elements.{In, is_in, contains, in_lists, of_lists, in_mapped, of_mapped}
@@ -92,7 +93,8 @@ module _ (lists : ReportLists) (xs : List Found) (r : Report) (is : IsReportOf l
         skipped_by xs path kind reason x.0 x.1 x.2
 
     -- and the other way round
-    pub found_is_skipped : (directory : List ℕ) (l : SkippedModel) → In (found_skipped directory l) xs → IsSkipped r (path_in directory l.name) l.reason
+    pub found_is_skipped : (directory : List ℕ) (l : SkippedModel) → In (found_skipped directory l) xs
+        → IsSkipped r (path_in directory l.name) l.reason
     found_is_skipped directory l has =
         let line : SkippedLineModel = skipped_line directory l in (
           l.kind,
@@ -116,9 +118,12 @@ module _ (lists : ReportLists) (xs : List Found) (r : Report) (is : IsReportOf l
       (of_mapped (λ (l : FaultLineModel). l.path) line r.faults.items (is_in line r.faults.items (found_faults path word has)))
 
 -- a path among those left out is left out for a reason
-pub skipped_somehow : (r : Report) (path : List ℕ) → Contains (skipped_paths r.skipped.items) path → (reason : Reason) × IsSkipped r path reason
-skipped_somehow r path has =
-    let line = in_mapped (λ (l : SkippedLineModel). l.path) path r.skipped.items (is_in path (skipped_paths r.skipped.items) has) in
+pub skipped_somehow : (r : Report) (path : List ℕ) → Contains (skipped_paths r.skipped.items) path
+    → (reason : Reason) × IsSkipped r path reason
+skipped_somehow r path there =
+    let line = in_mapped (λ (l : SkippedLineModel). l.path) path r.skipped.items (is_in path (skipped_paths r.skipped.items) there) in
     let same : line.0 ≡ record { path = path; kind = line.0.kind; reason = line.0.reason } =
     ap (λ p. record { path = p; kind = line.0.kind; reason = line.0.reason }) line.2 in
-    (line.0.reason, (line.0.kind, subst (λ (l : SkippedLineModel). Contains r.skipped.items l) same (contains line.0 r.skipped.items line.1)))
+    let has : Contains r.skipped.items (record { path = path; kind = line.0.kind; reason = line.0.reason }) =
+    subst (λ (l : SkippedLineModel). Contains r.skipped.items l) same (contains line.0 r.skipped.items line.1) in
+    (line.0.reason, (line.0.kind, has))

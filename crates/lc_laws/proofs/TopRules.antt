@@ -12,7 +12,6 @@ use Rattle.lc_level.specs.Level.{child_job}
 use Rattle.lc_level.specs.OneAnswer.{GivesOne}
 use Rattle.lc_level.specs.RuleFiles.{listing, Pair, RuleBytes, file_named, has_directory, has_git, and_then, reading, both_read, info_items}
 use Rattle.lc_level.specs.RuleFiles.{info_bytes, own_bytes, rule_bytes, with_file_at, first_of}
-use Rattle.lc_level.specs.Selection.{SelectionModel}
 use Rattle.lc_level.specs.TopJob.{top_job}
 use Rattle.lc_level.specs.TreeAnswers.{MayHave, MayList, MayAnswer, items_of}
 use Rattle.lc_level.proofs.WellFormed.{same_bytes, bytes_same}
@@ -20,18 +19,19 @@ use Rattle.lc_rules.specs.IgnoreChains.{ChainModel, rules_in}
 use Rattle.lc_rules.specs.IgnoreRules.{RuleModel, rules_of}
 use Rattle.lc_rules.specs.Verdicts.{at_depth}
 use Rattle.lc_tree.specs.Listing.{EntryModel}
+use Rattle.lc_tree.specs.Paths.{names_of_path}
 use Rattle.lc_tree.specs.Trees.{Listings, Contents}
 use Rattle.lc_tree.specs.declared.entry.Kind.{Kind}
 use Rattle.lc_tree.specs.declared.entry.Kind.TheVariants.{File, Dir, Other}
 use Rattle.lc_level.specs.declared.fault_word.FaultWord.{FaultWord}
 use Rattle.lc_walk.specs.FoundAt.{IsListed, LeadsTo}
+use Rattle.lc_walk.specs.GivenAnswers.{HasListings, IsGiven}
 use Rattle.lc_walk.proofs.Elements.{In, contains, of_mapped}
-use Rattle.lc_walk.proofs.Levels.{well_formed_items}
-use Rattle.lc_laws.specs.CountsChecked.{HasTopRules}
+use Rattle.lc_laws.specs.CountsChecked.{HasTopRules, ReadsTopRules}
 use Rattle.lc_laws.specs.Entries.{HasListed}
-use Rattle.lc_laws.proofs.Items.{IsItem, item_of}
-use Rattle.lc_laws.proofs.OneWay.{IsGiven, good_name, given_below}
-use Rattle.lc_laws.proofs.TakingPart.{in_part}
+use Rattle.lc_laws.proofs.Checking.{plain}
+use Rattle.lc_laws.proofs.Items.{IsItem, named_item, has_listed}
+use Rattle.lc_laws.proofs.OneWay.{place_names}
 
 -- ---- files of a name
 
@@ -204,13 +204,56 @@ both_are : (j : JobModel) (a : Answers) (items : List Item) (inside : JobModel) 
 both_are j a items inside listed info own one other =
     ap (λ (i : JobModel). i.ignore) listed.is ∙ ap (λ x. with_both j x listed.bytes.own.rules) one ∙ ap (with_both j info) other
 
+-- ---- by what is read
+
+-- no rules are added where no file is read
+none_added : (j : JobModel) (a : Answers) (items : List Item) (inside : JobModel) (rules : List RuleModel)
+    (listed : IsListed j a items inside) → (listed.bytes.info.rules ≡ None) × (listed.bytes.own.rules ≡ None)
+    → j.ignore ≡ top_chain rules → inside.ignore ≡ top_chain rules
+none_added j a items inside rules listed none chain = both_are j a items inside listed None None none.0 none.1 ∙ chain
+
+-- below the top nothing is read
+abbrev ReadsNone : JobModel → Tree → Type 0
+ReadsNone j u =
+    (place : List (List ℕ)) (k : JobModel) (items : List Item) (files : RuleBytes) → LeadsTo plain j u place k → (u place).here ≡ Ok items
+    → rule_bytes k.path items (u place) ≡ Ok files → (files.info.rules ≡ None) × (files.own.rules ≡ None)
+
+lower : (rules : List RuleModel) (place : List (List ℕ)) (j : JobModel) (u : Tree) → ReadsNone j u → j.ignore ≡ top_chain rules
+    → (k : JobModel) → LeadsTo plain j u place k → (items : List Item) (inside : JobModel) → IsListed k (u place) items inside
+    → inside.ignore ≡ top_chain rules
+lower rules [] j u none chain k leads items inside listed =
+    let here : IsListed j (u []) items inside = subst (λ (i : JobModel). IsListed i (u []) items inside) (sym leads) listed in
+    none_added j (u []) items inside rules here (none [] j items here.bytes refl here.here here.read) chain
+lower rules (n ∷ place) j u none chain k (within, leaves, leads) items inside listed =
+    let l = leaves.listed in
+    lower rules place (child_job within n) (λ p. u (n ∷ p)) (λ p i es files on. none (n ∷ p) i es files (within, leaves, on))
+    (none_added j (u []) leaves.items within rules l (none [] j leaves.items l.bytes refl l.here l.read) chain) k leads items inside listed
+
+module _ (t : Tree) (bytes : List ℕ) (reads : ReadsTopRules plain (top_job None) t bytes) where
+  -- at the top the rules are those of its file
+  at_top : (items : List Item) (inside : JobModel) → IsListed (top_job None) (t []) items inside
+      → inside.ignore ≡ top_chain (rules_of bytes)
+  at_top items inside listed =
+      let r = reads [] (top_job None) items listed.bytes refl listed.here listed.read in
+      both_are (top_job None) (t []) items inside listed None (Some bytes) r.0 r.1
+
+  -- so these rules hold in each directory to which names lead
+  pub rules_at : (place : List (List ℕ)) (k : JobModel) → LeadsTo plain (top_job None) t place k → (items : List Item)
+      (inside : JobModel) → IsListed k (t place) items inside → rules_in inside.ignore ≡ at_depth 0 (rules_of bytes)
+  rules_at [] k leads items inside listed =
+      top_chain_rules inside.ignore (rules_of bytes)
+      (at_top items inside (subst (λ (i : JobModel). IsListed i (t []) items inside) (sym leads) listed))
+  rules_at (n ∷ place) k (within, leaves, leads) items inside listed =
+      top_chain_rules inside.ignore (rules_of bytes)
+      (lower (rules_of bytes) place (child_job within n) (λ p. t (n ∷ p))
+      (λ p i es files on. reads (n ∷ p) i es files (within, leaves, on)) (at_top leaves.items within leaves.listed) k leads items inside
+      listed)
+
+-- ---- by a tree that answers in one way
+
 not_top : (path : List ℕ) (items : List Item) → (path ≡ [] → ⊥) → has_git path items ≡ false
 not_top [] items some = absurd (some refl)
 not_top (b ∷ bs) items some = refl
-
-some_path : (d n : List ℕ) → (n ≡ [] → ⊥) → path_in d n ≡ [] → ⊥
-some_path [] n some = some
-some_path (b ∷ bs) n some = λ e. cc e
 
 module _ (lists : List ℕ → Listings) (gives : List ℕ → Contents) (one : GivesOne lists gives) (bytes : List ℕ)
     (has : HasTopRules lists gives bytes) where
@@ -229,41 +272,36 @@ module _ (lists : List ℕ → Listings) (gives : List ℕ → Contents) (one : 
   each_has path (x ∷ xs) item all (inl e) = subst (MayHave lists gives path) e all.0
   each_has path (x ∷ xs) item all (inr i) = each_has path xs item all.1 i
 
-  -- below the top no rules are added
-  below_top : (j : JobModel) (a : Answers) (items : List Item) (inside : JobModel) → (j.path ≡ [] → ⊥) → MayAnswer lists gives j.path a
-      → j.ignore ≡ top_chain (rules_of bytes) → IsListed j a items inside → inside.ignore ≡ top_chain (rules_of bytes)
-  below_top j a items inside some may chain listed =
-      let r = read_here j.path items a listed.bytes listed.read in
-      both_are j a items inside listed None None
-      (no_info a (has_git j.path items) listed.bytes.info (not_top j.path items some) r.info)
-      (own listed.bytes.own.rules r.own)
-      ∙ chain
+  -- below the top no rules are read
+  none_below : (path : List ℕ) (a : Answers) (items : List Item) (files : RuleBytes) → (path ≡ [] → ⊥) → MayAnswer lists gives path a
+      → a.here ≡ Ok items → rule_bytes path items a ≡ Ok files → (files.info.rules ≡ None) × (files.own.rules ≡ None)
+  none_below path a items files some may here read =
+      let r = read_here path items a files read in
+      (no_info a (has_git path items) files.info (not_top path items some) r.info, own files.own.rules r.own)
     where
       own : (rules : Option (List ℕ)) → option_map Ok rules ≡ file_named (codes ".gitignore") items → rules ≡ None
       own None e = refl
       own (Some text) e =
           let f = file_of items (codes ".gitignore") (Ok text) (sym e) in
-          absurd (has.no_other j.path some (entry_listed j.path items (file_item (codes ".gitignore") f.0 (Ok text))
-          (all_listed j.path a items may listed.here) f.1))
+          absurd (has.no_other path some (entry_listed path items (file_item (codes ".gitignore") f.0 (Ok text))
+          (all_listed path a items may here) f.1))
 
-  module _ (s : SelectionModel) (t : Tree) (given : IsGiven lists gives s (top_job None) t) where
-    -- at the top they are those of its file
-    at_top : (items : List Item) (inside : JobModel) → IsListed (top_job None) (t []) items inside
-        → inside.ignore ≡ top_chain (rules_of bytes)
-    at_top items inside listed =
-        let r = read_here [] items (t []) listed.bytes listed.read in
-        both_are (top_job None) (t []) items inside listed None (Some bytes)
-        (info listed.bytes.info.rules (info_items_of (t []) (has_git [] items) listed.bytes.info r.info))
-        (own listed.bytes.own.rules r.own)
+  module _ (t : Tree) (listings : HasListings plain (top_job None) t) (given : IsGiven lists gives plain (top_job None) t) where
+    -- at the top those of its file are
+    top_read : (items : List Item) (files : RuleBytes) → (t []).here ≡ Ok items → rule_bytes [] items (t []) ≡ Ok files
+        → (files.info.rules ≡ None) × (files.own.rules ≡ Some bytes)
+    top_read items files here read =
+        let r = read_here [] items (t []) files read in
+        (info files.info.rules (info_items_of (t []) (has_git [] items) files.info r.info), own files.own.rules r.own)
       where
-        may : MayList lists gives [] (Ok items)
-        may = all_listed [] (t []) items (given [] (top_job None) refl).0 listed.here
-
         answers : MayAnswer lists gives [] (t [])
-        answers = (given [] (top_job None) refl).0
+        answers = given [] (top_job None) refl
+
+        may : MayList lists gives [] (Ok items)
+        may = all_listed [] (t []) items answers here
 
         top_items : (b : Bool) → has_git [] items ≡ b → has_git [] (items_of (t []).here) ≡ b
-        top_items b e = ap (λ (o : Items). has_git [] (items_of o)) listed.here ∙ e
+        top_items b e = ap (λ (o : Items). has_git [] (items_of o)) here ∙ e
 
         info : (rules : Option (List ℕ)) → InfoItems (t []) (has_git [] items) rules → rules ≡ None
         info None found = refl
@@ -280,8 +318,8 @@ module _ (lists : List ℕ → Listings) (gives : List ℕ → Contents) (one : 
                 absurd (has.no_info (entry_listed (codes ".git/info") found.items (file_item (codes "exclude") f.0 (Ok text)) may_info f.1))
 
         there : IsItem items (codes ".gitignore") File
-        there = item_of lists gives one s (top_job None) t given [] (top_job None) items inside refl listed
-            (codes ".gitignore") File has.there
+        there = named_item items (codes ".gitignore") File
+            (has_listed lists gives one plain (top_job None) t given [] (top_job None) items refl here (codes ".gitignore") File has.there)
 
         entry_is : (e : EntryModel) → e.name ≡ codes ".gitignore" → e.kind ≡ File → e ≡ record { name = codes ".gitignore"; kind = File }
         entry_is e n k =
@@ -298,29 +336,15 @@ module _ (lists : List ℕ → Listings) (gives : List ℕ → Contents) (one : 
             let is : text ≡ bytes = cc same in
             ap Some is
 
-    lower : (place : List (List ℕ)) (j : JobModel) (u : Tree) → IsGiven lists gives s j u → (j.path ≡ [] → ⊥)
-        → j.ignore ≡ top_chain (rules_of bytes) → (k : JobModel) → LeadsTo s j u place k → (items : List Item) (inside : JobModel)
-        → IsListed k (u place) items inside → inside.ignore ≡ top_chain (rules_of bytes)
-    lower [] j u fair some chain k leads items inside listed =
-        below_top j (u []) items inside some (fair [] j refl).0 chain
-        (subst (λ (i : JobModel). IsListed i (u []) items inside) (sym leads) listed)
-    lower (n ∷ place) j u fair some chain k (within, leaves, leads) items inside listed =
-        let spread = well_formed_items (u []) (fair [] j refl).1 leaves.items leaves.listed.here in
-        let good = good_name leaves.items spread (directory_item n) (in_part s j.path (directory_item n) leaves.items leaves.has) in
-        lower place (child_job within n) (λ p. u (n ∷ p)) (given_below lists gives s j u n within fair leaves)
-        (some_path within.path n good.0)
-        (below_top j (u []) leaves.items within some (fair [] j refl).0 chain leaves.listed) k leads items inside listed
+    below_path : (name : List ℕ) (place : List (List ℕ)) (k : JobModel) → LeadsTo plain (top_job None) t (name ∷ place) k → k.path ≡ [] → ⊥
+    below_path name place k leads none =
+        let names : [] ≡ name ∷ place =
+        sym (ap names_of_path none) ∙ place_names plain (name ∷ place) (top_job None) k t listings leads in
+        absurd (cc names)
 
-    -- so these rules hold in each directory to which names lead
-    pub rules_at : (place : List (List ℕ)) (k : JobModel) → LeadsTo s (top_job None) t place k → (items : List Item) (inside : JobModel)
-        → IsListed k (t place) items inside → rules_in inside.ignore ≡ at_depth 0 (rules_of bytes)
-    rules_at [] k leads items inside listed =
-        top_chain_rules inside.ignore (rules_of bytes)
-        (at_top items inside (subst (λ (i : JobModel). IsListed i (t []) items inside) (sym leads) listed))
-    rules_at (n ∷ place) k (within, leaves, leads) items inside listed =
-        let spread = well_formed_items (t []) (given [] (top_job None) refl).1 leaves.items leaves.listed.here in
-        let good = good_name leaves.items spread (directory_item n)
-        (in_part s (top_job None).path (directory_item n) leaves.items leaves.has) in
-        top_chain_rules inside.ignore (rules_of bytes)
-        (lower place (child_job within n) (λ p. t (n ∷ p)) (given_below lists gives s (top_job None) t n within given leaves)
-        (some_path within.path n good.0) (at_top leaves.items within leaves.listed) k leads items inside listed)
+    -- so the only ignore file that is read is the top's
+    pub reads_by_lists : ReadsTopRules plain (top_job None) t bytes
+    reads_by_lists [] k items files leads here read =
+        top_read items files here (subst (λ p. rule_bytes p items (t []) ≡ Ok files) (ap (λ (j : JobModel). j.path) (sym leads)) read)
+    reads_by_lists (n ∷ place) k items files leads here read =
+        none_below k.path (t (n ∷ place)) items files (below_path n place k leads) (given (n ∷ place) k leads) here read

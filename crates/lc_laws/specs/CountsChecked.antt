@@ -1,11 +1,14 @@
--- That a count and a check agree, over a tree whose only ignore file is the top's `.gitignore`.
-use Rattle.std.specs.Prelude.{◌≡◌, ◌⊎◌, ℕ, true, false, List, [], None, Ok, codes}
+-- That a count and a check agree, where the only ignore file is the top's `.gitignore`.
+use Rattle.std.specs.Prelude.{◌≡◌, ◌⊎◌, ℕ, true, false, List, [], ◌∷◌, Option, Some, None, Ok, codes}
 use Rattle.std.specs.List.{Contains}
 use Rattle.lc_glob.specs.Path.{segments_of}
+use Rattle.lc_level.specs.Answers.{Item, Tree}
+use Rattle.lc_level.specs.Job.{JobModel}
 use Rattle.lc_level.specs.Level.{by_rule}
 use Rattle.lc_level.specs.OneAnswer.{GivesOne}
+use Rattle.lc_level.specs.RuleFiles.{RuleBytes, rule_bytes}
 use Rattle.lc_level.specs.RuleReads.{shared}
-use Rattle.lc_level.specs.Selection.{selection_of}
+use Rattle.lc_level.specs.Selection.{SelectionModel, selection_of}
 use Rattle.lc_rules.specs.IgnoreRules.{RuleModel, rules_of}
 use Rattle.lc_rules.specs.declared.rule_source.RuleSource.{RuleSource}
 use Rattle.lc_check.specs.CheckText.{file_verdict, path_word}
@@ -15,10 +18,13 @@ use Rattle.lc_level.specs.FileReads.{MayReadRules}
 use Rattle.lc_tree.specs.Trees.{Listings, Contents}
 use Rattle.lc_tree.specs.declared.entry.Kind.{Kind}
 use Rattle.lc_tree.specs.declared.entry.Kind.TheVariants.{File}
-use Rattle.lc_walk.specs.WalkOptions.{asked_by}
+use Rattle.lc_walk.specs.FoundAt.{LeadsTo}
+use Rattle.lc_walk.specs.GivenAnswers.{HasListings, IsReportBy}
+use Rattle.lc_walk.specs.WalkOptions.{asked_by, top_of}
 use Rattle.lc_walk.specs.Walks.{Walks}
 use Rattle.lc_walk.specs.declared.options.Options.{Options}
 use Rattle.lc_walk.specs.declared.report.Report.{Report}
+use Rattle.lc_laws.specs.ByAnswers.{IsEntryBy}
 use Rattle.lc_laws.specs.Entries.{HasListed, IsEntry}
 use Rattle.lc_laws.specs.ReportedPaths.{IsSkipped, IsSkippedAbove}
 
@@ -28,6 +34,17 @@ pub record HasTopRules (lists : List ℕ → Listings) (gives : List ℕ → Con
   pub read : MayReadRules (gives (codes ".gitignore")) (Ok bytes)
   pub no_info : HasListed lists (codes ".git/info") (codes "exclude") File → ⊥
   pub no_other : (directory : List ℕ) → (directory ≡ [] → ⊥) → HasListed lists directory (codes ".gitignore") File → ⊥
+
+-- of a directory at a place the bytes of its `.gitignore` are these if it is the top, and else there is none
+abbrev pub text_at : List ℕ → List (List ℕ) → Option (List ℕ)
+text_at bytes [] = Some bytes
+text_at bytes (name ∷ place) = None
+
+-- the same by answers, of each directory that a walk lists
+abbrev pub ReadsTopRules : SelectionModel → JobModel → Tree → List ℕ → Type 0
+ReadsTopRules s top t bytes =
+    (place : List (List ℕ)) (k : JobModel) (items : List Item) (files : RuleBytes) → LeadsTo s top t place k → (t place).here ≡ Ok items
+    → rule_bytes k.path items (t place) ≡ Ok files → (files.info.rules ≡ None) × (files.own.rules ≡ text_at bytes place)
 
 -- a count that lists what it leaves out, by the rules of the tree alone
 pub record AsksRulesAlone (o : Options) : Type 0 where
@@ -43,12 +60,24 @@ IsCheckedOut rules path kind =
 
 -- a report has the path as left out by a rule, or a directory above it
 abbrev pub IsRuledOut : Report → List ℕ → Type 0
-IsRuledOut r path = (source : RuleSource) × (line : ℕ) × (IsSkipped r path (by_rule source line) ⊎ IsSkippedAbove r path (by_rule source line))
+IsRuledOut r path =
+    (source : RuleSource) × (line : ℕ) × (IsSkipped r path (by_rule source line) ⊎ IsSkippedAbove r path (by_rule source line))
 
--- where nothing is at fault these are the same, for each entry that neither is named `.git` nor stands below one of this name
+-- where nothing is at fault these are the same of a path that is not bad, and neither named `.git` nor below one of this name
+abbrev pub CheckAgrees : Report → List RuleModel → List ℕ → Kind → Type 0
+CheckAgrees r rules path kind =
+    r.faults.items ≡ [] → is_bad_path path ≡ false → (Contains (segments_of path) (codes ".git") → ⊥)
+    → (IsCheckedOut rules path kind → IsRuledOut r path) × (IsRuledOut r path → IsCheckedOut rules path kind)
+
+-- so it is of each entry, by the report by some answers
+abbrev pub AnswersCheckedLaw : Type 0
+AnswersCheckedLaw =
+    (t : Tree) (bytes : List ℕ) (o : Options) (r : Report) → AsksRulesAlone o → HasListings (asked_by o).selection (top_of o) t
+    → ReadsTopRules (asked_by o).selection (top_of o) t bytes → IsReportBy t o r → (path : List ℕ) (kind : Kind)
+    → IsEntryBy (asked_by o).selection (top_of o) t path kind → CheckAgrees r (rules_of bytes) path kind
+
+-- and by that of a tree that answers in one way
 abbrev pub CheckedLaw : (List ℕ → Listings) → (List ℕ → Contents) → Type 0
 CheckedLaw lists gives =
     GivesOne lists gives → (bytes : List ℕ) → HasTopRules lists gives bytes → (o : Options) (r : Report) → AsksRulesAlone o
-    → Walks lists gives o (Ok r) → r.faults.items ≡ [] → (path : List ℕ) (kind : Kind) → IsEntry lists path kind
-    → is_bad_path path ≡ false → (Contains (segments_of path) (codes ".git") → ⊥)
-    → (IsCheckedOut (rules_of bytes) path kind → IsRuledOut r path) × (IsRuledOut r path → IsCheckedOut (rules_of bytes) path kind)
+    → Walks lists gives o (Ok r) → (path : List ℕ) (kind : Kind) → IsEntry lists path kind → CheckAgrees r (rules_of bytes) path kind

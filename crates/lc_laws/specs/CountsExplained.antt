@@ -1,10 +1,11 @@
--- That a count and an explanation agree, over a tree that answers in one way.
+-- That a count and an explanation agree.
 use Rattle.std.specs.Prelude.{◌≡◌, ◌⊎◌, ℕ, true, false, List, [], option_map, Ok}
 use Rattle.std.specs.List.{Contains}
 use Rattle.lc_explain.specs.Explain.{MaySay}
 use Rattle.lc_explain.specs.Explained.{Explanation, bad, faulted, below, ignored, included, unruled, left_out}
 use Rattle.lc_explain.specs.Laws.{IsSaidKept}
 use Rattle.lc_explain.specs.declared.explain_options.ExplainOptions.{ExplainOptions}
+use Rattle.lc_level.specs.Answers.{Tree}
 use Rattle.lc_level.specs.Level.{Reason, named_git, by_rule, by_attribute, other_kind}
 use Rattle.lc_level.specs.OneAnswer.{GivesOne}
 use Rattle.lc_level.specs.RuleReads.{shared}
@@ -12,10 +13,12 @@ use Rattle.lc_rules.specs.IgnoreRules.{rules_of}
 use Rattle.lc_text.specs.PathLines.{is_bad_path}
 use Rattle.lc_tree.specs.Trees.{Listings, Contents}
 use Rattle.lc_tree.specs.declared.entry.Kind.{Kind}
-use Rattle.lc_walk.specs.WalkOptions.{asked_by}
+use Rattle.lc_walk.specs.GivenAnswers.{HasListings, IsReportBy}
+use Rattle.lc_walk.specs.WalkOptions.{asked_by, top_of}
 use Rattle.lc_walk.specs.Walks.{Walks}
 use Rattle.lc_walk.specs.declared.options.Options.{Options}
 use Rattle.lc_walk.specs.declared.report.Report.{Report}
+use Rattle.lc_laws.specs.ByAnswers.{SaysBy, AgreeOnWay, IsEntryBy}
 use Rattle.lc_laws.specs.Entries.{IsEntry}
 use Rattle.lc_laws.specs.ReportedPaths.{IsCounted, IsSkipped, IsKept, IsSkippedAbove}
 
@@ -47,17 +50,27 @@ TellsOf r path kind (included rule) = IsKept r path kind
 TellsOf r path kind unruled = IsKept r path kind
 TellsOf r path kind (left_out reason) = IsSkipped r path reason ⊎ IsSkippedAbove r path reason
 
--- a report agrees with what is said of a path
-pub record AgreesOn (lists : List ℕ → Listings) (r : Report) (path : List ℕ) (x : Explanation) : Type 0 where
+-- a report agrees with what is said of a path, which is that of an entry of these kinds
+pub record AgreesOn (IsThere : Kind → Type 0) (r : Report) (path : List ℕ) (x : Explanation) : Type 0 where
   -- a counted file is said to be included, or decided by no rule
   pub counted : IsCounted r path → IsSaidKept x
   -- what is left out is said to be, for the same reason
   pub skipped : (reason : Reason) → IsSkipped r path reason → IsSaidSkipped reason x
   -- and what is said of an entry tells where the report has it
-  pub told : (kind : Kind) → IsEntry lists path kind → TellsOf r path kind x
+  pub told : (kind : Kind) → IsThere kind → TellsOf r path kind x
 
--- so does each report of a walk, with anything that may be said of a path that is not bad and asked about with no slash at its end
+-- so do a report by some answers and what is said by others of a path that is not bad and asked about with no slash at its end, where the
+-- same is read by both of each directory on the way to it
+abbrev pub AnswersExplainedLaw : Type 0
+AnswersExplainedLaw =
+    (t u : Tree) (o : Options) (q : ExplainOptions) (r : Report) → AskAlike o q → HasListings (asked_by o).selection (top_of o) t
+    → IsReportBy t o r → (path : List ℕ) (x : Explanation) → is_bad_path path ≡ false
+    → AgreeOnWay (asked_by o).selection (top_of o) t u path → SaysBy q u path false x
+    → AgreesOn (IsEntryBy (asked_by o).selection (top_of o) t path) r path x
+
+-- and each report of a walk of a tree that answers in one way, and anything that may be said of such a path
 abbrev pub ExplainedLaw : (List ℕ → Listings) → (List ℕ → Contents) → Type 0
 ExplainedLaw lists gives =
     GivesOne lists gives → (o : Options) (q : ExplainOptions) (r : Report) → AskAlike o q → Walks lists gives o (Ok r)
-    → (path : List ℕ) (x : Explanation) → is_bad_path path ≡ false → MaySay lists gives q path false x → AgreesOn lists r path x
+    → (path : List ℕ) (x : Explanation) → is_bad_path path ≡ false → MaySay lists gives q path false x
+    → AgreesOn (IsEntry lists path) r path x

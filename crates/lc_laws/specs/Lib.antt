@@ -1,4 +1,5 @@
 pub mod Entries
+pub mod ByAnswers
 pub mod ReportedPaths
 pub mod CountsExplained
 pub mod CountsChecked

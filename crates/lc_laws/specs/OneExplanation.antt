@@ -1,13 +1,22 @@
--- That a tree that answers in one way gives each path one explanation.
+-- That a path has one explanation.
 use Rattle.std.specs.Prelude.{◌≡◌, ℕ, Bool, List}
 use Rattle.lc_explain.specs.Explain.{MaySay}
 use Rattle.lc_explain.specs.Explained.{Explanation}
 use Rattle.lc_explain.specs.declared.explain_options.ExplainOptions.{ExplainOptions}
+use Rattle.lc_level.specs.Answers.{Tree}
 use Rattle.lc_level.specs.OneAnswer.{GivesOne}
 use Rattle.lc_tree.specs.Trees.{Listings, Contents}
+use Rattle.lc_walk.specs.GivenAnswers.{HasListings}
+use Rattle.lc_laws.specs.ByAnswers.{top_asked, whole_asked, SaysBy, AgreeOnWay}
 
--- by the same question no two things may be said of a path, with or without a slash at its end
+-- by the same question the same is said by two states of a tree of which the same is read on the way, with or without a slash at its end
+abbrev pub AnswersOneExplanationLaw : Type 0
+AnswersOneExplanationLaw =
+    (t u : Tree) (q : ExplainOptions) (path : List ℕ) (as_dir : Bool) (x y : Explanation) → HasListings (whole_asked q) (top_asked q) t
+    → AgreeOnWay (whole_asked q) (top_asked q) t u path → SaysBy q t path as_dir x → SaysBy q u path as_dir y → x ≡ y
+
+-- so no two things may be said, where a tree answers in one way
 abbrev pub OneExplanationLaw : (List ℕ → Listings) → (List ℕ → Contents) → Type 0
 OneExplanationLaw lists gives =
-    GivesOne lists gives → (q : ExplainOptions) (path : List ℕ) (as_dir : Bool) (x y : Explanation) → MaySay lists gives q path as_dir x
-    → MaySay lists gives q path as_dir y → x ≡ y
+    GivesOne lists gives → (q : ExplainOptions) (path : List ℕ) (as_dir : Bool) (x y : Explanation)
+    → MaySay lists gives q path as_dir x → MaySay lists gives q path as_dir y → x ≡ y

@@ -3,13 +3,22 @@ use Rattle.std.specs.Prelude.{ℕ, true, false, List}
 use Rattle.lc_explain.specs.Explain.{MaySay}
 use Rattle.lc_explain.specs.Explained.{Explanation}
 use Rattle.lc_explain.specs.declared.explain_options.ExplainOptions.{ExplainOptions}
+use Rattle.lc_level.specs.Answers.{Tree}
 use Rattle.lc_level.specs.OneAnswer.{GivesOne}
 use Rattle.lc_tree.specs.Trees.{Listings, Contents}
 use Rattle.lc_tree.specs.declared.entry.Kind.TheVariants.{Dir}
+use Rattle.lc_walk.specs.GivenAnswers.{HasListings}
+use Rattle.lc_laws.specs.ByAnswers.{top_asked, whole_asked, SaysBy, IsEntryBy}
 use Rattle.lc_laws.specs.Entries.{IsEntry}
 
--- what may be said of the path of a directory of a tree with a slash at its end may be said of it without one
+-- what is said by some answers of a directory's path with a slash at its end is said without one
+abbrev pub AnswersSlashLaw : Type 0
+AnswersSlashLaw =
+    (t : Tree) (q : ExplainOptions) (path : List ℕ) (x : Explanation) → HasListings (whole_asked q) (top_asked q) t
+    → IsEntryBy (whole_asked q) (top_asked q) t path Dir → SaysBy q t path true x → SaysBy q t path false x
+
+-- and what may be said, where a tree answers in one way
 abbrev pub SlashLaw : (List ℕ → Listings) → (List ℕ → Contents) → Type 0
 SlashLaw lists gives =
-    GivesOne lists gives → (q : ExplainOptions) (path : List ℕ) (x : Explanation) → IsEntry lists path Dir → MaySay lists gives q path true x
-    → MaySay lists gives q path false x
+    GivesOne lists gives → (q : ExplainOptions) (path : List ℕ) (x : Explanation) → IsEntry lists path Dir
+    → MaySay lists gives q path true x → MaySay lists gives q path false x

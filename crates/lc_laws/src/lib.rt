@@ -7,6 +7,6 @@
 mod laws;
 
 pub use laws::{
-    counts_are_as_checked, counts_are_as_explained, one_answer_is_one_explanation,
-    slashes_of_directories_say_nothing,
+    counts_are_as_checked, counts_are_as_explained, explanations_are_by_given_answers,
+    one_answer_is_one_explanation, slashes_of_directories_say_nothing,
 };

@@ -1,9 +1,8 @@
 -- A walk of some paths finds the same by any answers that give the same levels.
 use Rattle.std.proofs.Common.{◌≡◌, ℕ, zero, suc, List, [], ◌∷◌, ◌++◌, refl, sym, ◌∙◌, ap, subst, inl, inr}
-use Rattle.std.specs.List.{Contains}
 use Rattle.lc_level.specs.Answers.{Item, directory_item, Answers, Tree}
 use Rattle.lc_level.specs.Job.{JobModel}
-use Rattle.lc_level.specs.Level.{level, child_job}
+use Rattle.lc_level.specs.Level.{level}
 use Rattle.lc_level.specs.Narrowing.{part_of}
 use Rattle.lc_level.specs.Selection.{SelectionModel, narrowed}
 use Rattle.lc_level.proofs.AskedPaths.{all_take_part}

@@ -60,9 +60,8 @@ pub fn all_that_is_found_is_given()
     ensures { FoundLaw }
 {}
 
-/// In the report of a walk that lists the skipped entries, all entries of the listed directories that take part are files, faults,
-/// directories or entries left out, and the top alone is no entry; each fault of the word `absent`, and no other, is beside these, and
-/// is of a path that was asked for.
+/// In the report of a walk that lists the skipped entries, all entries of the listed directories that take part are files, faults other
+/// than `absent`, directories or skipped entries, and the top alone is no entry. Each fault `absent` is of a path that was asked for.
 pub fn entries_are_accounted_for<T: Tree>(tree: &T)
     ensures { EntriesLaw (T.lists tree.now) (T.gives tree.now) }
 {

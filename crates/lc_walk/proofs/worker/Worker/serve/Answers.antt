@@ -1,6 +1,5 @@
 use Rattle.std.proofs.Common.{subst, Err}
 use Rattle.lc_level.specs.Opens.{OpensLevel}
-use Rattle.lc_level.specs.declared.open_fault.OpenFault.{OpenFault}
 use Rattle.lc_level.specs.declared.open_fault.OpenFault.TheVariants as open_fault
 use Rattle.lc_walk.specs.WalkOptions.{asked_by}
 use Rattle.lc_walk.proofs.RowEnds.{serves_unread, serves_too_deep, serves_faulted}

@@ -1,0 +1,99 @@
+-- What is said of a path by given answers: one state of a tree's directories, as far as an explanation asked for it.
+use Rattle.std.specs.Prelude.{◌≡◌, ℕ, Bool, List, [], ◌∷◌, ◌++◌, option_map, Result, Ok, Err}
+use Rattle.std.specs.List.{Contains}
+use Rattle.lc_explain.specs.Explain.{MaySay}
+use Rattle.lc_explain.specs.Explained.{Explanation, IsExplained}
+use Rattle.lc_explain.specs.OpenDirs.{OpenDirModel, open_dir, text_or_none}
+use Rattle.lc_explain.specs.declared.explain_options.ExplainOptions.{ExplainOptions}
+use Rattle.lc_glob.specs.Path.{segments_of}
+use Rattle.lc_level.specs.Answers.{Item, Items, Answers, Tree, entries_of}
+use Rattle.lc_level.specs.FaultLines.{FaultLineModel}
+use Rattle.lc_level.specs.Job.{JobModel}
+use Rattle.lc_level.specs.RuleFiles.{RuleBytes, rule_bytes}
+use Rattle.lc_level.specs.Selection.{SelectionModel, narrowed}
+use Rattle.lc_level.specs.TopJob.{top_job}
+use Rattle.lc_level.specs.TreeAnswers.{MayAnswer}
+use Rattle.lc_level.specs.WellFormed.{IsWellFormed}
+use Rattle.lc_rules.specs.IgnoreRules.{rules_of}
+use Rattle.lc_tree.specs.Listing.{EntryModel}
+use Rattle.lc_tree.specs.Paths.{names_of_path}
+use Rattle.lc_tree.specs.Trees.{Listings, Contents}
+use Rattle.lc_tree.specs.declared.entry.Kind.{Kind}
+use Rattle.lc_tree.specs.declared.entry.Kind.TheVariants.{Dir}
+use Rattle.lc_walk.specs.FoundAt.{LeadsTo}
+
+-- ---- an explanation
+
+-- a directory is entered by the answers that a tree has at its place
+abbrev pub EntersBy : Tree → JobModel → Result OpenDirModel FaultLineModel → Type 0
+EntersBy u j entered = open_dir j (u (names_of_path j.path)) ≡ entered
+
+-- and that its listings and files may give
+pub record EntersGiven (lists : List ℕ → Listings) (gives : List ℕ → Contents) (u : Tree) (j : JobModel)
+    (entered : Result OpenDirModel FaultLineModel) : Type 0 where
+  pub may : MayAnswer lists gives j.path (u (names_of_path j.path))
+  pub well_formed : IsWellFormed (u (names_of_path j.path))
+  pub enters : EntersBy u j entered
+
+module _ (q : ExplainOptions) where
+  -- where an explanation begins, and what it leaves out: it goes into each directory that nothing leaves out
+  abbrev pub top_asked : JobModel
+  top_asked = top_job (option_map rules_of q.exclude)
+
+  abbrev pub whole_asked : SelectionModel
+  whole_asked = narrowed q.selection []
+
+  -- what is said of a path, where directories are entered so
+  abbrev pub SaysEntering : (JobModel → Result OpenDirModel FaultLineModel → Type 0) → List ℕ → Bool → Explanation → Type 0
+  SaysEntering Enters path as_dir x = IsExplained Enters q.selection (text_or_none q.exclude) top_asked path as_dir x
+
+  -- by the answers of a tree
+  abbrev pub SaysBy : Tree → List ℕ → Bool → Explanation → Type 0
+  SaysBy u path as_dir x = SaysEntering (EntersBy u) path as_dir x
+
+  -- by some answers that a tree may give
+  pub record IsSaidByAnswers (lists : List ℕ → Listings) (gives : List ℕ → Contents) (path : List ℕ) (as_dir : Bool) (x : Explanation)
+      : Type 0 where
+    pub answers : Tree
+    pub says : SaysBy answers path as_dir x
+    pub given : SaysEntering (EntersGiven lists gives answers) path as_dir x
+
+-- so is all that may be said
+abbrev pub SaidByAnswersLaw : (List ℕ → Listings) → (List ℕ → Contents) → Type 0
+SaidByAnswersLaw lists gives =
+    (q : ExplainOptions) (path : List ℕ) (as_dir : Bool) (x : Explanation) → MaySay lists gives q path as_dir x
+    → IsSaidByAnswers q lists gives path as_dir x
+
+-- ---- two states of a tree
+
+-- what is read of a directory at a path, beside the contents of files that are no rule files: its entries and the bytes of its rule
+-- files, or the first fault
+abbrev pub read_after : List Item → Result RuleBytes FaultLineModel → Result (List EntryModel × RuleBytes) FaultLineModel
+read_after items (Ok files) = Ok (entries_of items, files)
+read_after items (Err fault) = Err fault
+
+abbrev pub read_of : List ℕ → Answers → Items → Result (List EntryModel × RuleBytes) FaultLineModel
+read_of path a (Ok items) = read_after items (rule_bytes path items a)
+read_of path a (Err word) = Err (record { path = path; word = word })
+
+abbrev pub what_is_read : List ℕ → Answers → Result (List EntryModel × RuleBytes) FaultLineModel
+what_is_read path a = read_of path a a.here
+
+-- the kind of a name that others follow, or else this
+abbrev pub kind_before : Kind → List (List ℕ) → Kind
+kind_before kind [] = kind
+kind_before kind (next ∷ names) = Dir
+
+module _ (s : SelectionModel) (top : JobModel) (t : Tree) where
+  -- the same is read by both of each directory on the way to a path to which names lead
+  abbrev pub AgreeOnWay : Tree → List ℕ → Type 0
+  AgreeOnWay u path =
+      (place : List (List ℕ)) (name : List ℕ) (names : List (List ℕ)) (k : JobModel) → segments_of path ≡ place ++ name ∷ names
+      → LeadsTo s top t place k → what_is_read k.path (t place) ≡ what_is_read k.path (u place)
+
+  -- each directory on the way to a path that is listed has the next name: the last as an entry of this kind, any other as a directory
+  abbrev pub IsEntryBy : List ℕ → Kind → Type 0
+  IsEntryBy path kind =
+      (place : List (List ℕ)) (name : List ℕ) (names : List (List ℕ)) (k : JobModel) (items : List Item)
+      → segments_of path ≡ place ++ name ∷ names → LeadsTo s top t place k → (t place).here ≡ Ok items
+      → Contains (entries_of items) (record { name = name; kind = kind_before kind names })
