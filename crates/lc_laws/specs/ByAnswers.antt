@@ -36,7 +36,7 @@ pub record EntersGiven (lists : List ℕ → Listings) (gives : List ℕ → Con
   pub enters : EntersBy u j entered
 
 module _ (q : ExplainOptions) where
-  -- where an explanation begins, and what it leaves out: it goes into each directory that nothing leaves out
+  -- where an explanation begins, and what it leaves out: it looks at a whole tree
   abbrev pub top_asked : JobModel
   top_asked = top_job (option_map rules_of q.exclude)
 
@@ -66,8 +66,7 @@ SaidByAnswersLaw lists gives =
 
 -- ---- two states of a tree
 
--- what is read of a directory at a path, beside the contents of files that are no rule files: its entries and the bytes of its rule
--- files, or the first fault
+-- what is read of a directory at a path before its files are counted: its entries and the bytes of its rule files, or the first fault
 abbrev pub read_after : List Item → Result RuleBytes FaultLineModel → Result (List EntryModel × RuleBytes) FaultLineModel
 read_after items (Ok files) = Ok (entries_of items, files)
 read_after items (Err fault) = Err fault
