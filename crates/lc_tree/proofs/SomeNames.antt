@@ -30,7 +30,8 @@ module _ (may : List ℕ → Looks) (directory text : List ℕ) where
 
   -- one name more
   pub entries_more : (ns : List (List ℕ)) (es : List EntryModel) (name : List ℕ) (kind : Option Kind)
-      → AreEntriesOf may directory text ns es → IsEntryOf may directory text name kind → AreEntriesOf may directory text (ns ++ name ∷ []) (es ++ entry_of name kind)
+      → AreEntriesOf may directory text ns es → IsEntryOf may directory text name kind
+      → AreEntriesOf may directory text (ns ++ name ∷ []) (es ++ entry_of name kind)
   entries_more [] es name kind none is =
       (kind, [], is, refl, ap (λ (l : List EntryModel). l ++ entry_of name kind) none ∙ sym (append-nil (entry_of name kind)))
   entries_more (n ∷ ns) es name kind (k, rest, first, all, e) is = (
