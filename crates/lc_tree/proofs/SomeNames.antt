@@ -57,7 +57,7 @@ module _ (may : List ℕ → Looks) (directory text : List ℕ) where
   are_of asked (Ok entries) is = of_some (bytes_of asked) entries.items is
   are_of asked (Err found) is = tt
 
-  -- memory may be refused at any name
+  -- an allocation may fail at any name
   pub memory_fault : (ns : List (List ℕ)) → IsFirstFault may directory text ns fault.Memory
   memory_fault [] = refl
   memory_fault (n ∷ ns) = inl tt
