@@ -44,7 +44,7 @@ impl<J, R> Model for Plain<J, R> {
 }
 
 impl<J: Drop, R: Drop> Plain<J, R> {
-    /// A board on which number 0 is open with the job of the root. Where memory is refused the root is dropped.
+    /// A board on which number 0 is open with the job of the root. If an allocation fails, the root is dropped.
     pub fn start(
         alloc: Global,
         capacity: u32,

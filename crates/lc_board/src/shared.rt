@@ -49,8 +49,8 @@ pub trait Shared<J, R>: Sized + Sync + Drop {
     /// What closing such a board promises.
     ghost promises: { Promises };
 
-    /// Starts a board on which number 0 is open with the job of the root. It returns the board and the passes of its workers, in order. If
-    /// memory is refused, the root is dropped.
+    /// Starts a board on which number 0 is open with the job of the root. It returns the board and the passes of its workers, in order.
+    /// If an allocation fails, the root is dropped.
     fn start(
         alloc: Global,
         capacity: u32,

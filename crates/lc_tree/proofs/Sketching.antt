@@ -78,7 +78,8 @@ module _ (top : Sketch) (node : Node) (written : Sketch-F Sketch) (held : Node-F
       → ((name : List ℕ) (names : List (List ℕ)) → Has (option_and_then (λ (s : Sketch). sketch_below names s) (sketch_within name written))
       (option_and_then (λ (n : Node). node_below names n) (child_within name held))) → IsTreeOf top node
   by_contents drawn kept has below [] =
-      subst (λ (s : Sketch-F Sketch). HasWithin s (out-Node node)) (sym drawn) (subst (λ (n : Node-F Node). HasWithin written n) (sym kept) has)
+      subst (λ (s : Sketch-F Sketch). HasWithin s (out-Node node)) (sym drawn)
+      (subst (λ (n : Node-F Node). HasWithin written n) (sym kept) has)
   by_contents drawn kept has below (name ∷ names) =
       subst (λ (s : Sketch-F Sketch). Has (option_and_then (λ (next : Sketch). sketch_below names next) (sketch_within name s))
       (option_and_then (λ (next : Node). node_below names next) (child_of name node))) (sym drawn)
@@ -102,7 +103,8 @@ is_closed =
 
 pub is_other : IsTreeOf sketch.Other node.Other
 is_other =
-    by_contents sketch.Other node.Other Sketch-F.Other Node-F.Other (ap out-Sketch (sym sketch.rolls-Other) ∙ out-roll-Sketch Sketch-F.Other)
+    by_contents sketch.Other node.Other Sketch-F.Other Node-F.Other
+    (ap out-Sketch (sym sketch.rolls-Other) ∙ out-roll-Sketch Sketch-F.Other)
     (ap out-Node (sym node.rolls-Other) ∙ out-roll-Node Node-F.Other) tt (λ name names. tt)
 
 pub is_file : (bytes : Bor (List ℕ)) (held : Vec ℕ Global) → held.items ≡ bytes.now → IsTreeOf (sketch.File bytes) (node.File held)

@@ -30,7 +30,8 @@ module _ (may : List ℕ → Looks) (directory text : List ℕ) where
 
   -- one name more
   pub entries_more : (ns : List (List ℕ)) (es : List EntryModel) (name : List ℕ) (kind : Option Kind)
-      → AreEntriesOf may directory text ns es → IsEntryOf may directory text name kind → AreEntriesOf may directory text (ns ++ name ∷ []) (es ++ entry_of name kind)
+      → AreEntriesOf may directory text ns es → IsEntryOf may directory text name kind
+      → AreEntriesOf may directory text (ns ++ name ∷ []) (es ++ entry_of name kind)
   entries_more [] es name kind none is =
       (kind, [], is, refl, ap (λ (l : List EntryModel). l ++ entry_of name kind) none ∙ sym (append-nil (entry_of name kind)))
   entries_more (n ∷ ns) es name kind (k, rest, first, all, e) is = (
@@ -56,7 +57,7 @@ module _ (may : List ℕ → Looks) (directory text : List ℕ) where
   are_of asked (Ok entries) is = of_some (bytes_of asked) entries.items is
   are_of asked (Err found) is = tt
 
-  -- memory may be refused at any name
+  -- an allocation may fail at any name
   pub memory_fault : (ns : List (List ℕ)) → IsFirstFault may directory text ns fault.Memory
   memory_fault [] = refl
   memory_fault (n ∷ ns) = inl tt

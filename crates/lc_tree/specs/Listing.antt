@@ -46,7 +46,7 @@ pub record IsListingOf (es listed : List EntryModel) : Type 0 where
   pub entries : IsPermutation es listed
   pub listing : IsListing listed
 
--- why entries make no listing: each fault where those before it don't hold; none is for want of memory
+-- why entries make no listing: each fault where those before it don't hold; none is a failed allocation
 abbrev pub IsRefusedBy : List EntryModel → ListingFault → Type 0
 IsRefusedBy es BadName = IsFalse (have_good_names es)
 IsRefusedBy es Twice = IsTrue (have_good_names es) × (HaveDistinctNames es → ⊥)

@@ -20,7 +20,7 @@ AreJoined [] entries = entries ≡ []
 AreJoined (Ok part ∷ parts) entries = (rest : List EntryModel) × AreJoined parts rest × (entries ≡ part.items ++ rest)
 AreJoined (Err found ∷ parts) entries = ⊥
 
--- the fault of the first part that has one; before it, memory may be refused
+-- the fault of the first part that has one; before it, an allocation may fail
 abbrev pub IsFaultOfJoining : List Part → ReadFault → Type 0
 IsFaultOfJoining [] found = ⊥
 IsFaultOfJoining (Ok part ∷ parts) found = (found ≡ fault.Memory) ⊎ IsFaultOfJoining parts found

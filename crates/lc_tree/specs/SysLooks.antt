@@ -80,7 +80,7 @@ module _ (may : List ℕ → Looks) (directory text : List ℕ) where
   AreEntriesOf (name ∷ names) entries = (kind : Option Kind) × (rest : List EntryModel)
       × IsEntryOf name kind × AreEntriesOf names rest × (entries ≡ entry_of name kind ++ rest)
 
-  -- the fault of the first name that has one; before any, memory may be refused
+  -- the fault of the first name that has one; before any, an allocation may fail
   abbrev pub IsFirstFault : List (List ℕ) → ReadFault → Type 0
   IsFirstFault [] found = found ≡ fault.Memory
   IsFirstFault (name ∷ names) found = IsFaultOf name found ⊎ (((kind : Option Kind) × IsEntryOf name kind) × IsFirstFault names found)

@@ -8,7 +8,7 @@ use Rattle.lc_tree.specs.Listing.{EntryModel, IsListing, names}
 use Rattle.lc_tree.specs.declared.read_fault.ReadFault.{ReadFault}
 use Rattle.lc_tree.specs.declared.read_fault.ReadFault.TheVariants as fault
 
--- what listing a path may answer, but for want of memory: entries, or a fault
+-- what listing a path may answer, but for a failed allocation: entries, or a fault
 abbrev pub Listings : Type 1
 Listings = Result (List EntryModel) ReadFault → Type 0
 
@@ -16,7 +16,7 @@ Listings = Result (List EntryModel) ReadFault → Type 0
 abbrev pub Contents : Type 1
 Contents = List (List ℕ) → Stop → Type 0
 
--- the answer to a listing is one of these, or memory was refused
+-- the answer to a listing is one of these, or an allocation failed
 abbrev pub Lists : Listings → Result (List EntryModel) ReadFault → Type 0
 Lists may (Ok entries) = may (Ok entries)
 Lists may (Err fault.Failed) = may (Err fault.Failed)
@@ -51,7 +51,7 @@ abbrev pub GivesOnly : {F : Type 0} → (F → ℕ → Answer → F → Type 0) 
 GivesOnly {F} may_give gives file = (pieces : List (List ℕ)) (stop : Stop) (left : F)
     → Reads may_give AnyRoom file pieces stop left → gives pieces stop
 
--- a file that can't be opened is one whose first read fails; no other fault comes but want of memory
+-- a file that can't be opened is one whose first read fails; no other fault comes but a failed allocation
 abbrev pub IsOpenFault : Contents → ReadFault → Type 0
 IsOpenFault gives fault.Failed = gives [] at_failure
 IsOpenFault gives fault.Unnamed = ⊥

@@ -25,7 +25,7 @@ pub enum ListingFault {
     /// There are over `MAX_ENTRIES` entries.
     #[error("too many entries")]
     TooMany,
-    /// Memory was refused.
+    /// An allocation failed.
     #[error("out of memory")]
     Memory,
 }

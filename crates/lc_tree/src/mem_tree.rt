@@ -9,7 +9,7 @@ use crate::{Entry, Listing, Node, ReadFault, Tree};
 use std::alloc::{AllocError, Global};
 use std::marker::Model;
 
-/// A tree of memory, which gives one answer for each path, want of memory aside.
+/// A tree of memory, which gives one answer for each path, unless an allocation fails.
 ///
 /// A path that is not there, or where something of another kind is, can't be read. Entries that make no listing are that
 /// fault of their directory; of a name that stands twice the first entry is asked.

@@ -21,7 +21,7 @@ pub enum ReadFault {
     /// There are too many entries.
     #[error("too many entries")]
     TooMany,
-    /// Memory was refused.
+    /// An allocation failed.
     #[error("out of memory")]
     Memory,
 }

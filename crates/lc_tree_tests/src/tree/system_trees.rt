@@ -12,11 +12,13 @@ use std::{fs, io};
 
 const FOLDER: &str = "lc_tree_folder";
 
-/// A folder with a file, a directory with a file, a link to each, and one to nothing.
+/// A folder with files, of which two have names that begin with dots, a directory with a file, a link to each kind, and one to nothing.
 fn make_folder(rt: &HostRuntime) -> io::Result<()> {
     let _ = fs::remove_dir_all(rt, FOLDER);
     fs::create_dir_all(rt, "lc_tree_folder/b")?;
     fs::write(rt, "lc_tree_folder/a", b"one\n")?;
+    fs::write(rt, "lc_tree_folder/.e", b"")?;
+    fs::write(rt, "lc_tree_folder/..f", b"")?;
     fs::write(rt, "lc_tree_folder/b/c", b"")?;
     symlink(rt, "a", "lc_tree_folder/to_a")?;
     symlink(rt, "b", "lc_tree_folder/to_b")?;
@@ -34,6 +36,8 @@ struct Case {
 }
 
 const TOP: Entries = &[
+    (b"..f", Kind::File),
+    (b".e", Kind::File),
     (b"a", Kind::File),
     (b"b", Kind::Dir),
     (b"to_a", Kind::Other),
