@@ -24,7 +24,7 @@ impl Gate<'_> {
     /// Waits for the others, but not for ever.
     fn opens(&self) -> bool {
         self.begun.fetch_add(1, Ordering::SeqCst);
-        for _ in 0..1_000_000 {
+        for _ in 0..200_000 {
             if self.begun.load(Ordering::SeqCst) >= self.directories {
                 return true;
             }
