@@ -32,7 +32,7 @@ fn push_checked<'a>(
 /// A line of the text is a word, a tab and the line of paths, in a style. One slash at a path's end means a directory. The word is the
 /// first that holds of
 ///
-/// - `bad`: no entry of a tree can have this path;
+/// - `bad`: no entry of a tree can have this path, or it has over 4,096 bytes;
 /// - `below`: some directory above it is ignored, so that nothing can include it again (gitignore(5), PATTERN FORMAT);
 /// - `ignored`, `included` or `none`: what the last rule that matches says.
 pub fn check_text(

@@ -24,7 +24,7 @@ module _ (s : SelectionModel) (exclude : List ℕ) (stack : DirStack) (j : JobMo
     (at : IsCutAt rest name others) where
   beside_step : said_beside s exclude stack j (segments_of rest) as_dir
       ≡ said_above (cited exclude stack) (reason_for s j name Dir)
-          (said_beside s exclude stack (child_job j name) (segments_of others) as_dir)
+      (said_beside s exclude stack (child_job j name) (segments_of others) as_dir)
   beside_step =
       let h = has_first others in
       ap (λ (l : List (List ℕ)). said_beside s exclude stack j l as_dir) (at.cut ∙ ap (λ (l : List (List ℕ)). name ∷ l) h.are)

@@ -60,7 +60,7 @@ module _ (Enters : JobModel → Result OpenDirModel FaultLineModel → Type 0) (
     at_name step =
         let h = has_first others in
         subst (λ (l : List (List ℕ)). IsSaid Enters s exclude stack here l as_dir x)
-            (sym (cut ∙ ap (λ (l : List (List ℕ)). name ∷ l) h.are))
+        (sym (cut ∙ ap (λ (l : List (List ℕ)). name ∷ l) h.are))
         (subst Step h.are step)
 
     -- by the reason to leave out a name before it

@@ -18,13 +18,13 @@ use std::alloc::Global;
 /// are printed in the style of the options. A path that ends with one slash is a directory; for any other the tree is asked, and a path
 /// that isn't there is taken for a file. The word is the first of these that holds, from the top directory down to the path:
 ///
-/// - `bad`: no entry of a tree can have this path;
+/// - `bad`: no entry of a tree can have this path, or it has over 4,096 bytes;
 /// - `fault`: a directory above the path could not be listed, or a rule file could not be read. Then come the word of the fault, a dash
 ///   and the path at fault;
 /// - `below`: a rule ignores a directory above the path; the line names the rule of the highest such directory;
 /// - `ignored`, `included`, `none`: the last rule that matches the path, or that no rule matches;
-/// - `left`: no rule ignores the path, but a walk skips it or a directory above it: it is named `.git` (`git`), an attribute is Set for it
-///   (`attribute:NAME`), or it is neither a file nor a directory (`other`).
+/// - `left`: a walk skips the path, or a directory above it, for a reason that is no rule: it is named `.git` (`git`), whatever the rules
+///   are, or else an attribute is Set for it (`attribute:NAME`), or it is neither a file nor a directory (`other`).
 ///
 /// The source of a rule is its file and the number of its line, as `src/.gitignore:3`; the pattern is the text of that line.
 ///

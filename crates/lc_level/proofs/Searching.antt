@@ -153,5 +153,5 @@ module _ (name : List ℕ) where
 
     pub kind_tells : (es : List EntryModel) → AreInOrder (names es)
         → list_any (λ (e : EntryModel). test e.kind && bytes_eq e.name name) es
-            ≡ passes (λ (e : EntryModel). test e.kind) (find is_named es)
+        ≡ passes (λ (e : EntryModel). test e.kind) (find is_named es)
     kind_tells es order = turned es ∙ named_tells (λ (e : EntryModel). test e.kind) es order

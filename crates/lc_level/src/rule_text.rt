@@ -139,7 +139,7 @@ fn read_rule_bytes<S: Source>(alloc: Global, file: &mut S) -> Result<Vec<u8>, Wh
 
 /// Reads a file of rules to its end, or up to the first byte past [`MAX_RULE_BYTES`], and keeps its text.
 ///
-/// The text is there for the line of a rule.
+/// The text is kept so that the line of a rule can be shown.
 ///
 /// ```
 /// let mut file = StdSource(fs::open(rt, ".gitignore")?);

@@ -79,7 +79,7 @@ impl<'o> Selection<'o> {
         }
     }
 
-    /// Selects also by these paths, where there are some: only they and what is below them takes part.
+    /// Selects also by these paths, if there are some: only what is at or under one, and the directories above one, take part.
     pub fn narrowed(self, only: &'o OnlyPaths<'_>) -> Selection<'o>
         ensures { result ≡ narrowed self.entry only.entry.now }
     {

@@ -33,7 +33,8 @@ pub struct Options<'o> {
     pub archive: bool,
     /// The attributes, such as `linguist-vendored`, for which files and directories are skipped where they are Set (gitattributes(5)).
     pub without: &'o [&'o str],
-    /// The paths, relative to the top and without a slash at the end, that alone take part with what is below them; all if there are none.
+    /// The paths that alone take part, with what is under them and the directories above them; if there are none, everything takes part.
+    /// They are relative to the top, and have no slash at the end.
     pub only: &'o [&'o [u8]],
 }
 

@@ -105,7 +105,7 @@ pub fn walk_on<B: Shared<Job, Row>, T: Tree, R: Threads + Wait + Sync>(
     walk_by::<B, T, R>(rt, alloc, tree, options, 1)
 }
 
-/// Walks a tree: what it finds is what the recursive walk over the returned listings and censuses finds.
+/// Walks a tree: what it finds is what the recursive walk finds over answers that the tree may give.
 ///
 /// ```
 /// let report = walk(&rt, rt.alloc(), &tree, &options)?;

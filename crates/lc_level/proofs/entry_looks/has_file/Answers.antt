@@ -10,8 +10,8 @@ pub returns-in-Some : goal.returns-in-Some
 returns-in-Some c =
     let name = c.args.name.now in
     c.is_file.ensures ∙ ap (λ (e : EntryModel). is_file e.kind) c.entry.view_is
-        ∙ ap (passes (λ (e : EntryModel). is_file e.kind))
-            (ap (option_map (λ (e : Bor EntryModel). e.now)) (sym c.in-Some.is) ∙ c.entry_named.ensures)
+    ∙ ap (passes (λ (e : EntryModel). is_file e.kind))
+    (ap (option_map (λ (e : Bor EntryModel). e.now)) (sym c.in-Some.is) ∙ c.entry_named.ensures)
     ∙ sym (kind_tells name is_file c.entries.result.now c.entries.ensures.listing.order)
     ∙ ap (has_file name) c.entries.ensures.same
 
@@ -19,6 +19,6 @@ pub returns-in-None : goal.returns-in-None
 returns-in-None c =
     let name = c.args.name.now in
     ap (passes (λ (e : EntryModel). is_file e.kind))
-        (ap (option_map (λ (e : Bor EntryModel). e.now)) (sym c.in-None.is) ∙ c.entry_named.ensures)
+    (ap (option_map (λ (e : Bor EntryModel). e.now)) (sym c.in-None.is) ∙ c.entry_named.ensures)
     ∙ sym (kind_tells name is_file c.entries.result.now c.entries.ensures.listing.order)
     ∙ ap (has_file name) c.entries.ensures.same
