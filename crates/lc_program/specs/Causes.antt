@@ -1,0 +1,61 @@
+-- Why the program gives up, and the line that says so.
+use Rattle.std.specs.Prelude.{ℕ, List, ◌++◌, codes, decimal}
+use Rattle.lc_walk.specs.declared.walk_fault.WalkFault.TheVariants as walk
+use Rattle.lc_text.specs.declared.check_fault.CheckFault.{CheckFault}
+use Rattle.lc_text.specs.declared.check_fault.CheckFault.TheVariants as check
+use Rattle.lc_text.specs.declared.printing.PrintFault.{PrintFault}
+use Rattle.lc_text.specs.declared.printing.PrintFault.TheVariants as print
+use Rattle.lc_level.specs.declared.rule_text.RulesFileFault.{RulesFileFault}
+use Rattle.lc_level.specs.declared.rule_text.RulesFileFault.TheVariants as rules
+use Rattle.lc_table.specs.declared.running.RunFault.{RunFault}
+use Rattle.lc_table.specs.declared.running.RunFault.TheVariants as run
+use Rattle.lc_program.specs.declared.cause.Cause.{Cause}
+use Rattle.lc_program.specs.declared.cause.Cause.TheVariants.{Memory, TooManyDirs, TooDeep, Torn, Mismatch, UnreadRules, RulesTooLong}
+use Rattle.lc_program.specs.declared.cause.Cause.TheVariants.{UnreadInput, InputTooLong, Unwritten}
+
+abbrev pub cause_line : Cause → List ℕ
+cause_line Memory = codes "lc: out of memory\n"
+cause_line TooManyDirs = codes "lc: too many directories\n"
+cause_line TooDeep = codes "lc: path too deep\n"
+cause_line (Torn n) = codes "lc: internal: directory " ++ decimal n ++ codes " torn\n"
+cause_line (Mismatch w) = codes "lc: internal: worker " ++ decimal w ++ codes " mismatch\n"
+cause_line UnreadRules = codes "lc: cannot read rules\n"
+cause_line RulesTooLong = codes "lc: rules too long\n"
+cause_line UnreadInput = codes "lc: cannot read input\n"
+cause_line InputTooLong = codes "lc: input too long\n"
+cause_line Unwritten = codes "lc: cannot write\n"
+
+-- its line has a number
+abbrev pub HasNumber : Cause → Type 0
+HasNumber (Torn _) = Unit {0}
+HasNumber (Mismatch _) = Unit {0}
+HasNumber _ = ⊥
+
+-- a file that gave no rules
+abbrev pub rules_cause : RulesFileFault → Cause
+rules_cause rules.Read = UnreadRules
+rules_cause rules.TooLong = RulesTooLong
+rules_cause rules.Memory = Memory
+
+-- a check of an input, or its explanation, that stopped
+abbrev pub check_cause : CheckFault → Cause
+check_cause check.Read = UnreadInput
+check_cause check.InputTooLong = InputTooLong
+check_cause check.RulesTooLong = RulesTooLong
+check_cause check.Memory = Memory
+check_cause check.Write = Unwritten
+
+-- a run that stopped
+abbrev pub run_cause : RunFault → Cause
+run_cause (run.Walk walk.Memory) = Memory
+run_cause (run.Walk walk.TooManyDirs) = TooManyDirs
+run_cause (run.Walk walk.TooDeep) = TooDeep
+run_cause (run.Walk (walk.Torn n)) = Torn n
+run_cause (run.Walk (walk.Mismatch w)) = Mismatch w
+run_cause run.Memory = Memory
+run_cause run.Write = Unwritten
+
+-- a text that was not written, or not whole
+abbrev pub print_cause : PrintFault → Cause
+print_cause print.Memory = Memory
+print_cause print.Write = Unwritten

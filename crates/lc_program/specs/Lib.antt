@@ -1,0 +1,4 @@
+pub mod Causes
+pub mod Program
+pub mod Requests
+pub mod Systems

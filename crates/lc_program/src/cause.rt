@@ -1,0 +1,134 @@
+//! Why the program gives up, and the line that it then writes to standard error.
+
+ghost use Rattle.std.specs.Prelude.{◌≡◌, IfOk, IsErr};
+ghost use Rattle.std.specs.Cow.{cow_str_bytes};
+ghost use Rattle.lc_program.specs.Causes.{HasNumber, cause_line, check_cause, print_cause, rules_cause, run_cause};
+ghost use Rattle.lc_program.specs.declared.cause.Cause.TheVariants.{Memory};
+
+use lc_level::RulesFileFault;
+use lc_table::RunFault;
+use lc_text::{CheckFault, PrintFault};
+use lc_walk::WalkFault;
+use std::alloc::{AllocError, AllocFailed, Global};
+use std::borrow::CowStr;
+
+/// Why the program gives up: one line on standard error, and status 3.
+#[derive(Clone, Copy)]
+pub enum Cause {
+    /// An allocation failed.
+    Memory,
+    /// There are more directories than the limit.
+    TooManyDirs,
+    /// An entry of a counted directory is too deep.
+    TooDeep,
+    /// The board has no row of this directory. A count never ends so.
+    Torn(u32),
+    /// The board and this worker differ. A count never ends so.
+    Mismatch(u32),
+    /// The rule file that the command line names could not be read.
+    UnreadRules,
+    /// The rules have too many bytes.
+    RulesTooLong,
+    /// Standard input could not be read.
+    UnreadInput,
+    /// Standard input has too many bytes.
+    InputTooLong,
+    /// The answer could not be written.
+    Unwritten,
+}
+
+impl Cause {
+    /// Makes the line, with its line feed. A line with a number takes memory.
+    pub(crate) fn line(self, alloc: Global) -> Result<CowStr<'static>, AllocError>
+        ensures line { IfOk result (λ line. cow_str_bytes line ≡ cause_line self) }
+        ensures refused { IsErr result → HasNumber self }
+    {
+        let line = match self {
+            Cause::Memory => "lc: out of memory\n",
+            Cause::TooManyDirs => "lc: too many directories\n",
+            Cause::TooDeep => "lc: path too deep\n",
+            Cause::Torn(number) => {
+                let line = format!(in alloc; "lc: internal: directory {number} torn\n")?;
+                return Ok(CowStr::Owned(line));
+            }
+            Cause::Mismatch(worker) => {
+                let line = format!(in alloc; "lc: internal: worker {worker} mismatch\n")?;
+                return Ok(CowStr::Owned(line));
+            }
+            Cause::UnreadRules => "lc: cannot read rules\n",
+            Cause::RulesTooLong => "lc: rules too long\n",
+            Cause::UnreadInput => "lc: cannot read input\n",
+            Cause::InputTooLong => "lc: input too long\n",
+            Cause::Unwritten => "lc: cannot write\n",
+        };
+        Ok(CowStr::Borrowed(line))
+    }
+}
+
+impl From<AllocError> for Cause {
+    ghost from_gives = { λ _ cause. cause ≡ Memory };
+
+    fn from(_refused: AllocError) -> Cause {
+        Cause::Memory
+    }
+}
+
+impl<T: Drop> From<AllocFailed<T>> for Cause {
+    ghost from_gives = { λ _ cause. cause ≡ Memory };
+
+    fn from(_refused: AllocFailed<T>) -> Cause {
+        Cause::Memory
+    }
+}
+
+impl From<RulesFileFault> for Cause {
+    ghost from_gives = { λ rules cause. cause ≡ rules_cause rules };
+
+    fn from(fault: RulesFileFault) -> Cause {
+        match fault {
+            RulesFileFault::Read => Cause::UnreadRules,
+            RulesFileFault::TooLong => Cause::RulesTooLong,
+            RulesFileFault::Memory => Cause::Memory,
+        }
+    }
+}
+
+impl From<CheckFault> for Cause {
+    ghost from_gives = { λ check cause. cause ≡ check_cause check };
+
+    fn from(fault: CheckFault) -> Cause {
+        match fault {
+            CheckFault::Read => Cause::UnreadInput,
+            CheckFault::InputTooLong => Cause::InputTooLong,
+            CheckFault::RulesTooLong => Cause::RulesTooLong,
+            CheckFault::Memory => Cause::Memory,
+            CheckFault::Write => Cause::Unwritten,
+        }
+    }
+}
+
+impl From<RunFault> for Cause {
+    ghost from_gives = { λ run cause. cause ≡ run_cause run };
+
+    fn from(fault: RunFault) -> Cause {
+        match fault {
+            RunFault::Walk(WalkFault::Memory) | RunFault::Memory => Cause::Memory,
+            RunFault::Walk(WalkFault::TooManyDirs) => Cause::TooManyDirs,
+            RunFault::Walk(WalkFault::TooDeep) => Cause::TooDeep,
+            RunFault::Walk(WalkFault::Torn(number)) => Cause::Torn(number),
+            RunFault::Walk(WalkFault::Mismatch(worker)) => Cause::Mismatch(worker),
+            RunFault::Write => Cause::Unwritten,
+        }
+    }
+}
+
+impl From<PrintFault> for Cause {
+    ghost from_gives = { λ print cause. cause ≡ print_cause print };
+
+    fn from(fault: PrintFault) -> Cause {
+        match fault {
+            PrintFault::Memory => Cause::Memory,
+            PrintFault::Write => Cause::Unwritten,
+        }
+    }
+}

@@ -1,0 +1,33 @@
+//! How a run of the program ends.
+
+ghost use Rattle.std.specs.Prelude.{◌≡◌};
+ghost use Rattle.lc_program.specs.Program.{status_of};
+
+use crate::cause::Cause;
+
+/// How a run of the program ends.
+#[derive(Clone, Copy)]
+pub enum Ending {
+    /// It did what it was asked to do.
+    Done,
+    /// It wrote the answer, which names a fault.
+    SomeFaults,
+    /// It refused the arguments.
+    Misused,
+    /// It gave up.
+    GaveUp(Cause),
+}
+
+impl Ending {
+    /// Returns the exit status.
+    pub fn status(self) -> u8
+        ensures { result ≡ status_of self }
+    {
+        match self {
+            Ending::Done => 0,
+            Ending::SomeFaults => 1,
+            Ending::Misused => 2,
+            Ending::GaveUp(_) => 3,
+        }
+    }
+}

@@ -1,0 +1,22 @@
+//! The program `lc` without its host: what a command line asks for, done in a system and told on streams.
+//!
+//! - `system`: what the names on a command line stand for; `streams`: the streams, and which of them are terminals
+//! - `running`: the program; `answering`: what each request is answered; `rules_file`: the rules of a file that the command line names
+//! - `ending`: how the program ends; `cause`: why it gives up; `telling`: what it tells on standard error, help and the version
+#![tactic(auto)]
+
+mod answering;
+mod cause;
+mod ending;
+mod rules_file;
+mod running;
+mod streams;
+mod system;
+mod telling;
+
+pub use cause::Cause;
+pub use ending::Ending;
+pub use running::program;
+pub use streams::{Streams, Terminals};
+pub use system::System;
+pub use telling::{give_up, introduce, misuse};

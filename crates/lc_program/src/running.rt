@@ -1,0 +1,77 @@
+//! The program: what its arguments ask for, done in a system and told on its streams.
+
+ghost use Rattle.std.specs.Prelude.{◌≡◌, map};
+ghost use Rattle.lc_program.specs.Program.{Ends, status_of, streams_may};
+ghost use Rattle.lc_program.specs.Systems.{system_may};
+ghost use Rattle.lc_program.specs.declared.ending.Ending.{Ending};
+
+use crate::answering::answer;
+use crate::cause::Cause;
+use crate::ending::Ending;
+use crate::streams::{Streams, Terminals};
+use crate::system::System;
+use crate::telling::{give_up, hint, misuse, show};
+use lc_arguments::{ParseExit, Request};
+use lc_census::Source;
+use lc_text::{Outcome, Sink};
+use std::convert::AsStr;
+use std::sync::Wait;
+use std::thread::Threads;
+
+/// Runs the program, and returns how it ended.
+fn end_of<R: Threads + Wait + Sync + AllocGlobal, Y: System, W: AsStr, S: Source, O: Sink, E: Sink>(
+    rt: &R,
+    system: &Y,
+    words: &[W],
+    terminals: Terminals,
+    streams: &mut Streams<S, O, E>,
+) -> Ending
+    ensures { Ends (system_may (λ dir. Y.Tree.lists (Y.tree system.now dir)) (λ dir. Y.Tree.gives (Y.tree system.now dir))
+        (Y.holds system.now) (Y.lies system.now)) (streams_may S.may_give O.may_take E.may_take) (map W.text words.now) terminals
+        streams.old result streams.new }
+{
+    let Streams { input, out, err } = streams;
+    let request = match Request::read(rt.alloc(), words) {
+        Ok(request) => request,
+        Err(ParseExit::Shown(text)) => return show(rt.alloc(), &text, out, err),
+        Err(ParseExit::Refused(why)) => return misuse(&why, err),
+        Err(ParseExit::Memory) => return give_up(rt.alloc(), Cause::Memory, err),
+    };
+    let outcome = match answer(rt, system, &request, terminals.style(), input, out) {
+        Ok(outcome) => outcome,
+        Err(cause) => return give_up(rt.alloc(), cause, err),
+    };
+    hint(rt.alloc(), system, &request, terminals.error, err);
+    match outcome {
+        Outcome::Clean => Ending::Done,
+        Outcome::SomeFaults => Ending::SomeFaults,
+    }
+}
+
+/// Runs the program with these arguments and streams, and returns its exit status: 0 done, 1 the answer names a fault, 2 the arguments are
+/// refused, 3 it gave up, with one line on `err`.
+///
+/// - no arguments: the input has the lines of an ignore file, then a line `--`, then paths ([`check_joined`](lc_check::check_joined));
+/// - `check FILE`: the rules are those of the file of this name, which is read first, and the input has the paths
+///   ([`check`](lc_check::check); with `--explain` [`check_explained`](lc_check::check_explained));
+/// - `count DIR`: the table of the directory of this name ([`run`](lc_table::run)); the file of `--exclude-from` is read before the walk;
+/// - `explain DIR`: which rule of the directory of this name decides each path, of the input or of the arguments
+///   ([`explain`](lc_explain::explain)).
+///
+/// If standard output is a terminal, checks and explanations print paths and patterns so that it shows them safely. If standard error is
+/// a terminal, a hint may follow the table of a count.
+pub fn program<
+    R: Threads + Wait + Sync + AllocGlobal,
+    Y: System,
+    W: AsStr,
+    S: Source,
+    O: Sink,
+    E: Sink,
+>(rt: &R, system: &Y, words: &[W], terminals: Terminals, streams: &mut Streams<S, O, E>) -> u8
+    ensures { (ending : Ending) × (result ≡ status_of ending)
+        × Ends (system_may (λ dir. Y.Tree.lists (Y.tree system.now dir)) (λ dir. Y.Tree.gives (Y.tree system.now dir))
+        (Y.holds system.now) (Y.lies system.now)) (streams_may S.may_give O.may_take E.may_take) (map W.text words.now) terminals
+        streams.old ending streams.new }
+{
+    end_of(rt, system, words, terminals, streams).status()
+}

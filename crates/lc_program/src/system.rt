@@ -1,0 +1,40 @@
+//! The system that the program runs in: what the names on a command line stand for.
+
+ghost use Rattle.std.specs.Prelude.{◌≡◌, ℕ, Bool, List, IfOk};
+ghost use Rattle.lc_tree.specs.Trees.{Contents, Opens};
+
+use lc_census::Source;
+use lc_tree::{ReadFault, Tree};
+use std::alloc::{AllocError, Global};
+
+/// The directories and rule files that a command line names.
+///
+/// A system says which tree a directory's name stands for, and by `holds` and `lies` which other answers may come for a name.
+pub trait System {
+    /// A directory, as a tree.
+    type Tree: Tree + Drop;
+
+    /// An opened rule file.
+    type RulesFile: Source + Drop;
+
+    // The tree of the directory with this name.
+    ghost tree: { Self → List ℕ → Self.Tree };
+
+    // What the reads of the file with this name may give, each time that it is opened.
+    ghost holds: { Self → List ℕ → Contents };
+
+    // What may be answered of the directory with this name: whether it lies in a repository, below its top.
+    ghost lies: { Self → List ℕ → Bool → Type 0 };
+
+    /// Makes the tree of the directory with this name. If there is no such directory, the top of the tree can't be listed.
+    fn tree(&self, alloc: Global, directory: &str) -> Result<Self::Tree, AllocError>
+        ensures { IfOk result (λ t. t ≡ tree self.now directory.now) };
+
+    /// Opens the rule file with this name. It is refused by `ReadFault::Failed` or `ReadFault::Memory` alone.
+    fn open_rules(&self, alloc: Global, name: &str) -> Result<Self::RulesFile, ReadFault>
+        ensures { Opens Self.RulesFile.may_give (holds self.now name.now) result };
+
+    /// Returns whether the directory with this name lies in a repository, below its top.
+    fn lies_in_repository(&self, alloc: Global, directory: &str) -> bool
+        ensures { lies self.now directory.now result };
+}

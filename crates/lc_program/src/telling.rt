@@ -1,0 +1,79 @@
+//! What is told: the lines on standard error, help and the version.
+
+ghost use Rattle.std.specs.Prelude.{◌≡◌};
+ghost use Rattle.lc_program.specs.Program.{Tells, TellsCause, Introduces, Hints, EndsShown};
+ghost use Rattle.lc_program.specs.declared.ending.Ending.TheVariants as ending;
+
+use crate::cause::Cause;
+use crate::ending::Ending;
+use crate::system::System;
+use lc_arguments::Request;
+use lc_text::{Sink, print};
+use std::alloc::{AllocError, Global};
+use std::convert::AsStr;
+
+/// Says what is read if there are no arguments and standard input is a terminal. Without this line the program would seem to hang.
+pub fn introduce<W, E: Sink>(words: &[W], stdin_is_terminal: bool, err: &mut E)
+    ensures { Introduces E.may_take words.now stdin_is_terminal err.old err.new }
+{
+    if words.is_empty() && stdin_is_terminal {
+        // Help says it too.
+        let _ = print(
+            err,
+            b"lc: reads the lines of an ignore file, a line --, and paths from standard input; lc --help says more\n",
+        );
+    }
+}
+
+/// Writes the refusal of the arguments.
+pub fn misuse<E: Sink>(why: &str, err: &mut E) -> Ending
+    ensures ending { result ≡ ending.Misused }
+    ensures told { Tells E.may_take err.old why.now err.new }
+{
+    // The status says it too, so a text that can't be written changes nothing.
+    let _ = print(err, why.as_bytes());
+    Ending::Misused
+}
+
+/// Writes the line of a cause.
+pub fn give_up<E: Sink>(alloc: Global, cause: Cause, err: &mut E) -> Ending
+    ensures ending { result ≡ ending.GaveUp cause }
+    ensures told { TellsCause E.may_take err.old cause err.new }
+{
+    let _ = match cause.line(alloc) {
+        Ok(line) => print(err, line.as_str().as_bytes()),
+        Err(AllocError) => print(err, b"lc: out of memory\n"),
+    };
+    Ending::GaveUp(cause)
+}
+
+/// Hints that rules above the counted directory were not read, if it lies in a repository below its top. Only a terminal gets the hint.
+pub(crate) fn hint<Y: System, E: Sink>(
+    alloc: Global,
+    system: &Y,
+    request: &Request<'_>,
+    stderr_is_terminal: bool,
+    err: &mut E,
+)
+    ensures { Hints E.may_take (Y.lies system.now) stderr_is_terminal request.now err.old err.new }
+{
+    let Request::Count(asked) = request else {
+        return;
+    };
+    if stderr_is_terminal && system.lies_in_repository(alloc, asked.directory) {
+        let _ = print(
+            err,
+            b"lc: rules above this directory were not read; lc count --only PATH TOP counts PATH of the repository TOP by all of them\n",
+        );
+    }
+}
+
+/// Writes help or the version.
+pub(crate) fn show<O: Sink, E: Sink>(alloc: Global, text: &str, out: &mut O, err: &mut E) -> Ending
+    ensures { EndsShown O.may_take E.may_take text.now out.old err.old result out.new err.new }
+{
+    match print(out, text.as_bytes()) {
+        Ok(()) => Ending::Done,
+        Err(_) => give_up(alloc, Cause::Unwritten, err),
+    }
+}

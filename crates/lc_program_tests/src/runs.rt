@@ -1,0 +1,10 @@
+//! What no clause says: that runs of the program succeed where there is memory, and what they then write.
+
+mod asking;
+mod calls;
+mod checks;
+mod counts;
+mod endings;
+mod explanations;
+mod hints;
+mod mem_system;

@@ -1,0 +1,140 @@
+//! Runs of the program over systems of memory.
+
+use crate::runs::mem_system::MemSystem;
+use lc_program::{Streams, Terminals, program};
+use lc_text::trials::{Narrow, WhenFull};
+use lc_tree::{Node, Sketch};
+use std::alloc::{AllocError, Global};
+use std::process::Abort;
+use std::sync::Wait;
+use std::test::Fail;
+use std::thread::Threads;
+
+/// What stands in a directory: a name, and what has it.
+pub(super) type Entry = (&'static [u8], Sketch<'static>);
+
+/// What is shown; the directory `top`, beside the directory `other`, which has one file; the rule files; the words and the input.
+#[derive(Clone, Copy)]
+pub(super) struct Case<'a> {
+    pub(super) name: &'a str,
+    pub(super) top: Sketch<'a>,
+    pub(super) files: Sketch<'a>,
+    pub(super) words: &'a [&'a str],
+    pub(super) input: &'a [u8],
+    pub(super) terminals: Terminals,
+    pub(super) is_repository: bool,
+    /// How the run ends.
+    pub(super) status: u8,
+    pub(super) out: &'a [u8],
+    pub(super) err: &'a [u8],
+}
+
+pub(super) const NO_TERMINALS: Terminals = Terminals {
+    output: false,
+    error: false,
+};
+
+/// No directories, files and words.
+pub(super) const EMPTY: Case<'static> = Case {
+    name: "",
+    top: Sketch::Closed,
+    files: Sketch::Dir(&[]),
+    words: &[],
+    input: b"",
+    terminals: NO_TERMINALS,
+    is_repository: false,
+    status: 0,
+    out: b"",
+    err: b"",
+};
+
+const OTHER: Sketch<'static> = Sketch::Dir(&[(b"other.x", Sketch::File(b"1\n2\n"))]);
+
+fn directories_of(alloc: Global, case: &Case<'_>) -> Result<Vec<(&'static str, Node)>, AllocError> {
+    let mut directories = Vec::with_capacity(alloc, 2)?;
+    directories.push(("other", OTHER.node(alloc)?))?;
+    directories.push(("top", case.top.node(alloc)?))?;
+    Ok(directories)
+}
+
+/// A writer that takes a little more than this text.
+fn writer_of(alloc: Global, text: &[u8]) -> Result<Narrow, AllocError> {
+    Narrow::new(alloc, 4_096, text.len().saturating_add(64), WhenFull::Fails)
+}
+
+/// Whether a run in a system ends so.
+fn ends_so<R: Threads + Wait + Sync + AllocGlobal>(
+    rt: &R,
+    system: &MemSystem<'_>,
+    words: &[&str],
+    case: &Case<'_>,
+) -> Result<bool, AllocError> {
+    let mut streams = Streams {
+        input: case.input,
+        out: writer_of(rt.alloc(), case.out)?,
+        err: writer_of(rt.alloc(), case.err)?,
+    };
+    let status = program(rt, system, words, case.terminals, &mut streams);
+    if streams.err.taken.as_slice() == b"lc: out of memory\n".as_slice() {
+        return Err(AllocError);
+    }
+    Ok(
+        status == case.status
+            && streams.out.taken.as_slice() == case.out
+            && streams.err.taken.as_slice() == case.err,
+    )
+}
+
+/// Whether a run of a case by these words ends as it says.
+fn is_so<R: Threads + Wait + Sync + AllocGlobal>(
+    rt: &R,
+    words: &[&str],
+    case: &Case<'_>,
+) -> Result<bool, AllocError> {
+    let directories = directories_of(rt.alloc(), case)?;
+    let files = case.files.node(rt.alloc())?;
+    let system = MemSystem {
+        directories: &directories,
+        absent: &Node::Closed,
+        files: &files,
+        is_repository: case.is_repository,
+    };
+    ends_so(rt, &system, words, case)
+}
+
+/// Runs of these cases end as they say.
+pub(super) fn compare_all<R: Threads + Wait + Sync + AllocGlobal + Abort>(
+    rt: &R,
+    cases: &[Case<'_>],
+) -> Result<(), Fail> {
+    for case in cases {
+        assert!(rt; is_so(rt, case.words, case)?, "{}", case.name);
+    }
+    Ok(())
+}
+
+/// So do they with this number of threads.
+fn compare_by<R: Threads + Wait + Sync + AllocGlobal + Abort>(
+    rt: &R,
+    case: &Case<'_>,
+    threads: &str,
+) -> Result<(), Fail> {
+    let mut words = case.words.to_vec(rt.alloc())?;
+    words.push("--threads")?;
+    words.push(threads)?;
+    assert!(rt; is_so(rt, &words, case)?, "{} by {threads}", case.name);
+    Ok(())
+}
+
+/// So do they with one thread and with several.
+pub(super) fn compare_by_threads<R: Threads + Wait + Sync + AllocGlobal + Abort>(
+    rt: &R,
+    cases: &[Case<'_>],
+) -> Result<(), Fail> {
+    for case in cases {
+        for threads in ["1", "2", "16"] {
+            compare_by(rt, case, threads)?;
+        }
+    }
+    Ok(())
+}

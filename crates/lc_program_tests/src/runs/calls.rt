@@ -1,0 +1,50 @@
+//! The other public calls, each once.
+
+use crate::runs::mem_system::MemSystem;
+use lc_census::Source;
+use lc_program::{Cause, System, give_up, introduce, misuse};
+use lc_tree::{Node, Sketch, Tree};
+use std::test::Fail;
+
+const TOP: Sketch<'static> = Sketch::Dir(&[(b"a", Sketch::File(b"x"))]);
+
+/// The first bytes of a reader.
+fn first<S: Source + Drop>(mut file: S, buffer: &mut [u8]) -> usize {
+    match file.read(buffer) {
+        Ok(count) => count,
+        Err(_) => 0,
+    }
+}
+
+#[test]
+fn names_of_a_system(rt: HostRuntime) -> Result<(), Fail> {
+    let directories = vec![in rt.alloc(); ("top", TOP.node(rt.alloc())?)]?;
+    let system = MemSystem {
+        directories: &directories,
+        absent: &Node::Closed,
+        files: &directories[0].1,
+        is_repository: true,
+    };
+    let tree = system.tree(rt.alloc(), "top")?;
+    let listing = tree.list(rt.alloc(), b"")?;
+    assert!(rt; listing.entries().len() == 1);
+    let file = system.open_rules(rt.alloc(), "a")?;
+    let mut buffer = [0; 4];
+    assert!(rt; first(file, &mut buffer) == 1 && buffer[0] == b'x');
+    assert!(rt; system.lies_in_repository(rt.alloc(), "top"));
+    Ok(())
+}
+
+#[test]
+fn what_is_told(rt: HostRuntime) -> Result<(), Fail> {
+    let mut err = Vec::with_capacity(rt.alloc(), 4096)?;
+    introduce::<&str, _>(&[], true, &mut err);
+    assert!(rt; err.as_slice().starts_with(b"lc: reads the lines"));
+    err.clear();
+    introduce(&["check"], true, &mut err);
+    assert!(rt; err.is_empty());
+    assert!(rt; misuse("lc: no\n", &mut err).status() == 2);
+    assert!(rt; give_up(rt.alloc(), Cause::TooDeep, &mut err).status() == 3);
+    assert!(rt; err.as_slice() == b"lc: no\nlc: path too deep\n".as_slice());
+    Ok(())
+}

@@ -1,0 +1,127 @@
+//! Counts: their tables, by one thread and by several.
+
+use crate::runs::asking::{Case, EMPTY, Entry, compare_by_threads};
+use lc_tree::Sketch;
+use std::test::Fail;
+
+const IGNORE: Entry = (b".gitignore", Sketch::File(b"*.log\n!keep.log\n/build/\n"));
+
+const LOG: Entry = (b"a.log", Sketch::File(b"x\n"));
+
+const KEPT: Entry = (b"keep.log", Sketch::File(b"k\n"));
+
+const BUILD: Entry = (b"build", Sketch::Dir(&[(b"x.c", Sketch::File(b"x\n"))]));
+
+const SRC: Entry = (
+    b"src",
+    Sketch::Dir(&[(
+        b"build",
+        Sketch::Dir(&[(b"y.c", Sketch::File(b"int y;\r\n"))]),
+    )]),
+);
+
+const WORKED: Case<'static> = Case {
+    top: Sketch::Dir(&[IGNORE, LOG, KEPT, BUILD, SRC]),
+    files: Sketch::Dir(&[
+        (b"rules", Sketch::File(b"*.c\n")),
+        (b"top", Sketch::File(b"*\n")),
+        (b".gitignore", Sketch::File(b"*\n")),
+    ]),
+    ..EMPTY
+};
+
+const CASES: &[Case<'static>] = &[
+    Case {
+        name: "the_table",
+        words: &["count", "top"],
+        out: b"ext\ttext\teol\tfiles\tlines\tblank\tbytes\n\
+               -\t-\tlf\t1\t3\t0\t24\n\
+               .c\t-\tcrlf\t1\t1\t0\t8\n\
+               .log\t-\tlf\t1\t1\t0\t2\n\
+               total\t*\t*\t3\t5\t0\t34\n\
+               directories\t3\n",
+        ..WORKED
+    },
+    Case {
+        name: "another_directory",
+        words: &["count", "other"],
+        out: b"ext\ttext\teol\tfiles\tlines\tblank\tbytes\n\
+               .x\t-\tlf\t1\t2\t0\t4\n\
+               total\t*\t*\t1\t2\t0\t4\n\
+               directories\t1\n",
+        ..WORKED
+    },
+    Case {
+        name: "rules_of_a_file_with_both_lists",
+        words: &[
+            "count",
+            "--exclude-from",
+            "rules",
+            "--files",
+            "--left-out",
+            "top",
+        ],
+        out: b"ext\ttext\teol\tfiles\tlines\tblank\tbytes\n\
+               -\t-\tlf\t1\t3\t0\t24\n\
+               .log\t-\tlf\t1\t1\t0\t2\n\
+               total\t*\t*\t2\t4\t0\t26\n\
+               directories\t3\n\
+               entries\t7\n\
+               file\t-\tlf\t3\t0\t24\t.gitignore\n\
+               file\t-\tlf\t1\t0\t2\tkeep.log\n\
+               left\trule\t.gitignore:1\ta.log\n\
+               left\trule\t.gitignore:3\tbuild/\n\
+               left\trule\t--exclude-from:1\tsrc/build/y.c\n",
+        ..WORKED
+    },
+    Case {
+        name: "json_by_the_extension",
+        words: &["count", "--format", "json", "--by", "ext", "top"],
+        out: b"{\"rows\":[{\"ext\":null,\"files\":1,\"lines\":3,\"blank\":0,\"bytes\":24},\
+               {\"ext\":\".c\",\"files\":1,\"lines\":1,\"blank\":0,\"bytes\":8},\
+               {\"ext\":\".log\",\"files\":1,\"lines\":1,\"blank\":0,\"bytes\":2}],\
+               \"total\":{\"files\":3,\"lines\":5,\"blank\":0,\"bytes\":34},\"directories\":3,\"faults\":[]}\n",
+        ..WORKED
+    },
+    Case {
+        name: "a_table_in_columns_of_a_part",
+        words: &["count", "--format=table", "--only", "src/build", "top"],
+        out: b"ext    text  eol   files  lines  blank  bytes\n\
+               ---------------------------------------------\n\
+               .c     -     crlf      1      1      0      8\n\
+               ---------------------------------------------\n\
+               total                  1      1      0      8\n\
+               \n\
+               directories  3\n",
+        ..WORKED
+    },
+    Case {
+        name: "a_directory_that_is_not_there",
+        words: &["count", "absent"],
+        status: 1,
+        out: b"ext\ttext\teol\tfiles\tlines\tblank\tbytes\n\
+               total\t*\t*\t0\t0\t0\t0\n\
+               directories\t0\n\
+               fault\tread\t.\n",
+        ..WORKED
+    },
+    Case {
+        name: "a_rule_file_that_is_not_there",
+        words: &["count", "top", "--exclude-from", "gone"],
+        status: 3,
+        err: b"lc: cannot read rules\n",
+        ..WORKED
+    },
+    Case {
+        name: "too_many_directories",
+        words: &["count", "--max-dirs", "2", "top"],
+        status: 3,
+        err: b"lc: too many directories\n",
+        ..WORKED
+    },
+];
+
+#[test]
+fn tables_of_counts(rt: HostRuntime) -> Result<(), Fail> {
+    compare_by_threads(&rt, CASES)
+}

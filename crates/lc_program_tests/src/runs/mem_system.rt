@@ -1,0 +1,55 @@
+//! A system of memory.
+
+ghost use Rattle.std.specs.Prelude.{◌≡◌};
+
+use lc_program::System;
+use lc_tree::{MemFile, MemTree, Node, ReadFault, Tree};
+use std::alloc::{AllocError, Global};
+
+/// A system of memory.
+#[derive(Drop)]
+pub(super) struct MemSystem<'a> {
+    /// Directories, each with its name.
+    pub(super) directories: &'a [(&'a str, Node)],
+    /// What any other name stands for.
+    pub(super) absent: &'a Node,
+    /// The directory that has the rule files.
+    pub(super) files: &'a Node,
+    /// Whether each directory lies in a repository, below its top.
+    pub(super) is_repository: bool,
+}
+
+impl<'a> System for MemSystem<'a> {
+    type Tree = MemTree<'a>;
+
+    type RulesFile = MemFile<'a>;
+
+    ghost use Rattle.std.specs.Prelude.{◌≡◌, ℕ, List, bytes_eq, find, option_map, unwrap_or};
+    ghost use Rattle.std.specs.Borrow.{Bor};
+    ghost use Rattle.lc_tree.specs.MemTrees.{mem_gives};
+    ghost use Rattle.lc_tree.specs.declared.node.Node.{Node};
+
+    ghost tree = { λ s name. unwrap_or (option_map (λ (d : Bor (List ℕ) × Node). d.1)
+        (find (λ (d : Bor (List ℕ) × Node). bytes_eq d.0.now name) s.directories.now)) s.absent.now };
+
+    ghost holds = { λ s name. mem_gives s.files.now name };
+
+    ghost lies = { λ s name answer. answer ≡ s.is_repository };
+
+    /// Takes no memory.
+    fn tree(&self, _alloc: Global, directory: &str) -> Result<MemTree<'a>, AllocError> {
+        let found = self.directories.iter().find(|named| named.0 == directory);
+        Ok(MemTree::new(match found {
+            Some(named) => &named.1,
+            None => self.absent,
+        }))
+    }
+
+    fn open_rules(&self, alloc: Global, name: &str) -> Result<MemFile<'a>, ReadFault> {
+        MemTree::new(self.files).open_file(alloc, name.as_bytes())
+    }
+
+    fn lies_in_repository(&self, _alloc: Global, _directory: &str) -> bool {
+        self.is_repository
+    }
+}
