@@ -5,8 +5,8 @@ use crate::table::screens::EMPTY;
 use crate::table::tables::{has_parts, report_of};
 use lc_level::Reason;
 use lc_rules::RuleSource;
-use lc_text::{Format, TableOptions};
 use lc_tree::Kind;
+use lc_view::{Format, TableOptions};
 use lc_walk::{Report, ReportLists, SkippedLine};
 use std::alloc::{AllocError, Global};
 use std::process::Abort;
@@ -120,14 +120,14 @@ const CASES: &[Case] = &[
 
 #[test]
 fn left_out_in_each_format(rt: HostRuntime) -> Result<(), Fail> {
-    let report = report_with(rt.alloc(), LEFT)?;
     for (format, header, lines) in CASES {
+        let report = report_with(rt.alloc(), LEFT)?;
         let options = TableOptions {
             format: *format,
             ..TSV
         };
         assert!(rt;
-            has_parts(rt.alloc(), &report, options, (header, b"", lines))?,
+            has_parts(rt.alloc(), report, options, (header, b"", lines))?,
             "{format:?}"
         );
     }
