@@ -21,6 +21,7 @@ use Rattle.lc_walk.specs.ReportLines.{FileLineModel, SkippedLineModel}
 use Rattle.lc_walk.specs.TallyRows.{TallyRowModel}
 use Rattle.lc_walk.specs.declared.report.Report.{Report}
 use Rattle.lc_walk.specs.declared.tally.sums.Sums.{Sums}
+use Rattle.lc_rows.specs.Classes.{binary_sums, text_sums}
 use Rattle.lc_rows.specs.Views.{ViewModel}
 use Rattle.lc_table.specs.JsonText.{Member, items_with, members_with, array_with, integer, bytes_member, extension_member}
 use Rattle.lc_table.specs.JsonText.{text_value, if_kept, key_members, sums_members, row_value, file_value, fault_value}
@@ -117,10 +118,10 @@ report_within by r v =
     let with_skipped = both_within 3 skipped (faults ∷ []) (kept_within 3 r.lists.left_out (skipped_member r) (omega arith)) last in
     let lists = both_within 3 files (skipped ++ faults ∷ []) (kept_within 3 r.lists.files (files_member v.files) (omega arith)) with_skipped in
     let kept = kept_within 3 r.lists.left_out (entries_member r) (omega arith) in
-    let counted : members_depth (members_with (sums_member (codes "total") r.totals ∷ (codes "directories", integer r.directories) ∷ entries)) ≤ 3 =
-    omega arith in
-    let numbers = both_within 3 (others_members v.others) (sums_member (codes "total") r.totals ∷ (codes "directories", integer r.directories)
-    ∷ entries) (others_within v.others) counted in
+    let members = sums_member (codes "total") r.totals ∷ sums_member (codes "text") (text_sums r.rows.items)
+    ∷ sums_member (codes "binary") (binary_sums r.rows.items) ∷ (codes "directories", integer r.directories) ∷ entries in
+    let counted : members_depth (members_with members) ≤ 3 = omega arith in
+    let numbers = both_within 3 (others_members v.others) members (others_within v.others) counted in
     let all = both_within 3 (number_members r v.others) (list_members r v.files) numbers lists in
     omega arith
 

@@ -11,6 +11,7 @@ use Rattle.lc_level.specs.Level.{Reason, named_git, by_rule, by_attribute, other
 use Rattle.lc_text.specs.RulePlaces.{rule_file}
 use Rattle.lc_level.specs.FaultWords.{fault_word}
 use Rattle.lc_view.specs.declared.table_options.Columns.{Columns}
+use Rattle.lc_rows.specs.Classes.{binary_sums, text_sums}
 use Rattle.lc_rows.specs.Views.{ViewModel}
 use Rattle.lc_walk.specs.Key.{Key}
 use Rattle.lc_walk.specs.ReportLines.{FileLineModel, SkippedLineModel}
@@ -120,7 +121,9 @@ others_members (Some s) = sums_member (codes "others") s ∷ []
 abbrev pub number_members : Report → Option Sums → List Member
 number_members r others =
     others_members others
-    ++ (sums_member (codes "total") r.totals ∷ (codes "directories", integer r.directories) ∷ if_kept r.lists.left_out (entries_member r))
+    ++ (sums_member (codes "total") r.totals ∷ sums_member (codes "text") (text_sums r.rows.items)
+    ∷ sums_member (codes "binary") (binary_sums r.rows.items) ∷ (codes "directories", integer r.directories)
+    ∷ if_kept r.lists.left_out (entries_member r))
 
 -- and those that list
 abbrev pub list_members : Report → List FileLineModel → List Member

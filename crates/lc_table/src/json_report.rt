@@ -9,13 +9,14 @@ ghost use Rattle.lc_table.specs.JsonText.{row_value, file_value, fault_value, en
 ghost use Rattle.lc_table.specs.JsonText.{list_members, number_members, others_members, sums_member};
 ghost use Rattle.lc_table.specs.JsonText.{json_text_of, report_value, IsDocument};
 ghost use Rattle.lc_table.specs.JsonTokens.{member_tokens, members_tokens_of};
+ghost use Rattle.lc_rows.specs.Classes.{binary_sums, text_sums};
 ghost use Rattle.lc_rows.specs.Views.{view_model};
 
 use crate::json_skipped::write_skipped_list;
 use crate::json_text::JsonText;
 use crate::words::{eol_word, text_word};
 use lc_census::Eol;
-use lc_rows::View;
+use lc_rows::{ClassSums, View};
 use lc_rules::TextState;
 use lc_view::Columns;
 use lc_walk::{FaultLine, FileLine, Report, Sums, TallyRow};
@@ -245,6 +246,16 @@ fn write_others(text: &mut JsonText, others: Option<Sums>) -> Result<(), AllocEr
     Ok(())
 }
 
+fn write_classes(text: &mut JsonText, rows: &[TallyRow]) -> Result<(), AllocError>
+    ensures { OnOk result (text.new ≡ text.old ++ member_tokens (sums_member (codes "text") (text_sums rows.now))
+        ++ member_tokens (sums_member (codes "binary") (binary_sums rows.now))) }
+{
+    let classes = ClassSums::of_all(rows)?;
+    write_sums_member(text, "text", &classes.text)?;
+    write_sums_member(text, "binary", &classes.binary)?;
+    Ok(())
+}
+
 fn write_numbers(
     text: &mut JsonText,
     report: &Report,
@@ -254,6 +265,7 @@ fn write_numbers(
 {
     write_others(text, others)?;
     write_sums_member(text, "total", &report.totals)?;
+    write_classes(text, &report.rows)?;
     text.integer_member("directories", u128::from(report.directories))?;
     write_entries(text, report)?;
     Ok(())

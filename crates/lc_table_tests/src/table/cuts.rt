@@ -174,7 +174,9 @@ const JSON: &[Case] = &[Case {
     },
     lines: b"{\"rows\":[{\"ext\":\".c\",\"text\":\"set\",\"eol\":\"lf\",\"files\":2,\"lines\":10,\
              \"blank\":3,\"bytes\":70}],\"others\":{\"files\":3,\"lines\":8,\"blank\":2,\"bytes\":39},\
-             \"total\":{\"files\":5,\"lines\":18,\"blank\":5,\"bytes\":109},\"directories\":1,\
+             \"total\":{\"files\":5,\"lines\":18,\"blank\":5,\"bytes\":109},\
+             \"text\":{\"files\":5,\"lines\":18,\"blank\":5,\"bytes\":109},\
+             \"binary\":{\"files\":0,\"lines\":0,\"blank\":0,\"bytes\":0},\"directories\":1,\
              \"files\":[{\"path\":\"b.c\",\"text\":\"set\",\"eol\":\"lf\",\"lines\":7,\"blank\":0,\
              \"bytes\":50}],\"faults\":[]}\n",
     ..ALL

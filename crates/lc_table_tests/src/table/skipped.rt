@@ -82,8 +82,9 @@ const TABS: &[u8] = b"total\t*\t*\t0\t0\t0\t0\n\
       left\trule\tsrc/.gitignore:3\tsrc/gen/\n\
       left\trule\t--exclude-from:7\tx.bak\n";
 
-const JSON: &[u8] =
-    b"{\"rows\":[],\"total\":{\"files\":0,\"lines\":0,\"blank\":0,\"bytes\":0},\"directories\":1,\
+const JSON: &[u8] = b"{\"rows\":[],\"total\":{\"files\":0,\"lines\":0,\"blank\":0,\"bytes\":0},\
+     \"text\":{\"files\":0,\"lines\":0,\"blank\":0,\"bytes\":0},\
+     \"binary\":{\"files\":0,\"lines\":0,\"blank\":0,\"bytes\":0},\"directories\":1,\
       \"entries\":1008,\"files\":[],\"left\":[{\"path\":\".git\",\"kind\":\"dir\",\"reason\":\"git\"},\
       {\"path\":\"a\\n.log\",\"kind\":\"file\",\"reason\":\"rule\",\"file\":\".gitignore\",\
       \"line\":1},{\"path\":\"docs\",\"kind\":\"dir\",\"reason\":\"attribute\",\"attribute\":\"export-ignore\"},\

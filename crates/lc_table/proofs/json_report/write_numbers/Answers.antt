@@ -7,6 +7,8 @@ returns c =
     rw (
       c.in_ok-write_entries.ensures,
       c.in_ok-integer_member.ensures,
+      c.in_ok-write_classes.ensures,
+      c.deref.ensures.value,
       c.in_ok-write_sums_member.ensures,
       c.in_ok-write_others.ensures,
       c.from.ensures,
