@@ -32,7 +32,8 @@ both_sums : (top : Option ℕ) (rs : List TallyRowModel)
     → plus (sums_of_rows (first_of top rs)) (sums_of_rows (rest_of top rs)) ≡ sums_of_rows rs
 both_sums None rs = same_sums _ _ (omega arith) (omega arith) (omega arith) (omega arith)
 both_sums (Some n) rs =
-    same_sums _ _ (sum_by-take-drop (λ (r : TallyRowModel). r.sums.files) rs n) (sum_by-take-drop (λ (r : TallyRowModel). r.sums.lines) rs n)
+    same_sums _ _ (sum_by-take-drop (λ (r : TallyRowModel). r.sums.files) rs n)
+    (sum_by-take-drop (λ (r : TallyRowModel). r.sums.lines) rs n)
     (sum_by-take-drop (λ (r : TallyRowModel). r.sums.blank) rs n) (sum_by-take-drop (λ (r : TallyRowModel). r.sums.bytes) rs n)
 
 -- the rows that are shown and the sums over the others add up
@@ -55,7 +56,8 @@ first_decides Greater p e = refl
 falls : (n : SortBy) (fs sorted : List FileLineModel) → AreFilesSorted (Some n) fs sorted → (i j : ℕ) (d : FileLineModel) → i ≤ j
     → j < length sorted → file_number n (get_or sorted j d) ≤ file_number n (get_or sorted i d)
 falls n fs sorted h i j d le within =
-    let not_before = sorted_far (λ (a : FileLineModel) (b : FileLineModel). is_lt (file_cmp n a b)) (files_rank n) sorted h.1 i j d le within in
+    let not_before =
+    sorted_far (λ (a : FileLineModel) (b : FileLineModel). is_lt (file_cmp n a b)) (files_rank n) sorted h.1 i j d le within in
     ge_from_not_lt (file_number n (get_or sorted i d)) (file_number n (get_or sorted j d)) (first_decides _ _ not_before)
 
 -- no file that is cut off has a larger number than one that is listed
@@ -67,5 +69,6 @@ first_files_law n (Some k) fs sorted h = λ j d low. λ i e first.
     let taken = length-take-le k sorted (omega arith) in
     let before : i < k = omega arith in
     let cut : get_or (drop k sorted) j d ≡ get_or sorted (k + j) d = get_or-drop k sorted j d in
-    let kept : get_or (take k sorted) i e ≡ get_or sorted i d = get_or-take k sorted i e before ∙ get_or_default sorted i e d (omega arith) in
+    let kept : get_or (take k sorted) i e ≡ get_or sorted i d =
+    get_or-take k sorted i e before ∙ get_or_default sorted i e d (omega arith) in
     rw (cut, kept) (falls n fs sorted h i (k + j) d (omega arith) after)

@@ -116,7 +116,8 @@ report_within by r v =
     let each_fault = items_within fault_value 2 fault_within r.faults.items in
     let last : members_depth (members_with (faults ∷ [])) ≤ 3 = omega arith in
     let with_skipped = both_within 3 skipped (faults ∷ []) (kept_within 3 r.lists.left_out (skipped_member r) (omega arith)) last in
-    let lists = both_within 3 files (skipped ++ faults ∷ []) (kept_within 3 r.lists.files (files_member v.files) (omega arith)) with_skipped in
+    let listed = kept_within 3 r.lists.files (files_member v.files) (omega arith) in
+    let lists = both_within 3 files (skipped ++ faults ∷ []) listed with_skipped in
     let kept = kept_within 3 r.lists.left_out (entries_member r) (omega arith) in
     let members = sums_member (codes "total") r.totals ∷ sums_member (codes "text") (text_sums r.rows.items)
     ∷ sums_member (codes "binary") (binary_sums r.rows.items) ∷ (codes "directories", integer r.directories) ∷ entries in

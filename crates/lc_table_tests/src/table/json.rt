@@ -31,7 +31,8 @@ const SMALL: Case = Case {
              \"blank\":0,\"bytes\":6},{\"ext\":\".c\",\"text\":\"set\",\"eol\":\"lf\",\"files\":1,\
              \"lines\":3,\"blank\":1,\"bytes\":16}],\"total\":{\"files\":2,\"lines\":4,\"blank\":1,\
              \"bytes\":22},\"text\":{\"files\":2,\"lines\":4,\"blank\":1,\"bytes\":22},\
-             \"binary\":{\"files\":0,\"lines\":0,\"blank\":0,\"bytes\":0},\"directories\":1,\"files\":[{\"path\":\"a\\\"\\\\\\n\",\"text\":null,\
+             \"binary\":{\"files\":0,\"lines\":0,\"blank\":0,\"bytes\":0},\"directories\":1,\
+             \"files\":[{\"path\":\"a\\\"\\\\\\n\",\"text\":null,\
              \"eol\":\"none\",\"lines\":1,\"blank\":0,\"bytes\":6},{\"path\":\"main.c\",\"text\":\"set\",\
              \"eol\":\"lf\",\"lines\":3,\"blank\":1,\"bytes\":16}],\"faults\":[{\"word\":\"read\",\
              \"path\":\"\"},{\"word\":\"name\",\"path\":\"d\"}]}\n",
