@@ -21,12 +21,13 @@ _lc() {
         --without) mapfile -t COMPREPLY < <(compgen -W 'linguist-vendored linguist-generated linguist-documentation' -- "$current") ;;
         --format) mapfile -t COMPREPLY < <(compgen -W 'tsv table json' -- "$current") ;;
         --by) mapfile -t COMPREPLY < <(compgen -W 'ext text eol ext,text ext,eol text,eol' -- "$current") ;;
+        --top) mapfile -t COMPREPLY < <(compgen -W '10 20 50' -- "$current") ;;
         --sort) mapfile -t COMPREPLY < <(compgen -W 'files lines blank bytes' -- "$current") ;;
         --exclude-from | --only) mapfile -t COMPREPLY < <(compgen -f -- "$current") ;;
         *)
           local options='--exclude-from --archive --without --help'
           if [ "${COMP_WORDS[1]}" = count ]; then
-            options+=' --only --files --left-out --format --by --sort --threads --max-dirs'
+            options+=' --only --files --left-out --format --by --sort --top --threads --max-dirs'
           fi
           case ${COMP_WORDS[1]}$current in
             count-* | explain-*) mapfile -t COMPREPLY < <(compgen -W "$options" -- "$current") ;;

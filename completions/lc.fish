@@ -17,7 +17,8 @@ complete -c lc -n '__fish_seen_subcommand_from count explain' -l exclude-from -r
 complete -c lc -n '__fish_seen_subcommand_from count' -l only -r -F -d 'Count only what is at or under PATH'
 complete -c lc -n '__fish_seen_subcommand_from count' -l format -x -a 'tsv table json' -d 'How to print'
 complete -c lc -n '__fish_seen_subcommand_from count' -l by -x -a 'ext text eol ext,text ext,eol text,eol' -d 'Sum rows by these columns'
-complete -c lc -n '__fish_seen_subcommand_from count' -l sort -x -a 'files lines blank bytes' -d 'Sort rows, largest first'
+complete -c lc -n '__fish_seen_subcommand_from count' -l sort -x -a 'files lines blank bytes' -d 'Sort rows and files, largest first'
+complete -c lc -n '__fish_seen_subcommand_from count' -l top -x -a '10 20 50' -d 'Print only the first rows and files'
 complete -c lc -n '__fish_seen_subcommand_from count' -a '(__fish_complete_directories)'
 complete -c lc -n '__fish_seen_subcommand_from explain' -F
 complete -c lc -n '__fish_seen_subcommand_from check' -l explain -d 'Also print the rule that decides'

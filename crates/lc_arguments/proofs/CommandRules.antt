@@ -19,7 +19,7 @@ use Rattle.clap.specs.declared.builder.command.Command.TheViews.{out-Command}
 use Rattle.clap.specs.declared.builder.value_parser.ValueParser.TheVariants.{Signed}
 use Rattle.clap.specs.Simple.{App, app_of, with_rule, with_subcommand}
 use Rattle.clap.specs.Walk.{Rule, rule_of}
-use Rattle.lc_arguments.specs.CommandLine.{app_with, bare_app, number_rule, with_rules, with_subcommands}
+use Rattle.lc_arguments.specs.CommandLine.{app_with, bare_app, with_rules, with_subcommands}
 use Rattle.lc_arguments.specs.CountArgs.{AreArgsOf, AreCommandsOf, IsBare, IsCommandOf}
 use Rattle.lc_arguments.specs.Words.{ReadsWithin}
 use Rattle.lc_arguments.proofs.ReadValues.{read_in_chain}
@@ -140,8 +140,9 @@ seen_with name rules c has =
 -- what a parse reads of a number among its arguments is in its range
 pub reads_number : (name : List ℕ) (rules : List Rule) (c : Command) → HasRules name rules c
     → are_apart (map (λ (r : Rule). r.id) rules) ≡ true → (k : ℕ) (other : Rule) → k < length rules
-    → (id : List ℕ) (most : ℕ) (default : List ℕ) → slice_index_or rules k other ≡ number_rule id most default → ReadsWithin c id 1 most
-reads_number name rules c has apart k other within id most default is m parsed text read = go has.args refl
+    → (id : List ℕ) (most : ℕ) → (slice_index_or rules k other).id ≡ id
+    → (slice_index_or rules k other).parser ≡ Some (Signed (pos 1) (pos most)) → ReadsWithin c id 1 most
+reads_number name rules c has apart k other within id most is_named is_parsed m parsed text read = go has.args refl
   where
     go : (xs : List Arg) → has.args ≡ xs
         → (digits : List ℕ) × (text ≡ without_minus digits) × IsSignedIn (pos 1) (pos most) digits
@@ -152,10 +153,10 @@ reads_number name rules c has apart k other within id most default is m parsed t
     go (x ∷ xs) some =
         let args = has.args in
         let there : k < length args = rw (← length-map args rule_of, has.are) within in
-        let rule : rule_of (slice_index_or args k x) ≡ number_rule id most default =
-        sym (get_or-map rule_of args k x other there) ∙ (ap (λ (rs : List Rule). slice_index_or rs k other) has.are ∙ is) in
+        let rule : rule_of (slice_index_or args k x) ≡ slice_index_or rules k other =
+        sym (get_or-map rule_of args k x other there) ∙ ap (λ (rs : List Rule). slice_index_or rs k other) has.are in
         let ids : are_apart (ids_of args) ≡ true = ap are_apart (ids_by_rules args ∙ ap (map (λ (r : Rule). r.id)) has.are) ∙ apart in
         read_in_chain has.bare c args k x m has.added has.is_bare.1 has.is_bare.2 has.is_bare.0.1 has.fits
         (distinct_ids args ids) there parsed
-        (Signed (pos 1) (pos most)) (ap (λ (r : Rule). r.parser) rule) text
-        (subst (λ (i : List ℕ). one_text (found_of m) i ≡ Some text) (sym (ap (λ (r : Rule). r.id) rule)) read)
+        (Signed (pos 1) (pos most)) (ap (λ (r : Rule). r.parser) rule ∙ is_parsed) text
+        (subst (λ (i : List ℕ). one_text (found_of m) i ≡ Some text) (sym (ap (λ (r : Rule). r.id) rule ∙ is_named)) read)

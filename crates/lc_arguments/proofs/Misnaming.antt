@@ -8,7 +8,7 @@ use Rattle.clap.specs.Simple.{matches_of}
 use Rattle.std.specs.Prelude.{codes}
 use Rattle.clap.specs.Walk.{Row}
 use Rattle.lc_rules.specs.AttrWords.{is_name}
-use Rattle.lc_text.specs.declared.table_options.TableOptions.{TableOptions}
+use Rattle.lc_view.specs.declared.table_options.TableOptions.{TableOptions}
 use Rattle.lc_arguments.specs.CommandLine.{count_app, explain_app}
 use Rattle.lc_arguments.specs.Explained.{AnswersCountWords, AnswersExclusions, AnswersExplainWords}
 use Rattle.lc_arguments.specs.Explained.{AnswersNames, AnswersTable, AnswersTableIn}

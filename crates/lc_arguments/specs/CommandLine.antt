@@ -15,6 +15,15 @@ number_rule name most default = record (new_rule name) {
   defaults = default ∷ [];
 }
 
+-- one that need not be given
+abbrev pub free_number_rule : List ℕ → ℕ → Rule
+free_number_rule name most = record (new_rule name) {
+  long = Some name;
+  value_names = 1;
+  action = Some Set;
+  parser = Some (Signed (pos 1) (pos most));
+}
+
 abbrev pub flag_rule : List ℕ → Rule
 flag_rule name = record (new_rule name) { long = Some name; action = Some SetTrue }
 
@@ -42,11 +51,15 @@ bare_app name = on_top (λ (s : Shape). record s { no_binary_name = true }) (new
 abbrev pub exclusion_rules : List Rule
 exclusion_rules = text_rule (codes "exclude-from") ∷ flag_rule (codes "archive") ∷ texts_rule (codes "without") ∷ []
 
+-- the most rows and files that are asked for
+abbrev pub max_top : ℕ
+max_top = 4294967295
+
 -- what the table has and looks like
 abbrev pub table_rules : List Rule
 table_rules =
     flag_rule (codes "files") ∷ flag_rule (codes "left-out") ∷ text_rule (codes "format") ∷ text_rule (codes "by")
-    ∷ text_rule (codes "sort") ∷ []
+    ∷ text_rule (codes "sort") ∷ free_number_rule (codes "top") max_top ∷ []
 
 -- the most threads of a count, and the most directories
 abbrev pub max_threads : ℕ

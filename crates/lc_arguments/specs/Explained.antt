@@ -14,7 +14,7 @@ use Rattle.lc_arguments.specs.Words.{IsText, IsNoRequestBy, IsCheckOf, IsCountOf
 use Rattle.lc_arguments.specs.Words.{AskForNoCount, AskForNoExplanation, AreExclusionsOf, Misname, texts_read}
 use Rattle.clap.specs.Walk.{Row, first_of}
 use Rattle.lc_text.specs.PathLines.{is_bad_path, path_of}
-use Rattle.lc_text.specs.declared.table_options.TableOptions.{TableOptions}
+use Rattle.lc_view.specs.declared.table_options.TableOptions.{TableOptions}
 use Rattle.lc_arguments.specs.TableWords.{IsTableBy}
 use Rattle.lc_arguments.specs.declared.request.ParseExit.{ParseExit}
 use Rattle.lc_arguments.specs.declared.request.ParseExit.TheVariants.{Shown, Refused, Memory}

@@ -2,12 +2,12 @@
 use Rattle.std.specs.Prelude.{◌≡◌, ℕ, ◌+◌, Bool, true, false, List, length, filter, Option, option_map, unwrap_or, codes}
 use Rattle.std.specs.Str.{bytes_eq}
 use Rattle.lc_glob.specs.Pieces.{pieces_of}
-use Rattle.lc_text.specs.declared.table_options.Columns.{Columns}
-use Rattle.lc_text.specs.declared.table_options.Format.{Format}
-use Rattle.lc_text.specs.declared.table_options.Format.TheVariants.{Tsv, Json, Table}
-use Rattle.lc_text.specs.declared.table_options.TableOptions.{TableOptions}
-use Rattle.lc_text.specs.declared.table_options.SortBy.{SortBy}
-use Rattle.lc_text.specs.declared.table_options.SortBy.TheVariants.{Files, Lines, Blank, Bytes}
+use Rattle.lc_view.specs.declared.table_options.Columns.{Columns}
+use Rattle.lc_view.specs.declared.table_options.Format.{Format}
+use Rattle.lc_view.specs.declared.table_options.Format.TheVariants.{Tsv, Json, Table}
+use Rattle.lc_view.specs.declared.table_options.TableOptions.{TableOptions}
+use Rattle.lc_view.specs.declared.table_options.SortBy.{SortBy}
+use Rattle.lc_view.specs.declared.table_options.SortBy.TheVariants.{Files, Lines, Blank, Bytes}
 
 abbrev pub format_word : Format → List ℕ
 format_word Tsv = codes "tsv"

@@ -1,5 +1,5 @@
 -- What the words of a command line ask for.
-use Rattle.std.specs.Prelude.{◌≡◌, ◌≢◌, ◌⊎◌, ◌≤◌, ℕ, Bool, true, false, cond, List, [], ◌∷◌, pos, Some, Result, Ok, Err, unwrap_or}
+use Rattle.std.specs.Prelude.{◌≡◌, ◌≢◌, ◌⊎◌, ◌≤◌, ℕ, Bool, true, false, cond, List, [], ◌∷◌, pos, Some, Option, Result, Ok, Err, unwrap_or}
 use Rattle.std.specs.Prelude.{option_map, map, codes}
 use Rattle.std.specs.Borrow.{Bor}
 use Rattle.std.specs.List.{list_all, list_any}
@@ -19,13 +19,13 @@ use Rattle.clap.specs.declared.error.kind.ErrorKind.{ErrorKind}
 use Rattle.clap.specs.declared.error.kind.ErrorKind.TheVariants.{DisplayHelp, DisplayVersion}
 use Rattle.clap.specs.declared.parser.matches.ArgMatches.{ArgMatches}
 use Rattle.lc_rules.specs.AttrWords.{is_name}
-use Rattle.lc_arguments.specs.CommandLine.{count_app, check_app, explain_app, lc_app, max_threads, max_dirs}
+use Rattle.lc_arguments.specs.CommandLine.{count_app, check_app, explain_app, lc_app, max_threads, max_dirs, max_top}
 use Rattle.lc_arguments.specs.declared.request.ParseExit.{ParseExit}
 use Rattle.lc_arguments.specs.declared.request.ParseExit.TheVariants.{Shown, Refused, Memory}
 use Rattle.lc_arguments.specs.declared.request.Request.{Request}
 use Rattle.lc_arguments.specs.declared.request.Request.TheVariants.{CheckJoined, Check, Count, Explain}
 use Rattle.lc_text.specs.PathLines.{is_bad_path, path_of}
-use Rattle.lc_text.specs.declared.table_options.TableOptions.{TableOptions}
+use Rattle.lc_view.specs.declared.table_options.TableOptions.{TableOptions}
 use Rattle.lc_arguments.specs.TableWords.{IsTableBy}
 use Rattle.lc_arguments.specs.declared.check.CheckRequest.{CheckRequest}
 use Rattle.lc_arguments.specs.declared.count.CountRequest.{CountRequest}
@@ -42,6 +42,7 @@ ReadsWithin command id low high =
 abbrev pub ReadsCountWithinLimits : Command → Type 0
 ReadsCountWithinLimits command =
     ReadsWithin command (codes "threads") 1 max_threads × ReadsWithin command (codes "max-dirs") 1 max_dirs
+    × ReadsWithin command (codes "top") 1 max_top
 
 -- a count by some threads, of some directories, neither over its limit
 abbrev pub IsCountWithinLimits : CountRequest → Type 0
@@ -61,6 +62,10 @@ IsFlag id rows set =
 -- the number that was read in digits, or that of the default where nothing was read
 abbrev pub IsNumber : List ℕ → List ℕ → List Row → ℕ → Type 0
 IsNumber id default rows n = n ≡ digits_value 10 (without_leading_plus (unwrap_or (one_of id rows) default))
+
+-- the number that was read in digits, where one was
+abbrev pub IsNumberIfGiven : List ℕ → List Row → Option ℕ → Type 0
+IsNumberIfGiven id rows n = n ≡ option_map (λ text. digits_value 10 (without_leading_plus text)) (one_of id rows)
 
 -- all texts that were read of an argument, in their order
 abbrev pub texts_read : List ℕ → List Row → List (List ℕ)
@@ -103,6 +108,7 @@ pub record IsCountOf (rows : List Row) (c : CountRequest) : Type 0 where
   pub exclusions : AreExclusionsOf rows c.exclusions
   pub only : ArePathsOf rows c.only.items
   pub table : IsTableIn rows c.table
+  pub top : IsNumberIfGiven (codes "top") rows c.table.top
   pub directory : c.directory.now ≡ unwrap_or (first_of (codes "DIR") rows) []
 
 -- the check that was asked for

@@ -1,7 +1,7 @@
 //! The forms of arguments, and a command without any.
 
 ghost use Rattle.std.specs.Prelude.{◌≡◌, true, IfOk};
-ghost use Rattle.lc_arguments.specs.CommandLine.{flag_rule, number_rule, text_rule, texts_rule, word_rule};
+ghost use Rattle.lc_arguments.specs.CommandLine.{flag_rule, free_number_rule, number_rule, text_rule, texts_rule, word_rule};
 ghost use Rattle.lc_arguments.specs.CountArgs.{is_own_name, IsArgOf, IsBare};
 
 use crate::help::OptionHelp;
@@ -77,6 +77,26 @@ pub(crate) fn number_option<'a>(
         .action(ArgAction::Set)
         .value_parser(ValueParser::signed(1, i64::from(most)))
         .default_value(default)
+        .help(help.short)
+        .long_help(help.long)
+        .help_heading(help.heading)
+}
+
+/// Makes an option with a number from 1 to `most` that has no default.
+pub(crate) fn free_number_option<'a>(
+    alloc: Global,
+    name: &'a str,
+    most: u32,
+    help: OptionHelp,
+) -> Arg<'a>
+    requires own { is_own_name name.now ≡ true }
+    ensures { IsArgOf (free_number_rule name.entry.now most) result }
+{
+    Arg::new(alloc, name)
+        .long(name)
+        .value_name("N")
+        .action(ArgAction::Set)
+        .value_parser(ValueParser::signed(1, i64::from(most)))
         .help(help.short)
         .long_help(help.long)
         .help_heading(help.heading)

@@ -5,15 +5,15 @@ ghost use Rattle.lc_arguments.specs.CommandLine.{count_rules, limit_rules, table
 ghost use Rattle.lc_arguments.specs.CountArgs.{AreArgsOf, IsCountCommand};
 ghost use Rattle.lc_arguments.specs.Explained.{AnswersCountWords, Explains};
 
-use crate::arguments::{bare, flag, number_option, text_option, word};
+use crate::arguments::{bare, flag, free_number_option, number_option, text_option, word};
 use crate::exclusions::{Exclusions, exclusion_options};
-use crate::limits::{MAX_DIRS, MAX_THREADS};
+use crate::limits::{MAX_DIRS, MAX_THREADS, MAX_TOP};
 use crate::paths::{only, paths_in};
 use crate::request::{ParseExit, explained};
 use crate::table::table_in;
 use crate::{help, suggestions};
 use clap::{Arg, Command, Error};
-use lc_text::TableOptions;
+use lc_view::TableOptions;
 use std::alloc::{AllocError, Global};
 use std::convert::AsStr;
 
@@ -32,15 +32,15 @@ pub struct CountRequest<'w> {
     pub exclusions: Exclusions<'w>,
     /// The paths to count, relative to DIR and without a slash at the end. None stands for all of DIR.
     pub only: Vec<&'w [u8]>,
-    /// How the table is printed: by default as `Tsv`, by all columns, in the order of the keys.
+    /// How the table is printed: by default as `Tsv`, by all columns, in the order of the keys, and whole.
     pub table: TableOptions,
     /// The path of DIR, as it was given. `.` is the directory that the program runs in.
     pub directory: &'w str,
 }
 
 /// Makes the options that choose what is printed.
-fn table_options<'a>(alloc: Global) -> (Arg<'a>, Arg<'a>, Arg<'a>, Arg<'a>, Arg<'a>)
-    ensures { AreArgsOf table_rules (result.0 ∷ result.1 ∷ result.2 ∷ result.3 ∷ result.4 ∷ []) }
+fn table_options<'a>(alloc: Global) -> (Arg<'a>, Arg<'a>, Arg<'a>, Arg<'a>, Arg<'a>, Arg<'a>)
+    ensures { AreArgsOf table_rules (result.0 ∷ result.1 ∷ result.2 ∷ result.3 ∷ result.4 ∷ result.5 ∷ []) }
 {
     (
         flag(alloc, "files", help::FILES),
@@ -48,6 +48,7 @@ fn table_options<'a>(alloc: Global) -> (Arg<'a>, Arg<'a>, Arg<'a>, Arg<'a>, Arg<
         text_option(alloc, "format", "FORMAT", help::FORMAT),
         text_option(alloc, "by", "COLUMNS", help::BY),
         text_option(alloc, "sort", "COLUMN", help::SORT),
+        free_number_option(alloc, "top", MAX_TOP, help::TOP),
     )
 }
 
@@ -61,11 +62,11 @@ fn limits<'a>(alloc: Global) -> (Arg<'a>, Arg<'a>)
     )
 }
 
-fn args<'a>(alloc: Global) -> [Arg<'a>; 12]
+fn args<'a>(alloc: Global) -> [Arg<'a>; 13]
     ensures { AreArgsOf count_rules result }
 {
     let exclusions = exclusion_options(alloc);
-    let (files, left_out, format, by, sort) = table_options(alloc);
+    let (files, left_out, format, by, sort, top) = table_options(alloc);
     let (threads, max_dirs) = limits(alloc);
     [
         exclusions.0,
@@ -77,6 +78,7 @@ fn args<'a>(alloc: Global) -> [Arg<'a>; 12]
         format,
         by,
         sort,
+        top,
         threads,
         max_dirs,
         word(
@@ -131,6 +133,7 @@ impl<'w> CountRequest<'w> {
         // Each has a default, so both are there.
         let threads = matches.get_one::<u32>("threads").unwrap_or(4);
         let max_dirs = matches.get_one::<u32>("max-dirs").unwrap_or(65_536);
+        let top = matches.get_one::<u32>("top");
         let exclusions = match Exclusions::read(alloc, &matches) {
             Ok(exclusions) => exclusions,
             Err(no) => return Err(no),
@@ -150,7 +153,7 @@ impl<'w> CountRequest<'w> {
             left_out: matches.get_flag("left-out"),
             exclusions,
             only,
-            table,
+            table: TableOptions { top, ..table },
             directory: matches.get_str("DIR").unwrap_or(""),
         })
     }

@@ -64,7 +64,8 @@ Exit status:
 Examples:
   lc count --format table --by ext --sort lines .
   lc count --left-out .
-  lc count --files --threads 8 src
+  lc count --files --sort lines --top 10 .
+  lc count --threads 8 src
   lc count --only src --only doc .
   lc count --archive --exclude-from rules .
   lc count --without linguist-vendored --without linguist-generated .";
@@ -206,8 +207,16 @@ prints one row for each extension",
 
 pub(crate) const SORT: OptionHelp = OptionHelp {
     heading: WHAT_IS_PRINTED,
-    short: "Sort rows by files, lines, blank or bytes",
-    long: "Sort rows by files, lines, blank or bytes, largest first",
+    short: "Sort rows and files by files, lines, blank or bytes",
+    long: "Sort rows and the lines of --files by files, lines, blank or bytes,
+largest first",
+};
+
+pub(crate) const TOP: OptionHelp = OptionHelp {
+    heading: WHAT_IS_PRINTED,
+    short: "Print only the first N rows and files",
+    long: "Print only the first N rows, with a row `others` for the sums of the
+rest, and the first N lines of --files",
 };
 
 pub(crate) const THREADS: OptionHelp = OptionHelp {

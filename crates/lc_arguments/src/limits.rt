@@ -1,5 +1,8 @@
 //! The limits of the numbers that a count is asked for.
 
+/// The most rows and files that are asked for.
+pub(crate) const MAX_TOP: u32 = u32::MAX;
+
 /// The most threads of a count.
 pub const MAX_THREADS: u32 = 16;
 

@@ -3,16 +3,16 @@
 ghost use Rattle.std.specs.Prelude.{◌≡◌, ◌≢◌, MatchOption, option_map};
 ghost use Rattle.clap.specs.Matches.{found_of};
 ghost use Rattle.clap.specs.Walk.{rows_of};
-ghost use Rattle.lc_text.specs.declared.table_options.Columns.{Columns as ColumnsModel};
-ghost use Rattle.lc_text.specs.declared.table_options.Format.{Format as FormatModel};
-ghost use Rattle.lc_text.specs.declared.table_options.SortBy.{SortBy as SortModel};
+ghost use Rattle.lc_view.specs.declared.table_options.Columns.{Columns as ColumnsModel};
+ghost use Rattle.lc_view.specs.declared.table_options.Format.{Format as FormatModel};
+ghost use Rattle.lc_view.specs.declared.table_options.SortBy.{SortBy as SortModel};
 ghost use Rattle.lc_arguments.specs.Explained.{AnswersTable, AnswersTableIn};
 ghost use Rattle.lc_arguments.specs.TableWords.{IsColumnsText, format_word, sort_word};
 
 use crate::request::{ParseExit, refused};
 use clap::ArgMatches;
 use lc_glob::cut_at_first;
-use lc_text::{Columns, Format, SortBy, TableOptions};
+use lc_view::{Columns, Format, SortBy, TableOptions};
 use std::alloc::Global;
 
 /// Reads the name of a format.
@@ -108,10 +108,15 @@ fn table_of(
             by => by,
         },
     };
-    Ok(TableOptions { format, by, sort })
+    Ok(TableOptions {
+        format,
+        by,
+        sort,
+        top: None,
+    })
 }
 
-/// Takes the options that clap read.
+/// Takes the options that clap read, without a limit of what is shown.
 pub(crate) fn table_in(alloc: Global, matches: &ArgMatches<'_>) -> Result<TableOptions, ParseExit>
     ensures { AnswersTableIn (rows_of (found_of matches.now)) result }
 {

@@ -1,7 +1,7 @@
 //! The words of a command line, and what they ask for.
 
 use lc_arguments::{CountRequest, Exclusions, ExplainRequest, ParseExit, Request};
-use lc_text::Columns;
+use lc_view::Columns;
 use std::alloc::{AllocError, Global};
 use std::process::Abort;
 use std::test::Fail;
@@ -27,6 +27,10 @@ const COUNTS: &[Case] = &[
         "count .: 4 threads, 65536 directories, Table by ext eol sorted by Bytes",
     ),
     (
+        "count --files --sort lines --top 10 .",
+        "count .: 4 threads, 65536 directories, Tsv by ext text eol sorted by Lines, first 10, files",
+    ),
+    (
         "count --exclude-from rules --without a --without=b --only src/ --only c .",
         "count .: 4 threads, 65536 directories, Tsv by ext text eol, excludes rules, without a, without b, only src, only c",
     ),
@@ -50,6 +54,10 @@ const EXITS: &[Case] = &[
     (
         "count --threads 17 .",
         "refused: error: invalid value '17' for '--threads <N>'",
+    ),
+    (
+        "count --top 0 .",
+        "refused: error: invalid value '0' for '--top <N>'",
     ),
     (
         "count --max-dirs 0 .",
@@ -110,6 +118,9 @@ fn count_text(alloc: Global, request: &CountRequest) -> Result<String, AllocErro
     push_columns(&mut text, request.table.by)?;
     if let Some(sort) = request.table.sort {
         write!(text, " sorted by {sort:?}")?;
+    }
+    if let Some(top) = request.table.top {
+        write!(text, ", first {top}")?;
     }
     if request.files {
         text.push_str(", files")?;

@@ -1,4 +1,5 @@
 pub mod Sorted
 pub mod Summing
 pub mod RowLaws
+pub mod ViewLaws
 pub mod ClassLaw

@@ -6,8 +6,8 @@ use Rattle.std.specs.List.Sorted.{IsPermutation}
 use Rattle.std.proofs.lemmas.List.{map-id}
 use Rattle.std.proofs.lemmas.List.Sums.{sum_by-cons}
 use Rattle.std.proofs.lemmas.List.Sorted.{IsPermutation-refl, sum_by-IsPermutation}
-use Rattle.lc_text.specs.declared.table_options.Columns.{Columns}
-use Rattle.lc_text.specs.declared.table_options.SortBy.{SortBy}
+use Rattle.lc_view.specs.declared.table_options.Columns.{Columns}
+use Rattle.lc_view.specs.declared.table_options.SortBy.{SortBy}
 use Rattle.lc_walk.proofs.RowSums.{same_sums, has_same}
 use Rattle.lc_walk.proofs.Totals.{same_totals}
 use Rattle.lc_walk.specs.TallyRows.{TallyRowModel, sums_of_rows, HasSumsOf, AddsUp}

@@ -5,7 +5,7 @@ use Rattle.lc_walk.proofs.RowSums.{has_more}
 use Rattle.lc_walk.specs.Key.{Key}
 use Rattle.lc_walk.specs.TallyRows.{TallyRowModel, HasSumsOf, Gains, row_with}
 use Rattle.lc_walk.specs.declared.tally.sums.Sums.{Sums}
-use Rattle.lc_text.specs.declared.table_options.Columns.{Columns}
+use Rattle.lc_view.specs.declared.table_options.Columns.{Columns}
 use Rattle.lc_rows.specs.ShownRows.{key_in, rows_in}
 
 -- one row more, under its key in the columns that are kept

@@ -3,7 +3,7 @@
 ghost use Rattle.std.specs.Prelude.{◌≡◌, if◌then◌else◌, IfOk, OnOk};
 ghost use Rattle.std.specs.List.{list_any};
 ghost use Rattle.lc_rows.specs.Classes.{all_sums, binary_sums, classes_of, is_binary, text_sums};
-ghost use Rattle.lc_walk.specs.Sums.{no_files, plus};
+ghost use Rattle.lc_walk.specs.Sums.{plus};
 
 use lc_census::Eol;
 use lc_walk::{Report, Sums, TallyRow};
@@ -27,24 +27,6 @@ pub struct AllSums {
     pub classes: Option<ClassSums>,
 }
 
-const NONE: Sums = Sums {
-    files: 0,
-    lines: 0,
-    blank: 0,
-    bytes: 0,
-};
-
-fn plus(a: Sums, b: Sums) -> Result<Sums, AllocError>
-    ensures { IfOk result (λ sums. sums ≡ plus a b) }
-{
-    Ok(Sums {
-        files: a.files.checked_add(b.files).ok_or(AllocError)?,
-        lines: a.lines.checked_add(b.lines).ok_or(AllocError)?,
-        blank: a.blank.checked_add(b.blank).ok_or(AllocError)?,
-        bytes: a.bytes.checked_add(b.bytes).ok_or(AllocError)?,
-    })
-}
-
 fn is_binary(row: &TallyRow) -> bool
     ensures { result ≡ is_binary row.now }
 {
@@ -65,23 +47,24 @@ impl ClassSums {
         if is_binary(row) {
             Ok(ClassSums {
                 text: self.text,
-                binary: plus(self.binary, row.sums())?,
+                binary: self.binary.checked_add(row.sums()).ok_or(AllocError)?,
             })
         } else {
             Ok(ClassSums {
-                text: plus(self.text, row.sums())?,
+                text: self.text.checked_add(row.sums()).ok_or(AllocError)?,
                 binary: self.binary,
             })
         }
     }
 
-    fn of_all(rows: &[TallyRow]) -> Result<ClassSums, AllocError>
+    /// Adds up rows by class. It stops with an error for rows that no walk has, whose sums overflow.
+    pub fn of_all(rows: &[TallyRow]) -> Result<ClassSums, AllocError>
         ensures text { IfOk result (λ sums. sums.text ≡ text_sums rows.now) }
         ensures binary { IfOk result (λ sums. sums.binary ≡ binary_sums rows.now) }
     {
         let mut sums = ClassSums {
-            text: NONE,
-            binary: NONE,
+            text: Sums::none(),
+            binary: Sums::none(),
         };
         for row in rows {
             sums = sums.with_row(row)?;

@@ -1,6 +1,6 @@
 //! Laws of the definitions that the contracts cite. The functions do nothing: their contracts are what is proved.
 
-ghost use Rattle.lc_rows.specs.Laws.{ClassesLaw, PermutationLaw, TotalsLaw, WholeLaw};
+ghost use Rattle.lc_rows.specs.Laws.{ClassesLaw, CutTotalsLaw, FirstFilesLaw, PermutationLaw, SortedFilesLaw, TotalsLaw, WholeLaw};
 
 /// The rows of a table are the summed ones, each once.
 pub fn shown_rows_are_the_summed_ones()
@@ -15,6 +15,21 @@ pub fn shown_rows_keep_the_totals()
 /// Rows in order of their keys add up to themselves where no column is left out.
 pub fn whole_keys_add_up_to_themselves()
     ensures { WholeLaw }
+{}
+
+/// The rows that are shown where a table is cut, and the sums over the others, add up to those over all rows.
+pub fn what_is_cut_off_adds_up()
+    ensures { CutTotalsLaw }
+{}
+
+/// Sorted files are the files of the report, each once.
+pub fn sorted_files_are_the_files()
+    ensures { SortedFilesLaw }
+{}
+
+/// No file that is cut off has a larger number than one that is listed.
+pub fn the_first_files_are_the_largest()
+    ensures { FirstFilesLaw }
 {}
 
 /// The sums over binary files and over others add up to those over all rows.

@@ -8,7 +8,7 @@ ghost use Rattle.lc_rows.specs.LentRows.{items_of};
 
 use lc_census::Eol;
 use lc_rules::TextState;
-use lc_text::{Columns, SortBy};
+use lc_view::{Columns, SortBy};
 use lc_walk::{KeyRef, Tally, TallyRow};
 use std::alloc::{AllocError, Global};
 use std::cmp::Ordering;

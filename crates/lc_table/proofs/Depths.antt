@@ -16,13 +16,17 @@ use Rattle.lc_rules.specs.declared.states.TextState.TheVariants as text
 use Rattle.lc_level.specs.FaultLines.{FaultLineModel}
 use Rattle.lc_level.specs.Level.{Reason, named_git, by_rule, by_attribute, other_kind}
 use Rattle.lc_text.specs.RulePlaces.{rule_file}
-use Rattle.lc_text.specs.declared.table_options.Columns.{Columns}
+use Rattle.lc_view.specs.declared.table_options.Columns.{Columns}
 use Rattle.lc_walk.specs.ReportLines.{FileLineModel, SkippedLineModel}
 use Rattle.lc_walk.specs.TallyRows.{TallyRowModel}
 use Rattle.lc_walk.specs.declared.report.Report.{Report}
+use Rattle.lc_walk.specs.declared.tally.sums.Sums.{Sums}
+use Rattle.lc_rows.specs.Classes.{binary_sums, text_sums}
+use Rattle.lc_rows.specs.Views.{ViewModel}
 use Rattle.lc_table.specs.JsonText.{Member, items_with, members_with, array_with, integer, bytes_member, extension_member}
 use Rattle.lc_table.specs.JsonText.{text_value, if_kept, key_members, sums_members, row_value, file_value, fault_value}
 use Rattle.lc_table.specs.JsonText.{entries_member, files_member, skipped_member, skipped_value, reason_members, report_value, IsDocument}
+use Rattle.lc_table.specs.JsonText.{list_members, number_members, others_members, sums_member}
 use Rattle.lc_table.specs.TsvText.{eol_word}
 
 -- an array is as deep as its values
@@ -96,21 +100,30 @@ skipped_within l =
     let reason = reason_within l.path l.reason in
     omega arith
 
-report_within : (by : Columns) (r : Report) (rows : List TallyRowModel) → depth (report_value by r rows) ≤ 4
-report_within by r rows =
+others_within : (o : Option Sums) → members_depth (members_with (others_members o)) ≤ 3
+others_within None = omega arith
+others_within (Some s) = omega arith
+
+report_within : (by : Columns) (r : Report) (v : ViewModel) → depth (report_value by r v) ≤ 4
+report_within by r v =
     let faults : Member = (codes "faults", array_with (map fault_value r.faults.items)) in
     let entries = if_kept r.lists.left_out (entries_member r) in
-    let files = if_kept r.lists.files (files_member r) in
+    let files = if_kept r.lists.files (files_member v.files) in
     let skipped = if_kept r.lists.left_out (skipped_member r) in
-    let each_row = items_within (row_value by) 2 (row_within by) rows in
-    let each_file = items_within file_value 2 file_within r.files.items in
+    let each_row = items_within (row_value by) 2 (row_within by) v.rows in
+    let each_file = items_within file_value 2 file_within v.files in
     let each_skipped = items_within skipped_value 2 skipped_within r.skipped.items in
     let each_fault = items_within fault_value 2 fault_within r.faults.items in
     let last : members_depth (members_with (faults ∷ [])) ≤ 3 = omega arith in
     let with_skipped = both_within 3 skipped (faults ∷ []) (kept_within 3 r.lists.left_out (skipped_member r) (omega arith)) last in
-    let with_files = both_within 3 files (skipped ++ faults ∷ []) (kept_within 3 r.lists.files (files_member r) (omega arith)) with_skipped in
-    let all =
-    both_within 3 entries (files ++ (skipped ++ faults ∷ [])) (kept_within 3 r.lists.left_out (entries_member r) (omega arith)) with_files in
+    let listed = kept_within 3 r.lists.files (files_member v.files) (omega arith) in
+    let lists = both_within 3 files (skipped ++ faults ∷ []) listed with_skipped in
+    let kept = kept_within 3 r.lists.left_out (entries_member r) (omega arith) in
+    let members = sums_member (codes "total") r.totals ∷ sums_member (codes "text") (text_sums r.rows.items)
+    ∷ sums_member (codes "binary") (binary_sums r.rows.items) ∷ (codes "directories", integer r.directories) ∷ entries in
+    let counted : members_depth (members_with members) ≤ 3 = omega arith in
+    let numbers = both_within 3 (others_members v.others) members (others_within v.others) counted in
+    let all = both_within 3 (number_members r v.others) (list_members r v.files) numbers lists in
     omega arith
 
 read_back : (j : Json) → depth j ≤ max_depth → (ts : List Token) → ts ≡ json_tokens j
@@ -119,16 +132,16 @@ read_back j shallow ts same =
     ap (λ o. option_and_then (λ (p : Json × List Token). if_last p.0 p.1) o)
     (ap (value max_depth) (same ∙ sym (append-nil (json_tokens j))) ∙ value-json_tokens j max_depth [] shallow)
 
-report_document : (by : Columns) (r : Report) (rows : List TallyRowModel)
-    → tokens (print (json_tokens (report_value by r rows))) ≡ json_tokens (report_value by r rows)
-    → document (print (json_tokens (report_value by r rows))) ≡ Some (report_value by r rows)
-report_document by r rows back =
-    let shallow = report_within by r rows in read_back (report_value by r rows) (omega arith) _ back
+report_document : (by : Columns) (r : Report) (v : ViewModel)
+    → tokens (print (json_tokens (report_value by r v))) ≡ json_tokens (report_value by r v)
+    → document (print (json_tokens (report_value by r v))) ≡ Some (report_value by r v)
+report_document by r v back =
+    let shallow = report_within by r v in read_back (report_value by r v) (omega arith) _ back
 
 -- a line that reads back as the tokens of a report's value is a document of it
-pub is_document : {E : Type 0} (by : Columns) (r : Report) (rows : List TallyRowModel) (answer : Result (Vec ℕ Global) E)
-    → IfOk answer (λ line. line.items ≡ print (json_tokens (report_value by r rows)) ++ codes "\n")
-    → IfOk answer (λ _. tokens (print (json_tokens (report_value by r rows))) ≡ json_tokens (report_value by r rows))
-    → IfOk answer (λ line. IsDocument (report_value by r rows) line.items)
-is_document by r rows (Ok line) text back = (print (json_tokens (report_value by r rows)), text, report_document by r rows back)
-is_document by r rows (Err e) text back = text
+pub is_document : {E : Type 0} (by : Columns) (r : Report) (v : ViewModel) (answer : Result (Vec ℕ Global) E)
+    → IfOk answer (λ line. line.items ≡ print (json_tokens (report_value by r v)) ++ codes "\n")
+    → IfOk answer (λ _. tokens (print (json_tokens (report_value by r v))) ≡ json_tokens (report_value by r v))
+    → IfOk answer (λ line. IsDocument (report_value by r v) line.items)
+is_document by r v (Ok line) text back = (print (json_tokens (report_value by r v)), text, report_document by r v back)
+is_document by r v (Err e) text back = text

@@ -1,22 +1,34 @@
--- A text with the rows that a table shows.
-use Rattle.std.proofs.Common.{◌≡◌, List, ℕ, Result, Ok, Err, IfOk, subst, sym}
+-- A text with the view of its rows and files that a table shows.
+use Rattle.std.proofs.Common.{◌≡◌, List, ℕ, subst}
 use Rattle.std.specs.Prelude.{Vec}
 use Rattle.std.specs.Global.{Global}
-use Rattle.lc_text.specs.declared.table_options.Format.{Format}
-use Rattle.lc_text.specs.declared.table_options.TableOptions.{TableOptions}
+use Rattle.lc_view.specs.declared.table_options.Columns.{Columns}
+use Rattle.lc_view.specs.declared.table_options.Format.{Format}
+use Rattle.lc_view.specs.declared.table_options.Format.TheVariants.{Tsv, Table, Json}
+use Rattle.lc_view.specs.declared.table_options.TableOptions.{TableOptions}
+use Rattle.lc_walk.specs.ReportLines.{FileLineModel}
 use Rattle.lc_walk.specs.TallyRows.{TallyRowModel}
 use Rattle.lc_walk.specs.declared.report.Report.{Report}
+use Rattle.lc_rows.specs.ShownFiles.{AreFilesSorted}
 use Rattle.lc_rows.specs.ShownRows.{AreShown}
+use Rattle.lc_rows.specs.Views.{ViewModel, view_of}
 use Rattle.lc_table.specs.TableText.{IsTextIn, IsTextOf}
 
--- a text in the format of the options, with these rows, is a text with these options
-pub text_shown : {E : Type 0} (options : TableOptions) (r : Report) (all shown rows : List TallyRowModel) (answer : Result (Vec ℕ Global) E)
-    → all ≡ r.rows.items → rows ≡ shown → AreShown options.by options.sort all shown → (format : Format) → options.format ≡ format
-    → IfOk answer (λ text. IsTextIn format options.by r rows text.items) → IfOk answer (λ text. IsTextOf options r text.items)
-text_shown options r all shown rows (Ok text) are same of_all format is of_rows = (
-  shown,
-  subst (λ (rs : List TallyRowModel). AreShown options.by options.sort rs shown) are of_all,
-  subst (λ (f : Format). IsTextIn f options.by r shown text.items) (sym is)
-      (subst (λ (rs : List TallyRowModel). IsTextIn format options.by r rs text.items) same of_rows),
-)
-text_shown options r all shown rows (Err e) are same of_all format is of_rows = tt
+-- a text in the format of the options, with the first of these rows and files, is a text with these options
+pub text_shown : (options : TableOptions) (r : Report) (rows : List TallyRowModel) (files : List FileLineModel) (v : ViewModel)
+    (text : List ℕ) → AreShown options.by options.sort r.rows.items rows → AreFilesSorted options.sort r.files.items files
+    → v ≡ view_of options.top rows files → IsTextIn options.format options.by r v text → IsTextOf options r text
+text_shown options r rows files v text are_rows are_files is_view is = record {
+  rows = rows;
+  are_rows = are_rows;
+  files = files;
+  are_files = are_files;
+  is = subst (λ (w : ViewModel). IsTextIn options.format options.by r w text) is_view is;
+}
+
+-- the files of the report itself are in no text, only those of the view
+pub same_but_files : (format : Format) (by : Columns) (r : Report) (files : Vec FileLineModel Global) (v : ViewModel) (text : List ℕ)
+    → IsTextIn format by (record r { files = files }) v text → IsTextIn format by r v text
+same_but_files Tsv by r files v text is = is
+same_but_files Table by r files v text is = is
+same_but_files Json by r files v text is = is

@@ -3,7 +3,7 @@ use Rattle.std.proofs.Common.{◌≡◌, Result, Ok, Err, List, ℕ, sym}
 use Rattle.std.specs.Result.{IsErrAnd}
 use Rattle.lc_text.specs.declared.printing.PrintFault.{PrintFault}
 use Rattle.lc_text.specs.declared.printing.PrintFault.TheVariants as print
-use Rattle.lc_text.specs.declared.table_options.TableOptions.{TableOptions}
+use Rattle.lc_view.specs.declared.table_options.TableOptions.{TableOptions}
 use Rattle.lc_census.specs.declared.source.Failed.{Failed}
 use Rattle.lc_walk.specs.declared.report.Report.{Report}
 use Rattle.lc_walk.specs.declared.walk_fault.WalkFault.{WalkFault}

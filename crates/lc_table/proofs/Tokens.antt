@@ -23,6 +23,10 @@ pub object_tokens : (ms : List Member) → members_tokens (members_with ms) ≡ 
 object_tokens [] = refl
 object_tokens (m ∷ ms) = ap (λ (ts : List Token). member_tokens m ++ ts) (object_tokens ms) ∙ simp append_assoc
 
+-- the tokens of two lists of members
+pub members_of_both : (ms ns : List Member) → members_tokens_of (ms ++ ns) ≡ members_tokens_of ms ++ members_tokens_of ns
+members_of_both ms ns = flat_map-append member_tokens ms ns
+
 -- of members in two lists
 pub both_tokens : (ms ns : List Member)
     → json_tokens (object_with (ms ++ ns)) ≡ begin_object ∷ (members_tokens_of ms ++ (members_tokens_of ns ++ end_object ∷ []))

@@ -19,7 +19,7 @@ use Rattle.lc_rules.specs.declared.states.TextState.{TextState}
 use Rattle.lc_rules.specs.declared.states.TextState.TheVariants as state
 use Rattle.lc_text.specs.RulePlaces.{source_directory, source_name, rule_file}
 use Rattle.lc_text.specs.Visible.{visible_bytes, visible_path}
-use Rattle.lc_text.specs.declared.table_options.Columns.{Columns}
+use Rattle.lc_view.specs.declared.table_options.Columns.{Columns}
 use Rattle.lc_text.specs.Lines.{input_lines_of}
 use Rattle.lc_level.specs.FaultWords.{fault_word}
 use Rattle.lc_tree.specs.declared.entry.Kind.{Kind}
@@ -33,7 +33,7 @@ use Rattle.lc_table.specs.CellWords.{visible_extension}
 use Rattle.lc_table.specs.Columns.{CellModel, word, number, width_of, widths_of, line_in, lines_in, rule_in}
 use Rattle.lc_table.specs.SkippedWords.{reason_word, reason_place, skipped_end, skipped_path}
 use Rattle.lc_table.specs.ScreenText.{cell_if, key_cells, name_cells, sums_cells, row_headings}
-use Rattle.lc_table.specs.ScreenText.{row_cells, sums_line, class_lines, sums_lines}
+use Rattle.lc_table.specs.ScreenText.{row_cells, sums_line, class_lines, others_lines, sums_lines, view_lines}
 use Rattle.lc_rows.specs.Classes.{all_sums}
 use Rattle.lc_table.specs.ScreenText.{count_cells, file_headings, file_cells}
 use Rattle.lc_table.specs.ScreenText.{skipped_headings, skipped_cells, fault_headings, fault_cells, rows_in_columns}
@@ -345,16 +345,22 @@ rows_even ss headings rows sums closed like =
     (wide_lines ss ws rows closed rows_fits rows_like)) wide_rule) (wide_lines ss ws sums closed sums_fits sums_like) in
     (n, All-same W _ lines (input_lines_of-lined lines _ lined) wide)
 
--- the lines of directories and entries
+like_others : (by : Columns) (o : Option Sums) → All (IsLike (row_sides by)) (others_lines by o)
+like_others by None = All-nil (IsLike (row_sides by))
+like_others by (Some s) =
+    All-cons (IsLike (row_sides by)) (sums_line by (codes "others") s) []
+    (like_sums_line by (codes "others") s (ascii (codes "others") refl refl)) (All-nil (IsLike (row_sides by)))
+
+-- the lines of rows and sums
 pub summary_law : SummaryWidthLaw
-summary_law by r rows small =
+summary_law by r v small =
     let L = IsLike (row_sides by) in
-    rows_even (row_sides by) (row_headings by) (map (row_cells by) rows) (sums_lines by (all_sums r)) (closed_row by)
-    (All-cons L (row_headings by) (map (row_cells by) rows ++ sums_lines by (all_sums r)) (like_headings by)
-    (All-append L (map (row_cells by) rows) (sums_lines by (all_sums r))
-    (All-map L (row_cells by) rows
-    (All-weaker (λ row. IfSome row.key.extension AreBytes) (λ row. L (row_cells by row)) (like_row by) rows small))
-    (like_all_sums by r)))
+    let rows = All-map L (row_cells by) v.rows
+    (All-weaker (λ row. IfSome row.key.extension AreBytes) (λ row. L (row_cells by row)) (like_row by) v.rows small) in
+    let shown = All-append L (map (row_cells by) v.rows) (others_lines by v.others) rows (like_others by v.others) in
+    rows_even (row_sides by) (row_headings by) (view_lines by v) (sums_lines by (all_sums r)) (closed_row by)
+    (All-cons L (row_headings by) (view_lines by v ++ sums_lines by (all_sums r)) (like_headings by)
+    (All-append L (view_lines by v) (sums_lines by (all_sums r)) shown (like_all_sums by r)))
 
 -- ---- the numbers of directories and entries
 
@@ -367,7 +373,7 @@ like_more true n =
     All-cons P (count_cells (codes "entries") n) [] (like_count (codes "entries") n (ascii (codes "entries") refl refl)) (All-nil P)
 like_more false n = All-nil (IsLike (Left ∷ Right ∷ []))
 
--- the lines of rows and sums
+-- the lines of directories and entries
 pub counts_law : CountsWidthLaw
 counts_law r =
     let ss = Left ∷ Right ∷ [] in

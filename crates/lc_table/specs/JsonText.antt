@@ -10,7 +10,9 @@ use Rattle.lc_level.specs.FaultLines.{FaultLineModel}
 use Rattle.lc_level.specs.Level.{Reason, named_git, by_rule, by_attribute, other_kind}
 use Rattle.lc_text.specs.RulePlaces.{rule_file}
 use Rattle.lc_level.specs.FaultWords.{fault_word}
-use Rattle.lc_text.specs.declared.table_options.Columns.{Columns}
+use Rattle.lc_view.specs.declared.table_options.Columns.{Columns}
+use Rattle.lc_rows.specs.Classes.{binary_sums, text_sums}
+use Rattle.lc_rows.specs.Views.{ViewModel}
 use Rattle.lc_walk.specs.Key.{Key}
 use Rattle.lc_walk.specs.ReportLines.{FileLineModel, SkippedLineModel}
 use Rattle.lc_walk.specs.TallyRows.{TallyRowModel}
@@ -101,23 +103,42 @@ skipped_value l =
 abbrev pub entries_member : Report → Member
 entries_member r = (codes "entries", integer r.entries)
 
-abbrev pub files_member : Report → Member
-files_member r = (codes "files", array_with (map file_value r.files.items))
+abbrev pub files_member : List FileLineModel → Member
+files_member fs = (codes "files", array_with (map file_value fs))
 
 abbrev pub skipped_member : Report → Member
 skipped_member r = (codes "left", array_with (map skipped_value r.skipped.items))
 
--- the value of a report, with these rows
-abbrev pub report_value : Columns → Report → List TallyRowModel → Json
-report_value by r rows =
-    object_with ((codes "rows", array_with (map (row_value by) rows)) ∷ (codes "total", object_with (sums_members r.totals))
-    ∷ (codes "directories", integer r.directories)
-    ∷ (if_kept r.lists.left_out (entries_member r) ++ (if_kept r.lists.files (files_member r)
-    ++ (if_kept r.lists.left_out (skipped_member r) ++ (codes "faults", array_with (map fault_value r.faults.items)) ∷ []))))
+-- a member of sums, and that of the rows that were cut off, where some were
+abbrev pub sums_member : List ℕ → Sums → Member
+sums_member name s = (name, object_with (sums_members s))
+
+abbrev pub others_members : Option Sums → List Member
+others_members None = []
+others_members (Some s) = sums_member (codes "others") s ∷ []
+
+-- the members that tell how much there is
+abbrev pub number_members : Report → Option Sums → List Member
+number_members r others =
+    others_members others
+    ++ (sums_member (codes "total") r.totals ∷ sums_member (codes "text") (text_sums r.rows.items)
+    ∷ sums_member (codes "binary") (binary_sums r.rows.items) ∷ (codes "directories", integer r.directories)
+    ∷ if_kept r.lists.left_out (entries_member r))
+
+-- and those that list
+abbrev pub list_members : Report → List FileLineModel → List Member
+list_members r files =
+    if_kept r.lists.files (files_member files) ++ (if_kept r.lists.left_out (skipped_member r)
+    ++ (codes "faults", array_with (map fault_value r.faults.items)) ∷ [])
+
+-- the value of a report, with this view of its rows and files
+abbrev pub report_value : Columns → Report → ViewModel → Json
+report_value by r v =
+    object_with ((codes "rows", array_with (map (row_value by) v.rows)) ∷ (number_members r v.others ++ list_members r v.files))
 
 -- the value on one line
-abbrev pub json_text_of : Columns → Report → List TallyRowModel → List ℕ
-json_text_of by r rows = print (json_tokens (report_value by r rows)) ++ codes "\n"
+abbrev pub json_text_of : Columns → Report → ViewModel → List ℕ
+json_text_of by r v = print (json_tokens (report_value by r v)) ++ codes "\n"
 
 -- a JSON document of a value (RFC 8259), and a line feed
 abbrev pub IsDocument : Json → List ℕ → Type 0

@@ -4,13 +4,14 @@ use Rattle.std.specs.Prelude.{Some, None}
 use Rattle.lc_level.specs.FaultLines.{FaultLineModel}
 use Rattle.lc_level.specs.FaultWords.{fault_word}
 use Rattle.lc_text.specs.Visible.{visible_bytes, visible_path}
-use Rattle.lc_text.specs.declared.table_options.Columns.{Columns}
+use Rattle.lc_view.specs.declared.table_options.Columns.{Columns}
 use Rattle.lc_walk.specs.ReportLines.{FileLineModel, SkippedLineModel}
 use Rattle.lc_walk.specs.TallyRows.{TallyRowModel}
 use Rattle.lc_walk.specs.declared.report.Report.{Report}
 use Rattle.lc_walk.specs.declared.tally.sums.Sums.{Sums}
 use Rattle.lc_table.specs.CellWords.{with_commas, visible_extension}
 use Rattle.lc_rows.specs.Classes.{all_sums}
+use Rattle.lc_rows.specs.Views.{ViewModel}
 use Rattle.lc_rows.specs.declared.classes.AllSums.{AllSums}
 use Rattle.lc_rows.specs.declared.classes.ClassSums.{ClassSums}
 use Rattle.lc_table.specs.Columns.{CellModel, word, number, ending, widths_of, line_in, lines_in, rule_in}
@@ -51,6 +52,14 @@ row_cells by r =
 abbrev pub sums_line : Columns → List ℕ → Sums → List CellModel
 sums_line by name s = name_cells by name ++ sums_cells s
 
+-- the rows, and the sums over those that were cut off, where some were
+abbrev pub others_lines : Columns → Option Sums → List (List CellModel)
+others_lines by None = []
+others_lines by (Some s) = sums_line by (codes "others") s ∷ []
+
+abbrev pub view_lines : Columns → ViewModel → List (List CellModel)
+view_lines by v = map (row_cells by) v.rows ++ others_lines by v.others
+
 abbrev pub class_lines : Columns → Option ClassSums → List (List CellModel)
 class_lines by None = []
 class_lines by (Some c) = sums_line by (codes "text") c.text ∷ sums_line by (codes "binary") c.binary ∷ []
@@ -62,10 +71,10 @@ sums_lines by s = sums_line by (codes "total") s.total ∷ class_lines by s.clas
 abbrev pub rows_in_columns : List ℕ → List CellModel → List (List CellModel) → List (List CellModel) → List ℕ
 rows_in_columns ws headings rows sums = line_in ws headings ++ rule_in ws ++ lines_in ws rows ++ rule_in ws ++ lines_in ws sums
 
-abbrev pub summary : Columns → Report → List TallyRowModel → List ℕ
-summary by r rows =
-    rows_in_columns (widths_of (row_headings by ∷ (map (row_cells by) rows ++ sums_lines by (all_sums r))))
-    (row_headings by) (map (row_cells by) rows) (sums_lines by (all_sums r))
+abbrev pub summary : Columns → Report → ViewModel → List ℕ
+summary by r v =
+    rows_in_columns (widths_of (row_headings by ∷ (view_lines by v ++ sums_lines by (all_sums r))))
+    (row_headings by) (view_lines by v) (sums_lines by (all_sums r))
 
 -- ---- what is listed
 
@@ -110,8 +119,8 @@ count_lines r =
 abbrev pub counts : Report → List ℕ
 counts r = lines_in (widths_of (count_lines r)) (count_lines r)
 
--- the table of a report, with these rows: what is listed, and last the rows with their sums
-abbrev pub screen_text_of : Columns → Report → List TallyRowModel → List ℕ
-screen_text_of by r rows =
-    listing file_headings (map file_cells r.files.items) ++ listing skipped_headings (map skipped_cells r.skipped.items)
-    ++ listing fault_headings (map fault_cells r.faults.items) ++ summary by r rows ++ codes "\n" ++ counts r
+-- the table of a report, with this view of its rows and files: what is listed, and last the rows with their sums
+abbrev pub screen_text_of : Columns → Report → ViewModel → List ℕ
+screen_text_of by r v =
+    listing file_headings (map file_cells v.files) ++ listing skipped_headings (map skipped_cells r.skipped.items)
+    ++ listing fault_headings (map fault_cells r.faults.items) ++ summary by r v ++ codes "\n" ++ counts r

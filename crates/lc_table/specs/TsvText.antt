@@ -1,4 +1,5 @@
--- The text of a table with tabs: a header, a line for each key, the totals, the directories, the files, what was left out, the faults.
+-- The text of a table with tabs: a header, a line for each key, the sums of what was cut off, the totals, the directories, the files, what
+-- was left out, the faults.
 use Rattle.std.specs.Prelude.{ℕ, Bool, if◌then◌else◌, List, [], ◌∷◌, ◌++◌, codes, decimal, Option, Some, None}
 use Rattle.std.specs.List.{flat_map}
 use Rattle.lc_census.specs.declared.line_count.Eol.{Eol}
@@ -12,7 +13,8 @@ use Rattle.lc_walk.specs.declared.tally.sums.Sums.{Sums}
 use Rattle.lc_level.specs.FaultWords.{fault_word}
 use Rattle.lc_walk.specs.declared.report.Report.{Report}
 use Rattle.lc_text.specs.Escape.{escape_bytes, escape_path}
-use Rattle.lc_text.specs.declared.table_options.Columns.{Columns}
+use Rattle.lc_view.specs.declared.table_options.Columns.{Columns}
+use Rattle.lc_rows.specs.Views.{ViewModel}
 use Rattle.lc_table.specs.SkippedWords.{reason_word, reason_place, skipped_path}
 
 -- the class of line ends
@@ -58,8 +60,17 @@ row_line by r =
     line_with (column by.ext (extension_word r.key.extension) ∷ column by.text (text_word r.key.text) ∷ column by.eol (eol_word r.key.eol)
     ∷ sums_fields r.sums)
 
+-- a name in place of a key
+abbrev pub sums_line : List ℕ → Sums → List ℕ
+sums_line name s = line_with (name ∷ codes "*" ∷ codes "*" ∷ sums_fields s)
+
 abbrev pub totals_line : Sums → List ℕ
-totals_line s = line_with (codes "total" ∷ codes "*" ∷ codes "*" ∷ sums_fields s)
+totals_line s = sums_line (codes "total") s
+
+-- where rows were cut off
+abbrev pub others_line : Option Sums → List ℕ
+others_line None = []
+others_line (Some s) = sums_line (codes "others") s
 
 abbrev pub directories_line : ℕ → List ℕ
 directories_line n = line_with (codes "directories" ∷ decimal n ∷ [])
@@ -80,8 +91,8 @@ skipped_line l =
 abbrev pub fault_line : FaultLineModel → List ℕ
 fault_line f = line_with (codes "fault" ∷ fault_word f.word ∷ escape_path f.path ∷ [])
 
--- the table of a report, with these rows
-abbrev pub tsv_text_of : Columns → Report → List TallyRowModel → List ℕ
-tsv_text_of by r rows =
-    header_line ++ flat_map (row_line by) rows ++ totals_line r.totals ++ directories_line r.directories ++ entries_line r
-    ++ flat_map file_line r.files.items ++ flat_map skipped_line r.skipped.items ++ flat_map fault_line r.faults.items
+-- the table of a report, with this view of its rows and files
+abbrev pub tsv_text_of : Columns → Report → ViewModel → List ℕ
+tsv_text_of by r v =
+    header_line ++ flat_map (row_line by) v.rows ++ others_line v.others ++ totals_line r.totals ++ directories_line r.directories
+    ++ entries_line r ++ flat_map file_line v.files ++ flat_map skipped_line r.skipped.items ++ flat_map fault_line r.faults.items

@@ -5,10 +5,10 @@ use Rattle.lc_level.specs.FaultLines.{FaultLineModel}
 use Rattle.lc_level.specs.Level.{Reason, named_git, by_rule, by_attribute, other_kind}
 use Rattle.lc_text.specs.Lines.{input_lines_of}
 use Rattle.lc_text.specs.Visible.{visible_bytes, visible_path}
-use Rattle.lc_text.specs.declared.table_options.Columns.{Columns}
+use Rattle.lc_view.specs.declared.table_options.Columns.{Columns}
 use Rattle.lc_walk.specs.ReportLines.{FileLineModel, SkippedLineModel}
-use Rattle.lc_walk.specs.TallyRows.{TallyRowModel}
 use Rattle.lc_walk.specs.declared.report.Report.{Report}
+use Rattle.lc_rows.specs.Views.{ViewModel}
 use Rattle.lc_table.specs.Columns.{width_of}
 use Rattle.lc_table.specs.SkippedWords.{skipped_path}
 use Rattle.lc_table.specs.ScreenText.{summary, counts, listing, file_headings, file_cells}
@@ -42,8 +42,8 @@ HasByteName other_kind = ⊤
 -- the rows between their headings and their sums, the lines of hyphens too
 abbrev pub SummaryWidthLaw : Type 0
 SummaryWidthLaw =
-    (by : Columns) (r : Report) (rows : List TallyRowModel) → All (λ row. IfSome row.key.extension AreBytes) rows
-    → AreAsWide (input_lines_of (summary by r rows))
+    (by : Columns) (r : Report) (v : ViewModel) → All (λ row. IfSome row.key.extension AreBytes) v.rows
+    → AreAsWide (input_lines_of (summary by r v))
 
 -- the numbers of directories and of entries
 abbrev pub CountsWidthLaw : Type 0

@@ -6,15 +6,19 @@ ghost use Rattle.json.specs.Tree.{json_tokens};
 ghost use Rattle.lc_table.specs.TsvText.{eol_word};
 ghost use Rattle.lc_table.specs.JsonText.{array_with, object_with, extension_member, if_kept, text_value, sums_members, key_members};
 ghost use Rattle.lc_table.specs.JsonText.{row_value, file_value, fault_value, entries_member, files_member, skipped_member};
+ghost use Rattle.lc_table.specs.JsonText.{list_members, number_members, others_members, sums_member};
 ghost use Rattle.lc_table.specs.JsonText.{json_text_of, report_value, IsDocument};
-ghost use Rattle.lc_table.specs.JsonTokens.{list_members, member_tokens, members_tokens_of, number_members};
+ghost use Rattle.lc_table.specs.JsonTokens.{member_tokens, members_tokens_of};
+ghost use Rattle.lc_rows.specs.Classes.{binary_sums, text_sums};
+ghost use Rattle.lc_rows.specs.Views.{view_model};
 
 use crate::json_skipped::write_skipped_list;
 use crate::json_text::JsonText;
 use crate::words::{eol_word, text_word};
 use lc_census::Eol;
+use lc_rows::{ClassSums, View};
 use lc_rules::TextState;
-use lc_text::Columns;
+use lc_view::Columns;
 use lc_walk::{FaultLine, FileLine, Report, Sums, TallyRow};
 use std::alloc::{AllocError, Global};
 
@@ -185,11 +189,11 @@ fn write_file_list(text: &mut JsonText, files: &[FileLine]) -> Result<(), AllocE
     Ok(())
 }
 
-fn write_files(text: &mut JsonText, report: &Report) -> Result<(), AllocError>
-    ensures { OnOk result (text.new ≡ text.old ++ members_tokens_of (if_kept report.now.lists.files (files_member report.now))) }
+fn write_files(text: &mut JsonText, kept: bool, files: &[FileLine]) -> Result<(), AllocError>
+    ensures { OnOk result (text.new ≡ text.old ++ members_tokens_of (if_kept kept (files_member files.now))) }
 {
-    if report.lists.files {
-        write_file_list(text, &report.files)?;
+    if kept {
+        write_file_list(text, files)?;
     }
     Ok(())
 }
@@ -223,29 +227,59 @@ fn write_faults(text: &mut JsonText, faults: &[FaultLine]) -> Result<(), AllocEr
     Ok(())
 }
 
-fn write_total(text: &mut JsonText, totals: &Sums) -> Result<(), AllocError>
-    ensures { OnOk result (text.new ≡ text.old ++ member_tokens (codes "total", object_with (sums_members totals.now))) }
+fn write_sums_member(text: &mut JsonText, name: &'static str, sums: &Sums) -> Result<(), AllocError>
+    ensures { OnOk result (text.new ≡ text.old ++ member_tokens (sums_member name.now sums.now)) }
 {
-    text.key("total")?;
+    text.key(name)?;
     text.begin_object()?;
-    write_sums(text, totals)?;
+    write_sums(text, sums)?;
     text.end_object()?;
     Ok(())
 }
 
-fn write_numbers(text: &mut JsonText, report: &Report) -> Result<(), AllocError>
-    ensures { OnOk result (text.new ≡ text.old ++ members_tokens_of (number_members report.now)) }
+fn write_others(text: &mut JsonText, others: Option<Sums>) -> Result<(), AllocError>
+    ensures { OnOk result (text.new ≡ text.old ++ members_tokens_of (others_members others)) }
 {
-    write_total(text, &report.totals)?;
+    if let Some(sums) = others {
+        write_sums_member(text, "others", &sums)?;
+    }
+    Ok(())
+}
+
+fn write_classes(text: &mut JsonText, rows: &[TallyRow]) -> Result<(), AllocError>
+    ensures { OnOk result (text.new ≡ text.old ++ member_tokens (sums_member (codes "text") (text_sums rows.now))
+        ++ member_tokens (sums_member (codes "binary") (binary_sums rows.now))) }
+{
+    let classes = ClassSums::of_all(rows)?;
+    write_sums_member(text, "text", &classes.text)?;
+    write_sums_member(text, "binary", &classes.binary)?;
+    Ok(())
+}
+
+fn write_numbers(
+    text: &mut JsonText,
+    report: &Report,
+    others: Option<Sums>,
+) -> Result<(), AllocError>
+    ensures { OnOk result (text.new ≡ text.old ++ members_tokens_of (number_members report.now others)) }
+{
+    write_others(text, others)?;
+    write_sums_member(text, "total", &report.totals)?;
+    write_classes(text, &report.rows)?;
     text.integer_member("directories", u128::from(report.directories))?;
     write_entries(text, report)?;
     Ok(())
 }
 
-fn write_lists(text: &mut JsonText, alloc: Global, report: &Report) -> Result<(), AllocError>
-    ensures { OnOk result (text.new ≡ text.old ++ members_tokens_of (list_members report.now)) }
+fn write_lists(
+    text: &mut JsonText,
+    alloc: Global,
+    report: &Report,
+    files: &[FileLine],
+) -> Result<(), AllocError>
+    ensures { OnOk result (text.new ≡ text.old ++ members_tokens_of (list_members report.now files.now)) }
 {
-    write_files(text, report)?;
+    write_files(text, report.lists.files, files)?;
     write_skipped(text, report, alloc)?;
     write_faults(text, &report.faults)?;
     Ok(())
@@ -256,14 +290,14 @@ fn write_report(
     alloc: Global,
     report: &Report,
     by: Columns,
-    rows: &[TallyRow],
+    view: &View<'_>,
 ) -> Result<(), AllocError>
-    ensures { OnOk result (text.new ≡ text.old ++ json_tokens (report_value by report.now rows.now)) }
+    ensures { OnOk result (text.new ≡ text.old ++ json_tokens (report_value by report.now (view_model view.now))) }
 {
     text.begin_object()?;
-    write_rows(text, alloc, by, rows)?;
-    write_numbers(text, report)?;
-    write_lists(text, alloc, report)?;
+    write_rows(text, alloc, by, view.rows)?;
+    write_numbers(text, report, view.others)?;
+    write_lists(text, alloc, report, view.files)?;
     text.end_object()?;
     Ok(())
 }
@@ -273,12 +307,12 @@ pub(crate) fn json_line(
     alloc: Global,
     report: &Report,
     by: Columns,
-    rows: &[TallyRow],
+    view: &View<'_>,
 ) -> Result<Vec<u8>, AllocError>
-    ensures text { IfOk result (λ text. text.items ≡ json_text_of by report.now rows.now) }
-    ensures document { IfOk result (λ text. IsDocument (report_value by report.now rows.now) text.items) }
+    ensures text { IfOk result (λ text. text.items ≡ json_text_of by report.now (view_model view.now)) }
+    ensures document { IfOk result (λ text. IsDocument (report_value by report.now (view_model view.now)) text.items) }
 {
     let mut text = JsonText::new(alloc);
-    write_report(&mut text, alloc, report, by, rows)?;
+    write_report(&mut text, alloc, report, by, view)?;
     text.into_line()
 }

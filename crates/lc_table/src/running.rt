@@ -7,8 +7,9 @@ ghost use Rattle.lc_table.specs.Runs.{IsOutcomeOf, AnswersRun, table_fault};
 ghost use Rattle.lc_table.specs.declared.running.RunFault.TheVariants.{Walk};
 
 use crate::writing::table;
-use lc_text::{Outcome, PrintFault, Sink, TableOptions};
+use lc_text::{Outcome, PrintFault, Sink};
 use lc_tree::Tree;
+use lc_view::TableOptions;
 use lc_walk::{Options, Report, WalkFault, walk};
 use std::alloc::Global;
 use std::sync::Wait;
@@ -62,7 +63,7 @@ fn outcome_of(report: &Report) -> Outcome
 ///
 /// ```
 /// let tree = SysTree::new(&rt, rt.alloc(), "src")?;
-/// let table_options = TableOptions { format: Format::Tsv, by: Columns::ALL, sort: None };
+/// let table_options = TableOptions { format: Format::Tsv, by: Columns::ALL, sort: None, top: None };
 /// let outcome = run(&rt, rt.alloc(), &tree, &options, table_options, &mut out)?;
 /// assert_eq!(outcome, Outcome::Clean);
 /// ```
@@ -79,6 +80,6 @@ pub fn run<T: Tree, R: Threads + Wait + Sync, O: Sink>(
 {
     let report = walk(rt, alloc, tree, options)?;
     let outcome = outcome_of(&report);
-    table(alloc, &report, table_options, out)?;
+    table(alloc, report, table_options, out)?;
     Ok(outcome)
 }

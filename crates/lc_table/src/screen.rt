@@ -4,13 +4,15 @@ ghost use Rattle.std.specs.Prelude.{◌≡◌, ◌++◌, [], ◌∷◌, IfOk, On
 ghost use Rattle.lc_table.specs.CellTexts.{cells_of};
 ghost use Rattle.lc_table.specs.Columns.{lines_in, widths_of};
 ghost use Rattle.lc_table.specs.ScreenText.{count_cells, counts, screen_text_of};
+ghost use Rattle.lc_rows.specs.Views.{view_model};
 
 use crate::cells::Cell;
 use crate::columns::Widths;
 use crate::listing::push_listing;
 use crate::summary::push_summary;
-use lc_text::Columns;
-use lc_walk::{Report, TallyRow};
+use lc_rows::View;
+use lc_view::Columns;
+use lc_walk::Report;
 use std::alloc::{AllocError, Global};
 
 fn count_cells(name: &'static str, count: u64) -> [Cell<'static>; 2]
@@ -79,16 +81,16 @@ pub(crate) fn screen_text(
     alloc: Global,
     report: &Report,
     by: Columns,
-    rows: &[TallyRow],
+    view: &View<'_>,
 ) -> Result<Vec<u8>, AllocError>
-    ensures { IfOk result (λ text. text.items ≡ screen_text_of by report.now rows.now) }
+    ensures { IfOk result (λ text. text.items ≡ screen_text_of by report.now (view_model view.now)) }
 {
     let mut text = String::new(alloc);
     let mut made = String::new(alloc);
-    push_listing(alloc, &report.files, &mut text, &mut made)?;
+    push_listing(alloc, view.files, &mut text, &mut made)?;
     push_listing(alloc, &report.skipped, &mut text, &mut made)?;
     push_listing(alloc, &report.faults, &mut text, &mut made)?;
-    push_summary(alloc, report, by, rows, &mut text, &mut made)?;
+    push_summary(alloc, report, by, view, &mut text, &mut made)?;
     text.push_str("\n")?;
     push_counts(alloc, report, &mut text, &mut made)?;
     Ok(text.into_bytes())

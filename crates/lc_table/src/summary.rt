@@ -4,14 +4,15 @@ ghost use Rattle.std.specs.Prelude.{◌≡◌, ◌++◌, map, OnOk, string_bytes
 ghost use Rattle.lc_table.specs.CellTexts.{cell_model, cells_of};
 ghost use Rattle.lc_table.specs.Columns.{lines_in, widened};
 ghost use Rattle.lc_table.specs.ScreenText.{cell_if, key_cells, number_headings, row_cells, row_headings};
-ghost use Rattle.lc_table.specs.ScreenText.{sums_cells, sums_line, sums_lines, summary};
+ghost use Rattle.lc_table.specs.ScreenText.{others_lines, sums_cells, sums_line, sums_lines, summary, view_lines};
+ghost use Rattle.lc_rows.specs.Views.{view_model};
 ghost use Rattle.lc_table.specs.Columns.{word};
 
 use crate::cells::{Cell, push_all};
 use crate::columns::Widths;
 use crate::words::{eol_word, text_word};
-use lc_rows::AllSums;
-use lc_text::Columns;
+use lc_rows::{AllSums, View};
+use lc_view::Columns;
 use lc_walk::{Report, Sums, TallyRow};
 use std::alloc::{AllocError, Global};
 
@@ -134,6 +135,69 @@ fn push_rows<'a>(
     Ok(())
 }
 
+fn fit_others(
+    widths: &mut Widths,
+    by: Columns,
+    others: Option<Sums>,
+    cells: &mut Vec<Cell<'_>>,
+    made: &mut String,
+) -> Result<(), AllocError>
+    ensures { OnOk result (widths.new ≡ widened widths.old (others_lines by others)) }
+{
+    let Some(sums) = others else {
+        return Ok(());
+    };
+    set_sums(cells, by, "others", sums)?;
+    widths.fit(cells, made)
+}
+
+fn push_others(
+    widths: &Widths,
+    by: Columns,
+    others: Option<Sums>,
+    cells: &mut Vec<Cell<'_>>,
+    text: &mut String,
+    made: &mut String,
+) -> Result<(), AllocError>
+    ensures { OnOk result (string_bytes text.new ≡ string_bytes text.old ++ lines_in widths.now (others_lines by others)) }
+{
+    let Some(sums) = others else {
+        return Ok(());
+    };
+    set_sums(cells, by, "others", sums)?;
+    widths.push_line(cells, text, made)
+}
+
+fn fit_view<'a>(
+    widths: &mut Widths,
+    by: Columns,
+    view: &View<'a>,
+    cells: &mut Vec<Cell<'a>>,
+    made: &mut String,
+) -> Result<(), AllocError>
+    ensures { OnOk result (widths.new ≡ widened widths.old (view_lines by (view_model view.now))) }
+{
+    fit_rows(widths, by, view.rows, cells, made)?;
+    fit_others(widths, by, view.others, cells, made)?;
+    Ok(())
+}
+
+fn push_view<'a>(
+    widths: &Widths,
+    by: Columns,
+    view: &View<'a>,
+    cells: &mut Vec<Cell<'a>>,
+    text: &mut String,
+    made: &mut String,
+) -> Result<(), AllocError>
+    ensures { OnOk result (string_bytes text.new ≡ string_bytes text.old
+        ++ lines_in widths.now (view_lines by (view_model view.now))) }
+{
+    push_rows(widths, by, view.rows, cells, text, made)?;
+    push_others(widths, by, view.others, cells, text, made)?;
+    Ok(())
+}
+
 fn fit_sums(
     widths: &mut Widths,
     by: Columns,
@@ -180,23 +244,23 @@ pub(crate) fn push_summary(
     alloc: Global,
     report: &Report,
     by: Columns,
-    rows: &[TallyRow],
+    view: &View<'_>,
     text: &mut String,
     made: &mut String,
 ) -> Result<(), AllocError>
-    ensures { OnOk result (string_bytes text.new ≡ string_bytes text.old ++ summary by report.now rows.now) }
+    ensures { OnOk result (string_bytes text.new ≡ string_bytes text.old ++ summary by report.now (view_model view.now)) }
 {
     let sums = AllSums::of(report)?;
     let mut cells = Vec::new(alloc);
     let mut widths = Widths::new(alloc);
     set_headings(&mut cells, by)?;
     widths.fit(&cells, made)?;
-    fit_rows(&mut widths, by, rows, &mut cells, made)?;
+    fit_view(&mut widths, by, view, &mut cells, made)?;
     fit_sums(&mut widths, by, &sums, &mut cells, made)?;
     set_headings(&mut cells, by)?;
     widths.push_line(&cells, text, made)?;
     widths.push_rule(text)?;
-    push_rows(&widths, by, rows, &mut cells, text, made)?;
+    push_view(&widths, by, view, &mut cells, text, made)?;
     widths.push_rule(text)?;
     push_sums_lines(&widths, by, &sums, &mut cells, text, made)?;
     Ok(())

@@ -2,15 +2,18 @@
 
 ghost use Rattle.std.specs.Prelude.{◌≡◌, ◌++◌, OnOk, IfOk, option_map};
 ghost use Rattle.std.specs.List.{flat_map};
-ghost use Rattle.lc_table.specs.TsvText.{column, extension_word, row_line, totals_line, directories_line, entries_line};
+ghost use Rattle.lc_table.specs.TsvText.{column, extension_word, row_line, sums_line, others_line, directories_line, entries_line};
 ghost use Rattle.lc_table.specs.TsvText.{file_line, skipped_line, fault_line};
 ghost use Rattle.lc_table.specs.SkippedWords.{reason_place};
 ghost use Rattle.lc_text.specs.Escape.{escape_bytes};
+ghost use Rattle.lc_rows.specs.Views.{view_model};
 ghost use Rattle.lc_table.specs.TsvText.{tsv_text_of};
 
 use crate::words::{eol_word, reason_word, skipped_end, text_word};
 use lc_level::Reason;
-use lc_text::{Columns, PathStyle, push_escaped, push_path, push_rule_source};
+use lc_rows::View;
+use lc_text::{PathStyle, push_escaped, push_path, push_rule_source};
+use lc_view::Columns;
 use lc_walk::{FaultLine, FileLine, Report, SkippedLine, Sums, TallyRow};
 use std::alloc::{AllocError, Global};
 use std::io::Write;
@@ -59,16 +62,25 @@ fn push_row(text: &mut Vec<u8>, by: Columns, row: &TallyRow) -> Result<(), Alloc
     writeln!(text, "\t{state}\t{eol}\t{files}\t{lines}\t{blank}\t{bytes}").map_err(|_| AllocError)
 }
 
-fn push_totals(text: &mut Vec<u8>, totals: &Sums) -> Result<(), AllocError>
-    ensures { OnOk result (text.new.items ≡ text.old.items ++ totals_line totals.now) }
+fn push_sums(text: &mut Vec<u8>, name: &'static str, sums: Sums) -> Result<(), AllocError>
+    ensures { OnOk result (text.new.items ≡ text.old.items ++ sums_line name.now sums) }
 {
     let Sums {
         files,
         lines,
         blank,
         bytes,
-    } = totals;
-    writeln!(text, "total\t*\t*\t{files}\t{lines}\t{blank}\t{bytes}").map_err(|_| AllocError)
+    } = sums;
+    writeln!(text, "{name}\t*\t*\t{files}\t{lines}\t{blank}\t{bytes}").map_err(|_| AllocError)
+}
+
+fn push_others(text: &mut Vec<u8>, others: Option<Sums>) -> Result<(), AllocError>
+    ensures { OnOk result (text.new.items ≡ text.old.items ++ others_line others) }
+{
+    match others {
+        None => Ok(()),
+        Some(sums) => push_sums(text, "others", sums),
+    }
 }
 
 fn push_directories(text: &mut Vec<u8>, directories: u64) -> Result<(), AllocError>
@@ -174,23 +186,25 @@ fn push_faults(text: &mut Vec<u8>, faults: &[FaultLine]) -> Result<(), AllocErro
 
 /// Makes the text of a report with one tab between fields.
 ///
-/// After a header there is a line for each row, one for the totals, one with the number of directories, one for each file and each
-/// skipped entry, if these were asked for, and one for each error, with paths as [`escape`](lc_text::escape) has them.
+/// After a header there is a line for each row, one for the rows that were cut off, one for the totals, one with the number of
+/// directories, one for each file and each skipped entry, if these were asked for, and one for each error, with paths as
+/// [`escape`](lc_text::escape) has them.
 pub(crate) fn tsv_text(
     alloc: Global,
     report: &Report,
     by: Columns,
-    rows: &[TallyRow],
+    view: &View<'_>,
 ) -> Result<Vec<u8>, AllocError>
-    ensures { IfOk result (λ text. text.items ≡ tsv_text_of by report.now rows.now) }
+    ensures { IfOk result (λ text. text.items ≡ tsv_text_of by report.now (view_model view.now)) }
 {
     let mut text = Vec::new(alloc);
     text.extend_from_slice(b"ext\ttext\teol\tfiles\tlines\tblank\tbytes\n")?;
-    push_rows(&mut text, by, rows)?;
-    push_totals(&mut text, &report.totals)?;
+    push_rows(&mut text, by, view.rows)?;
+    push_others(&mut text, view.others)?;
+    push_sums(&mut text, "total", report.totals)?;
     push_directories(&mut text, report.directories)?;
     push_entries(&mut text, report)?;
-    push_files(&mut text, &report.files)?;
+    push_files(&mut text, view.files)?;
     push_skipped_lines(&mut text, &report.skipped)?;
     push_faults(&mut text, &report.faults)?;
     Ok(text)

@@ -3,18 +3,19 @@
 ghost use Rattle.lc_table.specs.Runs.{AnswersTable};
 
 use crate::text::table_text;
-use lc_text::{PrintFault, Sink, TableOptions, print};
+use lc_text::{PrintFault, Sink, print};
+use lc_view::TableOptions;
 use lc_walk::Report;
 use std::alloc::Global;
 
 /// Makes the table of a report ([`table_text`]), and writes it.
 pub fn table<O: Sink>(
     alloc: Global,
-    report: &Report,
+    report: Report,
     options: TableOptions,
     out: &mut O,
 ) -> Result<(), PrintFault>
-    ensures { AnswersTable O.may_take options report.now out.old result out.new }
+    ensures { AnswersTable O.may_take options report out.old result out.new }
 {
     let text = table_text(alloc, report, options)?;
     print(out, &text)?;

@@ -7,10 +7,11 @@ use lc_board::{Locked, Shared, Words};
 use lc_level::Job;
 use lc_rules::IgnoreFile;
 use lc_table::{RunFault, run, table};
+use lc_text::Outcome;
 use lc_text::trials::{Narrow, WhenFull};
-use lc_text::{Columns, Format, Outcome, TableOptions};
 use lc_tree::trials::BytewiseTree;
 use lc_tree::{MemTree, Sketch, Tree};
+use lc_view::{Columns, Format, TableOptions};
 use lc_walk::{Options, ReportLists, Row, WalkFault, walk_on};
 use std::alloc::{AllocError, Global};
 use std::process::Abort;
@@ -66,6 +67,7 @@ pub(super) const TSV: TableOptions = TableOptions {
     format: Format::Tsv,
     by: Columns::ALL,
     sort: None,
+    top: None,
 };
 
 /// The first line of each such table.
@@ -143,12 +145,13 @@ fn answer_over<B: Shared<Job, Row>, R: Threads + Wait + Sync, T: Tree>(
         return Err(RunFault::Memory);
     };
     let report = walk_on::<B, T, R>(rt, alloc, tree, &options)?;
-    table(alloc, &report, TSV, out)?;
-    if report.faults.is_empty() {
-        Ok(Outcome::Clean)
+    let outcome = if report.faults.is_empty() {
+        Outcome::Clean
     } else {
-        Ok(Outcome::SomeFaults)
-    }
+        Outcome::SomeFaults
+    };
+    table(alloc, report, TSV, out)?;
+    Ok(outcome)
 }
 
 /// An answer, but for want of memory where nothing is written.

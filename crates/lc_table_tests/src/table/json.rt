@@ -5,7 +5,7 @@ use crate::table::tables::{Case, NONE, TEXT_STATES, compare_all};
 use lc_census::Eol;
 use lc_level::FaultWord;
 use lc_rules::TextState;
-use lc_text::{Columns, Format, SortBy, TableOptions};
+use lc_view::{Columns, Format, SortBy, TableOptions};
 use std::test::Fail;
 
 const JSON: TableOptions = TableOptions {
@@ -30,7 +30,9 @@ const SMALL: Case = Case {
     lines: b"{\"rows\":[{\"ext\":null,\"text\":null,\"eol\":\"none\",\"files\":1,\"lines\":1,\
              \"blank\":0,\"bytes\":6},{\"ext\":\".c\",\"text\":\"set\",\"eol\":\"lf\",\"files\":1,\
              \"lines\":3,\"blank\":1,\"bytes\":16}],\"total\":{\"files\":2,\"lines\":4,\"blank\":1,\
-             \"bytes\":22},\"directories\":1,\"files\":[{\"path\":\"a\\\"\\\\\\n\",\"text\":null,\
+             \"bytes\":22},\"text\":{\"files\":2,\"lines\":4,\"blank\":1,\"bytes\":22},\
+             \"binary\":{\"files\":0,\"lines\":0,\"blank\":0,\"bytes\":0},\"directories\":1,\
+             \"files\":[{\"path\":\"a\\\"\\\\\\n\",\"text\":null,\
              \"eol\":\"none\",\"lines\":1,\"blank\":0,\"bytes\":6},{\"path\":\"main.c\",\"text\":\"set\",\
              \"eol\":\"lf\",\"lines\":3,\"blank\":1,\"bytes\":16}],\"faults\":[{\"word\":\"read\",\
              \"path\":\"\"},{\"word\":\"name\",\"path\":\"d\"}]}\n",
@@ -46,7 +48,8 @@ const NO_TEXT: Case = Case {
     faults: &[],
     lines: b"{\"rows\":[{\"ext_bytes\":[46,255],\"text\":\"auto\",\"eol\":\"nul\",\"files\":1,\
              \"lines\":0,\"blank\":0,\"bytes\":0}],\"total\":{\"files\":1,\"lines\":0,\"blank\":0,\
-             \"bytes\":18446744073709551615},\"directories\":1,\"files\":[{\"path_bytes\":[98,\
+             \"bytes\":18446744073709551615},\"text\":{\"files\":0,\"lines\":0,\"blank\":0,\"bytes\":0},\
+             \"binary\":{\"files\":1,\"lines\":0,\"blank\":0,\"bytes\":0},\"directories\":1,\"files\":[{\"path_bytes\":[98,\
              46,255],\"text\":\"auto\",\"eol\":\"nul\",\"lines\":0,\"blank\":0,\"bytes\":0}],\
              \"faults\":[]}\n",
 };
@@ -59,7 +62,9 @@ const EMPTY: Case = Case {
     directories: 1,
     files: &[],
     faults: &[],
-    lines: b"{\"rows\":[],\"total\":{\"files\":0,\"lines\":0,\"blank\":0,\"bytes\":0},\"directories\":1,\"faults\":[]}\n",
+    lines: b"{\"rows\":[],\"total\":{\"files\":0,\"lines\":0,\"blank\":0,\"bytes\":0},\
+             \"text\":{\"files\":0,\"lines\":0,\"blank\":0,\"bytes\":0},\
+             \"binary\":{\"files\":0,\"lines\":0,\"blank\":0,\"bytes\":0},\"directories\":1,\"faults\":[]}\n",
 };
 
 const BY_TEXT: TableOptions = TableOptions {
@@ -77,7 +82,8 @@ const SUMMED: Case = Case {
     lines: b"{\"rows\":[{\"text\":\"set\",\"files\":2,\"lines\":4,\"blank\":1,\"bytes\":9},\
              {\"text\":\"unset\",\"files\":1,\"lines\":1,\"blank\":0,\"bytes\":2},{\"text\":null,\
              \"files\":1,\"lines\":2,\"blank\":0,\"bytes\":20}],\"total\":{\"files\":4,\"lines\":7,\
-             \"blank\":1,\"bytes\":31},\"directories\":1,\"faults\":[]}\n",
+             \"blank\":1,\"bytes\":31},\"text\":{\"files\":3,\"lines\":6,\"blank\":1,\"bytes\":29},\
+             \"binary\":{\"files\":1,\"lines\":1,\"blank\":0,\"bytes\":2},\"directories\":1,\"faults\":[]}\n",
     files: &[],
     ..TEXT_STATES
 };
@@ -91,7 +97,8 @@ const SORTED: Case = Case {
     lines: b"{\"rows\":[{\"text\":null,\"files\":1,\"lines\":2,\"blank\":0,\"bytes\":20},{\"text\":\"set\",\
              \"files\":2,\"lines\":4,\"blank\":1,\"bytes\":9},{\"text\":\"unset\",\"files\":1,\
              \"lines\":1,\"blank\":0,\"bytes\":2}],\"total\":{\"files\":4,\"lines\":7,\"blank\":1,\
-             \"bytes\":31},\"directories\":1,\"faults\":[]}\n",
+             \"bytes\":31},\"text\":{\"files\":3,\"lines\":6,\"blank\":1,\"bytes\":29},\
+             \"binary\":{\"files\":1,\"lines\":1,\"blank\":0,\"bytes\":2},\"directories\":1,\"faults\":[]}\n",
     ..SUMMED
 };
 

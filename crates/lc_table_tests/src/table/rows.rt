@@ -4,8 +4,7 @@ use crate::table::asking::{HEADER, TSV};
 use crate::table::tables::{Case, NONE, compare_all, has_parts, report_of};
 use lc_census::Eol;
 use lc_rules::TextState;
-use lc_text::{Columns, SortBy, TableOptions};
-use lc_walk::Report;
+use lc_view::{Columns, SortBy, TableOptions};
 use std::alloc::{AllocError, Global};
 use std::process::Abort;
 use std::test::Fail;
@@ -134,7 +133,8 @@ const CASES: &[ShapeCase] = &[
 ];
 
 /// Whether the rows of a report with these options are those of the case.
-fn has_rows(alloc: Global, report: &Report, case: &ShapeCase) -> Result<bool, AllocError> {
+fn has_rows(alloc: Global, case: &ShapeCase) -> Result<bool, AllocError> {
+    let report = report_of(alloc, &SUMMED)?;
     let (_, [ext, text, eol], sort, rows) = *case;
     let by = Columns { ext, text, eol };
     let options = TableOptions { by, sort, ..TSV };
@@ -143,9 +143,8 @@ fn has_rows(alloc: Global, report: &Report, case: &ShapeCase) -> Result<bool, Al
 
 #[test]
 fn rows_by_columns_and_sorted(rt: HostRuntime) -> Result<(), Fail> {
-    let report = report_of(rt.alloc(), &SUMMED)?;
     for case in CASES {
-        assert!(rt; has_rows(rt.alloc(), &report, case)?, "{}", case.0);
+        assert!(rt; has_rows(rt.alloc(), case)?, "{}", case.0);
     }
     Ok(())
 }

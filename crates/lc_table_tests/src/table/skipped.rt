@@ -5,8 +5,8 @@ use crate::table::screens::EMPTY;
 use crate::table::tables::{has_parts, report_of};
 use lc_level::Reason;
 use lc_rules::RuleSource;
-use lc_text::{Format, TableOptions};
 use lc_tree::Kind;
+use lc_view::{Format, TableOptions};
 use lc_walk::{Report, ReportLists, SkippedLine};
 use std::alloc::{AllocError, Global};
 use std::process::Abort;
@@ -82,8 +82,9 @@ const TABS: &[u8] = b"total\t*\t*\t0\t0\t0\t0\n\
       left\trule\tsrc/.gitignore:3\tsrc/gen/\n\
       left\trule\t--exclude-from:7\tx.bak\n";
 
-const JSON: &[u8] =
-    b"{\"rows\":[],\"total\":{\"files\":0,\"lines\":0,\"blank\":0,\"bytes\":0},\"directories\":1,\
+const JSON: &[u8] = b"{\"rows\":[],\"total\":{\"files\":0,\"lines\":0,\"blank\":0,\"bytes\":0},\
+     \"text\":{\"files\":0,\"lines\":0,\"blank\":0,\"bytes\":0},\
+     \"binary\":{\"files\":0,\"lines\":0,\"blank\":0,\"bytes\":0},\"directories\":1,\
       \"entries\":1008,\"files\":[],\"left\":[{\"path\":\".git\",\"kind\":\"dir\",\"reason\":\"git\"},\
       {\"path\":\"a\\n.log\",\"kind\":\"file\",\"reason\":\"rule\",\"file\":\".gitignore\",\
       \"line\":1},{\"path\":\"docs\",\"kind\":\"dir\",\"reason\":\"attribute\",\"attribute\":\"export-ignore\"},\
@@ -120,14 +121,14 @@ const CASES: &[Case] = &[
 
 #[test]
 fn left_out_in_each_format(rt: HostRuntime) -> Result<(), Fail> {
-    let report = report_with(rt.alloc(), LEFT)?;
     for (format, header, lines) in CASES {
+        let report = report_with(rt.alloc(), LEFT)?;
         let options = TableOptions {
             format: *format,
             ..TSV
         };
         assert!(rt;
-            has_parts(rt.alloc(), &report, options, (header, b"", lines))?,
+            has_parts(rt.alloc(), report, options, (header, b"", lines))?,
             "{format:?}"
         );
     }

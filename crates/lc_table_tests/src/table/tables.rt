@@ -5,8 +5,9 @@ use lc_census::{Count, Eol};
 use lc_level::FaultWord;
 use lc_rules::TextState;
 use lc_table::{table, table_text};
+use lc_text::PrintFault;
 use lc_text::trials::{Narrow, WRITERS, WhenFull};
-use lc_text::{PrintFault, TableOptions};
+use lc_view::TableOptions;
 use lc_walk::{FaultLine, FileLine, Report, ReportLists, Sums, TallyRow};
 use std::alloc::{AllocError, Global};
 use std::process::Abort;
@@ -228,7 +229,7 @@ fn is_made_of(text: &[u8], (header, rows, below): Parts<'_>) -> bool {
 /// Whether the table of a report with these options is these parts, one after the other.
 pub(super) fn has_parts(
     alloc: Global,
-    report: &Report,
+    report: Report,
     options: TableOptions,
     parts: Parts<'_>,
 ) -> Result<bool, AllocError> {
@@ -239,7 +240,7 @@ pub(super) fn has_parts(
 /// Whether the table of a report is its text below this header.
 fn has_text(alloc: Global, header: &[u8], case: &Case) -> Result<bool, AllocError> {
     let report = report_of(alloc, case)?;
-    has_parts(alloc, &report, case.options, (header, b"", case.lines))
+    has_parts(alloc, report, case.options, (header, b"", case.lines))
 }
 
 /// The table of each report is its text.
@@ -262,11 +263,12 @@ fn tables(rt: HostRuntime) -> Result<(), Fail> {
 /// Whether a writer with so much room has that much of a table, and it is said whether this is all.
 fn stops_there(
     alloc: Global,
-    report: &Report,
+    case: &Case,
     text: &[u8],
     (step, when_full): (usize, WhenFull),
     room: usize,
 ) -> Result<bool, AllocError> {
+    let report = report_of(alloc, case)?;
     let mut out = Narrow::new(alloc, step, room, when_full)?;
     let answer = table(alloc, report, TSV, &mut out);
     if answer == Err(PrintFault::Memory) && out.taken.is_empty() {
@@ -282,13 +284,13 @@ fn stops_there(
 
 fn compare_writes<R: AllocGlobal + Abort>(
     rt: &R,
-    report: &Report,
+    case: &Case,
     text: &[u8],
     writer: (usize, WhenFull),
 ) -> Result<(), Fail> {
     for room in 0..=text.len() {
         assert!(rt;
-            stops_there(rt.alloc(), report, text, writer, room)?,
+            stops_there(rt.alloc(), case, text, writer, room)?,
             "at {room}"
         );
     }
@@ -298,9 +300,9 @@ fn compare_writes<R: AllocGlobal + Abort>(
 #[test]
 fn a_table_stops_at_every_place(rt: HostRuntime) -> Result<(), Fail> {
     let report = report_of(rt.alloc(), &TOP_UNREAD)?;
-    let text = table_text(rt.alloc(), &report, TSV)?;
+    let text = table_text(rt.alloc(), report, TSV)?;
     for writer in WRITERS {
-        compare_writes(&rt, &report, &text, *writer)?;
+        compare_writes(&rt, &TOP_UNREAD, &text, *writer)?;
     }
     Ok(())
 }

@@ -17,8 +17,9 @@ returns c =
     let has = given (codes "count") count_rules bare args command c.in_ok-command.ensures are added in (
       seen_with (codes "count") count_rules command has,
       (
-        reads_number (codes "count") count_rules command has refl 9 dir (omega arith) (codes "threads") 16 (codes "4") refl,
-        reads_number (codes "count") count_rules command has refl 10 dir (omega arith) (codes "max-dirs") 1048576 (codes "65536") refl,
+        reads_number (codes "count") count_rules command has refl 10 dir (omega arith) (codes "threads") 16 refl refl,
+        reads_number (codes "count") count_rules command has refl 11 dir (omega arith) (codes "max-dirs") 1048576 refl refl,
+        reads_number (codes "count") count_rules command has refl 9 dir (omega arith) (codes "top") 4294967295 refl refl,
       ),
     ))
     c.args-3.ensures

@@ -1,6 +1,6 @@
 use Rattle.std.proofs.Common.{◌∙◌, ◌≡◌, ◌≢◌, MatchOption, ℕ, ap, List, Option, Some, None, codes, refl, subst, sym, option_map, unwrap_or}
 use Rattle.std.specs.Borrow.{Bor}
-use Rattle.lc_text.specs.declared.table_options.SortBy.{SortBy}
+use Rattle.lc_view.specs.declared.table_options.SortBy.{SortBy}
 use Rattle.lc_arguments.specs.TableWords.{IsColumnsText, sort_word}
 use Rattle.lc_arguments.proofs.table.table_of.Goals as goal
 use Rattle.lc_arguments.proofs.table.table_of.Goals.{in-None, in-Some-sort+in_default-sort_named}

@@ -6,8 +6,8 @@ use Rattle.lc_arguments.specs.CommandLine.{count_app}
 use Rattle.lc_arguments.specs.Explained.{AnswersExclusions, AnswersPathsIn, AnswersTableIn}
 use Rattle.lc_arguments.specs.Words.{AreExclusionsOf, ArePathsOf, IsTableIn}
 use Rattle.clap.specs.Walk.{Row}
-use Rattle.lc_arguments.proofs.ReadValues.{number_read}
-use Rattle.lc_arguments.proofs.WordFaults.{count_is_free, count_is_simple, fails_as, flag_of, matches_as, no_request_of, number_of}
+use Rattle.lc_arguments.proofs.ReadValues.{number_if_given, number_read}
+use Rattle.lc_arguments.proofs.WordFaults.{count_is_free, count_is_simple, fails_as, flag_of, matches_as, no_request_of, number_if_of, number_of}
 use Rattle.lc_arguments.proofs.WordFaults.{no_count_by, text_or}
 use Rattle.lc_arguments.proofs.Misnaming.{count_refused_for, paths_refused_for, table_refused_for}
 use Rattle.lc_arguments.proofs.count.CountRequest.read.Goals as goal
@@ -69,7 +69,11 @@ returns g c =
     1048576 65536 (codes "65536")
     (one_text (found_of m) (codes "max-dirs")) c.get_one-2.result c.unwrap_or-max_dirs.result c.get_one-2.ensures.none
     c.get_one-2.ensures.value
-    (λ u x h. h.0) (omega arith) (reads.1 m parse.parsed) (omega arith) (omega arith) refl c.unwrap_or-max_dirs.ensures in (
+    (λ u x h. h.0) (omega arith) (reads.1 m parse.parsed) (omega arith) (omega arith) refl c.unwrap_or-max_dirs.ensures in
+    let top = number_if_given _ (λ bs r. ParsesUnsigned 32 10 bs r × ExplainsUnsignedError 10 bs r × HasUnsignedDigitsIfOk bs r) 1
+    4294967295 (one_text (found_of m) (codes "top")) c.get_one-top.result c.get_one-top.ensures.none c.get_one-top.ensures.value
+    (λ u x h. h.0) (omega arith) (reads.2 m parse.parsed) in
+    let table = subst (λ (rs : List Row). IsTableIn rs c.in-Ok-table_in.table) are c.in-Ok-table_in.ensures in (
       fails_as command count_app words (Ok m) is count_is_free parse.kinds,
       record {
         within = (threads.0, threads.1, max_dirs.0, max_dirs.1);
@@ -80,7 +84,8 @@ returns g c =
             c.get_flag-2.ensures.other;
         exclusions = subst (λ (rs : List Row). AreExclusionsOf rs c.in-Ok-read.exclusions) are c.in-Ok-read.ensures;
         only = subst (λ (rs : List Row). ArePathsOf rs c.in-Ok-paths_in.only.items) are c.in-Ok-paths_in.ensures;
-        table = subst (λ (rs : List Row). IsTableIn rs c.in-Ok-table_in.table) are c.in-Ok-table_in.ensures;
+        table = record { format_is = table.format_is; by_is = table.by_is; sort_is = table.sort_is };
+        top = number_if_of rows (found_of m) (codes "top") c.get_one-top.result are top;
         directory = text_or rows (found_of m) (codes "DIR") c.get_str.result _ c.unwrap_or.result are c.get_str.ensures refl
             c.unwrap_or.ensures;
       },

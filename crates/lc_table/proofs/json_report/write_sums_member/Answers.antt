@@ -1,5 +1,5 @@
 use Rattle.std.proofs.Common.{append_assoc}
-use Rattle.lc_table.proofs.json_report.write_total.Goals as goal
+use Rattle.lc_table.proofs.json_report.write_sums_member.Goals as goal
 
 pub returns : goal.returns
 returns c =

@@ -1,0 +1,38 @@
+-- What a table shows of the rows and files that it has: as many as are asked for.
+use Rattle.std.specs.Prelude.{ℕ, List, [], ◌∷◌, take, drop, Option, Some, None}
+use Rattle.lc_rows.specs.declared.cut.View.{View}
+use Rattle.lc_walk.specs.ReportLines.{FileLineModel}
+use Rattle.lc_walk.specs.TallyRows.{TallyRowModel, sums_of_rows}
+use Rattle.lc_walk.specs.declared.tally.sums.Sums.{Sums}
+
+-- rows, the sums over those that are cut off where some are, and files
+pub record ViewModel : Type 0 where
+  pub rows : List TallyRowModel
+  pub others : Option Sums
+  pub files : List FileLineModel
+
+abbrev pub view_model : View → ViewModel
+view_model v = record { rows = v.rows.now; others = v.others; files = v.files.now }
+
+-- as many as are asked for, or all
+abbrev pub first_of : {X : Type 0} → Option ℕ → List X → List X
+first_of None xs = xs
+first_of (Some n) xs = take n xs
+
+-- those after them
+abbrev pub rest_of : {X : Type 0} → Option ℕ → List X → List X
+rest_of None xs = []
+rest_of (Some n) xs = drop n xs
+
+-- the sums over rows, where there are some
+abbrev pub sums_of_some : List TallyRowModel → Option Sums
+sums_of_some [] = None
+sums_of_some (r ∷ rs) = Some (sums_of_rows (r ∷ rs))
+
+-- the first of these rows and files, and the sums over the other rows
+abbrev pub view_of : Option ℕ → List TallyRowModel → List FileLineModel → ViewModel
+view_of top rows files = record {
+  rows = first_of top rows;
+  others = sums_of_some (rest_of top rows);
+  files = first_of top files;
+}

@@ -1,0 +1,63 @@
+//! The options of a table: its format, its columns, its order, and where it is cut.
+
+/// The format in which a table is written.
+#[derive(Debug, Clone, Copy, PartialEq, Eq)]
+pub enum Format {
+    /// Fields with a tab between.
+    Tsv,
+    /// Columns that are as wide as their widest cell, for reading.
+    Table,
+    /// One JSON object (RFC 8259) on one line.
+    Json,
+}
+
+/// The columns by which the rows of a table are kept apart. Rows are summed over the columns that it leaves out.
+#[derive(Debug, Clone, Copy, PartialEq, Eq)]
+pub struct Columns {
+    /// The extension of the file's name.
+    pub ext: bool,
+    /// The state of the attribute `text`.
+    pub text: bool,
+    /// The class of line ends.
+    pub eol: bool,
+}
+
+impl Columns {
+    /// All columns, so that no rows are summed.
+    pub const ALL: Columns = Columns {
+        ext: true,
+        text: true,
+        eol: true,
+    };
+}
+
+/// The number by which the rows and the files of a table are sorted, largest first.
+#[derive(Debug, Clone, Copy, PartialEq, Eq)]
+pub enum SortBy {
+    /// The number of files.
+    Files,
+    /// The number of lines.
+    Lines,
+    /// The number of blank lines.
+    Blank,
+    /// The number of bytes.
+    Bytes,
+}
+
+/// The options of a table.
+///
+/// ```
+/// let options = TableOptions { format: Format::Tsv, by: Columns::ALL, sort: None, top: Some(10) };
+/// ```
+#[derive(Debug, Clone, Copy, PartialEq, Eq)]
+pub struct TableOptions {
+    /// The format in which it is written.
+    pub format: Format,
+    /// The columns by which its rows are kept apart.
+    pub by: Columns,
+    /// The number by which its rows and its files are sorted. Those with equal numbers, and all without one, come in the order of their
+    /// keys and of their paths.
+    pub sort: Option<SortBy>,
+    /// The most rows, and the most files, that it shows; all if there is no limit.
+    pub top: Option<u32>,
+}
