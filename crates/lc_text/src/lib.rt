@@ -5,7 +5,6 @@
 //! - `places`: where a rule is
 //! - `input`: an input of paths, read whole; `lines`, `path_line`: its lines; `check_fault`: why its paths were not answered
 //! - `outcome`: whether what was written shows an error
-//! - `table_options`: what a table looks like
 //! - `trials`: a writer for tests
 //! - `laws`: what is true of the definitions that the contracts cite
 #![tactic(auto)]
@@ -22,7 +21,6 @@ mod places;
 mod printing;
 mod sink;
 mod style;
-mod table_options;
 pub mod trials;
 mod visible;
 
@@ -38,5 +36,4 @@ pub use places::{push_rule_source, source_directory, source_name};
 pub use printing::{PrintFault, print};
 pub use sink::{Sink, StdSink};
 pub use style::{PathStyle, push_styled, push_styled_path};
-pub use table_options::{Columns, Format, SortBy, TableOptions};
 pub use visible::{push_visible, push_visible_path};
