@@ -14,7 +14,8 @@ use Rattle.lc_program.specs.Causes.{check_cause, run_cause}
 use Rattle.lc_program.specs.Requests.{LoadsFile, Reply, checked, ran}
 
 -- what reading an opened file answered is what loading it answers
-module _ {F : Type 0} (may_give : F → ℕ → Answer → F → Type 0) (gives : Contents) (file read : F) (only : GivesOnly may_give gives file) where
+module _ {F : Type 0} (may_give : F → ℕ → Answer → F → Type 0) (gives : Contents) (file read : F)
+    (only : GivesOnly may_give gives file) where
   pub loads_file : (answer : Result (List ℕ) RulesFileFault) → ReadsRuleText may_give file answer read → LoadsFile gives answer
   loads_file (Ok bytes) reads = (reads.1.pieces, only reads.1.pieces at_end read reads.1.reads, reads.1.joined, reads.0)
   loads_file (Err fault.Read) reads =

@@ -147,7 +147,8 @@ module _ {I O : Type 0} (may_give : I → ℕ → Answer → I → Type 0) (may_
       × AnswersPathCheck style name is_explained bytes input out answer read wrote)
       ⊎ (GaveNoRules (holds name) reply × (read ≡ input) × (wrote ≡ out))
 
-module _ (may : SystemMay) {I O : Type 0} (may_give : I → ℕ → Answer → I → Type 0) (may_take : O → List ℕ → Result ℕ Failed → O → Type 0) where
+module _ (may : SystemMay) {I O : Type 0} (may_give : I → ℕ → Answer → I → Type 0)
+    (may_take : O → List ℕ → Result ℕ Failed → O → Type 0) where
   -- what may be said of the paths in the directory that the words name, by what they ask; or there were no rules or no memory, and nothing
   -- was read or written
   abbrev pub AnswersExplanation : PathStyle → ExplainRequest → I → O → Reply → I → O → Type 0
