@@ -1,5 +1,5 @@
 -- What is written of arguments that are refused.
-use Rattle.std.specs.Prelude.{◌≡◌, ◌||◌, ℕ, nat_eq, cond, List, flat_map, encode_utf8, string_bytes}
+use Rattle.std.specs.Prelude.{◌≡◌, ◌||◌, ◌++◌, ℕ, nat_eq, cond, List, codes, flat_map, encode_utf8, string_bytes}
 use Rattle.lc_glob.specs.Bytes.{backslash}
 use Rattle.lc_text.specs.Visible.{visible_bytes}
 use Rattle.lc_arguments.specs.declared.request.ParseExit.{ParseExit}
@@ -9,9 +9,9 @@ use Rattle.lc_arguments.specs.declared.request.ParseExit.TheVariants.{Shown, Ref
 abbrev pub message_char : ℕ → List ℕ
 message_char c = cond (nat_eq c 10 || nat_eq c backslash) (encode_utf8 c) (visible_bytes (encode_utf8 c))
 
--- the lines of a message, in which nothing moves a terminal's cursor or turns the direction of text
+-- a message: `error: ` and a text, in which nothing moves a terminal's cursor or turns the direction of text
 abbrev pub IsMessage : List ℕ → Type 0
-IsMessage bytes = (text : List ℕ) × (bytes ≡ flat_map message_char text)
+IsMessage bytes = (text : List ℕ) × (bytes ≡ codes "error: " ++ flat_map message_char text)
 
 -- why arguments are refused is such a message
 abbrev pub IsRefusedVisibly : ParseExit → Type 0

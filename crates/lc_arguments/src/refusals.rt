@@ -31,17 +31,18 @@ fn push_message_char(message: &mut String, c: char) -> Result<(), AllocError>
     push_visible(message, c.encode_utf8(&mut buffer).as_bytes())
 }
 
-/// Escapes a message: `\x` and two digits stand for each byte of a character that moves a terminal's cursor or turns the direction of
-/// text. Backslashes stay as they are.
+/// Escapes a message, which begins with `error: ` whether or not the text does: `\x` and two digits stand for each byte of a character
+/// that moves a terminal's cursor or turns the direction of text. Backslashes stay as they are.
 ///
 /// ```
-/// assert!(rt; message(rt.alloc(), "no \u{1b}[2J\n")?.as_str() == "no \\x1b[2J\n");
+/// assert!(rt; message(rt.alloc(), "error: no \u{1b}[2J\n")?.as_str() == "error: no \\x1b[2J\n");
 /// ```
 pub(crate) fn message(alloc: Global, text: &str) -> Result<String, AllocError>
     ensures { IfOk result (λ message. IsMessage (string_bytes message)) }
 {
-    let mut message = String::new(alloc);
-    for c in text.chars() {
+    let mut message = String::from_str(alloc, "error: ")?;
+    let rest = text.strip_prefix("error: ").unwrap_or(text);
+    for c in rest.chars() {
         push_message_char(&mut message, c)?;
     }
     Ok(message)

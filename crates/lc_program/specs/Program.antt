@@ -113,7 +113,7 @@ module _ {I O E : Type 0} (system : SystemMay) (may : StreamsMay I O E) (words :
   Ends before Done after = EndsAnswered before outcome.Clean after ⊎ Shows before Done after
   -- an answer was written that tells of a fault
   Ends before SomeFaults after = EndsAnswered before outcome.SomeFaults after
-  -- the words fail, nothing was read or written, and why was told, in lines in which nothing moves a terminal's cursor
+  -- the words fail, nothing was read or written, and why was told, in a message that begins with `error: `
   Ends before Misused after =
       AreRefused words × (after.input ≡ before.input) × (after.out ≡ before.out)
       × ((why : List ℕ) × IsMessage why × Tells may.tell before.err why after.err)
