@@ -1,4 +1,5 @@
-use Rattle.std.proofs.Common.{inl}
+use Rattle.std.proofs.Common.{inl, refl, string_bytes, subst, sym}
+use Rattle.lc_arguments.specs.Refusals.{IsMessage}
 use Rattle.lc_program.proofs.running.end_of.Goals as goal
 
 pub returns-in-Err : goal.returns-in-Err
@@ -8,6 +9,21 @@ returns-in-Err g c =
       (c.in-Ok.ensures.answers.0, (c.in-Ok.request, c.in-Ok.ensures.answers.1, rw c.style.ensures at c.in-Err.ensures)),
       c.give_up-in-Err.ensures.told,
     ))
+
+pub returns-in-Err-Refused : goal.returns-in-Err-Refused
+returns-in-Err-Refused g c =
+    rw c.misuse.ensures.ending (
+      rw c.in-Err-Refused.field-0-is at c.in-Err-Refused.ensures.answers,
+      refl,
+      refl,
+      (
+        c.deref-in-Err-Refused.result.now,
+        subst IsMessage (sym c.deref-in-Err-Refused.ensures)
+            (subst (λ why. IsMessage (string_bytes why)) (sym c.in-Err-Refused.why-is)
+            (rw c.in-Err-Refused.field-0-is at c.in-Err-Refused.ensures.visible)),
+        c.misuse.ensures.told,
+      ),
+    )
 
 pub returns-in-Clean : goal.returns-in-Clean
 returns-in-Clean g c =
