@@ -80,7 +80,22 @@ const CASES: &[Case<'static>] = &[
         out: b"{\"rows\":[{\"ext\":null,\"files\":1,\"lines\":3,\"blank\":0,\"bytes\":24},\
                {\"ext\":\".c\",\"files\":1,\"lines\":1,\"blank\":0,\"bytes\":8},\
                {\"ext\":\".log\",\"files\":1,\"lines\":1,\"blank\":0,\"bytes\":2}],\
-               \"total\":{\"files\":3,\"lines\":5,\"blank\":0,\"bytes\":34},\"directories\":3,\"faults\":[]}\n",
+               \"total\":{\"files\":3,\"lines\":5,\"blank\":0,\"bytes\":34},\
+               \"text\":{\"files\":3,\"lines\":5,\"blank\":0,\"bytes\":34},\
+               \"binary\":{\"files\":0,\"lines\":0,\"blank\":0,\"bytes\":0},\"directories\":3,\"faults\":[]}\n",
+        ..WORKED
+    },
+    Case {
+        name: "the_largest_file",
+        words: &[
+            "count", "--files", "--by", "ext", "--sort", "bytes", "--top", "1", "top",
+        ],
+        out: b"ext\ttext\teol\tfiles\tlines\tblank\tbytes\n\
+               -\t*\t*\t1\t3\t0\t24\n\
+               others\t*\t*\t2\t2\t0\t10\n\
+               total\t*\t*\t3\t5\t0\t34\n\
+               directories\t3\n\
+               file\t-\tlf\t3\t0\t24\t.gitignore\n",
         ..WORKED
     },
     Case {
