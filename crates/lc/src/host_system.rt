@@ -60,7 +60,7 @@ where
     }
 }
 
-/// Tells whether a directory has an entry `.git`. It has none if the system can't say.
+/// Returns whether a directory has an entry `.git`. It has none if the system can't say.
 fn has_git<R: Files + AllocGlobal>(rt: &R, alloc: Global, directory: Path<'_>) -> bool {
     match directory.join(alloc, ".git") {
         Ok(git) => fs::symlink_metadata(rt, git.as_path()).is_ok(),

@@ -30,7 +30,7 @@ pub struct CountRequest<'w> {
     pub left_out: bool,
     /// What is skipped beside what the directory's own rules ignore.
     pub exclusions: Exclusions<'w>,
-    /// The paths to count, relative to DIR and without a slash at the end. None stands for all of DIR.
+    /// The paths to count, relative to DIR and without a slash at the end. If there are none, all of DIR is counted.
     pub only: Vec<&'w [u8]>,
     /// How the table is printed: by default as `Tsv`, by all columns, in the order of the keys, and whole.
     pub table: TableOptions,

@@ -31,8 +31,8 @@ fn push_message_char(message: &mut String, c: char) -> Result<(), AllocError>
     push_visible(message, c.encode_utf8(&mut buffer).as_bytes())
 }
 
-/// Escapes a message, which begins with `error: ` whether or not the text does: `\x` and two digits stand for each byte of a character
-/// that moves a terminal's cursor or turns the direction of text. Backslashes stay as they are.
+/// Escapes a message, and puts `error: ` first if the text does not begin so. Each byte of a character that moves a terminal's cursor or
+/// turns the direction of text becomes `\x` and two digits. Backslashes stay as they are.
 ///
 /// ```
 /// assert!(rt; message(rt.alloc(), "error: no \u{1b}[2J\n")?.as_str() == "error: no \\x1b[2J\n");

@@ -7,7 +7,7 @@ ghost use Rattle.lc_board.specs.Ending.{row_in};
 pub enum Claim<J> {
     /// The number that was claimed, with its job.
     Got(u32, J),
-    /// Nothing was open, but another worker may still post: ask again.
+    /// Nothing that this worker has seen posted is open, but another worker may still post: claim again.
     Later,
     /// No number is open or claimed, so nothing will be.
     Over,

@@ -5,13 +5,13 @@
 pub enum Eol {
     /// There is no line end.
     NoEnd,
-    /// Each line ends with LF.
+    /// There are line ends, and each is LF.
     Lf,
-    /// Each line ends with CR LF.
+    /// There are line ends, and each is CR LF.
     CrLf,
-    /// Each line ends with a CR that no LF follows.
+    /// There are line ends, and each is a CR that no LF follows.
     Cr,
-    /// Lines end in different ways.
+    /// There are line ends of different kinds.
     Mixed,
     /// A NUL byte occurs, whatever the line ends are.
     Nul,

@@ -39,7 +39,7 @@ pub fn slashes_of_directories_say_nothing<T: Tree>(tree: &T)
 }
 
 /// A count and an explanation agree on each path if the same was read of each directory on the way to it: a counted file is explained as
-/// taken, a skipped entry by the same reason, and the explanation of an entry tells where the report has it.
+/// taken, a skipped entry by the same reason, and the explanation of an entry shows where the report has it.
 pub fn counts_are_as_explained<T: Tree>(tree: &T)
     ensures answers { AnswersExplainedLaw }
     ensures tree { ExplainedLaw (T.lists tree.now) (T.gives tree.now) }

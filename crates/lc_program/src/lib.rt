@@ -1,8 +1,8 @@
-//! The program `lc` without its host: what a command line asks for, done in a system and told on streams.
+//! The program `lc` without its host: it does what a command line asks for in a system, and writes to streams.
 //!
-//! - `system`: what the names on a command line stand for; `streams`: the streams, and which of them are terminals
+//! - `system`: the directories and files that a command line names; `streams`: the streams, and which of them are terminals
 //! - `running`: the program; `answering`: what each request is answered; `rules_file`: the rules of a file that the command line names
-//! - `ending`: how the program ends; `cause`: why it gives up; `telling`: what it tells on standard error, help and the version
+//! - `ending`: how the program ends; `cause`: why it gives up; `telling`: help, the version, and the lines on standard error
 #![tactic(auto)]
 
 mod answering;

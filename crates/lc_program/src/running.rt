@@ -1,4 +1,4 @@
-//! The program: what its arguments ask for, done in a system and told on its streams.
+//! The program: it does what its arguments ask for in a system, and writes to its streams.
 
 ghost use Rattle.std.specs.Prelude.{◌≡◌, map};
 ghost use Rattle.lc_program.specs.Program.{Ends, status_of, streams_may};

@@ -1,4 +1,4 @@
-//! The system that the program runs in: what the names on a command line stand for.
+//! The system that the program runs in: the directories and files that a command line names.
 
 ghost use Rattle.std.specs.Prelude.{◌≡◌, ℕ, Bool, List, IfOk};
 ghost use Rattle.lc_tree.specs.Trees.{Contents, Opens};
@@ -9,7 +9,7 @@ use std::alloc::{AllocError, Global};
 
 /// The directories and rule files that a command line names.
 ///
-/// A system says which tree a directory's name stands for, and by `holds` and `lies` which other answers may come for a name.
+/// A system defines the tree of each directory's name. Its `holds` and `lies` define which other answers may come for a name.
 pub trait System {
     /// A directory, as a tree.
     type Tree: Tree + Drop;

@@ -1,4 +1,4 @@
-//! What is told: the lines on standard error, help and the version.
+//! Help, the version, and the lines on standard error.
 
 ghost use Rattle.std.specs.Prelude.{◌≡◌};
 ghost use Rattle.lc_program.specs.Program.{Tells, TellsCause, Introduces, Hints, EndsShown};

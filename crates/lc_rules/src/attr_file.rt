@@ -32,7 +32,7 @@ impl Model for AttrFile {
 
 impl AttrFile {
     /// Reads the bytes of an attribute file. Any bytes are one, if there are at most `MAX_RULE_BYTES` of them. `top` tells
-    /// whether it is the file of the tree's top directory: no other one defines macros.
+    /// whether it may define macros, as the file of the tree's top directory and `.git/info/attributes` may.
     pub fn read(alloc: Global, bytes: &[u8], top: bool) -> Result<AttrFile, RuleFault>
         ensures ok { IfOk result (λ file. file ≡ attribute_file_of top bytes.now) }
         ensures too_long { (result ≡ Err RuleFault.TooLong) ↔ (max_rule_bytes < length bytes.now) }

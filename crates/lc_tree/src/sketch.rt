@@ -21,7 +21,7 @@ pub enum Sketch<'a> {
 }
 
 impl Sketch<'_> {
-    /// The tree itself: at each path is what the sketch has there. Of a name that stands twice the first entry counts.
+    /// Makes the tree: each path has what the sketch has there. If a name occurs twice, the first entry counts.
     pub fn node(&self, alloc: Global) -> Result<Node, AllocError>
         ensures { IfOk result (λ node. IsTreeOf self.now node) }
     {

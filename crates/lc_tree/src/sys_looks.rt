@@ -1,4 +1,4 @@
-//! Looks at what stands at a path of the system.
+//! Looks at paths of the system.
 ghost use Rattle.std.specs.Prelude.{List, ℕ};
 ghost use Rattle.lc_tree.specs.SysLooks.{AnyLook, IsKindOf, Looks, Tells};
 
@@ -9,7 +9,7 @@ use std::io;
 use std::io::ErrorKind;
 use std::rt::Files;
 
-/// Tells what stands at a path of the system, be it a link, and not what a link leads to.
+/// Looks at paths of the system. A symbolic link is not followed.
 pub(crate) trait Look {
     // What a look at a path may answer.
     ghost may_answer: { Self → List ℕ → Looks };
@@ -34,7 +34,7 @@ impl<R: Files> Look for SysLook<'_, R> {
     }
 }
 
-/// The kind of what stands at a path, if something does.
+/// Returns the kind of the entry at a path, if there is one.
 pub(crate) fn kind_at<L: Look>(looks: &L, path: &str) -> Result<Option<Kind>, ReadFault>
     ensures { Tells (L.may_answer looks.now path.now) result }
 {
@@ -45,7 +45,7 @@ pub(crate) fn kind_at<L: Look>(looks: &L, path: &str) -> Result<Option<Kind>, Re
     }
 }
 
-// The kind that metadata tells.
+// The kind in the metadata.
 fn kind_of(found: &Metadata) -> Kind
     ensures { IsKindOf found.now result }
 {

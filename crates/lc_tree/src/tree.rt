@@ -39,7 +39,7 @@ pub trait Tree: Sync {
     }
 
     /// The entries of those names in the directory at a path that are still there, in the order of the names. The names are looked at
-    /// one after another, up to the first fault.
+    /// one after another, up to the first fault. No clause says that no entry is lost.
     fn look(
         &self,
         _alloc: Global,

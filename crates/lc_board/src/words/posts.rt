@@ -69,7 +69,7 @@ impl<J, R> Words<J, R> {
         }
     }
 
-    /// Posts the job at the least number, at or above the front of the pass, that is not used. Where all numbers are used it hands the
+    /// Posts the job at an unused number, the least one at or above the front of the pass. If all numbers are used, it hands the
     /// job back. It waits for nobody, takes no memory and never answers Memory.
     pub fn post(&self, pass: &mut WordsPass<J, R>, mut job: J) -> Result<u32, PostFault<J>>
         requires board { IsPassOf self.now pass.old }

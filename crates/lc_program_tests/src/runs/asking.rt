@@ -10,7 +10,7 @@ use std::sync::Wait;
 use std::test::Fail;
 use std::thread::Threads;
 
-/// What stands in a directory: a name, and what has it.
+/// An entry of a directory: its name and its sketch.
 pub(super) type Entry = (&'static [u8], Sketch<'static>);
 
 /// What is shown; the directory `top`, beside the directory `other`, which has one file; the rule files; the words and the input.

@@ -11,7 +11,7 @@ use std::alloc::{AllocError, Global};
 pub(super) struct MemSystem<'a> {
     /// Directories, each with its name.
     pub(super) directories: &'a [(&'a str, Node)],
-    /// What any other name stands for.
+    /// The directory of any other name.
     pub(super) absent: &'a Node,
     /// The directory that has the rule files.
     pub(super) files: &'a Node,
